@@ -1,0 +1,8 @@
+//! The machine that runs programs: one step is one statement of one thread.
+#![tactic(auto)]
+
+mod event;
+mod program;
+
+pub use event::{Entry, Event, StepError};
+pub use program::{Act, Comparison, Op, Program, Statement, Term};
