@@ -1,0 +1,10 @@
+//! The outside of the program: a shelf of files that are read by name, and a sink that takes what is
+//! written; in memory, with calls that fail by their numbers, and over the system's files and standard
+//! output.
+#![tactic(auto)]
+
+mod memory;
+mod shelf;
+
+pub use memory::{MemoryShelf, MemorySink};
+pub use shelf::{FetchError, PutFailed, Shelf, Sink};
