@@ -5,6 +5,8 @@
 
 mod memory;
 mod shelf;
+mod system;
 
 pub use memory::{MemoryShelf, MemorySink};
 pub use shelf::{FetchError, PutFailed, Shelf, Sink};
+pub use system::{FileShelf, StdSink};

@@ -1,0 +1,13 @@
+-- The bytes taken so far were appended.
+use Rattle.std.proofs.Common.{◌-◌, ◌≤◌, length, take}
+use Rattle.std.specs.Io.KnownBytes.{Appends}
+use Rattle.cap_io.proofs.system.write_bytes.Given as goal
+
+abbrev pub invariant-loop-taken : goal.invariant-loop-taken
+invariant-loop-taken g l = record {
+  within : l.taken ≤ length l.bytes;
+  written : Appends (g.W.Write.contents l.fn.out) (g.W.Write.contents l.out) (take l.taken l.bytes);
+}
+
+abbrev pub decreases-loop-taken : goal.decreases-loop-taken
+decreases-loop-taken g l = length l.bytes - l.taken

@@ -1,0 +1,212 @@
+ghost use Rattle.std.specs.Prelude.{◌≡◌, ◌≢◌, ◌↔◌, ◌+◌, ◌≤◌, None, IfOk, IfErr, OnOk, OnErr, length, option_map, string_bytes};
+ghost use Rattle.std.specs.Io.{ReadsAtMost, WritesAtMost};
+ghost use Rattle.std.specs.Io.KnownBytes.{ReadConsumes, WriteAppends, Consumes, IsAtEnd};
+ghost use Rattle.std.specs.IoError.{error_kind};
+ghost use Rattle.cap_io.specs.declared.shelf.FetchError.TheVariants.{Failed, OutOfMemory};
+ghost use Rattle.cap_io.specs.Outside.{longest, Gains, GainsPrefix};
+ghost use Rattle.cap_io.specs.Reading.{IsReadError};
+
+use crate::{FetchError, PutFailed, Shelf, Sink};
+use std::alloc::Global;
+use std::fs::File;
+use std::io;
+use std::io::{ErrorKind, Read, Write};
+use std::rt::Files;
+
+const LONGEST: usize = 67_108_864;
+
+const CHUNK: usize = 4096;
+
+/// The files of the system, by their paths. It does not tell them, so a file that is not there is a
+/// fault. A file is read until its end or until 67,108,865 bytes were seen; one with so many is refused
+/// as too long, also where memory is short.
+#[derive(Drop)]
+pub struct FileShelf<'a, R: Files> {
+    rt: &'a R,
+    alloc: Global,
+    failures: u64,
+    blamed: Option<String>,
+}
+
+impl<'a, R: Files> FileShelf<'a, R> {
+    /// The shelf of the files that the runtime reaches.
+    pub fn new(alloc: Global, rt: &'a R) -> FileShelf<'a, R>
+        ensures holds { ⟦<FileShelf<'a, R> as Shelf>⟧.holds result ≡ None }
+        ensures faults { ⟦<FileShelf<'a, R> as Shelf>⟧.faults result ≡ 0 }
+        ensures blamed { ⟦<FileShelf<'a, R> as Shelf>⟧.blamed result ≡ None }
+    {
+        FileShelf {
+            rt,
+            alloc,
+            failures: 0,
+            blamed: None,
+        }
+    }
+}
+
+/// What a fetch answers where the system reports this error.
+fn read_error(error: io::Error) -> FetchError
+    ensures memory { (result ≡ OutOfMemory) ↔ (error_kind error ≡ ErrorKind.OutOfMemory) }
+    ensures other { error_kind error ≢ ErrorKind.OutOfMemory → result ≡ Failed }
+{
+    if error.kind() == ErrorKind::OutOfMemory {
+        FetchError::OutOfMemory
+    } else {
+        FetchError::Failed
+    }
+}
+
+/// Reads once, and again where the call is interrupted.
+#[tactic(auto, using(crate::proofs::Known::keeps_same, crate::proofs::Known::keeps_twice, crate::proofs::Known::reads_kept))]
+fn read_some<F: Read>(file: &mut F, buffer: &mut [u8]) -> io::Result<usize>
+    ensures bound { ReadsAtMost result buffer.new }
+    ensures bytes { ReadConsumes (F.remaining file.old) (F.remaining file.new) result buffer.new }
+{
+    for _ in 0..u64::MAX {
+        match file.read(buffer) {
+            Err(error) if error.kind() == ErrorKind::Interrupted => {}
+            answer => return answer,
+        }
+    }
+    Err(io::Error::from(ErrorKind::Interrupted))
+}
+
+/// Why the bytes of a file are not held, of which the first `seen` were read: they are too many, or
+/// memory is short, or the rest cannot be read.
+fn count_on<F: Read>(file: &mut F, mut seen: usize) -> FetchError
+    requires { seen ≤ longest + 1 }
+    ensures { IsReadError result }
+{
+    let mut chunk = [0u8; CHUNK];
+    while seen <= LONGEST {
+        let room = CHUNK.min(LONGEST + 1 - seen);
+        match read_some(file, &mut chunk[..room]) {
+            Ok(0) => return FetchError::OutOfMemory,
+            Ok(count) => seen += count,
+            Err(error) => return read_error(error),
+        }
+    }
+    FetchError::TooLong(seen as u64)
+}
+
+/// The bytes up to the end of the file.
+#[tactic(auto, using(crate::proofs::Known::consumes_none, crate::proofs::Known::consumes_twice))]
+fn read_to_end<F: Read>(alloc: Global, file: &mut F) -> Result<Vec<u8>, FetchError>
+    ensures within { IfOk result (λ v. length v.items ≤ longest) }
+    ensures whole { IfOk result (λ v. Consumes (F.remaining file.old) (F.remaining file.new) v.items) }
+    ensures end { OnOk result (IsAtEnd (F.remaining file.new)) }
+    ensures error { IfErr result IsReadError }
+{
+    let mut bytes = Vec::new(alloc);
+    let mut chunk = [0u8; CHUNK];
+    while bytes.len() <= LONGEST {
+        let room = CHUNK.min(LONGEST + 1 - bytes.len());
+        match read_some(file, &mut chunk[..room]) {
+            Ok(0) => return Ok(bytes),
+            Ok(count) => {
+                if bytes.extend_from_slice(&chunk[..count]).is_err() {
+                    return Err(count_on(file, bytes.len() + count));
+                }
+            }
+            Err(error) => return Err(read_error(error)),
+        }
+    }
+    Err(FetchError::TooLong(bytes.len() as u64))
+}
+
+/// The bytes of the file at this path.
+fn read_file<R: Files>(alloc: Global, rt: &R, path: &str) -> Result<Vec<u8>, FetchError>
+    ensures within { IfOk result (λ v. length v.items ≤ longest) }
+    ensures error { IfErr result IsReadError }
+{
+    match File::open(rt, path) {
+        Ok(mut file) => read_to_end(alloc, &mut file),
+        Err(error) => Err(read_error(error)),
+    }
+}
+
+impl<'a, R: Files> Shelf for FileShelf<'a, R> {
+    ghost holds = { λ _. None };
+
+    ghost faults = { λ s. s.failures };
+
+    ghost blamed = { λ s. option_map string_bytes s.blamed };
+
+    fn fetch(&mut self, name: &str) -> Result<Vec<u8>, FetchError> {
+        let own_name = String::from_str(self.alloc, name)?;
+        match read_file(self.alloc, self.rt, name) {
+            Ok(bytes) => Ok(bytes),
+            Err(FetchError::TooLong(seen)) => Err(FetchError::TooLong(seen)),
+            Err(FetchError::OutOfMemory) => Err(FetchError::OutOfMemory),
+            Err(FetchError::Failed | FetchError::Absent) => {
+                self.failures = self.failures.saturating_add(1);
+                self.blamed = Some(own_name);
+                Err(FetchError::Failed)
+            }
+        }
+    }
+}
+
+/// Standard output, or another writer. It tells what its writer tells; standard output tells nothing.
+#[derive(Drop)]
+pub struct StdSink<W: Write> {
+    out: W,
+    failures: u64,
+}
+
+impl<W: Write> StdSink<W> {
+    /// The sink of this writer. What it holds already counts as written.
+    pub fn new(out: W) -> StdSink<W>
+        ensures written { ⟦<StdSink<W> as Sink>⟧.written result ≡ W.contents out }
+        ensures faults { ⟦<StdSink<W> as Sink>⟧.faults result ≡ 0 }
+    {
+        StdSink { out, failures: 0 }
+    }
+}
+
+/// Writes once, and again where the call is interrupted.
+#[tactic(auto, using(crate::proofs::Known::keeps_same, crate::proofs::Known::keeps_twice, crate::proofs::Known::writes_kept))]
+fn write_some<W: Write>(out: &mut W, bytes: &[u8]) -> io::Result<usize>
+    ensures bound { WritesAtMost result bytes.now }
+    ensures bytes { WriteAppends (W.contents out.old) (W.contents out.new) result bytes.now }
+{
+    for _ in 0..u64::MAX {
+        match out.write(bytes) {
+            Err(error) if error.kind() == ErrorKind::Interrupted => {}
+            answer => return answer,
+        }
+    }
+    Err(io::Error::from(ErrorKind::Interrupted))
+}
+
+/// Writes all bytes, and flushes. A write that takes nothing is a fault.
+#[tactic(auto, using(crate::proofs::Known::appends_none, crate::proofs::Known::appends_more, crate::proofs::Known::appends_then_kept, crate::proofs::Known::gains_prefix, crate::proofs::Known::gains_all))]
+fn write_bytes<W: Write>(out: &mut W, bytes: &[u8]) -> io::Result<()>
+    ensures all { OnOk result (Gains (W.contents out.old) (W.contents out.new) bytes.now) }
+    ensures prefix { OnErr result (GainsPrefix (W.contents out.old) (W.contents out.new) bytes.now) }
+{
+    let mut taken = 0;
+    while taken < bytes.len() {
+        match write_some(out, &bytes[taken..])? {
+            0 => return Err(io::Error::from(ErrorKind::WriteZero)),
+            count => taken += count,
+        }
+    }
+    out.flush()
+}
+
+impl<W: Write> Sink for StdSink<W> {
+    ghost written = { λ s. W.contents s.out };
+
+    ghost faults = { λ s. s.failures };
+
+    fn put(&mut self, bytes: &[u8]) -> Result<(), PutFailed> {
+        match write_bytes(&mut self.out, bytes) {
+            Ok(()) => Ok(()),
+            Err(_) => {
+                self.failures = self.failures.saturating_add(1);
+                Err(PutFailed)
+            }
+        }
+    }
+}
