@@ -1,7 +1,7 @@
 -- Known bytes over several reads or writes in a row.
-use Rattle.std.proofs.Common.{arith, ◌≡◌, ℕ, ◌+◌, ◌<◌, ◌≤◌, List, [], ◌++◌, length, take, drop, Option, Some, None, Result, Ok, Err, refl, sym, ap, ◌∙◌, append_assoc}
+use Rattle.std.proofs.Common.{arith, ◌≡◌, ℕ, ◌+◌, ◌<◌, ◌≤◌, List, [], ◌++◌, length, take, drop, Option, Some, None, Result, Ok, Err, length-append, refl, sym, ap, ◌∙◌, append_assoc}
 use Rattle.std.proofs.Math.Seq.{take-add}
-use Rattle.std.proofs.lemmas.List.{take_all}
+use Rattle.std.proofs.lemmas.List.{take_all, length-take-le}
 use Rattle.std.proofs.lemmas.Grind.{common_steps}
 use Rattle.std.specs.Io.KnownBytes.{Keeps, Appends, Consumes, IsAtEnd, ReadConsumes, WriteAppends}
 use Rattle.cap_io.specs.Outside.{Gains, GainsPrefix}
@@ -73,3 +73,9 @@ pub gains_all : (a b : Option (List ℕ)) (bytes : List ℕ) (k : ℕ) → lengt
 gains_all None b bytes k h g = tt
 gains_all (Some xs) None bytes k h g = absurd g
 gains_all (Some xs) (Some ys) bytes k h g = ap Some (g ∙ ap (λ zs. xs ++ zs) (take_all k bytes h))
+
+-- n more bytes were seen
+pub seen_more : (a b c : Option (List ℕ)) (before seen n : ℕ) (buffer : List ℕ) → ((bytes : List ℕ) × Consumes a b bytes × (seen ≡ before + length bytes))
+    → Consumes b c (take n buffer) → n ≤ length buffer → (bytes : List ℕ) × Consumes a c bytes × (seen + n ≡ before + length bytes)
+seen_more a b c before seen n buffer h k l =
+    (h.0 ++ take n buffer, consumes_twice a b c h.0 (take n buffer) h.1 k, rw (length-append, length-take-le) (omega (arith, h.2)))

@@ -214,8 +214,8 @@ impl Sink for MemorySink {
 
     fn put(&mut self, bytes: &[u8]) -> Result<(), PutFailed>
         ensures succeeds { IsOk result ↔ Fits self.old bytes.now }
-        ensures written { self.new.written ≡ self.old.written ++ take (taken self.old bytes.now) bytes.now }
-        ensures all { OnOk result (taken self.old bytes.now ≡ length bytes.now) }
+        ensures all { OnOk result (self.new.written ≡ self.old.written ++ bytes.now) }
+        ensures part { OnErr result (self.new.written ≡ self.old.written ++ take (taken self.old bytes.now) bytes.now) }
         ensures counted { self.new.puts ≡ counted self.old.puts }
         ensures none_failed { OnOk result (self.new.failures ≡ self.old.failures) }
         ensures one_failed { OnErr result (self.new.failures ≡ counted self.old.failures) }
@@ -231,6 +231,85 @@ impl Sink for MemorySink {
         if !fits {
             self.failures = self.failures.saturating_add(1);
             return Err(PutFailed);
+        }
+        Ok(())
+    }
+}
+
+#[cfg(test)]
+mod tests {
+    use super::*;
+    use std::test::Fail;
+
+    fn shelf(alloc: Global, failing: u64) -> Result<MemoryShelf, AllocError> {
+        let mut files = Vec::new(alloc);
+        for (name, text) in [("twice", "first"), ("empty", ""), ("twice", "second")] {
+            let bytes = Vec::from_slice(alloc, text.as_bytes())?;
+            files.push((String::from_str(alloc, name)?, bytes))?;
+        }
+        Ok(MemoryShelf::new(files, vec![in alloc; failing]?))
+    }
+
+    #[test]
+    fn fetches_by_number(rt: HostRuntime) -> Result<(), Fail> {
+        let alloc = rt.alloc();
+        let mut shelf = shelf(alloc, 2)?;
+        for (name, text) in [
+            ("twice", Ok("first")),
+            ("empty", Err(FetchError::Failed)),
+            ("empty", Ok("")),
+            ("absent", Err(FetchError::Absent)),
+        ] {
+            match shelf.fetch(name) {
+                Err(FetchError::OutOfMemory) => return Ok(()),
+                Ok(bytes) => assert_eq!(rt; Ok(bytes.as_slice()), text.map(|text| text.as_bytes())),
+                Err(error) => assert_eq!(rt; Some(error), text.err()),
+            }
+        }
+        Ok(())
+    }
+
+    #[test]
+    fn the_last_number_of_a_fetch(rt: HostRuntime) -> Result<(), Fail> {
+        let alloc = rt.alloc();
+        let mut shelf = shelf(alloc, u64::MAX)?;
+        shelf.fetches = u64::MAX - 1;
+        for fails in [true, false, false] {
+            let failed = matches!(&shelf.fetch("empty"), Err(FetchError::Failed));
+            assert_eq!(rt; failed, fails);
+        }
+        Ok(())
+    }
+
+    #[test]
+    fn puts_by_number(rt: HostRuntime) -> Result<(), Fail> {
+        let alloc = rt.alloc();
+        let failing = vec![in alloc; (2u64, 3u64), (2, 1), (6, 9)]?;
+        let mut sink = MemorySink::new(alloc, failing, 8)?;
+        for (text, is_ok, written) in [
+            ("ab", true, "ab"),
+            ("cdef", false, "abcde"),
+            ("", true, "abcde"),
+            ("fgh", true, "abcdefgh"),
+            ("i", false, "abcdefgh"),
+            ("", false, "abcdefgh"),
+        ] {
+            assert_eq!(rt; sink.put(text.as_bytes()).is_ok(), is_ok, "at {text}");
+            assert_eq!(rt; sink.bytes(), written.as_bytes(), "at {text}");
+        }
+        assert_eq!(rt; sink.failures, 3);
+        Ok(())
+    }
+
+    #[test]
+    fn the_last_number_of_a_put(rt: HostRuntime) -> Result<(), Fail> {
+        let alloc = rt.alloc();
+        let mut sink = MemorySink::new(alloc, vec![in alloc; (u64::MAX, 0u64)]?, 1)?;
+        sink.puts = u64::MAX - 1;
+        sink.failures = u64::MAX;
+        for is_ok in [false, true, false] {
+            assert_eq!(rt; sink.put(b"a").is_ok(), is_ok);
+            assert_eq!(rt; sink.failures, u64::MAX);
         }
         Ok(())
     }

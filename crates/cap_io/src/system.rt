@@ -75,7 +75,7 @@ fn read_some<F: Read>(file: &mut F, buffer: &mut [u8]) -> io::Result<usize>
 /// memory is short, or the rest cannot be read.
 fn count_on<F: Read>(file: &mut F, mut seen: usize) -> FetchError
     requires { seen ≤ longest + 1 }
-    ensures { IsReadError result }
+    ensures { IsReadError seen (F.remaining file.old) result }
 {
     let mut chunk = [0u8; CHUNK];
     while seen <= LONGEST {
@@ -95,7 +95,7 @@ fn read_to_end<F: Read>(alloc: Global, file: &mut F) -> Result<Vec<u8>, FetchErr
     ensures within { IfOk result (λ v. length v.items ≤ longest) }
     ensures whole { IfOk result (λ v. Consumes (F.remaining file.old) (F.remaining file.new) v.items) }
     ensures end { OnOk result (IsAtEnd (F.remaining file.new)) }
-    ensures error { IfErr result IsReadError }
+    ensures error { IfErr result (IsReadError 0 (F.remaining file.old)) }
 {
     let mut bytes = Vec::new(alloc);
     let mut chunk = [0u8; CHUNK];
@@ -117,7 +117,7 @@ fn read_to_end<F: Read>(alloc: Global, file: &mut F) -> Result<Vec<u8>, FetchErr
 /// The bytes of the file at this path.
 fn read_file<R: Files>(alloc: Global, rt: &R, path: &str) -> Result<Vec<u8>, FetchError>
     ensures within { IfOk result (λ v. length v.items ≤ longest) }
-    ensures error { IfErr result IsReadError }
+    ensures error { IfErr result (IsReadError 0 None) }
 {
     match File::open(rt, path) {
         Ok(mut file) => read_to_end(alloc, &mut file),
@@ -208,5 +208,120 @@ impl<W: Write> Sink for StdSink<W> {
                 Err(PutFailed)
             }
         }
+    }
+}
+
+#[cfg(test)]
+mod tests {
+    use super::*;
+    use std::fs;
+    use std::test::Fail;
+
+    #[test]
+    fn files_of_the_system(rt: HostRuntime) -> Result<(), Fail> {
+        let alloc = rt.alloc();
+        fs::write(&rt, "here", "ab")?;
+        fs::create_dir(&rt, "folder")?;
+        File::create(&rt, "long")?.set_len(67_108_865)?;
+        let mut shelf = FileShelf::new(alloc, &rt);
+        match shelf.fetch("here") {
+            Ok(bytes) => assert_eq!(rt; bytes.as_slice(), b"ab".as_slice()),
+            Err(error) => assert_eq!(rt; error, FetchError::OutOfMemory),
+        }
+        for (name, error) in [
+            ("long", FetchError::TooLong(67_108_865)),
+            ("absent", FetchError::Failed),
+            ("folder", FetchError::Failed),
+            ("", FetchError::Failed),
+            ("here/", FetchError::Failed),
+        ] {
+            assert_eq!(rt; shelf.fetch(name).err(), Some(error), "at {name}");
+        }
+        Ok(())
+    }
+
+    /// Gives two bytes, is interrupted, gives a third byte, and then fails so or is at its end.
+    #[derive(Drop)]
+    struct SlowReader {
+        calls: u8,
+        last: Option<ErrorKind>,
+    }
+
+    impl Read for SlowReader {
+        fn read(&mut self, buffer: &mut [u8]) -> io::Result<usize> {
+            self.calls = self.calls.saturating_add(1);
+            match (self.calls, self.last) {
+                (1, _) => "ab".as_bytes().read(buffer),
+                (2, _) => Err(io::Error::from(ErrorKind::Interrupted)),
+                (3, _) => "c".as_bytes().read(buffer),
+                (_, Some(kind)) => Err(io::Error::from(kind)),
+                (_, None) => Ok(0),
+            }
+        }
+    }
+
+    #[test]
+    fn reads_that_break_off(rt: HostRuntime) -> Result<(), Fail> {
+        let alloc = rt.alloc();
+        for (last, error) in [
+            (None, None),
+            (Some(ErrorKind::OutOfMemory), Some(FetchError::OutOfMemory)),
+            (Some(ErrorKind::Other), Some(FetchError::Failed)),
+        ] {
+            match read_to_end(alloc, &mut SlowReader { calls: 0, last }) {
+                Err(FetchError::OutOfMemory) if error.is_none() => {}
+                Ok(bytes) => {
+                    assert_eq!(rt; error, None);
+                    assert_eq!(rt; bytes.as_slice(), b"abc".as_slice());
+                }
+                Err(found) => assert_eq!(rt; Some(found), error),
+            }
+        }
+        Ok(())
+    }
+
+    /// Takes two bytes, is interrupted, takes two bytes again, and then takes none.
+    #[derive(Drop)]
+    struct SlowWriter {
+        held: Vec<u8>,
+        calls: u8,
+    }
+
+    impl Write for SlowWriter {
+        fn write(&mut self, bytes: &[u8]) -> io::Result<usize> {
+            self.calls = self.calls.saturating_add(1);
+            match self.calls {
+                1 | 3 => {
+                    let count = bytes.len().min(2);
+                    self.held.extend_from_slice(&bytes[..count])?;
+                    Ok(count)
+                }
+                2 => Err(io::Error::from(ErrorKind::Interrupted)),
+                _ => Ok(0),
+            }
+        }
+
+        fn flush(&mut self) -> io::Result<()> {
+            Ok(())
+        }
+    }
+
+    #[test]
+    fn writes_that_break_off(rt: HostRuntime) -> Result<(), Fail> {
+        let alloc = rt.alloc();
+        for (text, is_ok, held) in [
+            ("", true, ""),
+            ("abc", true, "abc"),
+            ("abcd", true, "abcd"),
+            ("abcde", false, "abcd"),
+        ] {
+            let mut sink = StdSink::new(SlowWriter {
+                held: Vec::with_capacity(alloc, 4)?,
+                calls: 0,
+            });
+            assert_eq!(rt; sink.put(text.as_bytes()).is_ok(), is_ok, "at {text}");
+            assert_eq!(rt; sink.out.held.as_slice(), held.as_bytes(), "at {text}");
+        }
+        Ok(())
     }
 }
