@@ -2,5 +2,14 @@
 #![tactic(auto)]
 
 mod place;
+mod scan;
+#[cfg(test)]
+mod tests;
+mod text;
+mod token;
+mod word;
 
 pub use place::Place;
+pub use scan::tokens;
+pub use text::Text;
+pub use token::{Token, TokenError, TokenKind};

@@ -1,0 +1,5 @@
+pub mod Words
+pub mod Numbers
+pub mod Gaps
+pub mod Places
+pub mod Reading
