@@ -1,5 +1,5 @@
 -- A shelf and a sink in memory, whose calls fail by their numbers.
-use Rattle.std.specs.Prelude.{◌≡◌, ℕ, zero, suc, ◌+◌, ◌-◌, ◌≤◌, ◌==◌, ◌&&◌, nat_lt, min, Bool, List, [], ◌++◌, length, take, map, string_bytes, String, Vec, Option, Some, None, IsNone, unwrap_or, Result, Ok, Err, if◌then◌else◌}
+use Rattle.std.specs.Prelude.{ℕ, zero, suc, ◌+◌, ◌-◌, ◌≤◌, ◌==◌, ◌&&◌, nat_lt, min, Bool, List, length, map, string_bytes, String, Vec, Option, Some, None, IsNone, unwrap_or, Result, Ok, Err, if◌then◌else◌}
 use Rattle.std.specs.Global.{Global}
 use Rattle.std.specs.List.{list_any}
 use Rattle.std.specs.Map.{lookup}

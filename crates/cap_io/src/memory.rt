@@ -1,6 +1,6 @@
 ghost use Rattle.std.specs.Map.{lookup};
 ghost use Rattle.std.specs.Prelude.{◌≡◌, ◌≢◌, ◌+◌, ◌-◌, ◌^◌, ◌≤◌, ◌<◌, ◌↔◌, ◌++◌, [], min, take, true, false, Err, Some, None, IsOk, IsSome, IsNone, IfSome, IfOk, OnOk, OnErr, option_map, length, ◌==◌};
-ghost use Rattle.cap_io.specs.declared.shelf.FetchError.TheVariants.{OutOfMemory};
+ghost use Rattle.cap_io.specs.declared.shelf.FetchError.TheVariants.{Failed, OutOfMemory};
 ghost use Rattle.cap_io.specs.Outside.{content, counted, Blames, Measures};
 ghost use Rattle.cap_io.specs.Memory.{files_of, failed_fetches, fails_next, found, fetched, after_fetch, plain_answer, is_listed, Fits, taken, fails_after, room_left};
 
@@ -108,7 +108,7 @@ fn copied(alloc: Global, file: Option<&Vec<u8>>) -> Result<Vec<u8>, FetchError>
 }
 
 impl Shelf for MemoryShelf {
-    ghost use Rattle.std.specs.Prelude.{Some};
+    ghost use Rattle.std.specs.Prelude.{◌≡◌, [], Some};
     ghost use Rattle.cap_io.specs.Memory.{failed_fetches};
 
     ghost holds = { λ s. Some s.files };
@@ -117,16 +117,18 @@ impl Shelf for MemoryShelf {
 
     ghost blamed = { λ s. s.blamed };
 
+    ghost never_fails = { λ s. s.failing ≡ [] };
+
     fn fetch(&mut self, name: &str) -> Result<Vec<u8>, FetchError>
         ensures answer { result ≢ Err OutOfMemory → plain_answer result ≡ fetched self.old name.now }
         ensures after { result ≢ Err OutOfMemory → self.new ≡ after_fetch self.old name.now }
         ensures out_of_memory { result ≡ Err OutOfMemory → self.new ≡ self.old }
 
-        // What every shelf ensures.
+        // What every shelf ensures, at this one.
         ensures later { failed_fetches self.old ≤ failed_fetches self.new }
         ensures blame { Blames name.now (failed_fetches self.old) (failed_fetches self.new) self.old.blamed self.new.blamed result }
         ensures measure { Measures (Some self.old.files) (failed_fetches self.old) (failed_fetches self.new) result }
-        ensures none_listed { self.old.failing ≡ [] → failed_fetches self.new ≡ 0 }
+        ensures sure { self.old.failing ≡ [] → (self.new.failing ≡ []) × (failed_fetches self.new ≡ failed_fetches self.old) × (result ≢ Err Failed) }
     {
         self.next_fetch(name)
     }
@@ -207,10 +209,13 @@ fn second_of(pairs: &[(u64, u64)], number: u64) -> Option<u64>
 
 impl Sink for MemorySink {
     ghost use Rattle.std.specs.Prelude.{Some};
+    ghost use Rattle.cap_io.specs.Memory.{Fits};
 
     ghost written = { λ s. Some s.written };
 
     ghost faults = { λ s. s.failures };
+
+    ghost takes = { λ s bytes. Fits s bytes };
 
     fn put(&mut self, bytes: &[u8]) -> Result<(), PutFailed>
         ensures succeeds { IsOk result ↔ Fits self.old bytes.now }
@@ -261,7 +266,6 @@ mod tests {
             ("absent", Err(FetchError::Absent)),
         ] {
             match shelf.fetch(name) {
-                Err(FetchError::OutOfMemory) => return Ok(()),
                 Ok(bytes) => assert_eq!(rt; Ok(bytes.as_slice()), text.map(|text| text.as_bytes())),
                 Err(error) => assert_eq!(rt; Some(error), text.err()),
             }
@@ -274,9 +278,8 @@ mod tests {
         let alloc = rt.alloc();
         let mut shelf = shelf(alloc, u64::MAX)?;
         shelf.fetches = u64::MAX - 1;
-        for fails in [true, false, false] {
-            let failed = matches!(&shelf.fetch("empty"), Err(FetchError::Failed));
-            assert_eq!(rt; failed, fails);
+        for error in [Some(FetchError::Failed), None, None] {
+            assert_eq!(rt; shelf.fetch("empty").err(), error);
         }
         Ok(())
     }

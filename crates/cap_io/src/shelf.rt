@@ -1,5 +1,5 @@
-ghost use Rattle.std.specs.Prelude.{◌≡◌, ◌≤◌, List, ℕ, Option, OnOk, OnErr};
-ghost use Rattle.cap_io.specs.declared.shelf.FetchError.TheVariants.{OutOfMemory};
+ghost use Rattle.std.specs.Prelude.{◌≡◌, ◌≢◌, ◌≤◌, List, ℕ, Option, Err, IsOk, OnOk, OnErr};
+ghost use Rattle.cap_io.specs.declared.shelf.FetchError.TheVariants.{Failed, OutOfMemory};
 ghost use Rattle.cap_io.specs.Outside.{Files, Answers, Blames, Measures, Gains, GainsPrefix, Rose};
 
 use std::alloc::{AllocError, AllocFailed};
@@ -53,6 +53,9 @@ pub trait Shelf {
     /// The name whose fetch met the last fault.
     ghost blamed: { Self → Option (List ℕ) };
 
+    /// No fetch meets a fault, from here on. A shelf that cannot know leaves this out.
+    ghost never_fails: { Self → Type 0 } = { λ _. ⊥ };
+
     /// The bytes of the file of this name, at most 67,108,864.
     ///
     /// `Failed` comes only where a fault came in this call. Over a shelf that tells its files, and
@@ -64,7 +67,8 @@ pub trait Shelf {
         ensures answer { Answers (holds self.old) name.now result }
         ensures later { faults self.old ≤ faults self.new }
         ensures blame { Blames name.now (faults self.old) (faults self.new) (blamed self.old) (blamed self.new) result }
-        ensures measure { Measures (holds self.old) (faults self.old) (faults self.new) result };
+        ensures measure { Measures (holds self.old) (faults self.old) (faults self.new) result }
+        ensures sure { never_fails self.old → never_fails self.new × (faults self.new ≡ faults self.old) × (result ≢ Err Failed) };
 }
 
 /// A place that bytes are written to.
@@ -75,11 +79,15 @@ pub trait Sink {
     /// How many faults came so far: a count that never falls, and stands still at 2^64 - 1.
     ghost faults: { Self → ℕ };
 
+    /// The next put, of these bytes, does not fail. A sink that cannot know leaves this out.
+    ghost takes: { Self → List ℕ → Type 0 } = { λ _ _. ⊥ };
+
     /// Appends the bytes: all of them, or, where it fails, the first of them. It fails only where a
     /// fault came in this call.
     fn put(&mut self, bytes: &[u8]) -> Result<(), PutFailed>
         ensures later { faults self.old ≤ faults self.new }
         ensures all { OnOk result (Gains (written self.old) (written self.new) bytes.now) }
         ensures prefix { OnErr result (GainsPrefix (written self.old) (written self.new) bytes.now) }
-        ensures cause { OnErr result (Rose (faults self.old) (faults self.new)) };
+        ensures cause { OnErr result (Rose (faults self.old) (faults self.new)) }
+        ensures sure { takes self.old bytes.now → IsOk result };
 }

@@ -1,5 +1,5 @@
 -- The bytes held are those that were read, at most one more than a file may have.
-use Rattle.std.proofs.Common.{◌+◌, ◌-◌, ◌≤◌, length, vec_len}
+use Rattle.std.proofs.Common.{◌+◌, ◌-◌, ◌≤◌, length}
 use Rattle.std.specs.Io.KnownBytes.{Consumes}
 use Rattle.cap_io.specs.Outside.{longest}
 use Rattle.cap_io.proofs.system.read_to_end.Given as goal

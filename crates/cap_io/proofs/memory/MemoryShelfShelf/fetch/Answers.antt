@@ -1,5 +1,5 @@
 -- The next fetch is what every shelf ensures.
-use Rattle.cap_io.proofs.ShelfLemmas.{blames_next, measures_next, later_next, none_next}
+use Rattle.cap_io.proofs.ShelfLemmas.{blames_next, measures_next, later_next, unlisted_next}
 use Rattle.cap_io.proofs.memory.MemoryShelfShelf.fetch.Goals as goal
 
 pub returns-clause-later : goal.returns-clause-later
@@ -11,5 +11,5 @@ returns-clause-blame c = blames_next _ _ _ _ (record { answer = c.next_fetch.ens
 pub returns-clause-measure : goal.returns-clause-measure
 returns-clause-measure c = measures_next _ _ _ _ (record { answer = c.next_fetch.ensures.answer; after = c.next_fetch.ensures.after; out_of_memory = c.next_fetch.ensures.out_of_memory })
 
-pub returns-clause-none_listed : goal.returns-clause-none_listed
-returns-clause-none_listed c = none_next _ _ _ _ (record { answer = c.next_fetch.ensures.answer; after = c.next_fetch.ensures.after; out_of_memory = c.next_fetch.ensures.out_of_memory })
+pub returns-clause-sure : goal.returns-clause-sure
+returns-clause-sure c = unlisted_next _ _ _ _ (record { answer = c.next_fetch.ensures.answer; after = c.next_fetch.ensures.after; out_of_memory = c.next_fetch.ensures.out_of_memory })
