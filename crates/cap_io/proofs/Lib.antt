@@ -1,3 +1,4 @@
 pub mod Listed
 pub mod ShelfLemmas
 pub mod Known
+pub mod Exact

@@ -3,8 +3,8 @@ use Rattle.std.proofs.Common.{arith, ◌≡◌, ◌≢◌, ℕ, ◌+◌, ◌≤�
 use Rattle.std.specs.Global.{Global}
 use Rattle.cap_io.specs.declared.shelf.FetchError.{FetchError}
 use Rattle.cap_io.specs.declared.shelf.FetchError.TheVariants.{Failed, Absent, TooLong, OutOfMemory}
-use Rattle.cap_io.specs.Outside.{Unfaulted, Faulted, Blames, Measures, content}
-use Rattle.cap_io.specs.Memory.{ShelfState, failed_fetches, fails_next, fetched, found, after_fetch, plain_answer}
+use Rattle.cap_io.specs.Outside.{Unfaulted, Faulted, Blames, Measures, content, found, plain_answer}
+use Rattle.cap_io.specs.Memory.{ShelfState, failed_fetches, fails_next, fetched, after_fetch}
 use Rattle.cap_io.proofs.Listed.{listed_hit, listed_miss}
 
 -- a fetch that fails is one more

@@ -1,11 +1,11 @@
 -- A shelf and a sink in memory, whose calls fail by their numbers.
-use Rattle.std.specs.Prelude.{ℕ, zero, suc, ◌+◌, ◌-◌, ◌≤◌, ◌==◌, ◌&&◌, nat_lt, min, Bool, List, length, map, string_bytes, String, Vec, Option, Some, None, IsNone, unwrap_or, Result, Ok, Err, if◌then◌else◌}
+use Rattle.std.specs.Prelude.{ℕ, zero, suc, ◌+◌, ◌-◌, ◌≤◌, ◌==◌, ◌&&◌, nat_lt, min, Bool, List, length, map, string_bytes, String, Vec, Option, Some, None, IsNone, unwrap_or, Result, Err, if◌then◌else◌}
 use Rattle.std.specs.Global.{Global}
 use Rattle.std.specs.List.{list_any}
 use Rattle.std.specs.Map.{lookup}
 use Rattle.cap_io.specs.declared.shelf.FetchError.{FetchError}
-use Rattle.cap_io.specs.declared.shelf.FetchError.TheVariants.{Failed, Absent, TooLong}
-use Rattle.cap_io.specs.Outside.{Files, content, longest, last_count, counted}
+use Rattle.cap_io.specs.declared.shelf.FetchError.TheVariants.{Failed}
+use Rattle.cap_io.specs.Outside.{Files, content, found, last_count, counted}
 
 -- the names and contents of files
 abbrev pub files_of : List (String Global × Vec ℕ Global) → Files
@@ -34,11 +34,6 @@ failed_fetches s = listed_among s.failing s.fetches
 abbrev pub fails_next : ShelfState → Bool
 fails_next s = nat_lt s.fetches last_count && is_listed s.failing (s.fetches + 1)
 
--- what a fetch that does not fail answers at this content
-abbrev pub found : Option (List ℕ) → Result (List ℕ) FetchError
-found None = Err Absent
-found (Some bytes) = if nat_lt longest (length bytes) then Err (TooLong (length bytes)) else Ok bytes
-
 -- what the next fetch, of this name, answers with enough memory
 abbrev pub fetched : ShelfState → List ℕ → Result (List ℕ) FetchError
 fetched s name = if fails_next s then Err Failed else found (content s.files name)
@@ -46,11 +41,6 @@ fetched s name = if fails_next s then Err Failed else found (content s.files nam
 -- the shelf after that answer
 abbrev pub after_fetch : ShelfState → List ℕ → ShelfState
 after_fetch s name = record s { fetches = counted s.fetches; blamed = if fails_next s then Some name else s.blamed }
-
--- an answer with its bytes as a list
-abbrev pub plain_answer : Result (Vec ℕ Global) FetchError → Result (List ℕ) FetchError
-plain_answer (Ok bytes) = Ok bytes.items
-plain_answer (Err e) = Err e
 
 pub record SinkState : Type 0 where
   pub written : List ℕ

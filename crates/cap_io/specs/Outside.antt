@@ -1,5 +1,5 @@
 -- The outside as a program sees it: a shelf of files that are read by name, and a sink that takes bytes.
-use Rattle.std.specs.Prelude.{◌≡◌, ℕ, ◌+◌, ◌-◌, ◌^◌, ◌<◌, ◌≤◌, ◌⊎◌, nat_lt, min, List, ◌++◌, length, take, Option, Result, Ok, Err, Some, None, IfSome, IsSomeAnd, ⊤, Vec, if◌then◌else◌}
+use Rattle.std.specs.Prelude.{◌≡◌, ◌≢◌, ℕ, ◌+◌, ◌-◌, ◌^◌, ◌<◌, ◌≤◌, ◌⊎◌, nat_lt, min, List, ◌++◌, length, take, Option, Result, Ok, Err, Some, None, IfSome, IsSomeAnd, ⊤, Vec, if◌then◌else◌}
 use Rattle.std.specs.Global.{Global}
 use Rattle.std.specs.Map.{lookup}
 use Rattle.std.specs.Str.{bytes_eq}
@@ -38,6 +38,16 @@ Answers told name (Err Absent) = IsSomeAnd told (λ files. content files name �
 Answers told name (Err (TooLong seen)) = (longest < seen) × IfSome told (λ files. IsSomeAnd (content files name) (λ bytes. seen ≡ length bytes))
 Answers told name (Err OutOfMemory) = ⊤
 
+-- an answer with its bytes as a list
+abbrev pub plain_answer : Result (Vec ℕ Global) FetchError → Result (List ℕ) FetchError
+plain_answer (Ok bytes) = Ok bytes.items
+plain_answer (Err e) = Err e
+
+-- the answer at this content, where no fault comes and memory is not short
+abbrev pub found : Option (List ℕ) → Result (List ℕ) FetchError
+found None = Err Absent
+found (Some bytes) = if nat_lt longest (length bytes) then Err (TooLong (length bytes)) else Ok bytes
+
 -- no fault came: the count of faults and the blamed name are as they were
 abbrev pub Unfaulted : ℕ → ℕ → Option (List ℕ) → Option (List ℕ) → Type 0
 Unfaulted before now blamed blames = (now ≡ before) × (blames ≡ blamed)
@@ -62,6 +72,12 @@ Measures told before now (Err Failed) = ⊤
 Measures told before now (Err Absent) = ⊤
 Measures told before now (Err (TooLong _)) = IfSome told (λ _. now ≡ before)
 Measures told before now (Err OutOfMemory) = ⊤
+
+-- where files are told and no fault came, a fetch answers exactly by the content, unless memory is short
+abbrev pub AnswersAreExact : Type 0
+AnswersAreExact = (files : Files) (name : List ℕ) (before now : ℕ) (blamed blames : Option (List ℕ)) (r : Result (Vec ℕ Global) FetchError)
+    → Answers (Some files) name r → Blames name before now blamed blames r → ¬ Rose before now → r ≢ Err OutOfMemory
+    → plain_answer r ≡ found (content files name)
 
 -- all of these bytes were appended to what was written
 abbrev pub Gains : Option (List ℕ) → Option (List ℕ) → List ℕ → Type 0

@@ -8,5 +8,5 @@ mod shelf;
 mod system;
 
 pub use memory::{MemoryShelf, MemorySink};
-pub use shelf::{FetchError, PutFailed, Shelf, Sink};
+pub use shelf::{FetchError, PutFailed, Shelf, Sink, answers_are_exact};
 pub use system::{FileShelf, StdSink};

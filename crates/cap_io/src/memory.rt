@@ -1,14 +1,13 @@
 ghost use Rattle.std.specs.Map.{lookup};
-ghost use Rattle.std.specs.Prelude.{◌≡◌, ◌≢◌, ◌+◌, ◌-◌, ◌^◌, ◌≤◌, ◌<◌, ◌↔◌, ◌++◌, [], min, take, true, false, Err, Some, None, IsOk, IsSome, IsNone, IfSome, IfOk, OnOk, OnErr, option_map, length, ◌==◌};
+ghost use Rattle.std.specs.Prelude.{◌≡◌, ◌≢◌, ◌≤◌, ◌==◌, ◌↔◌, ◌++◌, [], take, Err, Some, None, IsOk, IfOk, OnOk, OnErr, option_map};
 ghost use Rattle.cap_io.specs.declared.shelf.FetchError.TheVariants.{Failed, OutOfMemory};
-ghost use Rattle.cap_io.specs.Outside.{content, counted, Blames, Measures};
-ghost use Rattle.cap_io.specs.Memory.{files_of, failed_fetches, fails_next, found, fetched, after_fetch, plain_answer, is_listed, Fits, taken, fails_after, room_left};
+ghost use Rattle.cap_io.specs.Outside.{content, counted, found, plain_answer, Blames, Measures};
+ghost use Rattle.cap_io.specs.Memory.{files_of, failed_fetches, fails_next, fetched, after_fetch, Fits, taken, fails_after};
 
+use crate::shelf::LONGEST;
 use crate::{FetchError, PutFailed, Shelf, Sink};
 use std::alloc::{AllocError, Global};
 use std::marker::Model;
-
-const LONGEST: usize = 67_108_864;
 
 /// Files in memory, with fetches that fail by number. It tells its files. Contracts see it as its
 /// files, the numbers of the fetches that fail, how many fetches were counted, and the blamed name.

@@ -1,9 +1,12 @@
 ghost use Rattle.std.specs.Prelude.{◌≡◌, ◌≢◌, ◌≤◌, List, ℕ, Option, Err, IsOk, OnOk, OnErr};
 ghost use Rattle.cap_io.specs.declared.shelf.FetchError.TheVariants.{Failed, OutOfMemory};
-ghost use Rattle.cap_io.specs.Outside.{Files, Answers, Blames, Measures, Gains, GainsPrefix, Rose};
+ghost use Rattle.cap_io.specs.Outside.{Files, Answers, AnswersAreExact, Blames, Measures, Gains, GainsPrefix, Rose};
 
 use std::alloc::{AllocError, AllocFailed};
 use thiserror::Error;
+
+/// The most bytes that a file may have.
+pub(crate) const LONGEST: usize = 67_108_864;
 
 /// Why a fetch has no bytes.
 #[derive(Clone, Copy, Debug, PartialEq, Eq, Error)]
@@ -70,6 +73,12 @@ pub trait Shelf {
         ensures measure { Measures (holds self.old) (faults self.old) (faults self.new) result }
         ensures sure { never_fails self.old → never_fails self.new × (faults self.new ≡ faults self.old) × (result ≢ Err Failed) };
 }
+
+/// A law of every shelf that tells its files: where no fault came and memory is not short, a fetch answers
+/// exactly by the content of its file.
+pub fn answers_are_exact()
+    ensures { AnswersAreExact }
+{}
 
 /// A place that bytes are written to.
 pub trait Sink {

@@ -6,6 +6,7 @@ ghost use Rattle.cap_io.specs.declared.shelf.FetchError.TheVariants.{Failed, Out
 ghost use Rattle.cap_io.specs.Outside.{longest, Gains, GainsPrefix};
 ghost use Rattle.cap_io.specs.Reading.{IsReadError};
 
+use crate::shelf::LONGEST;
 use crate::{FetchError, PutFailed, Shelf, Sink};
 use std::alloc::Global;
 use std::fs::File;
@@ -13,8 +14,7 @@ use std::io;
 use std::io::{ErrorKind, Read, Write};
 use std::rt::Files;
 
-const LONGEST: usize = 67_108_864;
-
+/// How many bytes are read at once.
 const CHUNK: usize = 4096;
 
 /// The files of the system, by their paths. It does not tell them, so a file that is not there is a
@@ -321,6 +321,18 @@ mod tests {
             assert_eq!(rt; sink.put(text.as_bytes()).is_ok(), is_ok, "at {text}");
             assert_eq!(rt; sink.out.held.as_slice(), held.as_bytes(), "at {text}");
         }
+        Ok(())
+    }
+
+    #[test]
+    fn a_file_as_the_writer(rt: HostRuntime) -> Result<(), Fail> {
+        let mut sink = StdSink::new(File::create(&rt, "written")?);
+        for text in ["ab", "", "c"] {
+            assert!(rt; sink.put(text.as_bytes()).is_ok(), "at {text}");
+        }
+        assert_eq!(rt; fs::read(&rt, "written")?.as_slice(), b"abc".as_slice());
+        let mut full = StdSink::new(File::create(&rt, "/dev/full")?);
+        assert!(rt; full.put(b"a").is_err());
         Ok(())
     }
 }
