@@ -1,21 +1,30 @@
 -- What is left behind blanks and comments, byte by byte.
-use Rattle.std.proofs.Common.{◌≡◌, ℕ, ◌+◌, ◌-◌, ◌<◌, ◌≤◌, Bool, true, false, not, eqb, List, [], ◌∷◌, length, get_or, take, drop, sym, ap, subst, ◌∙◌}
+use Rattle.std.proofs.Common.{◌≡◌, refl, ℕ, ◌+◌, ◌-◌, ◌<◌, ◌≤◌, Bool, true, false, cond, not, eqb, List, [], ◌∷◌, length, get_or, take, drop, sym, ap, subst, ◌∙◌}
 use Rattle.std.proofs.lemmas.Bool.{cond-true, cond-false}
 use Rattle.std.proofs.lemmas.List.{drop_more, drop_all, take_rest}
 use Rattle.std.specs.Prelude.{codes}
 use Rattle.std.specs.Str.{bytes_eq}
-use Rattle.cap_syntax.specs.Layout.{is_blank, begins_comment, behind_gap}
+use Rattle.cap_syntax.specs.Layout.{is_blank, begins_comment, past_gap, past_comment}
+
+-- what is left behind the rest of a comment, or behind a gap
+abbrev pub behind_gap : (in_comment : Bool) → List ℕ → List ℕ
+behind_gap true rest = past_comment rest
+behind_gap false rest = past_gap rest
+
+comment_goes_on : (b : ℕ) (bs : List ℕ) → behind_gap true (b ∷ bs) ≡ behind_gap (not (eqb b 10)) bs
+unfolding past_gap past_comment
+comment_goes_on b bs = elim (eqb b 10) as (λ t. cond t (past_gap bs) (past_comment bs) ≡ behind_gap (not t) bs) [ true ↦ refl | false ↦ refl ]
 
 gap_opens : (b : ℕ) (bs : List ℕ) → begins_comment (b ∷ bs) ≡ true → behind_gap false (b ∷ bs) ≡ behind_gap true bs
-unfolding behind_gap
+unfolding past_gap past_comment
 gap_opens b bs opens = cond-true _ _ _ opens
 
 gap_blank : (b : ℕ) (bs : List ℕ) → begins_comment (b ∷ bs) ≡ false → is_blank b ≡ true → behind_gap false (b ∷ bs) ≡ behind_gap false bs
-unfolding behind_gap
+unfolding past_gap past_comment
 gap_blank b bs opens blank = cond-false _ _ _ opens ∙ cond-true _ _ _ blank
 
 pub gap_stops : (b : ℕ) (bs : List ℕ) → begins_comment (b ∷ bs) ≡ false → is_blank b ≡ false → behind_gap false (b ∷ bs) ≡ b ∷ bs
-unfolding behind_gap
+unfolding past_gap past_comment
 gap_stops b bs opens blank = cond-false _ _ _ opens ∙ cond-false _ _ _ blank
 
 -- the same at an index
@@ -25,8 +34,8 @@ module _ (xs : List ℕ) (i : ℕ) (lt : i < length xs) where
   cut = drop_more xs i 0 lt
 
   pub goes_on : behind_gap true (drop i xs) ≡ behind_gap (not (eqb (get_or xs i 0) 10)) (drop (i + 1) xs)
-  unfolding behind_gap
-  goes_on = ap (behind_gap true) cut
+  unfolding past_gap past_comment
+  goes_on = ap (behind_gap true) cut ∙ comment_goes_on (get_or xs i 0) (drop (i + 1) xs)
 
   pub opens_at : begins_comment (drop i xs) ≡ true → behind_gap false (drop i xs) ≡ behind_gap true (drop (i + 1) xs)
   opens_at opens = ap (behind_gap false) cut ∙ gap_opens _ _ (subst (λ r. begins_comment r ≡ true) cut opens)
@@ -38,8 +47,9 @@ module _ (xs : List ℕ) (i : ℕ) (lt : i < length xs) where
   stops_at opens blank = ap (behind_gap false) cut ∙ gap_stops _ _ (subst (λ r. begins_comment r ≡ false) cut opens) blank ∙ sym cut
 
 pub nothing_behind : (in_comment : Bool) (xs : List ℕ) (n : ℕ) → length xs ≤ n → behind_gap in_comment (drop n xs) ≡ []
-unfolding behind_gap
-nothing_behind in_comment xs n le = ap (behind_gap in_comment) (drop_all n xs le)
+unfolding past_gap past_comment
+nothing_behind true xs n le = ap past_comment (drop_all n xs le)
+nothing_behind false xs n le = ap past_gap (drop_all n xs le)
 
 -- what the code reads of two bytes at an index
 pub opens_is : (xs : List ℕ) (i : ℕ) (r : Bool) → r ≡ bytes_eq (codes "//") (take 2 (take (length xs - i) (drop i xs))) → begins_comment (drop i xs) ≡ r

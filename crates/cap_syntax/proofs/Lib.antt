@@ -3,3 +3,5 @@ pub mod Numbers
 pub mod Gaps
 pub mod Places
 pub mod Reading
+pub mod Once
+pub mod Refusals

@@ -1,5 +1,5 @@
 -- The tokens of a text.
-use Rattle.std.specs.Prelude.{◌≡◌, ◌≢◌, ℕ, ◌≤◌, Bool, true, false, not, ◌||◌, ◌==◌, if◌then◌else◌, List, [], ◌∷◌, ◌++◌, length, take, drop, All, codes}
+use Rattle.std.specs.Prelude.{◌≡◌, ◌≢◌, ℕ, ◌≤◌, Bool, false, ◌||◌, ◌==◌, if◌then◌else◌, List, [], ◌∷◌, ◌++◌, length, take, drop, All, codes}
 use Rattle.std.specs.Str.{bytes_eq}
 use Rattle.cap_syntax.specs.declared.place.Place.{Place}
 use Rattle.cap_syntax.specs.declared.token.Token.{Token}
@@ -15,18 +15,19 @@ is_blank b = b == 32 || b == 9 || b == 10 || b == 13
 abbrev pub begins_comment : List ℕ → Bool
 begins_comment rest = bytes_eq (codes "//") (take 2 rest)
 
--- What is left of the text behind its blanks and comments. A comment goes on to the end of its line.
-unfoldable pub behind_gap : (in_comment : Bool) → List ℕ → List ℕ
-behind_gap in_comment [] = []
-behind_gap true (b ∷ bs) = behind_gap (not (b == 10)) bs
-behind_gap false (b ∷ bs) =
-    if begins_comment (b ∷ bs) then behind_gap true bs
-    else (if is_blank b then behind_gap false bs
-    else b ∷ bs)
+-- What is left of the text behind the blanks and comments at its front. A comment goes on to the end
+-- of its line.
+unfoldable mutual
+  pub past_gap : List ℕ → List ℕ
+  past_gap [] = []
+  past_gap (b ∷ bs) =
+      if begins_comment (b ∷ bs) then past_comment bs
+      else (if is_blank b then past_gap bs
+      else b ∷ bs)
 
--- the rest of the text behind the blanks and comments at its front
-abbrev pub past_gap : List ℕ → List ℕ
-past_gap rest = behind_gap false rest
+  pub past_comment : List ℕ → List ℕ
+  past_comment [] = []
+  past_comment (b ∷ bs) = if b == 10 then past_gap bs else past_comment bs
 
 -- at this place, with this rest of the text, stands this token
 pub record IsTokenAt (place : Place) (rest : List ℕ) (t : Token) : Type 0 where

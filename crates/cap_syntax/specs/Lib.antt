@@ -1,3 +1,5 @@
 pub mod Spelling
 pub mod Place
 pub mod Layout
+pub mod Refusal
+pub mod Printing

@@ -1,5 +1,5 @@
 -- Places in a text.
-use Rattle.std.specs.Prelude.{◌≡◌, ℕ, ◌+◌, ◌-◌, ◌≤◌, Bool, not, ◌==◌, List, length, take, drop, count_by, reverse}
+use Rattle.std.specs.Prelude.{◌≡◌, ℕ, ◌+◌, ◌-◌, ◌<◌, ◌≤◌, ◌⊎◌, Bool, not, ◌==◌, List, length, take, drop, count_by, reverse}
 use Rattle.std.specs.List.{prefix_len}
 use Rattle.cap_syntax.specs.declared.place.Place.{Place}
 
@@ -27,3 +27,7 @@ pub record StandsAt (bytes rest : List ℕ) (place : Place) : Type 0 where
   pub within : length rest ≤ length bytes
   pub rest_of : drop (length bytes - length rest) bytes ≡ rest
   pub at : place ≡ place_of bytes rest
+
+-- one place comes before another
+abbrev pub IsEarlier : Place → Place → Type 0
+IsEarlier p q = (p.line < q.line) ⊎ ((p.line ≡ q.line) × (p.column < q.column))

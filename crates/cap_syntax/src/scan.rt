@@ -1,5 +1,8 @@
-ghost use Rattle.std.specs.Prelude.{◌≡◌, ℕ, ◌+◌, ◌^◌, ◌<◌, ◌≤◌, ◌++◌, List, length, take, drop, IfOk};
+ghost use Rattle.std.specs.Prelude.{◌≡◌, ℕ, ◌+◌, ◌^◌, ◌<◌, ◌≤◌, ◌++◌, List, length, take, drop, IfOk, IfErr, MatchResult};
 ghost use Rattle.cap_syntax.specs.Place.{place_after, StandsAt};
+ghost use Rattle.cap_syntax.specs.Refusal.{max_text, IsFirstBreak, IsRefusal, UnlessMemory, FailsExactly};
+ghost use Rattle.cap_syntax.specs.declared.place.Place.{Place};
+ghost use Rattle.cap_syntax.specs.declared.token.Token.{Token};
 ghost use Rattle.cap_syntax.specs.Layout.{is_blank, past_gap, IsTokenAt, AreTokensOf, EndsOnce};
 
 use crate::place::Place;
@@ -66,9 +69,11 @@ fn past_gap(rest: &[u8], place: Place) -> (&[u8], Place)
 
 // The token at the front.
 fn next_token(alloc: Global, rest: &[u8], place: Place) -> Result<Token, TokenError>
+    requires left { 0 < length rest.now }
     requires line { place.line + length rest.now < 2 ^ 32 }
     requires column { place.column + length rest.now < 2 ^ 32 }
     ensures token { IfOk result (λ t. IsTokenAt place rest.now t) }
+    ensures refused { (bytes : List ℕ) → StandsAt bytes rest.now place → IfErr result (λ e. UnlessMemory e (IsFirstBreak bytes rest.now e)) }
 {
     let Some((kind, length)) = longest_token(rest) else {
         return Err(TokenError::BadByte(place));
@@ -89,16 +94,9 @@ fn next_token(alloc: Global, rest: &[u8], place: Place) -> Result<Token, TokenEr
     })
 }
 
-/// The tokens of a text, each the longest at its place, and a last one of kind `End` behind the last
-/// byte.
-///
-/// - `TextTooLong`: the text has more than 1,048,576 bytes.
-/// - `BadByte`: a byte starts no token, or may not directly follow the token before it: a letter or
-///   `_` a number, and a letter, a digit or `_` a whole share or a wildcard.
-/// - `LongLiteral`: digits spell more than 9223372036854775807.
-pub fn tokens(alloc: Global, bytes: &[u8]) -> Result<Vec<Token>, TokenError>
-    ensures ok { IfOk result (λ v. AreTokensOf bytes.now v.items) }
-    ensures ends { IfOk result (λ v. EndsOnce v.items) }
+// The tokens of a text, or its refusal.
+fn scan(alloc: Global, bytes: &[u8]) -> Result<Vec<Token>, TokenError>
+    ensures { MatchResult result (λ v. (length bytes.now ≤ max_text) × AreTokensOf bytes.now v.items) (λ e. UnlessMemory e (IsRefusal bytes.now e)) }
 {
     if bytes.len() > MAX_TEXT {
         return Err(TokenError::TextTooLong);
@@ -118,4 +116,24 @@ pub fn tokens(alloc: Global, bytes: &[u8]) -> Result<Vec<Token>, TokenError>
         place,
     })?;
     Ok(tokens)
+}
+
+/// The tokens of a text, each the longest at its place, and a last one of kind `End` behind the last
+/// byte.
+///
+/// - `TextTooLong`: the text has more than 1,048,576 bytes.
+/// - `BadByte`: a byte starts no token, or may not directly follow the token before it: a letter or
+///   `_` a number, and a letter, a digit or `_` a whole share or a wildcard.
+/// - `LongLiteral`: digits spell more than 9223372036854775807.
+pub fn tokens(alloc: Global, bytes: &[u8]) -> Result<Vec<Token>, TokenError>
+    ensures ok { IfOk result (λ v. (length bytes.now ≤ max_text) × AreTokensOf bytes.now v.items) }
+
+    // No other list is the text's, and a text that has one is refused for want of memory alone.
+    ensures only { (ts : List Token) → length bytes.now ≤ max_text → AreTokensOf bytes.now ts → MatchResult result (λ v. v.items ≡ ts) (λ e. e ≡ TokenError.OutOfMemory) }
+    ensures ends { IfOk result (λ v. EndsOnce v.items) }
+    ensures bad_byte { (place : Place) → FailsExactly result (TokenError.BadByte place) bytes.now }
+    ensures long_literal { (place : Place) → FailsExactly result (TokenError.LongLiteral place) bytes.now }
+    ensures text_too_long { FailsExactly result TokenError.TextTooLong bytes.now }
+{
+    scan(alloc, bytes)
 }

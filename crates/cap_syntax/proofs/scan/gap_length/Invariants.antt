@@ -1,5 +1,6 @@
 use Rattle.std.proofs.Common.{◌≡◌, drop}
-use Rattle.cap_syntax.specs.Layout.{behind_gap, past_gap}
+use Rattle.cap_syntax.specs.Layout.{past_gap}
+use Rattle.cap_syntax.proofs.Gaps.{behind_gap}
 use Rattle.cap_syntax.proofs.scan.gap_length.Given as goal
 
 abbrev pub invariant-loop-i : goal.invariant-loop-i

@@ -1,7 +1,7 @@
 use Rattle.std.proofs.Common.{length}
 use Rattle.cap_syntax.specs.Place.{StandsAt}
 use Rattle.cap_syntax.specs.Layout.{Reads}
-use Rattle.cap_syntax.proofs.scan.tokens.Given as goal
+use Rattle.cap_syntax.proofs.scan.scan.Given as goal
 
 abbrev pub invariant-loop-rest : goal.invariant-loop-rest
 invariant-loop-rest l = record {
