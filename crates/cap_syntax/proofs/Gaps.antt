@@ -19,7 +19,7 @@ gap_opens : (b : ℕ) (bs : List ℕ) → begins_comment (b ∷ bs) ≡ true →
 unfolding past_gap past_comment
 gap_opens b bs opens = cond-true _ _ _ opens
 
-gap_blank : (b : ℕ) (bs : List ℕ) → begins_comment (b ∷ bs) ≡ false → is_blank b ≡ true → behind_gap false (b ∷ bs) ≡ behind_gap false bs
+pub gap_blank : (b : ℕ) (bs : List ℕ) → begins_comment (b ∷ bs) ≡ false → is_blank b ≡ true → behind_gap false (b ∷ bs) ≡ behind_gap false bs
 unfolding past_gap past_comment
 gap_blank b bs opens blank = cond-false _ _ _ opens ∙ cond-true _ _ _ blank
 

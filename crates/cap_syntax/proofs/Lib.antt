@@ -5,3 +5,4 @@ pub mod Places
 pub mod Reading
 pub mod Once
 pub mod Refusals
+pub mod ReadBack

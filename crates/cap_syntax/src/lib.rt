@@ -2,6 +2,7 @@
 #![tactic(auto)]
 
 mod place;
+mod printing;
 mod scan;
 #[cfg(test)]
 mod tests;
@@ -10,6 +11,7 @@ mod token;
 mod word;
 
 pub use place::Place;
+pub use printing::printed_tokens_read_back;
 pub use scan::tokens;
 pub use text::Text;
 pub use token::{Token, TokenError, TokenKind};
