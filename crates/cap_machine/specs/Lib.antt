@@ -1,2 +1,3 @@
 pub mod Program
 pub mod Machine
+pub mod View

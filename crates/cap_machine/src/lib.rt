@@ -2,7 +2,9 @@
 #![tactic(auto)]
 
 mod event;
+mod machine;
 mod program;
 
 pub use event::{Entry, Event, StepError};
+pub use machine::Machine;
 pub use program::{Act, Comparison, Op, Program, Statement, Term};

