@@ -1,13 +1,10 @@
 -- Terms evaluated within 128 bits, and what a statement does once its terms are evaluated.
-use Rattle.std.specs.Prelude.{ℕ, ℤ, pos, Bool, true, false, ◌&&◌, if◌then◌else◌, List, [], ◌∷◌, drop, Option, Some, None, slice_set}
+use Rattle.std.specs.Prelude.{ℕ, ℤ, Bool, ◌&&◌, if◌then◌else◌, List, Option, Some, None}
 use Rattle.cap_syntax.specs.declared.place.Place.{Place}
-use Rattle.cap_machine.specs.declared.event.Event.{Event}
-use Rattle.cap_machine.specs.declared.event.Event.TheVariants.{Set, End, Failed}
-use Rattle.cap_machine.specs.declared.event.Event.TheVariants as event
 use Rattle.cap_machine.specs.declared.evaluation.Effect.{Effect}
 use Rattle.cap_machine.specs.declared.evaluation.Effect.TheVariants.{Assign, Pass, Fail, GiveBack}
 use Rattle.cap_machine.specs.Program.{PlainTerm, PlainComparison, PlainAct, set, check, give_back, PlainStatement}
-use Rattle.cap_machine.specs.Machine.{Frame, Thread, Configuration, Outcome, next, fault, disabled, value, sum_from, is_narrow, is_narrow_from, holds, is_narrow_act, with_rest, with_value, receives}
+use Rattle.cap_machine.specs.Machine.{value, sum_from, is_narrow, is_narrow_from, holds, is_narrow_act}
 
 -- the sum of products from a number on, where each product and each partial sum is narrow
 abbrev pub narrow_sum_from : List ℤ → ℤ → List (ℕ × ℤ) → Option ℤ

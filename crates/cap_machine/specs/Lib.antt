@@ -2,3 +2,4 @@ pub mod Program
 pub mod Machine
 pub mod View
 pub mod Evaluation
+pub mod Effects

@@ -6,7 +6,7 @@ use Rattle.cap_machine.specs.declared.event.Entry.{Entry}
 use Rattle.cap_machine.specs.declared.event.Event.{Event}
 use Rattle.cap_machine.specs.declared.event.StepError.{StepError}
 use Rattle.cap_machine.specs.declared.event.StepError.TheVariants.{NotEnabled, Wide, OutOfMemory}
-use Rattle.cap_machine.specs.declared.machine.Frame as code
+use Rattle.cap_machine.specs.declared.frame.Frame as code
 use Rattle.cap_machine.specs.declared.machine.Machine.{Machine}
 use Rattle.cap_machine.specs.Program.{PlainProgram, PlainAct, set, check, give_back, PlainStatement}
 use Rattle.cap_machine.specs.Machine.{Frame, Thread, Configuration, Outcome, next, fault, disabled, step, is_narrow_step}

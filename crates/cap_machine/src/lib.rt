@@ -3,6 +3,7 @@
 
 mod evaluation;
 mod event;
+mod frame;
 mod machine;
 mod program;
 

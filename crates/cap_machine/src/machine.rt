@@ -3,21 +3,14 @@ ghost use Rattle.std.specs.FinMap.{from_entries};
 ghost use Rattle.cap_machine.specs.Program.{program_view, statement_view};
 ghost use Rattle.cap_machine.specs.Machine.{start, ahead};
 ghost use Rattle.cap_machine.specs.View.{configuration, is_stopped, IsWellFormed, Fits, AscendsFrom, is_enabled, Steps};
+ghost use Rattle.cap_machine.specs.Effects.{top_of, Plans};
 
+use crate::evaluation::{Effect, decide};
 use crate::event::{Entry, Event, StepError};
+use crate::frame::{Frame, assign, give_back, pass};
 use crate::program::{Program, Statement};
 use std::alloc::{AllocError, Global};
 use std::collections::BTreeMap;
-
-/// A function that runs: what it was given, its locals, the number of its next statement, and the
-/// local of its caller that gets the result.
-#[derive(Debug, Drop)]
-struct Frame {
-    arguments: Vec<i128>,
-    store: Vec<i128>,
-    next: usize,
-    destination: Option<u32>,
-}
 
 /// A program's run: the heap, the frames of each thread with the top one last, and whether a fault
 /// stopped it.
@@ -74,7 +67,7 @@ impl Machine {
     /// leaves the configuration as it was and stops the machine.
     pub fn step(
         &mut self,
-        alloc: Global,
+        _alloc: Global,
         program: &Program,
         entry: &Entry,
     ) -> Result<Event, StepError>
@@ -82,8 +75,7 @@ impl Machine {
         ensures steps { Steps (program_view program.now) entry.now self.old self.new result }
         ensures fits { Fits (program_view program.now) self.new }
     {
-        let _ = alloc;
-        Err(StepError::OutOfMemory)
+        self.advance(program, entry)
     }
 
     /// The thread's next statement, and `None` exactly where there is no such thread or it has ended.
@@ -91,8 +83,54 @@ impl Machine {
         requires { Fits (program_view program.now) self.now }
         ensures { option_map statement_view (option_copied result) ≡ ahead (configuration (program_view program.now) self.now) thread }
     {
-        let frame = self.threads.get(thread as usize)?.last()?;
+        let frame = self.top(thread)?;
         program.body.get(frame.next)
+    }
+
+    fn top(&self, thread: u32) -> Option<&Frame>
+        ensures { option_copied result ≡ top_of self.now.threads.items thread }
+    {
+        self.threads.get(thread as usize)?.last()
+    }
+
+    // What the entry's step does, where there is one.
+    fn plan(&self, program: &Program, entry: &Entry) -> Result<Effect, StepError>
+        requires { Fits (program_view program.now) self.now }
+        ensures { Plans (program_view program.now) self.now entry.now result }
+    {
+        if self.stopped || entry.base.is_some() {
+            return Err(StepError::NotEnabled);
+        }
+        let Some(frame) = self.top(entry.thread) else {
+            return Err(StepError::NotEnabled);
+        };
+        let Some(statement) = program.body.get(frame.next) else {
+            return Err(StepError::NotEnabled);
+        };
+        decide(statement, &frame.store).ok_or(StepError::Wide)
+    }
+
+    fn advance(&mut self, program: &Program, entry: &Entry) -> Result<Event, StepError>
+        requires { Fits (program_view program.now) self.old }
+        ensures { Steps (program_view program.now) entry.now self.old self.new result }
+    {
+        let effect = self.plan(program, entry)?;
+        let thread = entry.thread as usize;
+        match effect {
+            Effect::Assign(variable, value) => {
+                assign(&mut self.threads[thread], variable, value);
+                Ok(Event::Set(value))
+            }
+            Effect::Pass => {
+                pass(&mut self.threads[thread]);
+                Ok(Event::Assert)
+            }
+            Effect::Fail(place) => {
+                self.stopped = true;
+                Ok(Event::Failed(place))
+            }
+            Effect::GiveBack(value) => Ok(give_back(&mut self.threads[thread], value)),
+        }
     }
 }
 
