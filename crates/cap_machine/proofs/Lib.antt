@@ -1,2 +1,3 @@
 pub mod NarrowLemmas
 pub mod FrameLemmas
+pub mod StepLemmas
