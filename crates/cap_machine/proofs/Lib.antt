@@ -1,3 +1,4 @@
 pub mod NarrowLemmas
 pub mod FrameLemmas
 pub mod StepLemmas
+pub mod PlanLemmas
