@@ -2,3 +2,4 @@ pub mod NarrowLemmas
 pub mod FrameLemmas
 pub mod StepLemmas
 pub mod PlanLemmas
+pub mod AdvanceLemmas
