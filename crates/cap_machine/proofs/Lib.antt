@@ -3,3 +3,5 @@ pub mod FrameLemmas
 pub mod StepLemmas
 pub mod PlanLemmas
 pub mod AdvanceLemmas
+pub mod FitLemmas
+pub mod HeapLemmas

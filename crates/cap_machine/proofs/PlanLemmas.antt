@@ -71,7 +71,7 @@ get_or-map g [] k d = refl
 get_or-map g (x ∷ xs) zero d = refl
 get_or-map g (x ∷ xs) (suc k) d = get_or-map g xs k d
 
-all_at : {X : Type 0} (P : X → Type 0) (xs : List X) (n : ℕ) (x : X) → All P xs → slice_get xs n ≡ Some x → P x
+pub all_at : {X : Type 0} (P : X → Type 0) (xs : List X) (n : ℕ) (x : X) → All P xs → slice_get xs n ≡ Some x → P x
 all_at P xs n x all at = subst P (get_or_from_slice_get xs n x x at) (all n x (slice_get_within xs n x at))
 
 -- the code's frames fit where those of the thread do
