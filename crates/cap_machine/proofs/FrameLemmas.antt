@@ -64,9 +64,9 @@ pub receives_in : (body : List PlainStatement) (xs : List code.Frame) (n : ℕ) 
 receives_in body xs n f d store x v e top s dest =
     let below = thread_view body (take n xs) in
     thread_with_top body xs n f _ e
-      ∙ ap (λ g. g ∷ below) (received_view body f store x v s)
-      ∙ ap (λ o. receives o v (frame_view body f) ∷ below) (sym dest)
-      ∙ ap (ran (GiveBack v)) (sym (two_on_top body xs n f d e top))
+    ∙ ap (λ g. g ∷ below) (received_view body f store x v s)
+    ∙ ap (λ o. receives o v (frame_view body f) ∷ below) (sym dest)
+    ∙ ap (ran (GiveBack v)) (sym (two_on_top body xs n f d e top))
 
 -- the frame d has no destination
 pub drops_value : (body : List PlainStatement) (xs : List code.Frame) (d : code.Frame) (v : ℤ) → 0 < length xs → d.destination ≡ None → thread_view body xs ≡ ran (GiveBack v) (thread_view body (xs ++ d ∷ []))
@@ -76,9 +76,9 @@ drops_value body xs d v h dest =
     let f = get_or xs n d in
     let top : f ≡ get_or xs n f = get_or_default xs n d f (omega arith) in
     thread_top body xs n f e
-      ∙ ap (λ g. frame_view body g ∷ thread_view body (take n xs)) (sym top)
-      ∙ ap (λ o. receives o v (frame_view body f) ∷ thread_view body (take n xs)) (sym dest)
-      ∙ ap (ran (GiveBack v)) (sym (two_on_top body xs n f d e top))
+    ∙ ap (λ g. frame_view body g ∷ thread_view body (take n xs)) (sym top)
+    ∙ ap (λ o. receives o v (frame_view body f) ∷ thread_view body (take n xs)) (sym dest)
+    ∙ ap (ran (GiveBack v)) (sym (two_on_top body xs n f d e top))
 
 pub returns_value : (body : List PlainStatement) (xs : List code.Frame) (d : code.Frame) (v : ℤ) → 0 < length xs → Return v ≡ given v (thread_view body (xs ++ d ∷ []))
 returns_value body xs d v h =

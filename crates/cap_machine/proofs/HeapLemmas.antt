@@ -9,6 +9,9 @@ use Rattle.std.specs.BTreeMap.{insert_entry}
 use Rattle.std.proofs.lemmas.Int.{ints}
 use Rattle.cap_machine.specs.View.{AscendsFrom}
 
+abbrev pub no_cell : ℤ × ℤ
+no_cell = (pos 0, pos 0)
+
 greater_where : (x y : ℤ) (o : Ordering) → MatchOrdering o (x <ℤ y) (x ≡ y) (y <ℤ x) → y <ℤ x → o ≡ Greater
 greater_where x y Less m h = absurd (omega (arith, ints))
 greater_where x y Equal m h = absurd (omega (arith, ints))

@@ -5,3 +5,4 @@ pub mod PlanLemmas
 pub mod AdvanceLemmas
 pub mod FitLemmas
 pub mod HeapLemmas
+pub mod StartLemmas

@@ -1,5 +1,5 @@
 -- What a machine shows over the program that it runs, and what its calls promise in these terms.
-use Rattle.std.specs.Prelude.{◌≡◌, ℕ, ◌<◌, ℤ, pos, ◌<ℤ◌, Bool, true, false, not, ◌&&◌, List, [], ◌∷◌, map, reverse, drop, length, All, IfSome, Result, Ok, Err}
+use Rattle.std.specs.Prelude.{◌≡◌, ℕ, ◌<◌, ℤ, pos, ◌<ℤ◌, Bool, true, false, not, ◌&&◌, List, [], ◌∷◌, map, reverse, drop, replicate, length, All, Option, None, IfSome, Result, Ok, Err}
 use Rattle.std.specs.Global.{Vec}
 use Rattle.std.specs.FinMap.{from_entries}
 use Rattle.cap_machine.specs.declared.event.Entry.{Entry}
@@ -17,6 +17,10 @@ frame_view body f = record { arguments = f.arguments.items; store = f.store.item
 -- the code keeps the top frame last
 abbrev pub thread_view : List PlainStatement → List code.Frame → Thread
 thread_view body frames = reverse (map (frame_view body) frames)
+
+-- the frame of main at these arguments, with its locals at 0
+abbrev pub main_frame : PlainProgram → List ℤ → Frame
+main_frame p arguments = record { arguments = arguments; store = replicate p.locals (pos 0); rest = p.body; destination = None }
 
 -- where the machine is in its run of the program
 unfoldable pub configuration : PlainProgram → Machine → Configuration

@@ -4,9 +4,8 @@ ghost use Rattle.cap_machine.specs.Program.{term_view, comparison_view, statemen
 ghost use Rattle.cap_machine.specs.Machine.{value_of, compared};
 ghost use Rattle.cap_machine.specs.Evaluation.{narrow_value, narrow_holds, narrow_effect};
 
-use cap_syntax::Place;
-
 use crate::program::{Act, Comparison, Op, Statement, Term};
+use cap_syntax::Place;
 
 /// What a statement does, its terms evaluated: an assignment, an assertion that holds or fails, or
 /// the end of the frame with its result.

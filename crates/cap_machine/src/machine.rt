@@ -2,7 +2,7 @@ ghost use Rattle.std.specs.Prelude.{◌≡◌, ℕ, ℤ, pos, false, List, lengt
 ghost use Rattle.std.specs.FinMap.{from_entries};
 ghost use Rattle.cap_machine.specs.Program.{program_view, statement_view};
 ghost use Rattle.cap_machine.specs.Machine.{start, ahead};
-ghost use Rattle.cap_machine.specs.View.{configuration, is_stopped, IsWellFormed, Fits, AscendsFrom, is_enabled, Steps};
+ghost use Rattle.cap_machine.specs.View.{frame_view, main_frame, configuration, is_stopped, IsWellFormed, Fits, AscendsFrom, is_enabled, Steps};
 ghost use Rattle.cap_machine.specs.Effects.{top_of, Plans};
 
 use crate::evaluation::{Effect, decide};
@@ -37,12 +37,7 @@ impl Machine {
         ensures fits { IsWellFormed (program_view program.now) → IfOk result (λ m. Fits (program_view program.now) m) }
     {
         let mut frames = Vec::new(alloc);
-        frames.push(Frame {
-            arguments: args.to_vec(alloc)?,
-            store: vec![in alloc; 0; program.locals as usize]?,
-            next: 0,
-            destination: None,
-        })?;
+        frames.push(first_frame(alloc, program, args)?)?;
         let mut threads = Vec::new(alloc);
         threads.push(frames)?;
         Ok(Machine {
@@ -132,6 +127,18 @@ impl Machine {
             Effect::GiveBack(value) => Ok(give_back(&mut self.threads[thread], value)),
         }
     }
+}
+
+// The frame of `main` at these arguments.
+fn first_frame(alloc: Global, program: &Program, args: &[i128]) -> Result<Frame, AllocError>
+    ensures { IfOk result (λ f. frame_view (program_view program.now).body f ≡ main_frame (program_view program.now) args.now) }
+{
+    Ok(Frame {
+        arguments: args.to_vec(alloc)?,
+        store: vec![in alloc; 0; program.locals as usize]?,
+        next: 0,
+        destination: None,
+    })
 }
 
 // The map of these cells, whose addresses ascend.
