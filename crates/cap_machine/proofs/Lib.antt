@@ -6,3 +6,5 @@ pub mod AdvanceLemmas
 pub mod FitLemmas
 pub mod HeapLemmas
 pub mod StartLemmas
+pub mod LawLemmas
+pub mod ProgramLemmas

@@ -3,3 +3,4 @@ pub mod Machine
 pub mod View
 pub mod Evaluation
 pub mod Effects
+pub mod Laws

@@ -4,9 +4,11 @@
 mod evaluation;
 mod event;
 mod frame;
+mod laws;
 mod machine;
 mod program;
 
 pub use event::{Entry, Event, StepError};
+pub use laws::{answers_agree, steps_ignore_the_heap};
 pub use machine::Machine;
 pub use program::{Act, Comparison, Op, Program, Statement, Term};

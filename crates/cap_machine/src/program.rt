@@ -1,3 +1,7 @@
+ghost use Rattle.std.specs.Prelude.{◌↔◌, IsTrue};
+ghost use Rattle.cap_machine.specs.Program.{act_view, program_view};
+ghost use Rattle.cap_machine.specs.View.{NamesLocals, IsWellFormed};
+
 use cap_syntax::Place;
 
 /// A linear term: a constant, and pairs of a variable and its coefficient, in ascending order of the
@@ -49,4 +53,28 @@ pub struct Statement {
 pub struct Program {
     pub locals: u32,
     pub body: Vec<Statement>,
+}
+
+impl Program {
+    /// Whether the destination of each assignment is a local.
+    pub fn is_well_formed(&self) -> bool
+        ensures { IsTrue result ↔ IsWellFormed (program_view self.now) }
+    {
+        for statement in &self.body {
+            if !names_locals(&statement.act, self.locals) {
+                return false;
+            }
+        }
+        true
+    }
+}
+
+fn names_locals(act: &Act, locals: u32) -> bool
+    ensures { IsTrue result ↔ NamesLocals locals (act_view act.now) }
+{
+    match act {
+        Act::Set(variable, _) => *variable < locals,
+        Act::Assert(_) => true,
+        Act::Return(_) => true,
+    }
 }
