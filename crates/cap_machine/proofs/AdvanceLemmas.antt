@@ -1,6 +1,6 @@
 -- The machine after a planned effect shows what the definition's step leaves.
-use Rattle.std.proofs.Common.{◌≡◌, ◌∙◌, ap, sym, refl, ℕ, zero, suc, ◌<◌, Bool, true, false, List, [], ◌∷◌, length, get_or, arith}
-use Rattle.std.specs.Prelude.{map, Option, Some, slice_get, slice_set}
+use Rattle.std.proofs.Common.{◌≡◌, ◌∙◌, ap, refl, ℕ, zero, suc, ◌<◌, true, false, List, [], ◌∷◌, length, get_or, arith}
+use Rattle.std.specs.Prelude.{Some, slice_get, slice_set}
 use Rattle.std.specs.Global.{Vec}
 use Rattle.std.proofs.lemmas.List.{map-set}
 use Rattle.std.proofs.lemmas.Option.{slice_get_read}
@@ -13,7 +13,7 @@ use Rattle.cap_machine.specs.declared.evaluation.Effect.TheVariants.{Fail}
 use Rattle.cap_machine.specs.declared.frame.Frame as code
 use Rattle.cap_machine.specs.declared.machine.Machine.{Machine}
 use Rattle.cap_machine.specs.Program.{PlainProgram}
-use Rattle.cap_machine.specs.Machine.{Thread, next, step, is_narrow_step}
+use Rattle.cap_machine.specs.Machine.{next, step, is_narrow_step}
 use Rattle.cap_machine.specs.View.{thread_view, configuration, is_stopped, Leaves}
 use Rattle.cap_machine.specs.Effects.{ran, with_thread, outcome_of, StepsBy}
 

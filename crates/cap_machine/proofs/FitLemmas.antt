@@ -1,6 +1,6 @@
 -- A step keeps the frames fitting.
 use Rattle.std.proofs.Common.{◌≡◌, ◌∙◌, sym, refl, subst, ℕ, Bool, true, false, cond, List, [], ◌∷◌, length-set}
-use Rattle.std.specs.Prelude.{ℤ, All, IfSome, Option, Some, None, slice_get, Result, Ok, Err}
+use Rattle.std.specs.Prelude.{ℤ, All, Option, Some, None, slice_get, Result, Ok, Err}
 use Rattle.std.proofs.lemmas.List.Elements.{All-nil, All-cons, All-head, All-tail, All-set}
 use Rattle.cap_syntax.specs.declared.place.Place.{Place}
 use Rattle.cap_machine.specs.declared.event.Entry.{Entry}

@@ -1,12 +1,12 @@
 -- The top frame of a thread, and the thread after it changed.
-use Rattle.std.proofs.Common.{◌≡◌, ◌∙◌, ap, sym, refl, ℕ, ◌+◌, ◌-◌, ◌<◌, ◌≤◌, List, [], ◌∷◌, ◌++◌, length, get_or, take, drop, arith, length-append}
-use Rattle.std.specs.Prelude.{ℤ, map, reverse, slice_set, Option, Some, None}
+use Rattle.std.proofs.Common.{◌≡◌, ◌∙◌, ap, sym, refl, ℕ, ◌+◌, ◌-◌, ◌<◌, ◌≤◌, List, [], ◌∷◌, ◌++◌, length, get_or, take, arith}
+use Rattle.std.specs.Prelude.{ℤ, slice_set, Some, None}
 use Rattle.std.specs.Global.{Vec}
 use Rattle.std.proofs.lemmas.List.{take_more, take_all, set_at, map-append, reverse-append, drop-drop, length-take-le, get_or_default}
 use Rattle.std.proofs.Math.ListN.{set}
 use Rattle.cap_machine.specs.declared.frame.Frame as code
 use Rattle.cap_machine.specs.Program.{PlainStatement}
-use Rattle.cap_machine.specs.Machine.{Frame, Thread, with_value, receives}
+use Rattle.cap_machine.specs.Machine.{with_value, receives}
 use Rattle.cap_machine.specs.View.{frame_view, thread_view}
 use Rattle.cap_machine.specs.Effects.{passed, ran, given}
 use Rattle.cap_machine.specs.declared.event.Event.TheVariants.{Return}

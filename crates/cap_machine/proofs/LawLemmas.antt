@@ -1,5 +1,5 @@
 -- The laws of the step, and of its answers.
-use Rattle.std.proofs.Common.{◌≡◌, ◌≢◌, ◌∙◌, ap, sym, refl, Bool, true, false, not, ◌&&◌, cond, List, [], ◌∷◌}
+use Rattle.std.proofs.Common.{◌≡◌, ◌∙◌, ap, sym, refl, Bool, true, false, cond, List, [], ◌∷◌}
 use Rattle.std.specs.Prelude.{ℤ, Option, Some, None, slice_get, Result, Ok, Err}
 use Rattle.cap_syntax.specs.declared.place.Place.{Place}
 use Rattle.cap_machine.specs.declared.event.Entry.{Entry}
@@ -8,8 +8,8 @@ use Rattle.cap_machine.specs.declared.event.StepError.{StepError}
 use Rattle.cap_machine.specs.declared.event.StepError.TheVariants.{NotEnabled, Wide, OutOfMemory}
 use Rattle.cap_machine.specs.declared.machine.Machine.{Machine}
 use Rattle.cap_machine.specs.Program.{PlainProgram, PlainAct, set, check, give_back, PlainStatement}
-use Rattle.cap_machine.specs.Machine.{Frame, Thread, Heap, Configuration, Outcome, next, fault, disabled, Spot, step, thread_step, statement_step, does, returns, holds, is_narrow_step}
-use Rattle.cap_machine.specs.View.{configuration, is_stopped, is_step, is_enabled, IsSame, Leaves, Steps}
+use Rattle.cap_machine.specs.Machine.{Frame, Thread, Heap, Configuration, Outcome, next, fault, disabled, Spot, thread_step, statement_step, does, returns, holds}
+use Rattle.cap_machine.specs.View.{is_step, is_enabled, IsSame, Leaves, Steps}
 use Rattle.cap_machine.specs.Laws.{with_heap, outcome_with_heap, IgnoresHeap, AnswersAgree}
 
 abbrev spot_with_heap : Spot → Heap → Spot

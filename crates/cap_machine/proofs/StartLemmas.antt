@@ -1,15 +1,14 @@
 -- The machine in which main begins.
-use Rattle.std.proofs.Common.{◌≡◌, ◌∙◌, ap, sym, refl, subst, ℕ, List, [], ◌∷◌, false}
-use Rattle.std.specs.Prelude.{ℤ, pos, replicate, Option, None, All}
+use Rattle.std.proofs.Common.{◌≡◌, sym, refl, subst, List, [], ◌∷◌, false}
+use Rattle.std.specs.Prelude.{ℤ, pos, All}
 use Rattle.std.specs.Global.{Vec}
-use Rattle.std.specs.BTreeMap.{BTreeMap}
 use Rattle.std.specs.FinMap.{from_entries}
 use Rattle.std.proofs.lemmas.List.{length-replicate}
 use Rattle.std.proofs.lemmas.List.Elements.{All-nil, All-cons}
 use Rattle.cap_machine.specs.declared.frame.Frame as code
 use Rattle.cap_machine.specs.declared.machine.Machine.{Machine}
 use Rattle.cap_machine.specs.Program.{PlainProgram}
-use Rattle.cap_machine.specs.Machine.{Frame, Thread, Configuration, Heap, start}
+use Rattle.cap_machine.specs.Machine.{Heap, start}
 use Rattle.cap_machine.specs.View.{frame_view, main_frame, configuration, is_stopped, FrameFits, FramesFit, Fits, IsWellFormed}
 
 pub begins : (p : PlainProgram) (m : Machine) (args : List ℤ) (cells : List (ℤ × ℤ)) (frames : Vec code.Frame) (f : code.Frame) → m.heap.entries ≡ cells → m.threads.items ≡ frames ∷ [] → frames.items ≡ f ∷ [] → frame_view p.body f ≡ main_frame p args → configuration p m ≡ start p args (from_entries cells)

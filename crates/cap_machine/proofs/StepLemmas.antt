@@ -1,25 +1,19 @@
 -- A step by what stands ahead: the code's frames beside those of the configuration.
-use Rattle.std.proofs.Common.{◌≡◌, ◌∙◌, ap, sym, refl, subst, ℕ, zero, suc, ◌+◌, ◌-◌, ◌<◌, ◌≤◌, ◌^◌, Bool, true, false, not, ◌&&◌, cond, List, [], ◌∷◌, length, get_or, take, drop, arith}
-use Rattle.std.specs.Prelude.{ℤ, map, reverse, All, Option, Some, None, is_some, is_none, option_map, option_and_then, ok_or, option_copied, slice_get, slice_set, Result, Ok, Err}
+use Rattle.std.proofs.Common.{◌≡◌, ◌∙◌, ap, sym, refl, ℕ, zero, suc, ◌+◌, ◌-◌, ◌<◌, Bool, true, false, not, ◌&&◌, cond, List, [], ◌∷◌, length, drop, arith}
+use Rattle.std.specs.Prelude.{ℤ, Option, Some, None, is_some, is_none, option_map, option_and_then, option_copied, slice_get}
 use Rattle.std.specs.Global.{Vec}
 use Rattle.std.specs.Slice.{IsItemAt}
 use denote.Ref.{Bor}
-use Rattle.std.proofs.lemmas.List.{drop_more, get_or-reverse, length-map, length-reverse}
-use Rattle.std.proofs.lemmas.Option.{slice_get-map, slice_get_within, slice_get-get_or, slice_get_past, slice_get_read, get_or_from_slice_get, same_Some, none-some}
+use Rattle.std.proofs.lemmas.Option.{slice_get-map, slice_get-get_or, slice_get_past, slice_get_read}
 use Rattle.cap_syntax.specs.declared.place.Place.{Place}
 use Rattle.cap_machine.specs.declared.event.Entry.{Entry}
-use Rattle.cap_machine.specs.declared.event.StepError.{StepError}
-use Rattle.cap_machine.specs.declared.event.StepError.TheVariants.{NotEnabled, Wide, OutOfMemory}
-use Rattle.cap_machine.specs.declared.evaluation.Effect.{Effect}
 use Rattle.cap_machine.specs.declared.frame.Frame as code
 use Rattle.cap_machine.specs.declared.machine.Machine.{Machine}
 use Rattle.cap_machine.specs.declared.program.Program.{Program}
-use Rattle.cap_machine.specs.declared.program.Statement.{Statement}
 use Rattle.cap_machine.specs.Program.{PlainProgram, PlainAct, set, check, give_back, PlainStatement, program_view, statement_view}
-use Rattle.cap_machine.specs.Machine.{Frame, Thread, Configuration, Outcome, next, fault, disabled, Spot, step, thread_step, statement_step, does, returns, holds, ahead, top_frame, first_statement, is_narrow_step, is_narrow_frame, is_narrow_act}
-use Rattle.cap_machine.specs.View.{frame_view, thread_view, configuration, is_stopped, is_step, is_enabled, FrameFits, FramesFit, Fits, IsWellFormed}
-use Rattle.cap_machine.specs.Evaluation.{effect_of, narrow_effect}
-use Rattle.cap_machine.specs.Effects.{ran, given, with_thread, outcome_of, NamesLocal, CanRun, top_of, StepsBy, Plans}
+use Rattle.cap_machine.specs.Machine.{Frame, Thread, Configuration, Outcome, Spot, thread_step, statement_step, does, returns, holds, ahead, top_frame, first_statement}
+use Rattle.cap_machine.specs.View.{frame_view, thread_view, configuration, is_stopped, is_step, is_enabled}
+use Rattle.cap_machine.specs.Effects.{top_of}
 use Rattle.cap_machine.proofs.FrameLemmas.{thread_top}
 
 and_false : (b : Bool) → (b && false) ≡ false

@@ -1,5 +1,5 @@
 -- What an effect makes of a thread, and of the frames that the code keeps for it.
-use Rattle.std.specs.Prelude.{◌≡◌, ℕ, ◌+◌, ◌-◌, ◌<◌, ◌≤◌, ◌^◌, ℤ, Bool, true, false, List, [], ◌∷◌, length, drop, get_or, slice_get, slice_set, All, Option, Some, None, option_and_then, Result, Ok, Err}
+use Rattle.std.specs.Prelude.{◌≡◌, ℕ, ◌+◌, ◌-◌, ◌<◌, ◌^◌, ℤ, true, false, List, [], ◌∷◌, length, drop, slice_get, slice_set, All, Option, Some, option_and_then, Result, Ok, Err}
 use Rattle.std.specs.Global.{Vec}
 use Rattle.cap_machine.specs.declared.event.Entry.{Entry}
 use Rattle.cap_machine.specs.declared.event.Event.{Event}
@@ -11,7 +11,7 @@ use Rattle.cap_machine.specs.declared.evaluation.Effect.TheVariants.{Assign, Pas
 use Rattle.cap_machine.specs.declared.frame.Frame as code
 use Rattle.cap_machine.specs.declared.machine.Machine.{Machine}
 use Rattle.cap_machine.specs.Program.{PlainProgram}
-use Rattle.cap_machine.specs.Machine.{Frame, Thread, Configuration, Outcome, next, fault, disabled, step, is_narrow_step, with_rest, with_value, receives}
+use Rattle.cap_machine.specs.Machine.{Frame, Thread, Configuration, Outcome, next, fault, step, is_narrow_step, with_rest, with_value, receives}
 use Rattle.cap_machine.specs.View.{frame_view, thread_view, configuration, is_stopped, FrameFits, is_enabled}
 
 -- the frame after its next statement

@@ -1,5 +1,5 @@
 -- The machine: configurations, and one step as one statement of one thread. Values have no bound.
-use Rattle.std.specs.Prelude.{◌≡◌, ℕ, zero, suc, ◌+◌, ◌-◌, ◌^◌, ℤ, pos, negsuc, ◌+ℤ◌, ◌*ℤ◌, int_lt, int_le, Bool, true, false, not, ◌&&◌, is_none, if◌then◌else◌, List, [], ◌∷◌, replicate, get_or, slice_get, slice_set, Option, Some, None, ◌≤ℤ◌}
+use Rattle.std.specs.Prelude.{◌≡◌, ℕ, ◌-◌, ◌^◌, ℤ, pos, negsuc, ◌+ℤ◌, ◌*ℤ◌, int_lt, int_le, Bool, true, not, ◌&&◌, if◌then◌else◌, List, [], ◌∷◌, replicate, get_or, slice_get, slice_set, Option, Some, None, ◌≤ℤ◌}
 use Rattle.std.specs.Ordering.{int_cmp}
 use Rattle.std.specs.FinMap.{FinMap, get}
 use Rattle.cap_syntax.specs.declared.place.Place.{Place}

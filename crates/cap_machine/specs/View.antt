@@ -1,5 +1,5 @@
 -- What a machine shows over the program that it runs, and what its calls promise in these terms.
-use Rattle.std.specs.Prelude.{◌≡◌, ℕ, ◌<◌, ℤ, pos, ◌<ℤ◌, Bool, true, false, not, ◌&&◌, List, [], ◌∷◌, map, reverse, drop, replicate, length, All, Option, None, IfSome, Result, Ok, Err}
+use Rattle.std.specs.Prelude.{◌≡◌, ℕ, ◌<◌, ℤ, pos, ◌<ℤ◌, Bool, true, false, not, ◌&&◌, List, [], ◌∷◌, map, reverse, drop, replicate, length, All, None, IfSome, Result, Ok, Err}
 use Rattle.std.specs.Global.{Vec}
 use Rattle.std.specs.FinMap.{from_entries}
 use Rattle.cap_machine.specs.declared.event.Entry.{Entry}

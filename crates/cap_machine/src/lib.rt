@@ -7,6 +7,8 @@ mod frame;
 mod laws;
 mod machine;
 mod program;
+#[cfg(test)]
+mod tests;
 
 pub use event::{Entry, Event, StepError};
 pub use laws::{answers_agree, steps_ignore_the_heap};

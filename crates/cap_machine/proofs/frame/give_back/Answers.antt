@@ -3,8 +3,6 @@ use Rattle.std.proofs.Math.ListN.{set}
 use mir.Syntax.{w128}
 use Rattle.std.proofs.lemmas.Int.{to_z-of_z}
 use Rattle.cap_machine.specs.declared.event.Event.TheVariants.{Return}
-use Rattle.cap_machine.specs.Effects.{ran, given}
-use Rattle.cap_machine.specs.View.{thread_view}
 use Rattle.cap_machine.proofs.FrameLemmas.{receives_in, drops_value, returns_value}
 use Rattle.cap_machine.proofs.frame.give_back.Goals as goal
 use Rattle.cap_machine.proofs.frame.give_back.Goals.{in-Some-destination, in_default-destination}

@@ -1,10 +1,7 @@
-use Rattle.std.proofs.Common.{rules, ◌≡◌, ◌∙◌, ap, sym, refl, get_or}
-use Rattle.std.specs.Prelude.{slice_get, Some}
+use Rattle.std.proofs.Common.{rules, refl}
 use mir.Val.{SFits}
 use mir.Syntax.{w128}
 use Rattle.std.proofs.lemmas.Int.{to_z-of_z}
-use Rattle.std.proofs.lemmas.Option.{slice_get-get_or}
-use Rattle.cap_machine.specs.declared.event.Event.TheVariants.{Set}
 use Rattle.cap_machine.specs.declared.evaluation.Effect.TheVariants.{Assign, Pass, Fail, GiveBack}
 use Rattle.cap_machine.specs.Program.{program_view}
 use Rattle.cap_machine.specs.Effects.{StepsBy}

@@ -1,4 +1,4 @@
-use Rattle.std.proofs.Common.{◌≡◌, ◌∙◌, ap, sym, refl}
+use Rattle.std.proofs.Common.{ap, refl}
 use Rattle.std.specs.Prelude.{option_map}
 use Rattle.cap_machine.specs.Program.{statement_view}
 use Rattle.cap_machine.proofs.StepLemmas.{ahead-view, item-slice_get}

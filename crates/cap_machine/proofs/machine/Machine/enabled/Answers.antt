@@ -1,4 +1,4 @@
-use Rattle.std.proofs.Common.{◌≡◌, ◌∙◌, ap, sym, arith}
+use Rattle.std.proofs.Common.{◌∙◌, ap, sym, arith}
 use Rattle.std.specs.Prelude.{is_some, option_copied}
 use Rattle.cap_machine.specs.Program.{statement_view}
 use Rattle.cap_machine.proofs.StepLemmas.{enabled_where, disabled_stopped, disabled_base, is_some-map}

@@ -1,7 +1,4 @@
-use Rattle.std.proofs.Common.{◌≡◌, ◌∙◌, ap, sym, refl, arith}
-use Rattle.std.specs.Prelude.{ok_or, option_copied}
-use Rattle.cap_machine.specs.Effects.{Plans}
-use Rattle.cap_machine.specs.Program.{program_view}
+use Rattle.std.proofs.Common.{◌∙◌, sym, refl, arith}
 use Rattle.cap_machine.proofs.StepLemmas.{disabled_stopped, disabled_base, disabled_ahead, ahead-view, item-slice_get}
 use Rattle.cap_machine.proofs.PlanLemmas.{At, planned, none_where}
 use Rattle.cap_machine.proofs.machine.Machine.plan.Goals as goal

@@ -1,4 +1,4 @@
-use Rattle.std.proofs.Common.{◌≡◌, ◌∙◌, ap, sym, refl, arith}
+use Rattle.std.proofs.Common.{refl}
 use Rattle.cap_machine.proofs.StartLemmas.{begins, runs, begins_fitting}
 use Rattle.cap_machine.proofs.machine.Machine.start.Goals as goal
 

@@ -1,4 +1,4 @@
-use Rattle.std.proofs.Common.{◌≡◌, ◌<◌, ◌≤◌, refl, length, get_or, arith}
+use Rattle.std.proofs.Common.{◌<◌, ◌≤◌, refl, length, arith}
 use Rattle.cap_machine.proofs.ProgramLemmas.{statement_names, more_names, all_names}
 use Rattle.cap_machine.proofs.program.Program.is_well_formed.Goals as goal
 
