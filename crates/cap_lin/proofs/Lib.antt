@@ -1,0 +1,10 @@
+pub mod Results
+pub mod Merge
+pub mod Ascend
+pub mod Sums
+pub mod Multiples
+pub mod Terms
+pub mod Values
+pub mod Places
+pub mod Totals
+pub mod Replace

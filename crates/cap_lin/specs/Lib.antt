@@ -1,0 +1,4 @@
+pub mod Linear
+pub mod Steps
+pub mod Exact
+pub mod Values

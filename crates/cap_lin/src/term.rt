@@ -1,0 +1,333 @@
+ghost use Rattle.std.specs.Prelude.{◌≡◌, ◌<◌, ◌≤◌, ℕ, ℤ, ◌+ℤ◌, ◌*ℤ◌, List, [], ◌∷◌, ◌++◌, Some, length, OnOk, IfOk, IsTrue, ◌↔◌, MatchResult, IfErr, ◌≢◌, slice_index_or, slice_get, pos};
+ghost use Rattle.cap_lin.specs.Linear.{AscendFrom, put_part, coefficient, number, variable, merged, parts_behind, sums, IsBelow, IsLeastFrom, IsPlaceFrom, plus, multiples, times, parts_without, without, replaced};
+ghost use Rattle.cap_lin.specs.Steps.{sum_of, product_of, first_wide, sums_steps, plus_steps, multiples_steps, times_steps, replaced_steps, value_steps};
+ghost use Rattle.cap_lin.specs.Exact.{Explains, IsExact, IsExactBy};
+ghost use Rattle.cap_lin.specs.Values.{value, number_at};
+
+use crate::error::LinError;
+use std::alloc::{AllocError, Global};
+use std::marker::Model;
+
+/// A linear term: a constant, and pairs of a variable and its coefficient, in ascending order of
+/// variables and without coefficients of 0. Variables are any numbers. So two terms are equal in
+/// value at all values of the variables exactly where they are the same.
+#[derive(Debug, Drop)]
+pub struct Term {
+    constant: i128,
+    parts: Vec<(u32, i128)>,
+}
+
+impl Model for Term {
+    ghost use Rattle.cap_lin.specs.Linear.{Linear, AscendFrom};
+
+    ghost Value = { Linear };
+
+    ghost view = { λ t. record { constant = t.constant; parts = t.parts.items } };
+
+    ghost invariant = { λ t. AscendFrom 0 t.parts.items };
+}
+
+// A variable with its coefficients in two terms, 0 where a term lacks it.
+#[derive(Clone, Copy)]
+struct Pair {
+    variable: u32,
+    left: i128,
+    right: i128,
+}
+
+impl Term {
+    /// The term that is a number. It takes no memory.
+    pub fn constant(alloc: Global, constant: i128) -> Term
+        ensures { result ≡ number constant }
+    {
+        Term {
+            constant,
+            parts: Vec::new(alloc),
+        }
+    }
+
+    /// The term that is a variable.
+    pub fn var(alloc: Global, v: u32) -> Result<Term, LinError>
+        ensures { MatchResult result (λ t. t ≡ variable v) (λ e. e ≡ LinError.OutOfMemory) }
+    {
+        let mut parts = Vec::new(alloc);
+        parts.push((v, 1))?;
+        Ok(Term { constant: 0, parts })
+    }
+
+    /// The term's constant.
+    pub fn constant_part(&self) -> i128
+        ensures { result ≡ self.now.constant }
+    {
+        self.constant
+    }
+
+    /// The pairs of a variable and its coefficient.
+    pub fn parts(&self) -> &[(u32, i128)]
+        ensures parts { result.now ≡ self.now.parts }
+        ensures ascend { AscendFrom 0 result.now }
+    {
+        &self.parts
+    }
+
+    /// The coefficient of a variable, 0 where the term lacks it.
+    pub fn coefficient(&self, v: u32) -> i128
+        ensures { result ≡ coefficient v self.now.parts }
+    {
+        let parts = self.parts.as_slice();
+        let place = first_from(parts, v);
+        if place < parts.len() && parts[place].0 == v {
+            parts[place].1
+        } else {
+            0
+        }
+    }
+
+    /// The least variable of the term that is at least `low`.
+    pub fn variable_from(&self, low: u32) -> Option<u32>
+        ensures { IsLeastFrom low self.now.parts result }
+    {
+        let parts = self.parts.as_slice();
+        let place = first_from(parts, low);
+        if place < parts.len() {
+            Some(parts[place].0)
+        } else {
+            None
+        }
+    }
+
+    /// Whether two terms are the same.
+    pub fn same(&self, other: &Term) -> bool
+        ensures { IsTrue result ↔ (self.now ≡ other.now) }
+    {
+        self.constant == other.constant && self.parts == other.parts
+    }
+
+    /// The same term once more.
+    pub fn copy(&self, alloc: Global) -> Result<Term, AllocError>
+        ensures { IfOk result (λ t. t ≡ self.now) }
+    {
+        let parts = Vec::from_slice(alloc, &self.parts)?;
+        Ok(Term {
+            constant: self.constant,
+            parts,
+        })
+    }
+
+    // The term without a variable.
+    fn without(&self, alloc: Global, v: u32) -> Result<Term, AllocError>
+        ensures { IfOk result (λ t. t ≡ without v self.now) }
+    {
+        let parts = parts_without(alloc, &self.parts, v)?;
+        Ok(Term {
+            constant: self.constant,
+            parts,
+        })
+    }
+
+    /// The sum of two terms. Wide has the first sum, of the constants and then of the coefficients
+    /// in the order of variables, that leaves 128 bits, with this term's number first.
+    pub fn add(&self, alloc: Global, other: &Term) -> Result<Term, LinError>
+        ensures { IsExact result (plus_steps self.now other.now) (plus self.now other.now) }
+    {
+        let constant = sum(self.constant, other.constant)?;
+        let parts = add_parts(alloc, &self.parts, &other.parts)?;
+        Ok(Term { constant, parts })
+    }
+
+    /// The term times a number. Wide has the first product, of the constant and then of the
+    /// coefficients in the order of variables, that leaves 128 bits, with the factor first.
+    pub fn scale(&self, alloc: Global, k: i128) -> Result<Term, LinError>
+        ensures { IsExact result (times_steps k self.now) (times k self.now) }
+    {
+        let constant = product(k, self.constant)?;
+        let parts = scale_parts(alloc, k, &self.parts)?;
+        Ok(Term { constant, parts })
+    }
+
+    /// The term with another one in the place of a variable: its multiple by the variable's
+    /// coefficient, added to the rest. Wide is as in `scale`, for the multiple, and then as in `add`,
+    /// with the rest first. Where the term lacks the variable it is the term, and never Wide.
+    pub fn subst(&self, alloc: Global, v: u32, by: &Term) -> Result<Term, LinError>
+        ensures { IsExact result (replaced_steps v by.now self.now) (replaced v by.now self.now) }
+    {
+        let coefficient = self.coefficient(v);
+        if coefficient == 0 {
+            return Ok(self.copy(alloc)?);
+        }
+        let multiple = by.scale(alloc, coefficient)?;
+        let rest = self.without(alloc, v)?;
+        rest.add(alloc, &multiple)
+    }
+
+    /// Whether each variable is below a number.
+    pub fn is_below(&self, count: usize) -> bool
+        ensures { IsTrue result ↔ IsBelow count self.now }
+    {
+        self.parts.iter().all(|part| (part.0 as usize) < count)
+    }
+
+    /// The term's value, where `values` has the values of the variables 0, 1, 2 and on. It takes no
+    /// memory. Wide has the first result that leaves 128 bits: for each part, in the order of
+    /// variables, the product of coefficient and value, and then the sum so far and this product.
+    pub fn value(&self, values: &[i128]) -> Result<i128, LinError>
+        requires { IsBelow (length values.now) self.now }
+        ensures exact { IsExact result (value_steps (number_at values.now) self.now.constant self.now.parts) (value (number_at values.now) self.now) }
+        ensures no_memory { IfErr result (λ e. e ≢ LinError.OutOfMemory) }
+    {
+        let mut total = self.constant;
+        for part in &self.parts {
+            let (variable, coefficient) = *part;
+            let product = product(coefficient, values[variable as usize])?;
+            total = sum(total, product)?;
+        }
+        Ok(total)
+    }
+}
+
+fn parts_without(
+    alloc: Global,
+    parts: &[(u32, i128)],
+    v: u32,
+) -> Result<Vec<(u32, i128)>, AllocError>
+    ensures { IfOk result (λ rest. rest.items ≡ parts_without v parts.now) }
+{
+    parts
+        .iter()
+        .copied()
+        .filter(|part| part.0 != v)
+        .collect(alloc)
+}
+
+// The place of the first part whose variable is at least `low`.
+fn first_from(parts: &[(u32, i128)], low: u32) -> usize
+    requires { AscendFrom 0 parts.now }
+    ensures { IsPlaceFrom low parts.now result }
+{
+    let mut start = 0;
+    let mut end = parts.len();
+    while start < end {
+        let middle = start + (end - start) / 2;
+        if parts[middle].0 < low {
+            start = middle + 1;
+        } else {
+            end = middle;
+        }
+    }
+    start
+}
+
+fn sum(a: i128, b: i128) -> Result<i128, LinError>
+    ensures exact { IsExact result (sum_of a b ∷ []) (a +ℤ b) }
+    ensures wide { IfErr result (λ e. e ≡ LinError.Wide a b) }
+{
+    match a.checked_add(b) {
+        Some(sum) => Ok(sum),
+        None => Err(LinError::Wide(a, b)),
+    }
+}
+
+fn product(a: i128, b: i128) -> Result<i128, LinError>
+    ensures exact { IsExact result (product_of a b ∷ []) (a *ℤ b) }
+    ensures wide { IfErr result (λ e. e ≡ LinError.Wide a b) }
+{
+    match a.checked_mul(b) {
+        Some(product) => Ok(product),
+        None => Err(LinError::Wide(a, b)),
+    }
+}
+
+// Appends a part, unless its coefficient is 0.
+fn put(parts: &mut Vec<(u32, i128)>, variable: u32, coefficient: i128) -> Result<(), AllocError>
+    ensures { OnOk result (parts.new.items ≡ parts.old.items ++ put_part variable coefficient []) }
+{
+    if coefficient != 0 {
+        parts.push((variable, coefficient))?;
+    }
+    Ok(())
+}
+
+// The least variable of two lists of parts, with its coefficients in both.
+fn least(left: &[(u32, i128)], right: &[(u32, i128)]) -> Option<Pair>
+    ensures { result ≡ slice_get (merged left.now right.now) 0 }
+{
+    match left {
+        [] => match right {
+            [] => None,
+            [(variable, coefficient), ..] => Some(Pair {
+                variable: *variable,
+                left: 0,
+                right: *coefficient,
+            }),
+        },
+        [(x, a), ..] => match right {
+            [] => Some(Pair {
+                variable: *x,
+                left: *a,
+                right: 0,
+            }),
+            [(y, b), ..] => {
+                if *x < *y {
+                    Some(Pair {
+                        variable: *x,
+                        left: *a,
+                        right: 0,
+                    })
+                } else if *y < *x {
+                    Some(Pair {
+                        variable: *y,
+                        left: 0,
+                        right: *b,
+                    })
+                } else {
+                    Some(Pair {
+                        variable: *x,
+                        left: *a,
+                        right: *b,
+                    })
+                }
+            }
+        },
+    }
+}
+
+fn add_parts(
+    alloc: Global,
+    left: &[(u32, i128)],
+    right: &[(u32, i128)],
+) -> Result<Vec<(u32, i128)>, LinError>
+    ensures { IsExactBy result (λ parts. parts.items) (sums_steps (merged left.now right.now)) (sums (merged left.now right.now)) }
+{
+    let mut parts = Vec::new(alloc);
+    let mut left = left;
+    let mut right = right;
+    while let Some(pair) = least(left, right) {
+        let coefficient = sum(pair.left, pair.right)?;
+        put(&mut parts, pair.variable, coefficient)?;
+        left = behind(left, pair.variable);
+        right = behind(right, pair.variable);
+    }
+    Ok(parts)
+}
+
+fn scale_parts(alloc: Global, k: i128, parts: &[(u32, i128)]) -> Result<Vec<(u32, i128)>, LinError>
+    ensures { IsExactBy result (λ scaled. scaled.items) (multiples_steps k parts.now) (multiples k parts.now) }
+{
+    let mut scaled = Vec::new(alloc);
+    for part in parts {
+        let (variable, coefficient) = *part;
+        let coefficient = product(k, coefficient)?;
+        put(&mut scaled, variable, coefficient)?;
+    }
+    Ok(scaled)
+}
+
+// The parts, without the first where it is of this variable.
+fn behind(parts: &[(u32, i128)], variable: u32) -> &[(u32, i128)]
+    ensures { result.now ≡ parts_behind variable parts.now }
+{
+    match parts {
+        [(first, _), rest @ ..] if *first == variable => rest,
+        _ => parts,
+    }
+}
