@@ -8,3 +8,4 @@ pub mod Values
 pub mod Places
 pub mod Totals
 pub mod Replace
+pub mod Rows

@@ -1,10 +1,11 @@
 -- The first result that leaves 128 bits, of lists of results in a row.
 use Rattle.std.proofs.Common.{◌≡◌, zero, suc, ℕ, ℤ, pos, negsuc, ◌+ℤ◌, ◌*ℤ◌, List, [], ◌∷◌, ◌++◌, ◌<◌, true, false, Bool, nat_lt, arith, refl, ◌∙◌, Option, Some, None, FitsSigned}
-use Rattle.std.specs.Prelude.{if◌then◌else◌}
+use Rattle.std.specs.Prelude.{if◌then◌else◌, Result}
+use Rattle.std.proofs.lemmas.Result.{MatchResult-weaker}
 use mir.Syntax.{w128}
 use Rattle.cap_lin.specs.Linear.{is_zero, put_part}
 use Rattle.cap_lin.specs.Steps.{Step, sum_of, product_of, fits, first_wide}
-use Rattle.cap_lin.specs.Exact.{Explains}
+use Rattle.cap_lin.specs.Exact.{Explains, IsExact}
 use Rattle.cap_lin.specs.declared.error.LinError.{LinError}
 use Rattle.cap_lin.specs.declared.error.LinError.TheVariants.{Wide, OutOfMemory}
 
@@ -105,3 +106,7 @@ pub put-append : (x : ℕ) (k : ℤ) (ps : List (ℕ × ℤ)) → put_part x k p
 put-append x (pos zero) ps = refl
 put-append x (pos (suc n)) ps = refl
 put-append x (negsuc n) ps = refl
+
+-- an answer after results that are all within 128 bits
+pub exact_after : {T : Type 0} (r : Result T LinError) (xs ys : List Step) (x : T) → first_wide xs ≡ None → IsExact r ys x → IsExact r (xs ++ ys) x
+exact_after r xs ys x n h = MatchResult-weaker r h (λ y k. (first-narrow xs ys n ∙ k.0, k.1)) (λ e k. explains_later e xs ys n k)

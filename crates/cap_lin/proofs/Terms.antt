@@ -1,10 +1,11 @@
 -- What the results and the parts of an operation on terms make of the whole.
 use Rattle.std.proofs.Common.{◌≡◌, ℕ, ℤ, ◌+ℤ◌, ◌*ℤ◌, List, [], ◌∷◌, ◌++◌, refl, ◌∙◌, None}
-use Rattle.cap_lin.specs.Linear.{Linear, merged, sums, plus, multiples, times}
-use Rattle.cap_lin.specs.Steps.{sum_of, product_of, first_wide, sums_steps, plus_steps, multiples_steps, times_steps}
-use Rattle.cap_lin.specs.Exact.{Explains}
+use Rattle.std.specs.Prelude.{Result}
+use Rattle.cap_lin.specs.Linear.{Linear, merged, sums, plus, multiples, times, negative, minus}
+use Rattle.cap_lin.specs.Steps.{sum_of, product_of, first_wide, sums_steps, plus_steps, multiples_steps, times_steps, negative_steps, minus_steps}
+use Rattle.cap_lin.specs.Exact.{Explains, IsExact}
 use Rattle.cap_lin.specs.declared.error.LinError.{LinError}
-use Rattle.cap_lin.proofs.Results.{first-narrow, explains_first, explains_later}
+use Rattle.cap_lin.proofs.Results.{first-narrow, explains_first, explains_later, exact_after}
 
 plus_steps-is : (s t : Linear) → plus_steps s t ≡ (sum_of s.constant t.constant ∷ []) ++ sums_steps (merged s.parts t.parts)
 unfolding plus_steps
@@ -50,3 +51,11 @@ times-narrow k t a b ps d f g n x =
 pub times-made : (k : ℤ) (t : Linear) (a b r : ℤ) (ps rs : List (ℕ × ℤ)) → a ≡ k → b ≡ t.constant → ps ≡ t.parts → r ≡ a *ℤ b → rs ≡ multiples a ps → ◌≡◌ {A = Linear} (record { constant = r; parts = rs }) (times k t)
 unfolding times
 times-made k t a b r ps rs d f g i j = rw (i, j, d, f, g) refl
+
+pub minus-first : (s t : Linear) (e : LinError) → Explains e (negative_steps t) → Explains e (minus_steps s t)
+unfolding minus_steps
+minus-first s t e h = explains_first e _ _ h
+
+pub minus-after : (r : Result Linear LinError) (s t : Linear) → first_wide (negative_steps t) ≡ None → IsExact r (plus_steps s (negative t)) (minus s t) → IsExact r (minus_steps s t) (minus s t)
+unfolding minus_steps
+minus-after r s t n h = exact_after r _ _ _ n h

@@ -2,7 +2,9 @@
 #![tactic(auto)]
 
 mod error;
+mod row;
 mod term;
 
 pub use error::LinError;
+pub use row::{Kind, Op, Row, Sort};
 pub use term::Term;

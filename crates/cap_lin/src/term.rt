@@ -1,6 +1,6 @@
 ghost use Rattle.std.specs.Prelude.{◌≡◌, ◌<◌, ◌≤◌, ℕ, ℤ, ◌+ℤ◌, ◌*ℤ◌, List, [], ◌∷◌, ◌++◌, Some, length, OnOk, IfOk, IsTrue, ◌↔◌, MatchResult, IfErr, ◌≢◌, slice_index_or, slice_get, pos};
-ghost use Rattle.cap_lin.specs.Linear.{AscendFrom, put_part, coefficient, number, variable, merged, parts_behind, sums, IsBelow, IsLeastFrom, IsPlaceFrom, plus, multiples, times, parts_without, without, replaced};
-ghost use Rattle.cap_lin.specs.Steps.{sum_of, product_of, first_wide, sums_steps, plus_steps, multiples_steps, times_steps, replaced_steps, value_steps};
+ghost use Rattle.cap_lin.specs.Linear.{AscendFrom, put_part, coefficient, number, variable, merged, parts_behind, sums, IsBelow, IsLeastFrom, IsPlaceFrom, plus, minus, negative, plus_one, multiples, times, parts_without, without, replaced};
+ghost use Rattle.cap_lin.specs.Steps.{sum_of, product_of, first_wide, sums_steps, plus_steps, minus_steps, negative_steps, multiples_steps, times_steps, replaced_steps, value_steps};
 ghost use Rattle.cap_lin.specs.Exact.{Explains, IsExact, IsExactBy};
 ghost use Rattle.cap_lin.specs.Values.{value, number_at};
 
@@ -143,6 +143,32 @@ impl Term {
         let constant = product(k, self.constant)?;
         let parts = scale_parts(alloc, k, &self.parts)?;
         Ok(Term { constant, parts })
+    }
+
+    /// The term times -1.
+    pub fn negative(&self, alloc: Global) -> Result<Term, LinError>
+        ensures { IsExact result (negative_steps self.now) (negative self.now) }
+    {
+        self.scale(alloc, -1)
+    }
+
+    /// The difference of two terms: this one plus the other one's negative, which is made first.
+    pub fn minus(&self, alloc: Global, other: &Term) -> Result<Term, LinError>
+        ensures { IsExact result (minus_steps self.now other.now) (minus self.now other.now) }
+    {
+        let negative = other.negative(alloc)?;
+        self.add(alloc, &negative)
+    }
+
+    /// The term plus 1. It takes no memory.
+    pub fn plus_one(self) -> Result<Term, LinError>
+        ensures { IsExact result (sum_of self.constant (pos 1) ∷ []) (plus_one self) }
+    {
+        let constant = sum(self.constant, 1)?;
+        Ok(Term {
+            constant,
+            parts: self.parts,
+        })
     }
 
     /// The term with another one in the place of a variable: its multiple by the variable's
