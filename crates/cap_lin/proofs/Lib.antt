@@ -9,3 +9,4 @@ pub mod Places
 pub mod Totals
 pub mod Replace
 pub mod Rows
+pub mod Infeasible

@@ -72,10 +72,11 @@ impl Term {
 
     /// The coefficient of a variable, 0 where the term lacks it.
     pub fn coefficient(&self, v: u32) -> i128
-        ensures { result ≡ coefficient v self.now.parts }
+        ensures coefficient { result ≡ coefficient v self.now.parts }
+        ensures ascend { AscendFrom 0 self.now.parts }
     {
         let parts = self.parts.as_slice();
-        let place = first_from(parts, v);
+        let place = first_from(parts, v as u64);
         if place < parts.len() && parts[place].0 == v {
             parts[place].1
         } else {
@@ -84,7 +85,7 @@ impl Term {
     }
 
     /// The least variable of the term that is at least `low`.
-    pub fn variable_from(&self, low: u32) -> Option<u32>
+    pub fn variable_from(&self, low: u64) -> Option<u32>
         ensures { IsLeastFrom low self.now.parts result }
     {
         let parts = self.parts.as_slice();
@@ -226,7 +227,7 @@ fn parts_without(
 }
 
 // The place of the first part whose variable is at least `low`.
-fn first_from(parts: &[(u32, i128)], low: u32) -> usize
+fn first_from(parts: &[(u32, i128)], low: u64) -> usize
     requires { AscendFrom 0 parts.now }
     ensures { IsPlaceFrom low parts.now result }
 {
@@ -234,7 +235,7 @@ fn first_from(parts: &[(u32, i128)], low: u32) -> usize
     let mut end = parts.len();
     while start < end {
         let middle = start + (end - start) / 2;
-        if parts[middle].0 < low {
+        if (parts[middle].0 as u64) < low {
             start = middle + 1;
         } else {
             end = middle;

@@ -14,7 +14,7 @@ returns-then-coefficient-eq0 c =
     let u : SFits w128 c.coefficient-coefficient.result = search rules in
     let t = c.if-coefficient-eq0.true in
     let k : c.coefficient-coefficient.result ≡ pos 0 = omega (arith, ints) in
-    let z = sym c.coefficient-coefficient.ensures ∙ k in
+    let z = sym c.coefficient-coefficient.ensures.coefficient ∙ k in
     (nothing-wide _ _ _ z, c.in_ok-copy.ensures ∙ sym (replaced-none _ _ _ z))
 
 pub returns-in_err-multiple : goal.returns-in_err-multiple
@@ -24,13 +24,13 @@ returns-in_err-multiple c =
     let e = to_z-of_z _ _ u in
     let n : to_z w128 (of_z w128 c.coefficient-coefficient.result) ≡ pos 0 → ⊥ = omega (arith, ints) in
     let p = err_from_is_err_and c.from_residual-in_err-multiple.result c.from_residual-in_err-multiple.ensures.1 in
-    rw (p.1, p.2) (wide-in_multiple _ _ _ _ _ (e ∙ c.coefficient-coefficient.ensures) n c.in_err-multiple.ensures)
+    rw (p.1, p.2) (wide-in_multiple _ _ _ _ _ (e ∙ c.coefficient-coefficient.ensures.coefficient) n c.in_err-multiple.ensures)
 
 pub returns : goal.returns
 returns c =
     let u : SFits w128 c.coefficient-coefficient.result = search rules in
     let t = c.if-coefficient-eq0.false in
-    let q = to_z-of_z _ _ u ∙ c.coefficient-coefficient.ensures in
+    let q = to_z-of_z _ _ u ∙ c.coefficient-coefficient.ensures.coefficient in
     let n : to_z w128 (of_z w128 c.coefficient-coefficient.result) ≡ pos 0 → ⊥ = omega (arith, ints) in
     let r = c.in_ok-rest.ensures in
     let m = c.in_ok-multiple.ensures in
