@@ -1,5 +1,6 @@
 -- Places in a text.
-use Rattle.std.specs.Prelude.{◌≡◌, ℕ, ◌+◌, ◌-◌, ◌<◌, ◌≤◌, ◌⊎◌, Bool, not, ◌==◌, List, length, take, drop, count_by, reverse}
+use Rattle.std.specs.Prelude.{◌≡◌, ℕ, ◌+◌, ◌-◌, ◌<◌, ◌≤◌, ◌⊎◌, Bool, not, ◌==◌, List, ◌++◌, codes, length, take, drop, count_by, reverse}
+use Rattle.std.specs.Fmt.{decimal}
 use Rattle.std.specs.List.{prefix_len}
 use Rattle.cap_syntax.specs.declared.place.Place.{Place}
 
@@ -31,3 +32,7 @@ pub record StandsAt (bytes rest : List ℕ) (place : Place) : Type 0 where
 -- one place comes before another
 abbrev pub IsEarlier : Place → Place → Type 0
 IsEarlier p q = (p.line < q.line) ⊎ ((p.line ≡ q.line) × (p.column < q.column))
+
+-- a place as it is printed, `line:column`
+abbrev pub place_text : Place → List ℕ
+place_text p = decimal p.line ++ codes ":" ++ decimal p.column
