@@ -1,4 +1,4 @@
-pub mod Words
+pub mod Longest
 pub mod Numbers
 pub mod Gaps
 pub mod Places

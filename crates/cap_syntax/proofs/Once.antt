@@ -12,7 +12,7 @@ use Rattle.cap_syntax.specs.declared.token.TokenKind.TheVariants.{Name, Keyword,
 use Rattle.cap_syntax.specs.Spelling.{is_word, is_number, keywords, is_one_of, spells, IsLongest, value_of}
 use Rattle.cap_syntax.specs.Place.{place_of}
 use Rattle.cap_syntax.specs.Layout.{past_gap, IsTokenAt, Reads}
-use Rattle.cap_syntax.proofs.Words.{head_starts, digit_starts, nothing_spelled}
+use Rattle.cap_syntax.proofs.Longest.{head_starts, digit_starts, nothing_spelled}
 
 -- the only kind that a text can be
 kind_at : ℕ → List ℕ → TokenKind

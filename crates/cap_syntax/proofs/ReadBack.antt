@@ -18,7 +18,7 @@ use Rattle.cap_syntax.specs.Spelling.{is_word_byte, is_word, keywords, symbols, 
 use Rattle.cap_syntax.specs.Place.{place_of}
 use Rattle.cap_syntax.specs.Layout.{is_blank, begins_comment, past_gap, past_comment, IsTokenAt, Reads, end_of, AreTokensOf}
 use Rattle.cap_syntax.specs.Printing.{IsSpelled, tokens_in, printed, AreSpaced, unplaced, ReadsAs}
-use Rattle.cap_syntax.proofs.Words.{one_of_passes, head_passes, head_starts, nothing_spelled}
+use Rattle.cap_syntax.proofs.Longest.{one_of_passes, head_passes, head_starts, nothing_spelled}
 use Rattle.cap_syntax.proofs.Gaps.{gap_blank, gap_stops}
 
 -- ---- no token has a blank in it, nor begins a comment

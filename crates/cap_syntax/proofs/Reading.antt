@@ -11,7 +11,7 @@ use Rattle.cap_syntax.specs.declared.token.TokenKind.TheVariants.{End}
 use Rattle.cap_syntax.specs.Spelling.{spells, IsLongest}
 use Rattle.cap_syntax.specs.Place.{place_of, StandsAt}
 use Rattle.cap_syntax.specs.Layout.{is_blank, begins_comment, past_gap, past_comment, IsTokenAt, Reads, end_of, AreTokensOf, EndsOnce}
-use Rattle.cap_syntax.proofs.Words.{nothing_spelled}
+use Rattle.cap_syntax.proofs.Longest.{nothing_spelled}
 use Rattle.cap_syntax.proofs.Places.{stands_behind, starts_at}
 
 -- what is left is a back of the rest

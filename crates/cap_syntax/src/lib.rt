@@ -4,11 +4,11 @@
 mod place;
 mod printing;
 mod scan;
+mod spelling;
 #[cfg(test)]
 mod tests;
 mod text;
 mod token;
-mod word;
 
 pub use place::Place;
 pub use printing::printed_tokens_read_back;

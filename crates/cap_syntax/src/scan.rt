@@ -6,9 +6,9 @@ ghost use Rattle.cap_syntax.specs.declared.token.Token.{Token};
 ghost use Rattle.cap_syntax.specs.Layout.{is_blank, past_gap, IsTokenAt, AreTokensOf, EndsOnce};
 
 use crate::place::Place;
+use crate::spelling::{begins_barred, longest_token, value_of};
 use crate::text::Text;
 use crate::token::{Token, TokenError, TokenKind};
-use crate::word::{begins_barred, longest_token, value_of};
 use std::alloc::Global;
 
 const MAX_TEXT: usize = 1_048_576;

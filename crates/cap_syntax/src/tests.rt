@@ -105,11 +105,12 @@ fn knows_the_greatest_literal(rt: HostRuntime) -> Result<(), Fail> {
 }
 
 #[test]
-fn refuses_a_long_text_first(rt: HostRuntime) -> Result<(), Fail> {
-    let mut text = vec![in rt.alloc(); b'$'; 1_048_577]?;
+fn limits_the_length_of_a_text(rt: HostRuntime) -> Result<(), Fail> {
+    // Every byte is bad, and the length is said first.
+    let text = vec![in rt.alloc(); b'$'; 1_048_577]?;
     assert!(rt; is_refused(&rt, &text, TokenError::TextTooLong));
-    let _ = text.pop();
-    assert!(rt; is_refused(&rt, &text, bad(1, 1)));
+    let text = vec![in rt.alloc(); b' '; 1_048_576]?;
+    assert_eq!(rt; shown(&rt, &text)?.as_str(), "End  0 1:1048577\n");
     Ok(())
 }
 

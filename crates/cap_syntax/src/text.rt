@@ -3,7 +3,7 @@ ghost use Rattle.std.specs.Prelude.{◌≡◌, IfOk};
 use std::alloc::{AllocError, Global};
 use std::marker::Model;
 
-/// Bytes of a text. Contracts see them as their list.
+/// The bytes of a token. Contracts see them as their list.
 #[derive(Debug, Drop)]
 pub struct Text {
     bytes: Vec<u8>,
@@ -32,13 +32,14 @@ impl Text {
         self.bytes
     }
 
+    /// The bytes, to read.
     pub fn as_bytes(&self) -> &[u8]
         ensures { result.now ≡ self.now }
     {
         self.bytes.as_slice()
     }
 
-    /// A copy of the text, in memory of its own.
+    /// The same bytes in memory of their own, if there is enough of it.
     pub fn copy(&self, alloc: Global) -> Result<Text, AllocError>
         ensures { IfOk result (λ copy. copy ≡ self.now) }
     {

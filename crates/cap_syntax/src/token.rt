@@ -6,20 +6,25 @@ use crate::text::Text;
 use std::alloc::{AllocError, AllocFailed};
 use thiserror::Error;
 
-/// What a token is. A whole share is `1p`, a wildcard `_` alone.
+/// What a token is.
 #[derive(Clone, Copy, Debug, PartialEq, Eq)]
 pub enum TokenKind {
+    /// A letter, then letters, digits and `_`; no keyword.
     Name,
     Keyword,
+    /// Digits, of a value up to 9223372036854775807.
     Number,
+    /// The whole share, `1p`.
     Share,
+    /// `_` alone.
     Wildcard,
     Symbol,
+    /// The end of the text, which has no bytes.
     End,
 }
 
-/// A token: its bytes, the place of the first of them, and the value of a number, which is at most
-/// 9223372036854775807. Any other token has the value 0.
+/// A token: its bytes, the value of a number, and the place of the first byte. A token that is no
+/// number has the value 0.
 #[derive(Debug, Drop)]
 pub struct Token {
     pub kind: TokenKind,
@@ -28,13 +33,16 @@ pub struct Token {
     pub place: Place,
 }
 
-/// Why a text has no tokens. The place is that of the bad byte, or of the literal's first digit.
+/// Why a text has no tokens.
 #[derive(Clone, Copy, Debug, PartialEq, Eq, Error)]
 pub enum TokenError {
+    /// A byte starts no token or may not directly follow the token before it; its place.
     #[error("bad byte")]
     BadByte(Place),
+    /// Digits spell more than 9223372036854775807; the place of the first.
     #[error("literal too long")]
     LongLiteral(Place),
+    /// The text has more than 1,048,576 bytes.
     #[error("text too long")]
     TextTooLong,
     #[error("out of memory")]

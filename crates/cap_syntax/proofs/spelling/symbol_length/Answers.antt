@@ -1,6 +1,6 @@
 use Rattle.std.proofs.Common.{sym, ◌∙◌}
-use Rattle.cap_syntax.proofs.Words.{none_past_three, none_past_two, none_past_one, none_at_all}
-use Rattle.cap_syntax.proofs.word.symbol_length.Goals as goal
+use Rattle.cap_syntax.proofs.Longest.{none_past_three, none_past_two, none_past_one, none_at_all}
+use Rattle.cap_syntax.proofs.spelling.symbol_length.Goals as goal
 
 pub returns-then-has_symbol-clause-longest : goal.returns-then-has_symbol-clause-longest
 returns-then-has_symbol-clause-longest c = none_past_three c.args.rest.now

@@ -1,6 +1,6 @@
 use Rattle.std.proofs.Common.{sym, ◌∙◌, arith}
-use Rattle.cap_syntax.proofs.Words.{wildcard_is_longest, nil_starts_none}
-use Rattle.cap_syntax.proofs.word.longest_token.Goals as goal
+use Rattle.cap_syntax.proofs.Longest.{wildcard_is_longest, nil_starts_none}
+use Rattle.cap_syntax.proofs.spelling.longest_token.Goals as goal
 
 pub returns-in_err-first : goal.returns-in_err-first
 returns-in_err-first c =

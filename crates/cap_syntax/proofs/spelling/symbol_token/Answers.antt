@@ -1,6 +1,6 @@
 use Rattle.std.proofs.Common.{arith}
-use Rattle.cap_syntax.proofs.Words.{symbol_is_longest, starts_none}
-use Rattle.cap_syntax.proofs.word.symbol_token.Goals as goal
+use Rattle.cap_syntax.proofs.Longest.{symbol_is_longest, starts_none}
+use Rattle.cap_syntax.proofs.spelling.symbol_token.Goals as goal
 
 pub returns-then-length-eq0 : goal.returns-then-length-eq0
 returns-then-length-eq0 c =

@@ -1,5 +1,5 @@
 use Rattle.cap_syntax.proofs.Numbers.{passes_limit}
-use Rattle.cap_syntax.proofs.word.number_of.Goals as goal
+use Rattle.cap_syntax.proofs.spelling.number_of.Goals as goal
 
 pub returns-then-number-digit : goal.returns-then-number-digit
 returns-then-number-digit c =

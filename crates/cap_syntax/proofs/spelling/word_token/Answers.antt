@@ -1,8 +1,8 @@
 use Rattle.std.proofs.Common.{sym, ◌∙◌}
 use Rattle.std.proofs.lemmas.Bool.{and_from, not_from_false}
 use Rattle.cap_syntax.specs.declared.token.TokenKind.TheVariants.{Name, Keyword}
-use Rattle.cap_syntax.proofs.Words.{word_is_longest, word_front}
-use Rattle.cap_syntax.proofs.word.word_token.Goals as goal
+use Rattle.cap_syntax.proofs.Longest.{word_is_longest, word_front}
+use Rattle.cap_syntax.proofs.spelling.word_token.Goals as goal
 
 pub returns-then-is_keyword : goal.returns-then-is_keyword
 returns-then-is_keyword c =
