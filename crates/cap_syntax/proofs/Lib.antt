@@ -6,3 +6,4 @@ pub mod Reading
 pub mod Once
 pub mod Refusals
 pub mod ReadBack
+pub mod Totality

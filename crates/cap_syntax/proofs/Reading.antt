@@ -36,12 +36,12 @@ mutual
   comment_is_back (b ∷ bs) =
       cond_both (eqb b 10) (past_gap bs) (past_comment bs) (IsBack (b ∷ bs)) (λ _. one_further b bs (past_gap bs) (gap_is_back bs)) (λ _. one_further b bs (past_comment bs) (comment_is_back bs))
 
-gap_is_shorter : (rest : List ℕ) → length (past_gap rest) ≤ length rest
+pub gap_is_shorter : (rest : List ℕ) → length (past_gap rest) ≤ length rest
 gap_is_shorter rest =
     let back = gap_is_back rest in
     omega (arith, ap length back.2, length-drop back.0 rest)
 
-gap_stands : (bytes rest : List ℕ) → StandsAt bytes rest (place_of bytes rest) → StandsAt bytes (past_gap rest) (place_of bytes (past_gap rest))
+pub gap_stands : (bytes rest : List ℕ) → StandsAt bytes rest (place_of bytes rest) → StandsAt bytes (past_gap rest) (place_of bytes (past_gap rest))
 gap_stands bytes rest stands =
     let back = gap_is_back rest in
     subst (λ (r : List ℕ). StandsAt bytes r (place_of bytes r)) (sym back.2) (stands_behind bytes rest (place_of bytes rest) back.0 stands back.1)

@@ -1,6 +1,6 @@
 -- The earliest cause of a refusal.
 use Rattle.std.proofs.Common.{◌≡◌, ℕ, ◌<◌, ◌≤◌, true, List, [], ◌∷◌, ◌++◌, length, take, drop, Result, Ok, Err, refl, sym, ap, subst, ◌∙◌, arith, inl, inr}
-use Rattle.std.specs.Prelude.{MatchResult, ⊤}
+use Rattle.std.specs.Prelude.{MatchResult, IsOkUnless, ⊤}
 use Rattle.std.proofs.lemmas.Bool.{both_ways}
 use Rattle.cap_syntax.specs.declared.place.Place.{Place}
 use Rattle.cap_syntax.specs.declared.token.Token.{Token}
@@ -184,6 +184,13 @@ module _ {V : Type 0} (items : V → List Token) (bytes : List ℕ) where
   pub explained_ends : (result : Result V TokenError) → Explained result → MatchResult result (λ v. EndsOnce (items v)) (λ _. ⊤)
   explained_ends (Ok v) explained = ends_once bytes (items v) explained.1
   explained_ends (Err e) explained = tt
+
+  pub explained_accepted : (result : Result V TokenError) → Explained result → ((e : TokenError) → IsCause bytes e → ⊥) → length bytes ≤ max_text → IsOkUnless result OutOfMemory
+  explained_accepted (Ok v) explained none fits = tt
+  explained_accepted (Err (BadByte p)) explained none fits = absurd (none (BadByte p) explained.cause)
+  explained_accepted (Err (LongLiteral p)) explained none fits = absurd (none (LongLiteral p) explained.cause)
+  explained_accepted (Err TextTooLong) explained none fits = absurd (omega arith)
+  explained_accepted (Err OutOfMemory) explained none fits = refl
 
   fails : (result : Result V TokenError) (e : TokenError) → Explained result → IsRefusal bytes e → Fails result e
   fails (Ok v) e explained refused = refusals_exclude_tokens bytes (items v) e explained.0 explained.1 refused

@@ -1,8 +1,8 @@
 //! The tokens of a program text, and their places.
 #![tactic(auto)]
 
+mod laws;
 mod place;
-mod printing;
 mod scan;
 mod spelling;
 #[cfg(test)]
@@ -10,8 +10,8 @@ mod tests;
 mod text;
 mod token;
 
+pub use laws::{printed_tokens_read_back, texts_are_read_or_refused};
 pub use place::Place;
-pub use printing::printed_tokens_read_back;
 pub use scan::tokens;
 pub use text::Text;
 pub use token::{Token, TokenError, TokenKind};

@@ -1,6 +1,7 @@
-ghost use Rattle.std.specs.Prelude.{◌≡◌, ℕ, ◌+◌, ◌^◌, ◌<◌, ◌≤◌, ◌++◌, List, length, take, drop, IfOk, IfErr, MatchResult};
+ghost use Rattle.std.specs.Prelude.{◌≡◌, ℕ, ◌+◌, ◌^◌, ◌<◌, ◌≤◌, ◌++◌, List, length, take, drop, IfOk, IfErr, IsOkUnless, MatchResult};
 ghost use Rattle.cap_syntax.specs.Place.{place_after, StandsAt};
-ghost use Rattle.cap_syntax.specs.Refusal.{max_text, IsFirstBreak, IsRefusal, UnlessMemory, FailsExactly};
+ghost use Rattle.cap_syntax.specs.Refusal.{max_text, IsCause, IsFirstBreak, IsRefusal, UnlessMemory, FailsExactly};
+ghost use Rattle.cap_syntax.specs.declared.token.TokenError.{TokenError};
 ghost use Rattle.cap_syntax.specs.declared.place.Place.{Place};
 ghost use Rattle.cap_syntax.specs.declared.token.Token.{Token};
 ghost use Rattle.cap_syntax.specs.Layout.{is_blank, past_gap, IsTokenAt, AreTokensOf, EndsOnce};
@@ -61,7 +62,8 @@ fn past_gap(rest: &[u8], place: Place) -> (&[u8], Place)
     requires line { place.line + length rest.now < 2 ^ 32 }
     requires column { place.column + length rest.now < 2 ^ 32 }
     ensures rest { result.0.now ≡ past_gap rest.now }
-    ensures place { (bytes : List ℕ) → StandsAt bytes rest.now place → StandsAt bytes result.0.now result.1 }
+    ensures place { (bytes : List ℕ) →
+        StandsAt bytes rest.now place → StandsAt bytes result.0.now result.1 }
 {
     let (gap, after) = rest.split_at(gap_length(rest));
     (after, moved(place, gap))
@@ -73,7 +75,8 @@ fn next_token(alloc: Global, rest: &[u8], place: Place) -> Result<Token, TokenEr
     requires line { place.line + length rest.now < 2 ^ 32 }
     requires column { place.column + length rest.now < 2 ^ 32 }
     ensures token { IfOk result (λ t. IsTokenAt place rest.now t) }
-    ensures refused { (bytes : List ℕ) → StandsAt bytes rest.now place → IfErr result (λ e. UnlessMemory e (IsFirstBreak bytes rest.now e)) }
+    ensures refused { (bytes : List ℕ) → StandsAt bytes rest.now place
+        → IfErr result (λ e. UnlessMemory e (IsFirstBreak bytes rest.now e)) }
 {
     let Some((kind, length)) = longest_token(rest) else {
         return Err(TokenError::BadByte(place));
@@ -96,7 +99,9 @@ fn next_token(alloc: Global, rest: &[u8], place: Place) -> Result<Token, TokenEr
 
 // The tokens of a text, or its refusal.
 fn scan(alloc: Global, bytes: &[u8]) -> Result<Vec<Token>, TokenError>
-    ensures { MatchResult result (λ v. (length bytes.now ≤ max_text) × AreTokensOf bytes.now v.items) (λ e. UnlessMemory e (IsRefusal bytes.now e)) }
+    ensures { MatchResult result
+        (λ v. (length bytes.now ≤ max_text) × AreTokensOf bytes.now v.items)
+        (λ e. UnlessMemory e (IsRefusal bytes.now e)) }
 {
     if bytes.len() > MAX_TEXT {
         return Err(TokenError::TextTooLong);
@@ -125,12 +130,22 @@ fn scan(alloc: Global, bytes: &[u8]) -> Result<Vec<Token>, TokenError>
 /// - `BadByte`: a byte starts no token, or may not directly follow the token before it: a letter or
 ///   `_` a number, and a letter, a digit or `_` a whole share or a wildcard.
 /// - `LongLiteral`: digits spell more than 9223372036854775807.
+///
+/// `TextTooLong` comes before the others, and of these the one with the earliest place. `OutOfMemory`
+/// says that memory ran out.
 pub fn tokens(alloc: Global, bytes: &[u8]) -> Result<Vec<Token>, TokenError>
     ensures ok { IfOk result (λ v. (length bytes.now ≤ max_text) × AreTokensOf bytes.now v.items) }
 
-    // No other list is the text's, and a text that has one is refused for want of memory alone.
-    ensures only { (ts : List Token) → length bytes.now ≤ max_text → AreTokensOf bytes.now ts → MatchResult result (λ v. v.items ≡ ts) (λ e. e ≡ TokenError.OutOfMemory) }
+    // No other list is the text's.
+    ensures only { (ts : List Token) → length bytes.now ≤ max_text → AreTokensOf bytes.now ts
+        → MatchResult result (λ v. v.items ≡ ts) (λ e. e ≡ TokenError.OutOfMemory) }
     ensures ends { IfOk result (λ v. EndsOnce v.items) }
+
+    // A text that isn't too long and has no bad byte and no long literal is read.
+    ensures accepted { length bytes.now ≤ max_text → ((e : TokenError) → IsCause bytes.now e → ⊥)
+        → IsOkUnless result TokenError.OutOfMemory }
+
+    // Each refusal comes exactly where it is the text's.
     ensures bad_byte { (place : Place) → FailsExactly result (TokenError.BadByte place) bytes.now }
     ensures long_literal { (place : Place) → FailsExactly result (TokenError.LongLiteral place) bytes.now }
     ensures text_too_long { FailsExactly result TokenError.TextTooLong bytes.now }

@@ -81,7 +81,8 @@ fn has_symbol(rest: &[u8], n: usize) -> bool
 fn symbol_length(rest: &[u8]) -> usize
     ensures within { result ≤ length rest.now }
     ensures spelled { 0 < result → IsTrue (is_one_of symbols (take result rest.now)) }
-    ensures longest { (m : ℕ) → result < m → m ≤ length rest.now → is_one_of symbols (take m rest.now) ≡ false }
+    ensures longest { (m : ℕ) → result < m → m ≤ length rest.now
+        → is_one_of symbols (take m rest.now) ≡ false }
 {
     if has_symbol(rest, 3) {
         3
@@ -151,7 +152,8 @@ fn symbol_token(rest: &[u8]) -> Option<(TokenKind, usize)>
 // The number that digits spell, or `None` where it is more than a literal may be.
 fn number_of(digits: &[u8]) -> Option<u64>
     requires { IsTrue (list_all is_ascii_digit digits.now) }
-    ensures { MatchOption result (max_literal < number_of digits.now) (λ n. (n ≡ number_of digits.now) × (n ≤ max_literal)) }
+    ensures { MatchOption result (max_literal < number_of digits.now)
+        (λ n. (n ≡ number_of digits.now) × (n ≤ max_literal)) }
 {
     let mut number = 0;
     for byte in digits {
@@ -167,7 +169,8 @@ fn number_of(digits: &[u8]) -> Option<u64>
 /// What a token of this kind and text counts, or `None` where that is more than a literal may be.
 pub fn value_of(kind: TokenKind, text: &[u8]) -> Option<u64>
     requires { IsTrue (spells kind text.now) }
-    ensures { MatchOption result (max_literal < value_of kind text.now) (λ n. (n ≡ value_of kind text.now) × (n ≤ max_literal)) }
+    ensures { MatchOption result (max_literal < value_of kind text.now)
+        (λ n. (n ≡ value_of kind text.now) × (n ≤ max_literal)) }
 {
     match kind {
         TokenKind::Number => number_of(text),

@@ -1,5 +1,5 @@
 use Rattle.cap_syntax.specs.declared.token.TokenError.TheVariants.{BadByte, LongLiteral, TextTooLong}
-use Rattle.cap_syntax.proofs.Refusals.{explained_only, explained_ends, fails_exactly}
+use Rattle.cap_syntax.proofs.Refusals.{explained_accepted, explained_only, explained_ends, fails_exactly}
 use Rattle.cap_syntax.proofs.scan.tokens.Goals as goal
 
 pub returns-clause-only : goal.returns-clause-only
@@ -16,3 +16,6 @@ returns-clause-long_literal c place = fails_exactly (λ v. v.items) c.args.bytes
 
 pub returns-clause-text_too_long : goal.returns-clause-text_too_long
 returns-clause-text_too_long c = fails_exactly (λ v. v.items) c.args.bytes.now c.scan.result TextTooLong (λ h. h) c.scan.ensures
+
+pub returns-clause-accepted : goal.returns-clause-accepted
+returns-clause-accepted c fits none = explained_accepted (λ v. v.items) c.args.bytes.now c.scan.result c.scan.ensures none fits
