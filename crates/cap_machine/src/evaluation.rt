@@ -1,5 +1,5 @@
 //! The values of terms, and what a statement does by them.
-ghost use Rattle.std.specs.Prelude.{◌≡◌, ℕ, ℤ, pos};
+ghost use Rattle.std.specs.Prelude.{◌≡◌};
 ghost use Rattle.cap_machine.specs.Program.{term_view, comparison_view, statement_view};
 ghost use Rattle.cap_machine.specs.Machine.{value_of, compared};
 ghost use Rattle.cap_machine.specs.Evaluation.{narrow_value, narrow_holds, narrow_effect};

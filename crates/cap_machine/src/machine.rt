@@ -1,4 +1,4 @@
-ghost use Rattle.std.specs.Prelude.{◌≡◌, ℕ, ℤ, pos, false, List, length, IfOk, option_map, option_copied};
+ghost use Rattle.std.specs.Prelude.{◌≡◌, pos, false, length, IfOk, option_map, option_copied};
 ghost use Rattle.std.specs.FinMap.{from_entries};
 ghost use Rattle.cap_machine.specs.Program.{program_view, statement_view};
 ghost use Rattle.cap_machine.specs.Machine.{start, ahead};
@@ -22,8 +22,10 @@ pub struct Machine {
 }
 
 impl Machine {
-    /// The machine in which `main` begins, with its locals at 0, over the cells of `heap`, which are
-    /// pairs of an address and its value.
+    /// The machine in which `main` begins, with its locals at 0. There are as many `args` as `main`
+    /// has parameters, which is none. The cells of `heap` are pairs of an address and its value, and
+    /// the addresses are at least 1 and ascend. A machine that begins with a well-formed program fits
+    /// it.
     pub fn start(
         alloc: Global,
         program: &Program,
@@ -32,9 +34,10 @@ impl Machine {
     ) -> Result<Machine, AllocError>
         requires arguments { length args.now ≡ 0 }
         requires addresses { AscendsFrom (pos 0) heap.now }
-        ensures begins { IfOk result (λ m. configuration (program_view program.now) m ≡ start (program_view program.now) args.now (from_entries heap.now)) }
+        ensures begins { let p = program_view program.now in
+            IfOk result (λ m. configuration p m ≡ start p args.now (from_entries heap.now)) }
         ensures runs { IfOk result (λ m. is_stopped m ≡ false) }
-        ensures fits { IsWellFormed (program_view program.now) → IfOk result (λ m. Fits (program_view program.now) m) }
+        ensures fits { let p = program_view program.now in IsWellFormed p → IfOk result (λ m. Fits p m) }
     {
         let mut frames = Vec::new(alloc);
         frames.push(first_frame(alloc, program, args)?)?;
@@ -56,7 +59,8 @@ impl Machine {
         !self.stopped && entry.base.is_none() && self.ahead(program, entry.thread).is_some()
     }
 
-    /// One step, which runs the thread's next statement. `NotEnabled` comes exactly where `enabled`
+    /// One step, which runs the thread's next statement, and what it did. The allocator serves what
+    /// the step makes. `NotEnabled` comes exactly where `enabled`
     /// says no, and `Wide` exactly where it says yes and a product or a partial sum of a term that
     /// the statement evaluates leaves 128 bits. After an error the machine is as it was. A fault
     /// leaves the configuration as it was and stops the machine.
@@ -76,7 +80,8 @@ impl Machine {
     /// The thread's next statement, and `None` exactly where there is no such thread or it has ended.
     pub fn ahead<'a>(&self, program: &'a Program, thread: u32) -> Option<&'a Statement>
         requires { Fits (program_view program.now) self.now }
-        ensures { option_map statement_view (option_copied result) ≡ ahead (configuration (program_view program.now) self.now) thread }
+        ensures { option_map statement_view (option_copied result)
+            ≡ ahead (configuration (program_view program.now) self.now) thread }
     {
         let frame = self.top(thread)?;
         program.body.get(frame.next)
@@ -131,7 +136,8 @@ impl Machine {
 
 // The frame of `main` at these arguments.
 fn first_frame(alloc: Global, program: &Program, args: &[i128]) -> Result<Frame, AllocError>
-    ensures { IfOk result (λ f. frame_view (program_view program.now).body f ≡ main_frame (program_view program.now) args.now) }
+    ensures { let p = program_view program.now in
+        IfOk result (λ f. frame_view p.body f ≡ main_frame p args.now) }
 {
     Ok(Frame {
         arguments: args.to_vec(alloc)?,
