@@ -1,5 +1,5 @@
 -- Leaves: multipliers of rows, and what it takes that their sum contradicts itself.
-use Rattle.std.specs.Prelude.{◌≡◌, ◌≢◌, ℕ, ◌+◌, ◌<◌, ◌≤◌, ℤ, pos, ◌+ℤ◌, ◌*ℤ◌, ◌<ℤ◌, ◌⊎◌, List, [], ◌∷◌, ◌++◌, length, get_or, None}
+use Rattle.std.specs.Prelude.{◌≡◌, ◌≢◌, ℕ, ◌+◌, ◌<◌, ◌≤◌, ℤ, pos, ◌+ℤ◌, ◌*ℤ◌, ◌<ℤ◌, ◌⊎◌, List, [], ◌∷◌, length, get_or, None}
 use Rattle.cap_lin.specs.Linear.{Linear, number, coefficient}
 use Rattle.cap_lin.specs.Steps.{Step, sum_of, product_of, first_wide}
 use Rattle.cap_lin.specs.Rows.{row}

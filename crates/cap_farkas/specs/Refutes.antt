@@ -8,8 +8,14 @@ use Rattle.cap_lin.specs.declared.row.Row.{Row}
 use Rattle.cap_lin.specs.declared.row.Sort.{Sort}
 use Rattle.cap_lin.specs.declared.row.Kind.TheVariants.{Ne}
 use Rattle.cap_farkas.specs.Farkas.{RefutesLeaf}
+use Rattle.cap_farkas.specs.System.{all_rows, IsAppended}
+use Rattle.cap_farkas.specs.declared.system.Appended.{Appended}
 use Rattle.cap_farkas.specs.declared.cert.Cert.{Cert}
 use Rattle.cap_farkas.specs.declared.cert.Cert.TheVariants.{Leaf, Split}
+
+-- a leaf refutes the rows and the row behind them that a row's term is on a side of 0
+abbrev pub RefutesSide : List Row → Appended → List (ℕ × ℤ) → Type 0
+RefutesSide rows a leaf = IsAppended rows a × RefutesLeaf (all_rows rows (Some a)) leaf
 
 -- the row at a place is Ne; one leaf refutes the rows with its term below 0, the other with its term above 0
 pub record RefutesSplit (rows : List Row) (place : ℕ) (below above : List (ℕ × ℤ)) : Type 0 where

@@ -1,11 +1,10 @@
-ghost use Rattle.std.specs.Prelude.{◌≡◌, ◌↔◌, IsTrue};
+ghost use Rattle.std.specs.Prelude.{◌≡◌, ◌<◌, ◌↔◌, IsTrue, length};
 ghost use Rattle.cap_lin.specs.Solves.{HasNone, Infeasible};
-ghost use Rattle.cap_farkas.specs.Refutes.{Refutes, Excludes};
+ghost use Rattle.cap_farkas.specs.Refutes.{Refutes, Excludes, RefutesSide};
 
 use crate::leaf::refutes_leaf;
 use crate::system::{Appended, Side, is_narrow};
 use cap_lin::{Kind, Row};
-use std::alloc::Global;
 use std::marker::Model;
 
 /// Pairs of a row's number, counted from 0, and its multiplier. Contracts see them as the list.

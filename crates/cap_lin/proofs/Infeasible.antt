@@ -1,14 +1,14 @@
 -- Rows without a rational valuation, and infeasible rows, have no valuation.
-use Rattle.std.proofs.Common.{◌≡◌, ◌≢◌, ℕ, zero, suc, ℤ, pos, negsuc, ◌+ℤ◌, ◌*ℤ◌, ◌≤ℤ◌, ◌<ℤ◌, List, [], ◌∷◌, ◌++◌, ◌<◌, arith, refl, subst, ap, sym, ◌∙◌, Option, Some, None, ◌⊎◌, inl, inr}
+use Rattle.std.proofs.Common.{◌≡◌, ◌≢◌, ℕ, zero, suc, ℤ, pos, negsuc, ◌*ℤ◌, ◌<ℤ◌, List, [], ◌∷◌, ◌++◌, arith, refl, subst, ap, Some, None, inl, inr}
 use Rattle.std.specs.Prelude.{slice_get, unwrap_or}
 use Rattle.std.specs.List.{AllByRecursion}
 use Rattle.std.proofs.lemmas.Int.{ints}
 use Rattle.cap_numbers.proofs.Ring.{expand, product3}
 use Rattle.cap_numbers.proofs.Order.{mul-le, mul-lt, sign_of}
 use Rattle.cap_lin.specs.Linear.{Linear, put_part, multiples, times, negative, plus_one}
-use Rattle.cap_lin.specs.Values.{RationalValuation, Valuation, denominator, parts_value, value, amount}
+use Rattle.cap_lin.specs.Values.{Valuation, denominator, parts_value, value, amount}
 use Rattle.cap_lin.specs.Rows.{row, below_zero, above_zero}
-use Rattle.cap_lin.specs.Solves.{number_of, HoldsAs, Holds, IsWholeAt, PartsWhole, FitsSort, Solves, HasNone, HoldsRationally, SolvesRationally, HasNoRational, kept, without_ne, SplitsToNone, Infeasible}
+use Rattle.cap_lin.specs.Solves.{number_of, HoldsAs, Holds, IsWholeAt, PartsWhole, FitsSort, Solves, HasNone, HoldsRationally, SolvesRationally, kept, without_ne, SplitsToNone, Infeasible}
 use Rattle.cap_lin.specs.declared.row.Row.{Row}
 use Rattle.cap_lin.specs.declared.row.Sort.{Sort}
 use Rattle.cap_lin.specs.declared.row.Sort.TheVariants.{Int, Perm}

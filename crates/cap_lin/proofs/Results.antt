@@ -1,7 +1,8 @@
 -- The first result that leaves 128 bits, of lists of results in a row.
-use Rattle.std.proofs.Common.{◌≡◌, zero, suc, ℕ, ℤ, pos, negsuc, ◌+ℤ◌, ◌*ℤ◌, List, [], ◌∷◌, ◌++◌, ◌<◌, true, false, Bool, nat_lt, arith, refl, ◌∙◌, Option, Some, None, FitsSigned}
+use Rattle.std.proofs.Common.{◌≡◌, zero, suc, ℕ, ℤ, pos, negsuc, ◌+ℤ◌, ◌*ℤ◌, List, [], ◌∷◌, ◌++◌, ◌<◌, ◌⊎◌, inl, inr, true, false, Bool, nat_lt, arith, refl, sym, ◌∙◌, Option, Some, None, FitsSigned}
 use Rattle.std.specs.Prelude.{if◌then◌else◌, Result}
 use Rattle.std.proofs.lemmas.Result.{MatchResult-weaker}
+use Rattle.std.proofs.lemmas.Bool.Decides.{nat_tests}
 use mir.Syntax.{w128}
 use Rattle.cap_lin.specs.Linear.{is_zero, put_part}
 use Rattle.cap_lin.specs.Steps.{Step, sum_of, product_of, fits, first_wide}
@@ -110,3 +111,45 @@ put-append x (negsuc n) ps = refl
 -- an answer after results that are all within 128 bits
 pub exact_after : {T : Type 0} (r : Result T LinError) (xs ys : List Step) (x : T) → first_wide xs ≡ None → IsExact r ys x → IsExact r (xs ++ ys) x
 exact_after r xs ys x n h = MatchResult-weaker r h (λ y k. (first-narrow xs ys n ∙ k.0, k.1)) (λ e k. explains_later e xs ys n k)
+
+-- ---- narrow results fit
+
+pub fits-back : (z : ℤ) → fits z ≡ true → FitsSigned w128 z
+fits-back (pos n) h = record { sfits = below_from n _ h }
+  where
+    below_from : (n h : ℕ) → nat_lt n h ≡ true → n < h
+    below_from n h e = grind (arith, nat_tests)
+fits-back (negsuc n) h = record { sfits = below_from n _ h }
+  where
+    below_from : (n h : ℕ) → nat_lt n h ≡ true → n < h
+    below_from n h e = grind (arith, nat_tests)
+
+fits_or_not : (z : ℤ) → (FitsSigned w128 z) ⊎ (fits z ≡ false)
+fits_or_not z = by_test (fits z) refl
+  where
+    by_test : (b : Bool) → fits z ≡ b → (FitsSigned w128 z) ⊎ (fits z ≡ false)
+    by_test true e = inl (fits-back z e)
+    by_test false e = inr e
+
+some-none : (p : ℤ × ℤ) → ◌≡◌ {A = Option (ℤ × ℤ)} (Some p) None → ⊥
+some-none p e = cc
+
+pub sum-narrow : (a b : ℤ) (steps : List Step) → first_wide (sum_of a b ∷ steps) ≡ None → FitsSigned w128 (a +ℤ b)
+unfolding first_wide
+sum-narrow a b steps n = elim (fits_or_not (a +ℤ b)) [ inl h ↦ h | inr e ↦ absurd (some-none (a, b) (rw e at n)) ]
+
+pub product-narrow : (a b : ℤ) (steps : List Step) → first_wide (product_of a b ∷ steps) ≡ None → FitsSigned w128 (a *ℤ b)
+unfolding first_wide
+product-narrow a b steps n = elim (fits_or_not (a *ℤ b)) [ inl h ↦ h | inr e ↦ absurd (some-none (a, b) (rw e at n)) ]
+
+pub narrow-left : (xs ys : List Step) → first_wide (xs ++ ys) ≡ None → first_wide xs ≡ None
+narrow-left [] ys n = first_wide-nil
+narrow-left (sum_of a b ∷ xs) ys n =
+    let f = sum-narrow a b (xs ++ ys) n in
+    sum-fits a b xs f ∙ narrow-left xs ys (sym (sum-fits a b (xs ++ ys) f) ∙ n)
+narrow-left (product_of a b ∷ xs) ys n =
+    let f = product-narrow a b (xs ++ ys) n in
+    product-fits a b xs f ∙ narrow-left xs ys (sym (product-fits a b (xs ++ ys) f) ∙ n)
+
+pub narrow-right : (xs ys : List Step) → first_wide (xs ++ ys) ≡ None → first_wide ys ≡ None
+narrow-right xs ys n = sym (first-narrow xs ys (narrow-left xs ys n)) ∙ n

@@ -1,6 +1,6 @@
 -- The values of sums, multiples and replacements.
-use Rattle.std.proofs.Common.{◌≡◌, ℕ, zero, suc, ℤ, pos, negsuc, ◌+ℤ◌, ◌*ℤ◌, List, [], ◌∷◌, arith, refl, sym, ◌∙◌, ◌⊎◌, inl, inr, map, true, false}
-use Rattle.std.specs.Prelude.{◌==◌}
+use Rattle.std.proofs.Common.{◌≡◌, ℕ, zero, suc, ℤ, pos, negsuc, ◌+ℤ◌, ◌*ℤ◌, List, [], ◌∷◌, arith, refl, sym, ap, ◌∙◌, ◌⊎◌, inl, inr, map, true, false}
+use Rattle.std.specs.Prelude.{◌==◌, if◌then◌else◌}
 use Rattle.std.proofs.lemmas.Bool.{cases_lt}
 use Rattle.std.proofs.lemmas.Bool.Decides.{nat_tests}
 use Rattle.std.proofs.lemmas.Int.{ints}
@@ -9,7 +9,7 @@ use Rattle.cap_lin.specs.Linear.{Linear, merged, only_right, put_part, sums, plu
 use Rattle.cap_lin.specs.Values.{RationalValuation, parts_value, value, amount, changed}
 use Rattle.cap_lin.specs.declared.term.Pair.{Pair}
 use Rattle.cap_lin.proofs.Merge.{merged-lt, merged-gt, merged-eq, merged-left}
-use Rattle.cap_lin.proofs.Places.{coefficient-same, coefficient-other, coefficient-nil}
+use Rattle.cap_lin.proofs.Places.{coefficient-same, coefficient-other, coefficient-nil, without-same, without-other, tested}
 use Rattle.cap_lin.proofs.Replace.{replaced-none, replaced-some}
 
 pub value-nil : (n : ℕ → ℤ) → parts_value n [] ≡ pos 0
@@ -77,20 +77,8 @@ pub amount-times : (q : RationalValuation) (k : ℤ) (t : Linear) → amount q (
 unfolding amount times
 amount-times q k t = rw (multiples-value q.numerator k t.parts) (simp expand (omega (arith, ints, product3)))
 
-without-same : (x : ℕ) (p : ℕ × ℤ) (ps : List (ℕ × ℤ)) → p.0 ≡ x → parts_without x (p ∷ ps) ≡ parts_without x ps
-without-same x p ps e = let t : (p.0 == x) ≡ true = grind (arith, nat_tests) in rw t refl
-
-without-other : (x : ℕ) (p : ℕ × ℤ) (ps : List (ℕ × ℤ)) → (p.0 ≡ x → ⊥) → parts_without x (p ∷ ps) ≡ p ∷ parts_without x ps
-without-other x p ps n = let t : (p.0 == x) ≡ false = grind (arith, nat_tests) in rw t refl
-
-tested : (x y : ℕ) → (x ≡ y) ⊎ (x ≡ y → ⊥)
-tested x y = elim (cases_lt x y) [
-  | inl lt ↦ inr (λ e. absurd (omega arith))
-  | inr ge ↦ elim (cases_lt y x) [ inl gt ↦ inr (λ e. absurd (omega arith)) | inr le ↦ inl (omega arith) ]
-]
-
 -- the parts without a variable, and the variable's part
-without-value : (n : ℕ → ℤ) (x : ℕ) (ps : List (ℕ × ℤ)) → parts_value n ps ≡ coefficient x ps *ℤ n x +ℤ parts_value n (parts_without x ps)
+pub without-value : (n : ℕ → ℤ) (x : ℕ) (ps : List (ℕ × ℤ)) → parts_value n ps ≡ coefficient x ps *ℤ n x +ℤ parts_value n (parts_without x ps)
 without-value n x [] = rw (value-nil n, coefficient-nil x) (omega (arith, ints))
 without-value n x (p ∷ ps) =
     let ih = without-value n x ps in
@@ -140,3 +128,28 @@ value-replaced n x by t =
     is_zero_or (pos zero) = inl refl
     is_zero_or (pos (suc k)) = inr (λ e. cc)
     is_zero_or (negsuc k) = inr (λ e. cc)
+
+-- 1 at a variable, and 0 elsewhere
+one_at : ℕ → ℕ → ℤ
+one_at x y = if y == x then pos 1 else pos 0
+
+one_at-same : (x y : ℕ) → y ≡ x → one_at x y ≡ pos 1
+unfolding one_at
+one_at-same x y e = let t : (y == x) ≡ true = grind (arith, nat_tests) in rw t refl
+
+one_at-other : (x y : ℕ) → (y ≡ x → ⊥) → one_at x y ≡ pos 0
+unfolding one_at
+one_at-other x y d = let t : (y == x) ≡ false = grind (arith, nat_tests) in rw t refl
+
+-- a coefficient is a value
+coefficient-is : (x : ℕ) (ps : List (ℕ × ℤ)) → coefficient x ps ≡ parts_value (one_at x) ps
+coefficient-is x [] = coefficient-nil x ∙ sym (value-nil (one_at x))
+coefficient-is x (p ∷ ps) =
+    let ih = coefficient-is x ps in
+    elim (tested p.0 x) [
+      | inl s ↦ rw (coefficient-same x p ps s, value-cons (one_at x) p ps, one_at-same x p.0 s, ih) (omega (arith, ints))
+      | inr d ↦ rw (coefficient-other x p ps d, value-cons (one_at x) p ps, one_at-other x p.0 d, ih) (omega (arith, ints))
+    ]
+
+pub coefficient-multiples : (x : ℕ) (k : ℤ) (ps : List (ℕ × ℤ)) → coefficient x (multiples k ps) ≡ k *ℤ coefficient x ps
+coefficient-multiples x k ps = coefficient-is x (multiples k ps) ∙ multiples-value (one_at x) k ps ∙ sym (ap (λ z. k *ℤ z) (coefficient-is x ps))
