@@ -2,7 +2,7 @@ ghost use Rattle.std.specs.Prelude.{◌≡◌, ◌<◌, ◌≤◌, ℕ, ℤ, ◌
 ghost use Rattle.cap_lin.specs.Linear.{AscendFrom, put_part, coefficient, number, variable, merged, parts_behind, sums, IsBelow, IsLeastFrom, IsPlaceFrom, plus, minus, negative, plus_one, multiples, times, parts_without, without, replaced};
 ghost use Rattle.cap_lin.specs.Steps.{sum_of, product_of, first_wide, sums_steps, plus_steps, minus_steps, negative_steps, multiples_steps, times_steps, replaced_steps, value_steps};
 ghost use Rattle.cap_lin.specs.Exact.{Explains, IsExact, IsExactBy};
-ghost use Rattle.cap_lin.specs.Values.{value, number_at};
+ghost use Rattle.cap_lin.specs.Values.{value, number_at, changed};
 
 use crate::error::LinError;
 use std::alloc::{AllocError, Global};
@@ -129,7 +129,8 @@ impl Term {
     /// The sum of two terms. Wide has the first sum, of the constants and then of the coefficients
     /// in the order of variables, that leaves 128 bits, with this term's number first.
     pub fn add(&self, alloc: Global, other: &Term) -> Result<Term, LinError>
-        ensures { IsExact result (plus_steps self.now other.now) (plus self.now other.now) }
+        ensures exact { IsExact result (plus_steps self.now other.now) (plus self.now other.now) }
+        ensures means { IfOk result (λ t. (n : ℕ → ℤ) → value n t ≡ value n self.now +ℤ value n other.now) }
     {
         let constant = sum(self.constant, other.constant)?;
         let parts = add_parts(alloc, &self.parts, &other.parts)?;
@@ -139,7 +140,8 @@ impl Term {
     /// The term times a number. Wide has the first product, of the constant and then of the
     /// coefficients in the order of variables, that leaves 128 bits, with the factor first.
     pub fn scale(&self, alloc: Global, k: i128) -> Result<Term, LinError>
-        ensures { IsExact result (times_steps k self.now) (times k self.now) }
+        ensures exact { IsExact result (times_steps k self.now) (times k self.now) }
+        ensures means { IfOk result (λ t. (n : ℕ → ℤ) → value n t ≡ k *ℤ value n self.now) }
     {
         let constant = product(k, self.constant)?;
         let parts = scale_parts(alloc, k, &self.parts)?;
@@ -176,7 +178,8 @@ impl Term {
     /// coefficient, added to the rest. Wide is as in `scale`, for the multiple, and then as in `add`,
     /// with the rest first. Where the term lacks the variable it is the term, and never Wide.
     pub fn subst(&self, alloc: Global, v: u32, by: &Term) -> Result<Term, LinError>
-        ensures { IsExact result (replaced_steps v by.now self.now) (replaced v by.now self.now) }
+        ensures exact { IsExact result (replaced_steps v by.now self.now) (replaced v by.now self.now) }
+        ensures means { IfOk result (λ t. (n : ℕ → ℤ) → value n t ≡ value (changed n v (value n by.now)) self.now) }
     {
         let coefficient = self.coefficient(v);
         if coefficient == 0 {

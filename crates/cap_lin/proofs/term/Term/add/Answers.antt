@@ -4,12 +4,14 @@ use Rattle.std.proofs.lemmas.Result.{err_from_is_err_and}
 use mir.Val.{SFits}
 use mir.Syntax.{w128}
 use Rattle.cap_lin.specs.Linear.{Linear}
+use Rattle.cap_lin.specs.Values.{value}
 use Rattle.cap_lin.proofs.Ascend.{sum-ascends}
+use Rattle.cap_lin.proofs.Values.{value-plus}
 use Rattle.cap_lin.proofs.Terms.{plus-first, plus-later, plus-narrow, plus-made}
 use Rattle.cap_lin.proofs.term.Term.add.Goals as goal
 
-pub returns-in_err-constant : goal.returns-in_err-constant
-returns-in_err-constant c =
+pub returns-in_err-constant-clause-exact : goal.returns-in_err-constant-clause-exact
+returns-in_err-constant-clause-exact c =
     let f : SFits w128 c.self.inside.constant = search rules in
     let g : SFits w128 c.other.inside.constant = search rules in
     let e = to_z-of_z _ _ f ∙ ap (λ (l : Linear). l.constant) c.self.view_is in
@@ -17,8 +19,8 @@ returns-in_err-constant c =
     let p = err_from_is_err_and c.from_residual.result c.from_residual.ensures.1 in
     rw (p.1, p.2) (plus-first _ _ _ _ _ e d c.in_err-constant.ensures.exact)
 
-pub returns-in_err-parts : goal.returns-in_err-parts
-returns-in_err-parts c =
+pub returns-in_err-parts-clause-exact : goal.returns-in_err-parts-clause-exact
+returns-in_err-parts-clause-exact c =
     let f : SFits w128 c.self.inside.constant = search rules in
     let g : SFits w128 c.other.inside.constant = search rules in
     let e = to_z-of_z _ _ f ∙ ap (λ (l : Linear). l.constant) c.self.view_is in
@@ -33,8 +35,8 @@ invariant_of-result c =
     let b = c.in_ok-parts.ensures in
     rw (b.1, c.deref.ensures.value, c.deref-2.ensures.value) (sum-ascends _ _ _ c.self.invariant c.other.invariant)
 
-pub returns : goal.returns
-returns c =
+pub returns-clause-exact : goal.returns-clause-exact
+returns-clause-exact c =
     let f : SFits w128 c.self.inside.constant = search rules in
     let g : SFits w128 c.other.inside.constant = search rules in
     let s : SFits w128 c.in_ok-constant.constant = search rules in
@@ -45,3 +47,14 @@ returns c =
     let a = c.in_ok-constant.ensures.exact in
     let b = c.in_ok-parts.ensures in
     (plus-narrow _ _ _ _ _ _ e d x y a.0 b.0, plus-made _ _ _ _ _ _ _ _ e d x y (to_z-of_z _ _ s ∙ a.1) b.1)
+
+pub returns-clause-means : goal.returns-clause-means
+returns-clause-means c =
+    let f : SFits w128 c.self.inside.constant = search rules in
+    let g : SFits w128 c.other.inside.constant = search rules in
+    let s : SFits w128 c.in_ok-constant.constant = search rules in
+    let e = to_z-of_z _ _ f ∙ ap (λ (l : Linear). l.constant) c.self.view_is in
+    let d = to_z-of_z _ _ g ∙ ap (λ (l : Linear). l.constant) c.other.view_is in
+    let x = c.deref.ensures.value ∙ ap (λ (l : Linear). l.parts) c.self.view_is in
+    let y = c.deref-2.ensures.value ∙ ap (λ (l : Linear). l.parts) c.other.view_is in
+    λ n. ap (value n) (plus-made _ _ _ _ _ _ _ _ e d x y (to_z-of_z _ _ s ∙ c.in_ok-constant.ensures.exact.1) c.in_ok-parts.ensures.1) ∙ value-plus n _ _

@@ -13,5 +13,5 @@ returns-in_err-negative c =
 pub returns : goal.returns
 returns c =
     let m = c.in_ok-negative.ensures in
-    let a : IsExact c.add.result (plus_steps c.args.self.now c.in_ok-negative.negative) (plus c.args.self.now c.in_ok-negative.negative) = c.add.ensures in
+    let a : IsExact c.add.result (plus_steps c.args.self.now c.in_ok-negative.negative) (plus c.args.self.now c.in_ok-negative.negative) = c.add.ensures.exact in
     minus-after c.add.result _ _ m.0 (rw m.1 at a)

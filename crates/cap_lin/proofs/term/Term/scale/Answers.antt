@@ -4,19 +4,21 @@ use Rattle.std.proofs.lemmas.Result.{err_from_is_err_and}
 use mir.Val.{SFits}
 use mir.Syntax.{w128}
 use Rattle.cap_lin.specs.Linear.{Linear}
+use Rattle.cap_lin.specs.Values.{value}
 use Rattle.cap_lin.proofs.Ascend.{multiple-ascends}
+use Rattle.cap_lin.proofs.Values.{value-times}
 use Rattle.cap_lin.proofs.Terms.{times-first, times-later, times-narrow, times-made}
 use Rattle.cap_lin.proofs.term.Term.scale.Goals as goal
 
-pub returns-in_err-constant : goal.returns-in_err-constant
-returns-in_err-constant c =
+pub returns-in_err-constant-clause-exact : goal.returns-in_err-constant-clause-exact
+returns-in_err-constant-clause-exact c =
     let f : SFits w128 c.self.inside.constant = search rules in
     let d = to_z-of_z _ _ f ∙ ap (λ (l : Linear). l.constant) c.self.view_is in
     let p = err_from_is_err_and c.from_residual.result c.from_residual.ensures.1 in
     rw (p.1, p.2) (times-first _ _ _ _ _ (to_z-of_z _ _ c.ranges.k) d c.in_err-constant.ensures.exact)
 
-pub returns-in_err-parts : goal.returns-in_err-parts
-returns-in_err-parts c =
+pub returns-in_err-parts-clause-exact : goal.returns-in_err-parts-clause-exact
+returns-in_err-parts-clause-exact c =
     let f : SFits w128 c.self.inside.constant = search rules in
     let d = to_z-of_z _ _ f ∙ ap (λ (l : Linear). l.constant) c.self.view_is in
     let x = c.deref.ensures.value ∙ ap (λ (l : Linear). l.parts) c.self.view_is in
@@ -28,8 +30,8 @@ invariant_of-result c =
     let b = c.in_ok-parts.ensures in
     rw (b.1, c.deref.ensures.value) (multiple-ascends _ _ _ c.self.invariant)
 
-pub returns : goal.returns
-returns c =
+pub returns-clause-exact : goal.returns-clause-exact
+returns-clause-exact c =
     let f : SFits w128 c.self.inside.constant = search rules in
     let s : SFits w128 c.in_ok-constant.constant = search rules in
     let e = to_z-of_z _ _ c.ranges.k in
@@ -38,3 +40,12 @@ returns c =
     let a = c.in_ok-constant.ensures.exact in
     let b = c.in_ok-parts.ensures in
     (times-narrow _ _ _ _ _ e d x a.0 b.0, times-made _ _ _ _ _ _ _ e d x (to_z-of_z _ _ s ∙ a.1) b.1)
+
+pub returns-clause-means : goal.returns-clause-means
+returns-clause-means c =
+    let f : SFits w128 c.self.inside.constant = search rules in
+    let s : SFits w128 c.in_ok-constant.constant = search rules in
+    let e = to_z-of_z _ _ c.ranges.k in
+    let d = to_z-of_z _ _ f ∙ ap (λ (l : Linear). l.constant) c.self.view_is in
+    let x = c.deref.ensures.value ∙ ap (λ (l : Linear). l.parts) c.self.view_is in
+    λ n. ap (value n) (times-made _ _ _ _ _ _ _ e d x (to_z-of_z _ _ s ∙ c.in_ok-constant.ensures.exact.1) c.in_ok-parts.ensures.1) ∙ value-times n _ _
