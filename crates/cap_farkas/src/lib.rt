@@ -4,5 +4,7 @@
 mod cert;
 mod leaf;
 mod system;
+#[cfg(test)]
+mod tests;
 
 pub use cert::{Cert, Multipliers, refutes};

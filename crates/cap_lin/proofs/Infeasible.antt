@@ -65,7 +65,7 @@ times-whole : (v : Valuation) (t : Linear) → PartsWhole v t.parts → PartsWho
 unfolding times
 times-whole v t a = multiple-whole v (negsuc 0) t.parts a
 
-negative-fits : (v : Valuation) (s : Sort) (t : Linear) → FitsSort v s t → FitsSort v s (negative t)
+pub negative-fits : (v : Valuation) (s : Sort) (t : Linear) → FitsSort v s t → FitsSort v s (negative t)
 negative-fits v Int t f = times-whole v t f
 negative-fits v Perm t f = tt
 

@@ -10,3 +10,4 @@ pub mod Totals
 pub mod Replace
 pub mod Rows
 pub mod Infeasible
+pub mod Proves
