@@ -1,0 +1,15 @@
+pub mod Automaton
+pub mod Meets
+pub mod Complete
+pub mod Exactly
+pub mod Loops
+pub mod Safety
+pub mod LinearLemmas
+pub mod LinearForm
+pub mod NameLemmas
+pub mod StepsLeft
+pub mod WellFormed
+pub mod TextLaws
+pub mod Counts
+pub mod FindingLaws
+pub mod Promises
