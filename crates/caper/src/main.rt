@@ -1,0 +1,32 @@
+//! Verifies a program: `caper verify FILE`.
+#![tactic(auto)]
+
+use cap_io::{FileShelf, StdSink};
+use cap_top::{Status, run};
+use std::alloc::AllocError;
+use std::env;
+use std::io::ErrorKind;
+use std::process::ExitCode;
+use std::rt::Env;
+
+/// The words after the program's name. Where one is not text there are none, which is no command.
+fn words<R: Env + AllocGlobal>(rt: &R) -> Result<Vec<String>, AllocError> {
+    match env::args(rt) {
+        Ok(all) => all.skip(1).collect(rt.alloc()),
+        Err(error) if error.kind() == ErrorKind::OutOfMemory => Err(AllocError),
+        Err(_) => Ok(Vec::new(rt.alloc())),
+    }
+}
+
+fn main(rt: HostRuntime) -> ExitCode {
+    let alloc = rt.alloc();
+    let status = match words(&rt) {
+        Ok(words) => {
+            let mut shelf = FileShelf::new(alloc, &rt);
+            let mut sink = StdSink::new(rt.stdout());
+            run(alloc, &words, &mut shelf, &mut sink)
+        }
+        Err(_) => Status::NoMemory,
+    };
+    ExitCode::from(status.code())
+}
