@@ -1,14 +1,15 @@
 -- What a whole run promises, by what was found and put.
-use Rattle.std.proofs.Common.{◌≡◌, ℕ, ◌⊎◌, inl, inr, List, Option, Some, None, IfSome, refl, sym, ap, ◌∙◌, subst}
-use Rattle.cap_io.specs.Outside.{Files, content, Rose}
+use Rattle.std.proofs.Common.{◌≡◌, ℕ, ◌⊎◌, inl, inr, List, Option, Some, None, IfSome, ◌≤◌, length, refl, sym, ap, ◌∙◌, subst, arith}
+use Rattle.cap_io.specs.Outside.{Files, content, longest, Rose}
 use Rattle.cap_machine.specs.Program.{PlainProgram}
 use Rattle.cap_top.specs.declared.status.Status.{Status}
-use Rattle.cap_top.specs.declared.status.Status.TheVariants.{Good, Refused}
+use Rattle.cap_top.specs.declared.status.Status.TheVariants.{Good, Refused, NoMemory}
 use Rattle.cap_top.specs.declared.verdict.Verdict.{Verdict}
 use Rattle.cap_top.specs.declared.verdict.Verdict.TheVariants.{Proved, Open, Later}
 use Rattle.cap_top.specs.Text.{IsText}
+use Rattle.cap_top.specs.Program.{program_of}
 use Rattle.cap_top.specs.Verdict.{verdict}
-use Rattle.cap_top.specs.Output.{HasVerdict, Output, usage, unreadable, too_long, refused, judged, Holds, status_of}
+use Rattle.cap_top.specs.Output.{HasVerdict, Output, usage, unreadable, too_long, refused, judged, Holds, status_of, IsOutput}
 use Rattle.cap_top.specs.Finding.{IsSaid, IsPut, IsRun}
 use Rattle.cap_top.specs.Promise.{IsGood, Refuses}
 use Rattle.cap_top.proofs.FindingLaws.{same_name, same_bytes}
@@ -68,3 +69,20 @@ refuses_run (Some files) word reads reads_now blamed written gained writes write
     by : IsPut written gained writes writes_now status o → ¬ Rose reads reads_now → ¬ Rose writes writes_now → Refuses word files status
     by (inl p) r w bytes held n = inl (p.0 ∙ refused_output word files reads reads_now blamed bytes r held n o said)
     by (inr p) r w bytes held n = absurd (w p.1)
+
+-- what is good is an output
+good_is_output : (word : Option (List ℕ)) (files : Files) → IsGood word files → IsOutput word files (judged Proved)
+good_is_output word files g =
+    let fits : length g.bytes ≤ longest = omega (arith, g.spelled.fits) in
+    (g.bytes, g.held, fits, (program_of g.tree, record { tree = g.tree; spelled = g.spelled; known = g.known; stands = refl }, g.proved))
+
+pub proves_run : (told : Option Files) (word : Option (List ℕ)) (reads reads_now : ℕ) (blamed written gained : Option (List ℕ)) (writes writes_now : ℕ) (status : Status)
+    → IsRun told word reads reads_now blamed written gained writes writes_now status
+    → IfSome told (λ files. ¬ Rose reads reads_now → ¬ Rose writes writes_now → IsGood word files → (status ≡ Good) ⊎ (status ≡ NoMemory))
+proves_run None word reads reads_now blamed written gained writes writes_now status e = tt
+proves_run (Some files) word reads reads_now blamed written gained writes writes_now status (inr m) = λ r w g. inr m.0
+proves_run (Some files) word reads reads_now blamed written gained writes writes_now status (inl (o, said, only, put)) = by put
+  where
+    by : IsPut written gained writes writes_now status o → ¬ Rose reads reads_now → ¬ Rose writes writes_now → IsGood word files → (status ≡ Good) ⊎ (status ≡ NoMemory)
+    by (inl p) r w g = inl (p.0 ∙ ap status_of (only (judged Proved) (good_is_output word files g) r))
+    by (inr p) r w g = absurd (w p.1)

@@ -9,12 +9,15 @@ use crate::tree::{Addend, Comparison, Mono, Statement, Term, Tree};
 use cap_machine::Op;
 use cap_syntax::{Place, Text};
 use std::alloc::{AllocError, AllocFailed, Global};
+use thiserror::Error;
 
 /// Why there is no tree. At `Unexpected` the cursor stands at the first token after which no text of
 /// the grammar has the tokens up to it, or at the end.
-#[derive(Clone, Copy, Debug, PartialEq, Eq)]
+#[derive(Clone, Copy, Debug, PartialEq, Eq, Error)]
 pub(crate) enum ParseError {
+    #[error("unexpected token")]
     Unexpected,
+    #[error("out of memory")]
     OutOfMemory,
 }
 

@@ -56,6 +56,9 @@ pub fn run<S: Shelf, K: Sink>(
     ensures answers { IfSome (S.holds shelf.old) (λ files. ¬ Rose (S.faults shelf.old) (S.faults shelf.new)
         → ¬ Rose (K.faults sink.old) (K.faults sink.new)
         → Answers (file_word (map string_bytes words.now)) files (K.written sink.old) (K.written sink.new) result) }
+    ensures proved { IfSome (S.holds shelf.old) (λ files. ¬ Rose (S.faults shelf.old) (S.faults shelf.new)
+        → ¬ Rose (K.faults sink.old) (K.faults sink.new)
+        → IsGood (file_word (map string_bytes words.now)) files → (result ≡ Status.Good) ⊎ (result ≡ Status.NoMemory)) }
     ensures refuses { IfSome (S.holds shelf.old) (λ files. ¬ Rose (S.faults shelf.old) (S.faults shelf.new)
         → ¬ Rose (K.faults sink.old) (K.faults sink.new)
         → Refuses (file_word (map string_bytes words.now)) files result) }

@@ -2,17 +2,24 @@ ghost use Rattle.std.specs.Prelude.{◌≡◌};
 ghost use Rattle.cap_top.specs.declared.refusal.Refusal.TheVariants.{OutOfMemory};
 
 use cap_syntax::{Place, Text};
-use std::alloc::{AllocError, AllocFailed};
+use std::alloc::AllocError;
+use thiserror::Error;
 
 /// Why bytes are the text of no program, by the least place, and want of memory.
-#[derive(Debug, Drop)]
+#[derive(Debug, Drop, Error)]
 pub(crate) enum Refusal {
+    #[error("bad byte")]
     BadByte(Place),
+    #[error("literal too long")]
     LongLiteral(Place),
+    #[error("text too long")]
     TextTooLong,
+    #[error("unexpected token")]
     Unexpected(Place),
     /// A name that is no destination in the body.
+    #[error("unknown name")]
     Unknown(Text, Place),
+    #[error("out of memory")]
     OutOfMemory,
 }
 

@@ -1,4 +1,4 @@
-use Rattle.cap_top.proofs.Promises.{good_run, refuses_run}
+use Rattle.cap_top.proofs.Promises.{good_run, proves_run, refuses_run}
 use Rattle.cap_top.proofs.program.run.Goals as goal
 
 pub returns-clause-good : goal.returns-clause-good
@@ -6,3 +6,6 @@ returns-clause-good g c = good_run _ _ _ _ _ _ _ _ _ _ c.perform.ensures
 
 pub returns-clause-refuses : goal.returns-clause-refuses
 returns-clause-refuses g c = refuses_run _ _ _ _ _ _ _ _ _ _ c.perform.ensures
+
+pub returns-clause-proved : goal.returns-clause-proved
+returns-clause-proved g c = proves_run _ _ _ _ _ _ _ _ _ _ c.perform.ensures
