@@ -15,88 +15,89 @@ fn term(alloc: Global, constant: i128, parts: &[(u32, i128)]) -> Result<Term, Li
 
 #[test]
 fn terms_are_sums_of_their_parts(rt: HostRuntime) -> Result<(), Fail> {
-    let alloc = rt.alloc();
     // 1 + 2 v3 - v0 - 2 v3 + 5 v7: the variable 3 disappears, and the others ascend.
-    let sum = term(alloc, 1, &[(3, 2), (0, -1), (3, -2), (7, 5)])?;
+    let sum = term(rt.alloc(), 1, &[(3, 2), (0, -1), (3, -2), (7, 5)])?;
     assert_eq!(rt; sum.constant_part(), 1);
     assert_eq!(rt; sum.parts(), [(0, -1), (7, 5)].as_slice());
     assert_eq!(rt; sum.coefficient(7), 5);
     assert_eq!(rt; sum.coefficient(3), 0);
     assert_eq!(rt; sum.variable_from(1), Some(7));
     assert_eq!(rt; sum.variable_from(8), None);
-
-    let difference = sum.minus(alloc, &term(alloc, 4, &[(0, -1)])?)?;
-    assert!(rt; difference.same(&term(alloc, -3, &[(7, 5)])?));
-    assert!(rt;
-        difference
-            .copy(alloc)?
-            .plus_one()?
-            .same(&term(alloc, -2, &[(7, 5)])?)
-    );
-    assert!(rt;
-        difference
-            .negative(alloc)?
-            .same(&term(alloc, 3, &[(7, -5)])?)
-    );
-
-    // 2 v0 + 1, where v0 is v0 + 3, and where v1, which it lacks, is v0 + 3.
-    let line = term(alloc, 1, &[(0, 2)])?;
-    let shift = term(alloc, 3, &[(0, 1)])?;
-    assert!(rt;
-        line.subst(alloc, 0, &shift)?
-            .same(&term(alloc, 7, &[(0, 2)])?)
-    );
-    assert!(rt; line.subst(alloc, 1, &shift)?.same(&line));
-
-    // 2 v0 - v1 + 5 at 3 and 4
-    let values = [3, 4];
-    let plane = term(alloc, 5, &[(0, 2), (1, -1)])?;
-    assert!(rt; !plane.is_below(1));
-    if plane.is_below(values.len()) {
-        assert_eq!(rt; plane.value(&values), Ok(7));
-    }
     Ok(())
 }
 
 #[test]
-fn wide_has_the_first_two_operands(rt: HostRuntime) -> Result<(), Fail> {
+fn differences(rt: HostRuntime) -> Result<(), Fail> {
     let alloc = rt.alloc();
-    let most = Term::constant(alloc, i128::MAX);
-    let least = Term::constant(alloc, i128::MIN);
-    let one = Term::constant(alloc, 1);
-    let wide = LinError::Wide(2, 170141183460469231731687303715884105727);
-    assert_eq!(rt; most.scale(alloc, 2).err(), Some(wide));
-    assert_eq!(rt;
-        least.scale(alloc, -1).err(),
-        Some(LinError::Wide(-1, i128::MIN))
-    );
-    assert_eq!(rt;
-        most.add(alloc, &one).err(),
-        Some(LinError::Wide(i128::MAX, 1))
-    );
-    assert_eq!(rt;
-        one.add(alloc, &most).err(),
-        Some(LinError::Wide(1, i128::MAX))
-    );
-    assert_eq!(rt;
-        least.minus(alloc, &one).err(),
-        Some(LinError::Wide(i128::MIN, -1))
-    );
-    // The negative is made first, though the difference would fit.
-    let below = Term::constant(alloc, -1);
-    assert_eq!(rt;
-        below.minus(alloc, &least).err(),
-        Some(LinError::Wide(-1, i128::MIN))
-    );
+    let left = term(alloc, 1, &[(0, -1), (7, 5)])?;
+    let right = term(alloc, 4, &[(0, -1)])?;
+    let difference = left.minus(alloc, &right)?;
+    assert_eq!(rt; difference.parts(), [(7, 5)].as_slice());
+    assert_eq!(rt; difference.copy(alloc)?.plus_one()?.constant_part(), -2);
+    assert_eq!(rt; difference.negative(alloc)?.parts(), [(7, -5)].as_slice());
+    assert!(rt; !difference.same(&left));
+    Ok(())
+}
+
+#[test]
+fn replacements(rt: HostRuntime) -> Result<(), Fail> {
+    let alloc = rt.alloc();
+    // 2 v0 + 1, where v0 is v0 + 3, and where v1, which it lacks, is v0 + 3.
+    let line = term(alloc, 1, &[(0, 2)])?;
+    let shift = term(alloc, 3, &[(0, 1)])?;
+    let moved = line.subst(alloc, 0, &shift)?;
+    assert_eq!(rt; moved.constant_part(), 7);
+    assert_eq!(rt; moved.parts(), [(0, 2)].as_slice());
+    assert!(rt; line.subst(alloc, 1, &shift)?.same(&line));
+    Ok(())
+}
+
+#[test]
+fn values(rt: HostRuntime) -> Result<(), Fail> {
+    // 2 v0 - v1 + 5 at 3 and 4
+    let plane = term(rt.alloc(), 5, &[(0, 2), (1, -1)])?;
+    let values = [3, 4];
+    assert!(rt; !plane.is_below(1));
+    assert!(rt; plane.is_below(values.len()));
+    assert_eq!(rt; plane.value(&values), Ok(7));
+    Ok(())
+}
+
+#[test]
+fn wide_products(rt: HostRuntime) -> Result<(), Fail> {
+    let alloc = rt.alloc();
+    let most = 170141183460469231731687303715884105727;
+    for (k, constant) in [(2, most), (-1, i128::MIN), (most, 3)] {
+        let multiple = Term::constant(alloc, constant).scale(alloc, k);
+        assert_eq!(rt; multiple.err(), Some(LinError::Wide(k, constant)));
+    }
     // The constant comes before the coefficients, and those in the order of variables.
-    let many = term(alloc, 1, &[(4, i128::MAX), (2, 3)])?;
+    let many = term(alloc, 1, &[(4, most), (2, 3)])?;
     assert_eq!(rt;
-        many.scale(alloc, i128::MAX).err(),
-        Some(LinError::Wide(i128::MAX, 3))
+        many.scale(alloc, most).err(),
+        Some(LinError::Wide(most, 3))
     );
+    Ok(())
+}
+
+#[test]
+fn wide_sums(rt: HostRuntime) {
+    let alloc = rt.alloc();
+    for (a, b) in [(i128::MAX, 1), (1, i128::MAX), (i128::MIN, -1)] {
+        let sum = Term::constant(alloc, a).add(alloc, &Term::constant(alloc, b));
+        assert_eq!(rt; sum.err(), Some(LinError::Wide(a, b)));
+    }
+    // The negative is made first, though the difference of the second pair would fit.
+    for (a, b, first, second) in [
+        (i128::MIN, 1, i128::MIN, -1),
+        (-1, i128::MIN, -1, i128::MIN),
+    ] {
+        let difference = Term::constant(alloc, a).minus(alloc, &Term::constant(alloc, b));
+        assert_eq!(rt; difference.err(), Some(LinError::Wide(first, second)));
+    }
+    let most = Term::constant(alloc, i128::MAX);
     let row = Row::of(alloc, &most, Op::Lt, &Term::constant(alloc, 0), Sort::Int);
     assert_eq!(rt; row.err(), Some(LinError::Wide(i128::MAX, 1)));
-    Ok(())
 }
 
 #[test]
