@@ -1,38 +1,22 @@
 -- The variables of the named rows in ascending order, and that each of them cancels.
-use Rattle.std.proofs.Common.{◌≡◌, ℕ, suc, ℤ, pos, ◌+ℤ◌, ◌*ℤ◌, List, [], ◌∷◌, ◌+◌, ◌<◌, ◌≤◌, length, get_or, arith, refl, subst, ap, sym, ◌∙◌, Option, Some, None, FitsSigned, inl, inr, IsTrue, ◌↔◌, true, false}
+use Rattle.std.proofs.Common.{◌≡◌, ℕ, suc, ℤ, pos, ◌+ℤ◌, ◌*ℤ◌, List, [], ◌∷◌, ◌+◌, ◌<◌, ◌≤◌, get_or, arith, refl, subst, ap, sym, ◌∙◌, Option, Some, None, FitsSigned, inl, inr, IsTrue, ◌↔◌, true, false}
 use Rattle.std.proofs.lemmas.Bool.{cases_lt}
 use Rattle.std.proofs.lemmas.Int.{ints}
 use Rattle.std.proofs.Math.Dec.{lit<}
 use mir.Syntax.{w128}
-use Rattle.cap_lin.specs.Linear.{coefficient, IsLeastFrom}
+use Rattle.cap_lin.specs.Linear.{coefficient}
 use Rattle.cap_lin.specs.Steps.{first_wide}
 use Rattle.cap_lin.specs.declared.row.Row.{Row}
 use Rattle.cap_lin.proofs.Results.{product-fits, sum-fits, first_wide-nil}
 use Rattle.cap_lin.proofs.Merge.{no_part}
 use Rattle.cap_farkas.specs.Farkas.{row_at, coefficient_of, column_sum, column_steps, IsNarrow, Cancels}
-use Rattle.cap_farkas.specs.System.{IsAbsent, IsNextFrom, Earlier}
+use Rattle.cap_farkas.specs.System.{IsAbsent, IsNextFrom}
 use Rattle.cap_farkas.proofs.Named.{refused, accepted}
 
 -- no variable from `low` on, and below the next one, is in the first rows named
 abbrev pub IsNextOf : ℕ → List Row → List (ℕ × ℤ) → ℕ → Option ℕ → Type 0
 IsNextOf low rows leaf count None = (x : ℕ) → low ≤ x → (k : ℕ) → k < count → coefficient_of x (row_at rows (get_or leaf k no_part).0).term ≡ pos 0
 IsNextOf low rows leaf count (Some y) = (low ≤ y) × ((x : ℕ) → low ≤ x → x < y → (k : ℕ) → k < count → coefficient_of x (row_at rows (get_or leaf k no_part).0).term ≡ pos 0)
-
-pub next-first : (low : ℕ) (rows : List Row) (leaf : List (ℕ × ℤ)) → IsNextOf low rows leaf 0 None
-next-first low rows leaf = λ x h k l. absurd (omega arith)
-
-at-last : (P : ℕ → Type 0) (i : ℕ) → ((k : ℕ) → k < i → P k) → P i → (k : ℕ) → k < i + 1 → P k
-at-last P i f p k h = elim (cases_lt k i) [ inl lt ↦ f k lt | inr ge ↦ let e : i ≡ k = omega arith in subst P e p ]
-
-pub next-more : (low : ℕ) (rows : List Row) (leaf : List (ℕ × ℤ)) (i : ℕ) (a b r : Option ℕ) → IsNextOf low rows leaf i a → IsLeastFrom low (row_at rows (get_or leaf i no_part).0).term.parts b → Earlier a b r → IsNextOf low rows leaf (i + 1) r
-next-more low rows leaf i None None r n l e = rw e (λ x h. at-last _ i (n x h) (l x h))
-next-more low rows leaf i None (Some y) r n l e = rw e (l.0, λ x h g. at-last _ i (n x h) (l.2 x h g))
-next-more low rows leaf i (Some z) None r n l e = rw e (n.0, λ x h g. at-last _ i (n.1 x h g) (l x h))
-next-more low rows leaf i (Some z) (Some y) r n l e = let n0 = n.0 in let l0 = l.0 in rw e (omega arith, λ x h g. at-last _ i (n.1 x h (omega arith)) (l.2 x h (omega arith)))
-
-pub next-done : (low : ℕ) (rows : List Row) (leaf : List (ℕ × ℤ)) (i : ℕ) (r : Option ℕ) → length leaf ≤ i → IsNextOf low rows leaf i r → IsNextFrom low rows leaf r
-next-done low rows leaf i None h n = λ x g k l. n x g k (omega arith)
-next-done low rows leaf i (Some y) h n = (n.0, λ x g m k l. n.1 x g m k (omega arith))
 
 -- ---- a variable that is in no named row cancels
 zero-fits : FitsSigned w128 (pos 0)

@@ -9,8 +9,10 @@ use std::alloc::{AllocError, Global};
 use std::marker::Model;
 
 /// A linear term: a constant, and pairs of a variable and its coefficient, in ascending order of
-/// variables and without coefficients of 0. Variables are any numbers. So two terms are equal in
-/// value at all values of the variables exactly where they are the same.
+/// variables and without coefficients of 0, so that a term has one form. Variables are numbers.
+///
+/// Arithmetic is exact: an operation gives its term, or the two operands of the first sum or product
+/// on the way that leaves 128 bits.
 #[derive(Debug, Drop)]
 pub struct Term {
     constant: i128,
@@ -163,8 +165,8 @@ impl Term {
         self.add(alloc, &negative)
     }
 
-    /// The term plus 1. It takes no memory.
-    pub fn plus_one(self) -> Result<Term, LinError>
+    // The term plus 1.
+    pub(crate) fn plus_one(self) -> Result<Term, LinError>
         ensures { IsExact result (sum_of self.constant (pos 1) ∷ []) (plus_one self) }
     {
         let constant = sum(self.constant, 1)?;
