@@ -1,12 +1,12 @@
 -- The loops over a leaf's names: each lemma is one way through them. W is what the loop decides.
 use Rattle.std.proofs.Common.{◌≡◌, ℕ, zero, suc, ℤ, List, [], ◌∷◌, ◌+◌, ◌<◌, ◌≤◌, length, get_or, drop, true, false, arith, add-one, refl, drop-cons, subst, sym, ◌∙◌, Some, None, IsTrue, ◌↔◌, ◌⊎◌, inl, inr}
-use Rattle.std.specs.Prelude.{MatchOption, Option}
+use Rattle.std.specs.Prelude.{Option}
 use Rattle.std.proofs.lemmas.List.{drop_all}
 use Rattle.cap_lin.specs.declared.row.Row.{Row}
 use Rattle.cap_lin.specs.declared.row.Kind.{Kind}
 use Rattle.cap_lin.specs.declared.row.Kind.TheVariants.{Lt}
 use Rattle.cap_lin.proofs.Merge.{no_part}
-use Rattle.cap_farkas.specs.Farkas.{MayMultiply, row_at, Names, HasStrict}
+use Rattle.cap_farkas.specs.Farkas.{MayMultiply, row_at, Names, HasStrict, IsKindAt}
 
 pub refused : (W : Type 0) → (W → ⊥) → IsTrue false ↔ W
 refused W f = (λ e. cc, λ w. absurd (f w))
@@ -64,22 +64,18 @@ past-kind [] i h e = cc
 past-kind (r ∷ rs) zero h e = absurd (omega arith)
 past-kind (r ∷ rs) (suc i) h e = past-kind rs i (omega arith) e
 
--- what is known of a row's kind
-abbrev pub IsKind : List Row → ℕ → Option Kind → Type 0
-IsKind rows i o = MatchOption o (length rows ≤ i) (λ k. (i < length rows) × (k ≡ (row_at rows i).kind))
-
-kind-strict : (rows : List Row) (i : ℕ) (o : Option Kind) → IsKind rows i o → o ≡ Some Lt → (row_at rows i).kind ≡ Lt
+kind-strict : (rows : List Row) (i : ℕ) (o : Option Kind) → IsKindAt rows i o → o ≡ Some Lt → (row_at rows i).kind ≡ Lt
 kind-strict rows i None h e = absurd (cc)
 kind-strict rows i (Some k) h e = let d : k ≡ Lt = cc in sym h.1 ∙ d
 
-strict-kind : (rows : List Row) (i : ℕ) (o : Option Kind) → IsKind rows i o → (row_at rows i).kind ≡ Lt → o ≡ Some Lt
+strict-kind : (rows : List Row) (i : ℕ) (o : Option Kind) → IsKindAt rows i o → (row_at rows i).kind ≡ Lt → o ≡ Some Lt
 strict-kind rows i None h e = absurd (past-kind rows i h e)
 strict-kind rows i (Some k) h e = rw (h.1, e) refl
 
-pub strict_found : (rows : List Row) (leaf : List (ℕ × ℤ)) (i : ℕ) (W : Type 0) (o : Option Kind) → i < length leaf → IsKind rows (get_or leaf i no_part).0 o → (IsTrue true ↔ (o ≡ Some Lt)) → (W ↔ HasStrict rows (drop i leaf)) → IsTrue true ↔ W
+pub strict_found : (rows : List Row) (leaf : List (ℕ × ℤ)) (i : ℕ) (W : Type 0) (o : Option Kind) → i < length leaf → IsKindAt rows (get_or leaf i no_part).0 o → (IsTrue true ↔ (o ≡ Some Lt)) → (W ↔ HasStrict rows (drop i leaf)) → IsTrue true ↔ W
 strict_found rows leaf i W o h k t e = accepted W (e.1 (strict-made rows leaf i h (inl (kind-strict rows _ o k (t.0 refl)))))
 
-pub strict_past : (rows : List Row) (leaf : List (ℕ × ℤ)) (i : ℕ) (W : Type 0) (o : Option Kind) → i < length leaf → IsKind rows (get_or leaf i no_part).0 o → (IsTrue false ↔ (o ≡ Some Lt)) → (W ↔ HasStrict rows (drop i leaf)) → W ↔ HasStrict rows (drop (i + 1) leaf)
+pub strict_past : (rows : List Row) (leaf : List (ℕ × ℤ)) (i : ℕ) (W : Type 0) (o : Option Kind) → i < length leaf → IsKindAt rows (get_or leaf i no_part).0 o → (IsTrue false ↔ (o ≡ Some Lt)) → (W ↔ HasStrict rows (drop i leaf)) → W ↔ HasStrict rows (drop (i + 1) leaf)
 strict_past rows leaf i W o h k t e =
     (λ w. elim (strict-head rows leaf i h (e.0 w)) [ inl x ↦ absurd (clash (t.1 (strict-kind rows _ o k x))) | inr y ↦ y ], λ y. e.1 (strict-made rows leaf i h (inr y)))
   where

@@ -1,5 +1,5 @@
 -- Leaves: multipliers of rows, and what it takes that their sum contradicts itself.
-use Rattle.std.specs.Prelude.{◌≡◌, ◌≢◌, ℕ, ◌+◌, ◌<◌, ◌≤◌, ℤ, pos, ◌+ℤ◌, ◌*ℤ◌, ◌<ℤ◌, ◌⊎◌, List, [], ◌∷◌, length, get_or, None}
+use Rattle.std.specs.Prelude.{◌≡◌, ◌≢◌, ℕ, ◌+◌, ◌<◌, ◌≤◌, ℤ, pos, ◌+ℤ◌, ◌*ℤ◌, ◌<ℤ◌, ◌⊎◌, List, [], ◌∷◌, length, get_or, Option, Some, None}
 use Rattle.cap_lin.specs.Linear.{Linear, number, coefficient}
 use Rattle.cap_lin.specs.Steps.{Step, sum_of, product_of, first_wide}
 use Rattle.cap_lin.specs.Rows.{row}
@@ -48,6 +48,16 @@ column_steps of rows sum (p ∷ ps) =
 -- a column stays within 128 bits
 abbrev pub IsNarrow : (Linear → ℤ) → List Row → List (ℕ × ℤ) → Type 0
 IsNarrow of rows leaf = first_wide (column_steps of rows (pos 0) leaf) ≡ None
+
+-- what a column sums to, where it stays within 128 bits
+abbrev pub SumsTo : (Linear → ℤ) → List Row → List (ℕ × ℤ) → Option ℤ → Type 0
+SumsTo of rows leaf None = ¬ IsNarrow of rows leaf
+SumsTo of rows leaf (Some sum) = IsNarrow of rows leaf × (sum ≡ column_sum of rows (pos 0) leaf)
+
+-- the kind of the row of a number, where there is one
+abbrev pub IsKindAt : List Row → ℕ → Option Kind → Type 0
+IsKindAt rows i None = length rows ≤ i
+IsKindAt rows i (Some k) = (i < length rows) × (k ≡ (row_at rows i).kind)
 
 -- the variable's column stays within 128 bits, and its sum is 0
 pub record Cancels (rows : List Row) (leaf : List (ℕ × ℤ)) (x : ℕ) : Type 0 where

@@ -1,5 +1,5 @@
-ghost use Rattle.std.specs.Prelude.{◌≡◌, ◌≢◌, ◌<◌, ◌≤◌, ◌↔◌, ℕ, IsTrue, None, Some, length, MatchOption, pos};
-ghost use Rattle.cap_farkas.specs.Farkas.{MayMultiply, Names, column_sum, IsNarrow, Cancels, HasStrict, Contradicts, RefutesLeaf};
+ghost use Rattle.std.specs.Prelude.{◌≡◌, ◌<◌, ◌↔◌, ℕ, IsTrue, Some};
+ghost use Rattle.cap_farkas.specs.Farkas.{MayMultiply, Names, SumsTo, Cancels, HasStrict, Contradicts, RefutesLeaf};
 ghost use Rattle.cap_farkas.specs.System.{part_of, all_rows, AreAppended, IsNextFrom, Earlier};
 
 use crate::system::{Appended, Column, kind_at, part_at, variable_at};
@@ -65,7 +65,7 @@ fn sum_of(
     column: Column,
 ) -> Option<i128>
     requires { AreAppended rows.now appended }
-    ensures { MatchOption result (¬ IsNarrow (part_of column) (all_rows rows.now appended) leaf.now) (λ sum. IsNarrow (part_of column) (all_rows rows.now appended) leaf.now × (sum ≡ column_sum (part_of column) (all_rows rows.now appended) (pos 0) leaf.now)) }
+    ensures { SumsTo (part_of column) (all_rows rows.now appended) leaf.now result }
 {
     let mut sum: i128 = 0;
     for entry in leaf {

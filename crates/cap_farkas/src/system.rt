@@ -1,8 +1,8 @@
-ghost use Rattle.std.specs.Prelude.{◌≡◌, ◌<◌, ◌≤◌, ◌↔◌, ℕ, IsTrue, None, Some, length, MatchOption, pos, negsuc};
+ghost use Rattle.std.specs.Prelude.{◌≡◌, ◌<◌, ◌↔◌, IsTrue, None, negsuc};
 ghost use Rattle.std.specs.Option.{SomeIff};
 ghost use Rattle.cap_lin.specs.Linear.{IsLeastFrom};
 ghost use Rattle.cap_lin.specs.Steps.{first_wide, multiples_steps};
-ghost use Rattle.cap_farkas.specs.Farkas.{row_at, coefficient_of};
+ghost use Rattle.cap_farkas.specs.Farkas.{row_at, coefficient_of, IsKindAt};
 ghost use Rattle.cap_farkas.specs.System.{part_of, below_kind, below_constant, below_steps, side_row, side_steps, side_constant, side_constant_steps, all_rows, AreAppended};
 
 use cap_lin::{Kind, Row, Sort};
@@ -14,7 +14,8 @@ pub enum Side {
     Above,
 }
 
-/// The row that a split puts behind the rows: the term of the row at this place is on this side of 0.
+/// The row that a split puts behind the rows: that the term of the row at this place is on this side
+/// of 0.
 #[derive(Clone, Copy, Debug, PartialEq, Eq)]
 pub struct Appended {
     pub place: usize,
@@ -40,7 +41,8 @@ fn below_kind(sort: Sort) -> Kind
 
 // The constant of a row that a term of this constant is below 0.
 fn below_constant(constant: i128, sort: Sort) -> Option<i128>
-    ensures { SomeIff result (first_wide (below_steps sort constant) ≡ None) (below_constant sort constant) }
+    ensures { SomeIff result (first_wide (below_steps sort constant) ≡ None)
+        (below_constant sort constant) }
 {
     match sort {
         Sort::Int => constant.checked_add(1),
@@ -50,7 +52,9 @@ fn below_constant(constant: i128, sort: Sort) -> Option<i128>
 
 // The constant of a row that a row's term is on a side of 0.
 fn side_constant(row: &Row, side: Side) -> Option<i128>
-    ensures { SomeIff result (first_wide (side_constant_steps side row.now.sort row.now.term.constant) ≡ None) (side_constant side row.now.sort row.now.term.constant) }
+    ensures { SomeIff result
+        (first_wide (side_constant_steps side row.now.sort row.now.term.constant) ≡ None)
+        (side_constant side row.now.sort row.now.term.constant) }
 {
     let constant = row.term.constant_part();
     match side {
@@ -114,7 +118,7 @@ fn side_coefficient(row: &Row, side: Side, variable: u32) -> i128
 /// The kind of the row of a number, if there is one. The appended row is behind the rows.
 pub fn kind_at(rows: &[Row], appended: Option<Appended>, number: u32) -> Option<Kind>
     requires { AreAppended rows.now appended }
-    ensures { MatchOption result (length (all_rows rows.now appended) ≤ number) (λ k. (number < length (all_rows rows.now appended)) × (k ≡ (row_at (all_rows rows.now appended) number).kind)) }
+    ensures { IsKindAt (all_rows rows.now appended) number result }
 {
     let number = number as usize;
     if number < rows.len() {

@@ -1,5 +1,5 @@
 -- Rows that none of a row's negations can join prove the row.
-use Rattle.std.proofs.Common.{◌≡◌, ℤ, pos, negsuc, zero, suc, ◌≤ℤ◌, ◌<ℤ◌, List, [], ◌∷◌, ◌++◌, arith, refl, ◌⊎◌, inl, inr}
+use Rattle.std.proofs.Common.{ℤ, pos, negsuc, zero, suc, List, [], ◌∷◌, ◌++◌, arith, refl, ◌⊎◌, inl, inr}
 use Rattle.std.specs.List.{AllByRecursion}
 use Rattle.std.proofs.lemmas.Int.{ints}
 use Rattle.cap_numbers.proofs.Order.{sign_of}

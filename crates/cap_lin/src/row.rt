@@ -1,4 +1,4 @@
-ghost use Rattle.std.specs.Prelude.{◌≡◌, ◌++◌, ◌∷◌, [], ◌↔◌, List, IfOk, MatchResult};
+ghost use Rattle.std.specs.Prelude.{◌≡◌, ◌∷◌, [], ◌↔◌, IfOk, MatchResult};
 ghost use Rattle.cap_lin.specs.Linear.{minus};
 ghost use Rattle.cap_lin.specs.Steps.{minus_steps};
 ghost use Rattle.cap_lin.specs.Exact.{IsExact, IsExactBy};
@@ -50,8 +50,10 @@ impl Row {
     /// Wide has the first result that leaves 128 bits: of the negative of the side that is taken
     /// away, then of the sum, then of the 1 that is added last.
     pub fn of(alloc: Global, left: &Term, op: Op, right: &Term, sort: Sort) -> Result<Row, LinError>
-        ensures exact { IsExact result (row_of_steps left.now op right.now sort) (row_of left.now op right.now sort) }
-        ensures means { IfOk result (λ r. (v : Valuation) → Holds v r ↔ Compares v left.now op right.now sort) }
+        ensures exact { IsExact result (row_of_steps left.now op right.now sort)
+            (row_of left.now op right.now sort) }
+        ensures means { IfOk result
+            (λ r. (v : Valuation) → Holds v r ↔ Compares v left.now op right.now sort) }
     {
         comparison(alloc, left, op, right, sort)
     }
@@ -59,14 +61,17 @@ impl Row {
     /// The rows of which one holds exactly where this row doesn't: two for a row Eq, below 0 and
     /// above 0, and else one. Wide has the first result that leaves 128 bits, the rows in order.
     pub fn negations(&self, alloc: Global) -> Result<Vec<Row>, LinError>
-        ensures exact { IsExactBy result (λ rows. rows.items) (negations_steps self.now) (negations self.now) }
-        ensures covers { IfOk result (λ rows. (v : Valuation) → (¬ Holds v self.now) ↔ HoldsSome v rows.items) }
+        ensures exact { IsExactBy result (λ rows. rows.items)
+            (negations_steps self.now) (negations self.now) }
+        ensures covers { IfOk result
+            (λ rows. (v : Valuation) → (¬ Holds v self.now) ↔ HoldsSome v rows.items) }
     {
         self.opposites(alloc)
     }
 
     fn opposites(&self, alloc: Global) -> Result<Vec<Row>, LinError>
-        ensures { IsExactBy result (λ rows. rows.items) (negations_steps self.now) (negations self.now) }
+        ensures { IsExactBy result (λ rows. rows.items)
+            (negations_steps self.now) (negations self.now) }
     {
         match self.kind {
             Kind::Le => one(alloc, self.above_zero(alloc)?),
@@ -96,7 +101,8 @@ impl Row {
 
     /// The row that this row's term is below 0, of this row's sort.
     pub fn below_zero(&self, alloc: Global) -> Result<Row, LinError>
-        ensures { IsExact result (below_zero_steps self.now.sort self.now.term) (below_zero self.now.sort self.now.term) }
+        ensures { IsExact result (below_zero_steps self.now.sort self.now.term)
+            (below_zero self.now.sort self.now.term) }
     {
         below_zero(self.term.copy(alloc)?, self.sort)
     }
@@ -104,7 +110,8 @@ impl Row {
     /// The row that this row's term is above 0, of this row's sort. Wide is as in `Term::scale` by
     /// -1, and then, between whole numbers, as in the sum of the constant and 1.
     pub fn above_zero(&self, alloc: Global) -> Result<Row, LinError>
-        ensures { IsExact result (above_zero_steps self.now.sort self.now.term) (above_zero self.now.sort self.now.term) }
+        ensures { IsExact result (above_zero_steps self.now.sort self.now.term)
+            (above_zero self.now.sort self.now.term) }
     {
         below_zero(self.term.negative(alloc)?, self.sort)
     }
@@ -140,7 +147,8 @@ fn below_zero(term: Term, sort: Sort) -> Result<Row, LinError>
 }
 
 fn comparison(alloc: Global, left: &Term, op: Op, right: &Term, sort: Sort) -> Result<Row, LinError>
-    ensures { IsExact result (row_of_steps left.now op right.now sort) (row_of left.now op right.now sort) }
+    ensures { IsExact result (row_of_steps left.now op right.now sort)
+        (row_of left.now op right.now sort) }
 {
     match op {
         Op::Eq => difference(alloc, left, right, Kind::Eq, sort),
@@ -160,7 +168,8 @@ fn difference(
     kind: Kind,
     sort: Sort,
 ) -> Result<Row, LinError>
-    ensures { IsExact result (minus_steps left.now right.now) (row kind sort (minus left.now right.now)) }
+    ensures { IsExact result (minus_steps left.now right.now)
+        (row kind sort (minus left.now right.now)) }
 {
     let term = left.minus(alloc, right)?;
     Ok(Row { term, kind, sort })
@@ -168,7 +177,8 @@ fn difference(
 
 // The row that a difference is below 0.
 fn less(alloc: Global, left: &Term, right: &Term, sort: Sort) -> Result<Row, LinError>
-    ensures { IsExact result (less_steps left.now right.now sort) (below_zero sort (minus left.now right.now)) }
+    ensures { IsExact result (less_steps left.now right.now sort)
+        (below_zero sort (minus left.now right.now)) }
 {
     let term = left.minus(alloc, right)?;
     below_zero(term, sort)
@@ -183,7 +193,8 @@ fn one(alloc: Global, row: Row) -> Result<Vec<Row>, LinError>
 }
 
 fn two(alloc: Global, first: Row, second: Row) -> Result<Vec<Row>, LinError>
-    ensures { MatchResult result (λ rows. rows.items ≡ first ∷ second ∷ []) (λ e. e ≡ LinError.OutOfMemory) }
+    ensures { MatchResult result (λ rows. rows.items ≡ first ∷ second ∷ [])
+        (λ e. e ≡ LinError.OutOfMemory) }
 {
     let mut rows = Vec::new(alloc);
     rows.push(first)?;

@@ -1,7 +1,7 @@
-ghost use Rattle.std.specs.Prelude.{◌≡◌, ◌<◌, ◌≤◌, ℕ, ℤ, ◌+ℤ◌, ◌*ℤ◌, List, [], ◌∷◌, ◌++◌, Some, length, OnOk, IfOk, IsTrue, ◌↔◌, MatchResult, IfErr, ◌≢◌, slice_index_or, slice_get, pos};
+ghost use Rattle.std.specs.Prelude.{◌≡◌, ◌<◌, ℕ, ℤ, ◌+ℤ◌, ◌*ℤ◌, [], ◌∷◌, ◌++◌, length, OnOk, IfOk, IsTrue, ◌↔◌, MatchResult, IfErr, ◌≢◌, slice_get, pos};
 ghost use Rattle.cap_lin.specs.Linear.{AscendFrom, put_part, coefficient, number, variable, merged, parts_behind, sums, IsBelow, IsLeastFrom, IsPlaceFrom, plus, minus, negative, plus_one, multiples, times, parts_without, without, replaced};
-ghost use Rattle.cap_lin.specs.Steps.{sum_of, product_of, first_wide, sums_steps, plus_steps, minus_steps, negative_steps, multiples_steps, times_steps, replaced_steps, value_steps};
-ghost use Rattle.cap_lin.specs.Exact.{Explains, IsExact, IsExactBy};
+ghost use Rattle.cap_lin.specs.Steps.{sum_of, product_of, sums_steps, plus_steps, minus_steps, negative_steps, multiples_steps, times_steps, replaced_steps, value_steps};
+ghost use Rattle.cap_lin.specs.Exact.{IsExact, IsExactBy};
 ghost use Rattle.cap_lin.specs.Values.{value, number_at, changed};
 
 use crate::error::LinError;
@@ -132,7 +132,8 @@ impl Term {
     /// in the order of variables, that leaves 128 bits, with this term's number first.
     pub fn add(&self, alloc: Global, other: &Term) -> Result<Term, LinError>
         ensures exact { IsExact result (plus_steps self.now other.now) (plus self.now other.now) }
-        ensures means { IfOk result (λ t. (n : ℕ → ℤ) → value n t ≡ value n self.now +ℤ value n other.now) }
+        ensures means { IfOk result
+            (λ t. (n : ℕ → ℤ) → value n t ≡ value n self.now +ℤ value n other.now) }
     {
         let constant = sum(self.constant, other.constant)?;
         let parts = add_parts(alloc, &self.parts, &other.parts)?;
@@ -181,7 +182,8 @@ impl Term {
     /// with the rest first. Where the term lacks the variable it is the term, and never Wide.
     pub fn subst(&self, alloc: Global, v: u32, by: &Term) -> Result<Term, LinError>
         ensures exact { IsExact result (replaced_steps v by.now self.now) (replaced v by.now self.now) }
-        ensures means { IfOk result (λ t. (n : ℕ → ℤ) → value n t ≡ value (changed n v (value n by.now)) self.now) }
+        ensures means { IfOk result
+            (λ t. (n : ℕ → ℤ) → value n t ≡ value (changed n v (value n by.now)) self.now) }
     {
         let coefficient = self.coefficient(v);
         if coefficient == 0 {
@@ -204,7 +206,9 @@ impl Term {
     /// variables, the product of coefficient and value, and then the sum so far and this product.
     pub fn value(&self, values: &[i128]) -> Result<i128, LinError>
         requires { IsBelow (length values.now) self.now }
-        ensures exact { IsExact result (value_steps (number_at values.now) self.now.constant self.now.parts) (value (number_at values.now) self.now) }
+        ensures exact { IsExact result
+            (value_steps (number_at values.now) self.now.constant self.now.parts)
+            (value (number_at values.now) self.now) }
         ensures no_memory { IfErr result (λ e. e ≢ LinError.OutOfMemory) }
     {
         let mut total = self.constant;
@@ -328,7 +332,8 @@ fn add_parts(
     left: &[(u32, i128)],
     right: &[(u32, i128)],
 ) -> Result<Vec<(u32, i128)>, LinError>
-    ensures { IsExactBy result (λ parts. parts.items) (sums_steps (merged left.now right.now)) (sums (merged left.now right.now)) }
+    ensures { IsExactBy result (λ parts. parts.items)
+        (sums_steps (merged left.now right.now)) (sums (merged left.now right.now)) }
 {
     let mut parts = Vec::new(alloc);
     let mut left = left;
@@ -343,7 +348,8 @@ fn add_parts(
 }
 
 fn scale_parts(alloc: Global, k: i128, parts: &[(u32, i128)]) -> Result<Vec<(u32, i128)>, LinError>
-    ensures { IsExactBy result (λ scaled. scaled.items) (multiples_steps k parts.now) (multiples k parts.now) }
+    ensures { IsExactBy result (λ scaled. scaled.items)
+        (multiples_steps k parts.now) (multiples k parts.now) }
 {
     let mut scaled = Vec::new(alloc);
     for part in parts {
