@@ -12,6 +12,8 @@ mod refusal;
 mod rendering;
 mod resolve;
 mod status;
+#[cfg(test)]
+mod tests;
 mod text;
 mod tree;
 mod verdict;
