@@ -1,0 +1,4 @@
+pub mod Fractions
+pub mod Composition
+pub mod Algebras
+pub mod Kin

@@ -1,0 +1,6 @@
+pub mod Fractions
+pub mod Elements
+pub mod Algebras
+pub mod Views
+pub mod Answers
+pub mod Laws

@@ -1,0 +1,28 @@
+ghost use Rattle.std.specs.Prelude.{◌≡◌};
+ghost use Rattle.cap_galg.specs.Answers.{paired};
+
+use crate::error::GuardError;
+
+// The answers for two parts, as one answer: nothing where either is nothing, else the first want of
+// memory, else Wide.
+pub fn paired_answer<A: Drop, B: Drop>(
+    first: Result<Option<A>, GuardError>,
+    second: Result<Option<B>, GuardError>,
+) -> Result<Option<(A, B)>, GuardError>
+    ensures { result ≡ paired first second }
+{
+    match first {
+        Ok(None) => Ok(None),
+        Ok(Some(x)) => match second {
+            Ok(None) => Ok(None),
+            Ok(Some(y)) => Ok(Some((x, y))),
+            Err(e) => Err(e),
+        },
+        Err(GuardError::OutOfMemory) => Err(GuardError::OutOfMemory),
+        Err(GuardError::Wide) => match second {
+            Ok(None) => Ok(None),
+            Ok(Some(_)) => Err(GuardError::Wide),
+            Err(e) => Err(e),
+        },
+    }
+}
