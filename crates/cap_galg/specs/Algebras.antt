@@ -1,7 +1,7 @@
 -- Guard algebras: their elements, their atoms, and the laws.
 use Rattle.std.specs.Prelude.{◌≡◌, ◌≢◌, ◌↔◌, ℕ, zero, suc, ◌+◌, ◌-◌, ◌<◌, ◌&&◌, Bool, true, false, nat_lt, if◌then◌else◌, Option, Some, None}
 use Rattle.cap_galg.specs.Fractions.{fraction, IsShare}
-use Rattle.cap_galg.specs.Elements.{Element, nothing, one, share, tok, src, both, whole, left, right, is_unit, is_full, in_left, in_right, bind, compose, at_most}
+use Rattle.cap_galg.specs.Elements.{Element, nothing, one, share, tok, src, both, whole, left, right, is_unit, is_full, on_left, on_right, bind, compose, at_most}
 
 pub data PlainAlgebra : Type 0 where
   unique : PlainAlgebra
@@ -67,7 +67,7 @@ atom_algebra a i = a
 -- the element in which one atom has an element that isn't the unit, and no other has any
 abbrev pub at_atom : PlainAlgebra → ℕ → Element → Element
 at_atom (product a b) i x = if nat_lt i (atoms a) then both (at_atom a i x) nothing else both nothing (at_atom b (i - atoms a) x)
-at_atom (sum a b) i x = if nat_lt i (atoms a) then in_left (at_atom a i x) else in_right (at_atom b (i - atoms a) x)
+at_atom (sum a b) i x = if nat_lt i (atoms a) then on_left (at_atom a i x) else on_right (at_atom b (i - atoms a) x)
 at_atom a i x = x
 
 -- the element of one atom

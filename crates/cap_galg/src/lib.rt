@@ -4,14 +4,24 @@
 
 mod algebra;
 mod answer;
+mod counting;
+mod divisible;
+mod either;
+mod elem;
 mod error;
 mod fraction;
 mod guard;
 mod node;
+mod pair;
 mod unique;
 
 pub use algebra::Algebra;
+pub use counting::Counting;
+pub use divisible::Divisible;
+pub use either::Either;
+pub use elem::{Amount, Elem};
 pub use error::GuardError;
 pub use fraction::Fraction;
 pub use guard::Guard;
+pub use pair::Pair;
 pub use unique::Unique;

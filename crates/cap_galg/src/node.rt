@@ -1,7 +1,12 @@
-ghost use Rattle.std.specs.Prelude.{◌≡◌, IfOk};
-ghost use Rattle.cap_galg.specs.Views.{node_view};
+ghost use Rattle.std.specs.Prelude.{◌≡◌, IfOk, Ok};
+ghost use Rattle.cap_galg.specs.Fractions.{IsShare};
+ghost use Rattle.cap_galg.specs.Views.{node_view, HasShares};
+ghost use Rattle.cap_galg.specs.Elements.{is_unit, is_full, on_left as made_left, on_right as made_right, at_most, share, tok, src};
+ghost use Rattle.cap_galg.specs.Answers.{IsComposition};
 
-use crate::fraction::Fraction;
+use crate::answer::paired_answer;
+use crate::error::GuardError;
+use crate::fraction::{Fraction, is_at_most, sum};
 use std::alloc::{AllocError, Global};
 
 // An element of some algebra. A pair isn't two units, and what stands on a side of a sum is neither
@@ -38,4 +43,301 @@ impl Node {
             Node::Right(y) => Ok(Node::Right(Box::new(alloc, y.copy(alloc)?)?)),
         }
     }
+
+    pub fn is_unit(&self) -> bool
+        ensures { result ≡ is_unit (node_view self.now) }
+    {
+        match self {
+            Node::Nothing => true,
+            Node::One => false,
+            Node::Share(_) => false,
+            Node::Tok(_) => false,
+            Node::Src(_) => false,
+            Node::Both(_, _) => false,
+            Node::Whole => false,
+            Node::Left(_) => false,
+            Node::Right(_) => false,
+        }
+    }
+
+    pub fn is_full(&self) -> bool
+        ensures { result ≡ is_full (node_view self.now) }
+    {
+        match self {
+            Node::Nothing => false,
+            Node::One => true,
+            Node::Share(amount) => amount.num == amount.den,
+            Node::Tok(_) => false,
+            Node::Src(out) => *out == 0,
+            Node::Both(x, y) => x.is_full() && y.is_full(),
+            Node::Whole => true,
+            Node::Left(_) => false,
+            Node::Right(_) => false,
+        }
+    }
+
+    pub fn le(&self, other: &Node) -> bool
+        ensures { result ≡ at_most (node_view self.now) (node_view other.now) }
+    {
+        match self {
+            Node::Nothing => true,
+            Node::One => match other {
+                Node::One => true,
+                Node::Nothing => false,
+                Node::Share(_) => false,
+                Node::Tok(_) => false,
+                Node::Src(_) => false,
+                Node::Both(_, _) => false,
+                Node::Whole => false,
+                Node::Left(_) => false,
+                Node::Right(_) => false,
+            },
+            Node::Share(a) => match other {
+                Node::Share(b) => is_at_most(*a, *b),
+                Node::Nothing => false,
+                Node::One => false,
+                Node::Tok(_) => false,
+                Node::Src(_) => false,
+                Node::Both(_, _) => false,
+                Node::Whole => false,
+                Node::Left(_) => false,
+                Node::Right(_) => false,
+            },
+            Node::Tok(j) => match other {
+                Node::Tok(k) => *j <= *k,
+                Node::Src(_) => true,
+                Node::Nothing => false,
+                Node::One => false,
+                Node::Share(_) => false,
+                Node::Both(_, _) => false,
+                Node::Whole => false,
+                Node::Left(_) => false,
+                Node::Right(_) => false,
+            },
+            Node::Src(out) => match other {
+                Node::Src(less) => *less <= *out,
+                Node::Nothing => false,
+                Node::One => false,
+                Node::Share(_) => false,
+                Node::Tok(_) => false,
+                Node::Both(_, _) => false,
+                Node::Whole => false,
+                Node::Left(_) => false,
+                Node::Right(_) => false,
+            },
+            Node::Both(a, b) => match other {
+                Node::Both(c, d) => a.le(c) && b.le(d),
+                Node::Nothing => false,
+                Node::One => false,
+                Node::Share(_) => false,
+                Node::Tok(_) => false,
+                Node::Src(_) => false,
+                Node::Whole => false,
+                Node::Left(_) => false,
+                Node::Right(_) => false,
+            },
+            Node::Whole => match other {
+                Node::Whole => true,
+                Node::Nothing => false,
+                Node::One => false,
+                Node::Share(_) => false,
+                Node::Tok(_) => false,
+                Node::Src(_) => false,
+                Node::Both(_, _) => false,
+                Node::Left(_) => false,
+                Node::Right(_) => false,
+            },
+            Node::Left(x) => match other {
+                Node::Whole => true,
+                Node::Left(y) => x.le(y),
+                Node::Nothing => false,
+                Node::One => false,
+                Node::Share(_) => false,
+                Node::Tok(_) => false,
+                Node::Src(_) => false,
+                Node::Both(_, _) => false,
+                Node::Right(_) => false,
+            },
+            Node::Right(x) => match other {
+                Node::Whole => true,
+                Node::Right(y) => x.le(y),
+                Node::Nothing => false,
+                Node::One => false,
+                Node::Share(_) => false,
+                Node::Tok(_) => false,
+                Node::Src(_) => false,
+                Node::Both(_, _) => false,
+                Node::Left(_) => false,
+            },
+        }
+    }
+
+    pub fn compose(&self, alloc: Global, other: &Node) -> Result<Option<Node>, GuardError>
+        requires shares { HasShares (node_view self.now) }
+        requires other_shares { HasShares (node_view other.now) }
+        ensures { IsComposition node_view (node_view self.now) (node_view other.now) result }
+    {
+        match self {
+            Node::Nothing => Ok(Some(other.copy(alloc)?)),
+            Node::One => match other {
+                Node::Nothing => Ok(Some(self.copy(alloc)?)),
+                Node::One => Ok(None),
+                Node::Share(_) => Ok(None),
+                Node::Tok(_) => Ok(None),
+                Node::Src(_) => Ok(None),
+                Node::Both(_, _) => Ok(None),
+                Node::Whole => Ok(None),
+                Node::Left(_) => Ok(None),
+                Node::Right(_) => Ok(None),
+            },
+            Node::Share(a) => match other {
+                Node::Share(b) => shares(*a, *b),
+                Node::Nothing => Ok(Some(self.copy(alloc)?)),
+                Node::One => Ok(None),
+                Node::Tok(_) => Ok(None),
+                Node::Src(_) => Ok(None),
+                Node::Both(_, _) => Ok(None),
+                Node::Whole => Ok(None),
+                Node::Left(_) => Ok(None),
+                Node::Right(_) => Ok(None),
+            },
+            Node::Tok(j) => match other {
+                Node::Tok(k) => tokens(*j, *k),
+                Node::Src(out) => Ok(given_back(*out, *j)),
+                Node::Nothing => Ok(Some(self.copy(alloc)?)),
+                Node::One => Ok(None),
+                Node::Share(_) => Ok(None),
+                Node::Both(_, _) => Ok(None),
+                Node::Whole => Ok(None),
+                Node::Left(_) => Ok(None),
+                Node::Right(_) => Ok(None),
+            },
+            Node::Src(out) => match other {
+                Node::Tok(k) => Ok(given_back(*out, *k)),
+                Node::Nothing => Ok(Some(self.copy(alloc)?)),
+                Node::One => Ok(None),
+                Node::Share(_) => Ok(None),
+                Node::Src(_) => Ok(None),
+                Node::Both(_, _) => Ok(None),
+                Node::Whole => Ok(None),
+                Node::Left(_) => Ok(None),
+                Node::Right(_) => Ok(None),
+            },
+            Node::Both(a, b) => match other {
+                Node::Both(c, d) => {
+                    let first = a.compose(alloc, c);
+                    let second = b.compose(alloc, d);
+                    match paired_answer(first, second) {
+                        Ok(Some((x, y))) => Ok(Some(Node::Both(
+                            Box::new(alloc, x)?,
+                            Box::new(alloc, y)?,
+                        ))),
+                        Ok(None) => Ok(None),
+                        Err(e) => Err(e),
+                    }
+                }
+                Node::Nothing => Ok(Some(self.copy(alloc)?)),
+                Node::One => Ok(None),
+                Node::Share(_) => Ok(None),
+                Node::Tok(_) => Ok(None),
+                Node::Src(_) => Ok(None),
+                Node::Whole => Ok(None),
+                Node::Left(_) => Ok(None),
+                Node::Right(_) => Ok(None),
+            },
+            Node::Whole => match other {
+                Node::Nothing => Ok(Some(self.copy(alloc)?)),
+                Node::One => Ok(None),
+                Node::Share(_) => Ok(None),
+                Node::Tok(_) => Ok(None),
+                Node::Src(_) => Ok(None),
+                Node::Both(_, _) => Ok(None),
+                Node::Whole => Ok(None),
+                Node::Left(_) => Ok(None),
+                Node::Right(_) => Ok(None),
+            },
+            Node::Left(x) => match other {
+                Node::Left(y) => match x.compose(alloc, y) {
+                    Ok(Some(z)) => Ok(Some(on_left(alloc, z)?)),
+                    Ok(None) => Ok(None),
+                    Err(e) => Err(e),
+                },
+                Node::Nothing => Ok(Some(self.copy(alloc)?)),
+                Node::One => Ok(None),
+                Node::Share(_) => Ok(None),
+                Node::Tok(_) => Ok(None),
+                Node::Src(_) => Ok(None),
+                Node::Both(_, _) => Ok(None),
+                Node::Whole => Ok(None),
+                Node::Right(_) => Ok(None),
+            },
+            Node::Right(x) => match other {
+                Node::Right(y) => match x.compose(alloc, y) {
+                    Ok(Some(z)) => Ok(Some(on_right(alloc, z)?)),
+                    Ok(None) => Ok(None),
+                    Err(e) => Err(e),
+                },
+                Node::Nothing => Ok(Some(self.copy(alloc)?)),
+                Node::One => Ok(None),
+                Node::Share(_) => Ok(None),
+                Node::Tok(_) => Ok(None),
+                Node::Src(_) => Ok(None),
+                Node::Both(_, _) => Ok(None),
+                Node::Whole => Ok(None),
+                Node::Left(_) => Ok(None),
+            },
+        }
+    }
+}
+
+fn shares(a: Fraction, b: Fraction) -> Result<Option<Node>, GuardError>
+    requires a { IsShare a }
+    requires b { IsShare b }
+    ensures { IsComposition node_view (share a) (share b) result }
+{
+    match sum(a, b)? {
+        Some(amount) => Ok(Some(Node::Share(amount))),
+        None => Ok(None),
+    }
+}
+
+fn tokens(j: u64, k: u64) -> Result<Option<Node>, GuardError>
+    ensures { IsComposition node_view (tok j) (tok k) result }
+{
+    match j.checked_add(k) {
+        Some(count) => Ok(Some(Node::Tok(count))),
+        None => Err(GuardError::Wide),
+    }
+}
+
+// The source with fewer tokens out, unless more come back than are out.
+fn given_back(out: u64, count: u64) -> Option<Node>
+    ensures from_source { IsComposition node_view (src out) (tok count) (Ok result) }
+    ensures from_tokens { IsComposition node_view (tok count) (src out) (Ok result) }
+{
+    if count <= out {
+        Some(Node::Src(out - count))
+    } else {
+        None
+    }
+}
+
+// An element of a sum that its left side has, where it isn't the unit.
+pub fn on_left(alloc: Global, side: Node) -> Result<Node, AllocError>
+    ensures { IfOk result (λ n. node_view n ≡ made_left (node_view side)) }
+{
+    if side.is_full() {
+        return Ok(Node::Whole);
+    }
+    Ok(Node::Left(Box::new(alloc, side)?))
+}
+
+// An element of a sum that its right side has, where it isn't the unit.
+pub fn on_right(alloc: Global, side: Node) -> Result<Node, AllocError>
+    ensures { IfOk result (λ n. node_view n ≡ made_right (node_view side)) }
+{
+    if side.is_full() {
+        return Ok(Node::Whole);
+    }
+    Ok(Node::Right(Box::new(alloc, side)?))
 }

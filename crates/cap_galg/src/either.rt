@@ -1,0 +1,103 @@
+ghost use Rattle.std.specs.Prelude.{◌≡◌, IfOk};
+
+use crate::error::GuardError;
+use crate::guard::Guard;
+use std::alloc::{AllocError, Global};
+
+/// A part of one of two guards, never of both. The units of both sides are one part, and so are the
+/// full parts of both sides.
+#[derive(Debug, Drop)]
+pub enum Either<A, B> {
+    Left(A),
+    Right(B),
+}
+
+impl<A: Guard, B: Guard> Guard for Either<A, B> {
+    ghost use Rattle.cap_galg.specs.Views.{side_element, SideKin};
+    ghost use Rattle.cap_galg.specs.Laws.Kin.{side-reflexive, side-symmetric, side-kin};
+
+    ghost element = { side_element A.element B.element };
+
+    ghost kin = { SideKin A.kin B.kin };
+
+    fn compose(
+        &self,
+        alloc: Global,
+        other: &Either<A, B>,
+    ) -> Result<Option<Either<A, B>>, GuardError> {
+        match self {
+            Either::Left(x) => match other {
+                Either::Left(y) => match x.compose(alloc, y) {
+                    Ok(Some(z)) => Ok(Some(Either::Left(z))),
+                    Ok(None) => Ok(None),
+                    Err(e) => Err(e),
+                },
+                Either::Right(y) => {
+                    if x.is_unit() {
+                        Ok(Some(Either::Right(y.copy(alloc)?)))
+                    } else if y.is_unit() {
+                        Ok(Some(Either::Left(x.copy(alloc)?)))
+                    } else {
+                        Ok(None)
+                    }
+                }
+            },
+            Either::Right(x) => match other {
+                Either::Right(y) => match x.compose(alloc, y) {
+                    Ok(Some(z)) => Ok(Some(Either::Right(z))),
+                    Ok(None) => Ok(None),
+                    Err(e) => Err(e),
+                },
+                Either::Left(y) => {
+                    if x.is_unit() {
+                        Ok(Some(Either::Left(y.copy(alloc)?)))
+                    } else if y.is_unit() {
+                        Ok(Some(Either::Right(x.copy(alloc)?)))
+                    } else {
+                        Ok(None)
+                    }
+                }
+            },
+        }
+    }
+
+    fn le(&self, other: &Either<A, B>) -> bool {
+        match self {
+            Either::Left(x) => match other {
+                Either::Left(y) => x.le(y),
+                Either::Right(y) => x.is_unit() || y.is_full(),
+            },
+            Either::Right(x) => match other {
+                Either::Right(y) => x.le(y),
+                Either::Left(y) => x.is_unit() || y.is_full(),
+            },
+        }
+    }
+
+    fn is_full(&self) -> bool {
+        match self {
+            Either::Left(x) => x.is_full(),
+            Either::Right(y) => y.is_full(),
+        }
+    }
+
+    fn is_unit(&self) -> bool {
+        match self {
+            Either::Left(x) => x.is_unit(),
+            Either::Right(y) => y.is_unit(),
+        }
+    }
+
+    fn copy(&self, alloc: Global) -> Result<Either<A, B>, AllocError> {
+        match self {
+            Either::Left(x) => Ok(Either::Left(x.copy(alloc)?)),
+            Either::Right(y) => Ok(Either::Right(y.copy(alloc)?)),
+        }
+    }
+
+    ghost kin_reflexive = { side-reflexive A.kin B.kin A.kin_reflexive B.kin_reflexive };
+
+    ghost kin_symmetric = { side-symmetric A.kin B.kin A.kin_symmetric B.kin_symmetric };
+
+    ghost lawful = { side-kin A.element B.element A.kin B.kin A.kin_reflexive B.kin_reflexive A.lawful B.lawful };
+}
