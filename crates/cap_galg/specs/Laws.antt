@@ -2,3 +2,4 @@ pub mod Fractions
 pub mod Composition
 pub mod Algebras
 pub mod Kin
+pub mod Atoms

@@ -3,4 +3,5 @@ pub mod Elements
 pub mod Algebras
 pub mod Views
 pub mod Answers
+pub mod Placed
 pub mod Laws

@@ -1,7 +1,9 @@
-ghost use Rattle.std.specs.Prelude.{◌≡◌, ◌<◌, IfOk, MatchResult};
-ghost use Rattle.cap_galg.specs.Views.{algebra_view, node_view};
+ghost use Rattle.std.specs.Prelude.{◌≡◌, ◌<◌, ◌-◌, ◌==◌, if◌then◌else◌, IfOk, MatchResult};
+ghost use Rattle.cap_galg.specs.Views.{algebra_view, node_view, amount_element, IsAmountOf};
+ghost use Rattle.cap_galg.specs.Placed.{IsPlaced};
+ghost use Rattle.cap_galg.specs.declared.elem.Placed.TheVariants.{Here, Past};
 ghost use Rattle.cap_galg.specs.Elements.{nothing};
-ghost use Rattle.cap_galg.specs.Algebras.{IsElement, full};
+ghost use Rattle.cap_galg.specs.Algebras.{IsElement, full, atoms, atom_algebra, atom_element};
 ghost use Rattle.cap_galg.specs.Laws.Kin.{element-prop};
 ghost use Rattle.cap_galg.specs.declared.error.GuardError.TheVariants.{OutOfMemory};
 
@@ -9,7 +11,7 @@ use crate::algebra::Algebra;
 use crate::error::GuardError;
 use crate::fraction::Fraction;
 use crate::guard::Guard;
-use crate::node::Node;
+use crate::node::{Node, on_left, on_right};
 use std::alloc::{AllocError, Global};
 
 /// How much of one guard: all of a unique one, a fraction of a divisible one, or, of a counting one,
@@ -28,6 +30,78 @@ pub struct Elem {
     algebra: Algebra,
     node: Node,
     ghost proper: { IsElement (algebra_view algebra) (node_view node) } by { element-prop (algebra_view algebra) (node_view node) },
+}
+
+// Where the walk for an atom has come to: the element with this atom, or how many atoms come before
+// it after those that were passed, and the atom's own element.
+#[derive(Drop)]
+enum Placed {
+    Here(Node),
+    Past(u32, Node),
+}
+
+fn amount_node(amount: Amount) -> Node
+    ensures { node_view result ≡ amount_element amount }
+{
+    match amount {
+        Amount::One => Node::One,
+        Amount::Share(fraction) => {
+            if fraction.num == 0 {
+                Node::Nothing
+            } else {
+                Node::Share(fraction)
+            }
+        }
+        Amount::Src(out) => Node::Src(out),
+        Amount::Tok(count) => {
+            if count == 0 {
+                Node::Nothing
+            } else {
+                Node::Tok(count)
+            }
+        }
+    }
+}
+
+// The element of the algebra in which one atom has an element, and no other has any.
+fn at_atom(alloc: Global, algebra: &Algebra, atom: u32, node: Node) -> Result<Placed, AllocError>
+    ensures { IfOk result (IsPlaced (algebra_view algebra.now) atom (node_view node)) }
+{
+    match algebra {
+        Algebra::Unique => Ok(at_leaf(atom, node)),
+        Algebra::Divisible => Ok(at_leaf(atom, node)),
+        Algebra::Counting => Ok(at_leaf(atom, node)),
+        Algebra::Pair(a, b) => match at_atom(alloc, a, atom, node)? {
+            Placed::Here(x) => {
+                let none = Box::new(alloc, Node::Nothing)?;
+                Ok(Placed::Here(Node::Both(Box::new(alloc, x)?, none)))
+            }
+            Placed::Past(rest, node) => match at_atom(alloc, b, rest, node)? {
+                Placed::Here(y) => {
+                    let none = Box::new(alloc, Node::Nothing)?;
+                    Ok(Placed::Here(Node::Both(none, Box::new(alloc, y)?)))
+                }
+                Placed::Past(rest, node) => Ok(Placed::Past(rest, node)),
+            },
+        },
+        Algebra::Either(a, b) => match at_atom(alloc, a, atom, node)? {
+            Placed::Here(x) => Ok(Placed::Here(on_left(alloc, x)?)),
+            Placed::Past(rest, node) => match at_atom(alloc, b, rest, node)? {
+                Placed::Here(y) => Ok(Placed::Here(on_right(alloc, y)?)),
+                Placed::Past(rest, node) => Ok(Placed::Past(rest, node)),
+            },
+        },
+    }
+}
+
+fn at_leaf(atom: u32, node: Node) -> Placed
+    ensures { result ≡ (if atom == 0 then Here node else Past (atom - 1) node) }
+{
+    if atom == 0 {
+        Placed::Here(node)
+    } else {
+        Placed::Past(atom - 1, node)
+    }
 }
 
 fn full_node(alloc: Global, algebra: &Algebra) -> Result<Node, AllocError>
@@ -65,6 +139,32 @@ impl Elem {
             algebra: algebra.copy(alloc)?,
             node,
         })
+    }
+
+    /// The element in which one atom has an amount, and no other atom has any. The atom counts from
+    /// 0, left to right, and the amount's form is that of the atom's declaration: a fraction in
+    /// lowest terms, and at most 1.
+    pub fn atom(
+        alloc: Global,
+        algebra: &Algebra,
+        atom: u32,
+        amount: Amount,
+    ) -> Result<Elem, GuardError>
+        requires exists { atom < atoms (algebra_view algebra.now) }
+        requires fits { IsAmountOf (atom_algebra (algebra_view algebra.now) atom) amount }
+        ensures { MatchResult result (λ e. (node_view e.node ≡ atom_element (algebra_view algebra.now) atom (amount_element amount)) × (algebra_view e.algebra ≡ algebra_view algebra.now)) (λ e. e ≡ OutOfMemory) }
+    {
+        let node = amount_node(amount);
+        if node.is_unit() {
+            return Elem::unit(alloc, algebra);
+        }
+        match at_atom(alloc, algebra, atom, node)? {
+            Placed::Here(node) => Ok(Elem {
+                algebra: algebra.copy(alloc)?,
+                node,
+            }),
+            Placed::Past(_, _) => unreachable!(),
+        }
     }
 }
 

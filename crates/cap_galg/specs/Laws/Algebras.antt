@@ -23,11 +23,11 @@ sound-of (sum a b) (left x) h = (sound-of a x h.0, h.1, h.2)
 sound-of (sum a b) (right y) h = (sound-of b y h.0, h.1, h.2)
 sound-of a x h = absurd h
 
-left-element : (a b : PlainAlgebra) (t : Bool) (z : Element) → is_full z ≡ t → IsElement a z → is_unit z ≡ false → IsElement (sum a b) (if t then whole else left z)
+pub left-element : (a b : PlainAlgebra) (t : Bool) (z : Element) → is_full z ≡ t → IsElement a z → is_unit z ≡ false → IsElement (sum a b) (if t then whole else left z)
 left-element a b true z e h u = tt
 left-element a b false z e h u = (h, u, e)
 
-right-element : (a b : PlainAlgebra) (t : Bool) (z : Element) → is_full z ≡ t → IsElement b z → is_unit z ≡ false → IsElement (sum a b) (if t then whole else right z)
+pub right-element : (a b : PlainAlgebra) (t : Bool) (z : Element) → is_full z ≡ t → IsElement b z → is_unit z ≡ false → IsElement (sum a b) (if t then whole else right z)
 right-element a b true z e h u = tt
 right-element a b false z e h u = (h, u, e)
 

@@ -101,11 +101,11 @@ pub not-unit : (x : Element) → is_unit x ≡ false → x ≢ nothing
 not-unit x u e = let v : true ≡ false = ap is_unit (sym e) ∙ u in cc
 
 -- nothing is made only of nothing
-side-not-unit : (b : Bool) (x : Element) → is_unit (if b then whole else left x) ≡ false
+pub side-not-unit : (b : Bool) (x : Element) → is_unit (if b then whole else left x) ≡ false
 side-not-unit true x = refl
 side-not-unit false x = refl
 
-side-not-unit_right : (b : Bool) (x : Element) → is_unit (if b then whole else right x) ≡ false
+pub side-not-unit_right : (b : Bool) (x : Element) → is_unit (if b then whole else right x) ≡ false
 side-not-unit_right true x = refl
 side-not-unit_right false x = refl
 

@@ -28,7 +28,7 @@ tokens-by : (b : Bool) (k : ℕ) → (k == 0) ≡ b → IsElement counting (if b
 tokens-by true k e = tt
 tokens-by false k e = let n = false-eq k 0 e in omega arith
 
-tokens-is : (k : ℕ) → IsElement counting (tokens k)
+pub tokens-is : (k : ℕ) → IsElement counting (tokens k)
 tokens-is k = tokens-by (k == 0) k refl
 
 counting-is : (x : Counting) → IsElement counting (counting_element x)
@@ -38,7 +38,7 @@ counting-is (Src n) = tt
 pub counting-kin : (x y : Counting) → AreKin (counting_element x) (counting_element y)
 counting-kin x y = (counting, lawful counting, counting-is x, counting-is y)
 
-amount-is : (b : Bool) (f : Fraction) → (f.num == 0) ≡ b → IsAmount f → IsElement divisible (if b then nothing else share f)
+pub amount-is : (b : Bool) (f : Fraction) → (f.num == 0) ≡ b → IsAmount f → IsElement divisible (if b then nothing else share f)
 amount-is true f e h = tt
 amount-is false f e h = record { amount = h; positive = (let n = false-eq f.num 0 e in omega arith) }
 
