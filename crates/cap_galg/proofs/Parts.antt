@@ -1,6 +1,7 @@
 -- Amounts and counts as elements.
 use Rattle.std.proofs.Common.{◌≡◌, ◌≢◌, ℕ, zero, suc, ◌+◌, ◌-◌, ◌*◌, ◌≤◌, ◌<◌, arith, refl, sym, ap, ◌∙◌, subst, ◌⊎◌, inl, inr, Bool, true, false, Option, Some, None, Result, Ok, Err}
-use Rattle.std.specs.Prelude.{nat_le, ◌==◌, if◌then◌else◌}
+use Rattle.std.specs.Prelude.{nat_le, nat_eq, ◌==◌, if◌then◌else◌, IsTrue}
+use Rattle.std.specs.Int.{IsGcd}
 use Rattle.std.proofs.lemmas.Bool.{cases_lt}
 use Rattle.cap_galg.specs.declared.fraction.Fraction.{Fraction}
 use Rattle.cap_galg.specs.declared.counting.Counting.{Counting}
@@ -10,7 +11,7 @@ use Rattle.cap_galg.specs.Fractions.{IsAmount, IsShare}
 use Rattle.cap_galg.specs.Elements.{Element, nothing, one, share, tok, src, tokens, amount, compose, is_wide, at_most, is_unit, is_full}
 use Rattle.cap_galg.specs.Views.{counting_element}
 use Rattle.cap_galg.specs.Answers.{IsComposition}
-use Rattle.cap_galg.specs.Laws.Fractions.{product-positive}
+use Rattle.cap_galg.specs.Laws.Fractions.{product-positive, amount-from, from-lowest}
 use Rattle.cap_galg.specs.Laws.Composition.{true_or_false, le-true, le-false, true-eq, eq-true, false-eq, compose-comm, sound-composed}
 
 -- ---- amounts
@@ -93,3 +94,6 @@ given-back_too x y n k r p q e =
     subst (λ v. IsComposition counting_element (counting_element v) (counting_element y) (Ok r)) (sym p)
     (subst (λ v. IsComposition counting_element (tokens k) (counting_element v) (Ok r)) (sym q)
     (subst (λ o. IsComposition counting_element (tokens k) (src n) (Ok o)) (sym e) (given n k (nat_le k n) (tokens k) (src n) (back n k ∙ compose-comm (src n) (tokens k)) (back-narrow_too n k))))
+
+pub amount-test : (f : Fraction) (g : ℕ) → 0 < f.den → f.num ≤ f.den → IsGcd f.num f.den g → (IsTrue (nat_eq g 1) → IsAmount f) × (IsAmount f → IsTrue (nat_eq g 1))
+amount-test f g h l is = (λ t. amount-from f g h l is (true-eq g 1 t), λ a. eq-true g 1 (from-lowest f g is a.lowest))

@@ -5,6 +5,8 @@ use Rattle.cap_galg.specs.Fractions.{IsShare, IsAmount}
 use Rattle.cap_galg.specs.Algebras.{PlainAlgebra, unique, divisible, counting, product, sum, IsElement}
 use Rattle.cap_galg.specs.declared.fraction.Fraction.{Fraction}
 use Rattle.cap_galg.specs.declared.algebra.Algebra.{Algebra, fold-Algebra}
+use Rattle.cap_galg.specs.declared.algebra.Atom.{Atom}
+use Rattle.cap_galg.specs.declared.algebra.Atom.TheVariants as atom
 use Rattle.cap_galg.specs.declared.algebra.Algebra.TheOpen.{Algebra-F}
 use Rattle.cap_galg.specs.declared.unique.Unique.{Unique}
 use Rattle.cap_galg.specs.declared.unique.Unique.TheVariants.{Unit as NoPart, One}
@@ -12,8 +14,8 @@ use Rattle.cap_galg.specs.declared.counting.Counting.{Counting}
 use Rattle.cap_galg.specs.declared.counting.Counting.TheVariants.{Tok, Src}
 use Rattle.cap_galg.specs.declared.either.Either.{Either}
 use Rattle.cap_galg.specs.declared.either.Either.TheVariants.{Left, Right}
-use Rattle.cap_galg.specs.declared.elem.Amount.{Amount}
-use Rattle.cap_galg.specs.declared.elem.Amount.TheVariants as part
+use Rattle.cap_galg.specs.declared.amount.Amount.{Amount}
+use Rattle.cap_galg.specs.declared.amount.Amount.TheVariants as part
 use Rattle.cap_galg.specs.declared.node.Node.{Node, fold-Node}
 use Rattle.cap_galg.specs.declared.node.Node.TheOpen.{Node-F}
 
@@ -26,6 +28,11 @@ algebra_step (Algebra-F.Either a b) = sum a.value b.value
 
 abbrev pub algebra_view : Algebra → PlainAlgebra
 algebra_view = fold-Algebra PlainAlgebra algebra_step
+
+abbrev pub atom_view : Atom → PlainAlgebra
+atom_view atom.Unique = unique
+atom_view atom.Divisible = divisible
+atom_view atom.Counting = counting
 
 abbrev pub node_step : Node-F Element → Element
 node_step Node-F.Nothing = nothing

@@ -1,6 +1,8 @@
-ghost use Rattle.std.specs.Prelude.{◌≡◌, ◌↔◌, IsTrue, IfOk};
-ghost use Rattle.cap_galg.specs.Views.{algebra_view};
+ghost use Rattle.std.specs.Prelude.{◌≡◌, ◌↔◌, ◌<◌, ◌≤◌, ◌+◌, ◌-◌, ◌==◌, if◌then◌else◌, IsTrue, IfOk, Ok, Err, MatchResult, MatchOption};
+ghost use Rattle.cap_galg.specs.Algebras.{atoms, atom_algebra};
+ghost use Rattle.cap_galg.specs.Views.{algebra_view, atom_view, IsAmountOf};
 
+use crate::amount::Amount;
 use std::alloc::{AllocError, Global};
 
 /// The guards of a region: one guard that is unique, divisible or counting, or two algebras of which a
@@ -15,7 +17,61 @@ pub enum Algebra {
     Either(Box<Algebra>, Box<Algebra>),
 }
 
+/// What kind of guard an atom of an algebra is.
+#[derive(Clone, Copy, Debug, PartialEq, Eq)]
+pub enum Atom {
+    Unique,
+    Divisible,
+    Counting,
+}
+
+// The kind of an atom, or else how many atoms it comes after the algebra's.
+fn atom_or_rest(algebra: &Algebra, atom: u32) -> Result<Atom, u32>
+    ensures { MatchResult result (λ k. (atom < atoms (algebra_view algebra.now)) × (atom_view k ≡ atom_algebra (algebra_view algebra.now) atom)) (λ rest. atoms (algebra_view algebra.now) + rest ≡ atom) }
+{
+    match algebra {
+        Algebra::Unique => leaf_or_rest(Atom::Unique, atom),
+        Algebra::Divisible => leaf_or_rest(Atom::Divisible, atom),
+        Algebra::Counting => leaf_or_rest(Atom::Counting, atom),
+        Algebra::Pair(a, b) => match atom_or_rest(a, atom) {
+            Ok(kind) => Ok(kind),
+            Err(rest) => atom_or_rest(b, rest),
+        },
+        Algebra::Either(a, b) => match atom_or_rest(a, atom) {
+            Ok(kind) => Ok(kind),
+            Err(rest) => atom_or_rest(b, rest),
+        },
+    }
+}
+
+fn leaf_or_rest(kind: Atom, atom: u32) -> Result<Atom, u32>
+    ensures { result ≡ (if atom == 0 then Ok kind else Err (atom - 1)) }
+{
+    if atom == 0 { Ok(kind) } else { Err(atom - 1) }
+}
+
 impl Algebra {
+    /// The kind of an atom, where the algebra has it.
+    pub fn atom(&self, atom: u32) -> Option<Atom>
+        ensures { MatchOption result (atoms (algebra_view self.now) ≤ atom) (λ k. (atom < atoms (algebra_view self.now)) × (atom_view k ≡ atom_algebra (algebra_view self.now) atom)) }
+    {
+        match atom_or_rest(self, atom) {
+            Ok(kind) => Some(kind),
+            Err(_) => None,
+        }
+    }
+
+    /// Whether the algebra has an atom, and an amount fits it: its form is that of the atom's
+    /// declaration, and a fraction is in lowest terms and at most 1.
+    pub fn accepts(&self, atom: u32, amount: Amount) -> bool
+        ensures { IsTrue result ↔ ((atom < atoms (algebra_view self.now)) × IsAmountOf (atom_algebra (algebra_view self.now) atom) amount) }
+    {
+        match self.atom(atom) {
+            Some(kind) => amount.fits(kind),
+            None => false,
+        }
+    }
+
     /// Whether two algebras are the same.
     pub fn same(&self, other: &Algebra) -> bool
         ensures { IsTrue result ↔ (algebra_view self.now ≡ algebra_view other.now) }

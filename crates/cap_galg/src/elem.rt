@@ -8,21 +8,12 @@ ghost use Rattle.cap_galg.specs.Laws.Kin.{element-prop};
 ghost use Rattle.cap_galg.specs.declared.error.GuardError.TheVariants.{OutOfMemory};
 
 use crate::algebra::Algebra;
+use crate::amount::Amount;
 use crate::error::GuardError;
 use crate::fraction::Fraction;
 use crate::guard::Guard;
 use crate::node::{Node, on_left, on_right};
 use std::alloc::{AllocError, Global};
-
-/// How much of one guard: all of a unique one, a fraction of a divisible one, or, of a counting one,
-/// the source with some tokens out, or some tokens.
-#[derive(Clone, Copy, Debug, PartialEq, Eq)]
-pub enum Amount {
-    One,
-    Share(Fraction),
-    Src(u64),
-    Tok(u64),
-}
 
 /// An element of a declared algebra.
 #[derive(Debug, Drop)]

@@ -1,4 +1,4 @@
-ghost use Rattle.std.specs.Prelude.{◌≡◌, ◌+◌, ◌*◌, ◌<◌, ◌≤◌, ◌^◌, nat_le, nat_eq, MatchResult};
+ghost use Rattle.std.specs.Prelude.{◌≡◌, ◌+◌, ◌*◌, ◌<◌, ◌≤◌, ◌^◌, nat_le, nat_eq, MatchResult, ◌↔◌, IsTrue};
 ghost use Rattle.std.specs.Int.{IsGcd};
 ghost use Rattle.cap_galg.specs.Fractions.{lowest, IsShare, IsAmount};
 ghost use Rattle.cap_galg.specs.Elements.{share};
@@ -12,6 +12,21 @@ use crate::error::GuardError;
 pub struct Fraction {
     pub num: u64,
     pub den: u64,
+}
+
+impl Fraction {
+    /// Whether the denominator isn't 0, and the fraction is in lowest terms and at most 1.
+    pub fn is_amount(self) -> bool
+        ensures { IsTrue result ↔ IsAmount self }
+    {
+        if self.den == 0 {
+            return false;
+        }
+        if self.num > self.den {
+            return false;
+        }
+        common_divisor(self.num as u128, self.den as u128) == 1
+    }
 }
 
 // The greatest common divisor.

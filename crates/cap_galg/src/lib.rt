@@ -3,6 +3,7 @@
 #![tactic(auto)]
 
 mod algebra;
+mod amount;
 mod answer;
 mod counting;
 mod divisible;
@@ -15,13 +16,17 @@ mod node;
 mod pair;
 mod unique;
 
-pub use algebra::Algebra;
+pub use algebra::{Algebra, Atom};
+pub use amount::Amount;
 pub use counting::Counting;
 pub use divisible::Divisible;
 pub use either::Either;
-pub use elem::{Amount, Elem};
+pub use elem::Elem;
 pub use error::GuardError;
 pub use fraction::Fraction;
 pub use guard::Guard;
 pub use pair::Pair;
 pub use unique::Unique;
+
+#[cfg(test)]
+mod tests;

@@ -5,8 +5,8 @@ use Rattle.std.proofs.lemmas.Bool.Decides.{nat_tests}
 use Rattle.cap_galg.specs.Elements.{Element, nothing, one, share, tok, src, both, whole, left, right, is_unit, is_full, on_left, on_right, amount, tokens}
 use Rattle.cap_galg.specs.Algebras.{PlainAlgebra, unique, divisible, counting, product, sum, IsElement, atoms, atom_algebra, at_atom, atom_element}
 use Rattle.cap_galg.specs.Views.{amount_element, IsAmountOf}
-use Rattle.cap_galg.specs.declared.elem.Amount.{Amount}
-use Rattle.cap_galg.specs.declared.elem.Amount.TheVariants as part
+use Rattle.cap_galg.specs.declared.amount.Amount.{Amount}
+use Rattle.cap_galg.specs.declared.amount.Amount.TheVariants as part
 use Rattle.cap_galg.specs.Laws.Composition.{true_or_false, side-not-unit, side-not-unit_right}
 use Rattle.cap_galg.specs.Laws.Algebras.{left-element, right-element}
 use Rattle.cap_galg.specs.Laws.Kin.{amount-is, tokens-is}

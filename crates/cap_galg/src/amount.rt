@@ -1,0 +1,39 @@
+ghost use Rattle.std.specs.Prelude.{◌↔◌, IsTrue};
+ghost use Rattle.cap_galg.specs.Views.{atom_view, IsAmountOf};
+
+use crate::algebra::Atom;
+use crate::fraction::Fraction;
+
+/// How much of one guard: all of a unique one, a fraction of a divisible one, or, of a counting one,
+/// the source with some tokens out, or some tokens.
+#[derive(Clone, Copy, Debug, PartialEq, Eq)]
+pub enum Amount {
+    One,
+    Share(Fraction),
+    Src(u64),
+    Tok(u64),
+}
+
+impl Amount {
+    /// Whether an amount is one of an atom of this kind. A fraction is, where its denominator isn't 0,
+    /// it is in lowest terms and at most 1.
+    pub fn fits(self, kind: Atom) -> bool
+        ensures { IsTrue result ↔ IsAmountOf (atom_view kind) self }
+    {
+        match kind {
+            Atom::Unique => matches!(self, Amount::One),
+            Atom::Divisible => match self {
+                Amount::Share(fraction) => fraction.is_amount(),
+                Amount::One => false,
+                Amount::Src(_) => false,
+                Amount::Tok(_) => false,
+            },
+            Atom::Counting => match self {
+                Amount::Src(_) => true,
+                Amount::Tok(_) => true,
+                Amount::One => false,
+                Amount::Share(_) => false,
+            },
+        }
+    }
+}
