@@ -1,5 +1,7 @@
-ghost use Rattle.std.specs.Prelude.{◌≡◌, ◌↔◌, ◌<◌, ◌≤◌, ◌+◌, ◌-◌, ◌==◌, if◌then◌else◌, IsTrue, IfOk, Ok, Err, MatchResult, MatchOption};
-ghost use Rattle.cap_galg.specs.Algebras.{atoms, atom_algebra};
+ghost use Rattle.std.specs.Prelude.{true, false, ◌≡◌, ◌↔◌, ◌<◌, ◌≤◌, ◌+◌, ◌-◌, ◌==◌, if◌then◌else◌, IsTrue, IfOk, Ok, Err, MatchResult, MatchOption};
+ghost use Rattle.cap_galg.specs.Algebras.{atoms, atom_algebra, are_apart};
+ghost use Rattle.cap_galg.specs.Placed.{HasPassed};
+ghost use Rattle.cap_galg.specs.declared.algebra.Passed.TheVariants.{Both, First, Second, Neither};
 ghost use Rattle.cap_galg.specs.Views.{algebra_view, atom_view, IsAmountOf};
 
 use crate::amount::Amount;
@@ -50,6 +52,65 @@ fn leaf_or_rest(kind: Atom, atom: u32) -> Result<Atom, u32>
     if atom == 0 { Ok(kind) } else { Err(atom - 1) }
 }
 
+// Where a walk for two atoms has come to: whether both were passed and stand on two sides of a sum,
+// or which one was passed, and how many atoms the other or both come after the algebra's.
+enum Passed {
+    Both(bool),
+    First(u32),
+    Second(u32),
+    Neither(u32, u32),
+}
+
+fn pass(algebra: &Algebra, i: u32, j: u32) -> Passed
+    ensures { HasPassed (algebra_view algebra.now) i j result }
+{
+    match algebra {
+        Algebra::Unique => pass_leaf(i, j),
+        Algebra::Divisible => pass_leaf(i, j),
+        Algebra::Counting => pass_leaf(i, j),
+        Algebra::Pair(a, b) => match pass(a, i, j) {
+            Passed::Both(apart) => Passed::Both(apart),
+            Passed::First(rest) => match atom_or_rest(b, rest) {
+                Ok(_) => Passed::Both(false),
+                Err(rest) => Passed::First(rest),
+            },
+            Passed::Second(rest) => match atom_or_rest(b, rest) {
+                Ok(_) => Passed::Both(false),
+                Err(rest) => Passed::Second(rest),
+            },
+            Passed::Neither(i, j) => pass(b, i, j),
+        },
+        Algebra::Either(a, b) => match pass(a, i, j) {
+            Passed::Both(apart) => Passed::Both(apart),
+            Passed::First(rest) => match atom_or_rest(b, rest) {
+                Ok(_) => Passed::Both(true),
+                Err(rest) => Passed::First(rest),
+            },
+            Passed::Second(rest) => match atom_or_rest(b, rest) {
+                Ok(_) => Passed::Both(true),
+                Err(rest) => Passed::Second(rest),
+            },
+            Passed::Neither(i, j) => pass(b, i, j),
+        },
+    }
+}
+
+fn pass_leaf(i: u32, j: u32) -> Passed
+    ensures { result ≡ (if i == 0 then (if j == 0 then Both false else First (j - 1)) else (if j == 0 then Second (i - 1) else Neither (i - 1) (j - 1))) }
+{
+    if i == 0 {
+        if j == 0 {
+            Passed::Both(false)
+        } else {
+            Passed::First(j - 1)
+        }
+    } else if j == 0 {
+        Passed::Second(i - 1)
+    } else {
+        Passed::Neither(i - 1, j - 1)
+    }
+}
+
 impl Algebra {
     /// The kind of an atom, where the algebra has it.
     pub fn atom(&self, atom: u32) -> Option<Atom>
@@ -69,6 +130,19 @@ impl Algebra {
         match self.atom(atom) {
             Some(kind) => amount.fits(kind),
             None => false,
+        }
+    }
+
+    /// Whether the algebra has two atoms, and they stand on two sides of a sum, so that no thread
+    /// holds a part of both.
+    pub fn are_apart(&self, i: u32, j: u32) -> bool
+        ensures { result ≡ are_apart (algebra_view self.now) i j }
+    {
+        match pass(self, i, j) {
+            Passed::Both(apart) => apart,
+            Passed::First(_) => false,
+            Passed::Second(_) => false,
+            Passed::Neither(_, _) => false,
         }
     }
 

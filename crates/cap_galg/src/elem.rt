@@ -121,6 +121,13 @@ impl Elem {
         })
     }
 
+    /// The algebra that the element is declared with.
+    pub fn algebra(&self) -> &Algebra
+        ensures { result.now ≡ self.now.algebra }
+    {
+        &self.algebra
+    }
+
     /// The full element, which composes with the unit alone.
     pub fn full(alloc: Global, algebra: &Algebra) -> Result<Elem, GuardError>
         ensures { MatchResult result (λ e. (node_view e.node ≡ full (algebra_view algebra.now)) × (algebra_view e.algebra ≡ algebra_view algebra.now)) (λ e. e ≡ OutOfMemory) }

@@ -1,6 +1,3 @@
-ghost use Rattle.std.specs.Prelude.{◌≡◌, IfOk};
-ghost use Rattle.cap_galg.specs.Views.{algebra_view};
-
 use super::*;
 use std::alloc::{AllocError, Global};
 use std::process::Abort;
@@ -25,18 +22,29 @@ fn part(
     algebra: &Algebra,
     atom: u32,
     amount: Amount,
-) -> Result<Elem, Fail>
-    ensures { IfOk result (λ e. algebra_view e.algebra ≡ algebra_view algebra.now) }
-{
+) -> Result<Elem, Fail> {
     assert!(rt; algebra.accepts(atom, amount));
     Ok(Elem::atom(alloc, algebra, atom, amount)?)
 }
 
+// What two elements compose to, where they do.
+fn join(rt: &impl Abort, alloc: Global, a: &Elem, b: &Elem) -> Result<Option<Elem>, Fail> {
+    assert!(rt; a.algebra().same(b.algebra()));
+    Ok(a.compose(alloc, b)?)
+}
+
+fn both(rt: &impl Abort, alloc: Global, a: &Elem, b: &Elem) -> Result<Elem, Fail> {
+    Ok(join(rt, alloc, a, b)?.ok_or("they compose")?)
+}
+
+fn at_most(rt: &impl Abort, a: &Elem, b: &Elem) -> bool {
+    assert!(rt; a.algebra().same(b.algebra()));
+    a.le(b)
+}
+
 // Whether two elements are equal: each is at most the other.
-fn equal(a: &Elem, b: &Elem) -> bool
-    requires { algebra_view a.now.algebra ≡ algebra_view b.now.algebra }
-{
-    a.le(b) && b.le(a)
+fn equal(rt: &impl Abort, a: &Elem, b: &Elem) -> bool {
+    at_most(rt, a, b) && at_most(rt, b, a)
 }
 
 // A fraction of the divisible guard beside a unique one, of which a thread holds parts of one alone.
@@ -47,10 +55,10 @@ fn halves_make_the_full_element_of_both_sides(rt: HostRuntime) -> Result<(), Fai
     let half = part(&rt, alloc, &algebra, 0, share(1, 2))?;
     let other = part(&rt, alloc, &algebra, 1, Amount::One)?;
     let full = Elem::full(alloc, &algebra)?;
-    let both = half.compose(alloc, &half)?.ok_or("halves compose")?;
-    assert!(rt; equal(&both, &other));
-    assert!(rt; equal(&both, &full));
-    assert!(rt; both.is_full());
+    let sum = both(&rt, alloc, &half, &half)?;
+    assert!(rt; equal(&rt, &sum, &other));
+    assert!(rt; equal(&rt, &sum, &full));
+    assert!(rt; sum.is_full());
     assert!(rt; !half.is_full());
     Ok(())
 }
@@ -62,11 +70,9 @@ fn sides_do_not_compose(rt: HostRuntime) -> Result<(), Fail> {
     let half = part(&rt, alloc, &algebra, 0, share(1, 2))?;
     let other = part(&rt, alloc, &algebra, 1, Amount::One)?;
     let unit = Elem::unit(alloc, &algebra)?;
-    assert!(rt; half.compose(alloc, &other)?.is_none());
-    let same = half
-        .compose(alloc, &unit)?
-        .ok_or("the unit composes with all")?;
-    assert!(rt; equal(&same, &half));
+    assert!(rt; join(&rt, alloc, &half, &other)?.is_none());
+    let same = both(&rt, alloc, &half, &unit)?;
+    assert!(rt; equal(&rt, &same, &half));
     assert!(rt; unit.is_unit());
     assert!(rt; !half.is_unit());
     Ok(())
@@ -80,10 +86,10 @@ fn tokens_come_back_to_their_source(rt: HostRuntime) -> Result<(), Fail> {
     let one_out = part(&rt, alloc, &algebra, 0, Amount::Src(1))?;
     let full = part(&rt, alloc, &algebra, 0, Amount::Src(0))?;
     let two = part(&rt, alloc, &algebra, 0, Amount::Tok(2))?;
-    let back = three_out.compose(alloc, &two)?.ok_or("two come back")?;
-    assert!(rt; equal(&back, &one_out));
-    assert!(rt; one_out.compose(alloc, &two)?.is_none());
-    assert!(rt; full.compose(alloc, &full)?.is_none());
+    let back = both(&rt, alloc, &three_out, &two)?;
+    assert!(rt; equal(&rt, &back, &one_out));
+    assert!(rt; join(&rt, alloc, &one_out, &two)?.is_none());
+    assert!(rt; join(&rt, alloc, &full, &full)?.is_none());
     assert!(rt; full.is_full());
     Ok(())
 }
@@ -94,6 +100,7 @@ fn a_sum_past_64_bits_is_wide(rt: HostRuntime) -> Result<(), Fail> {
     let algebra = Algebra::Divisible;
     let a = part(&rt, alloc, &algebra, 0, share(1, 18446744073709551615))?;
     let b = part(&rt, alloc, &algebra, 0, share(1, 18446744073709551614))?;
+    assert!(rt; a.algebra().same(b.algebra()));
     assert!(rt; matches!(a.compose(alloc, &b), Err(GuardError::Wide)));
     Ok(())
 }
@@ -102,24 +109,22 @@ fn a_sum_past_64_bits_is_wide(rt: HostRuntime) -> Result<(), Fail> {
 #[test]
 fn composes_in_a_product_of_a_sum(rt: HostRuntime) -> Result<(), Fail> {
     let alloc = rt.alloc();
-    let sum = either(alloc, Algebra::Divisible, Algebra::Counting)?;
-    let algebra = pair(alloc, Algebra::Unique, sum)?;
+    let side = either(alloc, Algebra::Divisible, Algebra::Counting)?;
+    let algebra = pair(alloc, Algebra::Unique, side)?;
     let one = part(&rt, alloc, &algebra, 0, Amount::One)?;
     let third = part(&rt, alloc, &algebra, 1, share(1, 3))?;
     let rest = part(&rt, alloc, &algebra, 1, share(2, 3))?;
     let token = part(&rt, alloc, &algebra, 2, Amount::Tok(1))?;
     let full = Elem::full(alloc, &algebra)?;
-    assert!(rt; one.compose(alloc, &one)?.is_none());
-    assert!(rt; third.compose(alloc, &token)?.is_none());
-    let whole = third.compose(alloc, &rest)?.ok_or("thirds compose")?;
-    assert!(rt; whole.compose(alloc, &token)?.is_none());
-    let all = whole
-        .compose(alloc, &one)?
-        .ok_or("parts of a product compose")?;
-    assert!(rt; equal(&all, &full));
+    assert!(rt; join(&rt, alloc, &one, &one)?.is_none());
+    assert!(rt; join(&rt, alloc, &third, &token)?.is_none());
+    let whole = both(&rt, alloc, &third, &rest)?;
+    assert!(rt; join(&rt, alloc, &whole, &token)?.is_none());
+    let all = both(&rt, alloc, &whole, &one)?;
+    assert!(rt; equal(&rt, &all, &full));
     assert!(rt; !whole.is_full());
-    assert!(rt; third.le(&full));
-    assert!(rt; !full.le(&third));
+    assert!(rt; at_most(&rt, &third, &full));
+    assert!(rt; !at_most(&rt, &full, &third));
     Ok(())
 }
 
@@ -132,13 +137,11 @@ fn composes_in_a_sum_of_a_product(rt: HostRuntime) -> Result<(), Fail> {
     let one = part(&rt, alloc, &algebra, 0, Amount::One)?;
     let source = part(&rt, alloc, &algebra, 1, Amount::Src(0))?;
     let other = part(&rt, alloc, &algebra, 2, Amount::One)?;
-    assert!(rt; one.compose(alloc, &other)?.is_none());
+    assert!(rt; join(&rt, alloc, &one, &other)?.is_none());
     assert!(rt; !one.is_full());
-    let both = one
-        .compose(alloc, &source)?
-        .ok_or("parts of a product compose")?;
-    assert!(rt; equal(&both, &other));
-    assert!(rt; one.le(&other));
+    let sum = both(&rt, alloc, &one, &source)?;
+    assert!(rt; equal(&rt, &sum, &other));
+    assert!(rt; at_most(&rt, &one, &other));
     Ok(())
 }
 
@@ -190,6 +193,8 @@ fn finds_the_kinds_of_atoms(rt: HostRuntime) -> Result<(), Fail> {
     assert!(rt; Amount::Tok(7).fits(Atom::Counting));
     assert!(rt; !share(2, 4).fits(Atom::Divisible));
     assert!(rt; !algebra.accepts(1, share(3, 2)));
+    assert!(rt; algebra.are_apart(1, 2) && algebra.are_apart(2, 1));
+    assert!(rt; !algebra.are_apart(0, 2) && !algebra.are_apart(1, 3));
     let again = algebra.copy(alloc)?;
     assert!(rt; again.same(&algebra));
     assert!(rt; !again.same(&Algebra::Unique));

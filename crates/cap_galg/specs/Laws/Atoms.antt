@@ -3,7 +3,7 @@ use Rattle.std.proofs.Common.{◌≡◌, ℕ, zero, suc, ◌+◌, ◌-◌, ◌<�
 use Rattle.std.specs.Prelude.{nat_lt, ◌==◌, ◌&&◌, if◌then◌else◌}
 use Rattle.std.proofs.lemmas.Bool.Decides.{nat_tests}
 use Rattle.cap_galg.specs.Elements.{Element, nothing, one, share, tok, src, both, whole, left, right, is_unit, is_full, on_left, on_right, amount, tokens}
-use Rattle.cap_galg.specs.Algebras.{PlainAlgebra, unique, divisible, counting, product, sum, IsElement, atoms, atom_algebra, at_atom, atom_element}
+use Rattle.cap_galg.specs.Algebras.{PlainAlgebra, unique, divisible, counting, product, sum, IsElement, atoms, atom_algebra, at_atom, atom_element, parted, are_apart}
 use Rattle.cap_galg.specs.Views.{amount_element, IsAmountOf}
 use Rattle.cap_galg.specs.declared.amount.Amount.{Amount}
 use Rattle.cap_galg.specs.declared.amount.Amount.TheVariants as part
@@ -76,3 +76,41 @@ placed-is a b i m x y u l h e f g p q =
     let k : IsElement (atom_algebra a i) x = subst (IsElement (atom_algebra a i)) (sym e) (amount-element (atom_algebra a i) m h) in
     let r = (at_atom-part a i x l k (sym f ∙ g)).element in
     subst (λ c. IsElement c y) (sym q) (subst (IsElement a) (sym p) r)
+
+-- ---- atoms that stand apart
+
+and-no : (a : Bool) → (a && false) ≡ false
+and-no true = refl
+and-no false = refl
+
+parted-second : (is_sum : Bool) (l r : ℕ → ℕ → Bool) (n m i j : ℕ) → n + m ≤ j → r (i - n) (j - n) ≡ false → parted is_sum l r n m i j ≡ false
+parted-second is_sum l r n m i j h e =
+    let a : n ≤ j = omega arith in
+    let b : m ≤ j - n = omega arith in
+    elim (true_or_false (nat_lt i n)) [
+      | inl t ↦ rw (t, lt-false j n a, lt-false (j - n) m b) (and-no is_sum)
+      | inr f ↦ rw (f, lt-false j n a) e
+    ]
+
+parted-first : (is_sum : Bool) (l r : ℕ → ℕ → Bool) (n m i j : ℕ) → n + m ≤ i → r (i - n) (j - n) ≡ false → parted is_sum l r n m i j ≡ false
+parted-first is_sum l r n m i j h e =
+    let a : n ≤ i = omega arith in
+    let b : m ≤ i - n = omega arith in
+    elim (true_or_false (nat_lt j n)) [
+      | inl t ↦ rw (lt-false i n a, t, lt-false (i - n) m b) (and-no is_sum)
+      | inr f ↦ rw (lt-false i n a, f) e
+    ]
+
+pub apart-second : (a : PlainAlgebra) (i j : ℕ) → atoms a ≤ j → are_apart a i j ≡ false
+apart-second unique i j h = refl
+apart-second divisible i j h = refl
+apart-second counting i j h = refl
+apart-second (product a b) i j h = parted-second false (are_apart a) (are_apart b) (atoms a) (atoms b) i j h (apart-second b (i - atoms a) (j - atoms a) (omega arith))
+apart-second (sum a b) i j h = parted-second true (are_apart a) (are_apart b) (atoms a) (atoms b) i j h (apart-second b (i - atoms a) (j - atoms a) (omega arith))
+
+pub apart-first : (a : PlainAlgebra) (i j : ℕ) → atoms a ≤ i → are_apart a i j ≡ false
+apart-first unique i j h = refl
+apart-first divisible i j h = refl
+apart-first counting i j h = refl
+apart-first (product a b) i j h = parted-first false (are_apart a) (are_apart b) (atoms a) (atoms b) i j h (apart-first b (i - atoms a) (j - atoms a) (omega arith))
+apart-first (sum a b) i j h = parted-first true (are_apart a) (are_apart b) (atoms a) (atoms b) i j h (apart-first b (i - atoms a) (j - atoms a) (omega arith))
