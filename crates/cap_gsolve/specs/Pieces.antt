@@ -1,0 +1,59 @@
+-- Symbolic guards: the parts of guards that are held of regions, with amounts that are terms.
+use Rattle.std.specs.Prelude.{◌≡◌, ℕ, zero, suc, ◌+◌, List, [], ◌∷◌, ◌++◌, map, Bool, true, false, ◌&&◌, ◌||◌, ◌==◌, ℤ, pos, negsuc, Option, Some, None}
+use Rattle.cap_lin.specs.Linear.{Linear, number}
+use Rattle.cap_galg.specs.Algebras.{PlainAlgebra, unique, divisible, counting, product, sum, atoms}
+use Rattle.cap_gsolve.specs.declared.piece.Form.{Form}
+use Rattle.cap_gsolve.specs.declared.piece.Form.TheVariants.{One, Share, Src, Tok}
+use Rattle.cap_gsolve.specs.declared.piece.Piece.{Piece}
+
+abbrev pub piece : Linear → ℕ → ℕ → Form → Piece
+piece r k i f = record { region = r; kind = k; atom = i; form = f }
+
+-- whether two terms are the same
+abbrev pub same_number : ℤ → ℤ → Bool
+same_number (pos m) (pos n) = m == n
+same_number (negsuc m) (negsuc n) = m == n
+same_number _ _ = false
+
+abbrev pub same_parts : List (ℕ × ℤ) → List (ℕ × ℤ) → Bool
+same_parts [] [] = true
+same_parts (p ∷ ps) (q ∷ qs) = (p.0 == q.0) && same_number p.1 q.1 && same_parts ps qs
+same_parts _ _ = false
+
+unfoldable pub same_term : Linear → Linear → Bool
+same_term s t = same_number s.constant t.constant && same_parts s.parts t.parts
+
+-- whether a piece is of a region's guards, and whether two pieces are of one atom of one region's guards
+abbrev pub of_guards : Linear → ℕ → Piece → Bool
+of_guards r k p = same_term p.region r && (p.kind == k)
+
+abbrev pub same_part : Piece → Piece → Bool
+same_part q p = of_guards p.region p.kind q && (q.atom == p.atom)
+
+-- a constant of at least 1
+abbrev pub is_above_zero : ℤ → Bool
+is_above_zero (pos zero) = false
+is_above_zero (pos (suc n)) = true
+is_above_zero (negsuc n) = false
+
+abbrev pub has_no_parts : List (ℕ × ℤ) → Bool
+has_no_parts [] = true
+has_no_parts (p ∷ ps) = false
+
+-- surely some part of the guard, whatever the values of the variables
+abbrev pub is_surely_some : Form → Bool
+is_surely_some One = true
+is_surely_some (Share a) = true
+is_surely_some (Src n) = true
+is_surely_some (Tok k) = has_no_parts k.parts && is_above_zero k.constant
+
+-- the pieces that hold all of a guard: of a sum, its left side's
+abbrev pub full_forms : PlainAlgebra → ℕ → List (ℕ × Form)
+full_forms unique i = (i, One) ∷ []
+full_forms divisible i = (i, Share (number (pos 1))) ∷ []
+full_forms counting i = (i, Src (number (pos 0))) ∷ []
+full_forms (product a b) i = full_forms a i ++ full_forms b (i + atoms a)
+full_forms (sum a b) i = full_forms a i
+
+abbrev pub full_pieces : PlainAlgebra → Linear → ℕ → List Piece
+full_pieces a r k = map (λ p. piece r k p.0 p.1) (full_forms a 0)

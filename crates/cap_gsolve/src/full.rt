@@ -1,0 +1,93 @@
+ghost use Rattle.std.specs.Prelude.{◌≡◌, ◌≤◌, ◌+◌, ◌^◌, ◌++◌, ◌∷◌, [], map, MatchResult};
+ghost use Rattle.cap_lin.specs.declared.error.LinError.TheVariants.{OutOfMemory};
+ghost use Rattle.cap_galg.specs.Algebras.{atoms};
+ghost use Rattle.cap_galg.specs.Views.{algebra_view};
+ghost use Rattle.cap_gsolve.specs.Pieces.{piece, full_forms, full_pieces as pieces_of_all};
+
+use crate::piece::{Form, Piece};
+use cap_galg::Algebra;
+use cap_lin::{LinError, Term};
+use std::alloc::Global;
+
+/// The pieces that hold all of a region's guards: all of each atom, and of a sum its left side. The
+/// numbers of atoms are within 32 bits. It is never Wide.
+pub fn full_pieces(
+    alloc: Global,
+    algebra: &Algebra,
+    region: &Term,
+    kind: u32,
+) -> Result<Vec<Piece>, LinError>
+    requires { atoms (algebra_view algebra.now) ≤ 2 ^ 32 }
+    ensures { MatchResult result (λ ps. ps.items ≡ pieces_of_all (algebra_view algebra.now) region.now kind) (λ e. e ≡ OutOfMemory) }
+{
+    let mut pieces = Vec::new(alloc);
+    push_full(alloc, algebra, region, kind, 0, &mut pieces)?;
+    Ok(pieces)
+}
+
+fn push_full(
+    alloc: Global,
+    algebra: &Algebra,
+    region: &Term,
+    kind: u32,
+    first: u64,
+    pieces: &mut Vec<Piece>,
+) -> Result<u64, LinError>
+    requires { first + atoms (algebra_view algebra.now) ≤ 2 ^ 32 }
+    ensures { MatchResult result (λ next. (next ≡ first + atoms (algebra_view algebra.now)) × (pieces.new.items ≡ pieces.old.items ++ map (λ p. piece region.now kind p.0 p.1) (full_forms (algebra_view algebra.now) first))) (λ e. e ≡ OutOfMemory) }
+{
+    match algebra {
+        Algebra::Unique => push(alloc, region, kind, first, Form::One, pieces),
+        Algebra::Divisible => {
+            let all = Form::Share(Term::constant(alloc, 1));
+            push(alloc, region, kind, first, all, pieces)
+        }
+        Algebra::Counting => {
+            let all = Form::Src(Term::constant(alloc, 0));
+            push(alloc, region, kind, first, all, pieces)
+        }
+        Algebra::Pair(a, b) => {
+            let second = push_full(alloc, a, region, kind, first, pieces)?;
+            push_full(alloc, b, region, kind, second, pieces)
+        }
+        Algebra::Either(a, b) => {
+            let second = push_full(alloc, a, region, kind, first, pieces)?;
+            Ok(past(b, second))
+        }
+    }
+}
+
+fn push(
+    alloc: Global,
+    region: &Term,
+    kind: u32,
+    atom: u64,
+    form: Form,
+    pieces: &mut Vec<Piece>,
+) -> Result<u64, LinError>
+    requires { atom + 1 ≤ 2 ^ 32 }
+    ensures { MatchResult result (λ next. (next ≡ atom + 1) × (pieces.new.items ≡ pieces.old.items ++ (piece region.now kind atom form ∷ []))) (λ e. e ≡ OutOfMemory) }
+{
+    let region = region.copy(alloc)?;
+    pieces.push(Piece {
+        region,
+        kind,
+        atom: atom as u32,
+        form,
+    })?;
+    Ok(atom + 1)
+}
+
+// The number behind the algebra's atoms, where they begin at a number.
+fn past(algebra: &Algebra, first: u64) -> u64
+    requires { first + atoms (algebra_view algebra.now) ≤ 2 ^ 32 }
+    ensures { result ≡ first + atoms (algebra_view algebra.now) }
+{
+    match algebra {
+        Algebra::Unique => first + 1,
+        Algebra::Divisible => first + 1,
+        Algebra::Counting => first + 1,
+        Algebra::Pair(a, b) => past(b, past(a, first)),
+        Algebra::Either(a, b) => past(b, past(a, first)),
+    }
+}
