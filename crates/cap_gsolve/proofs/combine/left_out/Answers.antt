@@ -1,0 +1,21 @@
+use Rattle.std.proofs.lemmas.Result.{err_from_is_err_and}
+use Rattle.cap_lin.specs.Steps.{minus_steps}
+use Rattle.cap_gsolve.proofs.Steps.{earlier-error, later-error, both-narrow}
+use Rattle.cap_gsolve.proofs.combine.left_out.Goals as goal
+
+pub returns-in_err-rest : goal.returns-in_err-rest
+returns-in_err-rest c =
+    let p = err_from_is_err_and c.from_residual.result c.from_residual.ensures.1 in
+    rw (p.1, p.2) (earlier-error _ (minus_steps c.args.out.now c.args.back.now) _ c.in_err-rest.ensures)
+
+pub returns-in_err-push_row : goal.returns-in_err-push_row
+returns-in_err-push_row c =
+    let p = err_from_is_err_and c.from_residual-in_err-push_row.result c.from_residual-in_err-push_row.ensures.1 in
+    let m = c.in_ok-rest.ensures in
+    rw (p.1, p.2) (later-error _ (minus_steps c.args.out.now c.args.back.now) _ m.0 c.in_err-push_row.ensures)
+
+pub returns : goal.returns
+returns c =
+    let m = c.in_ok-rest.ensures in
+    let n = c.in_ok-push_row.ensures in
+    (both-narrow (minus_steps c.args.out.now c.args.back.now) _ m.0 n.0, (m.1, n.1))

@@ -1,0 +1,85 @@
+ghost use Rattle.std.specs.Prelude.{◌≡◌, ◌++◌, ◌∷◌, []};
+ghost use Rattle.cap_lin.specs.Linear.{plus, minus, number};
+ghost use Rattle.cap_lin.specs.Steps.{plus_steps, minus_steps};
+ghost use Rattle.cap_lin.specs.Rows.{row_of, row_of_steps};
+ghost use Rattle.cap_lin.specs.declared.row.Sort.TheVariants.{Int, Perm};
+ghost use Rattle.cap_lin.specs.declared.row.Op.TheVariants.{Le as AtMost};
+ghost use Rattle.cap_gsolve.specs.Made.{IsMade};
+ghost use Rattle.cap_gsolve.specs.Merge.{one_term, false_row, false_steps, combined, combined_rows, combined_steps};
+
+use crate::piece::Form;
+use crate::rows::{push_false, push_row};
+use cap_lin::{LinError, Op, Row, Sort, Term};
+use std::alloc::Global;
+
+// The sum of two shares, and the row that it is at most 1.
+fn sum_of_shares(alloc: Global, rows: &mut Vec<Row>, a: &Term, b: &Term) -> Result<Term, LinError>
+    ensures { IsMade result (plus_steps a.now b.now ++ row_of_steps (plus a.now b.now) AtMost one_term Perm) (λ t. (t ≡ plus a.now b.now) × (rows.new.items ≡ rows.old.items ++ (row_of (plus a.now b.now) AtMost one_term Perm ∷ []))) }
+{
+    let sum = a.add(alloc, b)?;
+    let one = Term::constant(alloc, 1);
+    push_row(alloc, rows, &sum, Op::Le, &one, Sort::Perm)?;
+    Ok(sum)
+}
+
+// The tokens that are out after some came back, and the row that they were out.
+fn left_out(alloc: Global, rows: &mut Vec<Row>, out: &Term, back: &Term) -> Result<Term, LinError>
+    ensures { IsMade result (minus_steps out.now back.now ++ row_of_steps back.now AtMost out.now Int) (λ t. (t ≡ minus out.now back.now) × (rows.new.items ≡ rows.old.items ++ (row_of back.now AtMost out.now Int ∷ []))) }
+{
+    let rest = out.minus(alloc, back)?;
+    push_row(alloc, rows, back, Op::Le, out, Sort::Int)?;
+    Ok(rest)
+}
+
+// The form that is there, where no piece holds both.
+fn kept(alloc: Global, rows: &mut Vec<Row>, there: &Form) -> Result<Form, LinError>
+    ensures { IsMade result false_steps (λ f. (f ≡ there.now) × (rows.new.items ≡ rows.old.items ++ (false_row ∷ []))) }
+{
+    let form = there.copy(alloc)?;
+    push_false(alloc, rows)?;
+    Ok(form)
+}
+
+// What the form that is there and a new one become, and the rows that then hold.
+pub fn combine(
+    alloc: Global,
+    rows: &mut Vec<Row>,
+    there: &Form,
+    new: &Form,
+) -> Result<Form, LinError>
+    ensures { IsMade result (combined_steps there.now new.now) (λ f. (f ≡ combined there.now new.now) × (rows.new.items ≡ rows.old.items ++ combined_rows there.now new.now)) }
+{
+    match there {
+        Form::One => kept(alloc, rows, there),
+        Form::Share(a) => match new {
+            Form::Share(b) => match sum_of_shares(alloc, rows, a, b) {
+                Ok(sum) => Ok(Form::Share(sum)),
+                Err(e) => Err(e),
+            },
+            Form::One => kept(alloc, rows, there),
+            Form::Src(_) => kept(alloc, rows, there),
+            Form::Tok(_) => kept(alloc, rows, there),
+        },
+        Form::Src(out) => match new {
+            Form::Tok(back) => match left_out(alloc, rows, out, back) {
+                Ok(rest) => Ok(Form::Src(rest)),
+                Err(e) => Err(e),
+            },
+            Form::One => kept(alloc, rows, there),
+            Form::Share(_) => kept(alloc, rows, there),
+            Form::Src(_) => kept(alloc, rows, there),
+        },
+        Form::Tok(count) => match new {
+            Form::Src(out) => match left_out(alloc, rows, out, count) {
+                Ok(rest) => Ok(Form::Src(rest)),
+                Err(e) => Err(e),
+            },
+            Form::Tok(more) => match count.add(alloc, more) {
+                Ok(sum) => Ok(Form::Tok(sum)),
+                Err(e) => Err(e),
+            },
+            Form::One => kept(alloc, rows, there),
+            Form::Share(_) => kept(alloc, rows, there),
+        },
+    }
+}
