@@ -1,4 +1,5 @@
 ghost use Rattle.std.specs.Prelude.{◌≡◌, IfOk};
+ghost use Rattle.cap_gsolve.specs.Pieces.{of_guards, same_part, is_surely_some};
 
 use cap_lin::Term;
 use std::alloc::{AllocError, Global};
@@ -14,6 +15,18 @@ pub enum Form {
 }
 
 impl Form {
+    /// Whether it is some part of the guard, whatever the values of the variables.
+    pub fn is_surely_some(&self) -> bool
+        ensures { result ≡ is_surely_some self.now }
+    {
+        match self {
+            Form::One => true,
+            Form::Share(_) => true,
+            Form::Src(_) => true,
+            Form::Tok(count) => count.parts().is_empty() && count.constant_part() >= 1,
+        }
+    }
+
     /// The same form once more.
     pub fn copy(&self, alloc: Global) -> Result<Form, AllocError>
         ensures { IfOk result (λ f. f ≡ self.now) }
@@ -38,6 +51,20 @@ pub struct Piece {
 }
 
 impl Piece {
+    /// Whether the piece is of a region's guards of a kind, the region by the same term.
+    pub fn is_of(&self, region: &Term, kind: u32) -> bool
+        ensures { result ≡ of_guards region.now kind self.now }
+    {
+        self.region.same(region) && self.kind == kind
+    }
+
+    /// Whether two pieces are of one atom of one region's guards.
+    pub fn is_part_of(&self, other: &Piece) -> bool
+        ensures { result ≡ same_part self.now other.now }
+    {
+        self.is_of(&other.region, other.kind) && self.atom == other.atom
+    }
+
     /// The same piece once more.
     pub fn copy(&self, alloc: Global) -> Result<Piece, AllocError>
         ensures { IfOk result (λ p. p ≡ self.now) }
