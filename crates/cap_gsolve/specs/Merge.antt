@@ -1,5 +1,6 @@
 -- One more piece with those that are there, the rows that then hold, and the results on the way to them, in order.
 use Rattle.std.specs.Prelude.{ℕ, List, [], ◌∷◌, ◌++◌, Bool, true, false, ◌==◌, ◌&&◌, ◌||◌, if◌then◌else◌, ℤ, pos, negsuc, Option, Some, None}
+use Rattle.std.specs.List.{list_any}
 use Rattle.cap_lin.specs.Linear.{Linear, number, plus, minus}
 use Rattle.cap_lin.specs.Steps.{Step, plus_steps, minus_steps}
 use Rattle.cap_lin.specs.Rows.{row_of, row_of_steps}
@@ -83,9 +84,11 @@ met_steps None f = lone_steps f
 met_steps (Some g) f = combined_steps g f
 
 -- a piece that is surely some part stands on the other side of a sum
-unfoldable pub clashes : PlainAlgebra → List Piece → Linear → ℕ → ℕ → Form → Bool
-clashes a [] r k i f = false
-clashes a (q ∷ qs) r k i f = (of_guards r k q && are_apart a i q.atom && is_surely_some f && is_surely_some q.form) || clashes a qs r k i f
+abbrev pub clashes_at : PlainAlgebra → Linear → ℕ → ℕ → Form → Piece → Bool
+clashes_at a r k i f q = of_guards r k q && (are_apart a i q.atom && (is_surely_some f && is_surely_some q.form))
+
+abbrev pub clashes : PlainAlgebra → List Piece → Linear → ℕ → ℕ → Form → Bool
+clashes a ps r k i f = list_any (clashes_at a r k i f) ps
 
 abbrev pub clash_rows : Bool → List Row
 clash_rows true = false_row ∷ []

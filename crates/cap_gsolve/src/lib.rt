@@ -1,6 +1,7 @@
 //! Symbolic guards: parts of guards whose amounts are linear terms.
 #![tactic(auto)]
 
+mod clash;
 mod combine;
 mod full;
 mod piece;
