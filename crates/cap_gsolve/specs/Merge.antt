@@ -1,5 +1,5 @@
 -- One more piece with those that are there, the rows that then hold, and the results on the way to them, in order.
-use Rattle.std.specs.Prelude.{ℕ, List, [], ◌∷◌, ◌++◌, Bool, true, false, ◌==◌, ◌&&◌, ◌||◌, if◌then◌else◌, ℤ, pos, negsuc, Option, Some, None}
+use Rattle.std.specs.Prelude.{ℕ, List, [], ◌∷◌, ◌++◌, Bool, true, false, ◌==◌, ◌&&◌, ◌||◌, if◌then◌else◌, ℤ, pos, negsuc, Option, Some, None, option_map, position, slice_index_or, slice_set}
 use Rattle.std.specs.List.{list_any}
 use Rattle.cap_lin.specs.Linear.{Linear, number, plus, minus}
 use Rattle.cap_lin.specs.Steps.{Step, plus_steps, minus_steps}
@@ -70,10 +70,15 @@ abbrev pub lone_steps : Form → List Step
 lone_steps (Share a) = row_of_steps a AtMost one_term Perm
 lone_steps f = []
 
--- the form that is there of a part
-unfoldable pub there : List Piece → Piece → Option Form
-there [] p = None
-there (q ∷ qs) p = if same_part q p then Some q.form else there qs p
+-- the place of the piece of a part, and the form that stands there
+abbrev pub place : List Piece → Piece → Option ℕ
+place ps p = position (λ q. same_part q p) ps
+
+abbrev pub form_at : List Piece → Piece → ℕ → Form
+form_at ps p i = (slice_index_or ps i p).form
+
+abbrev pub there : List Piece → Piece → Option Form
+there ps p = option_map (form_at ps p) (place ps p)
 
 abbrev pub met_rows : Option Form → Form → List Row
 met_rows None f = lone_rows f
@@ -99,15 +104,21 @@ clash_steps true = false_steps
 clash_steps false = []
 
 -- in the place of the piece of the same part, or else as the last
-unfoldable pub merged : List Piece → Piece → List Piece
-merged [] p = p ∷ []
-merged (q ∷ qs) p = if same_part q p then record q { form = combined q.form p.form } ∷ qs else q ∷ merged qs p
+abbrev pub joined : List Piece → Piece → ℕ → List Piece
+joined ps p i = slice_set ps i (record p { form = combined (form_at ps p i) p.form })
+
+abbrev pub merged_at : List Piece → Piece → Option ℕ → List Piece
+merged_at ps p None = ps ++ (p ∷ [])
+merged_at ps p (Some i) = joined ps p i
+
+abbrev pub merged : List Piece → Piece → List Piece
+merged ps p = merged_at ps p (place ps p)
 
 abbrev pub clash : PlainAlgebra → List Piece → Piece → Bool
 clash a ps p = clashes a ps p.region p.kind p.atom p.form
 
 unfoldable pub merge_rows : PlainAlgebra → List Piece → Piece → List Row
-merge_rows a ps p = added_rows p.form ++ met_rows (there ps p) p.form ++ clash_rows (clash a ps p)
+merge_rows a ps p = added_rows p.form ++ (met_rows (there ps p) p.form ++ clash_rows (clash a ps p))
 
 unfoldable pub merge_steps : PlainAlgebra → List Piece → Piece → List Step
-merge_steps a ps p = added_steps p.form ++ met_steps (there ps p) p.form ++ clash_steps (clash a ps p)
+merge_steps a ps p = added_steps p.form ++ (met_steps (there ps p) p.form ++ clash_steps (clash a ps p))

@@ -4,8 +4,10 @@
 mod clash;
 mod combine;
 mod full;
+mod merging;
 mod piece;
 mod rows;
 
 pub use full::full_pieces;
+pub use merging::merge;
 pub use piece::{Form, Piece};

@@ -13,17 +13,17 @@ use Rattle.cap_gsolve.proofs.combine.sum_of_shares.Goals as goal
 pub returns-in_err-sum : goal.returns-in_err-sum
 returns-in_err-sum c =
     let p = err_from_is_err_and c.from_residual.result c.from_residual.ensures.1 in
-    rw (p.1, p.2) (earlier-error _ (plus_steps c.args.a.now c.args.b.now) _ c.in_err-sum.ensures)
+    rw (p.1, p.2) (earlier-error _ (plus_steps c.args.a.now c.args.b.now) _ c.in_err-sum.ensures.exact)
 
 pub returns-in_err-push_row : goal.returns-in_err-push_row
 returns-in_err-push_row c =
     let p = err_from_is_err_and c.from_residual-in_err-push_row.result c.from_residual-in_err-push_row.ensures.1 in
-    let m = c.in_ok-sum.ensures in
+    let m = c.in_ok-sum.ensures.exact in
     let h : Explains c.in_err-push_row.field-0.0 (row_of_steps c.in_ok-sum.sum AtMost one_term Perm) = rw c.constant-one.ensures at c.in_err-push_row.ensures in
     rw (p.1, p.2) (later-error _ (plus_steps c.args.a.now c.args.b.now) _ m.0 (subst (λ t. Explains c.in_err-push_row.field-0.0 (row_of_steps t AtMost one_term Perm)) m.1 h))
 
 pub returns : goal.returns
 returns c =
-    let m = c.in_ok-sum.ensures in
+    let m = c.in_ok-sum.ensures.exact in
     let n = rw (c.constant-one.ensures, m.1) at c.in_ok-push_row.ensures in
     (both-narrow (plus_steps c.args.a.now c.args.b.now) _ m.0 n.0, (m.1, n.1))

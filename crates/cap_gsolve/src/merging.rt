@@ -1,0 +1,129 @@
+ghost use Rattle.std.specs.Prelude.{◌≡◌, ◌++◌, ◌∷◌, [], ◌<◌, length, slice_set, IfOk};
+ghost use Rattle.cap_galg.specs.Views.{algebra_view};
+ghost use Rattle.cap_gsolve.specs.Made.{IsMade};
+ghost use Rattle.cap_gsolve.specs.Merge.{place, form_at, there, lone_rows, lone_steps, combined_rows, combined_steps, met_rows, met_steps, joined as pieces_joined, merged, clash_rows, clash_steps, merge_rows, merge_steps};
+
+use crate::clash::clashes;
+use crate::combine::combine;
+use crate::piece::{Form, Piece};
+use crate::rows::{push_added, push_false, push_lone};
+use cap_galg::Algebra;
+use cap_lin::{LinError, Row};
+use std::alloc::{AllocError, Global};
+
+// The place of the piece of a part.
+fn place_of(pieces: &[Piece], piece: &Piece) -> Option<usize>
+    ensures { result ≡ place pieces.now piece.now }
+{
+    pieces.iter().position(|there| there.is_part_of(piece))
+}
+
+// The pieces once more.
+fn copies(alloc: Global, pieces: &[Piece]) -> Result<Vec<Piece>, AllocError>
+    ensures { IfOk result (λ v. v.items ≡ pieces.now) }
+{
+    let mut copies = Vec::new(alloc);
+    for piece in pieces {
+        copies.push(piece.copy(alloc)?)?;
+    }
+    Ok(copies)
+}
+
+// The pieces with a new one at a place, of this form.
+fn replaced(
+    alloc: Global,
+    pieces: &[Piece],
+    place: usize,
+    piece: &Piece,
+    form: Form,
+) -> Result<Vec<Piece>, AllocError>
+    requires { place < length pieces.now }
+    ensures { IfOk result (λ v. v.items ≡ slice_set pieces.now place (record piece.now { form = form })) }
+{
+    let mut all = copies(alloc, pieces)?;
+    let region = piece.region.copy(alloc)?;
+    all[place] = Piece {
+        region,
+        kind: piece.kind,
+        atom: piece.atom,
+        form,
+    };
+    Ok(all)
+}
+
+// The pieces and a new one, where none of its part is there.
+fn appended(
+    alloc: Global,
+    rows: &mut Vec<Row>,
+    pieces: &[Piece],
+    piece: &Piece,
+) -> Result<Vec<Piece>, LinError>
+    ensures { IsMade result (lone_steps piece.now.form) (λ v. (v.items ≡ pieces.now ++ (piece.now ∷ [])) × (rows.new.items ≡ rows.old.items ++ lone_rows piece.now.form)) }
+{
+    push_lone(alloc, rows, &piece.form)?;
+    let mut all = copies(alloc, pieces)?;
+    all.push(piece.copy(alloc)?)?;
+    Ok(all)
+}
+
+// The pieces with a new one joined to the one at a place.
+fn joined(
+    alloc: Global,
+    rows: &mut Vec<Row>,
+    pieces: &[Piece],
+    place: usize,
+    piece: &Piece,
+) -> Result<Vec<Piece>, LinError>
+    requires { place < length pieces.now }
+    ensures { IsMade result (combined_steps (form_at pieces.now piece.now place) piece.now.form) (λ v. (v.items ≡ pieces_joined pieces.now piece.now place) × (rows.new.items ≡ rows.old.items ++ combined_rows (form_at pieces.now piece.now place) piece.now.form)) }
+{
+    let form = combine(alloc, rows, &pieces[place].form, &piece.form)?;
+    Ok(replaced(alloc, pieces, place, piece, form)?)
+}
+
+// The pieces with a new one, and the rows that it brings by the piece of its part.
+fn met(
+    alloc: Global,
+    rows: &mut Vec<Row>,
+    pieces: &[Piece],
+    piece: &Piece,
+) -> Result<Vec<Piece>, LinError>
+    ensures { IsMade result (met_steps (there pieces.now piece.now) piece.now.form) (λ v. (v.items ≡ merged pieces.now piece.now) × (rows.new.items ≡ rows.old.items ++ met_rows (there pieces.now piece.now) piece.now.form)) }
+{
+    match place_of(pieces, piece) {
+        Some(place) => joined(alloc, rows, pieces, place, piece),
+        None => appended(alloc, rows, pieces, piece),
+    }
+}
+
+// The row that never holds, where two pieces clash.
+fn push_clash(alloc: Global, rows: &mut Vec<Row>, clash: bool) -> Result<(), LinError>
+    ensures { IsMade result (clash_steps clash) (λ _. rows.new.items ≡ rows.old.items ++ clash_rows clash) }
+{
+    if clash {
+        push_false(alloc, rows)
+    } else {
+        Ok(())
+    }
+}
+
+/// The pieces with a new one composed in, and the rows that then hold: that an amount is above 0 and
+/// at most 1 and a count at least 0, that tokens which come back were out, and, where no thread holds
+/// these pieces at once, a row that never holds. The new piece stands in the place of the piece of
+/// its part, or else as the last. Wide comes where a number of the new form or of a row leaves 128
+/// bits, with the first such number's operands.
+pub fn merge(
+    alloc: Global,
+    algebra: &Algebra,
+    pieces: &[Piece],
+    piece: &Piece,
+) -> Result<(Vec<Piece>, Vec<Row>), LinError>
+    ensures { IsMade result (merge_steps (algebra_view algebra.now) pieces.now piece.now) (λ r. (r.0.items ≡ merged pieces.now piece.now) × (r.1.items ≡ merge_rows (algebra_view algebra.now) pieces.now piece.now)) }
+{
+    let clash = clashes(algebra, pieces, &piece.region, piece.kind, piece.atom, &piece.form);
+    let mut rows = Vec::new(alloc);
+    push_added(alloc, &mut rows, &piece.form)?;
+    let merged = met(alloc, &mut rows, pieces, piece)?;
+    push_clash(alloc, &mut rows, clash)?;
+    Ok((merged, rows))
+}
