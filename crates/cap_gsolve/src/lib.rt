@@ -11,3 +11,6 @@ mod rows;
 pub use full::full_pieces;
 pub use merging::merge;
 pub use piece::{Form, Piece};
+
+#[cfg(test)]
+mod tests;

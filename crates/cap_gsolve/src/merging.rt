@@ -120,7 +120,14 @@ pub fn merge(
 ) -> Result<(Vec<Piece>, Vec<Row>), LinError>
     ensures { IsMade result (merge_steps (algebra_view algebra.now) pieces.now piece.now) (λ r. (r.0.items ≡ merged pieces.now piece.now) × (r.1.items ≡ merge_rows (algebra_view algebra.now) pieces.now piece.now)) }
 {
-    let clash = clashes(algebra, pieces, &piece.region, piece.kind, piece.atom, &piece.form);
+    let clash = clashes(
+        algebra,
+        pieces,
+        &piece.region,
+        piece.kind,
+        piece.atom,
+        &piece.form,
+    );
     let mut rows = Vec::new(alloc);
     push_added(alloc, &mut rows, &piece.form)?;
     let merged = met(alloc, &mut rows, pieces, piece)?;

@@ -1,0 +1,117 @@
+use crate::{Form, Piece, full_pieces, merge};
+use cap_galg::Algebra;
+use cap_lin::{Kind, LinError, Row, Sort, Term};
+use std::alloc::{AllocError, Global};
+use std::process::Abort;
+use std::test::Fail;
+
+// A piece of the guards of kind 0 of the region that is the variable 9.
+fn piece(alloc: Global, atom: u32, form: Form) -> Result<Piece, LinError> {
+    Ok(Piece {
+        region: Term::var(alloc, 9)?,
+        kind: 0,
+        atom,
+        form,
+    })
+}
+
+fn two(alloc: Global, first: Algebra, second: Algebra) -> Result<Algebra, AllocError> {
+    Ok(Algebra::Either(Box::new(alloc, first)?, Box::new(alloc, second)?))
+}
+
+// The row's constant, its coefficients of the variables 0 and 1, its kind and its sort.
+fn is_row(row: &Row, constant: i128, first: i128, second: i128, kind: Kind, sort: Sort) -> bool {
+    row.term.constant_part() == constant
+        && row.term.coefficient(0) == first
+        && row.term.coefficient(1) == second
+        && row.kind == kind
+        && row.sort == sort
+}
+
+fn is_false(row: &Row) -> bool {
+    is_row(row, -1, 0, 0, Kind::Eq, Sort::Int)
+}
+
+// The amount of a share.
+fn share(piece: &Piece) -> Option<&Term> {
+    match &piece.form {
+        Form::Share(amount) => Some(amount),
+        Form::One => None,
+        Form::Src(_) => None,
+        Form::Tok(_) => None,
+    }
+}
+
+#[test]
+fn a_share_alone_is_above_0_and_at_most_1(rt: HostRuntime) -> Result<(), Fail> {
+    let alloc = rt.alloc();
+    let new = piece(alloc, 0, Form::Share(Term::var(alloc, 0)?))?;
+    let (pieces, rows) = merge(alloc, &Algebra::Divisible, &[], &new)?;
+    assert_eq!(rt; pieces.len(), 1);
+    assert!(rt; pieces[0].is_part_of(&new));
+    assert_eq!(rt; rows.len(), 2);
+    assert!(rt; is_row(&rows[0], 0, -1, 0, Kind::Lt, Sort::Perm));
+    assert!(rt; is_row(&rows[1], -1, 1, 0, Kind::Le, Sort::Perm));
+    Ok(())
+}
+
+#[test]
+fn two_shares_are_joined(rt: HostRuntime) -> Result<(), Fail> {
+    let alloc = rt.alloc();
+    let there = [piece(alloc, 0, Form::Share(Term::var(alloc, 0)?))?];
+    let new = piece(alloc, 0, Form::Share(Term::var(alloc, 1)?))?;
+    let (pieces, rows) = merge(alloc, &Algebra::Divisible, &there, &new)?;
+    assert_eq!(rt; pieces.len(), 1);
+    let sum = share(&pieces[0]).ok_or("a share")?;
+    assert_eq!(rt; sum.parts(), [(0, 1), (1, 1)].as_slice());
+    assert_eq!(rt; rows.len(), 2);
+    assert!(rt; is_row(&rows[0], 0, 0, -1, Kind::Lt, Sort::Perm));
+    assert!(rt; is_row(&rows[1], -1, 1, 1, Kind::Le, Sort::Perm));
+    Ok(())
+}
+
+#[test]
+fn tokens_that_come_back_were_out(rt: HostRuntime) -> Result<(), Fail> {
+    let alloc = rt.alloc();
+    let there = [piece(alloc, 0, Form::Src(Term::var(alloc, 0)?))?];
+    let new = piece(alloc, 0, Form::Tok(Term::constant(alloc, 1)))?;
+    let (pieces, rows) = merge(alloc, &Algebra::Counting, &there, &new)?;
+    assert_eq!(rt; pieces.len(), 1);
+    assert_eq!(rt; rows.len(), 2);
+    assert!(rt; is_row(&rows[0], -1, 0, 0, Kind::Le, Sort::Int));
+    assert!(rt; is_row(&rows[1], 1, -1, 0, Kind::Le, Sort::Int));
+    Ok(())
+}
+
+#[test]
+fn what_nobody_holds_at_once(rt: HostRuntime) -> Result<(), Fail> {
+    let alloc = rt.alloc();
+    let there = [piece(alloc, 0, Form::One)?];
+    let same = piece(alloc, 0, Form::One)?;
+    let (pieces, rows) = merge(alloc, &Algebra::Unique, &there, &same)?;
+    assert_eq!(rt; pieces.len(), 1);
+    assert_eq!(rt; rows.len(), 1);
+    assert!(rt; is_false(&rows[0]));
+    // The two sides of a sum.
+    let sides = two(alloc, Algebra::Unique, Algebra::Divisible)?;
+    let other = piece(alloc, 1, Form::Share(Term::var(alloc, 0)?))?;
+    let (pieces, rows) = merge(alloc, &sides, &there, &other)?;
+    assert_eq!(rt; pieces.len(), 2);
+    assert_eq!(rt; rows.len(), 3);
+    assert!(rt; is_false(&rows[2]));
+    Ok(())
+}
+
+#[test]
+fn all_of_a_sum_is_all_of_its_left_side(rt: HostRuntime) -> Result<(), Fail> {
+    let alloc = rt.alloc();
+    let left = Box::new(alloc, Algebra::Divisible)?;
+    let sides = Algebra::Either(left, Box::new(alloc, Algebra::Unique)?);
+    let pieces = full_pieces(alloc, &sides, &Term::var(alloc, 9)?, 0)?;
+    assert_eq!(rt; pieces.len(), 1);
+    assert_eq!(rt; pieces[0].atom, 0);
+    let amount = share(&pieces[0]).ok_or("a share")?;
+    assert_eq!(rt; amount.constant_part(), 1);
+    assert!(rt; amount.parts().is_empty());
+    Ok(())
+}
