@@ -1,0 +1,5 @@
+pub mod Sums
+pub mod Fits
+pub mod Leaves
+pub mod Rows
+pub mod Certified

@@ -1,0 +1,4 @@
+pub mod Sums
+pub mod Derived
+pub mod Reached
+pub mod Answers
