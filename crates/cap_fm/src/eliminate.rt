@@ -278,37 +278,48 @@ fn by_variable(
     }
 }
 
-// The rows without a variable, and those with it.
+// The rows without a variable, those with a positive coefficient of it, and those with a negative one.
 #[derive(Drop)]
 struct Parted {
     without: Vec<Derived>,
-    bounds: Vec<Derived>,
+    uppers: Vec<Derived>,
+    lowers: Vec<Derived>,
 }
 
 fn part(alloc: Global, rows: Vec<Derived>, variable: u32) -> Result<Parted, AllocError>
-    ensures { IfOk result (λ p. (given : List Row) → AllDerived given rows.items → AllDerived given p.without.items × AllDerived given p.bounds.items) }
+    ensures { IfOk result (λ p. (given : List Row) → AllDerived given rows.items → AllDerived given p.without.items × AllDerived given p.uppers.items × AllDerived given p.lowers.items) }
 {
     let mut without = Vec::new(alloc);
-    let mut bounds = Vec::new(alloc);
+    let mut uppers = Vec::new(alloc);
+    let mut lowers = Vec::new(alloc);
     for row in rows {
-        put(row, variable, &mut without, &mut bounds)?;
+        put(row, variable, &mut without, &mut uppers, &mut lowers)?;
     }
-    Ok(Parted { without, bounds })
+    Ok(Parted {
+        without,
+        uppers,
+        lowers,
+    })
 }
 
 fn put(
     row: Derived,
     variable: u32,
     without: &mut Vec<Derived>,
-    bounds: &mut Vec<Derived>,
+    uppers: &mut Vec<Derived>,
+    lowers: &mut Vec<Derived>,
 ) -> Result<(), AllocError>
     ensures without { OnOk result ((given : List Row) → IsDerived given row → AllDerived given without.old.items → AllDerived given without.new.items) }
-    ensures bounds { OnOk result ((given : List Row) → IsDerived given row → AllDerived given bounds.old.items → AllDerived given bounds.new.items) }
+    ensures uppers { OnOk result ((given : List Row) → IsDerived given row → AllDerived given uppers.old.items → AllDerived given uppers.new.items) }
+    ensures lowers { OnOk result ((given : List Row) → IsDerived given row → AllDerived given lowers.old.items → AllDerived given lowers.new.items) }
 {
-    if row.term.coefficient(variable) == 0 {
+    let coefficient = row.term.coefficient(variable);
+    if coefficient == 0 {
         without.push(row)?;
+    } else if coefficient > 0 {
+        uppers.push(row)?;
     } else {
-        bounds.push(row)?;
+        lowers.push(row)?;
     }
     Ok(())
 }
@@ -323,12 +334,19 @@ fn by_bounds(
 ) -> Result<Reached, SolveError>
     ensures { IfOk result (λ r. (given : List Row) → AllDerived given rows.items → IsReached given r) }
 {
-    let Parted { without, bounds } = part(alloc, rows, variable)?;
+    let Parted {
+        without,
+        uppers,
+        lowers,
+    } = part(alloc, rows, variable)?;
     let mut kept = without;
-    if let Some(row) = combine_all(alloc, seen, &mut kept, &bounds, variable)? {
+    let upper_rows = uppers.as_slice();
+    let lower_rows = lowers.as_slice();
+    if let Some(row) = combine_all(alloc, seen, &mut kept, upper_rows, lower_rows, variable)? {
         return Ok(Reached::Contradiction(row));
     }
-    leave_all(seen, &bounds);
+    leave_all(seen, upper_rows);
+    leave_all(seen, lower_rows);
     Ok(Reached::Rows(kept))
 }
 
@@ -336,13 +354,14 @@ fn combine_all(
     alloc: Global,
     seen: &mut Seen,
     kept: &mut Vec<Derived>,
-    bounds: &[Derived],
+    uppers: &[Derived],
+    lowers: &[Derived],
     variable: u32,
 ) -> Result<Option<Derived>, SolveError>
-    ensures { IfOk result (λ o. (given : List Row) → AllDerived given kept.old.items → AllDerived given bounds.now → AllDerived given kept.new.items × IsMaybeContradiction given o) }
+    ensures { IfOk result (λ o. (given : List Row) → AllDerived given kept.old.items → AllDerived given uppers.now → AllDerived given lowers.now → AllDerived given kept.new.items × IsMaybeContradiction given o) }
 {
-    for place in 0..bounds.len() {
-        if let Some(row) = combine_with_each(alloc, seen, kept, &bounds[place], bounds, variable)? {
+    for place in 0..uppers.len() {
+        if let Some(row) = combine_with_each(alloc, seen, kept, &uppers[place], lowers, variable)? {
             return Ok(Some(row));
         }
     }

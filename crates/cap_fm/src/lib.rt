@@ -9,6 +9,8 @@ mod leaf;
 mod made;
 mod seen;
 mod solver;
+#[cfg(test)]
+mod tests;
 
 pub use error::SolveError;
 pub use solver::{Answer, solve};
