@@ -69,6 +69,14 @@ multiples k (p ∷ ps) = put_part p.0 (k *ℤ p.1) (multiples k ps)
 unfoldable pub times : ℤ → Linear → Linear
 times k t = record { constant = k *ℤ t.constant; parts = multiples k t.parts }
 
+-- a multiple of one term plus a multiple of another, part by part
+unfoldable pub combined_parts : ℤ → ℤ → List Pair → List (ℕ × ℤ)
+combined_parts a b [] = []
+combined_parts a b (j ∷ js) = put_part j.variable (a *ℤ j.left +ℤ b *ℤ j.right) (combined_parts a b js)
+
+unfoldable pub combination : ℤ → Linear → ℤ → Linear → Linear
+combination a s b t = record { constant = a *ℤ s.constant +ℤ b *ℤ t.constant; parts = combined_parts a b (merged s.parts t.parts) }
+
 abbrev pub negative : Linear → Linear
 negative t = times (negsuc 0) t
 

@@ -35,6 +35,17 @@ multiples_steps k (p ∷ ps) = product_of k p.1 ∷ multiples_steps k ps
 unfoldable pub times_steps : ℤ → Linear → List Step
 times_steps k t = product_of k t.constant ∷ multiples_steps k t.parts
 
+-- a combination makes each part's two products, and then their sum
+abbrev pub part_steps : ℤ → ℤ → ℤ → ℤ → List Step → List Step
+part_steps a left b right more = product_of a left ∷ (product_of b right ∷ (sum_of (a *ℤ left) (b *ℤ right) ∷ more))
+
+unfoldable pub combined_parts_steps : ℤ → ℤ → List Pair → List Step
+combined_parts_steps a b [] = []
+combined_parts_steps a b (j ∷ js) = part_steps a j.left b j.right (combined_parts_steps a b js)
+
+unfoldable pub combination_steps : ℤ → Linear → ℤ → Linear → List Step
+combination_steps a s b t = part_steps a s.constant b t.constant (combined_parts_steps a b (merged s.parts t.parts))
+
 abbrev pub negative_steps : Linear → List Step
 negative_steps t = times_steps (negsuc 0) t
 
