@@ -4,6 +4,7 @@ pub mod Ascend
 pub mod Sums
 pub mod Multiples
 pub mod Terms
+pub mod Combining
 pub mod Values
 pub mod Combinations
 pub mod Places
