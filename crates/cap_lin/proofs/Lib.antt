@@ -13,3 +13,4 @@ pub mod Replace
 pub mod Rows
 pub mod Infeasible
 pub mod Proves
+pub mod Sameness

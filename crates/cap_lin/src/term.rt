@@ -6,6 +6,7 @@ ghost use Rattle.cap_lin.specs.Values.{value, number_at, changed};
 
 use crate::error::LinError;
 use std::alloc::{AllocError, Global};
+use std::hash::{Hash, Hasher};
 use std::marker::Model;
 
 /// A linear term: a constant, and pairs of a variable and its coefficient, in ascending order of
@@ -27,6 +28,42 @@ impl Model for Term {
     ghost view = { λ t. record { constant = t.constant; parts = t.parts.items } };
 
     ghost invariant = { λ t. AscendFrom 0 t.parts.items };
+}
+
+impl PartialEq for Term {
+    ghost use Rattle.std.specs.Cmp.{partial_equiv_from_equiv};
+    ghost use Rattle.cap_lin.specs.Linear.{same_term};
+    ghost use Rattle.cap_lin.specs.Laws.Sameness.{same_term-equivalence};
+
+    ghost eq = { same_term };
+
+    ghost laws = { partial_equiv_from_equiv same_term-equivalence };
+
+    fn eq(&self, other: &Term) -> bool {
+        self.constant == other.constant && self.parts == other.parts
+    }
+}
+
+impl Eq for Term {
+    ghost use Rattle.cap_lin.specs.Laws.Sameness.{same_term-equivalence};
+
+    ghost laws = { same_term-equivalence };
+}
+
+impl Hash for Term {
+    ghost use Rattle.std.specs.Prelude.{◌++◌};
+    ghost use Rattle.std.specs.Hash as fed;
+    ghost use Rattle.std.specs.Hash.{same_Alike};
+    ghost use Rattle.cap_lin.specs.Laws.Sameness.{same_term-decides};
+
+    ghost hash_input = { λ t. fed.i128 t.constant ++ fed.slice (λ p. fed.u32 p.0 ++ fed.i128 p.1) t.parts };
+
+    ghost respects_eq = { (same_Alike _ same_term-decides).fed };
+
+    fn hash<H: Hasher>(&self, state: &mut H) {
+        self.constant.hash(state);
+        self.parts.hash(state);
+    }
 }
 
 // A variable with its coefficients in two terms, 0 where a term lacks it.
@@ -103,7 +140,7 @@ impl Term {
     pub fn same(&self, other: &Term) -> bool
         ensures { IsTrue result ↔ (self.now ≡ other.now) }
     {
-        self.constant == other.constant && self.parts == other.parts
+        self == other
     }
 
     /// The same term once more.

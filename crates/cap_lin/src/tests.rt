@@ -1,5 +1,6 @@
 use crate::{Kind, LinError, Op, Row, Sort, Term};
 use std::alloc::Global;
+use std::collections::HashSet;
 use std::test::Fail;
 
 // The sum of a constant and of multiples of variables.
@@ -36,6 +37,16 @@ fn differences(rt: HostRuntime) -> Result<(), Fail> {
     assert_eq!(rt; difference.copy(alloc)?.plus_one()?.constant_part(), -2);
     assert_eq!(rt; difference.negative(alloc)?.parts(), [(7, -5)].as_slice());
     assert!(rt; !difference.same(&left));
+    Ok(())
+}
+
+#[test]
+fn terms_as_keys(rt: HostRuntime) -> Result<(), Fail> {
+    let alloc = rt.alloc();
+    let mut terms = HashSet::new(alloc);
+    assert!(rt; terms.insert(term(alloc, 1, &[(0, 2), (3, -1)])?)?);
+    assert!(rt; !terms.insert(term(alloc, 1, &[(3, -1), (0, 2)])?)?);
+    assert!(rt; terms.insert(term(alloc, 1, &[(0, 2), (3, 1)])?)?);
     Ok(())
 }
 
