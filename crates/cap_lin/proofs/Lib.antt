@@ -4,10 +4,13 @@ pub mod Ascend
 pub mod Sums
 pub mod Multiples
 pub mod Terms
+pub mod Combining
 pub mod Values
+pub mod Combinations
 pub mod Places
 pub mod Totals
 pub mod Replace
 pub mod Rows
 pub mod Infeasible
 pub mod Proves
+pub mod Sameness

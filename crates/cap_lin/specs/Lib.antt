@@ -4,3 +4,4 @@ pub mod Exact
 pub mod Values
 pub mod Rows
 pub mod Solves
+pub mod Laws

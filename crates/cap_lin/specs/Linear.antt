@@ -1,5 +1,5 @@
 -- Linear terms: a constant, and pairs of a variable and its coefficient in ascending order of variables.
-use Rattle.std.specs.Prelude.{◌≢◌, ℕ, zero, suc, ◌+◌, ◌≤◌, ◌<◌, ◌≡◌, List, [], ◌∷◌, map, filter, length, get_or, not, Option, Some, None, ℤ, pos, negsuc, ◌+ℤ◌, ◌*ℤ◌, Bool, true, false, ◌==◌, ◌&&◌, nat_lt, if◌then◌else◌}
+use Rattle.std.specs.Prelude.{◌≢◌, ℕ, zero, suc, ◌+◌, ◌≤◌, ◌<◌, ◌≡◌, List, [], ◌∷◌, map, filter, length, get_or, not, ◌&&◌, Option, Some, None, ℤ, pos, negsuc, ◌+ℤ◌, ◌*ℤ◌, Bool, true, false, ◌==◌, nat_lt, if◌then◌else◌}
 use Rattle.std.specs.List.{All}
 use Rattle.cap_lin.specs.declared.term.Pair.{Pair}
 
@@ -16,6 +16,20 @@ abbrev pub is_zero : ℤ → Bool
 is_zero (pos zero) = true
 is_zero (pos (suc n)) = false
 is_zero (negsuc n) = false
+
+-- whether two terms are the same
+abbrev pub same_number : ℤ → ℤ → Bool
+same_number (pos m) (pos n) = m == n
+same_number (negsuc m) (negsuc n) = m == n
+same_number _ _ = false
+
+abbrev pub same_parts : List (ℕ × ℤ) → List (ℕ × ℤ) → Bool
+same_parts [] [] = true
+same_parts (p ∷ ps) (q ∷ qs) = (p.0 == q.0) && same_number p.1 q.1 && same_parts ps qs
+same_parts _ _ = false
+
+unfoldable pub same_term : Linear → Linear → Bool
+same_term s t = same_number s.constant t.constant && same_parts s.parts t.parts
 
 -- a part in front of others, left out where its coefficient is 0
 abbrev pub put_part : ℕ → ℤ → List (ℕ × ℤ) → List (ℕ × ℤ)
@@ -98,20 +112,6 @@ replaced_at k x by t = if is_zero k then t else plus (without x t) (times k by)
 
 unfoldable pub replaced : ℕ → Linear → Linear → Linear
 replaced x by t = replaced_at (coefficient x t.parts) x by t
-
--- whether two terms are the same
-abbrev pub same_number : ℤ → ℤ → Bool
-same_number (pos m) (pos n) = m == n
-same_number (negsuc m) (negsuc n) = m == n
-same_number _ _ = false
-
-abbrev pub same_parts : List (ℕ × ℤ) → List (ℕ × ℤ) → Bool
-same_parts [] [] = true
-same_parts (p ∷ ps) (q ∷ qs) = (p.0 == q.0) && (same_number p.1 q.1 && same_parts ps qs)
-same_parts _ _ = false
-
-unfoldable pub same_term : Linear → Linear → Bool
-same_term s t = same_number s.constant t.constant && same_parts s.parts t.parts
 
 -- each variable is below a number
 abbrev pub IsBelow : ℕ → Linear → Type 0

@@ -18,7 +18,7 @@ pub enum Sort {
 }
 
 /// What a row says of its term: at most 0, below 0, equal to 0, or other than 0.
-#[derive(Clone, Copy, Debug, PartialEq, Eq)]
+#[derive(Clone, Copy, Debug, PartialEq, Eq, Hash)]
 pub enum Kind {
     Le,
     Lt,

@@ -1,11 +1,12 @@
 ghost use Rattle.std.specs.Prelude.{◌≡◌, ◌<◌, ℕ, ℤ, ◌+ℤ◌, ◌*ℤ◌, [], ◌∷◌, ◌++◌, length, OnOk, IfOk, IsTrue, ◌↔◌, MatchResult, IfErr, ◌≢◌, slice_get, pos};
-ghost use Rattle.cap_lin.specs.Linear.{AscendFrom, put_part, coefficient, number, variable, merged, parts_behind, sums, IsBelow, IsLeastFrom, IsPlaceFrom, plus, minus, negative, plus_one, multiples, times, parts_without, without, replaced};
-ghost use Rattle.cap_lin.specs.Steps.{sum_of, product_of, sums_steps, plus_steps, minus_steps, negative_steps, multiples_steps, times_steps, replaced_steps, value_steps};
+ghost use Rattle.cap_lin.specs.Linear.{AscendFrom, put_part, coefficient, number, variable, merged, parts_behind, sums, IsBelow, IsLeastFrom, IsPlaceFrom, plus, minus, negative, plus_one, multiples, times, combined_parts, combination, parts_without, without, replaced};
+ghost use Rattle.cap_lin.specs.Steps.{sum_of, product_of, sums_steps, plus_steps, minus_steps, negative_steps, multiples_steps, times_steps, part_steps, combined_parts_steps, combination_steps, replaced_steps, value_steps};
 ghost use Rattle.cap_lin.specs.Exact.{IsExact, IsExactBy};
 ghost use Rattle.cap_lin.specs.Values.{value, number_at, changed};
 
 use crate::error::LinError;
 use std::alloc::{AllocError, Global};
+use std::hash::{Hash, Hasher};
 use std::marker::Model;
 
 /// A linear term: a constant, and pairs of a variable and its coefficient, in ascending order of
@@ -27,6 +28,42 @@ impl Model for Term {
     ghost view = { λ t. record { constant = t.constant; parts = t.parts.items } };
 
     ghost invariant = { λ t. AscendFrom 0 t.parts.items };
+}
+
+impl PartialEq for Term {
+    ghost use Rattle.std.specs.Cmp.{partial_equiv_from_equiv};
+    ghost use Rattle.cap_lin.specs.Linear.{same_term};
+    ghost use Rattle.cap_lin.specs.Laws.Sameness.{same_term-equivalence};
+
+    ghost eq = { same_term };
+
+    ghost laws = { partial_equiv_from_equiv same_term-equivalence };
+
+    fn eq(&self, other: &Term) -> bool {
+        self.constant == other.constant && self.parts == other.parts
+    }
+}
+
+impl Eq for Term {
+    ghost use Rattle.cap_lin.specs.Laws.Sameness.{same_term-equivalence};
+
+    ghost laws = { same_term-equivalence };
+}
+
+impl Hash for Term {
+    ghost use Rattle.std.specs.Prelude.{◌++◌};
+    ghost use Rattle.std.specs.Hash as fed;
+    ghost use Rattle.std.specs.Hash.{same_Alike};
+    ghost use Rattle.cap_lin.specs.Laws.Sameness.{same_term-decides};
+
+    ghost hash_input = { λ t. fed.i128 t.constant ++ fed.slice (λ p. fed.u32 p.0 ++ fed.i128 p.1) t.parts };
+
+    ghost respects_eq = { (same_Alike _ same_term-decides).fed };
+
+    fn hash<H: Hasher>(&self, state: &mut H) {
+        self.constant.hash(state);
+        self.parts.hash(state);
+    }
 }
 
 // A variable with its coefficients in two terms, 0 where a term lacks it.
@@ -103,7 +140,7 @@ impl Term {
     pub fn same(&self, other: &Term) -> bool
         ensures { IsTrue result ↔ (self.now ≡ other.now) }
     {
-        self.constant == other.constant && self.parts == other.parts
+        self == other
     }
 
     /// The same term once more.
@@ -148,6 +185,26 @@ impl Term {
     {
         let constant = product(k, self.constant)?;
         let parts = scale_parts(alloc, k, &self.parts)?;
+        Ok(Term { constant, parts })
+    }
+
+    /// A multiple of this term plus a multiple of another one. Wide has the first result that leaves
+    /// 128 bits: of the constants, and then of the coefficients in the order of variables, the
+    /// product of `a` and this term's number, that of `b` and the other's, and then their sum.
+    pub fn combination(
+        &self,
+        alloc: Global,
+        a: i128,
+        other: &Term,
+        b: i128,
+    ) -> Result<Term, LinError>
+        ensures exact { IsExact result
+            (combination_steps a self.now b other.now) (combination a self.now b other.now) }
+        ensures means { IfOk result
+            (λ t. (n : ℕ → ℤ) → value n t ≡ a *ℤ value n self.now +ℤ b *ℤ value n other.now) }
+    {
+        let constant = combined(a, self.constant, b, other.constant)?;
+        let parts = combine_parts(alloc, a, &self.parts, b, &other.parts)?;
         Ok(Term { constant, parts })
     }
 
@@ -358,6 +415,38 @@ fn scale_parts(alloc: Global, k: i128, parts: &[(u32, i128)]) -> Result<Vec<(u32
         put(&mut scaled, variable, coefficient)?;
     }
     Ok(scaled)
+}
+
+// The sum of two products, which are made first.
+fn combined(a: i128, left: i128, b: i128, right: i128) -> Result<i128, LinError>
+    ensures { IsExact result (part_steps a left b right []) (a *ℤ left +ℤ b *ℤ right) }
+{
+    let left = product(a, left)?;
+    let right = product(b, right)?;
+    sum(left, right)
+}
+
+fn combine_parts(
+    alloc: Global,
+    a: i128,
+    left: &[(u32, i128)],
+    b: i128,
+    right: &[(u32, i128)],
+) -> Result<Vec<(u32, i128)>, LinError>
+    ensures { IsExactBy result (λ parts. parts.items)
+        (combined_parts_steps a b (merged left.now right.now))
+        (combined_parts a b (merged left.now right.now)) }
+{
+    let mut parts = Vec::new(alloc);
+    let mut left = left;
+    let mut right = right;
+    while let Some(pair) = least(left, right) {
+        let coefficient = combined(a, pair.left, b, pair.right)?;
+        put(&mut parts, pair.variable, coefficient)?;
+        left = behind(left, pair.variable);
+        right = behind(right, pair.variable);
+    }
+    Ok(parts)
 }
 
 // The parts, without the first where it is of this variable.

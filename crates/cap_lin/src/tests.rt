@@ -1,5 +1,6 @@
 use crate::{Kind, LinError, Op, Row, Sort, Term};
 use std::alloc::Global;
+use std::collections::HashSet;
 use std::test::Fail;
 
 // The sum of a constant and of multiples of variables.
@@ -36,6 +37,35 @@ fn differences(rt: HostRuntime) -> Result<(), Fail> {
     assert_eq!(rt; difference.copy(alloc)?.plus_one()?.constant_part(), -2);
     assert_eq!(rt; difference.negative(alloc)?.parts(), [(7, -5)].as_slice());
     assert!(rt; !difference.same(&left));
+    Ok(())
+}
+
+#[test]
+fn terms_as_keys(rt: HostRuntime) -> Result<(), Fail> {
+    let alloc = rt.alloc();
+    let mut terms = HashSet::new(alloc);
+    assert!(rt; terms.insert(term(alloc, 1, &[(0, 2), (3, -1)])?)?);
+    assert!(rt; !terms.insert(term(alloc, 1, &[(3, -1), (0, 2)])?)?);
+    assert!(rt; terms.insert(term(alloc, 1, &[(0, 2), (3, 1)])?)?);
+    Ok(())
+}
+
+#[test]
+fn combinations(rt: HostRuntime) -> Result<(), Fail> {
+    let alloc = rt.alloc();
+    // 2 (1 + 3 v0 - 2 v2) - 3 (4 + 2 v0 + v1): the variable 0 disappears.
+    let left = term(alloc, 1, &[(0, 3), (2, -2)])?;
+    let right = term(alloc, 4, &[(0, 2), (1, 1)])?;
+    let both = left.combination(alloc, 2, &right, -3)?;
+    assert_eq!(rt; both.constant_part(), -10);
+    assert_eq!(rt; both.parts(), [(1, -3), (2, -4)].as_slice());
+    // The sum for the variable 0 comes before the product for the variable 1.
+    let high = term(alloc, 0, &[(0, i128::MAX)])?;
+    let many = term(alloc, 0, &[(0, 1), (1, i128::MAX)])?;
+    assert_eq!(rt;
+        high.combination(alloc, 1, &many, 2).err(),
+        Some(LinError::Wide(i128::MAX, 2))
+    );
     Ok(())
 }
 
@@ -98,6 +128,21 @@ fn wide_sums(rt: HostRuntime) {
     let most = Term::constant(alloc, i128::MAX);
     let row = Row::of(alloc, &most, Op::Lt, &Term::constant(alloc, 0), Sort::Int);
     assert_eq!(rt; row.err(), Some(LinError::Wide(i128::MAX, 1)));
+}
+
+#[test]
+fn wide_combinations(rt: HostRuntime) {
+    let alloc = rt.alloc();
+    // The product with the first number, that with the second one, and the sum of both.
+    for (a, left, b, right, first, second) in [
+        (2, i128::MAX, 3, i128::MAX, 2, i128::MAX),
+        (1, i128::MAX, 3, i128::MIN, 3, i128::MIN),
+        (-1, i128::MAX, 2, -1, -i128::MAX, -2),
+    ] {
+        let left = Term::constant(alloc, left);
+        let both = left.combination(alloc, a, &Term::constant(alloc, right), b);
+        assert_eq!(rt; both.err(), Some(LinError::Wide(first, second)));
+    }
 }
 
 #[test]

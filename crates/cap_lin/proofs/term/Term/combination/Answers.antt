@@ -1,0 +1,63 @@
+use Rattle.std.proofs.Common.{rules, ap, ◌∙◌}
+use Rattle.std.proofs.lemmas.Int.{to_z-of_z}
+use Rattle.std.proofs.lemmas.Result.{err_from_is_err_and}
+use mir.Val.{SFits}
+use mir.Syntax.{w128}
+use Rattle.cap_lin.specs.Linear.{Linear}
+use Rattle.cap_lin.specs.Values.{value}
+use Rattle.cap_lin.proofs.Combinations.{combination-value, combined_parts-ascend}
+use Rattle.cap_lin.proofs.Combining.{constant-wide, parts-wide, all-narrow, made}
+use Rattle.cap_lin.proofs.term.Term.combination.Goals as goal
+
+pub returns-in_err-constant-clause-exact : goal.returns-in_err-constant-clause-exact
+returns-in_err-constant-clause-exact c =
+    let f : SFits w128 c.self.inside.constant = search rules in
+    let g : SFits w128 c.other.inside.constant = search rules in
+    let e = to_z-of_z _ _ f ∙ ap (λ (l : Linear). l.constant) c.self.view_is in
+    let d = to_z-of_z _ _ g ∙ ap (λ (l : Linear). l.constant) c.other.view_is in
+    let p = err_from_is_err_and c.from_residual.result c.from_residual.ensures.1 in
+    rw (p.1, p.2) (constant-wide _ _ _ _ _ _ _ _ _ (to_z-of_z _ _ c.ranges.a) e (to_z-of_z _ _ c.ranges.b) d c.in_err-constant.ensures)
+
+pub returns-in_err-parts-clause-exact : goal.returns-in_err-parts-clause-exact
+returns-in_err-parts-clause-exact c =
+    let f : SFits w128 c.self.inside.constant = search rules in
+    let g : SFits w128 c.other.inside.constant = search rules in
+    let e = to_z-of_z _ _ f ∙ ap (λ (l : Linear). l.constant) c.self.view_is in
+    let d = to_z-of_z _ _ g ∙ ap (λ (l : Linear). l.constant) c.other.view_is in
+    let x = c.deref.ensures.value ∙ ap (λ (l : Linear). l.parts) c.self.view_is in
+    let y = c.deref-2.ensures.value ∙ ap (λ (l : Linear). l.parts) c.other.view_is in
+    let p = err_from_is_err_and c.from_residual-in_err-parts.result c.from_residual-in_err-parts.ensures.1 in
+    rw (p.1, p.2) (parts-wide _ _ _ _ _ _ _ _ _ _ _ (to_z-of_z _ _ c.ranges.a) e (to_z-of_z _ _ c.ranges.b) d x y c.in_ok-constant.ensures.0 c.in_err-parts.ensures)
+
+pub invariant_of-result : goal.invariant_of-result
+invariant_of-result c =
+    let b = c.in_ok-parts.ensures in
+    rw (b.1, c.deref.ensures.value, c.deref-2.ensures.value) (combined_parts-ascend _ _ _ _ _ c.self.invariant c.other.invariant)
+
+pub returns-clause-exact : goal.returns-clause-exact
+returns-clause-exact c =
+    let f : SFits w128 c.self.inside.constant = search rules in
+    let g : SFits w128 c.other.inside.constant = search rules in
+    let s : SFits w128 c.in_ok-constant.constant = search rules in
+    let k = to_z-of_z _ _ c.ranges.a in
+    let m = to_z-of_z _ _ c.ranges.b in
+    let e = to_z-of_z _ _ f ∙ ap (λ (l : Linear). l.constant) c.self.view_is in
+    let d = to_z-of_z _ _ g ∙ ap (λ (l : Linear). l.constant) c.other.view_is in
+    let x = c.deref.ensures.value ∙ ap (λ (l : Linear). l.parts) c.self.view_is in
+    let y = c.deref-2.ensures.value ∙ ap (λ (l : Linear). l.parts) c.other.view_is in
+    let a = c.in_ok-constant.ensures in
+    let b = c.in_ok-parts.ensures in
+    (all-narrow _ _ _ _ _ _ _ _ _ _ k e m d x y a.0 b.0, made _ _ _ _ _ _ _ _ _ _ _ _ k e m d x y (to_z-of_z _ _ s ∙ a.1) b.1)
+
+pub returns-clause-means : goal.returns-clause-means
+returns-clause-means c =
+    let f : SFits w128 c.self.inside.constant = search rules in
+    let g : SFits w128 c.other.inside.constant = search rules in
+    let s : SFits w128 c.in_ok-constant.constant = search rules in
+    let k = to_z-of_z _ _ c.ranges.a in
+    let m = to_z-of_z _ _ c.ranges.b in
+    let e = to_z-of_z _ _ f ∙ ap (λ (l : Linear). l.constant) c.self.view_is in
+    let d = to_z-of_z _ _ g ∙ ap (λ (l : Linear). l.constant) c.other.view_is in
+    let x = c.deref.ensures.value ∙ ap (λ (l : Linear). l.parts) c.self.view_is in
+    let y = c.deref-2.ensures.value ∙ ap (λ (l : Linear). l.parts) c.other.view_is in
+    λ n. ap (value n) (made _ _ _ _ _ _ _ _ _ _ _ _ k e m d x y (to_z-of_z _ _ s ∙ c.in_ok-constant.ensures.1) c.in_ok-parts.ensures.1) ∙ combination-value n _ _ _ _
