@@ -6,7 +6,7 @@ use Rattle.cap_lin.specs.Linear.{AscendFrom, merged, only_right, put_part, sums,
 use Rattle.cap_lin.specs.declared.term.Pair.{Pair}
 use Rattle.cap_lin.proofs.Merge.{merged-lt, merged-gt, merged-eq, merged-left}
 
-abbrev PairsAscend : ℕ → List Pair → Type 0
+abbrev pub PairsAscend : ℕ → List Pair → Type 0
 PairsAscend low [] = Unit {0}
 PairsAscend low (j ∷ js) = (low ≤ j.variable) × PairsAscend (j.variable + 1) js
 
@@ -33,11 +33,11 @@ cons-ascends p ps ih low (q ∷ qs) a b =
       ]
     ]
 
-merged-ascends : (low : ℕ) (ps qs : List (ℕ × ℤ)) → AscendFrom low ps → AscendFrom low qs → PairsAscend low (merged ps qs)
+pub merged-ascends : (low : ℕ) (ps qs : List (ℕ × ℤ)) → AscendFrom low ps → AscendFrom low qs → PairsAscend low (merged ps qs)
 merged-ascends low [] qs a b = nil-ascends low qs b
 merged-ascends low (p ∷ ps) qs a b = cons-ascends p ps (λ l rs c d. merged-ascends l ps rs c d) low qs a b
 
-put-ascends : (x : ℕ) (k : ℤ) (low : ℕ) (ps : List (ℕ × ℤ)) → low ≤ x → AscendFrom (x + 1) ps → AscendFrom low (put_part x k ps)
+pub put-ascends : (x : ℕ) (k : ℤ) (low : ℕ) (ps : List (ℕ × ℤ)) → low ≤ x → AscendFrom (x + 1) ps → AscendFrom low (put_part x k ps)
 put-ascends x (pos zero) low ps h a = weaken low (x + 1) ps (omega arith) a
 put-ascends x (pos (suc n)) low ps h a = (h, λ e. cc, a)
 put-ascends x (negsuc n) low ps h a = (h, λ e. cc, a)

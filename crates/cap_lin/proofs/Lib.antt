@@ -5,6 +5,7 @@ pub mod Sums
 pub mod Multiples
 pub mod Terms
 pub mod Values
+pub mod Combinations
 pub mod Places
 pub mod Totals
 pub mod Replace

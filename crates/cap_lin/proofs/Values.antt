@@ -20,7 +20,7 @@ pub value-cons : (n : ℕ → ℤ) (p : ℕ × ℤ) (ps : List (ℕ × ℤ)) →
 unfolding parts_value
 value-cons n p ps = refl
 
-put-value : (n : ℕ → ℤ) (x : ℕ) (k : ℤ) (ps : List (ℕ × ℤ)) → parts_value n (put_part x k ps) ≡ k *ℤ n x +ℤ parts_value n ps
+pub put-value : (n : ℕ → ℤ) (x : ℕ) (k : ℤ) (ps : List (ℕ × ℤ)) → parts_value n (put_part x k ps) ≡ k *ℤ n x +ℤ parts_value n ps
 unfolding parts_value
 put-value n x (pos zero) ps = omega (arith, ints)
 put-value n x (pos (suc k)) ps = refl
@@ -130,7 +130,7 @@ value-replaced n x by t =
     is_zero_or (negsuc k) = inr (λ e. cc)
 
 -- 1 at a variable, and 0 elsewhere
-one_at : ℕ → ℕ → ℤ
+pub one_at : ℕ → ℕ → ℤ
 one_at x y = if y == x then pos 1 else pos 0
 
 one_at-same : (x y : ℕ) → y ≡ x → one_at x y ≡ pos 1
@@ -142,7 +142,7 @@ unfolding one_at
 one_at-other x y d = let t : (y == x) ≡ false = grind (arith, nat_tests) in rw t refl
 
 -- a coefficient is a value
-coefficient-is : (x : ℕ) (ps : List (ℕ × ℤ)) → coefficient x ps ≡ parts_value (one_at x) ps
+pub coefficient-is : (x : ℕ) (ps : List (ℕ × ℤ)) → coefficient x ps ≡ parts_value (one_at x) ps
 coefficient-is x [] = coefficient-nil x ∙ sym (value-nil (one_at x))
 coefficient-is x (p ∷ ps) =
     let ih = coefficient-is x ps in
