@@ -1,0 +1,4 @@
+pub mod Lists
+pub mod Midpoint
+pub mod Valuations
+pub mod Runs
