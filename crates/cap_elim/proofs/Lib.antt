@@ -2,3 +2,4 @@ pub mod Lists
 pub mod Midpoint
 pub mod Valuations
 pub mod Runs
+pub mod Arising
