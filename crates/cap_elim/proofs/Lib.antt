@@ -3,3 +3,4 @@ pub mod Midpoint
 pub mod Valuations
 pub mod Runs
 pub mod Arising
+pub mod Equations
