@@ -4,3 +4,4 @@ pub mod Valuations
 pub mod Runs
 pub mod Arising
 pub mod Equations
+pub mod Bounds
