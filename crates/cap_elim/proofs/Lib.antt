@@ -5,3 +5,4 @@ pub mod Runs
 pub mod Arising
 pub mod Equations
 pub mod Bounds
+pub mod Pivots
