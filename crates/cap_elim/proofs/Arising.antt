@@ -1,20 +1,19 @@
 -- What becomes of a row that arises in an elimination that goes on: it is equal to one that is present, or it is kept,
 -- or it is true and has no variables.
-use Rattle.std.proofs.Common.{◌≡◌, ℕ, zero, suc, ℤ, pos, negsuc, ◌+ℤ◌, ◌*ℤ◌, ◌≤ℤ◌, ◌<ℤ◌, List, [], ◌∷◌, arith, refl, ap, subst, Bool, true, false, not, ◌&&◌}
+use Rattle.std.proofs.Common.{◌≡◌, ℕ, zero, suc, ℤ, pos, negsuc, ◌*ℤ◌, ◌<ℤ◌, List, [], ◌∷◌, arith, refl, ap, subst, Bool, true, false, ◌&&◌}
 use Rattle.std.specs.Prelude.{◌==◌, ◌||◌, if◌then◌else◌}
-use Rattle.std.specs.List.{AllByRecursion, list_any}
+use Rattle.std.specs.List.{AllByRecursion}
 use Rattle.std.proofs.lemmas.Bool.Decides.{nat_tests}
 use Rattle.std.proofs.lemmas.Int.{ints}
-use Rattle.cap_numbers.proofs.Order.{mul-pos, mul-le}
-use Rattle.cap_lin.specs.Linear.{Linear, is_zero, same_number, same_parts, same_term, combination}
+use Rattle.cap_lin.specs.Linear.{Linear, same_number, same_parts, same_term, combination}
 use Rattle.cap_lin.specs.Steps.{combination_steps}
-use Rattle.cap_lin.specs.Values.{RationalValuation, denominator, parts_value, amount}
+use Rattle.cap_lin.specs.Values.{RationalValuation, denominator, amount}
 use Rattle.cap_lin.specs.Solves.{HoldsAs}
 use Rattle.cap_lin.specs.declared.row.Kind.{Kind}
 use Rattle.cap_lin.specs.declared.row.Kind.TheVariants.{Le, Lt, Eq, Ne}
 use Rattle.cap_lin.proofs.Values.{value-nil}
-use Rattle.cap_elim.specs.Runs.{Origin, given, combined, Entry, entry, Stage, Found, going, contradiction, Run, done, results, ◌>>=◌}
-use Rattle.cap_elim.specs.Rows.{same_kind, same_row, has_arisen, is_present, count, are_some, has_parts, is_positive, is_negative, is_false, keep, fail, look, arise, arise_given, arise_combined, combine}
+use Rattle.cap_elim.specs.Runs.{Origin, given, combined, Entry, entry, Stage, Found, going, contradiction, done, results, ◌>>=◌}
+use Rattle.cap_elim.specs.Rows.{same_kind, same_row, is_present, count, are_some, has_parts, is_false, keep, fail, look, arise, arise_given, arise_combined, combine}
 use Rattle.cap_elim.proofs.Runs.{goes-on}
 use Rattle.cap_elim.proofs.Valuations.{times-holds}
 
@@ -45,9 +44,9 @@ same-parts [] [] e = refl
 same-parts [] (q ∷ qs) e = cc
 same-parts (p ∷ ps) [] e = cc
 same-parts (p ∷ ps) (q ∷ qs) e =
-    let a = both-true _ _ e in
-    let b = both-true _ _ a.1 in
-    let i : p.0 ≡ q.0 = let t = a.0 in grind (arith, nat_tests) in
+    let a = both-true (p.0 == q.0) (same_number p.1 q.1 && same_parts ps qs) e in
+    let b = both-true (same_number p.1 q.1) (same_parts ps qs) a.1 in
+    let i : p.0 ≡ q.0 = let t : (p.0 == q.0) ≡ true = a.0 in grind (arith, nat_tests) in
     let h : p ≡ q = paired p.0 q.0 p.1 q.1 i (same-number p.1 q.1 b.0) in
     let r : ps ≡ qs = same-parts ps qs b.1 in
     cc
@@ -117,6 +116,7 @@ look-arises present t k o s new e = by_parts (has_parts t) refl e
     by_falsity : (b : Bool) → has_parts t ≡ false → is_false k t.constant ≡ b → ((if b then fail t k o else done []) s).found ≡ going new → Arises present t k new
     by_falsity true p d e = fails _ _ _ e
     by_falsity false p d e = given-by (Arises present t k) _ _ e (true_alone p d)
+
     by_parts : (b : Bool) → has_parts t ≡ b → ((if b then keep t k o else (if is_false k t.constant then fail t k o else done [])) s).found ≡ going new → Arises present t k new
     by_parts true d e = given-by (Arises present t k) _ _ e (kept _ d)
     by_parts false d e = by_falsity (is_false k t.constant) d refl e

@@ -1,9 +1,9 @@
 -- What is left of rows by pairs of bounds on a variable has a solution only where the rows have one.
-use Rattle.std.proofs.Common.{◌≡◌, ℕ, zero, suc, ℤ, pos, negsuc, ◌+ℤ◌, ◌-ℤ◌, ◌*ℤ◌, neg_ℤ, ◌<ℤ◌, List, [], ◌∷◌, ◌++◌, map, arith, refl, sym, ◌∙◌, subst, Bool, true, false}
+use Rattle.std.proofs.Common.{◌≡◌, ℕ, zero, suc, ℤ, pos, negsuc, ◌+ℤ◌, ◌-ℤ◌, ◌*ℤ◌, neg_ℤ, ◌<ℤ◌, List, [], ◌∷◌, ◌++◌, map, arith, sym, ◌∙◌, subst, true}
 use Rattle.std.specs.Prelude.{if◌then◌else◌}
 use Rattle.std.specs.List.{AllByRecursion}
 use Rattle.std.proofs.lemmas.Int.{ints}
-use Rattle.cap_numbers.proofs.Ring.{expand, product3, product4}
+use Rattle.cap_numbers.proofs.Ring.{expand, product3}
 use Rattle.cap_lin.specs.Linear.{Linear, is_zero, coefficient, combination}
 use Rattle.cap_lin.specs.Steps.{product_of}
 use Rattle.cap_lin.specs.Values.{RationalValuation, amount}
@@ -14,7 +14,7 @@ use Rattle.cap_elim.specs.Rows.{is_positive, is_negative, combine, of_row}
 use Rattle.cap_elim.specs.Elimination.{lacking, uppers, lowers, strictest, combine_bounds, combine_each, combine_all}
 use Rattle.cap_elim.proofs.Lists.{each-left, each-right, each-join, each-map, each-two, each-filter, filter-passes}
 use Rattle.cap_elim.proofs.Runs.{goes-on}
-use Rattle.cap_elim.proofs.Midpoint.{IsOrder, Bound, IsBound, Upper, Lower, Combined, AllCombined, Point, point}
+use Rattle.cap_elim.proofs.Midpoint.{IsOrder, Bound, IsBound, Upper, Lower, Combined, AllCombined, point}
 use Rattle.cap_elim.proofs.Valuations.{lifted, lifted-amount, lacking-holds}
 use Rattle.cap_elim.proofs.Arising.{HoldsEntry, AllHold, Arises, Kept, combine-arises, arises-keeps, arises-holds}
 use Rattle.cap_elim.proofs.Equations.{zero-true, going-same}

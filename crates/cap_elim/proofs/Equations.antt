@@ -153,7 +153,7 @@ pub equation-holds : (q : RationalValuation) (x : ℕ) (equation : Entry) → (o
 unfolding solved
 equation-holds q x equation n k =
     let z : amount (solved q x equation) equation.term ≡ pos 0 =
-        lifted-amount q x _ _ equation.term (size-positive _ n) ∙ own (of_row x equation) (amount q equation.term) (q.numerator x) in
+    lifted-amount q x _ _ equation.term (size-positive _ n) ∙ own (of_row x equation) (amount q equation.term) (q.numerator x) in
     rw k z
 
 pub others-hold : (q : RationalValuation) (x : ℕ) (equation : Entry) (rows : List Entry) → (of_row x equation ≡ pos 0 → ⊥) → AllByRecursion (SaysOf q x equation) rows → AllHold (solved q x equation) rows

@@ -6,3 +6,7 @@ pub mod Arising
 pub mod Equations
 pub mod Bounds
 pub mod Pivots
+pub mod Variables
+pub mod Complete
+pub mod Apart
+pub mod Solved

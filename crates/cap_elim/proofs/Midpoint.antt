@@ -9,7 +9,7 @@ use Rattle.cap_lin.specs.Solves.{HoldsAs}
 use Rattle.cap_lin.specs.declared.row.Kind.{Kind}
 use Rattle.cap_lin.specs.declared.row.Kind.TheVariants.{Le, Lt, Eq, Ne}
 use Rattle.cap_elim.specs.Elimination.{strictest}
-use Rattle.cap_elim.proofs.Lists.{each-map, each-two, each-any, each-flip}
+use Rattle.cap_elim.proofs.Lists.{each-two, each-any, each-flip}
 
 -- at most 0, or below 0
 abbrev pub IsOrder : Kind → Type 0

@@ -1,5 +1,5 @@
 -- The equation that is chosen among rows, and its variable.
-use Rattle.std.proofs.Common.{◌≡◌, ℕ, zero, suc, ℤ, pos, negsuc, ◌+◌, ◌≤◌, ◌<◌, ◌+ℤ◌, List, [], ◌∷◌, arith, refl, sym, ◌∙◌, subst, Bool, true, false, Option, Some, None}
+use Rattle.std.proofs.Common.{◌≡◌, ℕ, ℤ, pos, ◌+◌, ◌≤◌, ◌<◌, List, [], ◌∷◌, arith, refl, sym, ◌∙◌, subst, Bool, true, false, Option, Some, None}
 use Rattle.std.specs.Prelude.{if◌then◌else◌, option_map}
 use Rattle.std.specs.List.{AllByRecursion}
 use Rattle.std.proofs.lemmas.Int.{ints}
@@ -39,6 +39,7 @@ pivot-is P choice (r ∷ rows) p e = by_choice (chosen choice r.kind r.term.part
         let i = ih l d in
         let same : passed r l ≡ p = cc in
         subst (IsPivot P choice (r ∷ rows)) same (record { kind = i.kind; variable = i.variable; put = λ a b. (b.0, i.put a b.1); take = λ a. let t = i.take a.1 in (t.0, (a.0, t.1)) })
+
     by_choice : (o : Option ℕ) → chosen choice r.kind r.term.parts ≡ o → ((p : Pivot) → first_pivot choice rows ≡ Some p → IsPivot P choice rows p) → or_later r rows o (first_pivot choice rows) ≡ Some p → IsPivot P choice (r ∷ rows) p
     by_choice (Some x) d ih e =
         let c = chosen-some choice r.kind r.term.parts x d in
@@ -56,9 +57,11 @@ no-pivot choice (r ∷ rows) e = by_choice (chosen choice r.kind r.term.parts) r
     equation Lt ps d i = cc
     equation Eq ps d i = d
     equation Ne ps d i = cc
+
     none-later : (l : Option Pivot) → option_map (passed r) l ≡ None → l ≡ None
     none-later None e = refl
     none-later (Some p) e = cc
+
     by_choice : (o : Option ℕ) → chosen choice r.kind r.term.parts ≡ o → (first_pivot choice rows ≡ None → AllByRecursion (λ r. r.kind ≡ Eq → choice r.term.parts ≡ None) rows) → or_later r rows o (first_pivot choice rows) ≡ None → AllByRecursion (λ r. r.kind ≡ Eq → choice r.term.parts ≡ None) (r ∷ rows)
     by_choice (Some x) d ih e = absurd (cc)
     by_choice None d ih e = (equation r.kind r.term.parts d, ih (none-later _ e))

@@ -1,7 +1,5 @@
 -- An elimination that goes on has gone on through each of its parts.
 use Rattle.std.proofs.Common.{◌≡◌, refl}
-use Rattle.std.specs.Prelude.{List}
-use Rattle.cap_elim.specs.Events.{Event}
 use Rattle.cap_elim.specs.Runs.{Stage, Found, going, contradiction, Elimination, go_on, ◌>>=◌}
 
 -- what the first part gives, and the second part then

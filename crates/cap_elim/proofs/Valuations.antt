@@ -1,12 +1,12 @@
 -- Another number for one variable, over a larger denominator.
-use Rattle.std.proofs.Common.{◌≡◌, ℕ, zero, suc, ℤ, pos, negsuc, ◌+◌, ◌*◌, ◌+ℤ◌, ◌-ℤ◌, ◌*ℤ◌, ◌<ℤ◌, List, [], ◌∷◌, arith, refl, sym, ◌∙◌, subst, true, false, inl, inr}
+use Rattle.std.proofs.Common.{◌≡◌, ℕ, zero, suc, ℤ, pos, negsuc, ◌+◌, ◌*◌, ◌+ℤ◌, ◌-ℤ◌, ◌*ℤ◌, ◌<ℤ◌, List, [], ◌∷◌, arith, refl, subst, true, false, inl, inr}
 use Rattle.std.specs.Prelude.{◌==◌}
 use Rattle.std.proofs.lemmas.Bool.Decides.{nat_tests}
 use Rattle.std.proofs.lemmas.Int.{ints}
 use Rattle.cap_numbers.proofs.Ring.{expand, product3}
 use Rattle.cap_numbers.proofs.Order.{mul-le, mul-lt, cancel-le}
 use Rattle.cap_lin.specs.Linear.{Linear, coefficient}
-use Rattle.cap_lin.specs.Values.{RationalValuation, denominator, parts_value, amount, changed}
+use Rattle.cap_lin.specs.Values.{RationalValuation, parts_value, amount, changed}
 use Rattle.cap_lin.specs.Solves.{HoldsAs}
 use Rattle.cap_lin.specs.declared.row.Kind.{Kind}
 use Rattle.cap_lin.specs.declared.row.Kind.TheVariants.{Le, Lt, Eq, Ne}
