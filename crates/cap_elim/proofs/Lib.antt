@@ -1,0 +1,12 @@
+pub mod Lists
+pub mod Midpoint
+pub mod Valuations
+pub mod Runs
+pub mod Arising
+pub mod Equations
+pub mod Bounds
+pub mod Pivots
+pub mod Variables
+pub mod Complete
+pub mod Apart
+pub mod Solved
