@@ -1,11 +1,11 @@
 -- What becomes of a row that arises in an elimination that goes on: it is equal to one that is present, or it is kept,
 -- or it is true and has no variables.
-use Rattle.std.proofs.Common.{◌≡◌, ℕ, zero, suc, ℤ, pos, negsuc, ◌*ℤ◌, ◌<ℤ◌, List, [], ◌∷◌, arith, refl, ap, subst, Bool, true, false, ◌&&◌}
-use Rattle.std.specs.Prelude.{◌==◌, ◌||◌, if◌then◌else◌}
+use Rattle.std.proofs.Common.{◌≡◌, ℕ, zero, suc, ℤ, pos, negsuc, ◌*ℤ◌, ◌<ℤ◌, List, [], ◌∷◌, arith, refl, subst, Bool, true, false, ◌&&◌}
+use Rattle.std.specs.Prelude.{◌||◌, if◌then◌else◌}
 use Rattle.std.specs.List.{AllByRecursion}
-use Rattle.std.proofs.lemmas.Bool.Decides.{nat_tests}
 use Rattle.std.proofs.lemmas.Int.{ints}
-use Rattle.cap_lin.specs.Linear.{Linear, same_number, same_parts, same_term, combination}
+use Rattle.cap_lin.specs.Linear.{Linear, same_term, combination}
+use Rattle.cap_lin.specs.Laws.Sameness.{same_term-decides}
 use Rattle.cap_lin.specs.Steps.{combination_steps}
 use Rattle.cap_lin.specs.Values.{RationalValuation, denominator, amount}
 use Rattle.cap_lin.specs.Solves.{HoldsAs}
@@ -29,34 +29,6 @@ AllHold q rows = AllByRecursion (HoldsEntry q) rows
 both-true : (a b : Bool) → (a && b) ≡ true → (a ≡ true) × (b ≡ true)
 both-true true b e = (refl, e)
 both-true false b e = cc
-
-same-number : (a b : ℤ) → same_number a b ≡ true → a ≡ b
-same-number (pos m) (pos n) e = let d : m ≡ n = grind (arith, nat_tests) in ap pos d
-same-number (pos m) (negsuc n) e = cc
-same-number (negsuc m) (pos n) e = cc
-same-number (negsuc m) (negsuc n) e = let d : m ≡ n = grind (arith, nat_tests) in ap negsuc d
-
-paired : (x y : ℕ) (k l : ℤ) → x ≡ y → k ≡ l → ◌≡◌ {A = ℕ × ℤ} (x, k) (y, l)
-paired x y k l p q = rw (p, q) refl
-
-same-parts : (ps qs : List (ℕ × ℤ)) → same_parts ps qs ≡ true → ps ≡ qs
-same-parts [] [] e = refl
-same-parts [] (q ∷ qs) e = cc
-same-parts (p ∷ ps) [] e = cc
-same-parts (p ∷ ps) (q ∷ qs) e =
-    let a = both-true (p.0 == q.0) (same_number p.1 q.1 && same_parts ps qs) e in
-    let b = both-true (same_number p.1 q.1) (same_parts ps qs) a.1 in
-    let i : p.0 ≡ q.0 = let t : (p.0 == q.0) ≡ true = a.0 in grind (arith, nat_tests) in
-    let h : p ≡ q = paired p.0 q.0 p.1 q.1 i (same-number p.1 q.1 b.0) in
-    let r : ps ≡ qs = same-parts ps qs b.1 in
-    cc
-
-made : (x y : ℤ) (ps qs : List (ℕ × ℤ)) → x ≡ y → ps ≡ qs → ◌≡◌ {A = Linear} (record { constant = x; parts = ps }) (record { constant = y; parts = qs })
-made x y ps qs e d = rw (e, d) refl
-
-pub same-term : (s t : Linear) → same_term s t ≡ true → s ≡ t
-unfolding same_term
-same-term s t e = let a = both-true _ _ e in made s.constant t.constant s.parts t.parts (same-number _ _ a.0) (same-parts _ _ a.1)
 
 same-kind : (k l : Kind) → same_kind k l ≡ true → k ≡ l
 same-kind Le Le e = refl
@@ -93,7 +65,7 @@ present-equal P t k (r ∷ rows) e h = by_test (same_row t k r.term r.kind) refl
     by_test : (b : Bool) → same_row t k r.term r.kind ≡ b → (b || is_present t k rows) ≡ true → (is_present t k rows ≡ true → Equal P t k) → Equal P t k
     by_test true d e f = let a = both-true (same_kind k r.kind) (same_term t r.term) d in
         let i = same-kind k r.kind a.0 in
-        let j = same-term t r.term a.1 in
+        let j = (same_term-decides t r.term).0 a.1 in
         record { row = r; term = cc; kind = cc; has = h.0 }
     by_test false d e f = f e
 
