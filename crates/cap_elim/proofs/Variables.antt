@@ -113,7 +113,7 @@ pivot-steps T c choice rows p s left h e z f =
       solves = equation-solves p rows s left (λ P. (pivot-is P choice rows p e).put) i.kind (z p.equation t.0 i.variable) f;
     }
 
-variable-steps : (T : Linear → Type 0) → Combines T → (x : ℕ) (rows : List Entry) (s : Stage) (left : List Entry) → AreSound T rows → (by_variable x rows s).found ≡ going left → Steps T x rows left
+pub variable-steps : (T : Linear → Type 0) → Combines T → (x : ℕ) (rows : List Entry) (s : Stage) (left : List Entry) → AreSound T rows → (by_variable x rows s).found ≡ going left → Steps T x rows left
 variable-steps T c x rows s left h f = by_choice (first_pivot (occurring x) rows) refl f
   where
     at_variable : (y : ℕ) → x ≡ y → Steps T y rows left → Steps T x rows left
