@@ -10,3 +10,4 @@ pub mod Variables
 pub mod Complete
 pub mod Apart
 pub mod Solved
+pub mod Sums
