@@ -11,3 +11,5 @@ pub mod Complete
 pub mod Apart
 pub mod Solved
 pub mod Sums
+pub mod Leaves
+pub mod Fits
