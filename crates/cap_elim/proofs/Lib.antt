@@ -13,3 +13,5 @@ pub mod Solved
 pub mod Sums
 pub mod Leaves
 pub mod Fits
+pub mod Made
+pub mod Kept
