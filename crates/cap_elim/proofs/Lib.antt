@@ -15,3 +15,4 @@ pub mod Leaves
 pub mod Fits
 pub mod Made
 pub mod Kept
+pub mod Certified
