@@ -142,7 +142,7 @@ true-holds k d c h e = times-holds k d c h (by_kind k c e)
     by_kind Ne (pos (suc n)) e = λ d. cc
     by_kind Ne (negsuc n) e = λ d. cc
 
-no-parts : (ps : List (ℕ × ℤ)) → are_some ps ≡ false → ps ≡ []
+pub no-parts : (ps : List (ℕ × ℤ)) → are_some ps ≡ false → ps ≡ []
 no-parts [] e = refl
 no-parts (p ∷ ps) e = cc
 

@@ -10,3 +10,9 @@ pub mod Variables
 pub mod Complete
 pub mod Apart
 pub mod Solved
+pub mod Sums
+pub mod Leaves
+pub mod Fits
+pub mod Made
+pub mod Kept
+pub mod Certified

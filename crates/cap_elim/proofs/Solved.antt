@@ -53,11 +53,11 @@ below-kept : (s : Sort) (t : Linear) → kept (below_zero s t).kind (below_zero 
 below-kept Int t = refl
 below-kept Perm t = refl
 
-below-ascends : (s : Sort) (t : Linear) → AscendFrom 0 t.parts → AscendFrom 0 (below_zero s t).term.parts
+pub below-ascends : (s : Sort) (t : Linear) → AscendFrom 0 t.parts → AscendFrom 0 (below_zero s t).term.parts
 below-ascends Int t a = a
 below-ascends Perm t a = a
 
-negative-ascends : (t : Linear) → AscendFrom 0 t.parts → AscendFrom 0 (negative t).parts
+pub negative-ascends : (t : Linear) → AscendFrom 0 t.parts → AscendFrom 0 (negative t).parts
 unfolding times
 negative-ascends t a = multiple-ascends 0 (negsuc 0) t.parts a
 

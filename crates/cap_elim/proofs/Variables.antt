@@ -37,7 +37,7 @@ AreSound T rows = AllByRecursion (IsSound T) rows
 abbrev pub Combines : (Linear → Type 0) → Type 0
 Combines T = (a : ℤ) (s : Linear) (b : ℤ) (t : Linear) → T s → T t → T (combination a s b t)
 
-strictest-kind : (k l : Kind) → strictest k l ≡ Ne → ⊥
+pub strictest-kind : (k l : Kind) → strictest k l ≡ Ne → ⊥
 strictest-kind Lt l e = cc
 strictest-kind Le Le e = cc
 strictest-kind Le Lt e = cc

@@ -4,3 +4,4 @@ pub mod Rows
 pub mod Elimination
 pub mod Leaf
 pub mod Solving
+pub mod Sums
