@@ -27,7 +27,7 @@ input-sound : (present : List Entry) (r : Row) (new : List Entry) → AscendFrom
 input-sound present r new a (inl e) = subst (AreSound Ascends) e.1 tt
 input-sound present r new a (inr h) = arises-keeps (IsSound Ascends) present r.term r.kind new h.1 (λ i p. record { term = a; kind = h.0; parts = p })
 
-inputs-sound : (present : List Entry) (i : ℕ) (rows : List Row) (s : Stage) (entries : List Entry) → AreSound Ascends present → AllByRecursion (λ r. AscendFrom 0 r.term.parts) rows → (inputs present i rows s).found ≡ going entries → AreSound Ascends entries
+pub inputs-sound : (present : List Entry) (i : ℕ) (rows : List Row) (s : Stage) (entries : List Entry) → AreSound Ascends present → AllByRecursion (λ r. AscendFrom 0 r.term.parts) rows → (inputs present i rows s).found ≡ going entries → AreSound Ascends entries
 unfolding inputs
 inputs-sound present i [] s entries h a f = subst (AreSound Ascends) (going-same present entries f) h
 inputs-sound present i (r ∷ rows) s entries h a f =
