@@ -3,11 +3,13 @@
 
 mod clash;
 mod combine;
+mod compatible;
 mod full;
 mod merging;
 mod piece;
 mod rows;
 
+pub use compatible::compat;
 pub use full::full_pieces;
 pub use merging::merge;
 pub use piece::{Form, Piece};
