@@ -1,2 +1,5 @@
 pub mod Parts
 pub mod Sides
+pub mod Kept
+pub mod Lists
+pub mod Portions

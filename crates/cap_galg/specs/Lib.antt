@@ -4,4 +4,6 @@ pub mod Algebras
 pub mod Views
 pub mod Answers
 pub mod Placed
+pub mod Lists
+pub mod Portions
 pub mod Laws

@@ -12,6 +12,7 @@ mod elem;
 mod error;
 mod fraction;
 mod guard;
+mod laws;
 mod node;
 mod pair;
 mod unique;
@@ -25,6 +26,7 @@ pub use elem::Elem;
 pub use error::GuardError;
 pub use fraction::Fraction;
 pub use guard::Guard;
+pub use laws::{fulls_of_both_sides, portions_compose};
 pub use pair::Pair;
 pub use unique::Unique;
 

@@ -1,6 +1,7 @@
 -- Wanted atoms of a region, and the pieces that are held of it: whether they never compose, and the rows that hold
 -- where they do.
-use Rattle.std.specs.Prelude.{ℕ, List, [], ◌∷◌, ◌++◌, Bool, true, false, ◌==◌, ◌&&◌, ◌||◌, if◌then◌else◌, Option, Some, None}
+use Rattle.std.specs.Prelude.{ℕ, List, [], ◌∷◌, ◌++◌, Bool, true, false, ◌||◌, if◌then◌else◌, Option, Some, None}
+use Rattle.std.specs.List.{list_any}
 use Rattle.cap_lin.specs.Linear.{Linear, plus}
 use Rattle.cap_lin.specs.Steps.{Step, plus_steps}
 use Rattle.cap_lin.specs.Rows.{row_of, row_of_steps}
@@ -23,9 +24,8 @@ never g f = false
 abbrev pub clashes_with : PlainAlgebra → List Piece → Linear → ℕ → ℕ × Form → Bool
 clashes_with a ps r k w = never (there ps (piece r k w.0 w.1)) w.1 || clashes a ps r k w.0 w.1
 
-unfoldable pub clashes_some : PlainAlgebra → List Piece → Linear → ℕ → List (ℕ × Form) → Bool
-clashes_some a ps r k [] = false
-clashes_some a ps r k (w ∷ ws) = clashes_with a ps r k w || clashes_some a ps r k ws
+abbrev pub clashes_some : PlainAlgebra → List Piece → Linear → ℕ → List (ℕ × Form) → Bool
+clashes_some a ps r k ws = list_any (clashes_with a ps r k) ws
 
 -- the share that is there, or 0
 abbrev pub share_there : Option Form → Linear
@@ -44,13 +44,20 @@ fits_steps (Some (Tok m)) (Src n) = row_of_steps m AtMost n Int
 fits_steps (Some (Src m)) (Tok k) = row_of_steps k AtMost m Int
 fits_steps g f = []
 
+-- of one wanted atom: first of its amount alone, and then with what is there
+abbrev pub one_rows : List Piece → Linear → ℕ → ℕ × Form → List Row
+one_rows ps r k w = added_rows w.1 ++ fits_rows (there ps (piece r k w.0 w.1)) w.1
+
+abbrev pub one_steps : List Piece → Linear → ℕ → ℕ × Form → List Step
+one_steps ps r k w = added_steps w.1 ++ fits_steps (there ps (piece r k w.0 w.1)) w.1
+
 unfoldable pub wanted_rows : List Piece → Linear → ℕ → List (ℕ × Form) → List Row
 wanted_rows ps r k [] = []
-wanted_rows ps r k (w ∷ ws) = added_rows w.1 ++ fits_rows (there ps (piece r k w.0 w.1)) w.1 ++ wanted_rows ps r k ws
+wanted_rows ps r k (w ∷ ws) = one_rows ps r k w ++ wanted_rows ps r k ws
 
 unfoldable pub wanted_steps : List Piece → Linear → ℕ → List (ℕ × Form) → List Step
 wanted_steps ps r k [] = []
-wanted_steps ps r k (w ∷ ws) = added_steps w.1 ++ fits_steps (there ps (piece r k w.0 w.1)) w.1 ++ wanted_steps ps r k ws
+wanted_steps ps r k (w ∷ ws) = one_steps ps r k w ++ wanted_steps ps r k ws
 
 -- nothing where some wanted atom and a piece never compose, and this before any row is made
 unfoldable pub compat : PlainAlgebra → List Piece → Linear → ℕ → List (ℕ × Form) → Option (List Row)

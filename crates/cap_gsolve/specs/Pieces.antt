@@ -1,5 +1,5 @@
 -- Symbolic guards: the parts of guards that are held of regions, with amounts that are terms.
-use Rattle.std.specs.Prelude.{◌≡◌, ℕ, zero, suc, ◌+◌, List, [], ◌∷◌, ◌++◌, map, Bool, true, false, ◌&&◌, ◌||◌, ◌==◌, ℤ, pos, negsuc, Option, Some, None}
+use Rattle.std.specs.Prelude.{ℕ, zero, suc, ◌+◌, List, [], ◌∷◌, ◌++◌, map, Bool, true, false, ◌&&◌, ◌==◌, ℤ, pos, negsuc}
 use Rattle.cap_lin.specs.Linear.{Linear, number}
 use Rattle.cap_galg.specs.Algebras.{PlainAlgebra, unique, divisible, counting, product, sum, atoms}
 use Rattle.cap_gsolve.specs.declared.piece.Form.{Form}
@@ -23,12 +23,16 @@ same_parts _ _ = false
 unfoldable pub same_term : Linear → Linear → Bool
 same_term s t = same_number s.constant t.constant && same_parts s.parts t.parts
 
--- whether a piece is of a region's guards, and whether two pieces are of one atom of one region's guards
+-- whether a piece is of a region's guards, or of one atom of them, and whether two pieces are of one atom of one
+-- region's guards
 abbrev pub of_guards : Linear → ℕ → Piece → Bool
 of_guards r k p = same_term p.region r && (p.kind == k)
 
+abbrev pub of_atom : Linear → ℕ → ℕ → Piece → Bool
+of_atom r k i p = of_guards r k p && (p.atom == i)
+
 abbrev pub same_part : Piece → Piece → Bool
-same_part q p = of_guards p.region p.kind q && (q.atom == p.atom)
+same_part q p = of_atom p.region p.kind p.atom q
 
 -- a constant of at least 1
 abbrev pub is_above_zero : ℤ → Bool

@@ -13,7 +13,12 @@ use cap_lin::{LinError, Op, Row, Sort, Term};
 use std::alloc::Global;
 
 // The sum of two shares, and the row that it is at most 1.
-fn sum_of_shares(alloc: Global, rows: &mut Vec<Row>, a: &Term, b: &Term) -> Result<Term, LinError>
+pub fn sum_of_shares(
+    alloc: Global,
+    rows: &mut Vec<Row>,
+    a: &Term,
+    b: &Term,
+) -> Result<Term, LinError>
     ensures { IsMade result (plus_steps a.now b.now ++ row_of_steps (plus a.now b.now) AtMost one_term Perm) (λ t. (t ≡ plus a.now b.now) × (rows.new.items ≡ rows.old.items ++ (row_of (plus a.now b.now) AtMost one_term Perm ∷ []))) }
 {
     let sum = a.add(alloc, b)?;

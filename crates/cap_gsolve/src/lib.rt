@@ -3,12 +3,16 @@
 
 mod clash;
 mod combine;
+mod compatible;
 mod full;
+mod laws;
 mod merging;
 mod piece;
 mod rows;
 
+pub use compatible::compat;
 pub use full::full_pieces;
+pub use laws::{full_forms_compose, right_full_forms_compose};
 pub use merging::merge;
 pub use piece::{Form, Piece};
 

@@ -1,5 +1,5 @@
 ghost use Rattle.std.specs.Prelude.{◌≡◌, IfOk};
-ghost use Rattle.cap_gsolve.specs.Pieces.{of_guards, same_part, is_surely_some};
+ghost use Rattle.cap_gsolve.specs.Pieces.{of_guards, of_atom, same_part, is_surely_some};
 
 use cap_lin::Term;
 use std::alloc::{AllocError, Global};
@@ -58,11 +58,18 @@ impl Piece {
         self.region.same(region) && self.kind == kind
     }
 
+    /// Whether the piece is of one atom of a region's guards of a kind.
+    pub fn is_of_atom(&self, region: &Term, kind: u32, atom: u32) -> bool
+        ensures { result ≡ of_atom region.now kind atom self.now }
+    {
+        self.is_of(region, kind) && self.atom == atom
+    }
+
     /// Whether two pieces are of one atom of one region's guards.
     pub fn is_part_of(&self, other: &Piece) -> bool
         ensures { result ≡ same_part self.now other.now }
     {
-        self.is_of(&other.region, other.kind) && self.atom == other.atom
+        self.is_of_atom(&other.region, other.kind, other.atom)
     }
 
     /// The same piece once more.

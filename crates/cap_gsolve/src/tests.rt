@@ -1,4 +1,4 @@
-use crate::{Form, Piece, full_pieces, merge};
+use crate::{Form, Piece, compat, full_pieces, merge};
 use cap_galg::Algebra;
 use cap_lin::{Kind, LinError, Row, Sort, Term};
 use std::alloc::{AllocError, Global};
@@ -113,5 +113,114 @@ fn all_of_a_sum_is_all_of_its_left_side(rt: HostRuntime) -> Result<(), Fail> {
     let amount = share(&pieces[0]).ok_or("a share")?;
     assert_eq!(rt; amount.constant_part(), 1);
     assert!(rt; amount.parts().is_empty());
+    Ok(())
+}
+
+// What is wanted of the guards of kind 0 of the region that is the variable 9.
+fn wants(
+    alloc: Global,
+    algebra: &Algebra,
+    pieces: &[Piece],
+    wanted: &[(u32, Form)],
+) -> Result<Option<Vec<Row>>, LinError> {
+    compat(alloc, algebra, pieces, &Term::var(alloc, 9)?, 0, wanted)
+}
+
+#[test]
+fn a_wanted_share_and_the_one_there_are_at_most_1(rt: HostRuntime) -> Result<(), Fail> {
+    let alloc = rt.alloc();
+    let wanted = [(0, Form::Share(Term::var(alloc, 0)?))];
+    let rows = wants(alloc, &Algebra::Divisible, &[], &wanted)?.ok_or("rows")?;
+    assert_eq!(rt; rows.len(), 2);
+    assert!(rt; is_row(&rows[0], 0, -1, 0, Kind::Lt, Sort::Perm));
+    assert!(rt; is_row(&rows[1], -1, 1, 0, Kind::Le, Sort::Perm));
+    let there = [piece(alloc, 0, Form::Share(Term::var(alloc, 1)?))?];
+    let rows = wants(alloc, &Algebra::Divisible, &there, &wanted)?.ok_or("rows")?;
+    assert_eq!(rt; rows.len(), 2);
+    assert!(rt; is_row(&rows[0], 0, -1, 0, Kind::Lt, Sort::Perm));
+    assert!(rt; is_row(&rows[1], -1, 1, 1, Kind::Le, Sort::Perm));
+    Ok(())
+}
+
+#[test]
+fn a_wanted_source_has_as_many_out_as_are_there(rt: HostRuntime) -> Result<(), Fail> {
+    let alloc = rt.alloc();
+    let wanted = [(0, Form::Src(Term::var(alloc, 0)?))];
+    let there = [piece(alloc, 0, Form::Tok(Term::var(alloc, 1)?))?];
+    let rows = wants(alloc, &Algebra::Counting, &there, &wanted)?.ok_or("rows")?;
+    assert_eq!(rt; rows.len(), 2);
+    assert!(rt; is_row(&rows[0], 0, -1, 0, Kind::Le, Sort::Int));
+    assert!(rt; is_row(&rows[1], 0, -1, 1, Kind::Le, Sort::Int));
+    Ok(())
+}
+
+#[test]
+fn wanted_tokens_are_out(rt: HostRuntime) -> Result<(), Fail> {
+    let alloc = rt.alloc();
+    let wanted = [(0, Form::Tok(Term::var(alloc, 0)?))];
+    let there = [piece(alloc, 0, Form::Src(Term::var(alloc, 1)?))?];
+    let rows = wants(alloc, &Algebra::Counting, &there, &wanted)?.ok_or("rows")?;
+    assert_eq!(rt; rows.len(), 2);
+    assert!(rt; is_row(&rows[0], 0, -1, 0, Kind::Le, Sort::Int));
+    assert!(rt; is_row(&rows[1], 0, 1, -1, Kind::Le, Sort::Int));
+    Ok(())
+}
+
+#[test]
+fn what_never_composes_has_no_rows(rt: HostRuntime) -> Result<(), Fail> {
+    let alloc = rt.alloc();
+    let guard = [piece(alloc, 0, Form::One)?];
+    let all = [(0, Form::One)];
+    assert!(rt; wants(alloc, &Algebra::Unique, &guard, &all)?.is_none());
+    // The guard of another region is none of this one's.
+    let other = Term::var(alloc, 8)?;
+    assert!(rt; compat(alloc, &Algebra::Unique, &guard, &other, 0, &all)?.is_some());
+    let source = [piece(alloc, 0, Form::Src(Term::var(alloc, 0)?))?];
+    let wanted = [(0, Form::Src(Term::var(alloc, 1)?))];
+    assert!(rt; wants(alloc, &Algebra::Counting, &source, &wanted)?.is_none());
+    // The two sides of a sum: a share is surely some part, and so is one token.
+    let sides = two(alloc, Algebra::Unique, Algebra::Divisible)?;
+    let wanted = [(1, Form::Share(Term::var(alloc, 0)?))];
+    assert!(rt; wants(alloc, &sides, &guard, &wanted)?.is_none());
+    let sides = two(alloc, Algebra::Unique, Algebra::Counting)?;
+    let wanted = [(1, Form::Tok(Term::constant(alloc, 1)))];
+    assert!(rt; wants(alloc, &sides, &guard, &wanted)?.is_none());
+    Ok(())
+}
+
+#[test]
+fn no_tokens_are_no_part(rt: HostRuntime) -> Result<(), Fail> {
+    let alloc = rt.alloc();
+    let sides = two(alloc, Algebra::Unique, Algebra::Counting)?;
+    let guard = [piece(alloc, 0, Form::One)?];
+    let wanted = [(1, Form::Tok(Term::constant(alloc, 0)))];
+    let rows = wants(alloc, &sides, &guard, &wanted)?.ok_or("rows")?;
+    assert_eq!(rt; rows.len(), 1);
+    assert!(rt; is_row(&rows[0], 0, 0, 0, Kind::Le, Sort::Int));
+    let rows = wants(alloc, &sides, &guard, &[])?.ok_or("rows")?;
+    assert!(rt; rows.is_empty());
+    Ok(())
+}
+
+#[test]
+fn a_wide_sum_has_the_wanted_amount_first(rt: HostRuntime) -> Result<(), Fail> {
+    let alloc = rt.alloc();
+    let both = Algebra::Pair(
+        Box::new(alloc, Algebra::Divisible)?,
+        Box::new(alloc, Algebra::Unique)?,
+    );
+    let there = [
+        piece(alloc, 0, Form::Share(Term::constant(alloc, 1)))?,
+        piece(alloc, 1, Form::One)?,
+    ];
+    let most = Form::Share(Term::constant(alloc, i128::MAX));
+    let wanted = [(0, most.copy(alloc)?)];
+    assert_eq!(rt;
+        wants(alloc, &both, &there, &wanted).err(),
+        Some(LinError::Wide(i128::MAX, 1))
+    );
+    // That some atom never composes comes before any row.
+    let wanted = [(0, most), (1, Form::One)];
+    assert!(rt; wants(alloc, &both, &there, &wanted)?.is_none());
     Ok(())
 }

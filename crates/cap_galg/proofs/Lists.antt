@@ -1,0 +1,70 @@
+-- Elements of lists, composed.
+use Rattle.std.proofs.Common.{◌≡◌, List, [], ◌∷◌, ◌++◌, map, refl, sym, ap, ◌∙◌, subst, Option, Some, None}
+use Rattle.std.specs.List.{AllByRecursion as Each}
+use Rattle.cap_galg.specs.Elements.{Element, nothing, bind, compose}
+use Rattle.cap_galg.specs.Algebras.{PlainAlgebra, IsElement}
+use Rattle.cap_galg.specs.Lists.{compose_all}
+use Rattle.cap_galg.specs.Laws.Composition.{bind-is, some-same, compose_assoc, compose-comm}
+use Rattle.cap_galg.specs.Laws.Algebras.{sound-of, closed}
+use Rattle.cap_galg.proofs.Kept.{Keeps}
+
+pub all-closed : (a : PlainAlgebra) (xs : List Element) (y : Element) → Each (IsElement a) xs → compose_all xs ≡ Some y → IsElement a y
+all-closed a [] y h e = subst (IsElement a) (some-same nothing y e) tt
+all-closed a (x ∷ xs) y h e =
+    let r = bind-is (compose_all xs) (λ u. compose x u) y e in
+    closed a x r.0 y h.0 (all-closed a xs r.0 h.1 r.1) r.2
+
+-- ---- a function that keeps composition
+
+pub all-kept : (a : PlainAlgebra) (f : Element → Element) → Keeps a f → f nothing ≡ nothing → (xs : List Element) → Each (IsElement a) xs → compose_all (map f xs) ≡ bind (compose_all xs) (λ z. Some (f z))
+all-kept a f k n [] h = ap (λ w. Some w) (sym n)
+all-kept a f k n (x ∷ xs) h = ap (λ o. bind o (λ y. compose (f x) y)) (all-kept a f k n xs h.1) ∙ go (compose_all xs) (λ y e. all-closed a xs y h.1 e)
+  where
+    go : (o : Option Element) → ((y : Element) → o ≡ Some y → IsElement a y) → bind (bind o (λ z. Some (f z))) (λ y. compose (f x) y) ≡ bind (bind o (λ y. compose x y)) (λ z. Some (f z))
+    go None c = refl
+    go (Some y) c = k x y h.0 (c y refl)
+
+-- ---- one list behind another
+
+bind-unit : (o : Option Element) → o ≡ bind o (λ y. compose nothing y)
+bind-unit None = refl
+bind-unit (Some y) = refl
+
+bind-none : (o : Option Element) → ◌≡◌ {A = Option Element} None (bind o (λ u. None))
+bind-none None = refl
+bind-none (Some u) = refl
+
+pub all-append : (a : PlainAlgebra) (xs ys : List Element) → Each (IsElement a) xs → Each (IsElement a) ys → compose_all (xs ++ ys) ≡ bind (compose_all xs) (λ x. bind (compose_all ys) (λ y. compose x y))
+all-append a [] ys h k = bind-unit (compose_all ys)
+all-append a (x ∷ xs) ys h k =
+    ap (λ o. bind o (λ u. compose x u)) (all-append a xs ys h.1 k)
+    ∙ go (compose_all xs) (compose_all ys) (λ v e. all-closed a xs v h.1 e) (λ y e. all-closed a ys y k e)
+  where
+    go : (o p : Option Element) → ((v : Element) → o ≡ Some v → IsElement a v) → ((y : Element) → p ≡ Some y → IsElement a y)
+        → bind (bind o (λ v. bind p (λ y. compose v y))) (λ u. compose x u) ≡ bind (bind o (λ v. compose x v)) (λ u. bind p (λ y. compose u y))
+    go None p c d = refl
+    go (Some v) None c d = bind-none (compose x v)
+    go (Some v) (Some y) c d = sym (compose_assoc x v y (sound-of a x h.0) (sound-of a v (c v refl)) (sound-of a y (d y refl)))
+
+-- ---- other ways to compose four
+
+-- x with y, then z: y with z first
+later-first : (a : PlainAlgebra) (x y z u t : Element) → IsElement a x → IsElement a y → IsElement a z → compose x y ≡ Some u → compose u z ≡ Some t → (v : Element) × (compose y z ≡ Some v) × (compose x v ≡ Some t)
+later-first a x y z u t h k l e f =
+    bind-is (compose y z) (λ v. compose x v) t (sym (compose_assoc x y z (sound-of a x h) (sound-of a y k) (sound-of a z l)) ∙ ap (λ o. bind o (λ u. compose u z)) e ∙ f)
+
+-- x, with y and z: x with y first
+earlier-first : (a : PlainAlgebra) (x y z v t : Element) → IsElement a x → IsElement a y → IsElement a z → compose y z ≡ Some v → compose x v ≡ Some t → (u : Element) × (compose x y ≡ Some u) × (compose u z ≡ Some t)
+earlier-first a x y z v t h k l e f =
+    bind-is (compose x y) (λ u. compose u z) t (compose_assoc x y z (sound-of a x h) (sound-of a y k) (sound-of a z l) ∙ ap (λ o. bind o (λ v. compose x v)) e ∙ f)
+
+-- two wholes of two parts each: the first parts together, and the others
+pub parts-together : (a : PlainAlgebra) (w r z s x v y : Element) → IsElement a w → IsElement a r → IsElement a z → IsElement a s → compose w r ≡ Some x → compose z s ≡ Some v → compose x v ≡ Some y
+    → (p : Element) × (q : Element) × (compose w z ≡ Some p) × IsElement a q × (compose p q ≡ Some y)
+parts-together a w r z s x v y hw hr hz hs e f g =
+    let b = later-first a w r v x y hw hr (closed a z s v hz hs f) e g in
+    let c = earlier-first a r z s v b.0 hr hz hs f b.1 in
+    let q = later-first a z r s c.0 b.0 hz hr hs (compose-comm z r ∙ c.1) c.2 in
+    let hq = closed a r s q.0 hr hs q.1 in
+    let p = earlier-first a w z q.0 b.0 y hw hz hq q.2 b.2 in
+    (p.0, q.0, p.1, hq, p.2)

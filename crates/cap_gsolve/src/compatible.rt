@@ -1,0 +1,219 @@
+ghost use Rattle.std.specs.Prelude.{◌≡◌, ◌++◌, ◌∷◌, [], position, option_map, Some, None};
+ghost use Rattle.cap_galg.specs.Views.{algebra_view};
+ghost use Rattle.cap_gsolve.specs.declared.piece.Form.TheVariants.{Share};
+ghost use Rattle.cap_gsolve.specs.Made.{IsMade};
+ghost use Rattle.cap_gsolve.specs.Pieces.{piece as made_piece, of_atom};
+ghost use Rattle.cap_gsolve.specs.Merge.{there};
+ghost use Rattle.cap_gsolve.specs.Compat.{never, clashes_with as some_clash_with, clashes_some as some_wanted_clash, fits_rows, fits_steps, one_rows, one_steps, wanted_rows, wanted_steps, compat as compat_of, compat_steps};
+
+use crate::clash::clashes;
+use crate::combine::sum_of_shares;
+use crate::piece::{Form, Piece};
+use crate::rows::{push_added, push_row};
+use cap_galg::Algebra;
+use cap_lin::{LinError, Op, Row, Sort, Term};
+use std::alloc::Global;
+
+// The place of the piece of an atom.
+fn place_of_atom(pieces: &[Piece], region: &Term, kind: u32, atom: u32) -> Option<usize>
+    ensures { result ≡ position (of_atom region.now kind atom) pieces.now }
+{
+    pieces
+        .iter()
+        .position(|there| there.is_of_atom(region, kind, atom))
+}
+
+// Whether a wanted form never composes with the form of its atom that is there.
+fn is_never(there: &Form, wanted: &Form) -> bool
+    ensures { result ≡ never (Some there.now) wanted.now }
+{
+    match wanted {
+        Form::One => match there {
+            Form::One => true,
+            Form::Share(_) => false,
+            Form::Src(_) => false,
+            Form::Tok(_) => false,
+        },
+        Form::Src(_) => match there {
+            Form::Src(_) => true,
+            Form::One => false,
+            Form::Share(_) => false,
+            Form::Tok(_) => false,
+        },
+        Form::Share(_) => false,
+        Form::Tok(_) => false,
+    }
+}
+
+// Whether the piece of an atom and a wanted form of it never compose.
+fn is_never_there(pieces: &[Piece], region: &Term, kind: u32, atom: u32, wanted: &Form) -> bool
+    ensures { result ≡ never (there pieces.now (made_piece region.now kind atom wanted.now)) wanted.now }
+{
+    match place_of_atom(pieces, region, kind, atom) {
+        Some(place) => is_never(&pieces[place].form, wanted),
+        None => false,
+    }
+}
+
+// Whether a wanted form never composes with the pieces.
+fn clashes_with(
+    algebra: &Algebra,
+    pieces: &[Piece],
+    region: &Term,
+    kind: u32,
+    wanted: &(u32, Form),
+) -> bool
+    ensures { result ≡ some_clash_with (algebra_view algebra.now) pieces.now region.now kind wanted.now }
+{
+    let (atom, form) = wanted;
+    is_never_there(pieces, region, kind, *atom, form)
+        || clashes(algebra, pieces, region, kind, *atom, form)
+}
+
+fn clashes_some(
+    algebra: &Algebra,
+    pieces: &[Piece],
+    region: &Term,
+    kind: u32,
+    wanted: &[(u32, Form)],
+) -> bool
+    ensures { result ≡ some_wanted_clash (algebra_view algebra.now) pieces.now region.now kind wanted.now }
+{
+    wanted
+        .iter()
+        .any(|one| clashes_with(algebra, pieces, region, kind, one))
+}
+
+// The row that a wanted share and the share that is there are at most 1 together.
+fn push_shares(
+    alloc: Global,
+    rows: &mut Vec<Row>,
+    wanted: &Term,
+    there: &Term,
+) -> Result<(), LinError>
+    ensures { IsMade result (fits_steps (Some (Share there.now)) (Share wanted.now)) (λ _. rows.new.items ≡ rows.old.items ++ fits_rows (Some (Share there.now)) (Share wanted.now)) }
+{
+    sum_of_shares(alloc, rows, wanted, there)?;
+    Ok(())
+}
+
+// The rows under which a wanted form composes, where nothing there bears on it.
+fn push_alone(alloc: Global, rows: &mut Vec<Row>, wanted: &Form) -> Result<(), LinError>
+    ensures { IsMade result (fits_steps None wanted.now) (λ _. rows.new.items ≡ rows.old.items ++ fits_rows None wanted.now) }
+{
+    match wanted {
+        Form::Share(amount) => {
+            let zero = Term::constant(alloc, 0);
+            push_shares(alloc, rows, amount, &zero)
+        }
+        Form::One => Ok(()),
+        Form::Src(_) => Ok(()),
+        Form::Tok(_) => Ok(()),
+    }
+}
+
+// The rows under which a wanted form composes with the form of its atom that is there.
+fn push_beside(
+    alloc: Global,
+    rows: &mut Vec<Row>,
+    there: &Form,
+    wanted: &Form,
+) -> Result<(), LinError>
+    ensures { IsMade result (fits_steps (Some there.now) wanted.now) (λ _. rows.new.items ≡ rows.old.items ++ fits_rows (Some there.now) wanted.now) }
+{
+    match wanted {
+        Form::One => Ok(()),
+        Form::Share(amount) => match there {
+            Form::Share(held) => push_shares(alloc, rows, amount, held),
+            Form::One => push_alone(alloc, rows, wanted),
+            Form::Src(_) => push_alone(alloc, rows, wanted),
+            Form::Tok(_) => push_alone(alloc, rows, wanted),
+        },
+        Form::Src(out) => match there {
+            Form::Tok(count) => push_row(alloc, rows, count, Op::Le, out, Sort::Int),
+            Form::One => Ok(()),
+            Form::Share(_) => Ok(()),
+            Form::Src(_) => Ok(()),
+        },
+        Form::Tok(count) => match there {
+            Form::Src(out) => push_row(alloc, rows, count, Op::Le, out, Sort::Int),
+            Form::One => Ok(()),
+            Form::Share(_) => Ok(()),
+            Form::Tok(_) => Ok(()),
+        },
+    }
+}
+
+// The rows under which a wanted form of an atom composes with the pieces.
+fn push_fits(
+    alloc: Global,
+    rows: &mut Vec<Row>,
+    pieces: &[Piece],
+    region: &Term,
+    kind: u32,
+    atom: u32,
+    wanted: &Form,
+) -> Result<(), LinError>
+    ensures { IsMade result (fits_steps (there pieces.now (made_piece region.now kind atom wanted.now)) wanted.now) (λ _. rows.new.items ≡ rows.old.items ++ fits_rows (there pieces.now (made_piece region.now kind atom wanted.now)) wanted.now) }
+{
+    match place_of_atom(pieces, region, kind, atom) {
+        Some(place) => push_beside(alloc, rows, &pieces[place].form, wanted),
+        None => push_alone(alloc, rows, wanted),
+    }
+}
+
+// A wanted amount is above 0 and a count at least 0, and then it composes with the pieces.
+fn push_one(
+    alloc: Global,
+    rows: &mut Vec<Row>,
+    pieces: &[Piece],
+    region: &Term,
+    kind: u32,
+    wanted: &(u32, Form),
+) -> Result<(), LinError>
+    ensures { IsMade result (one_steps pieces.now region.now kind wanted.now) (λ _. rows.new.items ≡ rows.old.items ++ one_rows pieces.now region.now kind wanted.now) }
+{
+    let (atom, form) = wanted;
+    push_added(alloc, rows, form)?;
+    push_fits(alloc, rows, pieces, region, kind, *atom, form)
+}
+
+fn push_all(
+    alloc: Global,
+    rows: &mut Vec<Row>,
+    pieces: &[Piece],
+    region: &Term,
+    kind: u32,
+    wanted: &[(u32, Form)],
+) -> Result<(), LinError>
+    ensures { IsMade result (wanted_steps pieces.now region.now kind wanted.now) (λ _. rows.new.items ≡ rows.old.items ++ wanted_rows pieces.now region.now kind wanted.now) }
+{
+    for one in wanted {
+        push_one(alloc, rows, pieces, region, kind, one)?;
+    }
+    Ok(())
+}
+
+/// The rows under which wanted forms, each of an atom, compose with the pieces of a region: that a
+/// wanted share is above 0 and, with the share of its atom that is there, at most 1; and that a
+/// wanted count is at least 0 and tokens are at most as many as their source has out. Nothing comes
+/// where some wanted form never composes: the source or the unique guard where it is there, or
+/// surely some part where a piece on another side of a sum is surely some part. Wide comes where a
+/// sum or a row's number leaves 128 bits, with the first such number's operands.
+pub fn compat(
+    alloc: Global,
+    algebra: &Algebra,
+    pieces: &[Piece],
+    region: &Term,
+    kind: u32,
+    wanted: &[(u32, Form)],
+) -> Result<Option<Vec<Row>>, LinError>
+    ensures { IsMade result (compat_steps (algebra_view algebra.now) pieces.now region.now kind wanted.now) (λ o. option_map (λ rows. rows.items) o ≡ compat_of (algebra_view algebra.now) pieces.now region.now kind wanted.now) }
+{
+    if clashes_some(algebra, pieces, region, kind, wanted) {
+        return Ok(None);
+    }
+    let mut rows = Vec::new(alloc);
+    push_all(alloc, &mut rows, pieces, region, kind, wanted)?;
+    Ok(Some(rows))
+}
