@@ -1,5 +1,6 @@
 pub mod Fractions
 pub mod Elements
+pub mod Lists
 pub mod Algebras
 pub mod Views
 pub mod Answers
