@@ -2,3 +2,4 @@ pub mod Made
 pub mod Pieces
 pub mod Merge
 pub mod Compat
+pub mod Meaning

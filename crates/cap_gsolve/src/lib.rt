@@ -4,11 +4,13 @@
 mod clash;
 mod combine;
 mod full;
+mod laws;
 mod merging;
 mod piece;
 mod rows;
 
 pub use full::full_pieces;
+pub use laws::{composed_parts_hold_both, wanted_atoms_are_compatible};
 pub use merging::merge;
 pub use piece::{Form, Piece};
 
