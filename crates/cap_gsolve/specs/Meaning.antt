@@ -96,14 +96,18 @@ AllHold v (Some rows) = AllByRecursion (Holds v) rows
 abbrev pub wanted_pieces : Linear → ℕ → List (ℕ × Form) → List Piece
 wanted_pieces r k ws = map (λ w. piece r k w.0 w.1) ws
 
--- where wanted atoms of a region compose with the pieces, they are compatible and the rows hold
-abbrev pub CompatMeans : Type 0
-CompatMeans =
-    (a : PlainAlgebra) (ps : List Piece) (r : Linear) (k : ℕ) (ws : List (ℕ × Form)) (v : Valuation) (x y z : Element)
+-- under each valuation by which wanted atoms of a region compose with pieces, an answer is rows, and they hold
+abbrev pub CoversWanted : PlainAlgebra → List Piece → Linear → ℕ → List (ℕ × Form) → Option (List Row) → Type 0
+CoversWanted a ps r k ws answer =
+    (v : Valuation) (x y z : Element)
     → ComposeAt a k v (value v.whole r) ps x
     → ComposeAt a k v (value v.whole r) (wanted_pieces r k ws) y
     → compose x y ≡ Some z
-    → AllHold v (compat a ps r k ws)
+    → AllHold v answer
+
+-- so is what compatibility answers
+abbrev pub CompatMeans : Type 0
+CompatMeans = (a : PlainAlgebra) (ps : List Piece) (r : Linear) (k : ℕ) (ws : List (ℕ × Form)) → CoversWanted a ps r k ws (compat a ps r k ws)
 
 -- what two parts hold is held together by the part that they compose to
 abbrev pub PartsCompose : Type 0
