@@ -1,9 +1,9 @@
 pub mod Fractions
 pub mod Elements
+pub mod Lists
 pub mod Algebras
 pub mod Views
 pub mod Answers
 pub mod Placed
-pub mod Lists
 pub mod Portions
 pub mod Laws

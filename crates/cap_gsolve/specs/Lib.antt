@@ -3,3 +3,4 @@ pub mod Pieces
 pub mod Merge
 pub mod Compat
 pub mod Fulls
+pub mod Meaning

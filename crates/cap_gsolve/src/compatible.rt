@@ -1,9 +1,10 @@
-ghost use Rattle.std.specs.Prelude.{◌≡◌, ◌++◌, ◌∷◌, [], position, option_map, Some, None};
+ghost use Rattle.std.specs.Prelude.{◌≡◌, ◌++◌, ◌∷◌, [], position, option_map, Some, None, IfOk};
 ghost use Rattle.cap_galg.specs.Views.{algebra_view};
 ghost use Rattle.cap_gsolve.specs.declared.piece.Form.TheVariants.{Share};
 ghost use Rattle.cap_gsolve.specs.Made.{IsMade};
 ghost use Rattle.cap_gsolve.specs.Pieces.{piece as made_piece, of_atom};
 ghost use Rattle.cap_gsolve.specs.Merge.{there};
+ghost use Rattle.cap_gsolve.specs.Meaning.{CoversWanted};
 ghost use Rattle.cap_gsolve.specs.Compat.{never, clashes_with as some_clash_with, clashes_some as some_wanted_clash, fits_rows, fits_steps, one_rows, one_steps, wanted_rows, wanted_steps, compat as compat_of, compat_steps};
 
 use crate::clash::clashes;
@@ -199,8 +200,23 @@ fn push_all(
 /// wanted count is at least 0 and tokens are at most as many as their source has out. Nothing comes
 /// where some wanted form never composes: the source or the unique guard where it is there, or
 /// surely some part where a piece on another side of a sum is surely some part. Wide comes where a
-/// sum or a row's number leaves 128 bits, with the first such number's operands.
+/// sum or a row's number leaves 128 bits, with the first such number's operands. Where the wanted
+/// forms' elements compose with the pieces', rows come, and they hold.
 pub fn compat(
+    alloc: Global,
+    algebra: &Algebra,
+    pieces: &[Piece],
+    region: &Term,
+    kind: u32,
+    wanted: &[(u32, Form)],
+) -> Result<Option<Vec<Row>>, LinError>
+    ensures exact { IsMade result (compat_steps (algebra_view algebra.now) pieces.now region.now kind wanted.now) (λ o. option_map (λ rows. rows.items) o ≡ compat_of (algebra_view algebra.now) pieces.now region.now kind wanted.now) }
+    ensures means { IfOk result (λ o. CoversWanted (algebra_view algebra.now) pieces.now region.now kind wanted.now (option_map (λ rows. rows.items) o)) }
+{
+    compared(alloc, algebra, pieces, region, kind, wanted)
+}
+
+fn compared(
     alloc: Global,
     algebra: &Algebra,
     pieces: &[Piece],

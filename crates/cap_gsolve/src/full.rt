@@ -1,7 +1,8 @@
-ghost use Rattle.std.specs.Prelude.{◌≡◌, ◌≤◌, ◌+◌, ◌^◌, ◌++◌, ◌∷◌, [], map, MatchResult};
+ghost use Rattle.std.specs.Prelude.{◌≡◌, ◌≤◌, ◌+◌, ◌^◌, ◌++◌, ◌∷◌, [], map, IfOk, MatchResult};
 ghost use Rattle.cap_lin.specs.declared.error.LinError.TheVariants.{OutOfMemory};
 ghost use Rattle.cap_galg.specs.Algebras.{atoms};
 ghost use Rattle.cap_galg.specs.Views.{algebra_view};
+ghost use Rattle.cap_gsolve.specs.Meaning.{AreAll};
 ghost use Rattle.cap_gsolve.specs.Pieces.{piece, full_forms, full_pieces as pieces_of_all};
 
 use crate::piece::{Form, Piece};
@@ -10,7 +11,8 @@ use cap_lin::{LinError, Term};
 use std::alloc::Global;
 
 /// The pieces that hold all of a region's guards: all of each atom, and of a sum its left side. The
-/// numbers of atoms are within 32 bits. It is never Wide.
+/// numbers of atoms are within 32 bits. It is never Wide. Under each valuation the pieces compose to
+/// the full element.
 pub fn full_pieces(
     alloc: Global,
     algebra: &Algebra,
@@ -18,7 +20,8 @@ pub fn full_pieces(
     kind: u32,
 ) -> Result<Vec<Piece>, LinError>
     requires { atoms (algebra_view algebra.now) ≤ 2 ^ 32 }
-    ensures { MatchResult result (λ ps. ps.items ≡ pieces_of_all (algebra_view algebra.now) region.now kind) (λ e. e ≡ OutOfMemory) }
+    ensures exact { MatchResult result (λ ps. ps.items ≡ pieces_of_all (algebra_view algebra.now) region.now kind) (λ e. e ≡ OutOfMemory) }
+    ensures means { IfOk result (λ ps. AreAll (algebra_view algebra.now) region.now kind ps.items) }
 {
     let mut pieces = Vec::new(alloc);
     push_full(alloc, algebra, region, kind, 0, &mut pieces)?;

@@ -1,6 +1,7 @@
 ghost use Rattle.std.specs.Prelude.{◌≡◌, ◌++◌, ◌∷◌, [], ◌<◌, length, slice_set, IfOk};
 ghost use Rattle.cap_galg.specs.Views.{algebra_view};
 ghost use Rattle.cap_gsolve.specs.Made.{IsMade};
+ghost use Rattle.cap_gsolve.specs.Meaning.{MergesTo};
 ghost use Rattle.cap_gsolve.specs.Merge.{place, form_at, there, lone_rows, lone_steps, combined_rows, combined_steps, met_rows, met_steps, joined as pieces_joined, merged, clash_rows, clash_steps, merge_rows, merge_steps};
 
 use crate::clash::clashes;
@@ -107,12 +108,8 @@ fn push_clash(alloc: Global, rows: &mut Vec<Row>, clash: bool) -> Result<(), Lin
     }
 }
 
-/// The pieces with a new one composed in, and the rows that then hold: that an amount is above 0 and
-/// at most 1 and a count at least 0, that tokens which come back were out, and, where no thread holds
-/// these pieces at once, a row that never holds. The new piece stands in the place of the piece of
-/// its part, or else as the last. Wide comes where a number of the new form or of a row leaves 128
-/// bits, with the first such number's operands.
-pub fn merge(
+// What a merge answers, exactly.
+fn composed_in(
     alloc: Global,
     algebra: &Algebra,
     pieces: &[Piece],
@@ -133,4 +130,22 @@ pub fn merge(
     let merged = met(alloc, &mut rows, pieces, piece)?;
     push_clash(alloc, &mut rows, clash)?;
     Ok((merged, rows))
+}
+
+/// The pieces with a new one composed in, and the rows that then hold: that an amount is above 0 and
+/// at most 1 and a count at least 0, that tokens which come back were out, and, where no thread holds
+/// these pieces at once, a row that never holds. The new piece stands in the place of the piece of
+/// its part, or else as the last. Wide comes where a number of the new form or of a row leaves 128
+/// bits, with the first such number's operands. Where a part of the guards holds the old pieces and
+/// the new one together, it holds the merged pieces and the rows hold.
+pub fn merge(
+    alloc: Global,
+    algebra: &Algebra,
+    pieces: &[Piece],
+    piece: &Piece,
+) -> Result<(Vec<Piece>, Vec<Row>), LinError>
+    ensures exact { IsMade result (merge_steps (algebra_view algebra.now) pieces.now piece.now) (λ r. (r.0.items ≡ merged pieces.now piece.now) × (r.1.items ≡ merge_rows (algebra_view algebra.now) pieces.now piece.now)) }
+    ensures means { IfOk result (λ r. MergesTo (algebra_view algebra.now) pieces.now piece.now r.0.items r.1.items) }
+{
+    composed_in(alloc, algebra, pieces, piece)
 }

@@ -1,17 +1,16 @@
-use Rattle.std.proofs.lemmas.Result.{err_from_is_err_and}
+use Rattle.std.proofs.Common.{◌≡◌, sym, subst}
+use Rattle.std.specs.Prelude.{option_map}
 use Rattle.cap_galg.specs.Views.{algebra_view}
-use Rattle.cap_gsolve.proofs.Wanted.{never-all, error-all, rows-all}
+use Rattle.cap_gsolve.specs.Compat.{compat, compat_steps}
+use Rattle.cap_gsolve.specs.Meaning.{CoversWanted}
+use Rattle.cap_gsolve.proofs.Means.{if-made, compat-means}
 use Rattle.cap_gsolve.proofs.compatible.compat.Goals as goal
 
-pub returns-then-clashes_some : goal.returns-then-clashes_some
-returns-then-clashes_some c = never-all (algebra_view c.args.algebra.now) c.args.pieces.now c.args.region.now c.args.kind c.args.wanted.now c.clashes_some.result c.clashes_some.ensures c.if-clashes_some.true
-
-pub returns-in_err-push_all : goal.returns-in_err-push_all
-returns-in_err-push_all c =
-    let p = err_from_is_err_and c.from_residual.result c.from_residual.ensures.1 in
-    rw (p.1, p.2) (error-all (algebra_view c.args.algebra.now) c.args.pieces.now c.args.region.now c.args.kind c.args.wanted.now c.clashes_some.result _ c.clashes_some.ensures c.if-clashes_some.false c.in_err-push_all.ensures)
-
-pub returns : goal.returns
-returns c =
-    let m = c.in_ok-push_all.ensures in
-    rows-all (algebra_view c.args.algebra.now) c.args.pieces.now c.args.region.now c.args.kind c.args.wanted.now c.clashes_some.result c.new-rows.result.items c.push_all.new.rows.items c.clashes_some.ensures c.if-clashes_some.false c.new-rows.ensures.items m.0 m.1
+pub returns-clause-means : goal.returns-clause-means
+returns-clause-means c =
+    let a = algebra_view c.args.algebra.now in
+    if-made c.compared.result
+    (compat_steps a c.args.pieces.now c.args.region.now c.args.kind c.args.wanted.now)
+    (λ o. option_map (λ rows. rows.items) o ≡ compat a c.args.pieces.now c.args.region.now c.args.kind c.args.wanted.now)
+    (λ o. CoversWanted a c.args.pieces.now c.args.region.now c.args.kind c.args.wanted.now (option_map (λ rows. rows.items) o))
+    (λ o h. subst (CoversWanted a c.args.pieces.now c.args.region.now c.args.kind c.args.wanted.now) (sym h) (compat-means a c.args.pieces.now c.args.region.now c.args.kind c.args.wanted.now)) c.compared.ensures

@@ -1,26 +1,15 @@
-use Rattle.std.proofs.lemmas.Result.{err_from_is_err_and}
 use Rattle.cap_galg.specs.Views.{algebra_view}
-use Rattle.cap_gsolve.proofs.Whole.{added-error, met-error, clash-error, all-narrow, all-rows}
+use Rattle.cap_gsolve.specs.Merge.{merged, merge_rows, merge_steps}
+use Rattle.cap_gsolve.specs.Meaning.{MergesTo}
+use Rattle.std.proofs.Common.{◌≡◌}
+use Rattle.cap_gsolve.proofs.Means.{if-made, merged-means}
 use Rattle.cap_gsolve.proofs.merging.merge.Goals as goal
 
-pub returns-in_err-push_added : goal.returns-in_err-push_added
-returns-in_err-push_added c =
-    let p = err_from_is_err_and c.from_residual.result c.from_residual.ensures.1 in
-    rw (p.1, p.2) (added-error (algebra_view c.args.algebra.now) c.args.pieces.now c.args.piece.now _ c.in_err-push_added.ensures)
-
-pub returns-in_err-merged : goal.returns-in_err-merged
-returns-in_err-merged c =
-    let p = err_from_is_err_and c.from_residual-in_err-merged.result c.from_residual-in_err-merged.ensures.1 in
-    rw (p.1, p.2) (met-error (algebra_view c.args.algebra.now) c.args.pieces.now c.args.piece.now _ c.in_ok-push_added.ensures.0 c.in_err-merged.ensures)
-
-pub returns-in_err-push_clash : goal.returns-in_err-push_clash
-returns-in_err-push_clash c =
-    let p = err_from_is_err_and c.from_residual-in_err-push_clash.result c.from_residual-in_err-push_clash.ensures.1 in
-    rw (p.1, p.2) (clash-error (algebra_view c.args.algebra.now) c.args.pieces.now c.args.piece.now _ c.clashes-clash.result c.clashes-clash.ensures c.in_ok-push_added.ensures.0 c.in_ok-merged.ensures.0 c.in_err-push_clash.ensures)
-
-pub returns : goal.returns
-returns c =
-    let first = c.in_ok-push_added.ensures in
-    let middle = c.in_ok-merged.ensures in
-    let last = c.in_ok-push_clash.ensures in
-    (all-narrow (algebra_view c.args.algebra.now) c.args.pieces.now c.args.piece.now c.clashes-clash.result c.clashes-clash.ensures first.0 middle.0 last.0, (middle.1.0, all-rows (algebra_view c.args.algebra.now) c.args.pieces.now c.args.piece.now c.clashes-clash.result c.new-rows.result.items _ _ _ c.clashes-clash.ensures c.new-rows.ensures.items first.1 middle.1.1 last.1))
+pub returns-clause-means : goal.returns-clause-means
+returns-clause-means c =
+    let a = algebra_view c.args.algebra.now in
+    if-made c.composed_in.result
+    (merge_steps a c.args.pieces.now c.args.piece.now)
+    (λ r. (r.0.items ≡ merged c.args.pieces.now c.args.piece.now) × (r.1.items ≡ merge_rows a c.args.pieces.now c.args.piece.now))
+    (λ r. MergesTo a c.args.pieces.now c.args.piece.now r.0.items r.1.items)
+    (λ r h. merged-means a c.args.pieces.now r.0.items c.args.piece.now r.1.items h.0 h.1) c.composed_in.ensures
