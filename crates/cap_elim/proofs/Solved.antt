@@ -1,11 +1,11 @@
 -- Where elimination finds no certificate of rows, some rational valuation solves them.
-use Rattle.std.proofs.Common.{◌≡◌, ℕ, ℤ, negsuc, ◌+◌, List, [], ◌∷◌, ◌++◌, refl, ap, subst, Option, Some, None, inl, inr}
-use Rattle.std.specs.Prelude.{option_map}
+use Rattle.std.proofs.Common.{◌≡◌, ℕ, zero, suc, ℤ, negsuc, ◌+◌, List, [], ◌∷◌, ◌++◌, refl, sym, ap, subst, Option, Some, None, inl, inr}
+use Rattle.std.specs.Prelude.{option_map, slice_get}
 use Rattle.std.specs.List.{AllByRecursion}
 use Rattle.cap_lin.specs.Linear.{Linear, AscendFrom, times, negative}
 use Rattle.cap_lin.specs.Values.{RationalValuation}
-use Rattle.cap_lin.specs.Rows.{below_zero, below_zero_steps, above_zero, above_zero_steps}
-use Rattle.cap_lin.specs.Solves.{SolvesRationally, kept, without_ne}
+use Rattle.cap_lin.specs.Rows.{row, below_zero, below_zero_steps, above_zero, above_zero_steps}
+use Rattle.cap_lin.specs.Solves.{SolvesRationally, kept, without_ne, SplitsToNone, Infeasible}
 use Rattle.cap_lin.specs.declared.row.Row.{Row}
 use Rattle.cap_lin.specs.declared.row.Sort.{Sort}
 use Rattle.cap_lin.specs.declared.row.Sort.TheVariants.{Int, Perm}
@@ -97,3 +97,24 @@ solved-complete rows a e = by_first (refuted rows).value refl e
     by_first : (o : Option (List (ℕ × ℤ))) → (refuted rows).value ≡ o → (or_splits rows (refuted rows).events o).value ≡ None → (q : RationalValuation) × SolvesRationally q rows
     by_first None d e = let h = refuted-none rows a d in generic rows h.0 h.1 (splits-none rows 0 rows a a e)
     by_first (Some l) d e = some-none _ _ e
+
+-- ---- where no certificate is found, the rows are not infeasible
+
+side-at : (rows rest : List Row) (place : ℕ) (r : Row) → AllByRecursion (λ r. r.kind ≡ Ne → SolvesSide rows r) rest → slice_get rest place ≡ Some r → r.kind ≡ Ne → SolvesSide rows r
+side-at rows [] place r a e k = some-none _ _ (sym e)
+side-at rows (x ∷ rest) zero r a e k = let d : x ≡ r = cc in subst (λ y. y.kind ≡ Ne → SolvesSide rows y) d a.0 k
+side-at rows (x ∷ rest) (suc place) r a e k = side-at rows rest place r a.1 e k
+
+one-side : (rows : List Row) (place : ℕ) → AllByRecursion (λ r. r.kind ≡ Ne → SolvesSide (without_ne rows) r) rows → SplitsToNone rows place → ⊥
+one-side rows place a s =
+    let d = side-at (without_ne rows) rows place (row Ne s.sort s.term) a s.is refl in
+    elim d.1 [ inl h ↦ s.below d.0 h | inr h ↦ s.above d.0 h ]
+
+pub solved-feasible : (rows : List Row) → RowsAscend rows → (solved rows).value ≡ None → Infeasible rows → ⊥
+unfolding solved
+solved-feasible rows a e i = by_first (refuted rows).value refl e i
+  where
+    by_first : (o : Option (List (ℕ × ℤ))) → (refuted rows).value ≡ o → (or_splits rows (refuted rows).events o).value ≡ None → Infeasible rows → ⊥
+    by_first None d e (inl n) = let h = refuted-none rows a d in n h.0 h.1
+    by_first None d e (inr s) = one-side rows s.0 (splits-none rows 0 rows a a e) s.1
+    by_first (Some l) d e i = some-none _ _ e

@@ -1,133 +1,144 @@
--- The multipliers of a false row refute the input rows.
-use Rattle.std.proofs.Common.{◌≡◌, ℕ, zero, suc, get_or, ℤ, pos, negsuc, ◌+ℤ◌, ◌*ℤ◌, ◌≤ℤ◌, ◌<ℤ◌, List, [], ◌∷◌, ◌+◌, ◌<◌, ◌≤◌, length, arith, refl, subst, ap, sym, ◌∙◌, ◌⊎◌, inl, inr}
+-- The whole of a leaf: its rows are there to be added up, and its parts follow one another.
+use Rattle.std.proofs.Common.{◌≡◌, ℕ, zero, suc, ℤ, pos, negsuc, ◌+◌, ◌<◌, ◌≤◌, List, [], ◌∷◌, length, map, get_or, arith, inl, inr, refl, subst, sym, ap, ◌∙◌, Bool, true, false, None, Result}
+use Rattle.std.specs.Prelude.{if◌then◌else◌, ◌==◌, MatchResult}
+use Rattle.std.specs.List.{AllByRecursion}
+use mathlib.Core.List.{reverse_aux}
 use Rattle.std.proofs.lemmas.Bool.{cases_lt}
 use Rattle.std.proofs.lemmas.Int.{ints}
-use Rattle.cap_numbers.proofs.Order.{sign_of}
-use Rattle.cap_lin.specs.Linear.{Linear, AscendFrom, coefficient, times, multiples}
-use Rattle.cap_lin.specs.Values.{parts_value, value}
+use Rattle.std.proofs.lemmas.List.{get_or_default}
+use Rattle.std.proofs.lemmas.Result.{MatchResult-weaker}
+use Rattle.cap_lin.specs.Linear.{Linear, AscendFrom, coefficient, number, variable, negative, times, combination, IsBelow}
+use Rattle.cap_lin.specs.Steps.{first_wide}
 use Rattle.cap_lin.specs.declared.row.Row.{Row}
-use Rattle.cap_lin.specs.declared.row.Kind.{Kind}
-use Rattle.cap_lin.specs.declared.row.Kind.TheVariants.{Le, Lt, Eq, Ne}
-use Rattle.cap_lin.proofs.Places.{coefficient-same, coefficient-other, coefficient-nil, tested}
-use Rattle.cap_lin.proofs.Values.{value-nil, value-cons}
 use Rattle.cap_lin.proofs.Merge.{no_part}
-use Rattle.cap_farkas.specs.Farkas.{MayMultiply, row_at, Names, constant_of, coefficient_of, column_sum, IsNarrow, HasStrict, RefutesLeaf}
-use Rattle.cap_fm.specs.Sums.{column, MayAdd, IsFalseAs, IsSumOf, Contradict}
-use Rattle.cap_fm.specs.declared.derived.Relation.{Relation}
-use Rattle.cap_fm.specs.declared.derived.Relation.TheVariants.{AtMost, Below, Equal}
-use Rattle.cap_fm.proofs.Sums.{sum-turned}
+use Rattle.cap_lin.proofs.Ascend.{multiple-ascends}
+use Rattle.cap_lin.proofs.Places.{coefficient-other, coefficient-nil, at_place}
+use Rattle.cap_lin.proofs.Values.{coefficient-multiples}
+use Rattle.cap_lin.proofs.Combinations.{combination-coefficient, combination-ascends}
+use Rattle.cap_elim.specs.Runs.{Origin, given, combined, Entry}
+use Rattle.cap_elim.specs.Leaf.{multipliers_of, multipliers, way_steps, is_turned, turned, turned_steps, check_steps, leaf, leaf_steps}
+use Rattle.cap_fm.specs.declared.entry.Origin as entry
+use Rattle.cap_fm.specs.declared.entry.Origin.TheVariants.{Given, Combined}
+use Rattle.cap_fm.specs.declared.error.SolveError.{SolveError}
+use Rattle.cap_fm.specs.Answers.{ExplainsSteps}
+use Rattle.cap_fm.specs.Views.{origin_view, history_view, IsOrigin, IsHistoryFrom, IsHistory}
+use Rattle.cap_fm.specs.Way.{RowsBelow, AreEarlier}
+use Rattle.cap_fm.proofs.LeavesSteps.{earlier-error, later-error, both-narrow}
 
--- ---- a column's sum is the value of the multipliers
+-- ---- variables below a number
 
-sum-is : (of : Linear → ℤ) (rows : List Row) (s : ℤ) (leaf : List (ℕ × ℤ)) → column_sum of rows s leaf ≡ s +ℤ parts_value (column of rows) leaf
-unfolding column_sum
-sum-is of rows s [] = rw (value-nil (column of rows)) (omega (arith, ints))
-sum-is of rows s (p ∷ ps) = sum-is of rows (s +ℤ p.1 *ℤ of (row_at rows p.0).term) ps ∙ rw (value-cons (column of rows) p ps) (omega (arith, ints))
+-- the parts ascend, and the variables from a number on are not among them
+record IsShort (n : ℕ) (t : Linear) : Type 0 where
+  ascends : AscendFrom 0 t.parts
+  lacks : (x : ℕ) → n ≤ x → coefficient x t.parts ≡ pos 0
 
-value-is : (n : ℕ → ℤ) (m : Linear) → m.constant ≡ pos 0 → value n m ≡ pos 0 +ℤ parts_value n m.parts
-unfolding value
-value-is n m e = ap (λ c. c +ℤ parts_value n m.parts) e
+number-short : (n : ℕ) (k : ℤ) → IsShort n (number k)
+number-short n k = record { ascends = tt; lacks = λ x h. coefficient-nil x }
 
-column-is : (of : Linear → ℤ) (rows : List Row) (m : Linear) → m.constant ≡ pos 0 → column_sum of rows (pos 0) m.parts ≡ value (column of rows) m
-column-is of rows m e = sum-is of rows (pos 0) m.parts ∙ sym (value-is (column of rows) m e)
-
--- ---- the rows named
-
-below-none : (low x : ℕ) (ps : List (ℕ × ℤ)) → AscendFrom low ps → x < low → coefficient x ps ≡ pos 0
-below-none low x [] a h = coefficient-nil x
-below-none low x (p ∷ ps) a h = let l = a.0 in coefficient-other x p ps (λ e. absurd (omega arith)) ∙ below-none (p.0 + 1) x ps a.2 (omega arith)
-
-head-coefficient : (low : ℕ) (p : ℕ × ℤ) (ps : List (ℕ × ℤ)) → AscendFrom low (p ∷ ps) → coefficient p.0 (p ∷ ps) ≡ p.1
-head-coefficient low p ps a = coefficient-same p.0 p ps refl ∙ rw (below-none (p.0 + 1) p.0 ps a.2 (omega arith)) (omega (arith, ints))
-
-tail-coefficient : (i : ℕ) (p : ℕ × ℤ) (ps : List (ℕ × ℤ)) → p.0 + 1 ≤ i → coefficient i (p ∷ ps) ≡ coefficient i ps
-tail-coefficient i p ps h = coefficient-other i p ps (λ e. absurd (omega arith))
-
-positive : (k : ℤ) → pos 0 ≤ℤ k → (k ≡ pos 0 → ⊥) → pos 0 <ℤ k
-positive k h n = elim (sign_of k) [ inl l ↦ absurd (omega (arith, ints)) | inr o ↦ elim o [ inl e ↦ absurd (n e) | inr g ↦ g ] ]
-
-multiply : (kind : Kind) (r : Relation) (k : ℤ) → MayAdd kind r k → (k ≡ pos 0 → ⊥) → MayMultiply kind k
-multiply Le r k m n = positive k m.0 n
-multiply Lt r k m n = positive k m.0 n
-multiply Eq r k m n = n
-multiply Ne r k m n = n m
-
--- what is known of a multiplier by its row's number
-pub record MayStand (rows : List Row) (r : Relation) (i : ℕ) (k : ℤ) : Type 0 where
-  pub within : length rows ≤ i → k ≡ pos 0
-  pub may : MayAdd (row_at rows i).kind r k
-
-names : (rows : List Row) (r : Relation) (low : ℕ) (ps : List (ℕ × ℤ)) → AscendFrom low ps → ((i : ℕ) → low ≤ i → MayStand rows r i (coefficient i ps)) → Names low rows ps
-unfolding Names
-names rows r low [] a f = tt
-names rows r low (p ∷ ps) a f =
-    let h = subst (MayStand rows r p.0) (head-coefficient low p ps a) (f p.0 a.0) in
-    let l = a.0 in (
-      a.0,
-      elim (cases_lt p.0 (length rows)) [ inl b ↦ b | inr b ↦ absurd (a.1 (h.within b)) ],
-      multiply _ r p.1 h.may a.1,
-      names rows r (p.0 + 1) ps a.2 (λ i b. subst (MayStand rows r i) (tail-coefficient i p ps b) (f i (omega arith))),
-    )
-
-strict-named : (rows : List Row) (i : ℕ) (ps : List (ℕ × ℤ)) → (row_at rows i).kind ≡ Lt → pos 0 <ℤ coefficient i ps → HasStrict rows ps
-unfolding HasStrict
-strict-named rows i [] k h = let e = coefficient-nil i in absurd (omega (arith, ints))
-strict-named rows i (p ∷ ps) k h = elim (tested p.0 i) [
-  | inl e ↦ inl (subst (λ j. (row_at rows j).kind ≡ Lt) (sym e) k)
-  | inr n ↦ inr (strict-named rows i ps k (subst (λ z. pos 0 <ℤ z) (coefficient-other i p ps n) h))
-]
-
--- ---- a false row without variables
-
--- the sum contradicts itself as it stands
-abbrev IsTooLarge : Relation → ℤ → Type 0
-IsTooLarge r c = (pos 0 <ℤ c) ⊎ ((c ≡ pos 0) × (r ≡ Below))
-
-contradict : (rows : List Row) (t : Linear) (r : Relation) (m : Linear) → t.parts ≡ [] → IsTooLarge r t.constant → IsSumOf rows t r m → AscendFrom 0 m.parts → Contradict rows m
-contradict rows t r m e c s a =
-    let k : column_sum constant_of rows (pos 0) m.parts ≡ t.constant = column-is constant_of rows m s.bare ∙ sym s.constant in
-    record {
-      names = names rows r 0 m.parts a (λ i h. record { within = s.within i; may = s.may i });
-      cancels = λ x. column-is (coefficient_of x) rows m s.bare ∙ sym (s.coefficients x) ∙ ap (coefficient x) e ∙ coefficient-nil x;
-      contradicts = elim c [ inl p ↦ inl (rw k p) | inr z ↦ inr (k ∙ z.0, strict-named rows (s.strict z.1).number m.parts (s.strict z.1).strict (s.strict z.1).above) ];
-    }
-
-too_large : (r : Relation) (c : ℤ) → IsFalseAs r c → (r ≡ Equal → pos 0 ≤ℤ c) → IsTooLarge r c
-too_large AtMost c f h = inl f
-too_large Below c f h = elim (sign_of c) [ inl l ↦ absurd (omega (arith, ints)) | inr o ↦ elim o [ inl e ↦ inr (e, refl) | inr g ↦ inl g ] ]
-too_large Equal c f h = inl (positive c (h refl) f)
-
--- the multipliers as they are, unless the row is an equation with a negative constant
-pub as_it_is : (rows : List Row) (t : Linear) (r : Relation) (c : ℤ) (m : Linear) → (r ≡ Equal → pos 0 ≤ℤ c) → t.parts ≡ [] → t.constant ≡ c → IsFalseAs r c → IsSumOf rows t r m → AscendFrom 0 m.parts → Contradict rows m
-as_it_is rows t r c m h e k f s a = contradict rows t r m e (subst (IsTooLarge r) (sym k) (too_large r c f h)) s a
-
-no_parts : (k : ℤ) (t : Linear) → t.parts ≡ [] → (times k t).parts ≡ []
-unfolding times multiples
-no_parts k t e = ap (multiples k) e
-
-turned-constant : (t : Linear) → t.constant <ℤ pos 0 → pos 0 <ℤ (times (negsuc 0) t).constant
-unfolding times
-turned-constant t h = omega (arith, ints)
-
-pub when_turned : (rows : List Row) (t : Linear) (r : Relation) (c : ℤ) (m n : Linear) → r ≡ Equal → c <ℤ pos 0 → n ≡ times (negsuc 0) m → t.parts ≡ [] → t.constant ≡ c → IsSumOf rows t r m → AscendFrom 0 n.parts → Contradict rows n
-when_turned rows t r c m n q h d e k s a =
-    let u = subst (λ x. IsSumOf rows t x m) q s in
-    let b = subst (λ x. AscendFrom 0 x.parts) d a in
-    let g = subst (λ z. z <ℤ pos 0) (sym k) h in
-    subst (Contradict rows) (sym d) (contradict rows (times (negsuc 0) t) Equal (times (negsuc 0) m) (no_parts (negsuc 0) t e) (inl (turned-constant t g)) (sum-turned rows t m u) b)
-
-pub refutes_leaf : (rows : List Row) (m : Linear) → Contradict rows m → IsNarrow constant_of rows m.parts → ((x : ℕ) → IsNarrow (coefficient_of x) rows m.parts) → RefutesLeaf rows m.parts
-refutes_leaf rows m c n w = record {
-  names = c.names;
-  constant = n;
-  cancels = λ x. record { narrow = w x; zero_sum = c.cancels x };
-  contradicts = c.contradicts;
+variable-short : (n i : ℕ) → i < n → IsShort n (variable i)
+variable-short n i l = record {
+  ascends = (omega arith, λ e. cc, tt);
+  lacks = λ x h. coefficient-other x (i, pos 1) [] (λ e. absurd (omega arith)) ∙ coefficient-nil x;
 }
 
--- ---- the loop that adds up the rows
+combination-short : (n : ℕ) (a : ℤ) (s : Linear) (b : ℤ) (t : Linear) → IsShort n s → IsShort n t → IsShort n (combination a s b t)
+combination-short n a s b t g h = record {
+  ascends = combination-ascends a s b t g.ascends h.ascends;
+  lacks = λ x l. combination-coefficient x a s b t ∙ rw (g.lacks x l, h.lacks x l) (omega (arith, ints));
+}
 
-pub named-within : (rows : List Row) (low : ℕ) (leaf : List (ℕ × ℤ)) (i : ℕ) → Names low rows leaf → i < length leaf → (get_or leaf i no_part).0 < length rows
-unfolding Names
-named-within rows low [] i n h = absurd (omega arith)
-named-within rows low (p ∷ ps) zero n h = n.1
-named-within rows low (p ∷ ps) (suc i) n h = named-within rows (p.0 + 1) ps i n.3 (omega arith)
+negative-short : (n : ℕ) (t : Linear) → IsShort n t → IsShort n (negative t)
+unfolding times
+negative-short n t h = record {
+  ascends = multiple-ascends 0 (negsuc 0) t.parts h.ascends;
+  lacks = λ x l. coefficient-multiples x (negsuc 0) t.parts ∙ rw (h.lacks x l) (omega (arith, ints));
+}
+
+turned-short : (n : ℕ) (b : Bool) (t : Linear) → IsShort n t → IsShort n (turned b t)
+turned-short n true t h = negative-short n t h
+turned-short n false t h = h
+
+part-at : (low : ℕ) (ps : List (ℕ × ℤ)) (k : ℕ) → AscendFrom low ps → k < length ps → (get_or ps k no_part).1 ≡ pos 0 → ⊥
+part-at low [] k a l e = absurd (omega arith)
+part-at low (p ∷ ps) zero a l e = a.1 e
+part-at low (p ∷ ps) (suc k) a l e = part-at (p.0 + 1) ps k a.2 (omega arith) e
+
+short-below : (n : ℕ) (t : Linear) → IsShort n t → IsBelow n t
+short-below n t h k d l =
+    let e : get_or t.parts k d ≡ get_or t.parts k no_part = get_or_default t.parts k d no_part l in
+    rw e (elim (cases_lt (get_or t.parts k no_part).0 n) [
+      | inl b ↦ b
+      | inr b ↦ absurd (part-at 0 t.parts k h.ascends l (sym (at_place (get_or t.parts k no_part).0 t.parts k h.ascends l refl) ∙ h.lacks _ b))
+    ])
+
+-- ---- the multipliers are of input rows
+
+abbrev IsInput : ℕ → Origin → Type 0
+IsInput n (given i) = i < n
+IsInput n (combined a p b q) = Unit {0}
+
+abbrev AreInputs : ℕ → List Origin → Type 0
+AreInputs n os = AllByRecursion (IsInput n) os
+
+of-short : (n : ℕ) (o : Origin) (terms : ℕ → Linear) → IsInput n o → ((i : ℕ) → IsShort n (terms i)) → IsShort n (multipliers_of o terms)
+of-short n (given i) terms h t = variable-short n i h
+of-short n (combined a p b q) terms h t = combination-short n a (terms p) b (terms q) (t p) (t q)
+
+multipliers-short : (n : ℕ) (older : List Origin) → AreInputs n older → (i : ℕ) → IsShort n (multipliers older i)
+unfolding multipliers
+multipliers-short n [] h i = number-short n (pos 0)
+multipliers-short n (o ∷ older) h i = by_test (i == length older) (of-short n o (multipliers older) h.0 (multipliers-short n older h.1)) (multipliers-short n older h.1 i)
+  where
+    by_test : (b : Bool) → IsShort n (multipliers_of o (multipliers older)) → IsShort n (multipliers older i) → IsShort n (if b then multipliers_of o (multipliers older) else multipliers older i)
+    by_test true g k = g
+    by_test false g k = k
+
+one-input : (n place : ℕ) (o : entry.Origin) → IsOrigin n place o → IsInput n (origin_view o)
+one-input n place (Given i) h = h
+one-input n place (Combined a p b q) h = tt
+
+inputs : (n place : ℕ) (history : List entry.Origin) (older : List Origin) → IsHistoryFrom n place history → AreInputs n older → AreInputs n (reverse_aux (map origin_view history) older)
+inputs n place [] older h k = k
+inputs n place (o ∷ os) older h k = inputs n (place + 1) os (origin_view o ∷ older) h.1 (one-input n place o h.0, k)
+
+leaf-below : (n : ℕ) (history : List entry.Origin) (e : Entry) → IsHistory n history → IsBelow n (leaf (history_view history) e)
+leaf-below n history e h = short-below n _ (turned-short n (is_turned e.kind e.term.constant) (multipliers (history_view history) e.origin) (multipliers-short n (history_view history) (inputs n 0 history [] h tt) e.origin))
+
+-- ---- rows are combinations of earlier ones
+
+one-earlier : (n place : ℕ) (o : entry.Origin) → IsOrigin n place o → RowsBelow place (origin_view o)
+one-earlier n place (Given i) h = tt
+one-earlier n place (Combined a p b q) h = h
+
+pub earlier : (n place : ℕ) (history : List entry.Origin) → IsHistoryFrom n place history → AreEarlier place (map origin_view history)
+unfolding AreEarlier
+earlier n place [] h = tt
+earlier n place (o ∷ os) h = (one-earlier n place o h.0, earlier n (place + 1) os h.1)
+
+-- ---- one part after the other
+
+-- the leaf as it was made: with this constant, these multipliers, and these after the turn
+pub record IsMade (history : List Origin) (e : Entry) (c : ℤ) (t u : Linear) : Type 0 where
+  pub constant : c ≡ e.term.constant
+  pub multipliers_are : t ≡ multipliers history e.origin
+  pub turned_are : u ≡ turned (is_turned e.kind c) t
+
+made-leaf : (history : List Origin) (e : Entry) (c : ℤ) (t u : Linear) → IsMade history e c t u → u ≡ leaf history e
+made-leaf history e c t u m = rw (m.turned_are, m.constant, m.multipliers_are) refl
+
+pub made-below : (n : ℕ) (history : List entry.Origin) (e : Entry) (c : ℤ) (t u : Linear) → IsHistory n history → IsMade (history_view history) e c t u → IsBelow n u
+made-below n history e c t u h m = subst (IsBelow n) (sym (made-leaf (history_view history) e c t u m)) (leaf-below n history e h)
+
+pub way-fails : (rows : List Row) (history : List Origin) (e : Entry) (error : SolveError) → ExplainsSteps error (way_steps history (λ i. i == e.origin)) → ExplainsSteps error (leaf_steps rows history e)
+way-fails rows history e error h = earlier-error error _ _ h
+
+pub turn-fails : (rows : List Row) (history : List Origin) (e : Entry) (error : SolveError) (c : ℤ) (t : Linear) → first_wide (way_steps history (λ i. i == e.origin)) ≡ None → c ≡ e.term.constant → t ≡ multipliers history e.origin → ExplainsSteps error (turned_steps (is_turned e.kind c) t) → ExplainsSteps error (leaf_steps rows history e)
+turn-fails rows history e error c t n p q h =
+    let x : ExplainsSteps error (turned_steps (is_turned e.kind e.term.constant) (multipliers history e.origin)) = rw (← p, ← q) h in
+    later-error error _ _ n (earlier-error error _ _ x)
+
+pub leaf-answers : {T : Type 0} (r : Result T SolveError) (view : T → List (ℕ × ℤ)) (rows : List Row) (history : List Origin) (e : Entry) (c : ℤ) (t u : Linear) → first_wide (way_steps history (λ i. i == e.origin)) ≡ None → first_wide (turned_steps (is_turned e.kind c) t) ≡ None → IsMade history e c t u → MatchResult r (λ x. (first_wide (check_steps rows (number (pos 0)) u.parts) ≡ None) × (view x ≡ u.parts)) (λ error. ExplainsSteps error (check_steps rows (number (pos 0)) u.parts)) → MatchResult r (λ x. (first_wide (leaf_steps rows history e) ≡ None) × (view x ≡ (leaf history e).parts)) (λ error. ExplainsSteps error (leaf_steps rows history e))
+leaf-answers r view rows history e c t u n m i h =
+    let f : u.parts ≡ (leaf history e).parts = ap (λ (l : Linear). l.parts) (made-leaf history e c t u i) in
+    let k : first_wide (turned_steps (is_turned e.kind e.term.constant) (multipliers history e.origin)) ≡ None = rw (← i.constant, ← i.multipliers_are) m in
+    MatchResult-weaker r h (λ x a. (both-narrow _ _ n (both-narrow _ _ k (rw (← f) a.0)), a.1 ∙ f)) (λ error a. later-error error _ _ n (later-error error _ _ k (rw (← f) a)))

@@ -1,4 +1,5 @@
-pub mod Sums
-pub mod Derived
-pub mod Reached
+pub mod Errors
+pub mod Views
 pub mod Answers
+pub mod Way
+pub mod Solved

@@ -35,6 +35,10 @@ impl<T: Drop> From<AllocFailed<T>> for SolveError {
 }
 
 impl From<LinError> for SolveError {
+    ghost use Rattle.cap_fm.specs.Errors.{solve_error};
+
+    ghost from_gives = { λ e f. f ≡ solve_error e };
+
     fn from(e: LinError) -> SolveError {
         match e {
             LinError::Wide(a, b) => SolveError::Wide(a, b),

@@ -1,80 +1,132 @@
-ghost use Rattle.std.specs.Prelude.{◌≡◌, ℕ, List, [], IfOk, OnOk, IfSome, length, ◌<◌, ◌^◌};
-ghost use Rattle.cap_lin.specs.declared.row.Row.{Row};
-ghost use Rattle.cap_lin.specs.Linear.{Linear, AscendFrom};
-ghost use Rattle.cap_farkas.specs.Farkas.{Names, IsNarrow, constant_of, coefficient_of, RefutesLeaf};
-ghost use Rattle.cap_fm.specs.Sums.{IsFalseAs, IsSumOf, Contradict};
-ghost use Rattle.cap_fm.specs.Derived.{IsContradiction};
+ghost use Rattle.std.specs.Prelude.{◌≡◌, ◌==◌, ◌<◌, ◌+◌, ℕ, map, length, MatchResult, IfOk, None, pos};
+ghost use Rattle.cap_lin.specs.Linear.{number, IsBelow};
+ghost use Rattle.cap_lin.specs.Steps.{first_wide};
+ghost use Rattle.cap_elim.specs.Leaf.{leaf as leaf_of, leaf_steps, multipliers_of, multipliers as multipliers_at, own_steps, way_steps, is_turned, turned as turned_of, turned_steps, check_steps};
+ghost use Rattle.cap_fm.specs.Views.{origin_view, history_view, false_view, IsHistory};
+ghost use Rattle.cap_fm.specs.Answers.{ExplainsSteps};
+ghost use Rattle.cap_fm.specs.Way.{IsWay, AreEarlier, RowsBelow, with_rows, term_at};
 
-use crate::combination::combination;
-use crate::derived::{Derived, Multiples, Relation};
+use crate::entry::{FalseRow, Origin};
 use crate::error::SolveError;
 use cap_farkas::Multipliers;
-use cap_lin::{Row, Term};
-use std::alloc::Global;
+use cap_lin::{Kind, Row, Term};
+use std::alloc::{AllocError, Global};
 
 /// The leaf of a false row: its multiples of the input rows. Wide has the first result that leaves
-/// 128 bits: of the multiples, of their negatives, and then of the sum by which the leaf is checked.
-pub fn leaf(alloc: Global, rows: &[Row], row: Derived) -> Result<Multipliers, SolveError>
-    requires { IsContradiction rows.now row }
-    ensures { IfOk result (λ leaf. RefutesLeaf rows.now leaf) }
+/// 128 bits: of the multipliers of the rows on the way, in the order in which these arose, of their
+/// negatives, and then of the sum by which the leaf is checked.
+pub fn leaf(
+    alloc: Global,
+    rows: &[Row],
+    history: &[Origin],
+    row: FalseRow,
+) -> Result<Multipliers, SolveError>
+    requires history { IsHistory (length rows.now) history.now }
+    requires last { row.origin + 1 ≡ length history.now }
+    ensures { MatchResult result (λ m. (first_wide (leaf_steps rows.now (history_view history.now) (false_view row)) ≡ None) × (m ≡ (leaf_of (history_view history.now) (false_view row)).parts)) (λ e. ExplainsSteps e (leaf_steps rows.now (history_view history.now) (false_view row))) }
 {
-    let Derived {
-        term,
-        relation,
-        multiples,
-        number: _,
-    } = row;
-    match multiples {
-        Multiples::Wide(_, a, b) => Err(SolveError::Wide(a, b)),
-        Multiples::Exact(multiples) => {
-            let multiples = oriented(alloc, relation, term.constant_part(), multiples)?;
-            checked(alloc, rows, &multiples)
+    let multipliers = multipliers(alloc, history, row.origin)?;
+    let multipliers = turned(alloc, row.kind, row.term.constant_part(), multipliers)?;
+    checked(alloc, rows, &multipliers)
+}
+
+// Which rows of the history are on the way to the one at a place.
+fn way(alloc: Global, history: &[Origin], last: usize) -> Result<Vec<bool>, AllocError>
+    requires history { AreEarlier 0 (map origin_view history.now) }
+    requires last { last + 1 ≡ length history.now }
+    ensures { IfOk result (λ way. IsWay (map origin_view history.now) last way.items) }
+{
+    let mut way = Vec::new(alloc);
+    way.resize(history.len(), false)?;
+    way[last] = true;
+    for place in (0..history.len()).rev() {
+        if way[place] {
+            mark(&mut way, history[place]);
+        }
+    }
+    Ok(way)
+}
+
+// The rows that a row is a combination of are on the way to it.
+fn mark(way: &mut [bool], origin: Origin)
+    requires { RowsBelow (length way.now) (origin_view origin) }
+    ensures { way.new ≡ with_rows (origin_view origin) way.old }
+{
+    match origin {
+        Origin::Given(_) => {}
+        Origin::Combined(_, first, _, second) => {
+            way[first] = true;
+            way[second] = true;
         }
     }
 }
 
-// The multiples, or for an equation with a negative constant their negatives.
-fn oriented(
-    alloc: Global,
-    relation: Relation,
-    constant: i128,
-    multiples: Term,
-) -> Result<Term, SolveError>
-    ensures { IfOk result (λ m. (rows : List Row) (t : Linear) → t.parts ≡ [] → t.constant ≡ constant → IsFalseAs relation constant → IsSumOf rows t relation multiples → AscendFrom 0 m.parts → Contradict rows m) }
+// The multipliers of the row at a place, as a term whose variables are the numbers of the input rows.
+fn multipliers(alloc: Global, history: &[Origin], last: usize) -> Result<Term, SolveError>
+    requires history { AreEarlier 0 (map origin_view history.now) }
+    requires last { last + 1 ≡ length history.now }
+    ensures { MatchResult result
+        (λ t. (first_wide (way_steps (history_view history.now) (λ i. i == last)) ≡ None) × (t ≡ multipliers_at (history_view history.now) last))
+        (λ e. ExplainsSteps e (way_steps (history_view history.now) (λ i. i == last))) }
 {
-    match relation {
-        Relation::AtMost => Ok(multiples),
-        Relation::Below => Ok(multiples),
-        Relation::Equal => {
+    let way = way(alloc, history, last)?;
+    let mut terms = Vec::new(alloc);
+    for place in 0..history.len() {
+        let term = if way[place] {
+            own(alloc, history[place], &terms)?
+        } else {
+            Term::constant(alloc, 0)
+        };
+        terms.push(term)?;
+    }
+    Ok(terms.swap_remove(last))
+}
+
+// The multipliers of a row, by those of the rows that it is a combination of.
+fn own(alloc: Global, origin: Origin, terms: &[Term]) -> Result<Term, SolveError>
+    requires { RowsBelow (length terms.now) (origin_view origin) }
+    ensures { MatchResult result
+        (λ t. (first_wide (own_steps (origin_view origin) (term_at terms.now)) ≡ None) × (t ≡ multipliers_of (origin_view origin) (term_at terms.now)))
+        (λ e. ExplainsSteps e (own_steps (origin_view origin) (term_at terms.now))) }
+{
+    match origin {
+        Origin::Given(number) => Ok(Term::var(alloc, number)?),
+        Origin::Combined(a, first, b, second) => {
+            Ok(terms[first].combination(alloc, a, &terms[second], b)?)
+        }
+    }
+}
+
+// The multipliers, or for an equation with a negative constant their negatives.
+fn turned(alloc: Global, kind: Kind, constant: i128, multipliers: Term) -> Result<Term, SolveError>
+    ensures { MatchResult result
+        (λ t. (first_wide (turned_steps (is_turned kind constant) multipliers) ≡ None) × (t ≡ turned_of (is_turned kind constant) multipliers))
+        (λ e. ExplainsSteps e (turned_steps (is_turned kind constant) multipliers)) }
+{
+    match kind {
+        Kind::Eq => {
             if constant < 0 {
-                Ok(multiples.negative(alloc)?)
+                Ok(multipliers.negative(alloc)?)
             } else {
-                Ok(multiples)
+                Ok(multipliers)
             }
         }
+        _ => Ok(multipliers),
     }
 }
 
-fn checked(alloc: Global, rows: &[Row], multiples: &Term) -> Result<Multipliers, SolveError>
-    requires { AscendFrom 0 multiples.now.parts → Contradict rows.now multiples.now }
-    ensures { IfOk result (λ leaf. RefutesLeaf rows.now leaf) }
+// The multipliers, where they can be checked by adding up the rows, row by row and part by part.
+fn checked(alloc: Global, rows: &[Row], multipliers: &Term) -> Result<Multipliers, SolveError>
+    requires { IsBelow (length rows.now) multipliers.now }
+    ensures { MatchResult result
+        (λ m. (first_wide (check_steps rows.now (number (pos 0)) multipliers.now.parts) ≡ None) × (m ≡ multipliers.now.parts))
+        (λ e. ExplainsSteps e (check_steps rows.now (number (pos 0)) multipliers.now.parts)) }
 {
-    let parts = multiples.parts();
-    add_rows(alloc, rows, parts)?;
-    Ok(Multipliers::new(Vec::from_slice(alloc, parts)?))
-}
-
-// Adds up the rows times their multipliers, row by row and part by part.
-fn add_rows(alloc: Global, rows: &[Row], leaf: &[(u32, i128)]) -> Result<(), SolveError>
-    requires { Names 0 rows.now leaf.now }
-    ensures constant { OnOk result (IsNarrow constant_of rows.now leaf.now) }
-    ensures coefficients { OnOk result ((x : ℕ) → IsNarrow (coefficient_of x) rows.now leaf.now) }
-{
+    let parts = multipliers.parts();
     let mut sum = Term::constant(alloc, 0);
-    for entry in leaf {
+    for entry in parts {
         let (number, multiplier) = *entry;
-        let term = &rows[number as usize].term;
-        sum = combination(alloc, 1, &sum, multiplier, term)?;
+        sum = sum.combination(alloc, 1, &rows[number as usize].term, multiplier)?;
     }
-    Ok(())
+    Ok(Multipliers::new(Vec::from_slice(alloc, parts)?))
 }

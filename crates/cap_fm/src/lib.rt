@@ -1,14 +1,15 @@
 //! Elimination: whether rows exclude every valuation.
 #![tactic(auto)]
 
-mod combination;
-mod derived;
+mod arising;
+mod bounds;
 mod eliminate;
+mod entry;
+mod equations;
 mod error;
 mod leaf;
-mod made;
-mod seen;
 mod solver;
+mod stage;
 #[cfg(test)]
 mod tests;
 

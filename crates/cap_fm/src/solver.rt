@@ -1,9 +1,9 @@
-ghost use Rattle.std.specs.Prelude.{◌≡◌, ◌<◌, ◌-◌, ◌^◌, ◌++◌, ◌∷◌, [], IfOk, IfSome, length};
-ghost use Rattle.cap_farkas.specs.Farkas.{RefutesLeaf};
-ghost use Rattle.cap_farkas.specs.Refutes.{Refutes};
-ghost use Rattle.cap_fm.specs.Answers.{IsCertified, IsTrueOf};
+ghost use Rattle.std.specs.Prelude.{◌≡◌, ◌<◌, ◌-◌, ◌^◌, ◌++◌, ◌∷◌, [], IfOk, length, slice_get, Some};
+ghost use Rattle.cap_elim.specs.Solving.{solved as solved_log, split as split_log, refuted as refuted_log};
+ghost use Rattle.cap_fm.specs.Answers.{IsLogged};
+ghost use Rattle.cap_fm.specs.Solved.{IsSolved, IsCertified, IsTrueOf, HasSolution};
 
-use crate::eliminate::eliminate;
+use crate::eliminate::{refuted, terms_ascend};
 use crate::error::SolveError;
 use cap_farkas::{Cert, Multipliers};
 use cap_lin::{Kind, Row};
@@ -14,7 +14,7 @@ use std::alloc::{AllocError, Global};
 pub enum Answer {
     /// No valuation solves the rows, and the certificate refutes them.
     Empty(Cert),
-    /// Elimination finds no contradiction.
+    /// A rational valuation solves the rows, rows Ne as other than 0.
     Solvable,
 }
 
@@ -23,20 +23,25 @@ pub enum Answer {
 /// 0; where that is a contradiction, they and the row that its term is above 0.
 ///
 /// Wide has the first result that leaves 128 bits. Rows comes where one elimination has more than
-/// 4,096 rows, input rows and combinations with variables together, equal ones counted once.
+/// 4,096 rows, input rows and combinations with variables together, equal ones counted once. Which of
+/// the two comes is by the first event that passes its limit; otherwise Empty comes exactly for
+/// infeasible rows.
 pub fn solve(alloc: Global, rows: &[Row]) -> Result<Answer, SolveError>
     requires { length rows.now < 2 ^ 32 - 1 }
+    ensures exact { IsSolved result (solved_log rows.now) }
     ensures certified { IfOk result (λ answer. IsCertified rows.now answer) }
     ensures infeasible { IfOk result (λ answer. IsTrueOf rows.now answer) }
+    ensures solvable { IfOk result (λ answer. HasSolution rows.now answer) }
 {
-    certified(alloc, rows)
+    terms_ascend(rows);
+    searched(alloc, rows)
 }
 
-fn certified(alloc: Global, rows: &[Row]) -> Result<Answer, SolveError>
+fn searched(alloc: Global, rows: &[Row]) -> Result<Answer, SolveError>
     requires { length rows.now < 2 ^ 32 - 1 }
-    ensures { IfOk result (λ answer. IsCertified rows.now answer) }
+    ensures { IsSolved result (solved_log rows.now) }
 {
-    if let Some(leaf) = eliminate(alloc, rows)? {
+    if let Some(leaf) = refuted(alloc, rows)? {
         return Ok(Answer::Empty(Cert::Leaf(leaf)));
     }
     for place in 0..rows.len() {
@@ -51,18 +56,27 @@ fn certified(alloc: Global, rows: &[Row]) -> Result<Answer, SolveError>
 fn split(alloc: Global, rows: &[Row], place: usize) -> Result<Option<Cert>, SolveError>
     requires few { length rows.now < 2 ^ 32 - 1 }
     requires bound { place < length rows.now }
-    ensures { IfOk result (λ o. IfSome o (λ cert. Refutes rows.now cert)) }
+    ensures { (row : Row) → slice_get rows.now place ≡ Some row → IsLogged result (split_log rows.now place row.kind row.sort row.term) }
 {
     let row = &rows[place];
-    if row.kind != Kind::Ne {
-        return Ok(None);
+    match row.kind {
+        Kind::Ne => both_sides(alloc, rows, place),
+        _ => Ok(None),
     }
+}
+
+fn both_sides(alloc: Global, rows: &[Row], place: usize) -> Result<Option<Cert>, SolveError>
+    requires few { length rows.now < 2 ^ 32 - 1 }
+    requires bound { place < length rows.now }
+    ensures { (row : Row) → slice_get rows.now place ≡ Some row → IsLogged result (split_log rows.now place Kind.Ne row.sort row.term) }
+{
+    let row = &rows[place];
     let below = row.below_zero(alloc)?;
-    match eliminate_with(alloc, rows, below)? {
+    match refuted_with(alloc, rows, below)? {
         None => Ok(None),
         Some(below) => {
             let above = row.above_zero(alloc)?;
-            match eliminate_with(alloc, rows, above)? {
+            match refuted_with(alloc, rows, above)? {
                 None => Ok(None),
                 Some(above) => Ok(Some(Cert::Split(place as u32, below, above))),
             }
@@ -71,17 +85,17 @@ fn split(alloc: Global, rows: &[Row], place: usize) -> Result<Option<Cert>, Solv
 }
 
 // Eliminates the rows with a row behind them.
-fn eliminate_with(alloc: Global, rows: &[Row], row: Row) -> Result<Option<Multipliers>, SolveError>
+fn refuted_with(alloc: Global, rows: &[Row], row: Row) -> Result<Option<Multipliers>, SolveError>
     requires { length rows.now < 2 ^ 32 - 1 }
-    ensures { IfOk result (λ o. IfSome o (λ leaf. RefutesLeaf (rows.now ++ row ∷ []) leaf)) }
+    ensures { IsLogged result (refuted_log (rows.now ++ (row ∷ []))) }
 {
     let all = with_row(alloc, rows, row)?;
-    eliminate(alloc, &all)
+    refuted(alloc, &all)
 }
 
 fn with_row(alloc: Global, rows: &[Row], row: Row) -> Result<Vec<Row>, AllocError>
     requires { length rows.now < 2 ^ 32 - 1 }
-    ensures { IfOk result (λ all. all.items ≡ rows.now ++ row ∷ []) }
+    ensures { IfOk result (λ all. all.items ≡ rows.now ++ (row ∷ [])) }
 {
     let mut all = Vec::new(alloc);
     for place in 0..rows.len() {

@@ -1,15 +1,41 @@
-use Rattle.std.proofs.Common.{arith, length, ◌<◌}
-use Rattle.cap_fm.proofs.Rows.{found-at}
+use Rattle.std.proofs.Common.{◌≡◌, ◌<◌, length, [], ◌∷◌, ◌++◌, arith, sym, ap, ◌∙◌, subst}
+use Rattle.std.proofs.lemmas.List.{append-nil}
+use Rattle.std.proofs.lemmas.Result.{err_from_is_err_and}
+use Rattle.cap_elim.specs.Elimination.{inputs}
+use Rattle.cap_fm.specs.Views.{stage_view, entry_view, Fits}
+use Rattle.cap_fm.proofs.Walks.{reach-err, inputs-fail, inputs-contradict, inputs-go, inputs-end, view-more}
 use Rattle.cap_fm.proofs.eliminate.inputs.Goals as goal
+use Rattle.cap_fm.proofs.eliminate.inputs.Goals.{in-LeftOut, in-Kept+in_ok-push-in-Kept}
 
-pub returns-in-Some : goal.returns-in-Some
-returns-in-Some c =
+pub returns-in_err-input : goal.returns-in_err-input
+returns-in_err-input c = λ f.
+    let i = c.loop-i.invariant f in
     let l : c.loop-i.i < length c.args.rows.now = omega arith in
-    let s = found-at c.args.rows.now c.loop-i.i c.index-rows-i.result l c.index-rows-i.is in
-    (rw c.in-Some.is at (c.in_ok-row.ensures c.args.rows.now c.loop-i.invariant (c.in_ok-arisen.ensures c.args.rows.now s))).1
+    reach-err (length c.args.rows.now) c.input.new.stage (inputs [] 0 c.args.rows.now (stage_view c.args.stage.now)) c.from_residual.result c.in_err-input.field-0.0 (err_from_is_err_and c.from_residual.result c.from_residual.ensures.1) (inputs-fail _ _ c.loop-i.i c.index-rows-i.result c.args.rows.now _ _ l c.index-rows-i.is i.1 (c.in_err-input.ensures _ _ i.0 l))
+
+pub returns-in-False : goal.returns-in-False
+returns-in-False c = λ f.
+    let i = c.loop-i.invariant f in
+    let l : c.loop-i.i < length c.args.rows.now = omega arith in
+    let a = rw c.in-False.is at (c.in_ok-input.ensures _ _ i.0 l) in
+    (inputs-contradict _ _ c.loop-i.i c.index-rows-i.result c.args.rows.now _ _ _ l c.index-rows-i.is i.1 a.0, a.1)
 
 pub loop-i-preserved : goal.loop-i-preserved
-loop-i-preserved c =
+loop-i-preserved c = λ f.
+    let i = c.loop-i.invariant f in
     let l : c.loop-i.i < length c.args.rows.now = omega arith in
-    let s = found-at c.args.rows.now c.loop-i.i c.index-rows-i.result l c.index-rows-i.is in
-    (c.in_ok-row.ensures c.args.rows.now c.loop-i.invariant (c.in_ok-arisen.ensures c.args.rows.now s)).0
+    elim c.match-branch-2.branch [
+      | in-LeftOut w ↦
+          let a = rw w.in-LeftOut.is at (c.in_ok-input.ensures _ _ i.0 l) in
+          let e : c.match-branch-2.entries.items ≡ c.loop-i.entries.items = ap (λ v. v.items) w.entries-is in
+          (subst (Fits (length c.args.rows.now) c.input.new.stage) (sym e) a.1, inputs-go _ [] _ _ c.loop-i.i c.index-rows-i.result c.args.rows.now _ _ l c.index-rows-i.is (view-more c.loop-i.entries.items [] _ (e ∙ sym (append-nil c.loop-i.entries.items))) i.1 a.0)
+      | in-Kept+in_ok-push-in-Kept w ↦
+          let a = rw w.in-Kept.is at (c.in_ok-input.ensures _ _ i.0 l) in
+          let e : c.match-branch-2.entries.items ≡ c.loop-i.entries.items ++ (w.in-Kept.row ∷ []) = ap (λ v. v.items) w.entries-is ∙ w.in_ok-push-in-Kept.ensures.items in
+          (subst (Fits (length c.args.rows.now) c.input.new.stage) (sym e) a.1, inputs-go _ (entry_view w.in-Kept.row ∷ []) _ _ c.loop-i.i c.index-rows-i.result c.args.rows.now _ _ l c.index-rows-i.is (view-more c.loop-i.entries.items (w.in-Kept.row ∷ []) _ e) i.1 a.0)
+    ]
+
+pub returns : goal.returns
+returns c = λ f.
+    let i = c.loop-i.invariant f in
+    (inputs-end _ _ c.loop-i.i c.args.rows.now _ (omega arith) i.1, i.0)

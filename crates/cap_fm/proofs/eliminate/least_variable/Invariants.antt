@@ -1,6 +1,6 @@
-use Rattle.std.proofs.Common.{◌≤◌}
+use Rattle.std.proofs.Common.{take}
+use Rattle.cap_fm.specs.Answers.{IsLeast}
 use Rattle.cap_fm.proofs.eliminate.least_variable.Given as goal
-use Rattle.std.specs.Option.{IfSome}
 
-abbrev pub invariant-loop-place : goal.invariant-loop-place
-invariant-loop-place l = IfSome l.least (λ x. l.low ≤ x)
+abbrev pub invariant-loop-row : goal.invariant-loop-row
+invariant-loop-row l = IsLeast l.low (take l.row-index l.rows) l.least

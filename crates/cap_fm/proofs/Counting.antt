@@ -1,0 +1,161 @@
+-- A row is counted: the set of forms, and the definition's list of rows that arose.
+use Rattle.std.proofs.Common.{◌≡◌, ℕ, ◌+◌, ◌<◌, ◌≤◌, nat_lt, List, [], ◌∷◌, ◌++◌, length, map, not, cond, arith, refl, subst, sym, ap, ◌∙◌, Bool, true, false, Some}
+use Rattle.std.specs.Prelude.{◌||◌, ◌&&◌, if◌then◌else◌}
+use Rattle.std.specs.List.{list_any, position_or_len}
+use Rattle.std.proofs.lemmas.List.{map-append}
+use Rattle.std.proofs.lemmas.Bool.Decides.{nat_tests}
+use Rattle.indexmap.specs.IndexSet.{insert_key}
+use Rattle.cap_lin.specs.Linear.{Linear, same_term}
+use Rattle.cap_lin.specs.declared.row.Kind.{Kind}
+use Rattle.cap_lin.specs.declared.row.Kind.TheVariants.{Le, Lt, Eq, Ne}
+use Rattle.cap_elim.specs.Events.{many, first_limit, counted}
+use Rattle.cap_elim.specs.Runs as plain
+use Rattle.cap_elim.specs.Runs.{going, done}
+use Rattle.cap_elim.specs.Rows.{same_kind, same_row, has_arisen, count}
+use Rattle.cap_fm.specs.Views.{form_view, history_view, stage_view, number_of, Fits}
+use Rattle.cap_fm.specs.Answers.{Is, IsCounted}
+use Rattle.cap_fm.specs.declared.entry.Entry.{Entry}
+use Rattle.cap_fm.specs.declared.stage.Form.{Form}
+use Rattle.cap_fm.specs.declared.stage.Stage.{Stage}
+use Rattle.cap_fm.specs.contracts.stage.FormPartialEq.TheImpl.{eq-value}
+use Rattle.cap_fm.proofs.Marks.{number-later, arisen-new}
+use Rattle.cap_fm.proofs.Stages.{fits-by, fits-new, grows-by, grows-new}
+
+by_kind : (k l : Kind) (s t : Linear) → eq-value.it (record { kind = k; term = s }) (record { kind = l; term = t }) ≡ (same_kind k l && same_term s t)
+by_kind Le Le s t = refl
+by_kind Le Lt s t = refl
+by_kind Le Eq s t = refl
+by_kind Le Ne s t = refl
+by_kind Lt Le s t = refl
+by_kind Lt Lt s t = refl
+by_kind Lt Eq s t = refl
+by_kind Lt Ne s t = refl
+by_kind Eq Le s t = refl
+by_kind Eq Lt s t = refl
+by_kind Eq Eq s t = refl
+by_kind Eq Ne s t = refl
+by_kind Ne Le s t = refl
+by_kind Ne Lt s t = refl
+by_kind Ne Eq s t = refl
+by_kind Ne Ne s t = refl
+
+form-eq : (f g : Form) → eq-value.it f g ≡ same_row f.term f.kind g.term g.kind
+form-eq f g = by_kind f.kind g.kind f.term g.term
+
+pub has-view : (f : Form) (fs : List Form) → list_any (eq-value.it f) fs ≡ has_arisen f.term f.kind (map form_view fs)
+has-view f [] = refl
+has-view f (g ∷ gs) = ap (λ b. b || list_any (eq-value.it f) gs) (form-eq f g) ∙ ap (λ b. same_row f.term f.kind g.term g.kind || b) (has-view f gs)
+
+pub number-view : (f : Form) (fs : List Form) → position_or_len (eq-value.it f) fs ≡ number_of f.term f.kind (map form_view fs)
+number-view f [] = refl
+number-view f (g ∷ gs) = ap (λ b. cond (not b) (1 + position_or_len (eq-value.it f) gs) 0) (form-eq f g) ∙ ap (λ n. cond (not (same_row f.term f.kind g.term g.kind)) (1 + n) 0) (number-view f gs)
+
+pub insert-old : (f : Form) (fs : List Form) → has_arisen f.term f.kind (map form_view fs) ≡ true → insert_key eq-value.it fs f ≡ fs
+insert-old f fs h = by (list_any (eq-value.it f) fs) (has-view f fs ∙ h)
+  where
+    by : (b : Bool) → b ≡ true → (if b then fs else fs ++ (f ∷ [])) ≡ fs
+    by true e = refl
+    by false e = cc
+
+pub insert-new : (f : Form) (fs : List Form) → has_arisen f.term f.kind (map form_view fs) ≡ false → map form_view (insert_key eq-value.it fs f) ≡ map form_view fs ++ ((f.term, f.kind) ∷ [])
+insert-new f fs h = by (list_any (eq-value.it f) fs) (has-view f fs ∙ h)
+  where
+    by : (b : Bool) → b ≡ false → map form_view (if b then fs else fs ++ (f ∷ [])) ≡ map form_view fs ++ ((f.term, f.kind) ∷ [])
+    by true e = cc
+    by false e = map-append form_view fs (f ∷ [])
+
+or-none : (a b : Bool) → (a || b) ≡ false → (a ≡ false) × (b ≡ false)
+or-none true b e = cc
+or-none false b e = (refl, e)
+
+pub number-none : (t : Linear) (k : Kind) (rows : List (Linear × Kind)) → has_arisen t k rows ≡ false → number_of t k rows ≡ length rows
+number-none t k [] h = refl
+number-none t k (r ∷ rows) h =
+    let n = or-none (same_row t k r.0 r.1) (has_arisen t k rows) h in
+    let a = number-later t k r rows n.0 in
+    let b = number-none t k rows n.1 in
+    omega arith
+
+-- ---- the definition's count
+
+abbrev no_value : Unit {0}
+no_value = tt
+
+too-many-by : (b : Bool) (n : ℕ) (s t : plain.Stage) → b ≡ false → 4096 < n → first_limit (if b then done no_value s else record { events = counted n ∷ []; stage = t; found = going no_value }).events ≡ Some many
+unfolding first_limit
+too-many-by true n s t e h = cc
+too-many-by false n s t e h = let l : nat_lt 4096 n ≡ true = grind (arith, nat_tests) in rw l refl
+
+pub too-many : (t : Linear) (k : Kind) (s : plain.Stage) → has_arisen t k s.arisen ≡ false → 4096 ≤ length s.arisen → first_limit (count t k s).events ≡ Some many
+too-many t k s e h = too-many-by (has_arisen t k s.arisen) (length s.arisen + 1) s _ e (omega arith)
+
+few-by : (b : Bool) (n : ℕ) (s t u : plain.Stage) → b ≡ false → n ≤ 4096 → u ≡ t → Is (going no_value) u (if b then done no_value s else record { events = counted n ∷ []; stage = t; found = going no_value })
+unfolding first_limit
+few-by true n s t u e h v = cc
+few-by false n s t u e h v = let l : nat_lt 4096 n ≡ false = grind (arith, nat_tests) in record { within = rw l refl; found = refl; stage = v }
+
+again-by : (b : Bool) (n : ℕ) (s t : plain.Stage) → b ≡ true → Is (going no_value) s (if b then done no_value s else record { events = counted n ∷ []; stage = t; found = going no_value })
+unfolding first_limit
+again-by true n s t e = record { within = refl; found = refl; stage = refl }
+again-by false n s t e = cc
+
+-- ---- what the code's count gives
+
+stage-made : (A B : List (Linear × Kind)) (os qs : List plain.Origin) → A ≡ B → os ≡ qs → ◌≡◌ {A = plain.Stage} (record { arisen = A; history = os }) (record { arisen = B; history = qs })
+stage-made A B os qs p q = rw (p, q) refl
+
+pub same-stage : (s t : Stage) → (stage_view t).arisen ≡ (stage_view s).arisen → t.history.items ≡ s.history.items → stage_view t ≡ stage_view s
+same-stage s t a h = stage-made _ _ _ _ a (ap history_view h)
+
+more-stage : (s t : Stage) (u : Linear) (l : Kind) → (stage_view t).arisen ≡ (stage_view s).arisen ++ ((u, l) ∷ []) → t.history.items ≡ s.history.items → stage_view t ≡ record (stage_view s) { arisen = (stage_view s).arisen ++ ((u, l) ∷ []) }
+more-stage s t u l a h = stage-made _ _ _ _ a (ap history_view h)
+
+not-true : (b c : Bool) → c ≡ not b → c ≡ true → b ≡ false
+not-true true c e h = cc
+not-true false c e h = refl
+
+not-false : (b c : Bool) → c ≡ not b → c ≡ false → b ≡ true
+not-false true c e h = refl
+not-false false c e h = cc
+
+-- a form that is new
+new-form : (f : Form) (fs : List Form) (is_new : Bool) → is_new ≡ not (list_any (eq-value.it f) fs) → is_new ≡ true → has_arisen f.term f.kind (map form_view fs) ≡ false
+new-form f fs is_new e h = sym (has-view f fs) ∙ not-true (list_any (eq-value.it f) fs) is_new e h
+
+old-form : (f : Form) (fs : List Form) (is_new : Bool) → is_new ≡ not (list_any (eq-value.it f) fs) → is_new ≡ false → has_arisen f.term f.kind (map form_view fs) ≡ true
+old-form f fs is_new e h = sym (has-view f fs) ∙ not-false (list_any (eq-value.it f) fs) is_new e h
+
+pub one-too-many : (f : Form) (t : Linear) (s : Stage) (n : ℕ) (is_new : Bool) → f.term ≡ t → is_new ≡ not (list_any (eq-value.it f) s.forms.keys) → is_new ≡ true → n ≡ position_or_len (eq-value.it f) s.forms.keys → 4096 ≤ n → first_limit (count t f.kind (stage_view s)).events ≡ Some many
+one-too-many f t s n is_new e a h p l =
+    let g = new-form f s.forms.keys is_new a h in
+    let q = p ∙ number-view f s.forms.keys ∙ number-none f.term f.kind (stage_view s).arisen g in
+    subst (λ u. first_limit (count u f.kind (stage_view s)).events ≡ Some many) e (too-many f.term f.kind (stage_view s) g (omega arith))
+
+pub counted-new : (inputs : ℕ) (f : Form) (t : Linear) (s z : Stage) (ds : List Entry) (n : ℕ) (is_new : Bool) → f.term ≡ t → is_new ≡ not (list_any (eq-value.it f) s.forms.keys) → is_new ≡ true → n ≡ position_or_len (eq-value.it f) s.forms.keys → n < 4096 → z.forms.keys ≡ insert_key eq-value.it s.forms.keys f → z.present.items ≡ s.present.items ++ (false ∷ []) → z.history.items ≡ s.history.items → Fits inputs s ds → IsCounted inputs s z ds t f.kind n
+counted-new inputs f t s z ds n is_new e a h p l k m o fits =
+    let g = new-form f s.forms.keys is_new a h in
+    let q = p ∙ number-view f s.forms.keys ∙ number-none f.term f.kind (stage_view s).arisen g in
+    let A : (stage_view z).arisen ≡ (stage_view s).arisen ++ ((f.term, f.kind) ∷ []) = ap (map form_view) k ∙ insert-new f s.forms.keys g in
+    let i = arisen-new f.term f.kind (stage_view s).arisen g in
+    subst (λ u. IsCounted inputs s z ds u f.kind n) e (record {
+      is = few-by (has_arisen f.term f.kind (stage_view s).arisen) (length (stage_view s).arisen + 1) (stage_view s) _ (stage_view z) g (omega arith) (more-stage s z f.term f.kind A o);
+      fits = fits-new inputs s z f.term f.kind ds g A m o fits;
+      grows = grows-new s z f.term f.kind A o;
+      history = o;
+      arose = subst (λ B. has_arisen f.term f.kind B ≡ true) (sym A) i.0;
+      number = ap (number_of f.term f.kind) A ∙ i.1 ∙ sym q;
+    })
+
+pub counted-again : (inputs : ℕ) (f : Form) (t : Linear) (s z : Stage) (ds : List Entry) (n : ℕ) (is_new : Bool) → f.term ≡ t → is_new ≡ not (list_any (eq-value.it f) s.forms.keys) → is_new ≡ false → n ≡ position_or_len (eq-value.it f) s.forms.keys → z.forms.keys ≡ insert_key eq-value.it s.forms.keys f → z.present.items ≡ s.present.items → z.history.items ≡ s.history.items → Fits inputs s ds → IsCounted inputs s z ds t f.kind n
+counted-again inputs f t s z ds n is_new e a h p k m o fits =
+    let g = old-form f s.forms.keys is_new a h in
+    let A : (stage_view z).arisen ≡ (stage_view s).arisen = ap (map form_view) (k ∙ insert-old f s.forms.keys g) in
+    let v = same-stage s z A o in
+    subst (λ u. IsCounted inputs s z ds u f.kind n) e (record {
+      is = subst (λ w. Is (going tt) w (count f.term f.kind (stage_view s))) (sym v) (again-by (has_arisen f.term f.kind (stage_view s).arisen) (length (stage_view s).arisen + 1) (stage_view s) _ g);
+      fits = fits-by inputs s z ds A m o fits;
+      grows = grows-by s z A (let w = ap length o in omega arith);
+      history = o;
+      arose = subst (λ B. has_arisen f.term f.kind B ≡ true) (sym A) g;
+      number = ap (number_of f.term f.kind) A ∙ sym (number-view f s.forms.keys) ∙ sym p;
+    })

@@ -1,7 +1,0 @@
-use Rattle.std.proofs.Common.{List}
-use Rattle.cap_lin.specs.declared.row.Row.{Row}
-use Rattle.cap_fm.specs.Derived.{AllDerived, IsDerived}
-use Rattle.cap_fm.proofs.eliminate.combine_with_each.Given as goal
-
-abbrev pub invariant-loop-place : goal.invariant-loop-place
-invariant-loop-place l = (given : List Row) → AllDerived given l.fn.kept.items → IsDerived given l.upper → AllDerived given l.bounds → AllDerived given l.kept.items

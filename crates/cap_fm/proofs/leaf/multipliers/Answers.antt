@@ -1,0 +1,37 @@
+use Rattle.std.proofs.Common.{◌<◌, ◌≤◌, length, map, arith, ap, ◌∙◌, sym, true, false}
+use Rattle.std.proofs.lemmas.List.{length-map}
+use Rattle.std.proofs.lemmas.Result.{err_from_is_err_and}
+use Rattle.cap_lin.specs.Steps.{first_wide}
+use Rattle.cap_fm.specs.Views.{origin_view}
+use Rattle.cap_fm.specs.Way.{IsWay}
+use Rattle.cap_fm.proofs.LeavesUp.{mark-read, begun, rows-here, stops, passes, passes-by, ends}
+use Rattle.cap_fm.proofs.leaf.multipliers.Goals.{then-index+in_ok-term, else-index}
+use Rattle.cap_fm.proofs.leaf.multipliers.Goals as goal
+
+pub loop-place-init : goal.loop-place-init
+loop-place-init c = begun _ _ _ _ c.requires.history c.in_ok-way.ensures c.new-terms.ensures.items
+
+pub own-requires : goal.own-requires
+own-requires c = rows-here _ _ _ _ _ _ _ c.loop-place.invariant c.loop-place-test.true c.deref.ensures.value
+
+pub returns-in_err-term : goal.returns-in_err-term
+returns-in_err-term c =
+    let w : IsWay (map origin_view c.args.history.now) c.args.last c.in_ok-way.way.items = c.in_ok-way.ensures in
+    let p = err_from_is_err_and c.from_residual-in_err-term.result c.from_residual-in_err-term.ensures.1 in
+    let m = mark-read _ _ _ _ true (w.long ∙ length-map c.args.history.now origin_view) c.loop-place-test.true c.index.ensures c.if-index.true in
+    rw (p.1, p.2) (stops _ _ _ _ _ _ _ _ _ c.loop-place.invariant c.loop-place-test.true m c.deref.ensures.value c.in_err-term.ensures (ap first_wide (sym w.steps)))
+
+pub loop-place-preserved : goal.loop-place-preserved
+loop-place-preserved c =
+    let w : IsWay (map origin_view c.args.history.now) c.args.last c.in_ok-way.way.items = c.in_ok-way.ensures in
+    let n = w.long ∙ length-map c.args.history.now origin_view in
+    elim c.if-index.branch [
+      | then-index+in_ok-term v ↦ passes _ _ _ _ _ _ _ _ _ _ c.loop-place.invariant c.loop-place-test.true (mark-read _ _ _ _ true n c.loop-place-test.true c.index.ensures v.if-index.true) v.deref.ensures.value v.in_ok-term.ensures.0 v.in_ok-term.ensures.1 v.term-is c.in_ok-push.ensures.items
+      | else-index v ↦ passes-by _ _ _ _ _ _ _ _ c.loop-place.invariant c.loop-place-test.true (mark-read _ _ _ _ false n c.loop-place-test.true c.index.ensures v.if-index.false) c.in_ok-push.ensures.items
+    ]
+
+pub returns : goal.returns
+returns c =
+    let l : length c.args.history.now ≤ c.loop-place.place = omega arith in
+    let k : c.args.last < length c.loop-place.terms.items = omega (arith, c.loop-place.invariant.count) in
+    ends _ _ _ _ _ _ c.in_ok-way.ensures c.loop-place.invariant l k c.swap_remove.ensures.value

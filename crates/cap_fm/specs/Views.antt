@@ -1,0 +1,99 @@
+-- What is seen of the rows and the stage of an elimination.
+use Rattle.std.specs.Prelude.{◌≡◌, ℕ, ◌+◌, ◌<◌, List, [], ◌∷◌, map, filter, reverse, length, get_or, true, false}
+use Rattle.std.specs.List.{AllByRecursion, position_or_len}
+use Rattle.cap_lin.specs.Linear.{Linear, is_zero, coefficient}
+use Rattle.cap_lin.specs.declared.row.Kind.{Kind}
+use Rattle.cap_elim.specs.Runs as plain
+use Rattle.cap_elim.specs.Runs.{going, contradiction, Found}
+use Rattle.cap_elim.specs.Rows.{same_row, has_arisen, is_present}
+use Rattle.cap_fm.specs.declared.entry.Origin.{Origin}
+use Rattle.cap_fm.specs.declared.entry.Origin.TheVariants.{Given, Combined}
+use Rattle.cap_fm.specs.declared.entry.Entry.{Entry}
+use Rattle.cap_fm.specs.declared.entry.FalseRow.{FalseRow}
+use Rattle.cap_fm.specs.declared.entry.Arisen.{Arisen}
+use Rattle.cap_fm.specs.declared.entry.Arisen.TheVariants.{LeftOut, Kept, False}
+use Rattle.cap_fm.specs.declared.entry.Reached.{Reached}
+use Rattle.cap_fm.specs.declared.entry.Reached.TheVariants.{Rows, Contradiction}
+use Rattle.cap_fm.specs.declared.stage.Form.{Form}
+use Rattle.cap_fm.specs.declared.stage.Stage.{Stage}
+
+abbrev pub origin_view : Origin → plain.Origin
+origin_view (Given i) = plain.given i
+origin_view (Combined a p b q) = plain.combined a p b q
+
+-- the code has the first row of a history first, the definition the last
+abbrev pub history_view : List Origin → List plain.Origin
+history_view os = reverse (map origin_view os)
+
+abbrev pub entry_view : Entry → plain.Entry
+entry_view d = plain.entry d.term d.kind d.origin
+
+abbrev pub entries_view : List Entry → List plain.Entry
+entries_view ds = map entry_view ds
+
+abbrev pub false_view : FalseRow → plain.Entry
+false_view d = plain.entry d.term d.kind d.origin
+
+abbrev pub arisen_view : Arisen → Found (List plain.Entry)
+arisen_view LeftOut = going []
+arisen_view (Kept d) = going (entry_view d ∷ [])
+arisen_view (False d) = contradiction (false_view d)
+
+abbrev pub reached_view : Reached → Found (List plain.Entry)
+reached_view (Rows ds) = going (entries_view ds.items)
+reached_view (Contradiction d) = contradiction (false_view d)
+
+abbrev pub form_view : Form → Linear × Kind
+form_view f = (f.term, f.kind)
+
+abbrev pub stage_view : Stage → plain.Stage
+stage_view s = record { arisen = map form_view s.forms.keys; history = history_view s.history.items }
+
+-- the number of a row among those that arose
+abbrev pub number_of : Linear → Kind → List (Linear × Kind) → ℕ
+number_of t k rows = position_or_len (λ r. same_row t k r.0 r.1) rows
+
+-- the row arose under its number, and its place in the history is there
+pub record IsNumbered (s : Stage) (d : Entry) : Type 0 where
+  pub arose : has_arisen d.term d.kind (stage_view s).arisen ≡ true
+  pub number : number_of d.term d.kind (stage_view s).arisen ≡ d.number
+  pub origin : d.origin < length s.history.items
+
+abbrev pub AreNumbered : Stage → List Entry → Type 0
+AreNumbered s ds = AllByRecursion (IsNumbered s) ds
+
+-- a row is a combination of earlier ones, or an input row
+abbrev pub IsOrigin : ℕ → ℕ → Origin → Type 0
+IsOrigin inputs place (Given i) = i < inputs
+IsOrigin inputs place (Combined a p b q) = (p < place) × (q < place)
+
+abbrev pub IsHistoryFrom : ℕ → ℕ → List Origin → Type 0
+IsHistoryFrom inputs place [] = Unit {0}
+IsHistoryFrom inputs place (o ∷ os) = IsOrigin inputs place o × IsHistoryFrom inputs (place + 1) os
+
+abbrev pub IsHistory : ℕ → List Origin → Type 0
+IsHistory inputs os = IsHistoryFrom inputs 0 os
+
+-- the marks tell which of the rows that arose are present
+pub record IsMarked (s : Stage) (present : List Entry) : Type 0 where
+  pub long : length s.present.items ≡ length (stage_view s).arisen
+  pub tell : (t : Linear) (k : Kind) → has_arisen t k (stage_view s).arisen ≡ true → get_or s.present.items (number_of t k (stage_view s).arisen) false ≡ is_present t k (entries_view present)
+
+-- the stage of an elimination of so many input rows, in which these rows are present
+pub record Fits (inputs : ℕ) (s : Stage) (present : List Entry) : Type 0 where
+  pub marked : IsMarked s present
+  pub numbered : AreNumbered s present
+  pub history : IsHistory inputs s.history.items
+
+-- a false row is the last of the history
+pub record IsLast (inputs : ℕ) (s : Stage) (d : FalseRow) : Type 0 where
+  pub last : d.origin + 1 ≡ length s.history.items
+  pub history : IsHistory inputs s.history.items
+
+-- rows that were numbered before still are
+abbrev pub Grows : Stage → Stage → Type 0
+Grows old new = (d : Entry) → IsNumbered old d → IsNumbered new d
+
+-- the rows that lack a variable
+abbrev pub lacking_rows : ℕ → List Entry → List Entry
+lacking_rows x ds = filter (λ d. is_zero (coefficient x d.term.parts)) ds

@@ -1,0 +1,107 @@
+ghost use Rattle.std.specs.Prelude.{◌≡◌, ℕ, List, filter, IfOk};
+ghost use Rattle.cap_lin.specs.Linear.{coefficient};
+ghost use Rattle.cap_elim.specs.Rows.{is_positive, is_negative};
+ghost use Rattle.cap_elim.specs.Elimination.{lacking, uppers as uppers_of, lowers as lowers_of, combine_bounds as combine_bounds_run, combine_each as combine_each_run, combine_all as combine_all_run};
+ghost use Rattle.cap_fm.specs.Views.{stage_view, entry_view, entries_view, lacking_rows, Fits, AreNumbered, IsNumbered};
+ghost use Rattle.cap_fm.specs.Answers.{DoesArise, DoesReach, DoesEach};
+
+use crate::arising::combine;
+use crate::entry::{Arisen, Entry, FalseRow, Reached, strictest};
+use crate::equations::{leave_all, negated};
+use crate::error::SolveError;
+use crate::stage::Stage;
+use std::alloc::{AllocError, Global};
+
+// The rows without a variable, those with a positive coefficient of it, and those with a negative one.
+#[derive(Drop)]
+struct Parted {
+    without: Vec<Entry>,
+    uppers: Vec<Entry>,
+    lowers: Vec<Entry>,
+}
+
+/// Combines each row with a positive coefficient of the variable with each with a negative one, and
+/// takes the rows with the variable out.
+pub fn by_bounds(
+    alloc: Global,
+    stage: &mut Stage,
+    rows: Vec<Entry>,
+    variable: u32,
+) -> Result<Reached, SolveError>
+    ensures { (inputs : ℕ) → Fits inputs stage.old rows.items → DoesReach inputs stage.new (combine_all_run variable (lacking variable (entries_view rows.items)) (uppers_of variable (entries_view rows.items)) (lowers_of variable (entries_view rows.items)) (stage_view stage.old)) result }
+{
+    leave_all(stage, &rows, variable);
+    let Parted {
+        without,
+        uppers,
+        lowers,
+    } = part(alloc, rows, variable)?;
+    let mut kept = without;
+    for upper in &uppers {
+        if let Some(row) = combine_each(alloc, stage, &mut kept, upper, &lowers, variable)? {
+            return Ok(Reached::Contradiction(row));
+        }
+    }
+    Ok(Reached::Rows(kept))
+}
+
+fn part(alloc: Global, rows: Vec<Entry>, variable: u32) -> Result<Parted, AllocError>
+    ensures without { IfOk result (λ p. p.without.items ≡ lacking_rows variable rows.items) }
+    ensures uppers { IfOk result (λ p. p.uppers.items ≡ filter (λ d. is_positive (coefficient variable d.term.parts)) rows.items) }
+    ensures lowers { IfOk result (λ p. p.lowers.items ≡ filter (λ d. is_negative (coefficient variable d.term.parts)) rows.items) }
+{
+    let mut without = Vec::new(alloc);
+    let mut uppers = Vec::new(alloc);
+    let mut lowers = Vec::new(alloc);
+    for row in rows {
+        let coefficient = row.term.coefficient(variable);
+        if coefficient == 0 {
+            without.push(row)?;
+        } else if coefficient > 0 {
+            uppers.push(row)?;
+        } else {
+            lowers.push(row)?;
+        }
+    }
+    Ok(Parted {
+        without,
+        uppers,
+        lowers,
+    })
+}
+
+// Combines a row with each of the rows that have a negative coefficient; a false row, if one arises.
+fn combine_each(
+    alloc: Global,
+    stage: &mut Stage,
+    kept: &mut Vec<Entry>,
+    upper: &Entry,
+    lowers: &[Entry],
+    variable: u32,
+) -> Result<Option<FalseRow>, SolveError>
+    ensures { (inputs : ℕ) → Fits inputs stage.old kept.old.items → IsNumbered stage.old upper.now → AreNumbered stage.old lowers.now → DoesEach inputs stage.old stage.new kept.new.items (combine_each_run variable (entries_view kept.old.items) (entry_view upper.now) (entries_view lowers.now) (stage_view stage.old)) result }
+{
+    for lower in lowers {
+        match combine_bounds(alloc, stage, upper, lower, variable)? {
+            Arisen::LeftOut => {}
+            Arisen::Kept(row) => kept.push(row)?,
+            Arisen::False(row) => return Ok(Some(row)),
+        }
+    }
+    Ok(None)
+}
+
+fn combine_bounds(
+    alloc: Global,
+    stage: &mut Stage,
+    upper: &Entry,
+    lower: &Entry,
+    variable: u32,
+) -> Result<Arisen, SolveError>
+    ensures { (inputs : ℕ) (present : List Entry) → Fits inputs stage.old present → IsNumbered stage.old upper.now → IsNumbered stage.old lower.now → DoesArise inputs stage.old stage.new present (combine_bounds_run variable (entries_view present) (entry_view upper.now) (entry_view lower.now) (stage_view stage.old)) result }
+{
+    let size = negated(lower.term.coefficient(variable))?;
+    let positive = upper.term.coefficient(variable);
+    let kind = strictest(upper.kind, lower.kind);
+    combine(alloc, stage, size, upper, positive, lower, kind)
+}

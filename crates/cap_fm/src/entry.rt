@@ -1,0 +1,76 @@
+ghost use Rattle.std.specs.Prelude.{◌≡◌};
+ghost use Rattle.cap_elim.specs.Rows.{is_false as is_false_kind};
+ghost use Rattle.cap_elim.specs.Elimination.{strictest as strictest_kind};
+
+use cap_lin::{Kind, Term};
+
+/// Where a row comes from.
+#[derive(Clone, Copy, Debug)]
+pub enum Origin {
+    /// An input row, by its number.
+    Given(u32),
+    /// A multiple of a row plus a multiple of another, the rows by their places in the history.
+    Combined(i128, usize, i128, usize),
+}
+
+/// A row that is present in an elimination.
+#[derive(Debug, Drop)]
+pub struct Entry {
+    pub term: Term,
+    /// Never Ne.
+    pub kind: Kind,
+    /// Its place in the history.
+    pub origin: usize,
+    /// Its number among the rows that arose, from 0.
+    pub number: usize,
+}
+
+/// A row without variables that is false.
+#[derive(Debug, Drop)]
+pub struct FalseRow {
+    pub term: Term,
+    pub kind: Kind,
+    /// Its place in the history, which is the last.
+    pub origin: usize,
+}
+
+/// What becomes of a row that arises.
+#[derive(Debug, Drop)]
+pub enum Arisen {
+    /// The row is true, or equal to one that is present.
+    LeftOut,
+    Kept(Entry),
+    False(FalseRow),
+}
+
+/// Where an elimination has come to: the rows that are present, in order, or a false row.
+#[derive(Debug, Drop)]
+pub enum Reached {
+    Rows(Vec<Entry>),
+    Contradiction(FalseRow),
+}
+
+/// Whether a constant is not as the kind wants it.
+pub fn is_false(kind: Kind, constant: i128) -> bool
+    ensures { result ≡ is_false_kind kind constant }
+{
+    match kind {
+        Kind::Le => constant > 0,
+        Kind::Lt => constant >= 0,
+        Kind::Eq => constant != 0,
+        Kind::Ne => constant == 0,
+    }
+}
+
+/// The kind of a sum of two bounds: strict where either is.
+pub fn strictest(first: Kind, second: Kind) -> Kind
+    ensures { result ≡ strictest_kind first second }
+{
+    match first {
+        Kind::Lt => Kind::Lt,
+        _ => match second {
+            Kind::Lt => Kind::Lt,
+            _ => Kind::Le,
+        },
+    }
+}

@@ -1,0 +1,98 @@
+ghost use Rattle.std.specs.Prelude.{◌≡◌, ◌++◌, ◌∷◌, ◌<◌, [], ℕ, List, length, get_or, slice_set, false, true, IfOk, OnOk};
+ghost use Rattle.cap_elim.specs.Runs.{at_first};
+ghost use Rattle.cap_fm.specs.declared.entry.Entry.{Entry};
+ghost use Rattle.cap_fm.specs.Views.{stage_view, Fits};
+ghost use Rattle.cap_fm.specs.Answers.{DoesCount, Remarks, Notes};
+
+use crate::entry::Origin;
+use crate::error::SolveError;
+use cap_lin::{Kind, Term};
+use indexmap::IndexSet;
+use std::alloc::{AllocError, Global};
+
+/// How many rows one elimination may have.
+const LIMIT: usize = 4096;
+
+// A row as it is compared with others: the sort plays no part.
+#[derive(Debug, PartialEq, Eq, Hash, Drop)]
+struct Form {
+    kind: Kind,
+    term: Term,
+}
+
+/// The rows that arose in an elimination, equal ones once, which of them are present, and where each
+/// row that was kept comes from.
+#[derive(Drop)]
+pub struct Stage {
+    forms: IndexSet<Form>,
+    present: Vec<bool>,
+    history: Vec<Origin>,
+}
+
+impl Stage {
+    pub fn new(alloc: Global) -> Stage
+        ensures view { stage_view result ≡ at_first }
+        ensures fits { (inputs : ℕ) → Fits inputs result [] }
+    {
+        Stage {
+            forms: IndexSet::new(alloc),
+            present: Vec::new(alloc),
+            history: Vec::new(alloc),
+        }
+    }
+
+    /// Counts a row that arises, unless an equal one arose before, and gives its number.
+    pub fn count(&mut self, alloc: Global, term: &Term, kind: Kind) -> Result<usize, SolveError>
+        ensures { (inputs : ℕ) (present : List Entry) → Fits inputs self.old present → DoesCount inputs self.old self.new present term.now kind result }
+    {
+        let term = term.copy(alloc)?;
+        let (number, is_new) = self.forms.insert_full(Form { kind, term })?;
+        if is_new {
+            if number >= LIMIT {
+                return Err(SolveError::Rows);
+            }
+            self.present.push(false)?;
+        }
+        Ok(number)
+    }
+
+    /// Whether the row of a number is present; not where no row has it.
+    pub fn is_present(&self, number: usize) -> bool
+        ensures { result ≡ get_or self.now.present.items number false }
+    {
+        self.present.get(number).copied().unwrap_or(false)
+    }
+
+    /// The row of a number is present from now on.
+    pub fn enter(&mut self, number: usize)
+        ensures { Remarks self.old self.new number true }
+    {
+        if let Some(mark) = self.present.get_mut(number) {
+            *mark = true;
+        }
+    }
+
+    /// The row of a number is no longer present.
+    pub fn leave(&mut self, number: usize)
+        ensures { Remarks self.old self.new number false }
+    {
+        if let Some(mark) = self.present.get_mut(number) {
+            *mark = false;
+        }
+    }
+
+    /// Notes where a row comes from, and gives its place in the history.
+    pub fn note(&mut self, origin: Origin) -> Result<usize, AllocError>
+        ensures { IfOk result (Notes self.old self.new origin) }
+    {
+        let place = self.history.len();
+        self.history.push(origin)?;
+        Ok(place)
+    }
+
+    pub fn history(&self) -> &[Origin]
+        ensures { result.now ≡ self.now.history.items }
+    {
+        &self.history
+    }
+}
