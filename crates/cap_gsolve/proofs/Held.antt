@@ -16,7 +16,7 @@ use Rattle.cap_gsolve.specs.declared.piece.Piece.{Piece}
 use Rattle.cap_gsolve.specs.Pieces.{of_guards, same_part, is_surely_some}
 use Rattle.cap_gsolve.specs.Merge.{combined, form_at, there, place, merged, merged_at, clashes_at, clashes}
 use Rattle.cap_gsolve.specs.Meaning.{IsFormElement, region_of, IsElementAt, AreElementsAt, ComposeAt, Takes, Fits}
-use Rattle.cap_gsolve.proofs.Terms.{term-is}
+use Rattle.cap_lin.specs.Laws.Sameness.{same_term-decides}
 use Rattle.cap_gsolve.proofs.Forms.{Meet, combine, form-sound, surely-some}
 
 -- ---- the place of a part
@@ -73,7 +73,7 @@ pub part-is : (q p : Piece) → same_part q p ≡ true → IsPart q p
 part-is q p e =
     let s = and-true (of_guards p.region p.kind q) (q.atom == p.atom) e in
     let t = and-true _ (q.kind == p.kind) s.0 in
-    record { region = term-is q.region p.region t.0; kind = true-eq q.kind p.kind t.1; atom = true-eq q.atom p.atom s.1 }
+    record { region = (same_term-decides q.region p.region).0 t.0; kind = true-eq q.kind p.kind t.1; atom = true-eq q.atom p.atom s.1 }
 
 pub element-sound : (a : PlainAlgebra) (k : ℕ) (v : Valuation) (r : ℤ) (p : Piece) (x : Element) → IsElementAt a k v r p x → IsSound x
 element-sound a k v r p x (inl h) = subst IsSound (sym h.1.2) (atom-sound a p.atom h.1.0 (form-sound v p.form h.1.0 h.1.1))
@@ -241,7 +241,7 @@ never-clashes b a k v ps p xs y u w n h j c d = elim (true_or_false (clashes b p
       let f = and-true (are_apart b p.atom m.piece.atom) _ e.1 in
       let o = and-true (is_surely_some p.form) (is_surely_some m.piece.form) f.1 in
       let s = part-meets m.element u y w (element-sound a k v _ m.piece m.element m.is) (element-sound a k v _ p y j) m.part d in
-      let q = surely-placed a k v m.piece m.element o.1 (at-own a k v _ m.piece m.element (ap (λ t. value v.whole t) (term-is m.piece.region p.region g.0)) m.is) in
+      let q = surely-placed a k v m.piece m.element o.1 (at-own a k v _ m.piece m.element (ap (λ t. value v.whole t) ((same_term-decides m.piece.region p.region).0 g.0)) m.is) in
       let r = surely-placed a k v p y o.0 (at-own a k v _ p y refl j) in
       let apart : are_apart a p.atom m.piece.atom ≡ true = ap (λ z. are_apart z p.atom m.piece.atom) (sym (n r.2)) ∙ f.0 in
       let z : None ≡ Some s.0 = sym (apart-never a p.atom m.piece.atom r.0 q.0 apart) ∙ ap (λ z. compose z (at_atom a m.piece.atom q.0)) (sym r.1) ∙ ap (compose y) (sym q.1) ∙ swapped m.element y (Some s.0) s.1 in

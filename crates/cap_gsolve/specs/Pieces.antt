@@ -1,6 +1,6 @@
 -- Symbolic guards: the parts of guards that are held of regions, with amounts that are terms.
 use Rattle.std.specs.Prelude.{ℕ, zero, suc, ◌+◌, List, [], ◌∷◌, ◌++◌, map, Bool, true, false, ◌&&◌, ◌==◌, ℤ, pos, negsuc}
-use Rattle.cap_lin.specs.Linear.{Linear, number}
+use Rattle.cap_lin.specs.Linear.{Linear, number, same_term}
 use Rattle.cap_galg.specs.Algebras.{PlainAlgebra, unique, divisible, counting, product, sum, atoms}
 use Rattle.cap_gsolve.specs.declared.piece.Form.{Form}
 use Rattle.cap_gsolve.specs.declared.piece.Form.TheVariants.{One, Share, Src, Tok}
@@ -8,20 +8,6 @@ use Rattle.cap_gsolve.specs.declared.piece.Piece.{Piece}
 
 abbrev pub piece : Linear → ℕ → ℕ → Form → Piece
 piece r k i f = record { region = r; kind = k; atom = i; form = f }
-
--- whether two terms are the same
-abbrev pub same_number : ℤ → ℤ → Bool
-same_number (pos m) (pos n) = m == n
-same_number (negsuc m) (negsuc n) = m == n
-same_number _ _ = false
-
-abbrev pub same_parts : List (ℕ × ℤ) → List (ℕ × ℤ) → Bool
-same_parts [] [] = true
-same_parts (p ∷ ps) (q ∷ qs) = (p.0 == q.0) && same_number p.1 q.1 && same_parts ps qs
-same_parts _ _ = false
-
-unfoldable pub same_term : Linear → Linear → Bool
-same_term s t = same_number s.constant t.constant && same_parts s.parts t.parts
 
 -- whether a piece is of a region's guards, or of one atom of them, and whether two pieces are of one atom of one
 -- region's guards
