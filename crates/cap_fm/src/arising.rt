@@ -1,5 +1,4 @@
 ghost use Rattle.std.specs.Prelude.{◌≡◌, ◌<◌, ℕ, List, length, false, true};
-ghost use Rattle.cap_elim.specs.Runs as plain;
 ghost use Rattle.cap_elim.specs.Rows.{arise_given, arise_combined, combine as combine_rows, keep as keep_row, look, has_parts, is_present, has_arisen};
 ghost use Rattle.cap_elim.specs.Elimination.{input as input_row};
 ghost use Rattle.cap_fm.specs.Views.{stage_view, entry_view, entries_view, origin_view, number_of, Fits, IsNumbered, IsOrigin};

@@ -1,4 +1,4 @@
-ghost use Rattle.std.specs.Prelude.{◌≡◌, ◌≤◌, ◌<◌, ◌^◌, ◌++◌, [], ℕ, List, length, IfSome};
+ghost use Rattle.std.specs.Prelude.{◌≤◌, ◌<◌, ◌^◌, ◌++◌, [], ℕ, List, length};
 ghost use Rattle.cap_elim.specs.Elimination.{inputs as inputs_run, by_units as by_units_run, by_variable as by_variable_run, by_variables as by_variables_run, width, eliminated as eliminated_run};
 ghost use Rattle.cap_elim.specs.Solving.{refuted as refuted_log};
 ghost use Rattle.cap_fm.specs.declared.entry.Entry.{Entry};

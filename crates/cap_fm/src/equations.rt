@@ -1,4 +1,4 @@
-ghost use Rattle.std.specs.Prelude.{◌≡◌, ◌<◌, ◌++◌, ◌∷◌, [], ℕ, ℤ, negsuc, ◌*ℤ◌, List, length, IsTrue, ◌↔◌, Some, None, false, IfSome, MatchResult};
+ghost use Rattle.std.specs.Prelude.{◌≡◌, ◌<◌, ◌++◌, ◌∷◌, [], ℕ, ℤ, negsuc, ◌*ℤ◌, List, length, Some, None, false, IfSome, MatchResult};
 ghost use Rattle.cap_lin.specs.Linear.{is_zero, coefficient};
 ghost use Rattle.cap_lin.specs.Steps.{product_of, first_wide};
 ghost use Rattle.cap_elim.specs.Rows.{of_row};
@@ -10,7 +10,7 @@ use crate::arising::combine;
 use crate::entry::{Arisen, Entry, Reached};
 use crate::error::SolveError;
 use crate::stage::Stage;
-use cap_lin::{Kind, Term};
+use cap_lin::Kind;
 use std::alloc::Global;
 
 /// An equation, by its place among the rows, and a variable that it has.

@@ -1,4 +1,4 @@
-ghost use Rattle.std.specs.Prelude.{◌≡◌, ◌==◌, ◌<◌, ◌+◌, ℕ, map, length, MatchResult, IfOk, None, pos};
+ghost use Rattle.std.specs.Prelude.{◌≡◌, ◌==◌, ◌<◌, ◌+◌, map, length, MatchResult, IfOk, None, pos};
 ghost use Rattle.cap_lin.specs.Linear.{number, IsBelow};
 ghost use Rattle.cap_lin.specs.Steps.{first_wide};
 ghost use Rattle.cap_elim.specs.Leaf.{leaf as leaf_of, leaf_steps, multipliers_of, multipliers as multipliers_at, own_steps, way_steps, is_turned, turned as turned_of, turned_steps, check_steps};

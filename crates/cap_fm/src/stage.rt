@@ -1,4 +1,4 @@
-ghost use Rattle.std.specs.Prelude.{◌≡◌, ◌++◌, ◌∷◌, ◌<◌, [], ℕ, List, length, get_or, slice_set, false, true, IfOk, OnOk};
+ghost use Rattle.std.specs.Prelude.{◌≡◌, ◌<◌, [], ℕ, List, get_or, false, true, IfOk};
 ghost use Rattle.cap_elim.specs.Runs.{at_first};
 ghost use Rattle.cap_fm.specs.declared.entry.Entry.{Entry};
 ghost use Rattle.cap_fm.specs.Views.{stage_view, Fits};

@@ -1,14 +1,13 @@
 -- Amounts and counts as elements.
-use Rattle.std.proofs.Common.{◌≡◌, ◌≢◌, ℕ, zero, suc, ◌+◌, ◌-◌, ◌*◌, ◌≤◌, ◌<◌, arith, refl, sym, ap, ◌∙◌, subst, ◌⊎◌, inl, inr, Bool, true, false, Option, Some, None, Result, Ok, Err}
+use Rattle.std.proofs.Common.{◌≡◌, ◌≢◌, ℕ, ◌-◌, ◌*◌, ◌≤◌, ◌<◌, arith, refl, sym, ap, ◌∙◌, subst, inl, inr, Bool, true, false, Option, Some, None, Result, Ok}
 use Rattle.std.specs.Prelude.{nat_le, nat_eq, ◌==◌, if◌then◌else◌, IsTrue}
 use Rattle.std.specs.Int.{IsGcd}
-use Rattle.std.proofs.lemmas.Bool.{cases_lt}
 use Rattle.cap_galg.specs.declared.fraction.Fraction.{Fraction}
 use Rattle.cap_galg.specs.declared.counting.Counting.{Counting}
 use Rattle.cap_galg.specs.declared.counting.Counting.TheVariants.{Tok, Src}
 use Rattle.cap_galg.specs.declared.error.GuardError.{GuardError}
 use Rattle.cap_galg.specs.Fractions.{IsAmount, IsShare}
-use Rattle.cap_galg.specs.Elements.{Element, nothing, one, share, tok, src, tokens, amount, compose, is_wide, at_most, is_unit, is_full}
+use Rattle.cap_galg.specs.Elements.{Element, nothing, share, tok, src, tokens, amount, compose, is_wide, at_most}
 use Rattle.cap_galg.specs.Views.{counting_element}
 use Rattle.cap_galg.specs.Answers.{IsComposition}
 use Rattle.cap_galg.specs.Laws.Fractions.{product-positive, amount-from, from-lowest}

@@ -1,13 +1,13 @@
 -- Composition of pairs and of sides of sums, by their parts.
-use Rattle.std.proofs.Common.{◌≡◌, ◌≢◌, ℕ, refl, sym, ap, ◌∙◌, subst, ◌⊎◌, inl, inr, Bool, true, false, Option, Some, None, Result, Ok, Err}
+use Rattle.std.proofs.Common.{◌≡◌, ◌≢◌, refl, sym, ap, ◌∙◌, subst, ◌⊎◌, inl, inr, Bool, true, false, Option, Some, None, Result, Ok, Err}
 use Rattle.std.specs.Prelude.{◌&&◌, ◌||◌, if◌then◌else◌}
 use Rattle.cap_galg.specs.declared.error.GuardError.{GuardError}
 use Rattle.cap_galg.specs.declared.error.GuardError.TheVariants.{Wide, OutOfMemory}
 use Rattle.cap_galg.specs.Elements.{Element, nothing, one, share, tok, src, both, whole, left, right, is_unit, is_full, pair_of, on_left, on_right, in_left, in_right, bind, compose, is_wide, at_most}
-use Rattle.cap_galg.specs.Algebras.{PlainAlgebra, full, IsElement, Lawful, AreKin}
+use Rattle.cap_galg.specs.Algebras.{PlainAlgebra, full, IsElement, AreKin}
 use Rattle.cap_galg.specs.Answers.{IsComposition, paired}
-use Rattle.cap_galg.specs.Laws.Composition.{true_or_false, and-true, some-same, bind-is, compose-nothing, compose-comm, unit-is, not-unit, composed-not-unit, full_alone, sound-pair, made_of_nothing, IsSound}
-use Rattle.cap_galg.specs.Laws.Algebras.{sound-of, closed, full-element, full-only, at_most-self, at_most-full, completes}
+use Rattle.cap_galg.specs.Laws.Composition.{true_or_false, and-true, some-same, compose-nothing, compose-comm, unit-is, composed-not-unit, full_alone, sound-pair, IsSound}
+use Rattle.cap_galg.specs.Laws.Algebras.{sound-of, closed, full-element, full-only, at_most-full, completes}
 use Rattle.cap_galg.specs.Views.{HasShares}
 
 pub some_or_none : {A : Type 0} (o : Option A) → (o ≡ None) ⊎ ((x : A) × (o ≡ Some x))

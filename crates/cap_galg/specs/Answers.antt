@@ -1,5 +1,5 @@
 -- What composition answers.
-use Rattle.std.specs.Prelude.{◌≡◌, ◌≢◌, Bool, true, false, Option, Some, None, Result, Ok, Err}
+use Rattle.std.specs.Prelude.{◌≡◌, ◌≢◌, true, false, Option, Some, None, Result, Ok, Err}
 use Rattle.cap_galg.specs.Elements.{Element, compose, is_wide}
 use Rattle.cap_galg.specs.declared.error.GuardError.{GuardError}
 use Rattle.cap_galg.specs.declared.error.GuardError.TheVariants.{Wide, OutOfMemory}

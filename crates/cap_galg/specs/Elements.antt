@@ -1,9 +1,9 @@
 -- Guard elements and their partial composition. The units of all algebras are one element, `nothing`. A pair isn't
 -- two units; a left or right element of a sum is neither unit nor full on its side, as all units of a sum are one
 -- element and all fulls are one element.
-use Rattle.std.specs.Prelude.{◌≡◌, ℕ, zero, suc, ◌+◌, ◌-◌, ◌*◌, ◌^◌, ◌==◌, ◌&&◌, ◌||◌, Bool, true, false, nat_le, if◌then◌else◌, Option, Some, None}
+use Rattle.std.specs.Prelude.{ℕ, ◌+◌, ◌-◌, ◌*◌, ◌^◌, ◌==◌, ◌&&◌, ◌||◌, Bool, true, false, nat_le, if◌then◌else◌, Option, Some, None}
 use Rattle.cap_galg.specs.declared.fraction.Fraction.{Fraction}
-use Rattle.cap_galg.specs.Fractions.{fraction, crossed, plus, IsShare}
+use Rattle.cap_galg.specs.Fractions.{crossed, plus}
 
 pub data Element : Type 0 where
   nothing : Element

@@ -1,5 +1,5 @@
 -- What a walk for an atom, or for two, has come to.
-use Rattle.std.specs.Prelude.{◌≡◌, ℕ, ◌+◌, ◌<◌, Bool}
+use Rattle.std.specs.Prelude.{◌≡◌, ℕ, ◌+◌, ◌<◌}
 use Rattle.cap_galg.specs.Elements.{Element}
 use Rattle.cap_galg.specs.Algebras.{PlainAlgebra, atoms, at_atom, are_apart}
 use Rattle.cap_galg.specs.Views.{node_view}

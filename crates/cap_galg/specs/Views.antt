@@ -1,9 +1,7 @@
 -- What contracts see of the types in code.
-use Rattle.std.specs.Prelude.{◌≡◌, ℕ, ◌<◌, Bool}
 use Rattle.cap_galg.specs.Elements.{Element, nothing, one, share, tok, src, both, whole, left, right, in_left, in_right, amount, tokens}
 use Rattle.cap_galg.specs.Fractions.{IsShare, IsAmount}
-use Rattle.cap_galg.specs.Algebras.{PlainAlgebra, unique, divisible, counting, product, sum, IsElement}
-use Rattle.cap_galg.specs.declared.fraction.Fraction.{Fraction}
+use Rattle.cap_galg.specs.Algebras.{PlainAlgebra, unique, divisible, counting, product, sum}
 use Rattle.cap_galg.specs.declared.algebra.Algebra.{Algebra, fold-Algebra}
 use Rattle.cap_galg.specs.declared.algebra.Atom.{Atom}
 use Rattle.cap_galg.specs.declared.algebra.Atom.TheVariants as atom

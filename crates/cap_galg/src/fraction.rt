@@ -1,4 +1,4 @@
-ghost use Rattle.std.specs.Prelude.{◌≡◌, ◌+◌, ◌*◌, ◌<◌, ◌≤◌, ◌^◌, nat_le, nat_eq, MatchResult, ◌↔◌, IsTrue};
+ghost use Rattle.std.specs.Prelude.{◌≡◌, ◌+◌, ◌*◌, ◌<◌, ◌≤◌, ◌^◌, nat_le, MatchResult, ◌↔◌, IsTrue};
 ghost use Rattle.std.specs.Int.{IsGcd};
 ghost use Rattle.cap_galg.specs.Fractions.{lowest, IsShare, IsAmount};
 ghost use Rattle.cap_galg.specs.Elements.{share};

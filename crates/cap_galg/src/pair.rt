@@ -1,5 +1,3 @@
-ghost use Rattle.std.specs.Prelude.{◌≡◌, IfOk};
-
 use crate::answer::paired_answer;
 use crate::error::GuardError;
 use crate::guard::Guard;

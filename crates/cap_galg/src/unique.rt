@@ -1,4 +1,3 @@
-ghost use Rattle.std.specs.Prelude.{◌≡◌, IfOk};
 ghost use Rattle.cap_galg.specs.Views.{unique_element};
 
 use crate::error::GuardError;

@@ -1,10 +1,8 @@
 -- Results on the way that follow one another.
-use Rattle.std.proofs.Common.{◌≡◌, List, [], ◌∷◌, ◌++◌, refl, sym, ap, ◌∙◌, Option, Some, None, Result, Ok, Err}
-use Rattle.std.specs.Prelude.{MatchResult}
+use Rattle.std.proofs.Common.{◌≡◌, List, [], ◌∷◌, ◌++◌, refl, sym, ap, ◌∙◌, None, Result, Ok, Err}
 use Rattle.cap_lin.specs.Steps.{Step, first_wide}
 use Rattle.cap_lin.specs.Exact.{Explains}
 use Rattle.cap_lin.specs.declared.error.LinError.{LinError}
-use Rattle.cap_lin.specs.declared.error.LinError.TheVariants.{Wide, OutOfMemory}
 use Rattle.cap_lin.proofs.Results.{first_wide-nil, first-narrow, explains_same, explains_first}
 use Rattle.cap_gsolve.specs.Made.{IsMade}
 

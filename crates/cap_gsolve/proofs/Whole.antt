@@ -1,6 +1,6 @@
 -- What a merge does, put together from what its three parts do.
-use Rattle.std.proofs.Common.{◌≡◌, List, [], ◌∷◌, ◌++◌, refl, sym, ap, ◌∙◌, subst, append_assoc, Option, Some, None}
-use Rattle.cap_lin.specs.Steps.{Step, first_wide}
+use Rattle.std.proofs.Common.{◌≡◌, List, [], ◌++◌, refl, ap, ◌∙◌, subst, append_assoc, None}
+use Rattle.cap_lin.specs.Steps.{first_wide}
 use Rattle.cap_lin.specs.Exact.{Explains}
 use Rattle.cap_lin.specs.declared.row.Row.{Row}
 use Rattle.cap_lin.specs.declared.error.LinError.{LinError}

@@ -1,5 +1,5 @@
 -- One more piece with those that are there, the rows that then hold, and the results on the way to them, in order.
-use Rattle.std.specs.Prelude.{ℕ, List, [], ◌∷◌, ◌++◌, Bool, true, false, ◌==◌, ◌&&◌, ◌||◌, if◌then◌else◌, ℤ, pos, negsuc, Option, Some, None, option_map, position, slice_index_or, slice_set}
+use Rattle.std.specs.Prelude.{ℕ, List, [], ◌∷◌, ◌++◌, Bool, true, false, ◌&&◌, pos, Option, Some, None, option_map, position, slice_index_or, slice_set}
 use Rattle.std.specs.List.{list_any}
 use Rattle.cap_lin.specs.Linear.{Linear, number, plus, minus}
 use Rattle.cap_lin.specs.Steps.{Step, plus_steps, minus_steps}

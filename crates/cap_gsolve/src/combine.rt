@@ -1,5 +1,5 @@
 ghost use Rattle.std.specs.Prelude.{◌≡◌, ◌++◌, ◌∷◌, []};
-ghost use Rattle.cap_lin.specs.Linear.{plus, minus, number};
+ghost use Rattle.cap_lin.specs.Linear.{plus, minus};
 ghost use Rattle.cap_lin.specs.Steps.{plus_steps, minus_steps};
 ghost use Rattle.cap_lin.specs.Rows.{row_of, row_of_steps};
 ghost use Rattle.cap_lin.specs.declared.row.Sort.TheVariants.{Int, Perm};

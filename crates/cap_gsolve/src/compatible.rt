@@ -1,4 +1,4 @@
-ghost use Rattle.std.specs.Prelude.{◌≡◌, ◌++◌, ◌∷◌, [], position, option_map, Some, None, IfOk};
+ghost use Rattle.std.specs.Prelude.{◌≡◌, ◌++◌, position, option_map, Some, None, IfOk};
 ghost use Rattle.cap_galg.specs.Views.{algebra_view};
 ghost use Rattle.cap_gsolve.specs.declared.piece.Form.TheVariants.{Share};
 ghost use Rattle.cap_gsolve.specs.Made.{IsMade};

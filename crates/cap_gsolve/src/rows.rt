@@ -1,7 +1,7 @@
 ghost use Rattle.std.specs.Prelude.{◌≡◌, ◌++◌, ◌∷◌, []};
 ghost use Rattle.cap_lin.specs.Rows.{row_of, row_of_steps};
 ghost use Rattle.cap_gsolve.specs.Made.{IsMade};
-ghost use Rattle.cap_gsolve.specs.Merge.{false_row, false_steps, added_rows, added_steps, lone_rows, lone_steps, combined, combined_rows, combined_steps};
+ghost use Rattle.cap_gsolve.specs.Merge.{false_row, false_steps, added_rows, added_steps, lone_rows, lone_steps};
 
 use crate::piece::Form;
 use cap_lin::{LinError, Op, Row, Sort, Term};

@@ -2,7 +2,6 @@ use crate::{Form, Piece, compat, full_pieces, merge};
 use cap_galg::Algebra;
 use cap_lin::{Kind, LinError, Row, Sort, Term};
 use std::alloc::{AllocError, Global};
-use std::process::Abort;
 use std::test::Fail;
 
 // A piece of the guards of kind 0 of the region that is the variable 9.

@@ -1,4 +1,4 @@
-ghost use Rattle.std.specs.Prelude.{◌≡◌, ℕ, ◌+◌, ◌^◌, ◌<◌, ◌≤◌, ◌++◌, List, length, take, drop, IfOk, IfErr, IsOkUnless, MatchResult};
+ghost use Rattle.std.specs.Prelude.{◌≡◌, ℕ, ◌+◌, ◌^◌, ◌<◌, ◌≤◌, ◌++◌, List, length, drop, IfOk, IfErr, IsOkUnless, MatchResult};
 ghost use Rattle.cap_syntax.specs.Place.{place_after, StandsAt};
 ghost use Rattle.cap_syntax.specs.Refusal.{max_text, IsCause, IsFirstBreak, IsRefusal, UnlessMemory, FailsExactly};
 ghost use Rattle.cap_syntax.specs.declared.token.TokenError.{TokenError};

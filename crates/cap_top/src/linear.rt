@@ -1,4 +1,4 @@
-ghost use Rattle.std.specs.Prelude.{◌+ℤ◌, FitsSigned, OnOk, nat_eq, if◌then◌else◌, ◌≡◌, None, Some, IfOk, ℕ, ℤ, pos, unwrap_or, IsSome, ◌<◌, filter, map, not};
+ghost use Rattle.std.specs.Prelude.{◌+ℤ◌, FitsSigned, OnOk, nat_eq, if◌then◌else◌, ◌≡◌, None, Some, IfOk, ℕ, ℤ, pos, unwrap_or, ◌<◌, filter, not};
 ghost use Rattle.std.specs.Ordering.{nat_cmp, int_eq};
 ghost use Rattle.std.specs.BTreeMap.{get, IsOrdered};
 ghost use Rattle.cap_machine.specs.Program.{term_view};

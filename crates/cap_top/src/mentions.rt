@@ -1,6 +1,6 @@
-ghost use Rattle.std.specs.Prelude.{◌≡◌, ◌++◌, map, [], OnOk, IfOk, option_map, List, ℕ, find, not};
-ghost use Rattle.cap_top.specs.Tree.{term_view, comparison_view, statement_view};
-ghost use Rattle.cap_top.specs.Names.{mono_names, more_names, term_names, statement_names, body_names, destination_of, destinations, AddsNames, with_names, distinct, is_among};
+ghost use Rattle.std.specs.Prelude.{◌≡◌, ◌++◌, map, [], OnOk, IfOk, option_map, find, not};
+ghost use Rattle.cap_top.specs.Tree.{term_view, statement_view};
+ghost use Rattle.cap_top.specs.Names.{mono_names, more_names, term_names, statement_names, body_names, destination_of, destinations, AddsNames, distinct, is_among};
 ghost use Rattle.cap_top.specs.NameViews.{mention_view, mentions_view, names_view};
 
 use crate::names::{Mention, Names};

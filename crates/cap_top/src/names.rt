@@ -1,10 +1,8 @@
-ghost use Rattle.std.specs.Prelude.{◌≡◌, ◌++◌, [], ◌∷◌, map, OnOk, IfOk, MatchOption, Some, None, option_map, List, ℕ, length, ◌^◌, ◌<◌, ◌≤◌};
-ghost use Rattle.cap_top.specs.Tree.{term_view, statement_view};
-ghost use Rattle.cap_top.specs.Names.{mono_names, more_names, term_names, statement_names, body_names, destinations, with_name, with_names, distinct, is_among, number_of};
-ghost use Rattle.cap_top.specs.NameViews.{mention_view, mentions_view, names_view};
+ghost use Rattle.std.specs.Prelude.{◌≡◌, [], OnOk, length, ◌^◌, ◌<◌};
+ghost use Rattle.cap_top.specs.Names.{with_name, is_among, number_of};
+ghost use Rattle.cap_top.specs.NameViews.{names_view};
 
-use crate::tree::{Addend, Mono, Statement, Term};
-use cap_syntax::{Place, Text};
+use cap_syntax::Place;
 use indexmap::IndexSet;
 use std::alloc::{AllocError, Global};
 

@@ -1,6 +1,5 @@
-ghost use Rattle.std.specs.Prelude.{◌≡◌, ◌++◌, [], IfOk, Some, None, option_map, map, string_bytes, MatchResult};
-ghost use Rattle.cap_machine.specs.Program.{program_view};
-ghost use Rattle.cap_top.specs.Output.{file_word, begins_option, status_of, verdict_status, verdict_text, refusal_text, usage_line, unreadable_line, text_of, refused};
+ghost use Rattle.std.specs.Prelude.{◌≡◌, [], IfOk, Some, None, option_map, map, string_bytes, MatchResult};
+ghost use Rattle.cap_top.specs.Output.{file_word, begins_option, status_of, refused};
 ghost use Rattle.cap_top.specs.Finding.{output_view, IsFound, IsSaidOf, IsSaid, IsOnly};
 ghost use Rattle.cap_top.specs.Resolving.{IsCause};
 ghost use Rattle.cap_top.specs.declared.refusal.Refusal.TheVariants.{OutOfMemory};

@@ -1,7 +1,7 @@
-ghost use Rattle.std.specs.Prelude.{◌≡◌, ◌∷◌, [], List, length, MatchOption, IfSome, IfNone, Ok};
-ghost use Rattle.cap_top.specs.Tree.{term_view, comparison_view, statement_view, body_view, tree_view, PlainTerm, assign, check, give_back};
+ghost use Rattle.std.specs.Prelude.{◌≡◌, ◌∷◌, length, IfSome, IfNone, Ok};
+ghost use Rattle.cap_top.specs.Tree.{term_view, comparison_view, statement_view, body_view, tree_view, assign, give_back};
 ghost use Rattle.cap_top.specs.Reading.{expect, expect_main, read_op, after_times, after_number, read_mono, read_more, after_minus, read_term, read_comparison, read_assign, read_assert, read_return, read_statement, read_body, read};
-ghost use Rattle.cap_top.specs.Parsing.{Reads, ReadsAll, NoSign, NoMinus, NoTimes, NoFinish, NoSemicolon};
+ghost use Rattle.cap_top.specs.Parsing.{Reads, ReadsAll, NoSign, NoMinus, NoFinish, NoSemicolon};
 ghost use Rattle.cap_top.specs.declared.parser.ParseError.TheVariants.{OutOfMemory};
 
 use crate::lexeme::{Lexeme, Mark, Sign, is_main, is_same};

@@ -1,9 +1,9 @@
-ghost use Rattle.std.specs.Prelude.{◌≡◌, ◌++◌, [], ◌∷◌, map, length, ◌<◌, ◌^◌, IfOk, option_map};
-ghost use Rattle.cap_machine.specs.Program.{PlainProgram, act_view, statement_view as linear_statement_view, program_view, comparison_view as linear_comparison_view, term_view as linear_term_view};
+ghost use Rattle.std.specs.Prelude.{◌≡◌, ◌++◌, [], ◌∷◌, map, length, ◌<◌, ◌^◌, IfOk};
+ghost use Rattle.cap_machine.specs.Program.{statement_view as linear_statement_view, program_view, comparison_view as linear_comparison_view, term_view as linear_term_view};
 ghost use Rattle.cap_top.specs.Tree.{term_view, comparison_view, statement_view, tree_view};
 ghost use Rattle.cap_top.specs.Names.{body_names};
 ghost use Rattle.cap_top.specs.NameViews.{names_view};
-ghost use Rattle.cap_top.specs.Program.{piece, first_sign, pieces, term_of, mono_place, term_place, comparison_of, value_of, statement_of, closing, names_of, program_of};
+ghost use Rattle.cap_top.specs.Program.{piece, pieces, term_of, term_place, comparison_of, value_of, statement_of, closing, names_of, program_of};
 ghost use Rattle.cap_top.specs.Resolving.{Resolves};
 
 use crate::lexeme::Sign;

@@ -1,13 +1,13 @@
 -- Each guard algebra is lawful.
-use Rattle.std.proofs.Common.{◌≡◌, ◌≢◌, ◌↔◌, ℕ, zero, suc, ◌+◌, ◌-◌, ◌*◌, ◌≤◌, ◌<◌, arith, refl, sym, ap, ◌∙◌, subst, ◌⊎◌, inl, inr, Bool, true, false, Option, Some, None, rules}
-use Rattle.std.specs.Prelude.{nat_le, ◌==◌, ◌&&◌, if◌then◌else◌}
+use Rattle.std.proofs.Common.{◌≡◌, ℕ, ◌+◌, ◌-◌, ◌*◌, ◌≤◌, ◌<◌, arith, refl, sym, ap, ◌∙◌, subst, inl, inr, Bool, true, false, Some, None, rules}
+use Rattle.std.specs.Prelude.{◌&&◌, if◌then◌else◌}
 use Rattle.std.proofs.lemmas.Bool.{cases_lt}
 use Rattle.cap_galg.specs.declared.fraction.Fraction.{Fraction}
-use Rattle.cap_galg.specs.Fractions.{fraction, IsShare, crossed, plus}
+use Rattle.cap_galg.specs.Fractions.{IsShare, crossed}
 use Rattle.cap_galg.specs.Elements.{Element, nothing, one, share, tok, src, both, whole, left, right, is_unit, is_full, on_left, on_right, bind, compose, at_most}
 use Rattle.cap_galg.specs.Algebras.{PlainAlgebra, unique, divisible, counting, product, sum, full, IsElement, AtMost, Lawful}
 use Rattle.cap_galg.specs.Laws.Fractions.{plus-share, le-plus, between, between-share, between-fits, plus-between, one_whole, whole-share, equal}
-use Rattle.cap_galg.specs.Laws.Composition.{true_or_false, le-true, true-le, true-eq, eq-true, and-true, bind-is, if-some, some-same, IsSound, compose-comm, compose-nothing, unit-is, not-unit, composed-not-unit, full_alone, sound-pair, compose_assoc}
+use Rattle.cap_galg.specs.Laws.Composition.{true_or_false, le-true, true-le, true-eq, and-true, bind-is, if-some, some-same, IsSound, compose-comm, compose-nothing, unit-is, not-unit, composed-not-unit, full_alone, sound-pair, compose_assoc}
 
 -- ---- elements of an algebra
 

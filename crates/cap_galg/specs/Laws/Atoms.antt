@@ -1,8 +1,8 @@
 -- Elements of one atom are elements of the algebra.
-use Rattle.std.proofs.Common.{◌≡◌, ℕ, zero, suc, ◌+◌, ◌-◌, ◌<◌, ◌≤◌, arith, refl, sym, ap, ◌∙◌, subst, ◌⊎◌, inl, inr, Bool, true, false}
+use Rattle.std.proofs.Common.{◌≡◌, ℕ, ◌+◌, ◌-◌, ◌<◌, ◌≤◌, arith, refl, sym, ap, ◌∙◌, subst, inl, inr, Bool, true, false}
 use Rattle.std.specs.Prelude.{nat_lt, ◌==◌, ◌&&◌, if◌then◌else◌}
 use Rattle.std.proofs.lemmas.Bool.Decides.{nat_tests}
-use Rattle.cap_galg.specs.Elements.{Element, nothing, one, share, tok, src, both, whole, left, right, is_unit, is_full, on_left, on_right, amount, tokens}
+use Rattle.cap_galg.specs.Elements.{Element, nothing, both, is_unit, is_full, on_left, on_right}
 use Rattle.cap_galg.specs.Algebras.{PlainAlgebra, unique, divisible, counting, product, sum, IsElement, atoms, atom_algebra, at_atom, atom_element, parted, are_apart}
 use Rattle.cap_galg.specs.Views.{amount_element, IsAmountOf}
 use Rattle.cap_galg.specs.declared.amount.Amount.{Amount}

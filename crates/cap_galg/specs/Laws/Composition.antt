@@ -1,13 +1,13 @@
 -- Composition of guard elements, whatever their algebra is: it is commutative and associative, `nothing` is its unit,
 -- and what is full composes with nothing else.
-use Rattle.std.proofs.Common.{◌≡◌, ◌≢◌, ℕ, zero, suc, ◌+◌, ◌-◌, ◌*◌, ◌≤◌, ◌<◌, arith, refl, sym, ap, ◌∙◌, subst, ◌⊎◌, inl, inr, Bool, true, false, Option, Some, None}
-use Rattle.std.specs.Prelude.{nat_le, nat_eq, nat_lt, ◌==◌, ◌&&◌, not, if◌then◌else◌}
+use Rattle.std.proofs.Common.{◌≡◌, ◌≢◌, ℕ, ◌+◌, ◌-◌, ◌*◌, ◌≤◌, ◌<◌, arith, refl, sym, ap, ◌∙◌, subst, ◌⊎◌, inl, inr, Bool, true, false, Option, Some, None}
+use Rattle.std.specs.Prelude.{nat_le, ◌==◌, ◌&&◌, if◌then◌else◌}
 use Rattle.std.proofs.lemmas.Bool.{cases_lt}
 use Rattle.std.proofs.lemmas.Bool.Decides.{nat_tests}
 use Rattle.cap_galg.specs.declared.fraction.Fraction.{Fraction}
-use Rattle.cap_galg.specs.Fractions.{fraction, IsLowest, IsAmount, IsShare, crossed, plus}
-use Rattle.cap_galg.specs.Elements.{Element, nothing, one, share, tok, src, both, whole, left, right, is_unit, is_full, on_left, on_right, bind, compose, at_most}
-use Rattle.cap_galg.specs.Laws.Fractions.{plus_comm, plus_assoc, plus-is, plus-share, three-le, le-three, le-two, crossed3, dens3, le-plus, product-positive}
+use Rattle.cap_galg.specs.Fractions.{IsShare, crossed, plus}
+use Rattle.cap_galg.specs.Elements.{Element, nothing, one, share, tok, src, both, whole, left, right, is_unit, is_full, on_left, on_right, bind, compose}
+use Rattle.cap_galg.specs.Laws.Fractions.{plus_comm, plus_assoc, plus-share, three-le, le-three, le-two, crossed3, dens3, product-positive}
 
 -- ---- tests
 

@@ -1,5 +1,5 @@
 -- Parts of one algebra, for each type of parts.
-use Rattle.std.proofs.Common.{◌≡◌, ℕ, zero, suc, ◌<◌, arith, refl, subst, sym, true, false, Bool}
+use Rattle.std.proofs.Common.{◌≡◌, ℕ, arith, refl, subst, sym, true, false, Bool}
 use Rattle.std.specs.Prelude.{◌==◌, ◌&&◌, if◌then◌else◌}
 use Rattle.std.specs.Coded.{Unit-prop, le_prop}
 use Rattle.std.proofs.Props.{props}

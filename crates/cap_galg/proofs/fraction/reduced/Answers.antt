@@ -1,7 +1,6 @@
-use Rattle.std.proofs.Common.{◌≡◌, ◌<◌, ◌≤◌, ◌/◌, arith, refl, ap, sym, ◌∙◌}
+use Rattle.std.proofs.Common.{arith, refl, ap, sym}
 use Rattle.cap_galg.specs.declared.fraction.Fraction.{Fraction}
-use Rattle.cap_galg.specs.Fractions.{fraction, lowest}
-use Rattle.cap_galg.specs.Laws.Fractions.{divisor-positive, lowest-by, lowest-most}
+use Rattle.cap_galg.specs.Laws.Fractions.{divisor-positive, lowest-by}
 use Rattle.cap_galg.proofs.fraction.reduced.Goals as goal
 
 pub nonzero_div-num : goal.nonzero_div-num

@@ -1,10 +1,9 @@
-use Rattle.std.proofs.Common.{◌≡◌, None, subst, List, ◌∷◌, ◌++◌, []}
+use Rattle.std.proofs.Common.{subst}
 use Rattle.std.proofs.lemmas.Result.{err_from_is_err_and}
-use Rattle.cap_lin.specs.Linear.{Linear, plus, number}
-use Rattle.cap_lin.specs.Steps.{plus_steps, first_wide}
+use Rattle.cap_lin.specs.Steps.{plus_steps}
 use Rattle.cap_lin.specs.Exact.{Explains}
-use Rattle.cap_lin.specs.Rows.{row_of, row_of_steps}
-use Rattle.cap_lin.specs.declared.row.Sort.TheVariants.{Int, Perm}
+use Rattle.cap_lin.specs.Rows.{row_of_steps}
+use Rattle.cap_lin.specs.declared.row.Sort.TheVariants.{Perm}
 use Rattle.cap_lin.specs.declared.row.Op.TheVariants.{Le as AtMost}
 use Rattle.cap_gsolve.specs.Merge.{one_term}
 use Rattle.cap_gsolve.proofs.Steps.{earlier-error, later-error, both-narrow}

@@ -1,6 +1,6 @@
-use Rattle.std.proofs.Common.{◌≡◌, ◌+◌, ◌++◌, map, refl, arith, rules, ap, ◌∙◌}
+use Rattle.std.proofs.Common.{◌≡◌, rules}
 use Rattle.cap_galg.specs.Views.{algebra_view}
-use Rattle.cap_galg.specs.Algebras.{PlainAlgebra, product, sum, atoms}
+use Rattle.cap_galg.specs.Algebras.{product, sum, atoms}
 use Rattle.cap_galg.specs.declared.algebra.Algebra.TheFolds.{the_lemmas}
 use Rattle.cap_gsolve.specs.Pieces.{piece, full_forms}
 use Rattle.cap_gsolve.proofs.Lists.{pushed-twice, pushed-once}

@@ -1,6 +1,5 @@
-use Rattle.std.proofs.Common.{◌≡◌, ◌≤◌, arith, sym, subst}
+use Rattle.std.proofs.Common.{arith, sym, subst}
 use Rattle.cap_galg.specs.Views.{algebra_view}
-use Rattle.cap_galg.specs.Algebras.{atoms}
 use Rattle.cap_galg.specs.Placed.{HasPassed}
 use Rattle.cap_galg.specs.Laws.Atoms.{apart-first, apart-second}
 use Rattle.cap_galg.proofs.algebra.Algebra.are_apart.Goals as goal

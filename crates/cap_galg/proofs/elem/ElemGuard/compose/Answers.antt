@@ -1,6 +1,5 @@
-use Rattle.std.proofs.Common.{◌≡◌, Ok, Some, subst, rules}
+use Rattle.std.proofs.Common.{◌≡◌, Ok, Some, subst}
 use Rattle.cap_galg.specs.Views.{algebra_view, node_view}
-use Rattle.cap_galg.specs.Elements.{compose}
 use Rattle.cap_galg.specs.Answers.{IsComposition}
 use Rattle.cap_galg.proofs.Sides.{has_shares, closed-proper}
 use Rattle.cap_galg.proofs.elem.ElemGuard.compose.Goals as goal

@@ -1,4 +1,4 @@
-use Rattle.std.proofs.Common.{◌≡◌, Err, Ok, ap, rules}
+use Rattle.std.proofs.Common.{◌≡◌, Err, rules}
 use Rattle.cap_galg.specs.Views.{node_view}
 use Rattle.cap_galg.specs.declared.node.Node.TheFolds.{the_lemmas}
 use Rattle.cap_galg.specs.Elements.{both}
