@@ -216,7 +216,7 @@ variables-solved x (suc n) rows s left h f =
 
 -- ---- the width
 
-absent-above : (y : ℕ) (ps : List (ℕ × ℤ)) → width_of ps ≤ y → coefficient y ps ≡ pos 0
+pub absent-above : (y : ℕ) (ps : List (ℕ × ℤ)) → width_of ps ≤ y → coefficient y ps ≡ pos 0
 unfolding width_of
 absent-above y [] h = coefficient-nil y
 absent-above y (p ∷ ps) h = coefficient-other y p ps (λ e. absurd (omega arith)) ∙ absent-above y ps (omega arith)

@@ -20,6 +20,7 @@ use Rattle.cap_fm.specs.declared.stage.Stage.{Stage}
 use Rattle.cap_fm.specs.contracts.stage.FormPartialEq.TheImpl.{eq-value}
 use Rattle.cap_fm.proofs.Marks.{number-later, arisen-new}
 use Rattle.cap_fm.proofs.Stages.{fits-by, fits-new, grows-by, grows-new}
+use Rattle.cap_fm.proofs.Booleans.{or-none}
 
 by_kind : (k l : Kind) (s t : Linear) → eq-value.it (record { kind = k; term = s }) (record { kind = l; term = t }) ≡ (same_kind k l && same_term s t)
 by_kind Le Le s t = refl
@@ -63,10 +64,6 @@ insert-new f fs h = by (list_any (eq-value.it f) fs) (has-view f fs ∙ h)
     by : (b : Bool) → b ≡ false → map form_view (if b then fs else fs ++ (f ∷ [])) ≡ map form_view fs ++ ((f.term, f.kind) ∷ [])
     by true e = cc
     by false e = map-append form_view fs (f ∷ [])
-
-or-none : (a b : Bool) → (a || b) ≡ false → (a ≡ false) × (b ≡ false)
-or-none true b e = cc
-or-none false b e = (refl, e)
 
 pub number-none : (t : Linear) (k : Kind) (rows : List (Linear × Kind)) → has_arisen t k rows ≡ false → number_of t k rows ≡ length rows
 number-none t k [] h = refl

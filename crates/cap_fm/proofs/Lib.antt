@@ -1,4 +1,5 @@
 pub mod Runs
+pub mod Booleans
 pub mod Marks
 pub mod Stages
 pub mod Counting

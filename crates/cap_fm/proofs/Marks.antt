@@ -1,19 +1,15 @@
 -- Rows by their numbers among those that arose, and marks of those that are present.
 use Rattle.std.proofs.Common.{◌≡◌, ℕ, ◌+◌, ◌<◌, List, [], ◌∷◌, ◌++◌, length, not, cond, arith, refl, sym, ap, ◌∙◌, ◌⊎◌, inl, inr, Bool, true, false}
-use Rattle.std.specs.Prelude.{◌||◌, ◌&&◌}
+use Rattle.std.specs.Prelude.{◌||◌}
 use Rattle.cap_lin.specs.Linear.{Linear, same_term}
 use Rattle.cap_lin.specs.Laws.Sameness.{same_term-decides}
 use Rattle.cap_lin.specs.declared.row.Kind.{Kind}
 use Rattle.cap_lin.specs.declared.row.Kind.TheVariants.{Le, Lt, Eq, Ne}
 use Rattle.cap_elim.specs.Rows.{same_kind, same_row, has_arisen}
 use Rattle.cap_fm.specs.Views.{number_of}
+use Rattle.cap_fm.proofs.Booleans.{true_or_false, both-true, or-later, or-none}
 
 -- ---- equal rows
-
-both : (a b : Bool) → (a && b) ≡ true → (a ≡ true) × (b ≡ true)
-both true true e = (refl, refl)
-both true false e = cc
-both false b e = cc
 
 kind-is : (k l : Kind) → same_kind k l ≡ true → k ≡ l
 kind-is Le Le e = refl
@@ -40,17 +36,13 @@ kind-self Eq = refl
 kind-self Ne = refl
 
 pub row-is : (t : Linear) (k : Kind) (u : Linear) (l : Kind) → same_row t k u l ≡ true → (t ≡ u) × (k ≡ l)
-row-is t k u l e = let h = both (same_kind k l) (same_term t u) e in ((same_term-decides t u).0 h.1, kind-is k l h.0)
+row-is t k u l e = let h = both-true (same_kind k l) (same_term t u) e in ((same_term-decides t u).0 h.1, kind-is k l h.0)
 
 pub row-self : (t : Linear) (k : Kind) → same_row t k t k ≡ true
 row-self t k = rw (kind-self k, (same_term-decides t t).1 refl) refl
 
 pub row-same : (t : Linear) (k : Kind) (u : Linear) (l : Kind) → t ≡ u → k ≡ l → same_row t k u l ≡ true
 row-same t k u l p q = rw (p, q) (row-self u l)
-
-true_or_false : (b : Bool) → (b ≡ true) ⊎ (b ≡ false)
-true_or_false true = inl refl
-true_or_false false = inr refl
 
 -- ---- numbers
 
@@ -69,19 +61,11 @@ number-first t k r rows e = first-number (same_row t k r.0 r.1) (number_of t k r
 pub number-later : (t : Linear) (k : Kind) (r : Linear × Kind) (rows : List (Linear × Kind)) → same_row t k r.0 r.1 ≡ false → number_of t k (r ∷ rows) ≡ 1 + number_of t k rows
 number-later t k r rows e = later-number (same_row t k r.0 r.1) (number_of t k rows) e
 
-or-false : (a b : Bool) → a ≡ false → (a || b) ≡ true → b ≡ true
-or-false true b e h = cc
-or-false false b e h = h
-
-or-none : (a b : Bool) → (a || b) ≡ false → (a ≡ false) × (b ≡ false)
-or-none true b e = cc
-or-none false b e = (refl, e)
-
 pub number-below : (t : Linear) (k : Kind) (rows : List (Linear × Kind)) → has_arisen t k rows ≡ true → number_of t k rows < length rows
 number-below t k [] h = cc
 number-below t k (r ∷ rows) h = elim (true_or_false (same_row t k r.0 r.1)) [
   | inl e ↦ let n = number-first t k r rows e in omega arith
-  | inr e ↦ let n = number-later t k r rows e in let m = number-below t k rows (or-false _ _ e h) in omega arith
+  | inr e ↦ let n = number-later t k r rows e in let m = number-below t k rows (or-later _ _ e h) in omega arith
 ]
 
 -- equal numbers are of equal rows
@@ -94,7 +78,7 @@ number-one t k u l (r ∷ rows) h e = elim (true_or_false (same_row t k r.0 r.1)
   ]
   | inr p ↦ elim (true_or_false (same_row u l r.0 r.1)) [
     | inl q ↦ let m = number-later t k r rows p in let n = number-first u l r rows q in absurd (omega arith)
-    | inr q ↦ let m = number-later t k r rows p in let n = number-later u l r rows q in number-one t k u l rows (or-false _ _ p h) (omega arith)
+    | inr q ↦ let m = number-later t k r rows p in let n = number-later u l r rows q in number-one t k u l rows (or-later _ _ p h) (omega arith)
   ]
 ]
 
@@ -104,7 +88,7 @@ arisen-kept t k [] r h = cc
 arisen-kept t k (s ∷ rows) r h = elim (true_or_false (same_row t k s.0 s.1)) [
   | inl e ↦ (ap (λ b. b || has_arisen t k (rows ++ (r ∷ []))) e, number-first t k s (rows ++ (r ∷ [])) e ∙ sym (number-first t k s rows e))
   | inr e ↦
-      let i = arisen-kept t k rows r (or-false _ _ e h) in
+      let i = arisen-kept t k rows r (or-later _ _ e h) in
       (ap (λ b. b || has_arisen t k (rows ++ (r ∷ []))) e ∙ i.0, number-later t k s (rows ++ (r ∷ [])) e ∙ ap (λ n. 1 + n) i.1 ∙ sym (number-later t k s rows e))
 ]
 
@@ -121,5 +105,5 @@ pub arisen-split : (t : Linear) (k : Kind) (rows : List (Linear × Kind)) (r : L
 arisen-split t k [] r h = elim (true_or_false (same_row t k r.0 r.1)) [ inl e ↦ inr e | inr e ↦ absurd (cc) ]
 arisen-split t k (s ∷ rows) r h = elim (true_or_false (same_row t k s.0 s.1)) [
   | inl e ↦ inl (ap (λ b. b || has_arisen t k rows) e)
-  | inr e ↦ elim (arisen-split t k rows r (or-false _ _ e h)) [ inl a ↦ inl (ap (λ b. b || has_arisen t k rows) e ∙ a) | inr b ↦ inr b ]
+  | inr e ↦ elim (arisen-split t k rows r (or-later _ _ e h)) [ inl a ↦ inl (ap (λ b. b || has_arisen t k rows) e ∙ a) | inr b ↦ inr b ]
 ]

@@ -1,5 +1,5 @@
 -- How the code's rows arise: the stage behind each way, and the definition's run.
-use Rattle.std.proofs.Common.{◌≡◌, ℕ, ◌+◌, ℤ, List, [], ◌∷◌, ◌++◌, length, get_or, set, map, reverse, arith, refl, subst, sym, ap, ◌∙◌, ◌⊎◌, inl, inr, Bool, true, false, get_or-set_same, get_or-set_other, None, Ok, Err}
+use Rattle.std.proofs.Common.{◌≡◌, ℕ, ◌+◌, ℤ, List, [], ◌∷◌, ◌++◌, length, get_or, set, map, reverse, arith, refl, subst, sym, ap, ◌∙◌, inl, inr, Bool, true, false, get_or-set_same, get_or-set_other, None, Ok, Err}
 use Rattle.std.specs.Prelude.{◌||◌, ◌≢◌, if◌then◌else◌, Result}
 use Rattle.std.specs.List.{AllByRecursion, list_any}
 use Rattle.std.proofs.lemmas.List.{map-append, length-map, length-reverse, reverse-append, length_push, length-set}
@@ -26,10 +26,8 @@ use Rattle.cap_fm.specs.declared.stage.Stage.{Stage}
 use Rattle.cap_fm.proofs.Marks.{row-is, number-below, number-one}
 use Rattle.cap_fm.proofs.Runs.{then-continues, then-fails, explains-steps, same-is, same-explains, same-then, results-are}
 use Rattle.cap_fm.proofs.Stages.{all-grow, grows-by, grows-then, history-push}
-
-true_or_false : (b : Bool) → (b ≡ true) ⊎ (b ≡ false)
-true_or_false true = inl refl
-true_or_false false = inr refl
+use Rattle.cap_fm.proofs.Booleans.{true_or_false, if-true, if-false}
+use Rattle.cap_lin.proofs.Infeasible.{push-all}
 
 -- ---- the history with one more origin
 
@@ -73,10 +71,6 @@ kept-mark t k rows marks ds d l a n h m = elim (true_or_false (same_row t k d.te
     false-true : false ≡ true → ⊥
     false-true p = cc
 
-all-push : (P : Entry → Type 0) (ds : List Entry) (d : Entry) → AllByRecursion P ds → P d → AllByRecursion P (ds ++ (d ∷ []))
-all-push P [] d a p = (p, tt)
-all-push P (e ∷ ds) d a p = (a.0, all-push P ds d a.1 p)
-
 pub fits-kept : (inputs : ℕ) (s z : Stage) (o : Origin) (ds : List Entry) (d : Entry) → z.forms.keys ≡ s.forms.keys → z.present.items ≡ set s.present.items d.number true → z.history.items ≡ s.history.items ++ (o ∷ []) → IsOrigin inputs (length s.history.items) o → has_arisen d.term d.kind (stage_view s).arisen ≡ true → number_of d.term d.kind (stage_view s).arisen ≡ d.number → d.origin ≡ length s.history.items → Fits inputs s ds → Fits inputs z (ds ++ (d ∷ [])) × Grows s z
 fits-kept inputs s z o ds d k m h i a n q f =
     let A : (stage_view z).arisen ≡ (stage_view s).arisen = ap (map Rattle.cap_fm.specs.Views.form_view) k in
@@ -90,7 +84,7 @@ fits-kept inputs s z o ds d k m h i a n q f =
               ∙ ap (λ B. get_or (set s.present.items d.number true) (number_of t k B) false) A
               ∙ (let e2 = subst (λ B. has_arisen t k B ≡ true) A e in kept-mark t k (stage_view s).arisen s.present.items ds d f.marked.long a n e2 (f.marked.tell t k e2));
         };
-        numbered = all-push (IsNumbered z) ds d (all-grow s z ds g f.numbered) (record { arose = subst (λ B. has_arisen d.term d.kind B ≡ true) (sym A) a; number = ap (number_of d.term d.kind) A ∙ n; origin = omega arith });
+        numbered = push-all (IsNumbered z) ds d (all-grow s z ds g f.numbered) (record { arose = subst (λ B. has_arisen d.term d.kind B ≡ true) (sym A) a; number = ap (number_of d.term d.kind) A ∙ n; origin = omega arith });
         history = subst (IsHistory inputs) (sym h) (history-push inputs s.history.items o f.history i);
       },
       g,
@@ -111,14 +105,6 @@ pub grows-noted : (s z : Stage) (o : Origin) → z.forms.keys ≡ s.forms.keys �
 grows-noted s z o k h = let l = more-origins s.history.items z.history.items o h in grows-by s z (ap (map Rattle.cap_fm.specs.Views.form_view) k) (omega arith)
 
 -- ---- the definition's cases
-
-if-true : {A : Type 0} (b : Bool) (x y : A) → b ≡ true → (if b then x else y) ≡ x
-if-true true x y e = refl
-if-true false x y e = cc
-
-if-false : {A : Type 0} (b : Bool) (x y : A) → b ≡ false → (if b then x else y) ≡ y
-if-false true x y e = cc
-if-false false x y e = refl
 
 pub same-of : {A : Type 0} (m n : Elimination A) (s : plain.Stage) → m ≡ n → Same (m s) (n s)
 same-of m n s e = subst (λ f. Same (m s) (f s)) e (record { limit = refl; found = refl; stage = refl })

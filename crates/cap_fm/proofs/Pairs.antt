@@ -14,7 +14,8 @@ use Rattle.cap_fm.specs.declared.stage.Stage.{Stage}
 use Rattle.cap_fm.specs.declared.error.SolveError.{SolveError}
 use Rattle.cap_fm.specs.Views.{stage_view, entry_view, entries_view, false_view, lacking_rows, Fits, IsLast, Grows, IsNumbered, AreNumbered}
 use Rattle.cap_fm.specs.Answers.{Explains, Is, Same, Arises, Leaves}
-use Rattle.cap_fm.proofs.Each.{each-map, each-filter}
+use Rattle.cap_elim.proofs.Lists.{each-filter}
+use Rattle.cap_fm.proofs.Stages.{all-grow}
 use Rattle.cap_fm.proofs.Filters.{upper_rows, lower_rows}
 use Rattle.cap_fm.proofs.Runs.{then-continues, then-stops, then-fails, same-is, same-explains, same-then, same-refl}
 use Rattle.cap_fm.proofs.Replacements.{done-is}
@@ -103,7 +104,7 @@ pub record BoundsGo (inputs x : ℕ) (old now : Stage) (rows held rest below : L
 
 pub bounds-start : (inputs x : ℕ) (old now : Stage) (rows held above below : List Entry) → Fits inputs old rows → Leaves inputs old now (lacking_rows x rows) → held ≡ lacking_rows x rows → above ≡ upper_rows x rows → below ≡ lower_rows x rows → BoundsGo inputs x old now rows held above below
 bounds-start inputs x old now rows held above below f l a b c =
-    let n = each-map (IsNumbered old) (IsNumbered now) rows l.grows f.numbered in
+    let n = all-grow old now rows l.grows f.numbered in
     rw (a, b, c) (record {
       fits = l.fits;
       above_numbered = each-filter (IsNumbered now) (λ d. is_positive (coefficient x d.term.parts)) rows n;
@@ -117,8 +118,8 @@ bounds-next inputs x old now rows held above below i d l g h = subst (λ es. Bou
 pub bounds-more : (inputs x : ℕ) (old now new : Stage) (rows held more rest below : List Entry) (d : Entry) → BoundsGo inputs x old now rows held (d ∷ rest) below → Is (going (entries_view more)) (stage_view new) (combine_each x (entries_view held) (entry_view d) (entries_view below) (stage_view now)) → Fits inputs new more → Grows now new → BoundsGo inputs x old new rows more rest below
 bounds-more inputs x old now new rows held more rest below d h i f g = record {
   fits = f;
-  above_numbered = each-map (IsNumbered now) (IsNumbered new) rest g h.above_numbered.1;
-  below_numbered = each-map (IsNumbered now) (IsNumbered new) below g h.below_numbered;
+  above_numbered = all-grow now new rest g h.above_numbered.1;
+  below_numbered = all-grow now new below g h.below_numbered;
   same = same-then _ (combine_all x (entries_view held) (entries_view (d ∷ rest)) (entries_view below) (stage_view now)) _ h.same (rw (all-cons x (entries_view held) (entry_view d) (entries_view rest) (entries_view below)) (then-continues (combine_each x (entries_view held) (entry_view d) (entries_view below)) (λ es. combine_all x es (entries_view rest) (entries_view below)) (stage_view now) (stage_view new) (entries_view more) i));
 }
 

@@ -1,5 +1,5 @@
 -- Which rows are present, and that rows with a variable leave.
-use Rattle.std.proofs.Common.{◌≡◌, ℕ, ◌+◌, ◌<◌, ◌≤◌, List, [], ◌∷◌, length, get_or, take, map, not, cond, refl, sym, ap, ◌∙◌, subst, arith, ◌⊎◌, inl, inr, Bool, true, false}
+use Rattle.std.proofs.Common.{◌≡◌, ℕ, ◌+◌, ◌<◌, ◌≤◌, List, [], ◌∷◌, length, get_or, take, map, not, cond, refl, sym, ap, ◌∙◌, subst, arith, inl, inr, Bool, true, false}
 use Rattle.std.specs.Prelude.{◌&&◌, ◌||◌, ◌≢◌}
 use Rattle.std.specs.List.{list_any}
 use Rattle.std.proofs.lemmas.Bool.{false≢true}
@@ -12,12 +12,11 @@ use Rattle.cap_fm.specs.declared.entry.Entry.{Entry}
 use Rattle.cap_fm.specs.declared.stage.Stage.{Stage}
 use Rattle.cap_fm.specs.Views.{stage_view, form_view, entries_view, lacking_rows, number_of, Fits, IsNumbered, AreNumbered, Grows}
 use Rattle.cap_fm.specs.Answers.{Remarks, Leaves}
-use Rattle.cap_fm.proofs.Each.{each-map, each-filter, each-at}
+use Rattle.cap_elim.proofs.Lists.{each-filter}
+use Rattle.cap_fm.proofs.Each.{each-at}
+use Rattle.cap_fm.proofs.Stages.{all-grow}
 use Rattle.cap_fm.proofs.Marks.{row-is, number-below, number-one}
-
-pub true_or_false : (b : Bool) → (b ≡ true) ⊎ (b ≡ false)
-true_or_false true = inl refl
-true_or_false false = inr refl
+use Rattle.cap_fm.proofs.Booleans.{true_or_false}
 
 -- ---- rows that have a variable
 
@@ -167,7 +166,7 @@ all-left x inputs old new ds f h =
           long = h.long ∙ f.marked.long ∙ ap (λ ks. length (map form_view ks)) (sym h.forms);
           tell = rw h.forms (λ t k a. h.tell t k a ∙ ap (λ b. b && not (is_left x t k ds)) (f.marked.tell t k a) ∙ present-lacking x t k ds);
         };
-        numbered = each-map (IsNumbered old) (IsNumbered new) (lacking_rows x ds) grows (each-filter (IsNumbered old) (λ d. is_zero (coefficient x d.term.parts)) ds f.numbered);
+        numbered = all-grow old new (lacking_rows x ds) grows (each-filter (IsNumbered old) (λ d. is_zero (coefficient x d.term.parts)) ds f.numbered);
         history = rw h.history f.history;
       };
       grows = grows;

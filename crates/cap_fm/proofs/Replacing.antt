@@ -19,10 +19,11 @@ use Rattle.cap_fm.specs.declared.entry.FalseRow.{FalseRow}
 use Rattle.cap_fm.specs.declared.entry.Arisen.TheVariants.{LeftOut, Kept, False}
 use Rattle.cap_fm.specs.declared.stage.Stage.{Stage}
 use Rattle.cap_fm.specs.declared.error.SolveError.{SolveError}
-use Rattle.cap_fm.specs.Views.{stage_view, entry_view, entries_view, false_view, lacking_rows, Fits, IsLast, Grows, IsNumbered, AreNumbered}
+use Rattle.cap_fm.specs.Views.{stage_view, entry_view, entries_view, false_view, lacking_rows, Fits, IsLast, IsNumbered, AreNumbered}
 use Rattle.cap_fm.specs.Answers.{Explains, Is, Same, Arises}
 use Rattle.cap_fm.proofs.Runs.{then-continues, then-stops, then-fails, same-is, same-explains, same-then, same-refl}
-use Rattle.cap_fm.proofs.Each.{each-append, each-left, each-right, each-map}
+use Rattle.cap_elim.proofs.Lists.{each-join, each-left, each-right}
+use Rattle.cap_fm.proofs.Stages.{all-grow}
 use Rattle.cap_fm.proofs.Presence.{zero-present}
 use Rattle.cap_fm.proofs.Replacements.{done-is}
 
@@ -83,7 +84,7 @@ fits-moved inputs s ds es fs f =
     let n = each-left (IsNumbered s) (ds ++ es) fs f.numbered in
     record {
       marked = record { long = f.marked.long; tell = λ t k a. f.marked.tell t k a ∙ present-moved t k ds es fs };
-      numbered = each-append (IsNumbered s) (ds ++ fs) es (each-append (IsNumbered s) ds fs (each-left (IsNumbered s) ds es n) (each-right (IsNumbered s) (ds ++ es) fs f.numbered)) (each-right (IsNumbered s) ds es n);
+      numbered = each-join (IsNumbered s) (ds ++ fs) es (each-join (IsNumbered s) ds fs (each-left (IsNumbered s) ds es n) (each-right (IsNumbered s) (ds ++ es) fs f.numbered)) (each-right (IsNumbered s) ds es n);
       history = f.history;
     }
 
@@ -137,13 +138,10 @@ fits-rest inputs x s d held rest z f = subst (Fits inputs s) (ap (λ b. held ++ 
 abbrev RunOf : ℕ → Entry → Entry → Stage → List Entry → List Entry → Run (List plain.Entry)
 RunOf x equation d now held rest = replacement (entries_view (held ++ lacking_rows x rest)) (of_row x (entry_view equation)) (of_row x (entry_view d)) (entry_view equation) (entry_view d) (stage_view now)
 
-numbered-still : (old new : Stage) (ds : List Entry) → Grows old new → AreNumbered old ds → AreNumbered new ds
-numbered-still old new ds g n = each-map (IsNumbered old) (IsNumbered new) ds g n
-
 pub all-left_out : (inputs x : ℕ) (equation d : Entry) (old now new : Stage) (held all rest : List Entry) → is_zero (coefficient x d.term.parts) ≡ false → Arises inputs now new (held ++ lacking_rows x rest) (RunOf x equation d now held rest) LeftOut → AllGoes inputs x equation old now held all (d ∷ rest) → AllGoes inputs x equation old new held all rest
 all-left_out inputs x equation d old now new held all rest z a h = record {
   fits = a.1;
-  numbered = numbered-still now new rest a.2 h.numbered.1;
+  numbered = all-grow now new rest a.2 h.numbered.1;
   equation_numbered = a.2 equation h.equation_numbered;
   same = same-then _ _ _ h.same (step-same x equation d held held rest (stage_view now) (stage_view new) [] (subst (Is (going []) (stage_view new)) (sym (run-same x equation d held rest (stage_view now) z)) a.0) (append-nil (entries_view held)));
 }
@@ -151,7 +149,7 @@ all-left_out inputs x equation d old now new held all rest z a h = record {
 pub all-kept : (inputs x : ℕ) (equation d e : Entry) (old now new : Stage) (held more all rest : List Entry) → is_zero (coefficient x d.term.parts) ≡ false → more ≡ held ++ (e ∷ []) → Arises inputs now new (held ++ lacking_rows x rest) (RunOf x equation d now held rest) (Kept e) → AllGoes inputs x equation old now held all (d ∷ rest) → AllGoes inputs x equation old new more all rest
 all-kept inputs x equation d e old now new held more all rest z m a h = subst (λ es. AllGoes inputs x equation old new es all rest) (sym m) (record {
   fits = fits-moved inputs new held (lacking_rows x rest) (e ∷ []) a.1;
-  numbered = numbered-still now new rest a.2 h.numbered.1;
+  numbered = all-grow now new rest a.2 h.numbered.1;
   equation_numbered = a.2 equation h.equation_numbered;
   same = same-then _ _ _ h.same (step-same x equation d held (held ++ (e ∷ [])) rest (stage_view now) (stage_view new) (entry_view e ∷ []) (subst (Is (going (entry_view e ∷ [])) (stage_view new)) (sym (run-same x equation d held rest (stage_view now) z)) a.0) (sym (map-append entry_view held (e ∷ []))));
 })

@@ -11,9 +11,8 @@ use Rattle.cap_lin.specs.declared.row.Kind.{Kind}
 use Rattle.cap_lin.specs.declared.row.Kind.TheVariants.{Le, Lt, Eq, Ne}
 use Rattle.cap_elim.specs.Runs as plain
 use Rattle.cap_elim.specs.Runs.{Stage, Run, Found, going, contradiction, done, Elimination, ◌>>=◌}
-use Rattle.cap_elim.specs.Elimination.{Pivot, input, inputs, chosen, first_pivot, by_equation, unit_variable, while_some, by_units, lacking, uppers, lowers, combine_all, occurring, by_pivot, by_variable, by_variables, width_of, width}
-use Rattle.cap_elim.proofs.Variables.{AreSound, Combines, Ascends, variable-steps}
-use Rattle.cap_lin.proofs.Places.{coefficient-nil, coefficient-other}
+use Rattle.cap_elim.specs.Elimination.{Pivot, input, inputs, chosen, first_pivot, by_equation, unit_variable, while_some, by_units, lacking, uppers, lowers, combine_all, occurring, by_pivot, by_variable, by_variables, width}
+use Rattle.cap_elim.proofs.Variables.{AreSound, Combines, Ascends, variable-steps, absent-above}
 use Rattle.cap_lin.proofs.Combinations.{combination-coefficient}
 use Rattle.cap_fm.specs.Views.{entry_view, entries_view}
 use Rattle.cap_fm.specs.Answers.{Is, Same, Explains, DoesReach, AreRows, Lack, IsLeast}
@@ -203,11 +202,6 @@ variables-skip (suc k) n x ds s l =
 under-lacks : (w y : ℕ) (ds : List Entry) → AreSound (Under w) (entries_view ds) → w ≤ y → Lack y ds
 under-lacks w y [] a l = tt
 under-lacks w y (d ∷ ds) a l = (a.0.term y l, under-lacks w y ds a.1 l)
-
-absent-above : (y : ℕ) (ps : List (ℕ × ℤ)) → width_of ps ≤ y → coefficient y ps ≡ pos 0
-unfolding width_of
-absent-above y [] h = coefficient-nil y
-absent-above y (p ∷ ps) h = coefficient-other y p ps (λ e. absurd (omega arith)) ∙ absent-above y ps (omega arith)
 
 pub rows-under : (w : ℕ) (ds : List Entry) → AreRows ds → width (entries_view ds) ≤ w → AreSound (Under w) (entries_view ds)
 unfolding width
