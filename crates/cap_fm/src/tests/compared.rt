@@ -49,7 +49,7 @@ impl Draw {
         }
     }
 
-    // A row over the first so many variables.
+    // A row over the first so many variables, with numbers from -3 to 3.
     fn row(&mut self, variables: u64) -> Given {
         let constant = self.number();
         let first = self.number();
@@ -63,24 +63,49 @@ impl Draw {
         }
     }
 
-    // From 1 to 6 rows over 1 to 3 variables. Some stand there more than once, of whatever sort.
+    // A new row, an earlier one once more, of whatever sort, or the sum of two earlier ones.
+    fn next(&mut self, rows: &[Given], variables: u64) -> Given {
+        let first = rows.get(self.below(8) as usize).copied();
+        let second = rows.get(self.below(8) as usize).copied();
+        match first {
+            None => self.row(variables),
+            Some(first) => Given {
+                sort: self.sort(),
+                ..plus(first, second)
+            },
+        }
+    }
+
+    // From 1 to 6 rows over 1 to 3 variables.
     fn system(&mut self, alloc: Global) -> Result<Vec<Given>, AllocError> {
         let variables = 1 + self.below(3);
         let mut rows: Vec<Given> = Vec::new(alloc);
         for _row in 0..1 + self.below(6) {
-            let place = self.below(24) as usize;
-            let row = match rows.get(place).copied() {
-                Some(earlier) => Given {
-                    constant: earlier.constant,
-                    coefficients: earlier.coefficients,
-                    kind: earlier.kind,
-                    sort: self.sort(),
-                },
-                None => self.row(variables),
-            };
+            let row = self.next(&rows, variables);
             rows.push(row)?;
         }
         Ok(rows)
+    }
+}
+
+// The sum of a row and another, if there is another, of the first row's kind.
+fn plus(row: Given, other: Option<Given>) -> Given {
+    match other {
+        None => row,
+        Some(other) => {
+            let (first, second, third) = row.coefficients;
+            let (more, further, last) = other.coefficients;
+            Given {
+                constant: row.constant.saturating_add(other.constant),
+                coefficients: (
+                    first.saturating_add(more),
+                    second.saturating_add(further),
+                    third.saturating_add(last),
+                ),
+                kind: row.kind,
+                sort: row.sort,
+            }
+        }
     }
 }
 
