@@ -159,7 +159,7 @@ fn drawn_systems(rt: HostRuntime) -> Result<(), Fail> {
     let mut leaves: u32 = 0;
     let mut splits: u32 = 0;
     let mut solvable: u32 = 0;
-    for _system in 0..2000 {
+    for _system in 0..20000 {
         let system = draw.system(alloc)?;
         let finding = found(alloc, &system)?;
         let answer = solved(&rt, alloc, &rows_of(alloc, &system)?)?;
@@ -171,8 +171,8 @@ fn drawn_systems(rt: HostRuntime) -> Result<(), Fail> {
         }
     }
     // each finding is among those compared
-    assert!(rt; leaves >= 100, "{leaves} leaves");
-    assert!(rt; splits >= 10, "{splits} splits");
-    assert!(rt; solvable >= 100, "{solvable} solvable");
+    assert!(rt; leaves >= 1000, "{leaves} leaves");
+    assert!(rt; splits >= 100, "{splits} splits");
+    assert!(rt; solvable >= 1000, "{solvable} solvable");
     Ok(())
 }
