@@ -1,3 +1,7 @@
+mod compared;
+mod limits;
+mod plain;
+
 use crate::{Answer, SolveError, solve};
 use cap_farkas::{Cert, refutes};
 use cap_lin::{Kind, LinError, Row, Sort, Term};
@@ -49,13 +53,18 @@ fn expect_leaf(rt: &impl Abort, answer: Answer, pairs: &[(u32, i128)]) {
     }
 }
 
-// The split of the row 2 with one leaf for each side.
-fn expect_split(rt: &impl Abort, answer: Answer) {
+fn expect_split(
+    rt: &impl Abort,
+    answer: Answer,
+    row: u32,
+    below: &[(u32, i128)],
+    above: &[(u32, i128)],
+) {
     match answer {
-        Answer::Empty(Cert::Split(place, below, above)) => {
-            assert!(rt; place == 2);
-            assert!(rt; below.as_slice() == [(1, 1), (3, 1)].as_slice());
-            assert!(rt; above.as_slice() == [(0, 1), (3, 1)].as_slice());
+        Answer::Empty(Cert::Split(place, first, second)) => {
+            assert!(rt; place == row);
+            assert!(rt; first.as_slice() == below);
+            assert!(rt; second.as_slice() == above);
         }
         _ => assert!(rt; false, "no split"),
     }
@@ -124,7 +133,8 @@ fn splits(rt: HostRuntime) -> Result<(), Fail> {
         ],
         Sort::Int,
     )?;
-    expect_split(&rt, solved(&rt, alloc, &between)?);
+    let answer = solved(&rt, alloc, &between)?;
+    expect_split(&rt, answer, 2, &[(1, 1), (3, 1)], &[(0, 1), (3, 1)]);
     // without v0 >= 0 the second side has solutions
     let below = rows(
         alloc,
@@ -136,41 +146,107 @@ fn splits(rt: HostRuntime) -> Result<(), Fail> {
 }
 
 #[test]
-fn wide_numbers(rt: HostRuntime) -> Result<(), Fail> {
+fn sorts(rt: HostRuntime) -> Result<(), Fail> {
     let alloc = rt.alloc();
-    // with k = 2 ^ 100: k v0 - v1 <= 0 and -k v0 + 1 <= 0, where k k leaves 128 bits
-    let k: i128 = 1267650600228229401496703205376;
-    let wide = rows(
+    // -v0 <= 0, 2 v0 - 1 <= 0, v0 != 0: no whole number solves them, and 1/4 does
+    let between = [
+        ((0, -1, 0), Kind::Le),
+        ((-1, 2, 0), Kind::Le),
+        ((0, 1, 0), Kind::Ne),
+    ];
+    let whole = rows(alloc, &between, Sort::Int)?;
+    let answer = solved(&rt, alloc, &whole)?;
+    expect_split(&rt, answer, 2, &[(0, 1), (3, 1)], &[(1, 1), (3, 2)]);
+    let fraction = rows(alloc, &between, Sort::Perm)?;
+    expect_solvable(&rt, solved(&rt, alloc, &fraction)?);
+    // the same of the fraction v1 and then of the whole number v0: the row Ne of v1 leaves a side
+    let mut both = rows(
         alloc,
-        &[((0, k, -1), Kind::Le), ((1, -k, 0), Kind::Le)],
-        Sort::Int,
+        &[
+            ((0, 0, -1), Kind::Le),
+            ((-1, 0, 2), Kind::Le),
+            ((0, 0, 1), Kind::Ne),
+        ],
+        Sort::Perm,
     )?;
-    match solved(&rt, alloc, &wide) {
-        Err(SolveError::Wide(a, b)) => {
-            assert_eq!(rt; a, k);
-            assert_eq!(rt; b, k);
-        }
-        _ => assert!(rt; false, "not wide"),
+    for row in rows(alloc, &between, Sort::Int)? {
+        both.push(row)?;
     }
+    let answer = solved(&rt, alloc, &both)?;
+    expect_split(&rt, answer, 5, &[(3, 1), (6, 1)], &[(4, 1), (6, 2)]);
     Ok(())
 }
 
-// The rows v0 - k <= 0 for k from 1 to a count.
-fn upper_bounds(alloc: Global, count: u32) -> Result<Vec<Row>, LinError> {
-    let mut rows = Vec::new(alloc);
-    for k in 0..count {
-        rows.push(row(alloc, (-1 - k as i128, 1, 0), Kind::Le, Sort::Int)?)?;
-    }
-    Ok(rows)
+#[test]
+fn several_rows_ne(rt: HostRuntime) -> Result<(), Fail> {
+    let alloc = rt.alloc();
+    // -v0 <= 0, v0 - 1 <= 0, v0 != 0, v0 - 1 != 0: no whole number solves them, but each row Ne alone
+    // leaves one, and 1/2 solves them all
+    let two_numbers = rows(
+        alloc,
+        &[
+            ((0, -1, 0), Kind::Le),
+            ((-1, 1, 0), Kind::Le),
+            ((0, 1, 0), Kind::Ne),
+            ((-1, 1, 0), Kind::Ne),
+        ],
+        Sort::Int,
+    )?;
+    expect_solvable(&rt, solved(&rt, alloc, &two_numbers)?);
+    // v0 <= 0, -v0 <= 0, v1 != 0, v0 != 0, 2 v0 != 0: the first that leaves no side is split
+    let later = rows(
+        alloc,
+        &[
+            ((0, 1, 0), Kind::Le),
+            ((0, -1, 0), Kind::Le),
+            ((0, 0, 1), Kind::Ne),
+            ((0, 1, 0), Kind::Ne),
+            ((0, 2, 0), Kind::Ne),
+        ],
+        Sort::Int,
+    )?;
+    let answer = solved(&rt, alloc, &later)?;
+    expect_split(&rt, answer, 3, &[(1, 1), (5, 1)], &[(0, 1), (5, 1)]);
+    Ok(())
 }
 
 #[test]
-fn many_rows(rt: HostRuntime) -> Result<(), Fail> {
+fn equal_rows(rt: HostRuntime) -> Result<(), Fail> {
     let alloc = rt.alloc();
-    expect_solvable(&rt, solved(&rt, alloc, &upper_bounds(alloc, 4096)?)?);
-    match solved(&rt, alloc, &upper_bounds(alloc, 4097)?) {
-        Err(SolveError::Rows) => {}
-        _ => assert!(rt; false, "not too many rows"),
-    }
+    // -v0 + 1 <= 0 and v0 <= 0, each once more: the first of each is named
+    let mut twice = rows(
+        alloc,
+        &[
+            ((1, -1, 0), Kind::Le),
+            ((1, -1, 0), Kind::Le),
+            ((0, 1, 0), Kind::Le),
+        ],
+        Sort::Int,
+    )?;
+    twice.push(row(alloc, (0, 1, 0), Kind::Le, Sort::Perm)?)?;
+    expect_leaf(&rt, solved(&rt, alloc, &twice)?, &[(0, 1), (2, 1)]);
+    // v0 = 0, v0 + v1 + 1 <= 0, v1 + 1 <= 0, -v1 <= 0: the second row without v0 is the third
+    let replaced = rows(
+        alloc,
+        &[
+            ((0, 1, 0), Kind::Eq),
+            ((1, 1, 1), Kind::Le),
+            ((1, 0, 1), Kind::Le),
+            ((0, 0, -1), Kind::Le),
+        ],
+        Sort::Int,
+    )?;
+    expect_leaf(&rt, solved(&rt, alloc, &replaced)?, &[(2, 1), (3, 1)]);
+    // p <= 0, p < 0, -p <= 0: the second row is not equal to the first
+    let kinds = rows(
+        alloc,
+        &[
+            ((0, 1, 0), Kind::Le),
+            ((0, 1, 0), Kind::Lt),
+            ((0, -1, 0), Kind::Le),
+        ],
+        Sort::Perm,
+    )?;
+    expect_leaf(&rt, solved(&rt, alloc, &kinds)?, &[(1, 1), (2, 1)]);
     Ok(())
 }
