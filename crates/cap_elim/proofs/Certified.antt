@@ -18,13 +18,13 @@ use Rattle.cap_elim.specs.Events.{Event, made, counted, made_all, wide_or, is_to
 use Rattle.cap_elim.specs.Runs.{Origin, Entry, at_first, Found, going, contradiction}
 use Rattle.cap_elim.specs.Elimination.{eliminated}
 use Rattle.cap_elim.specs.Leaf.{multipliers, way_steps, is_turned, turned_steps, check_steps, leaf, leaf_steps}
-use Rattle.cap_elim.specs.Solving.{leaf_found, refuted, refuted_with, then_above, split, or_next, splits, or_splits, solved}
+use Rattle.cap_elim.specs.Solving.{RowsAscend, leaf_found, refuted, refuted_with, then_above, split, or_next, splits, or_splits, solved}
 use Rattle.cap_elim.proofs.Lists.{each-join}
 use Rattle.cap_elim.proofs.Leaves.{false-refutes}
 use Rattle.cap_elim.proofs.Fits.{constants-fit, coefficients-fit}
 use Rattle.cap_elim.proofs.Made.{AllMade, IsFound, IsFalseRow}
 use Rattle.cap_elim.proofs.Kept.{StandFrom, all-stand, stand-next, stands-first, keeps-eliminated}
-use Rattle.cap_elim.proofs.Solved.{RowsAscend, below-ascends, negative-ascends}
+use Rattle.cap_elim.proofs.Solved.{below-ascends, negative-ascends}
 
 -- ---- events that pass no limit
 

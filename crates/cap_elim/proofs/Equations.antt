@@ -62,7 +62,7 @@ zero-false (negsuc k) t e = cc
 pub going-same : (xs ys : List Entry) → ◌≡◌ {A = Found (List Entry)} (going xs) (going ys) → xs ≡ ys
 going-same xs ys e = cc
 
-replace-either : (x : ℕ) (equation : Entry) (present : List Entry) (r : Entry) (s : Stage) (new : List Entry) → (replace x equation present r s).found ≡ going new → Stays x r new ⊎ Goes x equation present r new
+pub replace-either : (x : ℕ) (equation : Entry) (present : List Entry) (r : Entry) (s : Stage) (new : List Entry) → (replace x equation present r s).found ≡ going new → Stays x r new ⊎ Goes x equation present r new
 replace-either x equation present r s new f = by_test (is_zero (of_row x r)) refl f
   where
     by_test : (b : Bool) → is_zero (of_row x r) ≡ b → ((if b then done (r ∷ []) else replacement present (of_row x equation) (of_row x r) equation r) s).found ≡ going new → Stays x r new ⊎ Goes x equation present r new

@@ -16,3 +16,4 @@ pub mod Fits
 pub mod Made
 pub mod Kept
 pub mod Certified
+pub mod Turns

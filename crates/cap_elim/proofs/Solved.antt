@@ -15,14 +15,10 @@ use Rattle.cap_lin.proofs.Ascend.{multiple-ascends}
 use Rattle.cap_farkas.specs.declared.cert.Cert.{Cert}
 use Rattle.cap_elim.specs.Runs.{Entry, at_first, Found, going, contradiction}
 use Rattle.cap_elim.specs.Elimination.{eliminated}
-use Rattle.cap_elim.specs.Solving.{leaf_found, refuted, refuted_with, then_above, split, or_next, splits, or_splits, solved}
+use Rattle.cap_elim.specs.Solving.{RowsAscend, leaf_found, refuted, refuted_with, then_above, split, or_next, splits, or_splits, solved}
 use Rattle.cap_elim.proofs.Lists.{each-join}
 use Rattle.cap_elim.proofs.Complete.{complete}
 use Rattle.cap_elim.proofs.Apart.{SolvesSide, generic}
-
--- each row's term is in ascending order
-abbrev pub RowsAscend : List Row → Type 0
-RowsAscend rows = AllByRecursion (λ r. AscendFrom 0 r.term.parts) rows
 
 some-none : {A : Type 0} (B : Type 0) (x : A) → Some x ≡ None → B
 some-none B x e = absurd (cc)

@@ -1,6 +1,7 @@
 -- What elimination finds of rows: a certificate, if there is one, and all events on the way.
 use Rattle.std.specs.Prelude.{ℕ, ◌+◌, List, [], ◌∷◌, ◌++◌, ℤ, Option, Some, None, option_map}
-use Rattle.cap_lin.specs.Linear.{Linear}
+use Rattle.std.specs.List.{AllByRecursion}
+use Rattle.cap_lin.specs.Linear.{Linear, AscendFrom}
 use Rattle.cap_lin.specs.Rows.{below_zero, below_zero_steps, above_zero, above_zero_steps}
 use Rattle.cap_lin.specs.Steps.{Step}
 use Rattle.cap_lin.specs.declared.row.Row.{Row}
@@ -13,6 +14,10 @@ use Rattle.cap_elim.specs.Events.{Event, made_all}
 use Rattle.cap_elim.specs.Runs.{Stage, at_first, Found, going, contradiction, Run}
 use Rattle.cap_elim.specs.Elimination.{eliminated}
 use Rattle.cap_elim.specs.Leaf.{leaf, leaf_steps}
+
+-- the parts of each row's term ascend
+abbrev pub RowsAscend : List Row → Type 0
+RowsAscend rows = AllByRecursion (λ r. AscendFrom 0 r.term.parts) rows
 
 -- a value, and the events on the way to it
 pub record Logged (A : Type 0) : Type 0 where

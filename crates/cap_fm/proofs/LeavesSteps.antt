@@ -6,7 +6,6 @@ use Rattle.cap_lin.specs.Linear.{Linear, number, combination}
 use Rattle.cap_lin.specs.Steps.{Step, first_wide, negative_steps, combination_steps}
 use Rattle.cap_lin.specs.Exact.{Explains}
 use Rattle.cap_lin.specs.declared.error.LinError.{LinError}
-use Rattle.cap_lin.specs.declared.error.LinError.TheVariants.{Wide, OutOfMemory}
 use Rattle.cap_lin.specs.declared.row.Row.{Row}
 use Rattle.cap_lin.specs.declared.row.Kind.{Kind}
 use Rattle.cap_lin.specs.declared.row.Kind.TheVariants.{Le, Lt, Eq, Ne}
@@ -20,12 +19,9 @@ use Rattle.cap_fm.specs.declared.error.SolveError.TheVariants as error
 use Rattle.cap_fm.specs.Answers.{ExplainsSteps}
 use Rattle.cap_fm.specs.Errors.{solve_error}
 use Rattle.cap_fm.specs.Way.{RowsBelow, term_at}
+use Rattle.cap_fm.proofs.Runs.{explains-lin}
 
 -- ---- errors
-
-pub explained : (e : LinError) (steps : List Step) → Explains e steps → ExplainsSteps (solve_error e) steps
-explained (Wide a b) steps h = h
-explained OutOfMemory steps h = tt
 
 pub earlier-error : (e : SolveError) (xs ys : List Step) → ExplainsSteps e xs → ExplainsSteps e (xs ++ ys)
 earlier-error (error.Wide a b) xs ys h = first-wide xs ys (a, b) h
@@ -48,7 +44,7 @@ both-narrow xs ys n m = first-narrow xs ys n ∙ m
 pub combination-fails : (o : Origin) (terms : List Linear) (a b a' b' : ℤ) (p q : ℕ) (s t : Linear) (e : LinError) → o ≡ combined a p b q → RowsBelow (length terms) o → a' ≡ a → b' ≡ b → s ≡ get_or terms p s → t ≡ get_or terms q t → Explains e (combination_steps a' s b' t) → ExplainsSteps (solve_error e) (own_steps o (term_at terms))
 combination-fails o terms a b a' b' p q s t e i h f g k l x =
     let r = rw i at h in
-    rw (i, ← f, ← g, ← get_or_read terms p s r.0 k (number (pos 0)), ← get_or_read terms q t r.1 l (number (pos 0))) (explained e _ x)
+    rw (i, ← f, ← g, ← get_or_read terms p s r.0 k (number (pos 0)), ← get_or_read terms q t r.1 l (number (pos 0))) (explains-lin e _ x)
 
 pub given-narrow : (o : Origin) (terms : List Linear) (i : ℕ) → o ≡ given i → first_wide (own_steps o (term_at terms)) ≡ None
 given-narrow o terms i e = rw e first_wide-nil
@@ -70,7 +66,7 @@ turned-other Eq c n = absurd (n refl)
 turned-other Ne c n = refl
 
 pub negative-fails : (k : Kind) (c : ℤ) (t : Linear) (e : LinError) → is_turned k c ≡ true → Explains e (negative_steps t) → ExplainsSteps (solve_error e) (turned_steps (is_turned k c) t)
-negative-fails k c t e b h = rw b (explained e _ h)
+negative-fails k c t e b h = rw b (explains-lin e _ h)
 
 pub as_it_is : (k : Kind) (c : ℤ) (t : Linear) → is_turned k c ≡ false → (first_wide (turned_steps (is_turned k c) t) ≡ None) × (t ≡ turned (is_turned k c) t)
 as_it_is k c t b = rw b (first_wide-nil, refl)
@@ -89,7 +85,7 @@ pub check-stops : (rows : List Row) (leaf : List (ℕ × ℤ)) (i : ℕ) (sum : 
 check-stops rows leaf i sum m r e all h f g x w =
     let d = drop-cons leaf i no_part h in
     let y : Explains e (combination_steps (pos 1) sum (get_or leaf i no_part).1 (row_at rows (get_or leaf i no_part).0).term) = rw (← f, ← g) x in
-    let z : ExplainsSteps (solve_error e) (check_steps rows sum (drop i leaf)) = rw (d, check-cons) (earlier-error _ _ _ (explained e _ y)) in
+    let z : ExplainsSteps (solve_error e) (check_steps rows sum (drop i leaf)) = rw (d, check-cons) (earlier-error _ _ _ (explains-lin e _ y)) in
     same-error _ all _ (sym w) z
 
 pub check-goes_on : (rows : List Row) (leaf : List (ℕ × ℤ)) (i : ℕ) (sum new : Linear) (m : ℤ) (r : Row) (whole : Option (ℤ × ℤ)) → i < length leaf → m ≡ (get_or leaf i no_part).1 → r ≡ row_at rows (get_or leaf i no_part).0 → first_wide (combination_steps (pos 1) sum m r.term) ≡ None → new ≡ combination (pos 1) sum m r.term → first_wide (check_steps rows sum (drop i leaf)) ≡ whole → first_wide (check_steps rows new (drop (i + 1) leaf)) ≡ whole

@@ -5,11 +5,10 @@ use Rattle.std.specs.List.{AllByRecursion, list_any}
 use Rattle.std.proofs.lemmas.List.{map-append, length-map, length-reverse, reverse-append, length_push, length-set}
 use Rattle.std.proofs.lemmas.List.Folds.{list_any-append}
 use Rattle.cap_lin.specs.Linear.{Linear, combination}
-use Rattle.cap_lin.specs.Steps.{Step, first_wide, combination_steps}
+use Rattle.cap_lin.specs.Steps.{first_wide, combination_steps}
 use Rattle.cap_lin.specs.Exact as lin
 use Rattle.cap_lin.specs.declared.row.Kind.{Kind}
 use Rattle.cap_lin.specs.declared.error.LinError.{LinError}
-use Rattle.cap_lin.specs.declared.error.LinError.TheVariants as wrong
 use Rattle.cap_elim.specs.Events.{first_limit}
 use Rattle.cap_elim.specs.Runs as plain
 use Rattle.cap_elim.specs.Runs.{Run, going, contradiction, done, results, Elimination, ◌>>=◌}
@@ -24,7 +23,7 @@ use Rattle.cap_fm.specs.declared.entry.Origin.{Origin}
 use Rattle.cap_fm.specs.declared.error.SolveError.{SolveError}
 use Rattle.cap_fm.specs.declared.stage.Stage.{Stage}
 use Rattle.cap_fm.proofs.Marks.{row-is, number-below, number-one}
-use Rattle.cap_fm.proofs.Runs.{then-continues, then-fails, explains-steps, same-is, same-explains, same-then, results-are}
+use Rattle.cap_fm.proofs.Runs.{done-is, explains-lin, then-continues, then-fails, explains-steps, same-is, same-explains, same-then, results-are}
 use Rattle.cap_fm.proofs.Stages.{all-grow, grows-by, grows-then, history-push}
 use Rattle.cap_fm.proofs.Booleans.{true_or_false, if-true, if-false}
 use Rattle.cap_lin.proofs.Infeasible.{push-all}
@@ -118,10 +117,6 @@ look-bare-false t k o h e = if-false (has_parts t) (keep t k o) _ h ∙ if-true 
 pub look-parts : (t : Linear) (k : Kind) (o : plain.Origin) → has_parts t ≡ true → look t k o ≡ keep t k o
 look-parts t k o h = if-true (has_parts t) (keep t k o) _ h
 
-pub is-done : (s : plain.Stage) → Is {A = List plain.Entry} (going []) s (done [] s)
-unfolding first_limit
-is-done s = record { within = refl; found = refl; stage = refl }
-
 -- ---- after a row was counted
 
 present-is : (inputs : ℕ) (s z : Stage) (ds : List Entry) (t : Linear) (k : Kind) (n : ℕ) (b : Bool) → IsCounted inputs s z ds t k n → b ≡ get_or z.present.items n false → is_present t k (entries_view ds) ≡ b
@@ -133,7 +128,7 @@ counted-then inputs s z ds t k n m c = then-continues (count t k) (λ u. m) (sta
 pub counted-present : (inputs : ℕ) (s z : Stage) (ds : List Entry) (t : Linear) (k : Kind) (n : ℕ) (o : plain.Origin) → IsCounted inputs s z ds t k n → true ≡ get_or z.present.items n false → Is (going []) (stage_view z) ((count t k >>= (λ u. arise (entries_view ds) t k o)) (stage_view s))
 counted-present inputs s z ds t k n o c e =
     let a = if-true (is_present t k (entries_view ds)) (done []) (look t k o) (present-is inputs s z ds t k n true c e) in
-    same-is _ _ _ _ (same-then _ _ _ (counted-then inputs s z ds t k n (arise (entries_view ds) t k o) c) (same-of (arise (entries_view ds) t k o) (done []) (stage_view z) a)) (is-done (stage_view z))
+    same-is _ _ _ _ (same-then _ _ _ (counted-then inputs s z ds t k n (arise (entries_view ds) t k o) c) (same-of (arise (entries_view ds) t k o) (done []) (stage_view z) a)) (done-is [] (stage_view z))
 
 pub counted-absent : (inputs : ℕ) (s z : Stage) (ds : List Entry) (t : Linear) (k : Kind) (n : ℕ) (o : plain.Origin) → IsCounted inputs s z ds t k n → false ≡ get_or z.present.items n false → Same ((count t k >>= (λ u. arise (entries_view ds) t k o)) (stage_view s)) (look t k o (stage_view z))
 counted-absent inputs s z ds t k n o c e =
@@ -152,14 +147,10 @@ pub does-by : (inputs : ℕ) (s m z : Stage) (ds : List Entry) (r q : Run (List 
 does-by inputs s m z ds r q (Ok a) e g d = (same-is _ _ r q e d.0, d.1, grows-then s m z g d.2)
 does-by inputs s m z ds r q (Err x) e g d = same-explains x r q e d
 
-pub lin-explains : (e : LinError) (steps : List Step) → lin.Explains e steps → ExplainsSteps (solve_error e) steps
-lin-explains (wrong.Wide a b) steps h = h
-lin-explains wrong.OutOfMemory steps h = tt
-
 pub combine-wide : (ds : List plain.Entry) (a b u v : ℤ) (p q : plain.Entry) (k : Kind) (s : plain.Stage) (e : LinError) (x : SolveError) → u ≡ a → v ≡ b → x ≡ solve_error e → lin.Explains e (combination_steps u p.term v q.term) → Explains x (combine ds a p b q k s).events
 combine-wide ds a b u v p q k s e x i j f h =
     let g = subst (λ w. lin.Explains e (combination_steps a p.term w q.term)) j (subst (λ w. lin.Explains e (combination_steps w p.term v q.term)) i h) in
-    then-fails (results (combination_steps a p.term b q.term)) (λ u. arise_combined ds (combination a p.term b q.term) k (plain.combined a p.origin b q.origin)) s x (explains-steps x (combination_steps a p.term b q.term) (subst (λ y. ExplainsSteps y (combination_steps a p.term b q.term)) (sym f) (lin-explains e (combination_steps a p.term b q.term) g)))
+    then-fails (results (combination_steps a p.term b q.term)) (λ u. arise_combined ds (combination a p.term b q.term) k (plain.combined a p.origin b q.origin)) s x (explains-steps x (combination_steps a p.term b q.term) (subst (λ y. ExplainsSteps y (combination_steps a p.term b q.term)) (sym f) (explains-lin e (combination_steps a p.term b q.term) g)))
 
 pub combine-narrow : (ds : List plain.Entry) (a : ℤ) (p : plain.Entry) (b : ℤ) (q : plain.Entry) (k : Kind) (s : plain.Stage) (t : Linear) → first_wide (combination_steps a p.term b q.term) ≡ None → t ≡ combination a p.term b q.term → Same (combine ds a p b q k s) (arise_combined ds t k (plain.combined a p.origin b q.origin) s)
 combine-narrow ds a p b q k s t n e =

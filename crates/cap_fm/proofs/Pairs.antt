@@ -18,7 +18,7 @@ use Rattle.cap_elim.proofs.Lists.{each-filter}
 use Rattle.cap_fm.proofs.Stages.{all-grow}
 use Rattle.cap_fm.proofs.Filters.{upper_rows, lower_rows}
 use Rattle.cap_fm.proofs.Runs.{then-continues, then-stops, then-fails, same-is, same-explains, same-then, same-refl}
-use Rattle.cap_fm.proofs.Replacements.{done-is}
+use Rattle.cap_fm.proofs.Runs.{done-is}
 
 each-nil : (x : ℕ) (present : List plain.Entry) (p : plain.Entry) → combine_each x present p [] ≡ done present
 unfolding combine_each

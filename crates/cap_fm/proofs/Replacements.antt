@@ -1,10 +1,9 @@
 -- Rows that arise as combinations, and the answers that are those of their runs.
-use Rattle.std.proofs.Common.{◌≡◌, ℕ, ℤ, pos, negsuc, ◌*ℤ◌, ◌≤ℤ◌, ◌<ℤ◌, List, [], ◌∷◌, refl, arith, None}
+use Rattle.std.proofs.Common.{◌≡◌, ℕ, ℤ, pos, negsuc, ◌*ℤ◌, ◌≤ℤ◌, ◌<ℤ◌, List, [], ◌∷◌, arith, None}
 use Rattle.std.specs.Prelude.{Result, Ok, Err}
 use Rattle.std.proofs.lemmas.Int.{ints}
 use Rattle.cap_lin.specs.Steps.{product_of, first_wide}
 use Rattle.cap_lin.specs.declared.row.Kind.{Kind}
-use Rattle.cap_elim.specs.Events.{first_limit}
 use Rattle.cap_elim.specs.Runs as plain
 use Rattle.cap_elim.specs.Runs.{Run, going, done, results}
 use Rattle.cap_elim.specs.Rows.{combine, of_row}
@@ -14,16 +13,8 @@ use Rattle.cap_fm.specs.declared.entry.Arisen.{Arisen}
 use Rattle.cap_fm.specs.declared.stage.Stage.{Stage}
 use Rattle.cap_fm.specs.declared.error.SolveError.{SolveError}
 use Rattle.cap_fm.specs.Views.{stage_view, entry_view, entries_view}
-use Rattle.cap_fm.specs.Answers.{Explains, ExplainsSteps, Is, Same, DoesArise}
+use Rattle.cap_fm.specs.Answers.{Explains, ExplainsSteps, Same, DoesArise}
 use Rattle.cap_fm.proofs.Runs.{explains-steps, then-continues, then-fails, same-is, same-explains, results-are}
-
-limit-nil : first_limit [] ≡ None
-unfolding first_limit
-limit-nil = refl
-
--- what is done at once
-pub done-is : {A : Type 0} (x : A) (s : plain.Stage) → Is (going x) s (done x s)
-done-is x s = record { within = limit-nil; found = refl; stage = refl }
 
 -- what a run that is the same answers
 pub same-arises : (inputs : ℕ) (old new : Stage) (present : List Entry) (r s : Run (List plain.Entry)) (result : Result Arisen SolveError) → Same r s → DoesArise inputs old new present s result → DoesArise inputs old new present r result

@@ -25,7 +25,7 @@ use Rattle.cap_fm.proofs.Runs.{then-continues, then-stops, then-fails, same-is, 
 use Rattle.cap_elim.proofs.Lists.{each-join, each-left, each-right}
 use Rattle.cap_fm.proofs.Stages.{all-grow}
 use Rattle.cap_fm.proofs.Presence.{zero-present}
-use Rattle.cap_fm.proofs.Replacements.{done-is}
+use Rattle.cap_fm.proofs.Runs.{done-is}
 
 -- ---- a combination with the equation lacks the variable
 

@@ -3,7 +3,11 @@ use Rattle.std.proofs.Common.{◌≡◌, ℤ, ◌+ℤ◌, ◌*ℤ◌, List, [], 
 use Rattle.std.specs.Prelude.{if◌then◌else◌}
 use Rattle.cap_lin.specs.Steps.{Step, sum_of, product_of, fits, first_wide}
 use Rattle.cap_elim.specs.Events.{Event, made, counted, Limit, wide, many, made_all, wide_or, is_too_many, first_limit}
-use Rattle.cap_elim.specs.Runs.{Entry, Stage, Found, going, contradiction, Run, Elimination, go_on, results, ◌>>=◌}
+use Rattle.cap_elim.specs.Runs.{Entry, Stage, Found, going, contradiction, Run, Elimination, done, go_on, results, ◌>>=◌}
+use Rattle.cap_lin.specs.Exact as lin
+use Rattle.cap_lin.specs.declared.error.LinError.{LinError}
+use Rattle.cap_lin.specs.declared.error.LinError.TheVariants as wrong
+use Rattle.cap_fm.specs.Errors.{solve_error}
 use Rattle.cap_fm.specs.Answers.{Explains, ExplainsSteps, Is, Same}
 use Rattle.cap_fm.specs.declared.error.SolveError.{SolveError}
 use Rattle.cap_fm.specs.declared.error.SolveError.TheVariants as error
@@ -57,6 +61,10 @@ explains-steps (error.Wide a b) steps h = steps-wide steps a b h
 explains-steps error.Rows steps h = absurd h
 explains-steps error.OutOfMemory steps h = tt
 
+pub explains-lin : (e : LinError) (steps : List Step) → lin.Explains e steps → ExplainsSteps (solve_error e) steps
+explains-lin (wrong.Wide a b) steps h = h
+explains-lin wrong.OutOfMemory steps h = tt
+
 pub explains-earlier : (e : SolveError) (es fs : List Event) → Explains e es → Explains e (es ++ fs)
 explains-earlier (error.Wide a b) es fs h = limit-earlier es fs _ h
 explains-earlier error.Rows es fs h = limit-earlier es fs _ h
@@ -103,6 +111,12 @@ same-then r s t p q = record { limit = p.limit ∙ q.limit; found = p.found ∙ 
 
 pub same-refl : {A : Type 0} (r : Run A) → Same r r
 same-refl r = record { limit = refl; found = refl; stage = refl }
+
+-- a run that does nothing
+
+pub done-is : {A : Type 0} (x : A) (s : Stage) → Is (going x) s (done x s)
+unfolding first_limit
+done-is x s = record { within = refl; found = refl; stage = refl }
 
 -- results alone
 

@@ -1,5 +1,5 @@
 -- The search for a certificate, one row Ne after the other.
-use Rattle.std.proofs.Common.{◌≡◌, ℕ, zero, suc, ℤ, ◌+◌, ◌<◌, ◌≤◌, List, [], ◌∷◌, ◌++◌, length, drop, get_or, arith, refl, subst, sym, ap, ◌∙◌, Option, Some, None}
+use Rattle.std.proofs.Common.{◌≡◌, ℕ, ℤ, ◌+◌, ◌<◌, ◌≤◌, List, [], ◌∷◌, ◌++◌, length, drop, get_or, refl, subst, sym, ap, ◌∙◌, Option, Some, None}
 use Rattle.std.specs.Prelude.{Result, Ok, Err, IfOk, IsErr, IsErrAnd, option_map, slice_get}
 use Rattle.std.proofs.lemmas.List.{drop_all}
 use Rattle.std.proofs.lemmas.Option.{slice_get-get_or}
@@ -14,12 +14,11 @@ use Rattle.cap_lin.specs.Exact as lin
 use Rattle.cap_lin.specs.declared.error.LinError.{LinError}
 use Rattle.cap_farkas.specs.Farkas.{no_row}
 use Rattle.cap_fm.specs.Errors.{solve_error}
-use Rattle.cap_fm.proofs.NewRows.{lin-explains}
 use Rattle.cap_farkas.specs.declared.cert.Cert.{Cert}
 use Rattle.cap_farkas.specs.declared.cert.Cert.TheVariants as cert
 use Rattle.cap_elim.specs.Events.{Event, first_limit, made_all}
-use Rattle.cap_elim.specs.Solving.{Logged, refuted, refuted_with, then_above, split, or_next, splits, or_splits, solved}
-use Rattle.cap_fm.specs.Answers.{Explains, ExplainsSteps, IsLogged, RowsAscend}
+use Rattle.cap_elim.specs.Solving.{Logged, RowsAscend, refuted, refuted_with, then_above, split, or_next, splits, or_splits, solved}
+use Rattle.cap_fm.specs.Answers.{Explains, ExplainsSteps, IsLogged}
 use Rattle.cap_fm.specs.declared.error.SolveError.{SolveError}
 use Rattle.cap_fm.specs.declared.error.SolveError.TheVariants as error
 use Rattle.cap_elim.proofs.Solved.{solved-complete, solved-feasible}
@@ -28,7 +27,8 @@ use Rattle.cap_farkas.proofs.Sound.{refuted-excludes, excluded-infeasible}
 use Rattle.cap_fm.specs.Solved.{certificate_of, IsSolved, IsCertified, IsTrueOf, HasSolution}
 use Rattle.cap_fm.specs.declared.solver.Answer.{Answer}
 use Rattle.cap_fm.specs.declared.solver.Answer.TheVariants.{Empty, Solvable}
-use Rattle.cap_fm.proofs.Runs.{limit-later, explains-earlier, explains-later, explains-steps, steps-narrow}
+use Rattle.cap_fm.proofs.Walks.{row-at, row-here}
+use Rattle.cap_fm.proofs.Runs.{explains-lin, limit-later, explains-earlier, explains-later, explains-steps, steps-narrow}
 
 abbrev Leaf : Type 0
 Leaf = List (ℕ × ℤ)
@@ -79,14 +79,6 @@ next-fails es None next e h = explains-earlier e es _ h
 
 abbrev split_of : List Row → ℕ → Row → Logged (Option Cert)
 split_of rows i r = split rows i r.kind r.sort r.term
-
-pub row-here : (rows : List Row) (i : ℕ) (r : Row) → slice_get rows i ≡ Some r → drop i rows ≡ r ∷ drop (i + 1) rows
-row-here [] i r e = cc
-row-here (x ∷ rows) zero r e = let d : x ≡ r = cc in ap (λ y. y ∷ rows) d
-row-here (x ∷ rows) (suc i) r e = let n : suc i + 1 ≡ suc (i + 1) = omega arith in row-here rows i r e ∙ ap (λ j. r ∷ drop j (x ∷ rows)) (sym n)
-
-pub row-at : (rows : List Row) (i : ℕ) (r : Row) → i < length rows → r ≡ get_or rows i r → slice_get rows i ≡ Some r
-row-at rows i r l e = slice_get-get_or rows i r l ∙ ap Some (sym e)
 
 pub split-fails : (rows rest : List Row) (i : ℕ) (r : Row) (whole : Logged (Option Cert)) (e : SolveError) → drop i rows ≡ r ∷ rest → SameLog whole (splits rows i (drop i rows)) → Explains e (split_of rows i r).events → Explains e whole.events
 unfolding splits
@@ -147,9 +139,6 @@ above-is rows place s t l o i h = subst (λ b. Is (option_map (λ m. cert.Split 
 
 -- ---- answers
 
-pub log-err : {A : Type 0} (r : Result A SolveError) (l : Logged A) (e : SolveError) → (y : SolveError) × (r ≡ Err y) × (y ≡ e) → Explains e l.events → IsLogged r l
-log-err r l e p h = subst (λ q. IsLogged q l) (sym p.1) (subst (λ y. Explains y l.events) (sym p.2) h)
-
 pub solved-err : (r : Result Answer SolveError) (l : Logged (Option Cert)) (e : SolveError) → (y : SolveError) × (r ≡ Err y) × (y ≡ e) → Explains e l.events → IsSolved r l
 solved-err r l e p h = subst (λ q. IsSolved q l) (sym p.1) (subst (λ y. Explains y l.events) (sym p.2) h)
 
@@ -204,10 +193,10 @@ loop-goes rows i whole l s f = let p = place-row rows i l in split-goes rows (dr
 -- ---- the two sides, by the row that the code reads
 
 pub below-wide : (rows : List Row) (place : ℕ) (r : Row) (x : LinError) (e : SolveError) → e ≡ solve_error x → lin.Explains x (below_zero_steps r.sort r.term) → Explains e (split rows place Ne r.sort r.term).events
-below-wide rows place r x e f h = below-fails rows place r.sort r.term e (with-fails rows (below_zero_steps r.sort r.term) (below_zero r.sort r.term) e (subst (λ y. ExplainsSteps y (below_zero_steps r.sort r.term)) (sym f) (lin-explains x (below_zero_steps r.sort r.term) h)))
+below-wide rows place r x e f h = below-fails rows place r.sort r.term e (with-fails rows (below_zero_steps r.sort r.term) (below_zero r.sort r.term) e (subst (λ y. ExplainsSteps y (below_zero_steps r.sort r.term)) (sym f) (explains-lin x (below_zero_steps r.sort r.term) h)))
 
 pub above-wide : (rows : List Row) (place : ℕ) (r : Row) (l : Leaf) (x : LinError) (e : SolveError) → Is (Some l) (below_log rows r.sort r.term) → e ≡ solve_error x → lin.Explains x (above_zero_steps r.sort r.term) → Explains e (split rows place Ne r.sort r.term).events
-above-wide rows place r l x e i f h = above-explains rows place r.sort r.term l e i (with-fails rows (above_zero_steps r.sort r.term) (above_zero r.sort r.term) e (subst (λ y. ExplainsSteps y (above_zero_steps r.sort r.term)) (sym f) (lin-explains x (above_zero_steps r.sort r.term) h)))
+above-wide rows place r l x e i f h = above-explains rows place r.sort r.term l e i (with-fails rows (above_zero_steps r.sort r.term) (above_zero r.sort r.term) e (subst (λ y. ExplainsSteps y (above_zero_steps r.sort r.term)) (sym f) (explains-lin x (above_zero_steps r.sort r.term) h)))
 
 -- a side's row as the code made it
 pub side-is : (rows : List Row) (steps : List Step) (r s : Row) (o : Option Leaf) → (first_wide steps ≡ None) × (s ≡ r) → Is o (refuted (rows ++ (s ∷ []))) → Is o (refuted_with rows steps r)

@@ -1,7 +1,8 @@
 -- An elimination's turns, one after the other.
-use Rattle.std.proofs.Common.{◌≡◌, ℕ, zero, suc, ◌+◌, ◌-◌, ◌<◌, ◌≤◌, ℤ, pos, ◌+ℤ◌, ◌*ℤ◌, List, [], ◌∷◌, ◌++◌, length, drop, get_or, drop-cons, take, min, arith, refl, subst, sym, ap, ◌∙◌, ◌⊎◌, inl, inr, Option, Some, None}
+use Rattle.std.proofs.Common.{◌≡◌, ℕ, zero, suc, ◌+◌, ◌-◌, ◌<◌, ◌≤◌, ℤ, pos, ◌+ℤ◌, ◌*ℤ◌, List, [], ◌∷◌, ◌++◌, length, drop, get_or, take, min, arith, refl, subst, sym, ap, ◌∙◌, ◌⊎◌, inl, inr, Option, Some, None}
 use Rattle.std.proofs.lemmas.Int.{ints}
-use Rattle.std.specs.Prelude.{Result, Err}
+use Rattle.std.specs.Prelude.{Result, Err, slice_get}
+use Rattle.std.proofs.lemmas.Option.{slice_get-get_or}
 use Rattle.std.proofs.lemmas.List.{map-append, take_more, drop_all}
 use Rattle.std.proofs.lemmas.Bool.{cases_lt}
 use Rattle.cap_elim.specs.Events.{first_limit}
@@ -20,7 +21,7 @@ use Rattle.cap_fm.specs.declared.entry.Entry.{Entry}
 use Rattle.cap_fm.specs.declared.entry.Reached.{Reached}
 use Rattle.cap_fm.specs.declared.error.SolveError.{SolveError}
 use Rattle.cap_fm.specs.declared.stage.Stage.{Stage as Kept}
-use Rattle.cap_fm.proofs.Runs.{then-continues, then-stops, then-fails, same-is, same-explains, same-then}
+use Rattle.cap_fm.proofs.Runs.{done-is, then-continues, then-stops, then-fails, same-is, same-explains, same-then}
 
 same-eq : {A : Type 0} (r s : Run A) → r ≡ s → Same r s
 same-eq r s e = record { limit = ap (λ q. first_limit q.events) e; found = ap (λ q. q.found) e; stage = ap (λ q. q.stage) e }
@@ -114,18 +115,23 @@ least-one low d (Some y) h = (h.0, λ l. h.1 l.0, λ x l k. (h.2 x l k, tt))
 pub reach-err : (inputs : ℕ) (z : Kept) (run : Run (List plain.Entry)) (r : Result Reached SolveError) (e : SolveError) → (y : SolveError) × (r ≡ Err y) × (y ≡ e) → Explains e run.events → DoesReach inputs z run r
 reach-err inputs z run r e p h = subst (λ q. DoesReach inputs z run q) (sym p.1) (subst (λ y. Explains y run.events) (sym p.2) h)
 
-row-here : (rows : List Row) (i : ℕ) (r : Row) → i < length rows → r ≡ get_or rows i r → drop i rows ≡ r ∷ drop (i + 1) rows
-row-here rows i r l e = let n : suc i ≡ i + 1 = omega arith in drop-cons rows i r l ∙ ap (λ x. x ∷ drop (suc i) rows) (sym e) ∙ ap (λ j. r ∷ drop j rows) n
+pub row-at : (rows : List Row) (i : ℕ) (r : Row) → i < length rows → r ≡ get_or rows i r → slice_get rows i ≡ Some r
+row-at rows i r l e = slice_get-get_or rows i r l ∙ ap Some (sym e)
+
+pub row-here : (rows : List Row) (i : ℕ) (r : Row) → slice_get rows i ≡ Some r → drop i rows ≡ r ∷ drop (i + 1) rows
+row-here [] i r e = cc
+row-here (x ∷ rows) zero r e = let d : x ≡ r = cc in ap (λ y. y ∷ rows) d
+row-here (x ∷ rows) (suc i) r e = let n : suc i + 1 ≡ suc (i + 1) = omega arith in row-here rows i r e ∙ ap (λ j. r ∷ drop j (x ∷ rows)) (sym n)
 
 pub inputs-fail : (present : List plain.Entry) (whole : Run (List plain.Entry)) (i : ℕ) (r : Row) (rows : List Row) (s : Stage) (e : SolveError) → i < length rows → r ≡ get_or rows i r → Same whole (inputs present i (drop i rows) s) → Explains e (input present i r.kind r.term s).events → Explains e whole.events
 unfolding inputs
-inputs-fail present whole i r rows s e l q w h = same-explains e whole _ w (rw (row-here rows i r l q) (then-fails (input present i r.kind r.term) (λ more. inputs (present ++ more) (i + 1) (drop (i + 1) rows)) s e h))
+inputs-fail present whole i r rows s e l q w h = same-explains e whole _ w (rw (row-here rows i r (row-at rows i r l q)) (then-fails (input present i r.kind r.term) (λ more. inputs (present ++ more) (i + 1) (drop (i + 1) rows)) s e h))
 
 pub inputs-contradict : (present : List plain.Entry) (whole : Run (List plain.Entry)) (i : ℕ) (r : Row) (rows : List Row) (s t : Stage) (d : plain.Entry) → i < length rows → r ≡ get_or rows i r → Same whole (inputs present i (drop i rows) s) → Is (contradiction d) t (input present i r.kind r.term s) → Is (contradiction d) t whole
-inputs-contradict present whole i r rows s t d l q w h = same-is _ _ whole _ w (input-stops present i r (drop (i + 1) rows) (drop i rows) s t d (row-here rows i r l q) h)
+inputs-contradict present whole i r rows s t d l q w h = same-is _ _ whole _ w (input-stops present i r (drop (i + 1) rows) (drop i rows) s t d (row-here rows i r (row-at rows i r l q)) h)
 
 pub inputs-go : (present new all : List plain.Entry) (whole : Run (List plain.Entry)) (i : ℕ) (r : Row) (rows : List Row) (s t : Stage) → i < length rows → r ≡ get_or rows i r → all ≡ present ++ new → Same whole (inputs present i (drop i rows) s) → Is (going new) t (input present i r.kind r.term s) → Same whole (inputs all (i + 1) (drop (i + 1) rows) t)
-inputs-go present new all whole i r rows s t l q a w h = subst (λ p. Same whole (inputs p (i + 1) (drop (i + 1) rows) t)) (sym a) (same-then whole _ _ w (input-next present new i r (drop (i + 1) rows) (drop i rows) s t (row-here rows i r l q) h))
+inputs-go present new all whole i r rows s t l q a w h = subst (λ p. Same whole (inputs p (i + 1) (drop (i + 1) rows) t)) (sym a) (same-then whole _ _ w (input-next present new i r (drop (i + 1) rows) (drop i rows) s t (row-here rows i r (row-at rows i r l q)) h))
 
 pub inputs-end : (present : List plain.Entry) (whole : Run (List plain.Entry)) (i : ℕ) (rows : List Row) (s : Stage) → length rows ≤ i → Same whole (inputs present i (drop i rows) s) → Is (going present) s whole
 unfolding inputs first_limit
@@ -148,9 +154,11 @@ pub units-fail : (whole : Run (List plain.Entry)) (n m : ℕ) (rows : List plain
 unfolding by_units
 units-fail whole n m rows p s e w k f h = same-explains e whole _ w (rw k (subst (λ o. Explains e (while_some o rows (by_units m) s).events) (sym f) (then-fails (by_equation p) (by_units m) s e h)))
 
+done-by : (m : Elimination (List plain.Entry)) (rows : List plain.Entry) (s : Stage) → m ≡ done rows → Is (going rows) s (m s)
+done-by m rows s e = subst (λ f. Is (going rows) s (f s)) (sym e) (done-is rows s)
+
 pub ends-done : (whole : Run (List plain.Entry)) (m : Elimination (List plain.Entry)) (rows : List plain.Entry) (s : Stage) → Same whole (m s) → m ≡ done rows → Is (going rows) s whole
-unfolding first_limit
-ends-done whole m rows s w e = same-is _ _ whole _ w (subst (λ f. Is (going rows) s (f s)) (sym e) (record { within = refl; found = refl; stage = refl }))
+ends-done whole m rows s w e = same-is _ _ whole _ w (done-by m rows s e)
 
 pub units-over : (whole : Run (List plain.Entry)) (n : ℕ) (rows : List plain.Entry) (s : Stage) → n ≡ 0 → Same whole (by_units n rows s) → Is (going rows) s whole
 units-over whole n rows s k w = ends-done whole (by_units n rows) rows s w (ap (λ j. by_units j rows) k ∙ units-none rows)
@@ -184,16 +192,12 @@ absent-bounds x rows ps ns e = rw e refl
 absent-changes-nothing : (x : ℕ) (ds : List Entry) → Lack x ds → by_variable x (entries_view ds) ≡ done (entries_view ds)
 absent-changes-nothing x ds l = ap (by_pivot x (entries_view ds)) (no-pivot x ds l) ∙ absent-bounds x (lacking x (entries_view ds)) (uppers x (entries_view ds)) (lowers x (entries_view ds)) (no-uppers x ds l) ∙ ap done (all-lacking x ds l)
 
-done-is : (m : Elimination (List plain.Entry)) (rows : List plain.Entry) (s : Stage) → m ≡ done rows → Is (going rows) s (m s)
-unfolding first_limit
-done-is m rows s e = subst (λ f. Is (going rows) s (f s)) (sym e) (record { within = refl; found = refl; stage = refl })
-
 pub variables-skip : (k n x : ℕ) (ds : List Entry) (s : Stage) → ((z : ℕ) → x ≤ z → z < x + k → Lack z ds) → Same (by_variables x (k + n) (entries_view ds) s) (by_variables (x + k) n (entries_view ds) s)
 variables-skip zero n x ds s l = let e : x ≡ x + 0 = omega arith in let f : 0 + n ≡ n = omega arith in same-eq _ _ (ap (λ y. by_variables y (0 + n) (entries_view ds) s) e ∙ ap (λ m. by_variables (x + 0) m (entries_view ds) s) f)
 variables-skip (suc k) n x ds s l =
     let e : suc k + n ≡ suc (k + n) = omega arith in
     let f : x + 1 + k ≡ x + suc k = omega arith in
-    let a = variable-next x (suc k + n) (k + n) (entries_view ds) (entries_view ds) s s e (done-is (by_variable x (entries_view ds)) (entries_view ds) s (absent-changes-nothing x ds (l x (omega arith) (omega arith)))) in
+    let a = variable-next x (suc k + n) (k + n) (entries_view ds) (entries_view ds) s s e (done-by (by_variable x (entries_view ds)) (entries_view ds) s (absent-changes-nothing x ds (l x (omega arith) (omega arith)))) in
     let b = variables-skip k n (x + 1) ds s (λ z h i. l z (omega arith) (omega arith)) in
     same-then _ _ _ a (subst (λ y. Same (by_variables (x + 1) (k + n) (entries_view ds) s) (by_variables y n (entries_view ds) s)) f b)
 

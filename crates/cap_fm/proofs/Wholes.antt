@@ -9,12 +9,12 @@ use Rattle.cap_elim.specs.Runs as plain
 use Rattle.cap_elim.specs.Runs.{Stage, at_first, Run, Found, going, contradiction, Elimination, ◌>>=◌}
 use Rattle.cap_elim.specs.Elimination.{inputs, by_units, by_variables, width, eliminated}
 use Rattle.cap_elim.specs.Leaf.{leaf, leaf_steps}
-use Rattle.cap_elim.specs.Solving.{Logged, leaf_found, run_leaf, refuted}
+use Rattle.cap_elim.specs.Solving.{RowsAscend, Logged, leaf_found, run_leaf, refuted}
 use Rattle.cap_elim.proofs.Variables.{units-lead}
 use Rattle.cap_elim.proofs.Complete.{inputs-sound}
 use Rattle.cap_fm.specs.Views.{entry_view, entries_view, stage_view, history_view}
 use Rattle.cap_fm.specs.declared.entry.Origin.{Origin}
-use Rattle.cap_fm.specs.Answers.{Is, Same, Explains, ExplainsSteps, DoesReach, AreRows, RowsAscend, IsLogged}
+use Rattle.cap_fm.specs.Answers.{Is, Same, Explains, ExplainsSteps, DoesReach, AreRows, IsLogged}
 use Rattle.cap_fm.specs.declared.entry.Entry.{Entry}
 use Rattle.cap_fm.specs.declared.entry.Reached.{Reached}
 use Rattle.cap_fm.specs.declared.error.SolveError.{SolveError}

@@ -3,7 +3,6 @@ use Rattle.std.specs.Prelude.{◌≡◌, ◌≢◌, ℕ, ◌<◌, ◌≤◌, ℤ
 use Rattle.std.specs.List.{AllByRecursion}
 use Rattle.cap_lin.specs.Linear.{Linear, AscendFrom, is_zero, coefficient}
 use Rattle.cap_lin.specs.Steps.{Step, first_wide}
-use Rattle.cap_lin.specs.declared.row.Row.{Row}
 use Rattle.cap_lin.specs.declared.row.Kind.{Kind}
 use Rattle.cap_lin.specs.declared.row.Kind.TheVariants.{Ne}
 use Rattle.cap_elim.specs.Events.{Event, wide, many, first_limit}
@@ -149,7 +148,3 @@ pub record IsRow (d : Entry) : Type 0 where
 
 abbrev pub AreRows : List Entry → Type 0
 AreRows ds = AllByRecursion IsRow ds
-
--- the parts of each row's term ascend
-abbrev pub RowsAscend : List Row → Type 0
-RowsAscend rows = AllByRecursion (λ r. AscendFrom 0 r.term.parts) rows

@@ -43,7 +43,8 @@ fn given(
     }
 }
 
-/// A times a row plus b times another arises.
+/// The combination `a` times a row plus `b` times another arises. It is counted where it has
+/// variables, and left out where it is equal to a row that is present.
 pub fn combine(
     alloc: Global,
     stage: &mut Stage,

@@ -1,9 +1,9 @@
 ghost use Rattle.std.specs.Prelude.{◌≤◌, ◌<◌, ◌^◌, ◌++◌, [], ℕ, List, length};
 ghost use Rattle.cap_elim.specs.Elimination.{inputs as inputs_run, by_units as by_units_run, by_variable as by_variable_run, by_variables as by_variables_run, width, eliminated as eliminated_run};
-ghost use Rattle.cap_elim.specs.Solving.{refuted as refuted_log};
+ghost use Rattle.cap_elim.specs.Solving.{RowsAscend, refuted as refuted_log};
 ghost use Rattle.cap_fm.specs.declared.entry.Entry.{Entry};
 ghost use Rattle.cap_fm.specs.Views.{stage_view, entries_view, Fits};
-ghost use Rattle.cap_fm.specs.Answers.{DoesReach, IsLogged, IsLeast, AreRows, RowsAscend};
+ghost use Rattle.cap_fm.specs.Answers.{DoesReach, IsLogged, IsLeast, AreRows};
 
 use crate::arising::input;
 use crate::bounds::by_bounds;
@@ -42,7 +42,7 @@ fn eliminated(alloc: Global, stage: &mut Stage, rows: &[Row]) -> Result<Reached,
     }
 }
 
-// The parts of each row's term ascend, as a term's do.
+/// It does nothing: a term's `parts` tells that they ascend, and this tells it of each row's term.
 pub fn terms_ascend(rows: &[Row])
     ensures { RowsAscend rows.now }
 {

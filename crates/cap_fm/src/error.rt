@@ -14,6 +14,7 @@ pub enum SolveError {
     /// One elimination has more than 4,096 rows.
     #[error("more than 4096 rows")]
     Rows,
+    /// Memory ran out.
     #[error("out of memory")]
     OutOfMemory,
 }

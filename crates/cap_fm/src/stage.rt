@@ -30,6 +30,7 @@ pub struct Stage {
 }
 
 impl Stage {
+    /// The stage before any row has arisen.
     pub fn new(alloc: Global) -> Stage
         ensures view { stage_view result ≡ at_first }
         ensures fits { (inputs : ℕ) → Fits inputs result [] }
@@ -41,7 +42,8 @@ impl Stage {
         }
     }
 
-    /// Counts a row that arises, unless an equal one arose before, and gives its number.
+    /// Counts a row that arises, unless an equal one arose before, and gives its number. `Rows` comes
+    /// where it would be the 4,097th.
     pub fn count(&mut self, alloc: Global, term: &Term, kind: Kind) -> Result<usize, SolveError>
         ensures { (inputs : ℕ) (present : List Entry) → Fits inputs self.old present → DoesCount inputs self.old self.new present term.now kind result }
     {
@@ -90,6 +92,7 @@ impl Stage {
         Ok(place)
     }
 
+    /// Where each row that was kept comes from, the first one first.
     pub fn history(&self) -> &[Origin]
         ensures { result.now ≡ self.now.history.items }
     {

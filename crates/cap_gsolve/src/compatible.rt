@@ -98,7 +98,7 @@ fn push_shares(
     Ok(())
 }
 
-// The rows under which a wanted form composes, where nothing there bears on it.
+// Rows that hold where a wanted form composes, if no form of its atom is there.
 fn push_alone(alloc: Global, rows: &mut Vec<Row>, wanted: &Form) -> Result<(), LinError>
     ensures { IsMade result (fits_steps None wanted.now) (λ _. rows.new.items ≡ rows.old.items ++ fits_rows None wanted.now) }
 {
@@ -113,7 +113,7 @@ fn push_alone(alloc: Global, rows: &mut Vec<Row>, wanted: &Form) -> Result<(), L
     }
 }
 
-// The rows under which a wanted form composes with the form of its atom that is there.
+// Rows that hold where a wanted form composes with the form of its atom that is there.
 fn push_beside(
     alloc: Global,
     rows: &mut Vec<Row>,
@@ -145,7 +145,7 @@ fn push_beside(
     }
 }
 
-// The rows under which a wanted form of an atom composes with the pieces.
+// Rows that hold where a wanted form of an atom composes with the pieces.
 fn push_fits(
     alloc: Global,
     rows: &mut Vec<Row>,
@@ -195,7 +195,7 @@ fn push_all(
     Ok(())
 }
 
-/// The rows under which wanted forms, each of an atom, compose with the pieces of a region: that a
+/// Rows that hold where wanted forms, each of an atom, compose with the pieces of a region: that a
 /// wanted share is above 0 and, with the share of its atom that is there, at most 1; and that a
 /// wanted count is at least 0 and tokens are at most as many as their source has out. Nothing comes
 /// where some wanted form never composes: the source or the unique guard where it is there, or

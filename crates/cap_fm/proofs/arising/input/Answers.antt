@@ -3,8 +3,8 @@ use Rattle.cap_elim.specs.Runs.{going}
 use Rattle.cap_elim.specs.Elimination.{input}
 use Rattle.cap_fm.specs.Views.{stage_view, entries_view}
 use Rattle.cap_fm.specs.Answers.{Is}
-use Rattle.cap_fm.proofs.NewRows.{is-done}
+use Rattle.cap_fm.proofs.Runs.{done-is}
 use Rattle.cap_fm.proofs.arising.input.Goals as goal
 
 pub returns-in-Ne : goal.returns-in-Ne
-returns-in-Ne c = λ inputs present f b. (subst (λ k. Is (going []) (stage_view c.args.stage.now) (input (entries_view present) c.args.number k c.args.row.now.term (stage_view c.args.stage.now))) (sym c.in-Ne.is) (is-done (stage_view c.args.stage.now)), f, λ d x. x)
+returns-in-Ne c = λ inputs present f b. (subst (λ k. Is (going []) (stage_view c.args.stage.now) (input (entries_view present) c.args.number k c.args.row.now.term (stage_view c.args.stage.now))) (sym c.in-Ne.is) (done-is [] (stage_view c.args.stage.now)), f, λ d x. x)

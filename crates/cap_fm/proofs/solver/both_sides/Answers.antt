@@ -6,7 +6,8 @@ use Rattle.cap_farkas.specs.declared.cert.Cert.TheVariants as cert
 use Rattle.cap_elim.specs.Events.{first_limit}
 use Rattle.cap_elim.specs.Solving.{split}
 use Rattle.cap_fm.specs.Answers.{IsLogged}
-use Rattle.cap_fm.proofs.Splits.{for-row, log-lin, log-err, below-wide, above-wide, below-fails, below-none, above-explains, above-is, side-is, side-explains}
+use Rattle.cap_fm.proofs.Splits.{for-row, log-lin, below-wide, above-wide, below-fails, below-none, above-explains, above-is, side-is, side-explains}
+use Rattle.cap_fm.proofs.Wholes.{logged-err}
 use Rattle.cap_fm.proofs.solver.both_sides.Goals as goal
 
 pub returns-in_err-below : goal.returns-in_err-below
@@ -19,7 +20,7 @@ pub returns-in_err-refuted_with : goal.returns-in_err-refuted_with
 returns-in_err-refuted_with c = λ r e.
     let s = c.index-rows-place.result in
     for-row (λ t. IsLogged c.from_residual-in_err-refuted_with.result (split c.args.rows.now c.args.place Ne t.sort t.term)) c.args.rows.now c.args.place r s c.requires.bound c.index-rows-place.is e
-    (log-err c.from_residual-in_err-refuted_with.result (split c.args.rows.now c.args.place Ne s.sort s.term) c.in_err-refuted_with.field-0.0 (err_from_is_err_and c.from_residual-in_err-refuted_with.result c.from_residual-in_err-refuted_with.ensures.1)
+    (logged-err c.from_residual-in_err-refuted_with.result (split c.args.rows.now c.args.place Ne s.sort s.term) c.in_err-refuted_with.field-0.0 (err_from_is_err_and c.from_residual-in_err-refuted_with.result c.from_residual-in_err-refuted_with.ensures.1)
     (below-fails c.args.rows.now c.args.place s.sort s.term c.in_err-refuted_with.field-0.0 (side-explains c.args.rows.now (below_zero_steps s.sort s.term) (below_zero s.sort s.term) c.in_ok-below.below c.in_err-refuted_with.field-0.0 c.in_ok-below.ensures c.in_err-refuted_with.ensures)))
 
 pub returns-in_err-above-in-Some : goal.returns-in_err-above-in-Some
@@ -34,7 +35,7 @@ returns-in_err-refuted_with-in-Some c = λ r e.
     let s = c.index-rows-place.result in
     let b = side-is c.args.rows.now (below_zero_steps s.sort s.term) (below_zero s.sort s.term) c.in_ok-below.below (Some c.in-Some.below) c.in_ok-below.ensures (rw c.in-Some.is at c.in_ok-refuted_with.ensures) in
     for-row (λ t. IsLogged c.from_residual-in_err-refuted_with-in-Some.result (split c.args.rows.now c.args.place Ne t.sort t.term)) c.args.rows.now c.args.place r s c.requires.bound c.index-rows-place.is e
-    (log-err c.from_residual-in_err-refuted_with-in-Some.result (split c.args.rows.now c.args.place Ne s.sort s.term) c.in_err-refuted_with-in-Some.field-0.0 (err_from_is_err_and c.from_residual-in_err-refuted_with-in-Some.result c.from_residual-in_err-refuted_with-in-Some.ensures.1)
+    (logged-err c.from_residual-in_err-refuted_with-in-Some.result (split c.args.rows.now c.args.place Ne s.sort s.term) c.in_err-refuted_with-in-Some.field-0.0 (err_from_is_err_and c.from_residual-in_err-refuted_with-in-Some.result c.from_residual-in_err-refuted_with-in-Some.ensures.1)
     (above-explains c.args.rows.now c.args.place s.sort s.term c.in-Some.below c.in_err-refuted_with-in-Some.field-0.0 b (side-explains c.args.rows.now (above_zero_steps s.sort s.term) (above_zero s.sort s.term) c.in_ok-above-in-Some.above c.in_err-refuted_with-in-Some.field-0.0 c.in_ok-above-in-Some.ensures c.in_err-refuted_with-in-Some.ensures)))
 
 pub returns-in-None : goal.returns-in-None
