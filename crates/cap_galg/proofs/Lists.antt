@@ -4,7 +4,7 @@ use Rattle.std.specs.List.{AllByRecursion as Each}
 use Rattle.cap_galg.specs.Elements.{Element, nothing, bind, compose}
 use Rattle.cap_galg.specs.Algebras.{PlainAlgebra, IsElement}
 use Rattle.cap_galg.specs.Lists.{compose_all}
-use Rattle.cap_galg.specs.Laws.Composition.{bind-is, some-same, compose_assoc, compose-comm}
+use Rattle.cap_galg.specs.Laws.Composition.{bind-is, bind-none, some-same, compose_assoc, compose-comm}
 use Rattle.cap_galg.specs.Laws.Algebras.{sound-of, closed}
 use Rattle.cap_galg.proofs.Kept.{Keeps}
 
@@ -30,10 +30,6 @@ bind-unit : (o : Option Element) → o ≡ bind o (λ y. compose nothing y)
 bind-unit None = refl
 bind-unit (Some y) = refl
 
-bind-none : (o : Option Element) → ◌≡◌ {A = Option Element} None (bind o (λ u. None))
-bind-none None = refl
-bind-none (Some u) = refl
-
 pub all-append : (a : PlainAlgebra) (xs ys : List Element) → Each (IsElement a) xs → Each (IsElement a) ys → compose_all (xs ++ ys) ≡ bind (compose_all xs) (λ x. bind (compose_all ys) (λ y. compose x y))
 all-append a [] ys h k = bind-unit (compose_all ys)
 all-append a (x ∷ xs) ys h k =
@@ -43,7 +39,7 @@ all-append a (x ∷ xs) ys h k =
     go : (o p : Option Element) → ((v : Element) → o ≡ Some v → IsElement a v) → ((y : Element) → p ≡ Some y → IsElement a y)
         → bind (bind o (λ v. bind p (λ y. compose v y))) (λ u. compose x u) ≡ bind (bind o (λ v. compose x v)) (λ u. bind p (λ y. compose u y))
     go None p c d = refl
-    go (Some v) None c d = bind-none (compose x v)
+    go (Some v) None c d = sym (bind-none (compose x v))
     go (Some v) (Some y) c d = sym (compose_assoc x v y (sound-of a x h.0) (sound-of a v (c v refl)) (sound-of a y (d y refl)))
 
 -- ---- other ways to compose four

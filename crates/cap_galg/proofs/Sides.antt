@@ -6,17 +6,13 @@ use Rattle.cap_galg.specs.declared.error.GuardError.TheVariants.{Wide, OutOfMemo
 use Rattle.cap_galg.specs.Elements.{Element, nothing, one, share, tok, src, both, whole, left, right, is_unit, is_full, pair_of, on_left, on_right, in_left, in_right, bind, compose, is_wide, at_most}
 use Rattle.cap_galg.specs.Algebras.{PlainAlgebra, full, IsElement, AreKin}
 use Rattle.cap_galg.specs.Answers.{IsComposition, paired}
-use Rattle.cap_galg.specs.Laws.Composition.{true_or_false, and-true, some-same, compose-nothing, compose-comm, unit-is, composed-not-unit, full_alone, sound-pair, IsSound}
+use Rattle.cap_galg.specs.Laws.Composition.{bind-none, true_or_false, and-true, some-same, compose-nothing, compose-comm, unit-is, composed-not-unit, full_alone, sound-pair, IsSound}
 use Rattle.cap_galg.specs.Laws.Algebras.{sound-of, closed, full-element, full-only, at_most-full, completes}
 use Rattle.cap_galg.specs.Views.{HasShares}
 
 pub some_or_none : {A : Type 0} (o : Option A) → (o ≡ None) ⊎ ((x : A) × (o ≡ Some x))
 some_or_none None = inl refl
 some_or_none (Some x) = inr (x, refl)
-
-bind-none : {A B : Type 0} (o : Option A) → ◌≡◌ {A = Option B} (bind o (λ x. None)) None
-bind-none None = refl
-bind-none (Some x) = refl
 
 -- ---- answers, where the composition goes by parts
 
@@ -90,6 +86,10 @@ right-one x y = record { composed = refl; wide = λ n. refl }
 pub error-composition : {A B : Type 0} (f : A → Element) (g : B → Element) (x y : Element) (e : GuardError) → IsComposition f x y (Err e) → IsComposition g x y (Err e)
 error-composition f g x y Wide p = p
 error-composition f g x y OutOfMemory p = tt
+
+-- an error that is handed on
+pub error-is : {T : Type 0} (h : T → Element) (x y : Element) (r : Result (Option T) GuardError) (e : GuardError) → (d : GuardError) × (r ≡ Err d) × (d ≡ e) → IsComposition h x y (Err e) → IsComposition h x y r
+error-is h x y r e p c = subst (IsComposition h x y) (sym (p.1 ∙ ap Err p.2)) c
 
 -- ---- pairs
 

@@ -65,9 +65,7 @@ fn pass(algebra: &Algebra, i: u32, j: u32) -> Passed
     ensures { HasPassed (algebra_view algebra.now) i j result }
 {
     match algebra {
-        Algebra::Unique => pass_leaf(i, j),
-        Algebra::Divisible => pass_leaf(i, j),
-        Algebra::Counting => pass_leaf(i, j),
+        Algebra::Unique | Algebra::Divisible | Algebra::Counting => pass_leaf(i, j),
         Algebra::Pair(a, b) => match pass(a, i, j) {
             Passed::Both(apart) => Passed::Both(apart),
             Passed::First(rest) => match atom_or_rest(b, rest) {

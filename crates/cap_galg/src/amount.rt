@@ -24,15 +24,11 @@ impl Amount {
             Atom::Unique => matches!(self, Amount::One),
             Atom::Divisible => match self {
                 Amount::Share(fraction) => fraction.is_amount(),
-                Amount::One => false,
-                Amount::Src(_) => false,
-                Amount::Tok(_) => false,
+                Amount::One | Amount::Src(_) | Amount::Tok(_) => false,
             },
             Atom::Counting => match self {
-                Amount::Src(_) => true,
-                Amount::Tok(_) => true,
-                Amount::One => false,
-                Amount::Share(_) => false,
+                Amount::Src(_) | Amount::Tok(_) => true,
+                Amount::One | Amount::Share(_) => false,
             },
         }
     }

@@ -13,16 +13,14 @@ pub fn paired_answer<A: Drop, B: Drop>(
 {
     match first {
         Ok(None) => Ok(None),
-        Ok(Some(x)) => match second {
-            Ok(None) => Ok(None),
-            Ok(Some(y)) => Ok(Some((x, y))),
-            Err(e) => Err(e),
+        Ok(Some(x)) => match second? {
+            None => Ok(None),
+            Some(y) => Ok(Some((x, y))),
         },
         Err(GuardError::OutOfMemory) => Err(GuardError::OutOfMemory),
-        Err(GuardError::Wide) => match second {
-            Ok(None) => Ok(None),
-            Ok(Some(_)) => Err(GuardError::Wide),
-            Err(e) => Err(e),
+        Err(GuardError::Wide) => match second? {
+            None => Ok(None),
+            Some(_) => Err(GuardError::Wide),
         },
     }
 }

@@ -25,10 +25,9 @@ impl<A: Guard, B: Guard> Guard for Either<A, B> {
     ) -> Result<Option<Either<A, B>>, GuardError> {
         match self {
             Either::Left(x) => match other {
-                Either::Left(y) => match x.compose(alloc, y) {
-                    Ok(Some(z)) => Ok(Some(Either::Left(z))),
-                    Ok(None) => Ok(None),
-                    Err(e) => Err(e),
+                Either::Left(y) => match x.compose(alloc, y)? {
+                    Some(z) => Ok(Some(Either::Left(z))),
+                    None => Ok(None),
                 },
                 Either::Right(y) => {
                     if x.is_unit() {
@@ -41,10 +40,9 @@ impl<A: Guard, B: Guard> Guard for Either<A, B> {
                 }
             },
             Either::Right(x) => match other {
-                Either::Right(y) => match x.compose(alloc, y) {
-                    Ok(Some(z)) => Ok(Some(Either::Right(z))),
-                    Ok(None) => Ok(None),
-                    Err(e) => Err(e),
+                Either::Right(y) => match x.compose(alloc, y)? {
+                    Some(z) => Ok(Some(Either::Right(z))),
+                    None => Ok(None),
                 },
                 Either::Left(y) => {
                     if x.is_unit() {

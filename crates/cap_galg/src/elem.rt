@@ -59,9 +59,7 @@ fn at_atom(alloc: Global, algebra: &Algebra, atom: u32, node: Node) -> Result<Pl
     ensures { IfOk result (IsPlaced (algebra_view algebra.now) atom (node_view node)) }
 {
     match algebra {
-        Algebra::Unique => Ok(at_leaf(atom, node)),
-        Algebra::Divisible => Ok(at_leaf(atom, node)),
-        Algebra::Counting => Ok(at_leaf(atom, node)),
+        Algebra::Unique | Algebra::Divisible | Algebra::Counting => Ok(at_leaf(atom, node)),
         Algebra::Pair(a, b) => match at_atom(alloc, a, atom, node)? {
             Placed::Here(x) => {
                 let none = Box::new(alloc, Node::Nothing)?;

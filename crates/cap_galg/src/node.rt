@@ -47,17 +47,7 @@ impl Node {
     pub fn is_unit(&self) -> bool
         ensures { result ≡ is_unit (node_view self.now) }
     {
-        match self {
-            Node::Nothing => true,
-            Node::One => false,
-            Node::Share(_) => false,
-            Node::Tok(_) => false,
-            Node::Src(_) => false,
-            Node::Both(_, _) => false,
-            Node::Whole => false,
-            Node::Left(_) => false,
-            Node::Right(_) => false,
-        }
+        matches!(self, Node::Nothing)
     }
 
     pub fn is_full(&self) -> bool
@@ -71,8 +61,7 @@ impl Node {
             Node::Src(out) => *out == 0,
             Node::Both(x, y) => x.is_full() && y.is_full(),
             Node::Whole => true,
-            Node::Left(_) => false,
-            Node::Right(_) => false,
+            Node::Left(_) | Node::Right(_) => false,
         }
     }
 
@@ -83,91 +72,91 @@ impl Node {
             Node::Nothing => true,
             Node::One => match other {
                 Node::One => true,
-                Node::Nothing => false,
-                Node::Share(_) => false,
-                Node::Tok(_) => false,
-                Node::Src(_) => false,
-                Node::Both(_, _) => false,
-                Node::Whole => false,
-                Node::Left(_) => false,
-                Node::Right(_) => false,
+                Node::Nothing
+                | Node::Share(_)
+                | Node::Tok(_)
+                | Node::Src(_)
+                | Node::Both(_, _)
+                | Node::Whole
+                | Node::Left(_)
+                | Node::Right(_) => false,
             },
             Node::Share(a) => match other {
                 Node::Share(b) => is_at_most(*a, *b),
-                Node::Nothing => false,
-                Node::One => false,
-                Node::Tok(_) => false,
-                Node::Src(_) => false,
-                Node::Both(_, _) => false,
-                Node::Whole => false,
-                Node::Left(_) => false,
-                Node::Right(_) => false,
+                Node::Nothing
+                | Node::One
+                | Node::Tok(_)
+                | Node::Src(_)
+                | Node::Both(_, _)
+                | Node::Whole
+                | Node::Left(_)
+                | Node::Right(_) => false,
             },
             Node::Tok(j) => match other {
                 Node::Tok(k) => *j <= *k,
                 Node::Src(_) => true,
-                Node::Nothing => false,
-                Node::One => false,
-                Node::Share(_) => false,
-                Node::Both(_, _) => false,
-                Node::Whole => false,
-                Node::Left(_) => false,
-                Node::Right(_) => false,
+                Node::Nothing
+                | Node::One
+                | Node::Share(_)
+                | Node::Both(_, _)
+                | Node::Whole
+                | Node::Left(_)
+                | Node::Right(_) => false,
             },
             Node::Src(out) => match other {
                 Node::Src(less) => *less <= *out,
-                Node::Nothing => false,
-                Node::One => false,
-                Node::Share(_) => false,
-                Node::Tok(_) => false,
-                Node::Both(_, _) => false,
-                Node::Whole => false,
-                Node::Left(_) => false,
-                Node::Right(_) => false,
+                Node::Nothing
+                | Node::One
+                | Node::Share(_)
+                | Node::Tok(_)
+                | Node::Both(_, _)
+                | Node::Whole
+                | Node::Left(_)
+                | Node::Right(_) => false,
             },
             Node::Both(a, b) => match other {
                 Node::Both(c, d) => a.le(c) && b.le(d),
-                Node::Nothing => false,
-                Node::One => false,
-                Node::Share(_) => false,
-                Node::Tok(_) => false,
-                Node::Src(_) => false,
-                Node::Whole => false,
-                Node::Left(_) => false,
-                Node::Right(_) => false,
+                Node::Nothing
+                | Node::One
+                | Node::Share(_)
+                | Node::Tok(_)
+                | Node::Src(_)
+                | Node::Whole
+                | Node::Left(_)
+                | Node::Right(_) => false,
             },
             Node::Whole => match other {
                 Node::Whole => true,
-                Node::Nothing => false,
-                Node::One => false,
-                Node::Share(_) => false,
-                Node::Tok(_) => false,
-                Node::Src(_) => false,
-                Node::Both(_, _) => false,
-                Node::Left(_) => false,
-                Node::Right(_) => false,
+                Node::Nothing
+                | Node::One
+                | Node::Share(_)
+                | Node::Tok(_)
+                | Node::Src(_)
+                | Node::Both(_, _)
+                | Node::Left(_)
+                | Node::Right(_) => false,
             },
             Node::Left(x) => match other {
                 Node::Whole => true,
                 Node::Left(y) => x.le(y),
-                Node::Nothing => false,
-                Node::One => false,
-                Node::Share(_) => false,
-                Node::Tok(_) => false,
-                Node::Src(_) => false,
-                Node::Both(_, _) => false,
-                Node::Right(_) => false,
+                Node::Nothing
+                | Node::One
+                | Node::Share(_)
+                | Node::Tok(_)
+                | Node::Src(_)
+                | Node::Both(_, _)
+                | Node::Right(_) => false,
             },
             Node::Right(x) => match other {
                 Node::Whole => true,
                 Node::Right(y) => x.le(y),
-                Node::Nothing => false,
-                Node::One => false,
-                Node::Share(_) => false,
-                Node::Tok(_) => false,
-                Node::Src(_) => false,
-                Node::Both(_, _) => false,
-                Node::Left(_) => false,
+                Node::Nothing
+                | Node::One
+                | Node::Share(_)
+                | Node::Tok(_)
+                | Node::Src(_)
+                | Node::Both(_, _)
+                | Node::Left(_) => false,
             },
         }
     }
@@ -181,110 +170,106 @@ impl Node {
             Node::Nothing => Ok(Some(other.copy(alloc)?)),
             Node::One => match other {
                 Node::Nothing => Ok(Some(self.copy(alloc)?)),
-                Node::One => Ok(None),
-                Node::Share(_) => Ok(None),
-                Node::Tok(_) => Ok(None),
-                Node::Src(_) => Ok(None),
-                Node::Both(_, _) => Ok(None),
-                Node::Whole => Ok(None),
-                Node::Left(_) => Ok(None),
-                Node::Right(_) => Ok(None),
+                Node::One
+                | Node::Share(_)
+                | Node::Tok(_)
+                | Node::Src(_)
+                | Node::Both(_, _)
+                | Node::Whole
+                | Node::Left(_)
+                | Node::Right(_) => Ok(None),
             },
             Node::Share(a) => match other {
                 Node::Share(b) => shares(*a, *b),
                 Node::Nothing => Ok(Some(self.copy(alloc)?)),
-                Node::One => Ok(None),
-                Node::Tok(_) => Ok(None),
-                Node::Src(_) => Ok(None),
-                Node::Both(_, _) => Ok(None),
-                Node::Whole => Ok(None),
-                Node::Left(_) => Ok(None),
-                Node::Right(_) => Ok(None),
+                Node::One
+                | Node::Tok(_)
+                | Node::Src(_)
+                | Node::Both(_, _)
+                | Node::Whole
+                | Node::Left(_)
+                | Node::Right(_) => Ok(None),
             },
             Node::Tok(j) => match other {
                 Node::Tok(k) => tokens(*j, *k),
                 Node::Src(out) => Ok(given_back(*out, *j)),
                 Node::Nothing => Ok(Some(self.copy(alloc)?)),
-                Node::One => Ok(None),
-                Node::Share(_) => Ok(None),
-                Node::Both(_, _) => Ok(None),
-                Node::Whole => Ok(None),
-                Node::Left(_) => Ok(None),
-                Node::Right(_) => Ok(None),
+                Node::One
+                | Node::Share(_)
+                | Node::Both(_, _)
+                | Node::Whole
+                | Node::Left(_)
+                | Node::Right(_) => Ok(None),
             },
             Node::Src(out) => match other {
                 Node::Tok(k) => Ok(given_back(*out, *k)),
                 Node::Nothing => Ok(Some(self.copy(alloc)?)),
-                Node::One => Ok(None),
-                Node::Share(_) => Ok(None),
-                Node::Src(_) => Ok(None),
-                Node::Both(_, _) => Ok(None),
-                Node::Whole => Ok(None),
-                Node::Left(_) => Ok(None),
-                Node::Right(_) => Ok(None),
+                Node::One
+                | Node::Share(_)
+                | Node::Src(_)
+                | Node::Both(_, _)
+                | Node::Whole
+                | Node::Left(_)
+                | Node::Right(_) => Ok(None),
             },
             Node::Both(a, b) => match other {
                 Node::Both(c, d) => {
                     let first = a.compose(alloc, c);
                     let second = b.compose(alloc, d);
-                    match paired_answer(first, second) {
-                        Ok(Some((x, y))) => Ok(Some(Node::Both(
-                            Box::new(alloc, x)?,
-                            Box::new(alloc, y)?,
-                        ))),
-                        Ok(None) => Ok(None),
-                        Err(e) => Err(e),
+                    match paired_answer(first, second)? {
+                        Some((x, y)) => {
+                            Ok(Some(Node::Both(Box::new(alloc, x)?, Box::new(alloc, y)?)))
+                        }
+                        None => Ok(None),
                     }
                 }
                 Node::Nothing => Ok(Some(self.copy(alloc)?)),
-                Node::One => Ok(None),
-                Node::Share(_) => Ok(None),
-                Node::Tok(_) => Ok(None),
-                Node::Src(_) => Ok(None),
-                Node::Whole => Ok(None),
-                Node::Left(_) => Ok(None),
-                Node::Right(_) => Ok(None),
+                Node::One
+                | Node::Share(_)
+                | Node::Tok(_)
+                | Node::Src(_)
+                | Node::Whole
+                | Node::Left(_)
+                | Node::Right(_) => Ok(None),
             },
             Node::Whole => match other {
                 Node::Nothing => Ok(Some(self.copy(alloc)?)),
-                Node::One => Ok(None),
-                Node::Share(_) => Ok(None),
-                Node::Tok(_) => Ok(None),
-                Node::Src(_) => Ok(None),
-                Node::Both(_, _) => Ok(None),
-                Node::Whole => Ok(None),
-                Node::Left(_) => Ok(None),
-                Node::Right(_) => Ok(None),
+                Node::One
+                | Node::Share(_)
+                | Node::Tok(_)
+                | Node::Src(_)
+                | Node::Both(_, _)
+                | Node::Whole
+                | Node::Left(_)
+                | Node::Right(_) => Ok(None),
             },
             Node::Left(x) => match other {
-                Node::Left(y) => match x.compose(alloc, y) {
-                    Ok(Some(z)) => Ok(Some(on_left(alloc, z)?)),
-                    Ok(None) => Ok(None),
-                    Err(e) => Err(e),
+                Node::Left(y) => match x.compose(alloc, y)? {
+                    Some(z) => Ok(Some(on_left(alloc, z)?)),
+                    None => Ok(None),
                 },
                 Node::Nothing => Ok(Some(self.copy(alloc)?)),
-                Node::One => Ok(None),
-                Node::Share(_) => Ok(None),
-                Node::Tok(_) => Ok(None),
-                Node::Src(_) => Ok(None),
-                Node::Both(_, _) => Ok(None),
-                Node::Whole => Ok(None),
-                Node::Right(_) => Ok(None),
+                Node::One
+                | Node::Share(_)
+                | Node::Tok(_)
+                | Node::Src(_)
+                | Node::Both(_, _)
+                | Node::Whole
+                | Node::Right(_) => Ok(None),
             },
             Node::Right(x) => match other {
-                Node::Right(y) => match x.compose(alloc, y) {
-                    Ok(Some(z)) => Ok(Some(on_right(alloc, z)?)),
-                    Ok(None) => Ok(None),
-                    Err(e) => Err(e),
+                Node::Right(y) => match x.compose(alloc, y)? {
+                    Some(z) => Ok(Some(on_right(alloc, z)?)),
+                    None => Ok(None),
                 },
                 Node::Nothing => Ok(Some(self.copy(alloc)?)),
-                Node::One => Ok(None),
-                Node::Share(_) => Ok(None),
-                Node::Tok(_) => Ok(None),
-                Node::Src(_) => Ok(None),
-                Node::Both(_, _) => Ok(None),
-                Node::Whole => Ok(None),
-                Node::Left(_) => Ok(None),
+                Node::One
+                | Node::Share(_)
+                | Node::Tok(_)
+                | Node::Src(_)
+                | Node::Both(_, _)
+                | Node::Whole
+                | Node::Left(_) => Ok(None),
             },
         }
     }

@@ -21,10 +21,9 @@ impl<A: Guard, B: Guard> Guard for Pair<A, B> {
     fn compose(&self, alloc: Global, other: &Pair<A, B>) -> Result<Option<Pair<A, B>>, GuardError> {
         let left = self.left.compose(alloc, &other.left);
         let right = self.right.compose(alloc, &other.right);
-        match paired_answer(left, right) {
-            Ok(Some((left, right))) => Ok(Some(Pair { left, right })),
-            Ok(None) => Ok(None),
-            Err(e) => Err(e),
+        match paired_answer(left, right)? {
+            Some((left, right)) => Ok(Some(Pair { left, right })),
+            None => Ok(None),
         }
     }
 

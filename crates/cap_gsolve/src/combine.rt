@@ -57,34 +57,17 @@ pub fn combine(
     match there {
         Form::One => kept(alloc, rows, there),
         Form::Share(a) => match new {
-            Form::Share(b) => match sum_of_shares(alloc, rows, a, b) {
-                Ok(sum) => Ok(Form::Share(sum)),
-                Err(e) => Err(e),
-            },
-            Form::One => kept(alloc, rows, there),
-            Form::Src(_) => kept(alloc, rows, there),
-            Form::Tok(_) => kept(alloc, rows, there),
+            Form::Share(b) => Ok(Form::Share(sum_of_shares(alloc, rows, a, b)?)),
+            Form::One | Form::Src(_) | Form::Tok(_) => kept(alloc, rows, there),
         },
         Form::Src(out) => match new {
-            Form::Tok(back) => match left_out(alloc, rows, out, back) {
-                Ok(rest) => Ok(Form::Src(rest)),
-                Err(e) => Err(e),
-            },
-            Form::One => kept(alloc, rows, there),
-            Form::Share(_) => kept(alloc, rows, there),
-            Form::Src(_) => kept(alloc, rows, there),
+            Form::Tok(back) => Ok(Form::Src(left_out(alloc, rows, out, back)?)),
+            Form::One | Form::Share(_) | Form::Src(_) => kept(alloc, rows, there),
         },
         Form::Tok(count) => match new {
-            Form::Src(out) => match left_out(alloc, rows, out, count) {
-                Ok(rest) => Ok(Form::Src(rest)),
-                Err(e) => Err(e),
-            },
-            Form::Tok(more) => match count.add(alloc, more) {
-                Ok(sum) => Ok(Form::Tok(sum)),
-                Err(e) => Err(e),
-            },
-            Form::One => kept(alloc, rows, there),
-            Form::Share(_) => kept(alloc, rows, there),
+            Form::Src(out) => Ok(Form::Src(left_out(alloc, rows, out, count)?)),
+            Form::Tok(more) => Ok(Form::Tok(count.add(alloc, more)?)),
+            Form::One | Form::Share(_) => kept(alloc, rows, there),
         },
     }
 }

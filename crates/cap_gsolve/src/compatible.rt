@@ -31,18 +31,13 @@ fn is_never(there: &Form, wanted: &Form) -> bool
     match wanted {
         Form::One => match there {
             Form::One => true,
-            Form::Share(_) => false,
-            Form::Src(_) => false,
-            Form::Tok(_) => false,
+            Form::Share(_) | Form::Src(_) | Form::Tok(_) => false,
         },
         Form::Src(_) => match there {
             Form::Src(_) => true,
-            Form::One => false,
-            Form::Share(_) => false,
-            Form::Tok(_) => false,
+            Form::One | Form::Share(_) | Form::Tok(_) => false,
         },
-        Form::Share(_) => false,
-        Form::Tok(_) => false,
+        Form::Share(_) | Form::Tok(_) => false,
     }
 }
 

@@ -87,9 +87,7 @@ fn past(algebra: &Algebra, first: u64) -> u64
     ensures { result ≡ first + atoms (algebra_view algebra.now) }
 {
     match algebra {
-        Algebra::Unique => first + 1,
-        Algebra::Divisible => first + 1,
-        Algebra::Counting => first + 1,
+        Algebra::Unique | Algebra::Divisible | Algebra::Counting => first + 1,
         Algebra::Pair(a, b) => past(b, past(a, first)),
         Algebra::Either(a, b) => past(b, past(a, first)),
     }

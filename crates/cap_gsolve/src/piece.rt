@@ -20,9 +20,7 @@ impl Form {
         ensures { result ≡ is_surely_some self.now }
     {
         match self {
-            Form::One => true,
-            Form::Share(_) => true,
-            Form::Src(_) => true,
+            Form::One | Form::Share(_) | Form::Src(_) => true,
             Form::Tok(count) => count.parts().is_empty() && count.constant_part() >= 1,
         }
     }

@@ -137,7 +137,7 @@ composed-not-unit x y z h e = elim (true_or_false (is_unit z)) [
 
 -- ---- what is full composes with nothing else
 
-bind-none : {A B : Type 0} (o : Option A) → ◌≡◌ {A = Option B} (bind o (λ x. None)) None
+pub bind-none : {A B : Type 0} (o : Option A) → ◌≡◌ {A = Option B} (bind o (λ x. None)) None
 bind-none None = refl
 bind-none (Some x) = refl
 

@@ -1,34 +1,37 @@
 use Rattle.std.proofs.Common.{◌≡◌, Ok, Err, Some, ap}
 use Rattle.cap_galg.specs.declared.either.Either.{Either}
+use Rattle.std.proofs.lemmas.Result.{err_from_is_err_and}
 use Rattle.cap_galg.specs.Elements.{Element, in_left, in_right}
 use Rattle.cap_galg.specs.Views.{side_element}
-use Rattle.cap_galg.proofs.Sides.{in-left-one, in-right-one, one-some, one-error, error-at}
+use Rattle.cap_galg.proofs.Sides.{in-left-one, in-right-one, one-some, one-error, error-at, error-is}
 use Rattle.cap_galg.proofs.either.EitherGuard.compose.Goals as goal
 
-pub returns-in-Ok-Some-clause-composed : goal.returns-in-Ok-Some-clause-composed
-returns-in-Ok-Some-clause-composed g c =
-    let n : c.compose.result ≡ Ok (Some c.in-Ok-Some.z) = cc in
+pub returns-in-Some-clause-composed : goal.returns-in-Some-clause-composed
+returns-in-Some-clause-composed g c =
+    let n : c.compose.result ≡ Ok (Some c.in-Some.z) = cc in
     rw (c.in-Left.is, c.in-Left-other.is)
-    (one-some g.A.Guard.element _ _ _ _ in_left c.compose.result c.in-Ok-Some.z (in-left-one (g.A.Guard.element c.in-Left.x) (g.A.Guard.element c.in-Left-other.y) (g.met.A.Guard.lawful c.in-Left.x c.in-Left-other.y (rw (c.in-Left.is, c.in-Left-other.is) at c.requires))) c.compose.ensures.composed n)
+    (one-some g.A.Guard.element _ _ _ _ in_left c.compose.result c.in-Some.z (in-left-one (g.A.Guard.element c.in-Left.x) (g.A.Guard.element c.in-Left-other.y) (g.met.A.Guard.lawful c.in-Left.x c.in-Left-other.y (rw (c.in-Left.is, c.in-Left-other.is) at c.requires))) c.compose.ensures.composed n)
 
-pub returns-in-Err-clause-composed : goal.returns-in-Err-clause-composed
-returns-in-Err-clause-composed g c =
-    let n : c.compose.result ≡ Err c.in-Err.e = cc in
+pub returns-in_err-z-in-Left-other-clause-composed : goal.returns-in_err-z-in-Left-other-clause-composed
+returns-in_err-z-in-Left-other-clause-composed g c =
+    let n : c.compose.result ≡ Err c.in_err-z-in-Left-other.field-0.0 = c.in_err-z-in-Left-other.was in
     let f = g.A.Guard.element in
     let v : Either g.row.A.Denot g.row.B.Denot → Element = side_element f g.B.Guard.element in
-    error-at {T = Either g.row.A.Denot g.row.B.Denot} v (in_left (f c.in-Left.x)) (v c.args.self.now) (in_left (f c.in-Left-other.y)) (v c.args.other.now) c.in-Err.e (ap v c.in-Left.is) (ap v c.in-Left-other.is)
-    (one-error {T = Either g.row.A.Denot g.row.B.Denot} f v (in_left (f c.in-Left.x)) (in_left (f c.in-Left-other.y)) (f c.in-Left.x) (f c.in-Left-other.y) in_left c.compose.result c.in-Err.e (in-left-one (f c.in-Left.x) (f c.in-Left-other.y) (g.met.A.Guard.lawful c.in-Left.x c.in-Left-other.y (rw (c.in-Left.is, c.in-Left-other.is) at c.requires))) c.compose.ensures.composed n)
+    error-is {T = Either g.row.A.Denot g.row.B.Denot} v (v c.args.self.now) (v c.args.other.now) c.from_residual.result c.in_err-z-in-Left-other.field-0.0 (err_from_is_err_and c.from_residual.result c.from_residual.ensures.1)
+    (error-at {T = Either g.row.A.Denot g.row.B.Denot} v (in_left (f c.in-Left.x)) (v c.args.self.now) (in_left (f c.in-Left-other.y)) (v c.args.other.now) c.in_err-z-in-Left-other.field-0.0 (ap v c.in-Left.is) (ap v c.in-Left-other.is)
+    (one-error {T = Either g.row.A.Denot g.row.B.Denot} f v (in_left (f c.in-Left.x)) (in_left (f c.in-Left-other.y)) (f c.in-Left.x) (f c.in-Left-other.y) in_left c.compose.result c.in_err-z-in-Left-other.field-0.0 (in-left-one (f c.in-Left.x) (f c.in-Left-other.y) (g.met.A.Guard.lawful c.in-Left.x c.in-Left-other.y (rw (c.in-Left.is, c.in-Left-other.is) at c.requires))) c.compose.ensures.composed n))
 
-pub returns-in-Ok-Some-compose-clause-composed : goal.returns-in-Ok-Some-compose-clause-composed
-returns-in-Ok-Some-compose-clause-composed g c =
-    let n : c.compose-in-Right-other-2.result ≡ Ok (Some c.in-Ok-Some-compose.z) = cc in
+pub returns-in-Some-2-clause-composed : goal.returns-in-Some-2-clause-composed
+returns-in-Some-2-clause-composed g c =
+    let n : c.compose-in-Right-other-2.result ≡ Ok (Some c.in-Some-2.z) = cc in
     rw (c.in-Right.is, c.in-Right-other-2.is)
-    (one-some g.B.Guard.element _ _ _ _ in_right c.compose-in-Right-other-2.result c.in-Ok-Some-compose.z (in-right-one (g.B.Guard.element c.in-Right.x) (g.B.Guard.element c.in-Right-other-2.y) (g.met.B.Guard.lawful c.in-Right.x c.in-Right-other-2.y (rw (c.in-Right.is, c.in-Right-other-2.is) at c.requires))) c.compose-in-Right-other-2.ensures.composed n)
+    (one-some g.B.Guard.element _ _ _ _ in_right c.compose-in-Right-other-2.result c.in-Some-2.z (in-right-one (g.B.Guard.element c.in-Right.x) (g.B.Guard.element c.in-Right-other-2.y) (g.met.B.Guard.lawful c.in-Right.x c.in-Right-other-2.y (rw (c.in-Right.is, c.in-Right-other-2.is) at c.requires))) c.compose-in-Right-other-2.ensures.composed n)
 
-pub returns-in-Err-compose-clause-composed : goal.returns-in-Err-compose-clause-composed
-returns-in-Err-compose-clause-composed g c =
-    let n : c.compose-in-Right-other-2.result ≡ Err c.in-Err-compose.e = cc in
+pub returns-in_err-z-in-Right-other-2-clause-composed : goal.returns-in_err-z-in-Right-other-2-clause-composed
+returns-in_err-z-in-Right-other-2-clause-composed g c =
+    let n : c.compose-in-Right-other-2.result ≡ Err c.in_err-z-in-Right-other-2.field-0.0 = c.in_err-z-in-Right-other-2.was in
     let f = g.B.Guard.element in
     let v : Either g.row.A.Denot g.row.B.Denot → Element = side_element g.A.Guard.element f in
-    error-at {T = Either g.row.A.Denot g.row.B.Denot} v (in_right (f c.in-Right.x)) (v c.args.self.now) (in_right (f c.in-Right-other-2.y)) (v c.args.other.now) c.in-Err-compose.e (ap v c.in-Right.is) (ap v c.in-Right-other-2.is)
-    (one-error {T = Either g.row.A.Denot g.row.B.Denot} f v (in_right (f c.in-Right.x)) (in_right (f c.in-Right-other-2.y)) (f c.in-Right.x) (f c.in-Right-other-2.y) in_right c.compose-in-Right-other-2.result c.in-Err-compose.e (in-right-one (f c.in-Right.x) (f c.in-Right-other-2.y) (g.met.B.Guard.lawful c.in-Right.x c.in-Right-other-2.y (rw (c.in-Right.is, c.in-Right-other-2.is) at c.requires))) c.compose-in-Right-other-2.ensures.composed n)
+    error-is {T = Either g.row.A.Denot g.row.B.Denot} v (v c.args.self.now) (v c.args.other.now) c.from_residual-in_err-z-in-Right-other-2.result c.in_err-z-in-Right-other-2.field-0.0 (err_from_is_err_and c.from_residual-in_err-z-in-Right-other-2.result c.from_residual-in_err-z-in-Right-other-2.ensures.1)
+    (error-at {T = Either g.row.A.Denot g.row.B.Denot} v (in_right (f c.in-Right.x)) (v c.args.self.now) (in_right (f c.in-Right-other-2.y)) (v c.args.other.now) c.in_err-z-in-Right-other-2.field-0.0 (ap v c.in-Right.is) (ap v c.in-Right-other-2.is)
+    (one-error {T = Either g.row.A.Denot g.row.B.Denot} f v (in_right (f c.in-Right.x)) (in_right (f c.in-Right-other-2.y)) (f c.in-Right.x) (f c.in-Right-other-2.y) in_right c.compose-in-Right-other-2.result c.in_err-z-in-Right-other-2.field-0.0 (in-right-one (f c.in-Right.x) (f c.in-Right-other-2.y) (g.met.B.Guard.lawful c.in-Right.x c.in-Right-other-2.y (rw (c.in-Right.is, c.in-Right-other-2.is) at c.requires))) c.compose-in-Right-other-2.ensures.composed n))
