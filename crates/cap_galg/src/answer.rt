@@ -3,8 +3,8 @@ ghost use Rattle.cap_galg.specs.Answers.{paired};
 
 use crate::error::GuardError;
 
-// The answers for two parts, as one answer: nothing where either is nothing, else the first want of
-// memory, else Wide.
+/// The answers for two parts, as one answer: nothing where either is nothing, else the first want of
+/// memory, else Wide.
 pub fn paired_answer<A: Drop, B: Drop>(
     first: Result<Option<A>, GuardError>,
     second: Result<Option<B>, GuardError>,

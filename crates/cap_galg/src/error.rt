@@ -11,6 +11,7 @@ pub enum GuardError {
     /// count, passes 64 bits.
     #[error("a number passes 64 bits")]
     Wide,
+    /// Memory ran out.
     #[error("out of memory")]
     OutOfMemory,
 }

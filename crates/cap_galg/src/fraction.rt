@@ -67,7 +67,7 @@ fn reduced(num: u128, den: u128) -> Result<Fraction, GuardError>
     })
 }
 
-// The sum, where it is at most 1.
+/// The sum, where it is at most 1.
 pub fn sum(a: Fraction, b: Fraction) -> Result<Option<Fraction>, GuardError>
     requires a { IsShare a }
     requires b { IsShare b }
@@ -82,7 +82,7 @@ pub fn sum(a: Fraction, b: Fraction) -> Result<Option<Fraction>, GuardError>
     Ok(Some(reduced(first + second, whole)?))
 }
 
-// Whether a fraction is at most another, by their cross products.
+/// Whether a fraction is at most another, by their cross products.
 pub fn is_at_most(a: Fraction, b: Fraction) -> bool
     ensures { result ≡ nat_le (a.num * b.den) (b.num * a.den) }
 {

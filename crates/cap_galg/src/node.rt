@@ -9,8 +9,8 @@ use crate::error::GuardError;
 use crate::fraction::{Fraction, is_at_most, sum};
 use std::alloc::{AllocError, Global};
 
-// An element of some algebra. A pair isn't two units, and what stands on a side of a sum is neither
-// unit nor full there.
+/// An element of some algebra. A pair isn't two units, and what stands on a side of a sum is neither
+/// unit nor full there.
 #[derive(Debug, Drop)]
 pub enum Node {
     Nothing,
@@ -25,6 +25,7 @@ pub enum Node {
 }
 
 impl Node {
+    /// The same element once more.
     pub fn copy(&self, alloc: Global) -> Result<Node, AllocError>
         ensures { IfOk result (λ n. node_view n ≡ node_view self.now) }
     {
@@ -44,12 +45,14 @@ impl Node {
         }
     }
 
+    /// Whether it is no part at all.
     pub fn is_unit(&self) -> bool
         ensures { result ≡ is_unit (node_view self.now) }
     {
         matches!(self, Node::Nothing)
     }
 
+    /// Whether it composes with no part but the unit.
     pub fn is_full(&self) -> bool
         ensures { result ≡ is_full (node_view self.now) }
     {
@@ -65,6 +68,7 @@ impl Node {
         }
     }
 
+    /// Whether some element completes this one to the other.
     pub fn le(&self, other: &Node) -> bool
         ensures { result ≡ at_most (node_view self.now) (node_view other.now) }
     {
@@ -161,6 +165,8 @@ impl Node {
         }
     }
 
+    /// What two elements compose to, and nothing where they don't compose. Wide comes where they do, and
+    /// a denominator in lowest terms, or a count, passes 64 bits.
     pub fn compose(&self, alloc: Global, other: &Node) -> Result<Option<Node>, GuardError>
         requires shares { HasShares (node_view self.now) }
         requires other_shares { HasShares (node_view other.now) }
@@ -307,7 +313,7 @@ fn given_back(out: u64, count: u64) -> Option<Node>
     }
 }
 
-// An element of a sum that its left side has, where it isn't the unit.
+/// An element of a sum that its left side has, where it isn't the unit.
 pub fn on_left(alloc: Global, side: Node) -> Result<Node, AllocError>
     ensures { IfOk result (λ n. node_view n ≡ made_left (node_view side)) }
 {
@@ -317,7 +323,7 @@ pub fn on_left(alloc: Global, side: Node) -> Result<Node, AllocError>
     Ok(Node::Left(Box::new(alloc, side)?))
 }
 
-// An element of a sum that its right side has, where it isn't the unit.
+/// An element of a sum that its right side has, where it isn't the unit.
 pub fn on_right(alloc: Global, side: Node) -> Result<Node, AllocError>
     ensures { IfOk result (λ n. node_view n ≡ made_right (node_view side)) }
 {

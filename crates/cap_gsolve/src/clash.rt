@@ -23,7 +23,7 @@ fn clashes_at(
         && piece.form.is_surely_some()
 }
 
-// Whether some piece stands on another side of a sum than a form, both surely some parts.
+/// Whether some piece stands on another side of a sum than a form, both surely some parts.
 pub fn clashes(
     algebra: &Algebra,
     pieces: &[Piece],

@@ -12,7 +12,7 @@ use crate::rows::{push_false, push_row};
 use cap_lin::{LinError, Op, Row, Sort, Term};
 use std::alloc::Global;
 
-// The sum of two shares, and the row that it is at most 1.
+/// The sum of two shares, and the row that it is at most 1.
 pub fn sum_of_shares(
     alloc: Global,
     rows: &mut Vec<Row>,
@@ -45,7 +45,7 @@ fn kept(alloc: Global, rows: &mut Vec<Row>, there: &Form) -> Result<Form, LinErr
     Ok(form)
 }
 
-// What the form that is there and a new one become, and the rows that then hold.
+/// What the form that is there and a new one become, and the rows that then hold.
 pub fn combine(
     alloc: Global,
     rows: &mut Vec<Row>,

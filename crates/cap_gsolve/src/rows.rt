@@ -7,7 +7,7 @@ use crate::piece::Form;
 use cap_lin::{LinError, Op, Row, Sort, Term};
 use std::alloc::Global;
 
-// Appends the row of a comparison.
+/// Appends the row of a comparison.
 pub fn push_row(
     alloc: Global,
     rows: &mut Vec<Row>,
@@ -23,7 +23,7 @@ pub fn push_row(
     Ok(())
 }
 
-// Appends the row that never holds.
+/// Appends the row that never holds.
 pub fn push_false(alloc: Global, rows: &mut Vec<Row>) -> Result<(), LinError>
     ensures { IsMade result false_steps (λ _. rows.new.items ≡ rows.old.items ++ (false_row ∷ [])) }
 {
@@ -32,7 +32,7 @@ pub fn push_false(alloc: Global, rows: &mut Vec<Row>) -> Result<(), LinError>
     push_row(alloc, rows, &zero, Op::Eq, &one, Sort::Int)
 }
 
-// An amount is above 0, and a count is at least 0.
+/// An amount is above 0, and a count is at least 0.
 pub fn push_added(alloc: Global, rows: &mut Vec<Row>, form: &Form) -> Result<(), LinError>
     ensures { IsMade result (added_steps form.now) (λ _. rows.new.items ≡ rows.old.items ++ added_rows form.now) }
 {
@@ -45,7 +45,7 @@ pub fn push_added(alloc: Global, rows: &mut Vec<Row>, form: &Form) -> Result<(),
     }
 }
 
-// An amount alone is at most 1.
+/// An amount alone is at most 1.
 pub fn push_lone(alloc: Global, rows: &mut Vec<Row>, form: &Form) -> Result<(), LinError>
     ensures { IsMade result (lone_steps form.now) (λ _. rows.new.items ≡ rows.old.items ++ lone_rows form.now) }
 {
