@@ -140,11 +140,9 @@ merge-means a ps p g part v e fits fit h = (holds, rows)
 -- ---- wanted atoms
 
 clashes-none : (a : PlainAlgebra) (ps : List Piece) (r : Linear) (k : ℕ) → clashes_some a ps r k [] ≡ false
-unfolding clashes_some
 clashes-none a ps r k = refl
 
 clashes-cons : (a : PlainAlgebra) (ps : List Piece) (r : Linear) (k : ℕ) (w : ℕ × Form) (ws : List (ℕ × Form)) → clashes_some a ps r k (w ∷ ws) ≡ (clashes_with a ps r k w || clashes_some a ps r k ws)
-unfolding clashes_some
 clashes-cons a ps r k w ws = refl
 
 wanted-none : (ps : List Piece) (r : Linear) (k : ℕ) → wanted_rows ps r k [] ≡ []
