@@ -131,8 +131,8 @@ impl Algebra {
         }
     }
 
-    /// Whether the algebra has two atoms, and they stand on two sides of a sum, so that no thread
-    /// holds a part of both.
+    /// Whether the algebra has two atoms, and they stand on two sides of a sum, so that parts of the
+    /// one and of the other never compose, unless one of them is the unit.
     pub fn are_apart(&self, i: u32, j: u32) -> bool
         ensures { result ≡ are_apart (algebra_view self.now) i j }
     {

@@ -1,10 +1,12 @@
 //! Laws of guard elements, each the contract of a function that does nothing.
 ghost use Rattle.std.specs.Prelude.{◌≡◌, List, Some};
 ghost use Rattle.std.specs.List.{All};
-ghost use Rattle.cap_galg.specs.Elements.{Element, on_left, on_right};
+ghost use Rattle.cap_galg.specs.Elements.{Element, bind, compose, on_left, on_right};
 ghost use Rattle.cap_galg.specs.Algebras.{PlainAlgebra, sum, full, AtMost};
 ghost use Rattle.cap_galg.specs.Lists.{compose_all};
 ghost use Rattle.cap_galg.specs.Portions.{Portion, IsPortion, held_elements, wanted_elements};
+
+use crate::guard::Guard;
 
 /// Where held pieces compose all together, and of each one an element of its atom is wanted that is
 /// at most the held one, the wanted elements compose all together, to an element that is at most
@@ -18,4 +20,10 @@ pub fn portions_compose()
 /// side may be given back as all of the other.
 pub fn fulls_of_both_sides()
     ensures { (a b : PlainAlgebra) → (on_left (full a) ≡ full (sum a b)) × (on_right (full b) ≡ full (sum a b)) }
+{}
+
+/// Of three parts of a guard, it is the same to compose the first with the second and then with the
+/// third, and the first with what the second and the third compose to; also whether they compose.
+pub fn parts_are_associative<A: Guard>()
+    ensures { (x y z : A) → bind (compose (A.element x) (A.element y)) (λ u. compose u (A.element z)) ≡ bind (compose (A.element y) (A.element z)) (λ u. compose (A.element x) u) }
 {}

@@ -26,7 +26,7 @@ pub use elem::Elem;
 pub use error::GuardError;
 pub use fraction::Fraction;
 pub use guard::Guard;
-pub use laws::{fulls_of_both_sides, portions_compose};
+pub use laws::{fulls_of_both_sides, parts_are_associative, portions_compose};
 pub use pair::Pair;
 pub use unique::Unique;
 

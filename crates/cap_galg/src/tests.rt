@@ -142,6 +142,9 @@ fn composes_in_a_sum_of_a_product(rt: HostRuntime) -> Result<(), Fail> {
     let sum = both(&rt, alloc, &one, &source)?;
     assert!(rt; equal(&rt, &sum, &other));
     assert!(rt; at_most(&rt, &one, &other));
+    let again = one.copy(alloc)?;
+    assert!(rt; equal(&rt, &again, &one));
+    assert!(rt; !equal(&rt, &again, &other));
     Ok(())
 }
 
@@ -178,6 +181,7 @@ fn a_divisible_part_keeps_its_fraction(rt: HostRuntime) -> Result<(), Fail> {
     assert_eq!(rt; more.fraction(), Fraction { num: 2, den: 3 });
     assert!(rt; more.compose(alloc, &more)?.is_none());
     assert!(rt; !part.is_unit());
+    assert_eq!(rt; more.copy(alloc)?, more);
     Ok(())
 }
 
