@@ -16,5 +16,8 @@ pushed-twice f forms (Ok next) before between after xs first second n m p q h =
     (omega (arith, h.0), h.1 ∙ ap (λ l. l ++ map f (forms second)) q ∙ append_assoc before (map f xs) (map f (forms second)) ∙ ap (λ l. before ++ l) (sym (map-append f xs (forms second))) ∙ ap (λ k. before ++ map f (xs ++ forms k)) p)
 pushed-twice f forms (Err e) before between after xs first second n m p q h = h
 
-pub pushed-once : (first second n m past : ℕ) → second ≡ first + n → past ≡ second + m → past ≡ first + (n + m)
-pushed-once first second n m past p q = omega arith
+-- and what comes second adds nothing to the list
+pub pushed-once : {P : Type 0} (r : Result ℕ LinError) (first second n m : ℕ) → second ≡ first + n → P → MatchResult r (λ next. next ≡ second + m) (λ e. e ≡ OutOfMemory)
+    → MatchResult r (λ next. (next ≡ first + (n + m)) × P) (λ e. e ≡ OutOfMemory)
+pushed-once (Ok next) first second n m p q h = (omega arith, q)
+pushed-once (Err e) first second n m p q h = h

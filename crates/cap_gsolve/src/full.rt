@@ -10,16 +10,15 @@ use cap_galg::Algebra;
 use cap_lin::{LinError, Term};
 use std::alloc::Global;
 
-/// The pieces that hold all of a region's guards: all of each atom, and of a sum its left side. The
-/// numbers of atoms are within 32 bits. It is never Wide. Under each valuation the pieces compose to
-/// the full element.
+/// The pieces that hold all of a region's guards: all of each atom, and of a sum its left side. It is
+/// never Wide; an atom whose number passes 32 bits counts as want of memory. Under each valuation the
+/// pieces compose to the full element.
 pub fn full_pieces(
     alloc: Global,
     algebra: &Algebra,
     region: &Term,
     kind: u32,
 ) -> Result<Vec<Piece>, LinError>
-    requires { atoms (algebra_view algebra.now) ≤ 2 ^ 32 }
     ensures exact { MatchResult result (λ ps. ps.items ≡ pieces_of_all (algebra_view algebra.now) region.now kind) (λ e. e ≡ OutOfMemory) }
     ensures means { IfOk result (λ ps. AreAll (algebra_view algebra.now) region.now kind ps.items) }
 {
@@ -36,7 +35,6 @@ fn push_full(
     first: u64,
     pieces: &mut Vec<Piece>,
 ) -> Result<u64, LinError>
-    requires { first + atoms (algebra_view algebra.now) ≤ 2 ^ 32 }
     ensures { MatchResult result (λ next. (next ≡ first + atoms (algebra_view algebra.now)) × (pieces.new.items ≡ pieces.old.items ++ map (λ p. piece region.now kind p.0 p.1) (full_forms (algebra_view algebra.now) first))) (λ e. e ≡ OutOfMemory) }
 {
     match algebra {
@@ -55,7 +53,7 @@ fn push_full(
         }
         Algebra::Either(a, b) => {
             let second = push_full(alloc, a, region, kind, first, pieces)?;
-            Ok(past(b, second))
+            past(b, second)
         }
     }
 }
@@ -68,9 +66,11 @@ fn push(
     form: Form,
     pieces: &mut Vec<Piece>,
 ) -> Result<u64, LinError>
-    requires { atom + 1 ≤ 2 ^ 32 }
     ensures { MatchResult result (λ next. (next ≡ atom + 1) × (pieces.new.items ≡ pieces.old.items ++ (piece region.now kind atom form ∷ []))) (λ e. e ≡ OutOfMemory) }
 {
+    if atom > u32::MAX as u64 {
+        return Err(LinError::OutOfMemory);
+    }
     let region = region.copy(alloc)?;
     pieces.push(Piece {
         region,
@@ -82,13 +82,13 @@ fn push(
 }
 
 // The number behind the algebra's atoms, where they begin at a number.
-fn past(algebra: &Algebra, first: u64) -> u64
-    requires { first + atoms (algebra_view algebra.now) ≤ 2 ^ 32 }
-    ensures { result ≡ first + atoms (algebra_view algebra.now) }
+fn past(algebra: &Algebra, first: u64) -> Result<u64, LinError>
+    ensures { MatchResult result (λ next. next ≡ first + atoms (algebra_view algebra.now)) (λ e. e ≡ OutOfMemory) }
 {
     match algebra {
-        Algebra::Unique | Algebra::Divisible | Algebra::Counting => first + 1,
-        Algebra::Pair(a, b) => past(b, past(a, first)),
-        Algebra::Either(a, b) => past(b, past(a, first)),
+        Algebra::Unique | Algebra::Divisible | Algebra::Counting => {
+            first.checked_add(1).ok_or(LinError::OutOfMemory)
+        }
+        Algebra::Pair(a, b) | Algebra::Either(a, b) => past(b, past(a, first)?),
     }
 }

@@ -138,7 +138,8 @@ fn composed_in(
 /// stands in the place of the piece of its part, or else as the last. Wide comes where a number of
 /// the new form or of a row leaves 128 bits, with the first such number's operands. Where a part of
 /// the guards holds the old pieces and the new one together, it holds the merged pieces and the rows
-/// hold.
+/// hold, if the new piece and each piece of its kind has an atom of the algebra and a form that fits
+/// it.
 pub fn merge(
     alloc: Global,
     algebra: &Algebra,

@@ -20,11 +20,7 @@ fn two(alloc: Global, first: Algebra, second: Algebra) -> Result<Algebra, AllocE
 
 // The row's constant, its coefficients of the variables 0 and 1, its kind and its sort.
 fn is_row(row: &Row, constant: i128, first: i128, second: i128, kind: Kind, sort: Sort) -> bool {
-    row.term.constant_part() == constant
-        && row.term.coefficient(0) == first
-        && row.term.coefficient(1) == second
-        && row.kind == kind
-        && row.sort == sort
+    is_term(&row.term, constant, first, second) && row.kind == kind && row.sort == sort
 }
 
 fn is_false(row: &Row) -> bool {
@@ -35,10 +31,24 @@ fn is_false(row: &Row) -> bool {
 fn share(piece: &Piece) -> Option<&Term> {
     match &piece.form {
         Form::Share(amount) => Some(amount),
-        Form::One => None,
-        Form::Src(_) => None,
-        Form::Tok(_) => None,
+        Form::One | Form::Src(_) | Form::Tok(_) => None,
     }
+}
+
+// How many tokens are out of a source.
+fn out(piece: &Piece) -> Option<&Term> {
+    match &piece.form {
+        Form::Src(out) => Some(out),
+        Form::One | Form::Share(_) | Form::Tok(_) => None,
+    }
+}
+
+// Whether a term is a constant and multiples of the variables 0 and 1.
+fn is_term(term: &Term, constant: i128, first: i128, second: i128) -> bool {
+    term.constant_part() == constant
+        && term.coefficient(0) == first
+        && term.coefficient(1) == second
+        && term.parts().len() == (first != 0) as usize + (second != 0) as usize
 }
 
 #[test]
@@ -48,9 +58,13 @@ fn a_share_alone_is_above_0_and_at_most_1(rt: HostRuntime) -> Result<(), Fail> {
     let (pieces, rows) = merge(alloc, &Algebra::Divisible, &[], &new)?;
     assert_eq!(rt; pieces.len(), 1);
     assert!(rt; pieces[0].is_part_of(&new));
+    assert!(rt; is_term(share(&pieces[0]).ok_or("a share")?, 0, 1, 0));
     assert_eq!(rt; rows.len(), 2);
     assert!(rt; is_row(&rows[0], 0, -1, 0, Kind::Lt, Sort::Perm));
     assert!(rt; is_row(&rows[1], -1, 1, 0, Kind::Le, Sort::Perm));
+    let again = new.copy(alloc)?;
+    assert!(rt; again.is_part_of(&new));
+    assert!(rt; is_term(share(&again).ok_or("a share")?, 0, 1, 0));
     Ok(())
 }
 
@@ -61,8 +75,7 @@ fn two_shares_are_joined(rt: HostRuntime) -> Result<(), Fail> {
     let new = piece(alloc, 0, Form::Share(Term::var(alloc, 1)?))?;
     let (pieces, rows) = merge(alloc, &Algebra::Divisible, &there, &new)?;
     assert_eq!(rt; pieces.len(), 1);
-    let sum = share(&pieces[0]).ok_or("a share")?;
-    assert_eq!(rt; sum.parts(), [(0, 1), (1, 1)].as_slice());
+    assert!(rt; is_term(share(&pieces[0]).ok_or("a share")?, 0, 1, 1));
     assert_eq!(rt; rows.len(), 2);
     assert!(rt; is_row(&rows[0], 0, 0, -1, Kind::Lt, Sort::Perm));
     assert!(rt; is_row(&rows[1], -1, 1, 1, Kind::Le, Sort::Perm));
@@ -76,6 +89,7 @@ fn tokens_that_come_back_were_out(rt: HostRuntime) -> Result<(), Fail> {
     let new = piece(alloc, 0, Form::Tok(Term::constant(alloc, 1)))?;
     let (pieces, rows) = merge(alloc, &Algebra::Counting, &there, &new)?;
     assert_eq!(rt; pieces.len(), 1);
+    assert!(rt; is_term(out(&pieces[0]).ok_or("a source")?, -1, 1, 0));
     assert_eq!(rt; rows.len(), 2);
     assert!(rt; is_row(&rows[0], -1, 0, 0, Kind::Le, Sort::Int));
     assert!(rt; is_row(&rows[1], 1, -1, 0, Kind::Le, Sort::Int));
@@ -89,6 +103,7 @@ fn what_nobody_holds_at_once(rt: HostRuntime) -> Result<(), Fail> {
     let same = piece(alloc, 0, Form::One)?;
     let (pieces, rows) = merge(alloc, &Algebra::Unique, &there, &same)?;
     assert_eq!(rt; pieces.len(), 1);
+    assert!(rt; matches!(pieces[0].form, Form::One));
     assert_eq!(rt; rows.len(), 1);
     assert!(rt; is_false(&rows[0]));
     // The two sides of a sum.
@@ -96,7 +111,12 @@ fn what_nobody_holds_at_once(rt: HostRuntime) -> Result<(), Fail> {
     let other = piece(alloc, 1, Form::Share(Term::var(alloc, 0)?))?;
     let (pieces, rows) = merge(alloc, &sides, &there, &other)?;
     assert_eq!(rt; pieces.len(), 2);
+    assert!(rt; matches!(pieces[0].form, Form::One));
+    assert!(rt; pieces[1].is_part_of(&other));
+    assert!(rt; is_term(share(&pieces[1]).ok_or("a share")?, 0, 1, 0));
     assert_eq!(rt; rows.len(), 3);
+    assert!(rt; is_row(&rows[0], 0, -1, 0, Kind::Lt, Sort::Perm));
+    assert!(rt; is_row(&rows[1], -1, 1, 0, Kind::Le, Sort::Perm));
     assert!(rt; is_false(&rows[2]));
     Ok(())
 }
@@ -109,9 +129,7 @@ fn all_of_a_sum_is_all_of_its_left_side(rt: HostRuntime) -> Result<(), Fail> {
     let pieces = full_pieces(alloc, &sides, &Term::var(alloc, 9)?, 0)?;
     assert_eq!(rt; pieces.len(), 1);
     assert_eq!(rt; pieces[0].atom, 0);
-    let amount = share(&pieces[0]).ok_or("a share")?;
-    assert_eq!(rt; amount.constant_part(), 1);
-    assert!(rt; amount.parts().is_empty());
+    assert!(rt; is_term(share(&pieces[0]).ok_or("a share")?, 1, 0, 0));
     Ok(())
 }
 

@@ -18,4 +18,4 @@ returns-in_ok-second-in-Either t c =
     let e : algebra_view c.args.algebra.now ≡ sum (algebra_view c.in-Either.a.value) (algebra_view c.in-Either.b.value) = search (rules, the_lemmas) in
     let p = rw c.deref-in-Either.ensures at c.in_ok-second-in-Either.ensures in
     let q = rw c.deref-in-Either-2.ensures at c.past.ensures in
-    rw e (pushed-once c.args.first c.in_ok-second-in-Either.second (atoms (algebra_view c.in-Either.a.value)) (atoms (algebra_view c.in-Either.b.value)) c.past.result p.0 q, p.1)
+    rw e (pushed-once c.past.result c.args.first c.in_ok-second-in-Either.second (atoms (algebra_view c.in-Either.a.value)) (atoms (algebra_view c.in-Either.b.value)) p.0 p.1 q)
