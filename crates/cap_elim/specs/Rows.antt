@@ -83,7 +83,7 @@ arise_given present t k i = do
 abbrev pub arise_combined : List Entry → Linear → Kind → Origin → Elimination (List Entry)
 arise_combined present t k o = if has_parts t then (count t k >>= (λ u. arise present t k o)) else look t k o
 
--- a times a row plus b times another: the row that it is equal to, or the new one, or none
+-- a times a row plus b times another: the new row, or none where it is true or equal to one that is present
 abbrev pub combine : List Entry → ℤ → Entry → ℤ → Entry → Kind → Elimination (List Entry)
 combine present a p b q k = do
   u ← results (combination_steps a p.term b q.term)

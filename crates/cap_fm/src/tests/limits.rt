@@ -14,6 +14,9 @@ const L: i128 = 1267650600228229401496703205376;
 
 const M: i128 = 85070591730234615865843651857942052864;
 
+// the square of the greatest number of 64 signed bits
+const SQUARE: i128 = 85070591730234615847396907784232501249;
+
 fn expect_wide(
     rt: &impl Abort,
     alloc: Global,
@@ -33,12 +36,12 @@ fn expect_wide(
 #[test]
 fn wide_rows(rt: HostRuntime) -> Result<(), Fail> {
     let alloc = rt.alloc();
-    // L v0 - v1 <= 0 and -L v0 + 1 <= 0: L times the first has L L
+    // SQUARE v0 - v1 <= 0 and -SQUARE v0 + 1 <= 0: SQUARE times the first has its square
     expect_wide(
         &rt,
         alloc,
-        &[((0, L, -1), Kind::Le), ((1, -L, 0), Kind::Le)],
-        (L, L),
+        &[((0, SQUARE, -1), Kind::Le), ((1, -SQUARE, 0), Kind::Le)],
+        (SQUARE, SQUARE),
     )?;
     // v0 + M <= 0 and -v0 + M + 1 <= 0
     expect_wide(
