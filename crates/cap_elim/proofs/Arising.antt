@@ -26,11 +26,11 @@ AllHold q rows = AllByRecursion (HoldsEntry q) rows
 
 -- ---- equal rows
 
-both-true : (a b : Bool) → (a && b) ≡ true → (a ≡ true) × (b ≡ true)
+pub both-true : (a b : Bool) → (a && b) ≡ true → (a ≡ true) × (b ≡ true)
 both-true true b e = (refl, e)
 both-true false b e = cc
 
-same-kind : (k l : Kind) → same_kind k l ≡ true → k ≡ l
+pub same-kind : (k l : Kind) → same_kind k l ≡ true → k ≡ l
 same-kind Le Le e = refl
 same-kind Le Lt e = cc
 same-kind Le Eq e = cc

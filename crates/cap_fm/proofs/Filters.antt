@@ -6,7 +6,7 @@ use Rattle.std.proofs.lemmas.List.Elements.{filter-append}
 use Rattle.cap_lin.specs.Linear.{coefficient}
 use Rattle.cap_lin.proofs.Results.{is_zero-yes, is_zero-no}
 use Rattle.cap_elim.specs.Rows.{is_positive, is_negative}
-use Rattle.cap_fm.specs.Views.{lacking_rows}
+use Rattle.cap_fm.specs.Views.{lacking_rows, upper_rows, lower_rows}
 use Rattle.cap_fm.specs.declared.entry.Entry.{Entry}
 
 -- what a list of the elements that pass becomes, with one more element
@@ -17,12 +17,6 @@ filter-no : {X : Type 0} (test : X → Bool) (out xs : List X) (x : X) → test 
 filter-no test out xs x t e = e ∙ sym (filter-append test xs (x ∷ []) ∙ ap (λ b. filter test xs ++ cond b (x ∷ []) []) t ∙ append-nil (filter test xs))
 
 -- ---- by the sign of a coefficient
-
-abbrev pub upper_rows : ℕ → List Entry → List Entry
-upper_rows x ds = filter (λ d. is_positive (coefficient x d.term.parts)) ds
-
-abbrev pub lower_rows : ℕ → List Entry → List Entry
-lower_rows x ds = filter (λ d. is_negative (coefficient x d.term.parts)) ds
 
 pub record IsParted (x : ℕ) (rows without uppers lowers : List Entry) : Type 0 where
   pub lacking : without ≡ lacking_rows x rows

@@ -7,27 +7,10 @@ use Rattle.cap_lin.specs.declared.row.Kind.{Kind}
 use Rattle.cap_lin.specs.declared.row.Kind.TheVariants.{Le, Lt, Eq, Ne}
 use Rattle.cap_elim.specs.Rows.{same_kind, same_row, has_arisen}
 use Rattle.cap_fm.specs.Views.{number_of}
-use Rattle.cap_fm.proofs.Booleans.{true_or_false, both-true, or-later, or-none}
+use Rattle.cap_elim.proofs.Arising.{both-true, same-kind}
+use Rattle.cap_fm.proofs.Booleans.{true_or_false, or-later, or-none}
 
 -- ---- equal rows
-
-kind-is : (k l : Kind) → same_kind k l ≡ true → k ≡ l
-kind-is Le Le e = refl
-kind-is Lt Lt e = refl
-kind-is Eq Eq e = refl
-kind-is Ne Ne e = refl
-kind-is Le Lt e = cc
-kind-is Le Eq e = cc
-kind-is Le Ne e = cc
-kind-is Lt Le e = cc
-kind-is Lt Eq e = cc
-kind-is Lt Ne e = cc
-kind-is Eq Le e = cc
-kind-is Eq Lt e = cc
-kind-is Eq Ne e = cc
-kind-is Ne Le e = cc
-kind-is Ne Lt e = cc
-kind-is Ne Eq e = cc
 
 kind-self : (k : Kind) → same_kind k k ≡ true
 kind-self Le = refl
@@ -36,7 +19,7 @@ kind-self Eq = refl
 kind-self Ne = refl
 
 pub row-is : (t : Linear) (k : Kind) (u : Linear) (l : Kind) → same_row t k u l ≡ true → (t ≡ u) × (k ≡ l)
-row-is t k u l e = let h = both-true (same_kind k l) (same_term t u) e in ((same_term-decides t u).0 h.1, kind-is k l h.0)
+row-is t k u l e = let h = both-true (same_kind k l) (same_term t u) e in ((same_term-decides t u).0 h.1, same-kind k l h.0)
 
 pub row-self : (t : Linear) (k : Kind) → same_row t k t k ≡ true
 row-self t k = rw (kind-self k, (same_term-decides t t).1 refl) refl

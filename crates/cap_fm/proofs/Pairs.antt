@@ -12,11 +12,10 @@ use Rattle.cap_fm.specs.declared.entry.FalseRow.{FalseRow}
 use Rattle.cap_fm.specs.declared.entry.Arisen.TheVariants.{LeftOut, Kept, False}
 use Rattle.cap_fm.specs.declared.stage.Stage.{Stage}
 use Rattle.cap_fm.specs.declared.error.SolveError.{SolveError}
-use Rattle.cap_fm.specs.Views.{stage_view, entry_view, entries_view, false_view, lacking_rows, Fits, IsLast, Grows, IsNumbered, AreNumbered}
+use Rattle.cap_fm.specs.Views.{upper_rows, lower_rows, stage_view, entry_view, entries_view, false_view, lacking_rows, Fits, IsLast, Grows, IsNumbered, AreNumbered}
 use Rattle.cap_fm.specs.Answers.{Explains, Is, Same, Arises, Leaves}
 use Rattle.cap_elim.proofs.Lists.{each-filter}
 use Rattle.cap_fm.proofs.Stages.{all-grow}
-use Rattle.cap_fm.proofs.Filters.{upper_rows, lower_rows}
 use Rattle.cap_fm.proofs.Runs.{then-continues, then-stops, then-fails, same-is, same-explains, same-then, same-refl}
 use Rattle.cap_fm.proofs.Runs.{done-is}
 

@@ -2,7 +2,7 @@
 use Rattle.std.proofs.Common.{◌≡◌, ℕ, ℤ, ◌+◌, ◌<◌, ◌≤◌, List, [], ◌∷◌, ◌++◌, length, drop, get_or, refl, subst, sym, ap, ◌∙◌, Option, Some, None}
 use Rattle.std.specs.Prelude.{Result, Ok, Err, IfOk, IsErr, IsErrAnd, option_map, slice_get}
 use Rattle.std.proofs.lemmas.List.{drop_all}
-use Rattle.std.proofs.lemmas.Option.{slice_get-get_or}
+use Rattle.std.proofs.lemmas.Option.{slice_get-get_or, slice_get_read}
 use Rattle.cap_lin.specs.Linear.{Linear}
 use Rattle.cap_lin.specs.Steps.{Step, first_wide}
 use Rattle.cap_lin.specs.Rows.{below_zero, below_zero_steps, above_zero, above_zero_steps}
@@ -27,7 +27,7 @@ use Rattle.cap_farkas.proofs.Sound.{refuted-excludes, excluded-infeasible}
 use Rattle.cap_fm.specs.Solved.{certificate_of, IsSolved, IsCertified, IsTrueOf, HasSolution}
 use Rattle.cap_fm.specs.declared.solver.Answer.{Answer}
 use Rattle.cap_fm.specs.declared.solver.Answer.TheVariants.{Empty, Solvable}
-use Rattle.cap_fm.proofs.Walks.{row-at, row-here}
+use Rattle.cap_fm.proofs.Walks.{row-here}
 use Rattle.cap_fm.proofs.Runs.{explains-lin, limit-later, explains-earlier, explains-later, explains-steps, steps-narrow}
 
 abbrev Leaf : Type 0
@@ -150,7 +150,7 @@ one-row rows i r s e f = some-same r s (sym e ∙ f)
     some-same r s e = cc
 
 pub the-row : (rows : List Row) (i : ℕ) (r s : Row) → i < length rows → s ≡ get_or rows i s → slice_get rows i ≡ Some r → s ≡ r
-the-row rows i r s l e f = one-row rows i s r (row-at rows i s l e) f
+the-row rows i r s l e f = one-row rows i s r (slice_get_read rows (length rows) i s refl l e) f
 
 -- ---- theorems
 

@@ -2,7 +2,7 @@
 use Rattle.std.proofs.Common.{◌≡◌, ℕ, zero, suc, ◌+◌, ◌-◌, ◌<◌, ◌≤◌, ℤ, pos, ◌+ℤ◌, ◌*ℤ◌, List, [], ◌∷◌, ◌++◌, length, drop, get_or, take, min, arith, refl, subst, sym, ap, ◌∙◌, ◌⊎◌, inl, inr, Option, Some, None}
 use Rattle.std.proofs.lemmas.Int.{ints}
 use Rattle.std.specs.Prelude.{Result, Err, slice_get}
-use Rattle.std.proofs.lemmas.Option.{slice_get-get_or}
+use Rattle.std.proofs.lemmas.Option.{slice_get_read}
 use Rattle.std.proofs.lemmas.List.{map-append, take_more, drop_all}
 use Rattle.std.proofs.lemmas.Bool.{cases_lt}
 use Rattle.cap_elim.specs.Events.{first_limit}
@@ -21,6 +21,7 @@ use Rattle.cap_fm.specs.declared.entry.Entry.{Entry}
 use Rattle.cap_fm.specs.declared.entry.Reached.{Reached}
 use Rattle.cap_fm.specs.declared.error.SolveError.{SolveError}
 use Rattle.cap_fm.specs.declared.stage.Stage.{Stage as Kept}
+use Rattle.cap_elim.proofs.Lists.{each-join, each-left, each-right}
 use Rattle.cap_fm.proofs.Runs.{done-is, then-continues, then-stops, then-fails, same-is, same-explains, same-then}
 
 same-eq : {A : Type 0} (r s : Run A) → r ≡ s → Same r s
@@ -81,30 +82,22 @@ variables-none x rows = refl
 
 -- ---- the least variable
 
-join-lacks : (x : ℕ) (ds es : List Entry) → Lack x ds → Lack x es → Lack x (ds ++ es)
-join-lacks x [] es a b = b
-join-lacks x (d ∷ ds) es a b = (a.0, join-lacks x ds es a.1 b)
-
-lacks-left : (x : ℕ) (ds es : List Entry) → Lack x (ds ++ es) → Lack x ds
-lacks-left x [] es a = tt
-lacks-left x (d ∷ ds) es a = (a.0, lacks-left x ds es a.1)
-
-lacks-right : (x : ℕ) (ds es : List Entry) → Lack x (ds ++ es) → Lack x es
-lacks-right x [] es a = a
-lacks-right x (d ∷ ds) es a = lacks-right x ds es a.1
+-- a variable is in no row of one
+abbrev LacksOne : ℕ → Entry → Type 0
+LacksOne x d = coefficient x d.term.parts ≡ pos 0
 
 pub least-none : (low : ℕ) (ds es : List Entry) → IsLeast low ds None → IsLeast low es None → IsLeast low (ds ++ es) None
-least-none low ds es a b = λ x h. join-lacks x ds es (a x h) (b x h)
+least-none low ds es a b = λ x h. each-join (LacksOne x) ds es (a x h) (b x h)
 
 pub least-right : (low y : ℕ) (ds es : List Entry) → IsLeast low ds None → IsLeast low es (Some y) → IsLeast low (ds ++ es) (Some y)
-least-right low y ds es a b = (b.0, λ h. b.1 (lacks-right y ds es h), λ x h l. join-lacks x ds es (a x h) (b.2 x h l))
+least-right low y ds es a b = (b.0, λ h. b.1 (each-right (LacksOne y) ds es h), λ x h l. each-join (LacksOne x) ds es (a x h) (b.2 x h l))
 
 pub least-left : (low y : ℕ) (ds es : List Entry) → IsLeast low ds (Some y) → IsLeast low es None → IsLeast low (ds ++ es) (Some y)
-least-left low y ds es a b = (a.0, λ h. a.1 (lacks-left y ds es h), λ x h l. join-lacks x ds es (a.2 x h l) (b x h))
+least-left low y ds es a b = (a.0, λ h. a.1 (each-left (LacksOne y) ds es h), λ x h l. each-join (LacksOne x) ds es (a.2 x h l) (b x h))
 
 pub least-both : (low x y z : ℕ) (ds es : List Entry) → (z ≤ x) × (z ≤ y) × ((z ≡ x) ⊎ (z ≡ y)) → IsLeast low ds (Some x) → IsLeast low es (Some y) → IsLeast low (ds ++ es) (Some z)
-least-both low x y z ds es (p, q, inl e) a b = let l = a.0 in (omega arith, λ h. a.1 (subst (λ w. Lack w ds) e (lacks-left z ds es h)), λ w h k. join-lacks w ds es (a.2 w h (omega arith)) (b.2 w h (omega arith)))
-least-both low x y z ds es (p, q, inr e) a b = let l = b.0 in (omega arith, λ h. b.1 (subst (λ w. Lack w es) e (lacks-right z ds es h)), λ w h k. join-lacks w ds es (a.2 w h (omega arith)) (b.2 w h (omega arith)))
+least-both low x y z ds es (p, q, inl e) a b = let l = a.0 in (omega arith, λ h. a.1 (subst (λ w. Lack w ds) e (each-left (LacksOne z) ds es h)), λ w h k. each-join (LacksOne w) ds es (a.2 w h (omega arith)) (b.2 w h (omega arith)))
+least-both low x y z ds es (p, q, inr e) a b = let l = b.0 in (omega arith, λ h. b.1 (subst (λ w. Lack w es) e (each-right (LacksOne z) ds es h)), λ w h k. each-join (LacksOne w) ds es (a.2 w h (omega arith)) (b.2 w h (omega arith)))
 
 pub least-one : (low : ℕ) (d : Entry) (o : Option ℕ) → IsLeastFrom low d.term.parts o → IsLeast low (d ∷ []) o
 least-one low d None h = λ x l. (h x l, tt)
@@ -115,9 +108,6 @@ least-one low d (Some y) h = (h.0, λ l. h.1 l.0, λ x l k. (h.2 x l k, tt))
 pub reach-err : (inputs : ℕ) (z : Kept) (run : Run (List plain.Entry)) (r : Result Reached SolveError) (e : SolveError) → (y : SolveError) × (r ≡ Err y) × (y ≡ e) → Explains e run.events → DoesReach inputs z run r
 reach-err inputs z run r e p h = subst (λ q. DoesReach inputs z run q) (sym p.1) (subst (λ y. Explains y run.events) (sym p.2) h)
 
-pub row-at : (rows : List Row) (i : ℕ) (r : Row) → i < length rows → r ≡ get_or rows i r → slice_get rows i ≡ Some r
-row-at rows i r l e = slice_get-get_or rows i r l ∙ ap Some (sym e)
-
 pub row-here : (rows : List Row) (i : ℕ) (r : Row) → slice_get rows i ≡ Some r → drop i rows ≡ r ∷ drop (i + 1) rows
 row-here [] i r e = cc
 row-here (x ∷ rows) zero r e = let d : x ≡ r = cc in ap (λ y. y ∷ rows) d
@@ -125,13 +115,13 @@ row-here (x ∷ rows) (suc i) r e = let n : suc i + 1 ≡ suc (i + 1) = omega ar
 
 pub inputs-fail : (present : List plain.Entry) (whole : Run (List plain.Entry)) (i : ℕ) (r : Row) (rows : List Row) (s : Stage) (e : SolveError) → i < length rows → r ≡ get_or rows i r → Same whole (inputs present i (drop i rows) s) → Explains e (input present i r.kind r.term s).events → Explains e whole.events
 unfolding inputs
-inputs-fail present whole i r rows s e l q w h = same-explains e whole _ w (rw (row-here rows i r (row-at rows i r l q)) (then-fails (input present i r.kind r.term) (λ more. inputs (present ++ more) (i + 1) (drop (i + 1) rows)) s e h))
+inputs-fail present whole i r rows s e l q w h = same-explains e whole _ w (rw (row-here rows i r (slice_get_read rows (length rows) i r refl l q)) (then-fails (input present i r.kind r.term) (λ more. inputs (present ++ more) (i + 1) (drop (i + 1) rows)) s e h))
 
 pub inputs-contradict : (present : List plain.Entry) (whole : Run (List plain.Entry)) (i : ℕ) (r : Row) (rows : List Row) (s t : Stage) (d : plain.Entry) → i < length rows → r ≡ get_or rows i r → Same whole (inputs present i (drop i rows) s) → Is (contradiction d) t (input present i r.kind r.term s) → Is (contradiction d) t whole
-inputs-contradict present whole i r rows s t d l q w h = same-is _ _ whole _ w (input-stops present i r (drop (i + 1) rows) (drop i rows) s t d (row-here rows i r (row-at rows i r l q)) h)
+inputs-contradict present whole i r rows s t d l q w h = same-is _ _ whole _ w (input-stops present i r (drop (i + 1) rows) (drop i rows) s t d (row-here rows i r (slice_get_read rows (length rows) i r refl l q)) h)
 
 pub inputs-go : (present new all : List plain.Entry) (whole : Run (List plain.Entry)) (i : ℕ) (r : Row) (rows : List Row) (s t : Stage) → i < length rows → r ≡ get_or rows i r → all ≡ present ++ new → Same whole (inputs present i (drop i rows) s) → Is (going new) t (input present i r.kind r.term s) → Same whole (inputs all (i + 1) (drop (i + 1) rows) t)
-inputs-go present new all whole i r rows s t l q a w h = subst (λ p. Same whole (inputs p (i + 1) (drop (i + 1) rows) t)) (sym a) (same-then whole _ _ w (input-next present new i r (drop (i + 1) rows) (drop i rows) s t (row-here rows i r (row-at rows i r l q)) h))
+inputs-go present new all whole i r rows s t l q a w h = subst (λ p. Same whole (inputs p (i + 1) (drop (i + 1) rows) t)) (sym a) (same-then whole _ _ w (input-next present new i r (drop (i + 1) rows) (drop i rows) s t (row-here rows i r (slice_get_read rows (length rows) i r refl l q)) h))
 
 pub inputs-end : (present : List plain.Entry) (whole : Run (List plain.Entry)) (i : ℕ) (rows : List Row) (s : Stage) → length rows ≤ i → Same whole (inputs present i (drop i rows) s) → Is (going present) s whole
 unfolding inputs first_limit

@@ -132,10 +132,11 @@ DoesEach inputs old new kept run r = MatchResult r (λ o. Is (each_view kept o) 
 abbrev pub IsLogged : {A : Type 0} → Result A SolveError → Logged A → Type 0
 IsLogged r l = MatchResult r (λ x. (first_limit l.events ≡ None) × (x ≡ l.value)) (λ e. Explains e l.events)
 
--- the least variable of rows that is at least `low`
+-- a variable that is in no row
 abbrev pub Lack : ℕ → List Entry → Type 0
 Lack x rows = AllByRecursion (λ d. coefficient x d.term.parts ≡ pos 0) rows
 
+-- the least variable of rows that is at least `low`
 abbrev pub IsLeast : ℕ → List Entry → Option ℕ → Type 0
 IsLeast low rows None = (x : ℕ) → low ≤ x → Lack x rows
 IsLeast low rows (Some y) = (low ≤ y) × (Lack y rows → ⊥) × ((x : ℕ) → low ≤ x → x < y → Lack x rows)

@@ -5,7 +5,7 @@ use Rattle.cap_lin.specs.Linear.{Linear, is_zero, coefficient}
 use Rattle.cap_lin.specs.declared.row.Kind.{Kind}
 use Rattle.cap_elim.specs.Runs as plain
 use Rattle.cap_elim.specs.Runs.{going, contradiction, Found}
-use Rattle.cap_elim.specs.Rows.{same_row, has_arisen, is_present}
+use Rattle.cap_elim.specs.Rows.{is_positive, is_negative, same_row, has_arisen, is_present}
 use Rattle.cap_fm.specs.declared.entry.Origin.{Origin}
 use Rattle.cap_fm.specs.declared.entry.Origin.TheVariants.{Given, Combined}
 use Rattle.cap_fm.specs.declared.entry.Entry.{Entry}
@@ -97,3 +97,10 @@ Grows old new = (d : Entry) → IsNumbered old d → IsNumbered new d
 -- the rows that lack a variable
 abbrev pub lacking_rows : ℕ → List Entry → List Entry
 lacking_rows x ds = filter (λ d. is_zero (coefficient x d.term.parts)) ds
+
+-- and those with a positive and with a negative coefficient of it
+abbrev pub upper_rows : ℕ → List Entry → List Entry
+upper_rows x ds = filter (λ d. is_positive (coefficient x d.term.parts)) ds
+
+abbrev pub lower_rows : ℕ → List Entry → List Entry
+lower_rows x ds = filter (λ d. is_negative (coefficient x d.term.parts)) ds

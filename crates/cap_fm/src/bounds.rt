@@ -1,8 +1,6 @@
-ghost use Rattle.std.specs.Prelude.{◌≡◌, ℕ, List, filter, IfOk};
-ghost use Rattle.cap_lin.specs.Linear.{coefficient};
-ghost use Rattle.cap_elim.specs.Rows.{is_positive, is_negative};
+ghost use Rattle.std.specs.Prelude.{◌≡◌, ℕ, List, IfOk};
 ghost use Rattle.cap_elim.specs.Elimination.{lacking, uppers as uppers_of, lowers as lowers_of, combine_bounds as combine_bounds_run, combine_each as combine_each_run, combine_all as combine_all_run};
-ghost use Rattle.cap_fm.specs.Views.{stage_view, entry_view, entries_view, lacking_rows, Fits, AreNumbered, IsNumbered};
+ghost use Rattle.cap_fm.specs.Views.{stage_view, entry_view, entries_view, lacking_rows, upper_rows, lower_rows, Fits, AreNumbered, IsNumbered};
 ghost use Rattle.cap_fm.specs.Answers.{DoesArise, DoesReach, DoesEach};
 
 use crate::arising::combine;
@@ -47,8 +45,8 @@ pub fn by_bounds(
 
 fn part(alloc: Global, rows: Vec<Entry>, variable: u32) -> Result<Parted, AllocError>
     ensures without { IfOk result (λ p. p.without.items ≡ lacking_rows variable rows.items) }
-    ensures uppers { IfOk result (λ p. p.uppers.items ≡ filter (λ d. is_positive (coefficient variable d.term.parts)) rows.items) }
-    ensures lowers { IfOk result (λ p. p.lowers.items ≡ filter (λ d. is_negative (coefficient variable d.term.parts)) rows.items) }
+    ensures uppers { IfOk result (λ p. p.uppers.items ≡ upper_rows variable rows.items) }
+    ensures lowers { IfOk result (λ p. p.lowers.items ≡ lower_rows variable rows.items) }
 {
     let mut without = Vec::new(alloc);
     let mut uppers = Vec::new(alloc);

@@ -42,7 +42,8 @@ fn eliminated(alloc: Global, stage: &mut Stage, rows: &[Row]) -> Result<Reached,
     }
 }
 
-/// It does nothing: a term's `parts` tells that they ascend, and this tells it of each row's term.
+/// Tells that the parts of each row's term ascend, which `Term::parts` tells of one term. It computes
+/// nothing else.
 pub fn terms_ascend(rows: &[Row])
     ensures { RowsAscend rows.now }
 {

@@ -39,14 +39,18 @@ pub struct FalseRow {
 pub enum Arisen {
     /// The row is true, or equal to one that is present.
     LeftOut,
+    /// The row is present from now on.
     Kept(Entry),
+    /// The row has no variables and is false.
     False(FalseRow),
 }
 
 /// Where an elimination has come to: the rows that are present, in order, or a false row.
 #[derive(Debug, Drop)]
 pub enum Reached {
+    /// The rows that are present.
     Rows(Vec<Entry>),
+    /// A false row, which ends the elimination.
     Contradiction(FalseRow),
 }
 

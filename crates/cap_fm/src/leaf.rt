@@ -30,7 +30,8 @@ pub fn leaf(
     checked(alloc, rows, &multipliers)
 }
 
-// Which rows of the history are on the way to the one at a place.
+// Marks the rows of the history that are on the way to the one at a place. An input row's mark has no
+// effect, since its multipliers take no results.
 fn way(alloc: Global, history: &[Origin], last: usize) -> Result<Vec<bool>, AllocError>
     requires history { AreEarlier 0 (map origin_view history.now) }
     requires last { last + 1 ≡ length history.now }

@@ -58,7 +58,7 @@ impl Stage {
         Ok(number)
     }
 
-    /// Whether the row of a number is present; not where no row has it.
+    /// Whether the row of a number is present; false for a number that no row has.
     pub fn is_present(&self, number: usize) -> bool
         ensures { result ≡ get_or self.now.present.items number false }
     {

@@ -4,7 +4,7 @@ use Rattle.std.specs.List.{AllByRecursion as Each}
 use Rattle.cap_galg.specs.Elements.{Element, nothing, bind, compose}
 use Rattle.cap_galg.specs.Algebras.{PlainAlgebra, IsElement}
 use Rattle.cap_galg.specs.Lists.{compose_all}
-use Rattle.cap_galg.specs.Laws.Composition.{bind-is, bind-none, some-same, compose_assoc, compose-comm}
+use Rattle.cap_galg.specs.Laws.Composition.{bind-is, bind-none, some-same, compose_assoc}
 use Rattle.cap_galg.specs.Laws.Algebras.{sound-of, closed}
 use Rattle.cap_galg.proofs.Kept.{Keeps}
 
@@ -41,26 +41,3 @@ all-append a (x ∷ xs) ys h k =
     go None p c d = refl
     go (Some v) None c d = sym (bind-none (compose x v))
     go (Some v) (Some y) c d = sym (compose_assoc x v y (sound-of a x h.0) (sound-of a v (c v refl)) (sound-of a y (d y refl)))
-
--- ---- other ways to compose four
-
--- x with y, then z: y with z first
-later-first : (a : PlainAlgebra) (x y z u t : Element) → IsElement a x → IsElement a y → IsElement a z → compose x y ≡ Some u → compose u z ≡ Some t → (v : Element) × (compose y z ≡ Some v) × (compose x v ≡ Some t)
-later-first a x y z u t h k l e f =
-    bind-is (compose y z) (λ v. compose x v) t (sym (compose_assoc x y z (sound-of a x h) (sound-of a y k) (sound-of a z l)) ∙ ap (λ o. bind o (λ u. compose u z)) e ∙ f)
-
--- x, with y and z: x with y first
-earlier-first : (a : PlainAlgebra) (x y z v t : Element) → IsElement a x → IsElement a y → IsElement a z → compose y z ≡ Some v → compose x v ≡ Some t → (u : Element) × (compose x y ≡ Some u) × (compose u z ≡ Some t)
-earlier-first a x y z v t h k l e f =
-    bind-is (compose x y) (λ u. compose u z) t (compose_assoc x y z (sound-of a x h) (sound-of a y k) (sound-of a z l) ∙ ap (λ o. bind o (λ v. compose x v)) e ∙ f)
-
--- two wholes of two parts each: the first parts together, and the others
-pub parts-together : (a : PlainAlgebra) (w r z s x v y : Element) → IsElement a w → IsElement a r → IsElement a z → IsElement a s → compose w r ≡ Some x → compose z s ≡ Some v → compose x v ≡ Some y
-    → (p : Element) × (q : Element) × (compose w z ≡ Some p) × IsElement a q × (compose p q ≡ Some y)
-parts-together a w r z s x v y hw hr hz hs e f g =
-    let b = later-first a w r v x y hw hr (closed a z s v hz hs f) e g in
-    let c = earlier-first a r z s v b.0 hr hz hs f b.1 in
-    let q = later-first a z r s c.0 b.0 hz hr hs (compose-comm z r ∙ c.1) c.2 in
-    let hq = closed a r s q.0 hr hs q.1 in
-    let p = earlier-first a w z q.0 b.0 y hw hz hq q.2 b.2 in
-    (p.0, q.0, p.1, hq, p.2)

@@ -7,10 +7,11 @@ use Rattle.cap_galg.specs.Algebras.{PlainAlgebra, sum, full, IsElement, AtMost, 
 use Rattle.cap_galg.specs.Lists.{compose_all}
 use Rattle.cap_galg.specs.Portions.{Portion, IsPortion, held_elements, wanted_elements}
 use Rattle.cap_galg.specs.Laws.Composition.{bind-is}
-use Rattle.cap_galg.specs.Laws.Algebras.{full-full}
+use Rattle.cap_galg.specs.Laws.Algebras.{full-full, sound-of}
+use Rattle.cap_galg.specs.Laws.Lists.{below-both}
 use Rattle.cap_galg.specs.Laws.Atoms.{atom-is}
 use Rattle.cap_galg.proofs.Kept.{atom-at_most}
-use Rattle.cap_galg.proofs.Lists.{all-closed, parts-together}
+use Rattle.cap_galg.proofs.Lists.{all-closed}
 
 wanted-are : (a : PlainAlgebra) (ps : List Portion) → Each (IsPortion a) ps → Each (IsElement a) (wanted_elements a ps)
 wanted-are a [] h = tt
@@ -24,8 +25,8 @@ go a (p ∷ ps) y h e =
     let m = atom-at_most a p.atom p.wanted p.held h.0.within h.0.element h.0.completed in
     let hw = wanted-are a (p ∷ ps) h in
     let hz = all-closed a (wanted_elements a ps) t.0 hw.1 t.1 in
-    let k = parts-together a (atom_element a p.atom p.wanted) m.0 t.0 t.2.0 (atom_element a p.atom p.held) r.0 y hw.0 m.1 hz t.2.1 m.2 t.2.2 r.2 in
-    (k.0, ap (λ o. bind o (λ v. compose (atom_element a p.atom p.wanted) v)) t.1 ∙ k.2, (k.1, k.3, k.4))
+    let k = below-both a (atom_element a p.atom p.wanted) t.0 (atom_element a p.atom p.held) r.0 y (sound-of a _ hw.0) (sound-of a t.0 hz) m t.2 r.2 in
+    (k.0, ap (λ o. bind o (λ v. compose (atom_element a p.atom p.wanted) v)) t.1 ∙ k.1, k.2)
 
 pub portions : (a : PlainAlgebra) (ps : List Portion) (y : Element) → All (IsPortion a) ps → compose_all (held_elements a ps) ≡ Some y → (z : Element) × (compose_all (wanted_elements a ps) ≡ Some z) × AtMost a z y
 portions a ps y h e = go a ps y (recursion_from_All (IsPortion a) ps h) e

@@ -76,12 +76,6 @@ one-composition f x y a c make (Err Wide) t p =
     none-of (Some z) e = cc
 one-composition f x y a c make (Err OutOfMemory) t p = tt
 
-pub left-one : (x y : Element) → ByOne (left x) (left y) x y on_left
-left-one x y = record { composed = refl; wide = λ n. refl }
-
-pub right-one : (x y : Element) → ByOne (right x) (right y) x y on_right
-right-one x y = record { composed = refl; wide = λ n. refl }
-
 -- an error says the same, whatever it is the error of
 pub error-composition : {A B : Type 0} (f : A → Element) (g : B → Element) (x y : Element) (e : GuardError) → IsComposition f x y (Err e) → IsComposition g x y (Err e)
 error-composition f g x y Wide p = p
@@ -150,18 +144,6 @@ pair-two a b c d = elim (true_or_false (is_unit a && is_unit b)) [
           composed = pairs-made a b c d (compose a c) (compose b d) f refl refl;
           wide = refl;
         }))
-  ]
-]
-
-pub at_most-pair : (a b c d : Element) → at_most (pair_of a b) (pair_of c d) ≡ (at_most a c && at_most b d)
-at_most-pair a b c d = elim (true_or_false (is_unit a && is_unit b)) [
-  | inl t ↦ let u = both-unit a b t in ap (λ p. at_most p (pair_of c d)) (pair-none a b t) ∙ sym (ap (λ a. at_most a c && at_most b d) u.0 ∙ ap (λ b. at_most b d) u.1)
-  | inr f ↦ elim (true_or_false (is_unit c && is_unit d)) [
-    | inl t ↦
-        let u = both-unit c d t in
-        ap (λ p. at_most (pair_of a b) p) (pair-none c d t) ∙ ap (λ p. at_most p nothing) (pair-some a b f)
-        ∙ sym (ap (λ c. at_most a c && at_most b d) u.0 ∙ ap (λ d. at_most a nothing && at_most b d) u.1 ∙ ap (λ w. w && at_most b nothing) (at_most-nothing a) ∙ ap (λ w. is_unit a && w) (at_most-nothing b) ∙ f)
-    | inr g ↦ ap (λ p. at_most p (pair_of c d)) (pair-some a b f) ∙ ap (at_most (both a b)) (pair-some c d g)
   ]
 ]
 

@@ -18,7 +18,7 @@ use Rattle.cap_gsolve.specs.declared.piece.Piece.{Piece}
 use Rattle.cap_gsolve.specs.Pieces.{piece, full_forms, full_pieces}
 use Rattle.cap_gsolve.specs.Merge.{zero_term, one_term}
 use Rattle.cap_gsolve.specs.Meaning.{IsFormElement, ComposeAt, AreAll}
-use Rattle.cap_gsolve.proofs.Lists.{map-append}
+use Rattle.std.proofs.lemmas.List.{map-append}
 use Rattle.cap_gsolve.proofs.Amounts.{one-amount, zero-value}
 use Rattle.cap_gsolve.proofs.Held.{in-a-row}
 

@@ -10,10 +10,9 @@ use Rattle.cap_lin.specs.declared.error.LinError.{LinError}
 use Rattle.cap_lin.specs.declared.row.Row.{Row}
 use Rattle.cap_galg.specs.Elements.{Element, compose}
 use Rattle.cap_galg.specs.Lists.{compose_all}
-use Rattle.cap_galg.specs.Algebras.{PlainAlgebra, AtMost, atom_algebra}
-use Rattle.cap_galg.specs.Laws.Composition.{true_or_false, bind-is, some-same, IsSound, compose-nothing, sound-composed}
-use Rattle.cap_galg.specs.Laws.Algebras.{sound-of, closed}
-use Rattle.cap_galg.specs.Laws.Lists.{Halves, halved, regrouped, swapped, grouped, exchanged, all-sound}
+use Rattle.cap_galg.specs.Algebras.{PlainAlgebra, atom_algebra}
+use Rattle.cap_galg.specs.Laws.Composition.{true_or_false, bind-is, some-same, compose-nothing}
+use Rattle.cap_galg.specs.Laws.Lists.{Halves, halved, below-both, grouped, exchanged, all-sound}
 use Rattle.cap_gsolve.specs.declared.piece.Form.{Form}
 use Rattle.cap_gsolve.specs.declared.piece.Piece.{Piece}
 use Rattle.cap_gsolve.specs.Made.{IsMade}
@@ -213,17 +212,6 @@ compat-means a ps r k ws v x y z c d e =
     rw (compat-some a ps r k ws w.none) w.rows
 
 -- ---- parts that compose
-
--- elements at most two that compose do so too, to one at most what those compose to
-below-both : (a : PlainAlgebra) (x y p q s : Element) → IsSound x → IsSound y → AtMost a x p → AtMost a y q → compose p q ≡ Some s → (w : Element) × (compose x y ≡ Some w) × AtMost a w s
-below-both a x y p q s sx sy h j e =
-    let sz = sound-of a h.0 h.1 in
-    let sw = sound-of a j.0 j.1 in
-    let m = regrouped x h.0 q p s sx sz (sound-composed y j.0 q sy sw j.2) h.2 e in
-    let n = regrouped y j.0 h.0 q m.middle sy sw sz j.2 (swapped h.0 q (Some m.middle) m.inner) in
-    let c = closed a j.0 h.0 n.middle j.1 h.1 n.inner in
-    let g = grouped x y n.middle m.middle s sx sy (sound-of a n.middle c) n.outer m.outer in
-    (g.middle, g.inner, (n.middle, c, g.outer))
 
 pub parts-compose : PartsCompose
 parts-compose g v first second both ps qs e h j r =

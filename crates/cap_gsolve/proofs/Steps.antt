@@ -1,13 +1,10 @@
 -- Results on the way that follow one another.
-use Rattle.std.proofs.Common.{◌≡◌, List, [], ◌∷◌, ◌++◌, refl, sym, ap, ◌∙◌, None, Result, Ok, Err}
+use Rattle.std.proofs.Common.{◌≡◌, append-nil, List, [], ◌++◌, sym, ◌∙◌, None, Result, Ok, Err}
 use Rattle.cap_lin.specs.Steps.{Step, first_wide}
 use Rattle.cap_lin.specs.Exact.{Explains}
 use Rattle.cap_lin.specs.declared.error.LinError.{LinError}
-use Rattle.cap_lin.proofs.Results.{first_wide-nil, first-narrow, explains_same, explains_first}
+use Rattle.cap_lin.proofs.Results.{first_wide-nil, first-narrow, explains_same}
 use Rattle.cap_gsolve.specs.Made.{IsMade}
-
-pub no-steps : first_wide [] ≡ None
-no-steps = first_wide-nil
 
 -- an answer for the later results, where the earlier ones are within 128 bits
 pub made-later : {T : Type 0} (r : Result T LinError) (xs ys : List Step) (P Q : T → Type 0) → first_wide xs ≡ None → ((x : T) → P x → Q x) → IsMade r ys P → IsMade r (xs ++ ys) Q
@@ -16,15 +13,8 @@ made-later (Err e) xs ys P Q n f h = explains_same e (xs ++ ys) ys (first-narrow
 
 pub nothing-made : {A : Type 0} (rows : List A) → (first_wide [] ≡ None) × (rows ≡ rows ++ [])
 nothing-made rows = (first_wide-nil, sym (append-nil rows))
-  where
-    append-nil : {A : Type 0} (xs : List A) → xs ++ [] ≡ xs
-    append-nil [] = refl
-    append-nil (x ∷ xs) = ap (λ ys. x ∷ ys) (append-nil xs)
 
--- an error of the earlier results, and one of the later ones where the earlier ones are within 128 bits
-pub earlier-error : (e : LinError) (xs ys : List Step) → Explains e xs → Explains e (xs ++ ys)
-earlier-error e xs ys h = explains_first e xs ys h
-
+-- an error of the later results, where the earlier ones are within 128 bits
 pub later-error : (e : LinError) (xs ys : List Step) → first_wide xs ≡ None → Explains e ys → Explains e (xs ++ ys)
 later-error e xs ys n h = explains_same e (xs ++ ys) ys (first-narrow xs ys n) h
 

@@ -1,5 +1,5 @@
 -- The rows of wanted atoms. Of the loop over them each lemma is one way through it.
-use Rattle.std.proofs.Common.{◌≡◌, ℕ, suc, List, [], ◌∷◌, ◌++◌, ◌+◌, ◌<◌, ◌≤◌, length, get_or, drop, add-one, append_assoc, refl, drop-cons, sym, ap, subst, Bool, true, false, ◌∙◌, Option, Some, None, ℤ, Result}
+use Rattle.std.proofs.Common.{◌≡◌, append-nil, ℕ, suc, List, [], ◌∷◌, ◌++◌, ◌+◌, ◌<◌, ◌≤◌, length, get_or, drop, add-one, append_assoc, refl, drop-cons, sym, ap, subst, Bool, true, false, ◌∙◌, Option, Some, None, ℤ, Result}
 use Rattle.std.proofs.lemmas.List.{drop_all}
 use Rattle.cap_lin.specs.Linear.{Linear}
 use Rattle.cap_lin.specs.Steps.{Step, first_wide}
@@ -31,10 +31,6 @@ rows-cons ps r k w ws = refl
 rows-nil : (ps : List Piece) (r : Linear) (k : ℕ) → wanted_rows ps r k [] ≡ []
 unfolding wanted_rows
 rows-nil ps r k = refl
-
-append-nil : {A : Type 0} (xs : List A) → xs ++ [] ≡ xs
-append-nil [] = refl
-append-nil (x ∷ xs) = ap (λ ys. x ∷ ys) (append-nil xs)
 
 -- the first of those that are left
 split-at : (ws : List (ℕ × Form)) (i : ℕ) (w : ℕ × Form) → i < length ws → w ≡ get_or ws i w → drop i ws ≡ w ∷ drop (suc i) ws

@@ -7,7 +7,8 @@ use Rattle.cap_lin.specs.declared.error.LinError.{LinError}
 use Rattle.cap_galg.specs.Algebras.{PlainAlgebra}
 use Rattle.cap_gsolve.specs.declared.piece.Piece.{Piece}
 use Rattle.cap_gsolve.specs.Merge.{added_rows, added_steps, there, met_rows, met_steps, clash, clash_rows, clash_steps, merge_rows, merge_steps}
-use Rattle.cap_gsolve.proofs.Steps.{earlier-error, later-error, both-narrow}
+use Rattle.cap_lin.proofs.Results.{explains_first}
+use Rattle.cap_gsolve.proofs.Steps.{later-error, both-narrow}
 
 steps-are : (a : PlainAlgebra) (ps : List Piece) (p : Piece) → added_steps p.form ++ (met_steps (there ps p) p.form ++ clash_steps (clash a ps p)) ≡ merge_steps a ps p
 unfolding merge_steps
@@ -18,10 +19,10 @@ unfolding merge_rows
 rows-are a ps p = refl
 
 pub added-error : (a : PlainAlgebra) (ps : List Piece) (p : Piece) (e : LinError) → Explains e (added_steps p.form) → Explains e (merge_steps a ps p)
-added-error a ps p e h = subst (Explains e) (steps-are a ps p) (earlier-error e (added_steps p.form) _ h)
+added-error a ps p e h = subst (Explains e) (steps-are a ps p) (explains_first e (added_steps p.form) _ h)
 
 pub met-error : (a : PlainAlgebra) (ps : List Piece) (p : Piece) (e : LinError) → first_wide (added_steps p.form) ≡ None → Explains e (met_steps (there ps p) p.form) → Explains e (merge_steps a ps p)
-met-error a ps p e n h = subst (Explains e) (steps-are a ps p) (later-error e (added_steps p.form) _ n (earlier-error e (met_steps (there ps p) p.form) _ h))
+met-error a ps p e n h = subst (Explains e) (steps-are a ps p) (later-error e (added_steps p.form) _ n (explains_first e (met_steps (there ps p) p.form) _ h))
 
 pub clash-error : (a : PlainAlgebra) (ps : List Piece) (p : Piece) (e : LinError) (c : _) → c ≡ clash a ps p → first_wide (added_steps p.form) ≡ None → first_wide (met_steps (there ps p) p.form) ≡ None → Explains e (clash_steps c) → Explains e (merge_steps a ps p)
 clash-error a ps p e c q n m h = subst (Explains e) (steps-are a ps p) (later-error e (added_steps p.form) _ n (later-error e (met_steps (there ps p) p.form) _ m (subst (λ x. Explains e (clash_steps x)) q h)))

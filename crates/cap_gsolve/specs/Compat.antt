@@ -21,6 +21,7 @@ never (Some One) One = true
 never (Some (Src n)) (Src m) = true
 never g f = false
 
+-- a wanted atom never composes: with the piece of its part, or for one on the other side of a sum
 abbrev pub clashes_with : PlainAlgebra → List Piece → Linear → ℕ → ℕ × Form → Bool
 clashes_with a ps r k w = never (there ps (piece r k w.0 w.1)) w.1 || clashes a ps r k w.0 w.1
 
@@ -32,6 +33,7 @@ abbrev pub share_there : Option Form → Linear
 share_there (Some (Share a)) = a
 share_there g = zero_term
 
+-- the rows of a wanted form and the form that is there
 abbrev pub fits_rows : Option Form → Form → List Row
 fits_rows g (Share e) = row_of (plus e (share_there g)) AtMost one_term Perm ∷ []
 fits_rows (Some (Tok m)) (Src n) = row_of m AtMost n Int ∷ []

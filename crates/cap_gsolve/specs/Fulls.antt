@@ -1,22 +1,26 @@
 -- The elements of full pieces.
-use Rattle.std.specs.Prelude.{ℕ, List, map, ℤ, pos, negsuc}
+use Rattle.std.specs.Prelude.{ℕ, List, [], map, ℤ, pos}
+use Rattle.cap_lin.specs.Linear.{Linear}
 use Rattle.cap_galg.specs.Fractions.{fraction}
-use Rattle.cap_galg.specs.Elements.{Element, one, src, amount, tokens}
+use Rattle.cap_galg.specs.Elements.{Element, nothing, one, src, amount, tokens}
 use Rattle.cap_galg.specs.Algebras.{PlainAlgebra, atom_element}
 use Rattle.cap_gsolve.specs.declared.piece.Form.{Form}
 use Rattle.cap_gsolve.specs.declared.piece.Form.TheVariants.{One, Share, Src, Tok}
 
--- a constant as a count
-abbrev pub count_of : ℤ → ℕ
-count_of (pos n) = n
-count_of (negsuc n) = 0
+-- the element of a count, where a term is a constant that is one
+abbrev pub of_count : (ℕ → Element) → ℤ → List (ℕ × ℤ) → Element
+of_count element (pos n) [] = element n
+of_count element z ps = nothing
 
--- the element of a form whose amounts are constants, of a share 0 or 1
+abbrev pub of_term : (ℕ → Element) → Linear → Element
+of_term element t = of_count element t.constant t.parts
+
+-- the element of a form whose amount is a constant, of a share 0 or 1; a form with variables has none
 abbrev pub constant_element : Form → Element
 constant_element One = one
-constant_element (Share a) = amount (fraction (count_of a.constant) 1)
-constant_element (Src n) = src (count_of n.constant)
-constant_element (Tok k) = tokens (count_of k.constant)
+constant_element (Share a) = of_term (λ n. amount (fraction n 1)) a
+constant_element (Src n) = of_term src n
+constant_element (Tok k) = of_term tokens k
 
 -- in an algebra, the elements of forms of its atoms
 abbrev pub elements_of : PlainAlgebra → List (ℕ × Form) → List Element

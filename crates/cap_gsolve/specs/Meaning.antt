@@ -105,7 +105,7 @@ CoversWanted a ps r k ws answer =
     → compose x y ≡ Some z
     → AllHold v answer
 
--- so is what compatibility answers
+-- what compatibility answers covers the wanted atoms in this way
 abbrev pub CompatMeans : Type 0
 CompatMeans = (a : PlainAlgebra) (ps : List Piece) (r : Linear) (k : ℕ) (ws : List (ℕ × Form)) → CoversWanted a ps r k ws (compat a ps r k ws)
 

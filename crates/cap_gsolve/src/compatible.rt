@@ -29,10 +29,7 @@ fn is_never(there: &Form, wanted: &Form) -> bool
     ensures { result ≡ never (Some there.now) wanted.now }
 {
     match wanted {
-        Form::One => match there {
-            Form::One => true,
-            Form::Share(_) | Form::Src(_) | Form::Tok(_) => false,
-        },
+        Form::One => matches!(there, Form::One),
         Form::Src(_) => match there {
             Form::Src(_) => true,
             Form::One | Form::Share(_) | Form::Tok(_) => false,
@@ -66,6 +63,7 @@ fn clashes_with(
         || clashes(algebra, pieces, region, kind, *atom, form)
 }
 
+// Whether some wanted form never composes with the pieces.
 fn clashes_some(
     algebra: &Algebra,
     pieces: &[Piece],
@@ -174,6 +172,7 @@ fn push_one(
     push_fits(alloc, rows, pieces, region, kind, *atom, form)
 }
 
+// The rows of all wanted forms, in their order.
 fn push_all(
     alloc: Global,
     rows: &mut Vec<Row>,
@@ -211,6 +210,7 @@ pub fn compat(
     compared(alloc, algebra, pieces, region, kind, wanted)
 }
 
+// What compat answers, exactly.
 fn compared(
     alloc: Global,
     algebra: &Algebra,

@@ -1,4 +1,4 @@
-ghost use Rattle.std.specs.Prelude.{◌≡◌, ◌≤◌, ◌+◌, ◌^◌, ◌++◌, ◌∷◌, [], map, IfOk, MatchResult};
+ghost use Rattle.std.specs.Prelude.{◌≡◌, ◌+◌, ◌++◌, ◌∷◌, [], map, IfOk, MatchResult};
 ghost use Rattle.cap_lin.specs.declared.error.LinError.TheVariants.{OutOfMemory};
 ghost use Rattle.cap_galg.specs.Algebras.{atoms};
 ghost use Rattle.cap_galg.specs.Views.{algebra_view};
@@ -27,6 +27,7 @@ pub fn full_pieces(
     Ok(pieces)
 }
 
+// The full pieces of an algebra whose atoms begin at a number, and the number behind them.
 fn push_full(
     alloc: Global,
     algebra: &Algebra,
@@ -58,6 +59,7 @@ fn push_full(
     }
 }
 
+// The piece of one atom, and the number behind it.
 fn push(
     alloc: Global,
     region: &Term,

@@ -132,9 +132,10 @@ fn composed_in(
     Ok((merged, rows))
 }
 
-/// The pieces with a new one composed in, and the rows that then hold: that an amount is above 0 and
-/// at most 1 and a count at least 0, that tokens which come back were out, and, for two unique guards,
-/// two sources, or surely some parts on two sides of a sum, a row that never holds. The new piece
+/// The pieces with a new one composed in, and the rows that then hold: that an amount is above 0 and,
+/// with the share that is there, at most 1, that a count is at least 0, that tokens which come back
+/// were out, and, for two unique guards, two sources, or surely some parts on two sides of a sum, a
+/// row that never holds. The new piece
 /// stands in the place of the piece of its part, or else as the last. Wide comes where a number of
 /// the new form or of a row leaves 128 bits, with the first such number's operands. Where a part of
 /// the guards holds the old pieces and the new one together, it holds the merged pieces and the rows

@@ -7,24 +7,22 @@ use crate::tests::plain::{Finding, Given, found};
 use crate::tests::solved;
 use cap_farkas::Cert;
 use cap_lin::{Kind, LinError, Row, Sort, Term};
+use rand_core::Rng;
+use rand_pcg::Pcg32;
 use std::alloc::{AllocError, Global};
 use std::test::Fail;
 
-// Numbers by a linear congruential step.
+// Rows and systems that a generator draws.
 #[derive(Drop)]
-struct Draw(u64);
+struct Draw(Pcg32);
 
 impl Draw {
     // A number below a bound.
-    fn below(&mut self, bound: u64) -> u64
+    fn below(&mut self, bound: u32) -> u32
         requires { 0 < bound }
         ensures { result < bound }
     {
-        self.0 = self
-            .0
-            .wrapping_mul(6364136223846793005)
-            .wrapping_add(1442695040888963407);
-        (self.0 >> 33) % bound
+        self.0.next_u32() % bound
     }
 
     // A number from -3 to 3.
@@ -50,7 +48,7 @@ impl Draw {
     }
 
     // A row over the first so many variables, with numbers from -3 to 3.
-    fn row(&mut self, variables: u64) -> Given {
+    fn row(&mut self, variables: u32) -> Given {
         let constant = self.number();
         let first = self.number();
         let second = if variables > 1 { self.number() } else { 0 };
@@ -64,7 +62,7 @@ impl Draw {
     }
 
     // A new row, an earlier one once more, of whatever sort, or the sum of two earlier ones.
-    fn next(&mut self, rows: &[Given], variables: u64) -> Given {
+    fn next(&mut self, rows: &[Given], variables: u32) -> Given {
         let first = rows.get(self.below(8) as usize).copied();
         let second = rows.get(self.below(8) as usize).copied();
         match first {
@@ -155,11 +153,11 @@ fn is_same(answer: &Answer, finding: &Finding) -> bool {
 #[test]
 fn drawn_systems(rt: HostRuntime) -> Result<(), Fail> {
     let alloc = rt.alloc();
-    let mut draw = Draw(1);
+    let mut draw = Draw(Pcg32::new(1, 1));
     let mut leaves: u32 = 0;
     let mut splits: u32 = 0;
     let mut solvable: u32 = 0;
-    for _system in 0..20000 {
+    for _system in 0..10000 {
         let system = draw.system(alloc)?;
         let finding = found(alloc, &system)?;
         let answer = solved(&rt, alloc, &rows_of(alloc, &system)?)?;

@@ -308,9 +308,6 @@ pub lowest-by : (n d g : ℕ) → IsGcd n d g → lowest n d ≡ fraction (n / g
 unfolding lowest
 lowest-by n d g h = rw (gcd-only n d g h) refl
 
-pub lowest-most : (n d : ℕ) → 0 < d → n ≤ d → (lowest n d).num ≤ (lowest n d).den
-lowest-most n d h l = let r = lowest-is n d h in sum-most n d (lowest n d).num (lowest n d).den h r.value l
-
 pub lowest-from : (f : Fraction) (g : ℕ) → 0 < f.den → IsGcd f.num f.den g → g ≡ 1 → IsLowest f
 lowest-from f g h is e = record { positive = h; coprime = λ k a b. eq-one_of_dvd-one (subst (λ x. k ∣ x) e (is.2 k a b)) }
 

@@ -2,8 +2,10 @@
 use Rattle.std.proofs.Common.{◌≡◌, refl, sym, ap, ◌∙◌, subst, List, [], ◌∷◌, ◌++◌, Option, Some}
 use Rattle.std.specs.List.{AllByRecursion}
 use Rattle.cap_galg.specs.Elements.{Element, nothing, bind, compose}
+use Rattle.cap_galg.specs.Algebras.{PlainAlgebra, AtMost}
 use Rattle.cap_galg.specs.Lists.{compose_all}
-use Rattle.cap_galg.specs.Laws.Composition.{bind-is, some-same, IsSound, compose-comm, compose-nothing, compose_assoc, sound-composed}
+use Rattle.cap_galg.specs.Laws.Composition.{bind-is, some-same, IsSound, compose-comm, compose_assoc, sound-composed}
+use Rattle.cap_galg.specs.Laws.Algebras.{sound-of, closed}
 
 -- what the last two of three compose to, where the first two compose and then the third
 pub record Regrouped (x y z w : Element) : Type 0 where
@@ -41,9 +43,6 @@ pub record HasPart (x u : Element) : Type 0 where
   pub rest : Element
   pub sound : IsSound rest
   pub whole : compose x rest ≡ Some u
-
-pub part-itself : (x : Element) → HasPart x x
-part-itself x = record { rest = nothing; sound = tt; whole = compose-nothing x }
 
 pub part-meets : (x u y w : Element) → IsSound x → IsSound y → HasPart x u → compose u y ≡ Some w → (s : Element) × (compose x y ≡ Some s)
 part-meets x u y w p q h e = let s = exchanged x h.rest y u w p h.sound q h.whole e in (s.middle, s.inner)
@@ -85,3 +84,14 @@ appended (x ∷ xs) ys u v w h k e f g =
     let r = bind-is (compose_all xs) (λ y. compose x y) u e in
     let s = regrouped x r.0 v u w h.0 (all-sound xs r.0 h.1 r.1) (all-sound ys v k f) r.2 g in
     ap (λ o. bind o (λ y. compose x y)) (appended xs ys r.0 v s.middle h.1 k r.1 f s.inner) ∙ s.outer
+
+-- elements at most two that compose do so too, to one at most what those compose to
+pub below-both : (a : PlainAlgebra) (x y p q s : Element) → IsSound x → IsSound y → AtMost a x p → AtMost a y q → compose p q ≡ Some s → (w : Element) × (compose x y ≡ Some w) × AtMost a w s
+below-both a x y p q s sx sy h j e =
+    let sz = sound-of a h.0 h.1 in
+    let sw = sound-of a j.0 j.1 in
+    let m = regrouped x h.0 q p s sx sz (sound-composed y j.0 q sy sw j.2) h.2 e in
+    let n = regrouped y j.0 h.0 q m.middle sy sw sz j.2 (swapped h.0 q (Some m.middle) m.inner) in
+    let c = closed a j.0 h.0 n.middle j.1 h.1 n.inner in
+    let g = grouped x y n.middle m.middle s sx sy (sound-of a n.middle c) n.outer m.outer in
+    (g.middle, g.inner, (n.middle, c, g.outer))

@@ -1,12 +1,13 @@
 use Rattle.std.proofs.lemmas.Result.{err_from_is_err_and}
 use Rattle.cap_lin.specs.Steps.{minus_steps}
-use Rattle.cap_gsolve.proofs.Steps.{earlier-error, later-error, both-narrow}
+use Rattle.cap_lin.proofs.Results.{explains_first}
+use Rattle.cap_gsolve.proofs.Steps.{later-error, both-narrow}
 use Rattle.cap_gsolve.proofs.combine.left_out.Goals as goal
 
 pub returns-in_err-rest : goal.returns-in_err-rest
 returns-in_err-rest c =
     let p = err_from_is_err_and c.from_residual.result c.from_residual.ensures.1 in
-    rw (p.1, p.2) (earlier-error _ (minus_steps c.args.out.now c.args.back.now) _ c.in_err-rest.ensures)
+    rw (p.1, p.2) (explains_first _ (minus_steps c.args.out.now c.args.back.now) _ c.in_err-rest.ensures)
 
 pub returns-in_err-push_row : goal.returns-in_err-push_row
 returns-in_err-push_row c =

@@ -6,13 +6,14 @@ use Rattle.cap_lin.specs.Rows.{row_of_steps}
 use Rattle.cap_lin.specs.declared.row.Sort.TheVariants.{Perm}
 use Rattle.cap_lin.specs.declared.row.Op.TheVariants.{Le as AtMost}
 use Rattle.cap_gsolve.specs.Merge.{one_term}
-use Rattle.cap_gsolve.proofs.Steps.{earlier-error, later-error, both-narrow}
+use Rattle.cap_lin.proofs.Results.{explains_first}
+use Rattle.cap_gsolve.proofs.Steps.{later-error, both-narrow}
 use Rattle.cap_gsolve.proofs.combine.sum_of_shares.Goals as goal
 
 pub returns-in_err-sum : goal.returns-in_err-sum
 returns-in_err-sum c =
     let p = err_from_is_err_and c.from_residual.result c.from_residual.ensures.1 in
-    rw (p.1, p.2) (earlier-error _ (plus_steps c.args.a.now c.args.b.now) _ c.in_err-sum.ensures.exact)
+    rw (p.1, p.2) (explains_first _ (plus_steps c.args.a.now c.args.b.now) _ c.in_err-sum.ensures.exact)
 
 pub returns-in_err-push_row : goal.returns-in_err-push_row
 returns-in_err-push_row c =
