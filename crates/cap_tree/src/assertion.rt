@@ -1,0 +1,77 @@
+// Assertions. Each node has, in the order of the text, the places of its own tokens and its parts.
+
+use crate::list::Separated;
+use crate::term::{Comparison, Slot, Term};
+use crate::word::Word;
+use cap_syntax::Place;
+
+/// `src` or `tok`.
+#[derive(Clone, Copy, Debug, PartialEq, Eq)]
+pub enum Counted {
+    Source,
+    Tokens,
+}
+
+/// A guard's name alone, with an amount in brackets, or with a count in brackets behind `src` or
+/// `tok`.
+#[derive(Drop)]
+pub enum GuardAtom {
+    Alone(Word),
+    Amount(Word, Place, Slot, Place),
+    Count(Counted, Place, Word, Place, Slot, Place),
+}
+
+/// Guards with `*` between them, in parentheses or not.
+#[derive(Drop)]
+pub enum Guards {
+    Bare(Separated<GuardAtom>),
+    Bracketed(Place, Separated<GuardAtom>, Place),
+}
+
+/// A part of an assertion. `Fact` is a region type's name, `(`, the region, a comma and a slot for
+/// each argument, `;`, the slot of the state, `)`. `Guards` is a region, `@`, its guards. `Cell` is an
+/// address, `|->`, a slot. `Choose` is a comparison, `?`, a side, `:`, the other side.
+#[cycle(items)]
+#[derive(Drop)]
+pub enum Item {
+    True(Place),
+    False(Place),
+    Fact(Word, Place, Word, Vec<(Place, Slot)>, Place, Slot, Place),
+    Guards(Word, Place, Guards),
+    Cell(Term, Place, Slot),
+    Compare(Comparison),
+    Choose(Comparison, Place, Side, Place, Side),
+}
+
+/// `&*&`, and an item.
+#[cycle(items)]
+#[derive(Drop)]
+pub struct And {
+    pub place: Place,
+    pub item: Item,
+}
+
+/// Items with `&*&` between them.
+#[cycle(items)]
+#[derive(Drop)]
+pub struct Assertion {
+    pub first: Item,
+    pub more: Vec<And>,
+}
+
+/// An assertion in braces.
+#[cycle(items)]
+#[derive(Drop)]
+pub struct Side {
+    pub open: Place,
+    pub assertion: Box<Assertion>,
+    pub close: Place,
+}
+
+/// A keyword, an assertion, `;`.
+#[derive(Drop)]
+pub struct Clause {
+    pub key: Place,
+    pub assertion: Assertion,
+    pub semicolon: Place,
+}

@@ -1,0 +1,97 @@
+// Region types. Each node has, in the order of the text, the places of its own tokens and its parts.
+
+use crate::assertion::{Assertion, GuardAtom};
+use crate::list::{Group, Separated};
+use crate::term::{Comparison, Term};
+use crate::word::Word;
+use cap_syntax::Place;
+
+/// A guard that a region type declares: `G`, `%G`, `|G|`, or an algebra in parentheses.
+#[cycle(algebras)]
+#[derive(Drop)]
+pub enum Declared {
+    Unique(Word),
+    Divisible(Place, Word),
+    Counting(Place, Word, Place),
+    Bracketed(Place, Box<Algebra>, Place),
+}
+
+/// `*`, and a guard.
+#[cycle(algebras)]
+#[derive(Drop)]
+pub struct Both {
+    pub star: Place,
+    pub declared: Declared,
+}
+
+/// Guards with `*` between them.
+#[cycle(algebras)]
+#[derive(Drop)]
+pub struct Joint {
+    pub first: Declared,
+    pub more: Vec<Both>,
+}
+
+/// `+`, and a product of guards.
+#[cycle(algebras)]
+#[derive(Drop)]
+pub struct Either {
+    pub plus: Place,
+    pub joint: Joint,
+}
+
+/// Products of guards with `+` between them.
+#[cycle(algebras)]
+#[derive(Drop)]
+pub struct Algebra {
+    pub first: Joint,
+    pub more: Vec<Either>,
+}
+
+/// `when`, and comparisons with commas between them.
+#[derive(Drop)]
+pub struct When {
+    pub key: Place,
+    pub comparisons: Separated<Comparison>,
+}
+
+/// A state, perhaps conditions, `:`, what the region then owns, `;`.
+#[derive(Drop)]
+pub struct Case {
+    pub state: Term,
+    pub when: Option<When>,
+    pub colon: Place,
+    pub assertion: Assertion,
+    pub semicolon: Place,
+}
+
+/// Guards with `*` between them, `:`, the state before, `~>`, the state behind, perhaps conditions,
+/// `;`.
+#[derive(Drop)]
+pub struct Action {
+    pub guards: Separated<GuardAtom>,
+    pub colon: Place,
+    pub source: Term,
+    pub arrow: Place,
+    pub target: Term,
+    pub when: Option<When>,
+    pub semicolon: Place,
+}
+
+/// A region type: `region`, its name, its parameters in parentheses, and in braces `guards`, an
+/// algebra, `;`, the cases and the actions.
+#[derive(Drop)]
+pub struct Region {
+    pub key: Place,
+    pub name: Word,
+    pub open: Place,
+    pub parameters: Separated<Word>,
+    pub close: Place,
+    pub brace: Place,
+    pub guards: Place,
+    pub algebra: Algebra,
+    pub semicolon: Place,
+    pub cases: Group<Case>,
+    pub actions: Group<Action>,
+    pub end: Place,
+}

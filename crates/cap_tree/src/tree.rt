@@ -1,0 +1,32 @@
+// Whole texts. Each node has, in the order of the text, the places of its own tokens and its parts.
+
+use crate::assertion::Clause;
+use crate::list::Listed;
+use crate::region::Region;
+use crate::statement::Block;
+use crate::word::Word;
+use cap_syntax::Place;
+
+/// A function: `function`, its name, its parameters, perhaps `requires` and `ensures`, and its body.
+#[derive(Drop)]
+pub struct Function {
+    pub key: Place,
+    pub name: Word,
+    pub parameters: Listed<Word>,
+    pub precondition: Option<Clause>,
+    pub postcondition: Option<Clause>,
+    pub body: Block,
+}
+
+/// What stands at the top of a text.
+#[derive(Drop)]
+pub enum Declaration {
+    Region(Region),
+    Function(Function),
+}
+
+/// The tree of a text.
+#[derive(Drop)]
+pub struct Tree {
+    pub declarations: Vec<Declaration>,
+}
