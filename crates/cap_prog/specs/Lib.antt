@@ -1,0 +1,5 @@
+pub mod Program
+pub mod Parts
+pub mod Scopes
+pub mod WellFormed
+pub mod Views

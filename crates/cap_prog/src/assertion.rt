@@ -1,0 +1,57 @@
+use cap_lin::{Op, Sort, Term};
+use cap_syntax::Place;
+
+/// A comparison: its two sides, their sort, and the place of the left one.
+#[derive(Debug, Drop)]
+pub struct Comp {
+    pub left: Term,
+    pub op: Op,
+    pub right: Term,
+    pub sort: Sort,
+    pub place: Place,
+}
+
+/// A value that an assertion states: any at all, which is written `_`, or that of a term.
+#[derive(Debug, Drop)]
+pub enum Slot {
+    Any,
+    Is(Term),
+}
+
+/// What is asked of a guard: the whole of a unique one, an amount of a divisible one, or of a counting
+/// one the source with a count of tokens out, or a count of tokens.
+#[derive(Debug, Drop)]
+pub enum Asked {
+    One,
+    Share(Slot),
+    Src(Slot),
+    Tok(Slot),
+}
+
+/// An item of an assertion. A variable is numbered as in the terms around it; region types,
+/// functions and the atoms of a region type are numbered from 0.
+#[cycle(assertion)]
+#[derive(Debug, Drop)]
+pub enum Item {
+    Compare(Comp),
+    /// A conditional: the items where its comparison holds, and those where it does not. Neither side
+    /// has names of its own.
+    Choose(Comp, Assertion, Assertion),
+    /// A region fact: its place, the variable that names the region, its type, its arguments without
+    /// the region, and its state.
+    Fact(Place, u32, u32, Vec<Slot>, Slot),
+    /// A guard atom: its place, the variable that names the region, its type, the atom, and what is
+    /// asked of it.
+    Atom(Place, u32, u32, u32, Asked),
+    /// A cell: its place, its address, and what it holds.
+    Cell(Place, Term, Slot),
+}
+
+/// An assertion: the sorts of the names that are new in it, and its items. The names belong to what
+/// follows `ensures` or `invariant`; other assertions have none, and contracts see only their items.
+#[cycle(assertion)]
+#[derive(Debug, Drop)]
+pub struct Assertion {
+    pub names: Vec<Sort>,
+    pub items: Vec<Item>,
+}
