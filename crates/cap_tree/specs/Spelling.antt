@@ -123,13 +123,13 @@ abbrev mutual
   spell_item (fact k p r arguments q s e) ts =
       name k ∷ symbol (codes "(") p ∷ name r
       ∷ spell_more (codes ",") spell_slot arguments
-          (symbol (codes ";") q ∷ spell_slot s (symbol (codes ")") e ∷ ts))
+      (symbol (codes ";") q ∷ spell_slot s (symbol (codes ")") e ∷ ts))
   spell_item (guards r p g) ts = name r ∷ symbol (codes "@") p ∷ spell_held g ts
   spell_item (cell t p s) ts = spell_term t (symbol (codes "|->") p ∷ spell_slot s ts)
   spell_item (compare c) ts = spell_comparison c ts
   spell_item (choose c p a q b) ts =
       spell_comparison c
-        (symbol (codes "?") p ∷ spell_side a (symbol (codes ":") q ∷ spell_side b ts))
+      (symbol (codes "?") p ∷ spell_side a (symbol (codes ":") q ∷ spell_side b ts))
 
   pub spell_items : Spells ItemTrees
   spell_items no_item ts = ts
@@ -158,7 +158,7 @@ spell_value (alloc p q n r) ts =
 spell_value (cas p q a c e d f r) ts =
     keyword (codes "CAS") p ∷ symbol (codes "(") q
     ∷ spell_term a (symbol (codes ",") c
-      ∷ spell_term e (symbol (codes ",") d ∷ spell_term f (symbol (codes ")") r ∷ ts)))
+    ∷ spell_term e (symbol (codes ",") d ∷ spell_term f (symbol (codes ")") r ∷ ts)))
 spell_value (result_of w l) ts = name w ∷ spell_terms l ts
 
 abbrev mutual
@@ -168,7 +168,7 @@ abbrev mutual
   spell_statement (store p a q r t e) ts =
       symbol (codes "[") p
       ∷ spell_term a (symbol (codes "]") q ∷ symbol (codes ":=") r
-        ∷ spell_term t (symbol (codes ";") e ∷ ts))
+      ∷ spell_term t (symbol (codes ";") e ∷ ts))
   spell_statement (call w l e) ts = name w ∷ spell_terms l (symbol (codes ";") e ∷ ts)
   spell_statement (fork p w l e) ts =
       keyword (codes "fork") p ∷ name w ∷ spell_terms l (symbol (codes ";") e ∷ ts)
@@ -178,7 +178,7 @@ abbrev mutual
   spell_statement (loop p q c r i b) ts =
       keyword (codes "while") p ∷ symbol (codes "(") q
       ∷ spell_comparison c (symbol (codes ")") r
-        ∷ spell_option (spell_clause (codes "invariant")) i (spell_block b ts))
+      ∷ spell_option (spell_clause (codes "invariant")) i (spell_block b ts))
   spell_statement (check p c e) ts =
       keyword (codes "assert") p ∷ spell_comparison c (symbol (codes ";") e ∷ ts)
   spell_statement (give_back p t e) ts =

@@ -106,27 +106,27 @@ term_step t = term t.minus t.first (products_of t.more.items)
 abbrev pub factor_view : Factor → FactorTree
 factor_view =
     fold-Factor FactorTree AddendTree ProductTree TermTree TimesTree
-      factor_step addend_step product_step term_step times_step
+    factor_step addend_step product_step term_step times_step
 
 abbrev pub times_view : Times → TimesTree
 times_view =
     fold-Times FactorTree AddendTree ProductTree TermTree TimesTree
-      factor_step addend_step product_step term_step times_step
+    factor_step addend_step product_step term_step times_step
 
 abbrev pub product_view : Product → ProductTree
 product_view =
     fold-Product FactorTree AddendTree ProductTree TermTree TimesTree
-      factor_step addend_step product_step term_step times_step
+    factor_step addend_step product_step term_step times_step
 
 abbrev pub addend_view : Addend → AddendTree
 addend_view =
     fold-Addend FactorTree AddendTree ProductTree TermTree TimesTree
-      factor_step addend_step product_step term_step times_step
+    factor_step addend_step product_step term_step times_step
 
 abbrev pub term_view : Term → TermTree
 term_view =
     fold-Term FactorTree AddendTree ProductTree TermTree TimesTree
-      factor_step addend_step product_step term_step times_step
+    factor_step addend_step product_step term_step times_step
 
 abbrev pub comparison_view : Comparison → ComparisonTree
 comparison_view c =
@@ -273,27 +273,27 @@ joint_step j = joint j.first (declareds_of j.more.items)
 abbrev pub declared_view : Declared → DeclaredTree
 declared_view =
     fold-Declared DeclaredTree AlgebraTree BothTree EitherTree JointTree
-      declared_step algebra_step both_step either_step joint_step
+    declared_step algebra_step both_step either_step joint_step
 
 abbrev pub both_view : Both → BothTree
 both_view =
     fold-Both DeclaredTree AlgebraTree BothTree EitherTree JointTree
-      declared_step algebra_step both_step either_step joint_step
+    declared_step algebra_step both_step either_step joint_step
 
 abbrev pub joint_view : Joint → JointTree
 joint_view =
     fold-Joint DeclaredTree AlgebraTree BothTree EitherTree JointTree
-      declared_step algebra_step both_step either_step joint_step
+    declared_step algebra_step both_step either_step joint_step
 
 abbrev pub either_view : Either → EitherTree
 either_view =
     fold-Either DeclaredTree AlgebraTree BothTree EitherTree JointTree
-      declared_step algebra_step both_step either_step joint_step
+    declared_step algebra_step both_step either_step joint_step
 
 abbrev pub algebra_view : Algebra → AlgebraTree
 algebra_view =
     fold-Algebra DeclaredTree AlgebraTree BothTree EitherTree JointTree
-      declared_step algebra_step both_step either_step joint_step
+    declared_step algebra_step both_step either_step joint_step
 
 abbrev pub when_view : When → WhenTree
 when_view w = record { key = w.key; comparisons = several_view comparison_view w.comparisons }
