@@ -1,0 +1,15 @@
+use Rattle.std.proofs.Common.{◌≡◌, map, length}
+use Rattle.cap_tree.specs.Views.{behind_view, term_view}
+use Rattle.cap_grammar.specs.Grammar.{read_term}
+use Rattle.cap_grammar.specs.Readers.{read_more}
+use Rattle.cap_grammar.specs.declared.class.Class.TheVariants.{Comma}
+use Rattle.cap_grammar.specs.Laws.Taking.{with_front}
+use Rattle.cap_parse.proofs.cursor.Cursor.more_terms.Given as goal
+
+abbrev pub invariant-loop-self : goal.invariant-loop-self
+invariant-loop-self l =
+    with_front (map (behind_view term_view) l.more.items) (read_more Comma (read_term l.room) l.self.rest.now)
+    ≡ read_more Comma (read_term l.room) l.fn.self.rest.now
+
+abbrev pub decreases-loop-self : goal.decreases-loop-self
+decreases-loop-self l = length l.self.rest.now

@@ -1,0 +1,143 @@
+// The tokens that are still to be read, and the steps that every production takes.
+
+ghost use Rattle.std.specs.Prelude.{◌≡◌, Ok};
+ghost use Rattle.cap_grammar.specs.Classes.{are_same};
+ghost use Rattle.cap_grammar.specs.Readers.{ahead, next_token, next_place, next_word, next_literal, expect, read_name, read_number, read_opening};
+ghost use Rattle.cap_parse.specs.Reads.{IsRead};
+ghost use Rattle.cap_parse.specs.declared.cursor.Stop.TheVariants.{OutOfMemory};
+
+use cap_grammar::{Class, are_same, class_of};
+use cap_syntax::{Place, Token};
+use cap_tree::{Literal, Word};
+use std::alloc::{AllocError, AllocFailed, Global};
+
+/// Why there is no tree. The cursor then stands at the token at fault, or at the end.
+#[derive(Clone, Copy, Debug, PartialEq, Eq)]
+pub(crate) enum Stop {
+    Unexpected,
+    TooDeep,
+    OutOfMemory,
+}
+
+impl From<AllocError> for Stop {
+    ghost from_gives = { λ _ e. e ≡ OutOfMemory };
+
+    fn from(_: AllocError) -> Self {
+        Stop::OutOfMemory
+    }
+}
+
+impl<T: Drop> From<AllocFailed<T>> for Stop {
+    ghost from_gives = { λ _ e. e ≡ OutOfMemory };
+
+    fn from(_: AllocFailed<T>) -> Self {
+        Stop::OutOfMemory
+    }
+}
+
+/// The tokens that are still to be read.
+#[derive(Drop)]
+pub(crate) struct Cursor<'a> {
+    pub(crate) alloc: Global,
+    pub(crate) rest: &'a [Token],
+}
+
+impl<'a> Cursor<'a> {
+    /// The class of the next token.
+    pub(crate) fn ahead(&self) -> Class
+        ensures { result ≡ ahead self.now.rest.now }
+    {
+        match self.rest {
+            [token, ..] => class_of(token),
+            [] => Class::End,
+        }
+    }
+
+    /// Whether the next token is of this class.
+    pub(crate) fn is_ahead(&self, class: Class) -> bool
+        ensures { result ≡ are_same class (ahead self.now.rest.now) }
+    {
+        are_same(class, self.ahead())
+    }
+
+    fn next(&mut self) -> Result<&'a Token, Stop>
+        ensures { IsRead (λ t. t.now) result self.new.rest.now (next_token self.old.rest.now) }
+    {
+        match self.rest {
+            [token, rest @ ..] => {
+                self.rest = rest;
+                Ok(token)
+            }
+            [] => Err(Stop::Unexpected),
+        }
+    }
+
+    pub(crate) fn next_place(&mut self) -> Result<Place, Stop>
+        ensures { IsRead (λ p. p) result self.new.rest.now (next_place self.old.rest.now) }
+    {
+        Ok(self.next()?.place)
+    }
+
+    pub(crate) fn next_word(&mut self) -> Result<Word, Stop>
+        ensures { IsRead (λ w. w) result self.new.rest.now (next_word self.old.rest.now) }
+    {
+        let token = self.next()?;
+        Ok(Word {
+            text: token.text.copy(self.alloc)?,
+            place: token.place,
+        })
+    }
+
+    pub(crate) fn next_literal(&mut self) -> Result<Literal, Stop>
+        ensures { IsRead (λ n. n) result self.new.rest.now (next_literal self.old.rest.now) }
+    {
+        let token = self.next()?;
+        Ok(Literal {
+            text: token.text.copy(self.alloc)?,
+            value: token.value,
+            place: token.place,
+        })
+    }
+
+    /// A token of this class.
+    pub(crate) fn expect(&mut self, class: Class) -> Result<Place, Stop>
+        ensures { IsRead (λ p. p) result self.new.rest.now (expect class self.old.rest.now) }
+    {
+        if !self.is_ahead(class) {
+            return Err(Stop::Unexpected);
+        }
+        self.next_place()
+    }
+
+    pub(crate) fn name(&mut self) -> Result<Word, Stop>
+        ensures { IsRead (λ w. w) result self.new.rest.now (read_name self.old.rest.now) }
+    {
+        if !self.is_ahead(Class::Name) {
+            return Err(Stop::Unexpected);
+        }
+        self.next_word()
+    }
+
+    pub(crate) fn number(&mut self) -> Result<Literal, Stop>
+        ensures { IsRead (λ n. n) result self.new.rest.now (read_number self.old.rest.now) }
+    {
+        if !self.is_ahead(Class::Number) {
+            return Err(Stop::Unexpected);
+        }
+        self.next_literal()
+    }
+
+    /// A bracket of this class, where `room` more may open. Gives back how many may open in it.
+    pub(crate) fn opening(&mut self, room: u32, class: Class) -> Result<(u32, Place), Stop>
+        ensures { IsRead (λ o. o) result self.new.rest.now (read_opening room class self.old.rest.now) }
+    {
+        if room > 0 {
+            return Ok((room - 1, self.expect(class)?));
+        }
+        if self.is_ahead(class) {
+            Err(Stop::TooDeep)
+        } else {
+            Err(Stop::Unexpected)
+        }
+    }
+}

@@ -1,0 +1,83 @@
+// Functions and whole texts. `room` is how many more brackets may open.
+
+ghost use Rattle.std.specs.Prelude.{◌≡◌, Ok, map, not, option_map};
+ghost use Rattle.cap_tree.specs.Views.{several_view, listed_view, word_view, function_view, declaration_view, tree_view};
+ghost use Rattle.cap_grammar.specs.Classes.{are_same};
+ghost use Rattle.cap_grammar.specs.Grammar.{read_function, read_declaration};
+ghost use Rattle.cap_grammar.specs.Readers.{read_name, read_several, read_optional, read_until, read_listed};
+ghost use Rattle.cap_grammar.specs.declared.class.Class.TheVariants.{Comma, Close, End};
+ghost use Rattle.cap_parse.specs.Reads.{IsRead};
+
+use crate::cursor::{Cursor, Stop};
+use cap_grammar::Class;
+use cap_tree::{Declaration, Function, Listed, Separated, Word};
+
+impl<'a> Cursor<'a> {
+    fn optional_names(&mut self) -> Result<Option<Separated<Word>>, Stop>
+        ensures { IsRead (option_map (several_view word_view)) result self.new.rest.now
+            (read_optional (λ a. not (are_same Close a)) (read_several Comma read_name)
+              self.old.rest.now) }
+    {
+        if self.is_ahead(Class::Close) {
+            Ok(None)
+        } else {
+            Ok(Some(self.several_names()?))
+        }
+    }
+
+    /// Names in parentheses.
+    fn names(&mut self, room: u32) -> Result<Listed<Word>, Stop>
+        ensures { IsRead (listed_view word_view) result self.new.rest.now
+            (read_listed room (λ inner. read_name) self.old.rest.now) }
+    {
+        let (_, open) = self.opening(room, Class::Open)?;
+        let parts = self.optional_names()?;
+        let close = self.expect(Class::Close)?;
+        Ok(Listed { open, parts, close })
+    }
+
+    /// What `function`, which comes next, begins.
+    fn function(&mut self, room: u32) -> Result<Function, Stop>
+        ensures { IsRead function_view result self.new.rest.now
+            (read_function room self.old.rest.now) }
+    {
+        let key = self.next_place()?;
+        let name = self.name()?;
+        let parameters = self.names(room)?;
+        let precondition = self.optional_clause(room, Class::Requires)?;
+        let postcondition = self.optional_clause(room, Class::Ensures)?;
+        let body = self.block(room)?;
+        Ok(Function {
+            key,
+            name,
+            parameters,
+            precondition,
+            postcondition,
+            body,
+        })
+    }
+
+    fn declaration(&mut self, room: u32) -> Result<Declaration, Stop>
+        ensures { IsRead declaration_view result self.new.rest.now
+            (read_declaration room self.old.rest.now) }
+    {
+        match self.ahead() {
+            Class::Region => Ok(Declaration::Region(self.region(room)?)),
+            Class::Function => Ok(Declaration::Function(self.function(room)?)),
+            _ => Err(Stop::Unexpected),
+        }
+    }
+
+    /// What stands at the top of a text, up to its end.
+    pub(crate) fn declarations(&mut self, room: u32) -> Result<Vec<Declaration>, Stop>
+        ensures { IsRead (λ v. map declaration_view v.items) result self.new.rest.now
+            (read_until End (read_declaration room) self.old.rest.now) }
+    {
+        let mut declarations = Vec::new(self.alloc);
+        while !self.is_ahead(Class::End) {
+            let declaration = self.declaration(room)?;
+            declarations.push(declaration)?;
+        }
+        Ok(declarations)
+    }
+}

@@ -1,0 +1,345 @@
+// Region types. `room` is how many more brackets may open.
+
+ghost use Rattle.std.specs.Prelude.{◌≡◌, Ok, map, option_map};
+ghost use Rattle.cap_tree.specs.Views.{comparison_view, several_view, group_view, behind_view, word_view, declared_view, both_view, joint_view, either_view, algebra_view, when_view, case_view, action_view, region_view};
+ghost use Rattle.cap_grammar.specs.Classes.{are_same};
+ghost use Rattle.cap_grammar.specs.Grammar.{read_comparison, read_declared, read_joint, read_grouped, grouped_at, read_algebra, read_when, read_optional_when, read_case, read_action, read_head, read_region_body, read_region};
+ghost use Rattle.cap_grammar.specs.Readers.{read_name, read_more, read_several, read_optional, read_until, read_group};
+ghost use Rattle.cap_grammar.specs.declared.class.Class.TheVariants.{Comma, Star, Plus, When as Under, CloseBrace, Interpretation, Actions};
+ghost use Rattle.cap_parse.specs.Reads.{IsRead};
+ghost use Rattle.cap_parse.specs.Heads.{head_view};
+
+use crate::cursor::{Cursor, Stop};
+use cap_grammar::Class;
+use cap_syntax::Place;
+use cap_tree::{Action, Algebra, Both, Case, Comparison, Declared, Either, Group, Joint, Region, Separated, When, Word};
+
+/// A region type's name and parameters.
+#[derive(Drop)]
+pub(crate) struct Head {
+    name: Word,
+    open: Place,
+    parameters: Separated<Word>,
+    close: Place,
+}
+
+impl<'a> Cursor<'a> {
+    #[cycle(algebras)]
+    fn declared(&mut self, room: u32) -> Result<Declared, Stop>
+        ensures { IsRead declared_view result self.new.rest.now
+            (read_declared (grouped_at room) self.old.rest.now) }
+    {
+        match self.ahead() {
+            Class::Name => Ok(Declared::Unique(self.next_word()?)),
+            Class::Percent => {
+                let percent = self.next_place()?;
+                Ok(Declared::Divisible(percent, self.name()?))
+            }
+            Class::Bar => {
+                let open = self.next_place()?;
+                let name = self.name()?;
+                let close = self.expect(Class::Bar)?;
+                Ok(Declared::Counting(open, name, close))
+            }
+            _ => self.grouped(room),
+        }
+    }
+
+    #[cycle(algebras)]
+    fn grouped(&mut self, room: u32) -> Result<Declared, Stop>
+        ensures { IsRead declared_view result self.new.rest.now (grouped_at room self.old.rest.now) }
+    {
+        if room > 0 {
+            return self.algebra_in_parentheses(room - 1);
+        }
+        if self.is_ahead(Class::Open) {
+            Err(Stop::TooDeep)
+        } else {
+            Err(Stop::Unexpected)
+        }
+    }
+
+    #[cycle(algebras)]
+    fn algebra_in_parentheses(&mut self, room: u32) -> Result<Declared, Stop>
+        ensures { IsRead declared_view result self.new.rest.now
+            (read_grouped (read_algebra room) self.old.rest.now) }
+    {
+        let open = self.expect(Class::Open)?;
+        let algebra = self.algebra(room)?;
+        let close = self.expect(Class::Close)?;
+        Ok(Declared::Bracketed(
+            open,
+            Box::new(self.alloc, algebra)?,
+            close,
+        ))
+    }
+
+    #[cycle(algebras)]
+    fn more_declared(&mut self, room: u32) -> Result<Vec<Both>, Stop>
+        ensures { IsRead (λ v. map both_view v.items) result self.new.rest.now
+            (read_more Star (read_declared (grouped_at room)) self.old.rest.now) }
+    {
+        let mut more = Vec::new(self.alloc);
+        while self.is_ahead(Class::Star) {
+            let star = self.next_place()?;
+            let declared = self.declared(room)?;
+            more.push(Both { star, declared })?;
+        }
+        Ok(more)
+    }
+
+    #[cycle(algebras)]
+    fn joint(&mut self, room: u32) -> Result<Joint, Stop>
+        ensures { IsRead joint_view result self.new.rest.now
+            (read_joint (grouped_at room) self.old.rest.now) }
+    {
+        let first = self.declared(room)?;
+        let more = self.more_declared(room)?;
+        Ok(Joint { first, more })
+    }
+
+    #[cycle(algebras)]
+    fn more_joints(&mut self, room: u32) -> Result<Vec<Either>, Stop>
+        ensures { IsRead (λ v. map either_view v.items) result self.new.rest.now
+            (read_more Plus (read_joint (grouped_at room)) self.old.rest.now) }
+    {
+        let mut more = Vec::new(self.alloc);
+        while self.is_ahead(Class::Plus) {
+            let plus = self.next_place()?;
+            let joint = self.joint(room)?;
+            more.push(Either { plus, joint })?;
+        }
+        Ok(more)
+    }
+
+    #[cycle(algebras)]
+    fn algebra(&mut self, room: u32) -> Result<Algebra, Stop>
+        ensures { IsRead algebra_view result self.new.rest.now
+            (read_algebra room self.old.rest.now) }
+    {
+        let first = self.joint(room)?;
+        let more = self.more_joints(room)?;
+        Ok(Algebra { first, more })
+    }
+
+    fn more_comparisons(&mut self, room: u32) -> Result<Vec<(Place, Comparison)>, Stop>
+        ensures { IsRead (λ v. map (behind_view comparison_view) v.items) result self.new.rest.now
+            (read_more Comma (read_comparison room) self.old.rest.now) }
+    {
+        let mut more = Vec::new(self.alloc);
+        while self.is_ahead(Class::Comma) {
+            let comma = self.next_place()?;
+            let comparison = self.comparison(room)?;
+            more.push((comma, comparison))?;
+        }
+        Ok(more)
+    }
+
+    fn several_comparisons(&mut self, room: u32) -> Result<Separated<Comparison>, Stop>
+        ensures { IsRead (several_view comparison_view) result self.new.rest.now
+            (read_several Comma (read_comparison room) self.old.rest.now) }
+    {
+        let first = self.comparison(room)?;
+        let more = self.more_comparisons(room)?;
+        Ok(Separated { first, more })
+    }
+
+    fn when(&mut self, room: u32) -> Result<When, Stop>
+        ensures { IsRead when_view result self.new.rest.now (read_when room self.old.rest.now) }
+    {
+        let key = self.expect(Class::When)?;
+        let comparisons = self.several_comparisons(room)?;
+        Ok(When { key, comparisons })
+    }
+
+    fn optional_when(&mut self, room: u32) -> Result<Option<When>, Stop>
+        ensures { IsRead (option_map when_view) result self.new.rest.now
+            (read_optional_when room self.old.rest.now) }
+    {
+        if self.is_ahead(Class::When) {
+            Ok(Some(self.when(room)?))
+        } else {
+            Ok(None)
+        }
+    }
+
+    fn case(&mut self, room: u32) -> Result<Case, Stop>
+        ensures { IsRead case_view result self.new.rest.now (read_case room self.old.rest.now) }
+    {
+        let state = self.term(room)?;
+        let when = self.optional_when(room)?;
+        let colon = self.expect(Class::Colon)?;
+        let assertion = self.assertion(room)?;
+        let semicolon = self.expect(Class::Semicolon)?;
+        Ok(Case {
+            state,
+            when,
+            colon,
+            assertion,
+            semicolon,
+        })
+    }
+
+    fn action(&mut self, room: u32) -> Result<Action, Stop>
+        ensures { IsRead action_view result self.new.rest.now (read_action room self.old.rest.now) }
+    {
+        let guards = self.guards(room)?;
+        let colon = self.expect(Class::Colon)?;
+        let source = self.term(room)?;
+        let arrow = self.expect(Class::LeadsTo)?;
+        let target = self.term(room)?;
+        let when = self.optional_when(room)?;
+        let semicolon = self.expect(Class::Semicolon)?;
+        Ok(Action {
+            guards,
+            colon,
+            source,
+            arrow,
+            target,
+            when,
+            semicolon,
+        })
+    }
+
+    fn cases(&mut self, room: u32) -> Result<Vec<Case>, Stop>
+        ensures { IsRead (λ v. map case_view v.items) result self.new.rest.now
+            (read_until CloseBrace (read_case room) self.old.rest.now) }
+    {
+        let mut cases = Vec::new(self.alloc);
+        while !self.is_ahead(Class::CloseBrace) {
+            let case = self.case(room)?;
+            cases.push(case)?;
+        }
+        Ok(cases)
+    }
+
+    fn actions(&mut self, room: u32) -> Result<Vec<Action>, Stop>
+        ensures { IsRead (λ v. map action_view v.items) result self.new.rest.now
+            (read_until CloseBrace (read_action room) self.old.rest.now) }
+    {
+        let mut actions = Vec::new(self.alloc);
+        while !self.is_ahead(Class::CloseBrace) {
+            let action = self.action(room)?;
+            actions.push(action)?;
+        }
+        Ok(actions)
+    }
+
+    fn interpretation(&mut self, room: u32) -> Result<Group<Case>, Stop>
+        ensures { IsRead (group_view case_view) result self.new.rest.now
+            (read_group room Interpretation read_case self.old.rest.now) }
+    {
+        let key = self.expect(Class::Interpretation)?;
+        let (inner, open) = self.opening(room, Class::OpenBrace)?;
+        let parts = self.cases(inner)?;
+        let close = self.expect(Class::CloseBrace)?;
+        Ok(Group {
+            key,
+            open,
+            parts,
+            close,
+        })
+    }
+
+    fn action_group(&mut self, room: u32) -> Result<Group<Action>, Stop>
+        ensures { IsRead (group_view action_view) result self.new.rest.now
+            (read_group room Actions read_action self.old.rest.now) }
+    {
+        let key = self.expect(Class::Actions)?;
+        let (inner, open) = self.opening(room, Class::OpenBrace)?;
+        let parts = self.actions(inner)?;
+        let close = self.expect(Class::CloseBrace)?;
+        Ok(Group {
+            key,
+            open,
+            parts,
+            close,
+        })
+    }
+
+    pub(crate) fn more_names(&mut self) -> Result<Vec<(Place, Word)>, Stop>
+        ensures { IsRead (λ v. map (behind_view word_view) v.items) result self.new.rest.now
+            (read_more Comma read_name self.old.rest.now) }
+    {
+        let mut more = Vec::new(self.alloc);
+        while self.is_ahead(Class::Comma) {
+            let comma = self.next_place()?;
+            let name = self.name()?;
+            more.push((comma, name))?;
+        }
+        Ok(more)
+    }
+
+    pub(crate) fn several_names(&mut self) -> Result<Separated<Word>, Stop>
+        ensures { IsRead (several_view word_view) result self.new.rest.now
+            (read_several Comma read_name self.old.rest.now) }
+    {
+        let first = self.name()?;
+        let more = self.more_names()?;
+        Ok(Separated { first, more })
+    }
+
+    fn head(&mut self, room: u32) -> Result<Head, Stop>
+        ensures { IsRead head_view result self.new.rest.now (read_head room self.old.rest.now) }
+    {
+        let name = self.name()?;
+        let (_, open) = self.opening(room, Class::Open)?;
+        let parameters = self.several_names()?;
+        let close = self.expect(Class::Close)?;
+        Ok(Head {
+            name,
+            open,
+            parameters,
+            close,
+        })
+    }
+
+    /// What stands behind the opening brace of a region type.
+    fn region_body(
+        &mut self,
+        room: u32,
+        key: Place,
+        head: Head,
+        brace: Place,
+    ) -> Result<Region, Stop>
+        ensures { IsRead region_view result self.new.rest.now
+            (read_region_body room key (head_view head) brace self.old.rest.now) }
+    {
+        let guards = self.expect(Class::Guards)?;
+        let algebra = self.algebra(room)?;
+        let semicolon = self.expect(Class::Semicolon)?;
+        let cases = self.interpretation(room)?;
+        let actions = self.action_group(room)?;
+        let end = self.expect(Class::CloseBrace)?;
+        let Head {
+            name,
+            open,
+            parameters,
+            close,
+        } = head;
+        Ok(Region {
+            key,
+            name,
+            open,
+            parameters,
+            close,
+            brace,
+            guards,
+            algebra,
+            semicolon,
+            cases,
+            actions,
+            end,
+        })
+    }
+
+    /// What `region`, which comes next, begins.
+    pub(crate) fn region(&mut self, room: u32) -> Result<Region, Stop>
+        ensures { IsRead region_view result self.new.rest.now (read_region room self.old.rest.now) }
+    {
+        let key = self.next_place()?;
+        let head = self.head(room)?;
+        let (inner, brace) = self.opening(room, Class::OpenBrace)?;
+        self.region_body(inner, key, head, brace)
+    }
+}

@@ -1,0 +1,343 @@
+// Statements. `room` is how many more brackets may open.
+
+ghost use Rattle.std.specs.Prelude.{◌≡◌, Ok, map, not, option_map};
+ghost use Rattle.cap_tree.specs.Views.{term_view, comparison_view, several_view, listed_view, behind_view, clause_view, value_view, statement_view, block_view, else_view};
+ghost use Rattle.cap_grammar.specs.Classes.{are_same};
+ghost use Rattle.cap_grammar.specs.Grammar.{read_term, read_terms, read_load, read_alloc, read_cas, read_named_value, read_value, read_named_statement, read_store, read_fork, read_else, read_branch, read_loop, read_check, read_give_back, read_statement, read_block_with, block_at, read_clause};
+ghost use Rattle.cap_grammar.specs.Readers.{read_more, read_several, read_optional, read_until};
+ghost use Rattle.cap_grammar.specs.declared.class.Class.TheVariants.{Comma, Close, Semicolon, Invariant, Else as Otherwise, CloseBrace};
+ghost use Rattle.cap_parse.specs.Reads.{IsRead};
+
+use crate::cursor::{Cursor, Stop};
+use cap_grammar::Class;
+use cap_syntax::Place;
+use cap_tree::{Block, Clause, Else, Listed, Separated, Statement, Term, Value, Word};
+
+impl<'a> Cursor<'a> {
+    fn more_terms(&mut self, room: u32) -> Result<Vec<(Place, Term)>, Stop>
+        ensures { IsRead (λ v. map (behind_view term_view) v.items) result self.new.rest.now
+            (read_more Comma (read_term room) self.old.rest.now) }
+    {
+        let mut more = Vec::new(self.alloc);
+        while self.is_ahead(Class::Comma) {
+            let comma = self.next_place()?;
+            let term = self.term(room)?;
+            more.push((comma, term))?;
+        }
+        Ok(more)
+    }
+
+    fn several_terms(&mut self, room: u32) -> Result<Separated<Term>, Stop>
+        ensures { IsRead (several_view term_view) result self.new.rest.now
+            (read_several Comma (read_term room) self.old.rest.now) }
+    {
+        let first = self.term(room)?;
+        let more = self.more_terms(room)?;
+        Ok(Separated { first, more })
+    }
+
+    fn optional_terms(&mut self, room: u32) -> Result<Option<Separated<Term>>, Stop>
+        ensures { IsRead (option_map (several_view term_view)) result self.new.rest.now
+            (read_optional (λ a. not (are_same Close a)) (read_several Comma (read_term room))
+              self.old.rest.now) }
+    {
+        if self.is_ahead(Class::Close) {
+            Ok(None)
+        } else {
+            Ok(Some(self.several_terms(room)?))
+        }
+    }
+
+    /// Terms in parentheses.
+    fn terms(&mut self, room: u32) -> Result<Listed<Term>, Stop>
+        ensures { IsRead (listed_view term_view) result self.new.rest.now
+            (read_terms room self.old.rest.now) }
+    {
+        let (inner, open) = self.opening(room, Class::Open)?;
+        let parts = self.optional_terms(inner)?;
+        let close = self.expect(Class::Close)?;
+        Ok(Listed { open, parts, close })
+    }
+
+    fn load(&mut self, room: u32) -> Result<Value, Stop>
+        ensures { IsRead value_view result self.new.rest.now (read_load room self.old.rest.now) }
+    {
+        let (inner, open) = self.opening(room, Class::OpenBracket)?;
+        let address = self.term(inner)?;
+        let close = self.expect(Class::CloseBracket)?;
+        Ok(Value::Load(open, address, close))
+    }
+
+    /// What `alloc`, which comes next, begins.
+    fn allocation(&mut self, room: u32) -> Result<Value, Stop>
+        ensures { IsRead value_view result self.new.rest.now (read_alloc room self.old.rest.now) }
+    {
+        let key = self.next_place()?;
+        let (_, open) = self.opening(room, Class::Open)?;
+        let cells = self.number()?;
+        let close = self.expect(Class::Close)?;
+        Ok(Value::Alloc(key, open, cells, close))
+    }
+
+    /// What `CAS`, which comes next, begins.
+    fn cas(&mut self, room: u32) -> Result<Value, Stop>
+        ensures { IsRead value_view result self.new.rest.now (read_cas room self.old.rest.now) }
+    {
+        let key = self.next_place()?;
+        let (inner, open) = self.opening(room, Class::Open)?;
+        let address = self.term(inner)?;
+        let first = self.expect(Class::Comma)?;
+        let expected = self.term(inner)?;
+        let second = self.expect(Class::Comma)?;
+        let new = self.term(inner)?;
+        let close = self.expect(Class::Close)?;
+        Ok(Value::Cas(
+            key, open, address, first, expected, second, new, close,
+        ))
+    }
+
+    /// A name, behind which the arguments of a call or more of a term come.
+    fn named_value(&mut self, room: u32, name: Word) -> Result<Value, Stop>
+        ensures { IsRead value_view result self.new.rest.now
+            (read_named_value room name self.old.rest.now) }
+    {
+        match self.ahead() {
+            Class::Open => {
+                let arguments = self.terms(room)?;
+                Ok(Value::Call(name, arguments))
+            }
+            _ => Ok(Value::Term(self.term_named(room, name)?)),
+        }
+    }
+
+    fn value(&mut self, room: u32) -> Result<Value, Stop>
+        ensures { IsRead value_view result self.new.rest.now (read_value room self.old.rest.now) }
+    {
+        match self.ahead() {
+            Class::OpenBracket => self.load(room),
+            Class::Alloc => self.allocation(room),
+            Class::Cas => self.cas(room),
+            Class::Name => {
+                let name = self.next_word()?;
+                self.named_value(room, name)
+            }
+            _ => Ok(Value::Term(self.term(room)?)),
+        }
+    }
+
+    /// A name, behind which a value or the arguments of a call come.
+    fn named_statement(&mut self, room: u32, name: Word) -> Result<Statement, Stop>
+        ensures { IsRead statement_view result self.new.rest.now
+            (read_named_statement room name self.old.rest.now) }
+    {
+        match self.ahead() {
+            Class::Becomes => {
+                let becomes = self.next_place()?;
+                let value = self.value(room)?;
+                let semicolon = self.expect(Class::Semicolon)?;
+                Ok(Statement::Assign(name, becomes, value, semicolon))
+            }
+            Class::Open => {
+                let arguments = self.terms(room)?;
+                let semicolon = self.expect(Class::Semicolon)?;
+                Ok(Statement::Call(name, arguments, semicolon))
+            }
+            _ => Err(Stop::Unexpected),
+        }
+    }
+
+    fn store(&mut self, room: u32) -> Result<Statement, Stop>
+        ensures { IsRead statement_view result self.new.rest.now
+            (read_store room self.old.rest.now) }
+    {
+        let (inner, open) = self.opening(room, Class::OpenBracket)?;
+        let address = self.term(inner)?;
+        let close = self.expect(Class::CloseBracket)?;
+        let becomes = self.expect(Class::Becomes)?;
+        let value = self.term(room)?;
+        let semicolon = self.expect(Class::Semicolon)?;
+        Ok(Statement::Store(
+            open, address, close, becomes, value, semicolon,
+        ))
+    }
+
+    /// What `fork`, which comes next, begins.
+    fn fork(&mut self, room: u32) -> Result<Statement, Stop>
+        ensures { IsRead statement_view result self.new.rest.now
+            (read_fork room self.old.rest.now) }
+    {
+        let key = self.next_place()?;
+        let name = self.name()?;
+        let arguments = self.terms(room)?;
+        let semicolon = self.expect(Class::Semicolon)?;
+        Ok(Statement::Fork(key, name, arguments, semicolon))
+    }
+
+    /// What `assert`, which comes next, begins.
+    fn assertion_statement(&mut self, room: u32) -> Result<Statement, Stop>
+        ensures { IsRead statement_view result self.new.rest.now
+            (read_check room self.old.rest.now) }
+    {
+        let key = self.next_place()?;
+        let comparison = self.comparison(room)?;
+        let semicolon = self.expect(Class::Semicolon)?;
+        Ok(Statement::Assert(key, comparison, semicolon))
+    }
+
+    fn optional_term(&mut self, room: u32) -> Result<Option<Term>, Stop>
+        ensures { IsRead (option_map term_view) result self.new.rest.now
+            (read_optional (λ a. not (are_same Semicolon a)) (read_term room) self.old.rest.now) }
+    {
+        if self.is_ahead(Class::Semicolon) {
+            Ok(None)
+        } else {
+            Ok(Some(self.term(room)?))
+        }
+    }
+
+    /// What `return`, which comes next, begins.
+    fn return_statement(&mut self, room: u32) -> Result<Statement, Stop>
+        ensures { IsRead statement_view result self.new.rest.now
+            (read_give_back room self.old.rest.now) }
+    {
+        let key = self.next_place()?;
+        let term = self.optional_term(room)?;
+        let semicolon = self.expect(Class::Semicolon)?;
+        Ok(Statement::Return(key, term, semicolon))
+    }
+
+    /// A clause, if the keyword of this class comes next.
+    pub(crate) fn optional_clause(
+        &mut self,
+        room: u32,
+        class: Class,
+    ) -> Result<Option<Clause>, Stop>
+        ensures { IsRead (option_map clause_view) result self.new.rest.now
+            (read_optional (are_same class) (read_clause room class) self.old.rest.now) }
+    {
+        if self.is_ahead(class) {
+            Ok(Some(self.clause(room, class)?))
+        } else {
+            Ok(None)
+        }
+    }
+
+    /// What `else`, which comes next, begins.
+    #[cycle(statements)]
+    fn otherwise(&mut self, room: u32) -> Result<Else, Stop>
+        ensures { IsRead else_view result self.new.rest.now
+            (read_else (block_at room) self.old.rest.now) }
+    {
+        let key = self.next_place()?;
+        let block = self.block(room)?;
+        Ok(Else { key, block })
+    }
+
+    #[cycle(statements)]
+    fn optional_else(&mut self, room: u32) -> Result<Option<Else>, Stop>
+        ensures { IsRead (option_map else_view) result self.new.rest.now
+            (read_optional (are_same Otherwise) (read_else (block_at room)) self.old.rest.now) }
+    {
+        if self.is_ahead(Class::Else) {
+            Ok(Some(self.otherwise(room)?))
+        } else {
+            Ok(None)
+        }
+    }
+
+    /// What `if`, which comes next, begins.
+    #[cycle(statements)]
+    fn branch(&mut self, room: u32) -> Result<Statement, Stop>
+        ensures { IsRead statement_view result self.new.rest.now
+            (read_branch (block_at room) room self.old.rest.now) }
+    {
+        let key = self.next_place()?;
+        let (inner, open) = self.opening(room, Class::Open)?;
+        let comparison = self.comparison(inner)?;
+        let close = self.expect(Class::Close)?;
+        let block = self.block(room)?;
+        let otherwise = self.optional_else(room)?;
+        Ok(Statement::If(
+            key, open, comparison, close, block, otherwise,
+        ))
+    }
+
+    /// What `while`, which comes next, begins.
+    #[cycle(statements)]
+    fn repetition(&mut self, room: u32) -> Result<Statement, Stop>
+        ensures { IsRead statement_view result self.new.rest.now
+            (read_loop (block_at room) room self.old.rest.now) }
+    {
+        let key = self.next_place()?;
+        let (inner, open) = self.opening(room, Class::Open)?;
+        let comparison = self.comparison(inner)?;
+        let close = self.expect(Class::Close)?;
+        let invariant = self.optional_clause(room, Class::Invariant)?;
+        let block = self.block(room)?;
+        Ok(Statement::While(
+            key, open, comparison, close, invariant, block,
+        ))
+    }
+
+    #[cycle(statements)]
+    fn statement(&mut self, room: u32) -> Result<Statement, Stop>
+        ensures { IsRead statement_view result self.new.rest.now
+            (read_statement (block_at room) room self.old.rest.now) }
+    {
+        match self.ahead() {
+            Class::Name => {
+                let name = self.next_word()?;
+                self.named_statement(room, name)
+            }
+            Class::OpenBracket => self.store(room),
+            Class::Fork => self.fork(room),
+            Class::If => self.branch(room),
+            Class::While => self.repetition(room),
+            Class::Assert => self.assertion_statement(room),
+            Class::Return => self.return_statement(room),
+            _ => Err(Stop::Unexpected),
+        }
+    }
+
+    #[cycle(statements)]
+    fn statements(&mut self, room: u32) -> Result<Vec<Statement>, Stop>
+        ensures { IsRead (λ v. map statement_view v.items) result self.new.rest.now
+            (read_until CloseBrace (read_statement (block_at room) room) self.old.rest.now) }
+    {
+        let mut statements = Vec::new(self.alloc);
+        while !self.is_ahead(Class::CloseBrace) {
+            let statement = self.statement(room)?;
+            statements.push(statement)?;
+        }
+        Ok(statements)
+    }
+
+    #[cycle(statements)]
+    pub(crate) fn block(&mut self, room: u32) -> Result<Block, Stop>
+        ensures { IsRead block_view result self.new.rest.now (block_at room self.old.rest.now) }
+    {
+        if room > 0 {
+            return self.statements_in_braces(room - 1);
+        }
+        if self.is_ahead(Class::OpenBrace) {
+            Err(Stop::TooDeep)
+        } else {
+            Err(Stop::Unexpected)
+        }
+    }
+
+    #[cycle(statements)]
+    fn statements_in_braces(&mut self, room: u32) -> Result<Block, Stop>
+        ensures { IsRead block_view result self.new.rest.now
+            (read_block_with (read_statement (block_at room) room) self.old.rest.now) }
+    {
+        let open = self.expect(Class::OpenBrace)?;
+        let statements = self.statements(room)?;
+        let close = self.expect(Class::CloseBrace)?;
+        Ok(Block {
+            open,
+            statements,
+            close,
+        })
+    }
+}
