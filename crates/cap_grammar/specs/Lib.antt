@@ -1,3 +1,4 @@
 pub mod Classes
 pub mod Readers
 pub mod Grammar
+pub mod Laws
