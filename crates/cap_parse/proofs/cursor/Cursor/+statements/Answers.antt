@@ -1,0 +1,18 @@
+use Rattle.std.proofs.Common.{rules, not, ap, sym, ◌∙◌}
+use Rattle.cap_grammar.specs.Classes.{are_same}
+use Rattle.cap_tree.specs.Views.{statement_view}
+use Rattle.cap_grammar.specs.Grammar.{read_statement, block_at}
+use Rattle.cap_grammar.specs.declared.class.Class.TheVariants.{CloseBrace}
+use Rattle.cap_grammar.specs.Laws.Taking.{statement-takes, statement-ends}
+use Rattle.cap_parse.proofs.Loops.{while-pushed}
+use Rattle.cap_parse.proofs.cursor.Cursor.+statements.Goals as goal
+
+pub statements-loop-self-preserved : goal.statements-loop-self-preserved
+statements-loop-self-preserved t c =
+    rw c.in_ok-push.ensures.items
+    (while-pushed (λ k. not (are_same CloseBrace k)) (read_statement (block_at c.args.room) c.args.room) statement_view (statement-takes c.args.room) (statement-ends c.args.room _) c.loop-self.statements.items _ _ _ _
+      (ap not (sym c.is_ahead.ensures) ∙ ap not c.loop-self-test.true) c.in_ok-statement.ensures c.loop-self.invariant)
+
+pub statements-loop-self-smaller : goal.statements-loop-self-smaller
+statements-loop-self-smaller t c =
+    ((statement-takes c.args.room) _).fewer _ _ c.in_ok-statement.ensures
