@@ -1,2 +1,4 @@
+pub mod Parsing
 pub mod Reads
+pub mod Reading
 pub mod Heads

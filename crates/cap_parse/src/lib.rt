@@ -1,4 +1,4 @@
-//! From the tokens of a text to its tree, and from the tree to its canonical text.
+//! From the tokens of a text to its tree.
 #![tactic(auto)]
 
 mod assertion;
@@ -7,3 +7,8 @@ mod program;
 mod region;
 mod statement;
 mod term;
+#[cfg(test)]
+mod tests;
+mod text;
+
+pub use text::{ParseError, parse};

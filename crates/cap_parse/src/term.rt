@@ -5,7 +5,7 @@ ghost use Rattle.cap_tree.specs.Tree.{named};
 ghost use Rattle.cap_tree.specs.Views.{factor_view, times_view, product_view, addend_view, term_view, comparison_view, slot_view};
 ghost use Rattle.cap_grammar.specs.Grammar.{read_factor, bracketed_at, read_bracketed, read_product, read_product_from, read_addend, read_term, read_term_from, read_sign, read_relation, read_comparison, read_comparison_from, read_slot, is_sign};
 ghost use Rattle.cap_grammar.specs.Classes.{are_same};
-ghost use Rattle.cap_grammar.specs.Readers.{next_place, read_more, read_optional, read_while, read_behind};
+ghost use Rattle.cap_grammar.specs.Readers.{ahead, next_place, read_more, read_optional, read_while, read_behind};
 ghost use Rattle.cap_grammar.specs.declared.class.Class.TheVariants.{Star, Minus};
 ghost use Rattle.cap_parse.specs.Reads.{IsRead};
 
@@ -95,7 +95,7 @@ impl<'a> Cursor<'a> {
             (read_while is_sign (read_addend (bracketed_at room)) self.old.rest.now) }
     {
         let mut addends = Vec::new(self.alloc);
-        while is_sign(self.ahead()) {
+        while self.is_sign_ahead() {
             let addend = self.addend(room)?;
             addends.push(addend)?;
         }
@@ -144,6 +144,12 @@ impl<'a> Cursor<'a> {
         } else {
             Ok(None)
         }
+    }
+
+    fn is_sign_ahead(&self) -> bool
+        ensures { result ≡ is_sign (ahead self.now.rest.now) }
+    {
+        matches!(self.ahead(), Class::Plus | Class::Minus)
     }
 
     fn sign(&mut self) -> Result<(Sign, Place), Stop>
@@ -200,10 +206,4 @@ impl<'a> Cursor<'a> {
             _ => Ok(Slot::Is(self.term(room)?)),
         }
     }
-}
-
-fn is_sign(class: Class) -> bool
-    ensures { result ≡ is_sign class }
-{
-    matches!(class, Class::Plus | Class::Minus)
 }

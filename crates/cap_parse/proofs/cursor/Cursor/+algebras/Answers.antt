@@ -5,7 +5,15 @@ use Rattle.cap_grammar.specs.Grammar.{read_declared, grouped_at, read_joint}
 use Rattle.cap_grammar.specs.declared.class.Class.TheVariants.{Star, Plus}
 use Rattle.cap_grammar.specs.Laws.Taking.{declared-takes, joint-takes}
 use Rattle.cap_parse.proofs.Loops.{more-pushed, more-smaller}
+use Rattle.std.proofs.Common.{arith}
+use Rattle.std.proofs.lemmas.Bool.Decides.{nat_tests}
+use Rattle.cap_parse.proofs.Brackets.{grouped-inside}
 use Rattle.cap_parse.proofs.cursor.Cursor.+algebras.Goals as goal
+
+pub grouped-returns-then-room-gt0 : goal.grouped-returns-then-room-gt0
+grouped-returns-then-room-gt0 t c =
+    rw (grouped-inside c.args.room c.args.self.now.rest.now (grind (arith, nat_tests, c.if-room-gt0.true)))
+    c.algebra_in_parentheses.ensures
 
 pub more_declared-loop-self-preserved : goal.more_declared-loop-self-preserved
 more_declared-loop-self-preserved t c =

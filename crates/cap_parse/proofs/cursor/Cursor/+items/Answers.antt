@@ -5,7 +5,15 @@ use Rattle.cap_grammar.specs.Grammar.{read_item, side_at}
 use Rattle.cap_grammar.specs.declared.class.Class.TheVariants.{And}
 use Rattle.cap_grammar.specs.Laws.Taking.{item-takes}
 use Rattle.cap_parse.proofs.Loops.{more-pushed, more-smaller}
+use Rattle.std.proofs.Common.{arith}
+use Rattle.std.proofs.lemmas.Bool.Decides.{nat_tests}
+use Rattle.cap_parse.proofs.Brackets.{side-inside}
 use Rattle.cap_parse.proofs.cursor.Cursor.+items.Goals as goal
+
+pub side-returns-then-room-gt0 : goal.side-returns-then-room-gt0
+side-returns-then-room-gt0 t c =
+    rw (side-inside c.args.room c.args.self.now.rest.now (grind (arith, nat_tests, c.if-room-gt0.true)))
+    c.in_braces.ensures
 
 pub more_items-loop-self-preserved : goal.more_items-loop-self-preserved
 more_items-loop-self-preserved t c =

@@ -5,7 +5,15 @@ use Rattle.cap_grammar.specs.Grammar.{read_statement, block_at}
 use Rattle.cap_grammar.specs.declared.class.Class.TheVariants.{CloseBrace}
 use Rattle.cap_grammar.specs.Laws.Taking.{statement-takes, statement-ends}
 use Rattle.cap_parse.proofs.Loops.{while-pushed}
+use Rattle.std.proofs.Common.{arith}
+use Rattle.std.proofs.lemmas.Bool.Decides.{nat_tests}
+use Rattle.cap_parse.proofs.Brackets.{block-inside}
 use Rattle.cap_parse.proofs.cursor.Cursor.+statements.Goals as goal
+
+pub block-returns-then-room-gt0 : goal.block-returns-then-room-gt0
+block-returns-then-room-gt0 t c =
+    rw (block-inside c.args.room c.args.self.now.rest.now (grind (arith, nat_tests, c.if-room-gt0.true)))
+    c.statements_in_braces.ensures
 
 pub statements-loop-self-preserved : goal.statements-loop-self-preserved
 statements-loop-self-preserved t c =

@@ -1,0 +1,95 @@
+-- What the grammar's reader gives is what the tokens spell, or where they go wrong.
+use Rattle.std.proofs.Common.{◌≡◌, ◌↔◌, List, [], ◌∷◌, ◌++◌, Result, Ok, Err, refl, sym, ap, ◌∙◌, subst}
+use Rattle.cap_syntax.specs.declared.place.Place.{Place}
+use Rattle.cap_syntax.specs.declared.token.Token.{Token}
+use Rattle.cap_syntax.specs.Layout.{EndsOnce}
+use Rattle.cap_tree.specs.declared.tree.Tree.{Tree}
+use Rattle.cap_tree.specs.Tree.{ProgramTree}
+use Rattle.cap_tree.specs.Spelling.{spelling}
+use Rattle.cap_tree.specs.Nesting.{max_nesting, Nests}
+use Rattle.cap_tree.specs.Texts.{IsUnexpectedAt, IsTooDeepAt}
+use Rattle.cap_tree.specs.Views.{tree_view}
+use Rattle.cap_grammar.specs.Readers.{Fault, unexpected, too_deep}
+use Rattle.cap_grammar.specs.Grammar.{read_program}
+use Rattle.cap_parse.specs.declared.text.ParseError.{ParseError}
+use Rattle.cap_parse.specs.declared.text.ParseError.TheVariants.{Unexpected, TooDeep, OutOfMemory}
+use Rattle.cap_parse.specs.Parsing.{first_place, IsTreeOf, IsParseOf, GivesTree, Refuses, IsOnlyParseOf}
+use Rattle.cap_parse.specs.Reading.{IsReadingOf}
+
+-- the laws of the grammar
+pub record AreLaws : Type 0 where
+  pub sound : (ts : List Token) (t : ProgramTree) → read_program max_nesting ts ≡ Ok t → (ts ≡ spelling t) × Nests t
+  pub complete : (t : ProgramTree) → Nests t → read_program max_nesting (spelling t) ≡ Ok t
+  pub unexpected_at : (ts rest : List Token) → (read_program max_nesting ts ≡ Err (unexpected rest)) ↔ IsUnexpectedAt ts rest
+  pub too_deep_at : (ts rest : List Token) → (read_program max_nesting ts ≡ Err (too_deep rest)) ↔ IsTooDeepAt ts rest
+
+pub parse-of : AreLaws → (ts : List Token) (end : Place) (r : Result Tree ParseError) → IsReadingOf ts end r → IsParseOf ts end r
+parse-of laws ts end (Ok t) h = laws.sound ts (tree_view t) h
+parse-of laws ts end (Err (Unexpected p)) h = (h.0, (laws.unexpected_at ts h.0).0 h.1, h.2)
+parse-of laws ts end (Err (TooDeep p)) h = (h.0, (laws.too_deep_at ts h.0).0 h.1, h.2)
+parse-of laws ts end (Err OutOfMemory) h = tt
+
+gives : (ts : List Token) (end : Place) (t : ProgramTree) (r : Result Tree ParseError) → read_program max_nesting ts ≡ Ok t → IsReadingOf ts end r → GivesTree t r
+gives ts end t (Ok u) e h = let f : Ok (tree_view u) ≡ Ok t = sym h ∙ e in cc
+gives ts end t (Err (Unexpected p)) e h = let f = sym e ∙ h.1 in absurd cc
+gives ts end t (Err (TooDeep p)) e h = let f = sym e ∙ h.1 in absurd cc
+gives ts end t (Err OutOfMemory) e h = refl
+
+refuses-unexpected : (ts : List Token) (end : Place) (rest : List Token) (r : Result Tree ParseError)
+    → read_program max_nesting ts ≡ Err (unexpected rest) → IsReadingOf ts end r → Refuses (Unexpected (first_place rest end)) r
+refuses-unexpected ts end rest (Ok u) e h = let f = sym e ∙ h in absurd cc
+refuses-unexpected ts end rest (Err (Unexpected p)) e h =
+    let f = sym h.1 ∙ e in
+    let same : h.0 ≡ rest = cc in
+    ap Unexpected (h.2 ∙ ap (λ l. first_place l end) same)
+refuses-unexpected ts end rest (Err (TooDeep p)) e h = let f = sym e ∙ h.1 in absurd cc
+refuses-unexpected ts end rest (Err OutOfMemory) e h = tt
+
+refuses-too_deep : (ts : List Token) (end : Place) (rest : List Token) (r : Result Tree ParseError)
+    → read_program max_nesting ts ≡ Err (too_deep rest) → IsReadingOf ts end r → Refuses (TooDeep (first_place rest end)) r
+refuses-too_deep ts end rest (Ok u) e h = let f = sym e ∙ h in absurd cc
+refuses-too_deep ts end rest (Err (Unexpected p)) e h = let f = sym e ∙ h.1 in absurd cc
+refuses-too_deep ts end rest (Err (TooDeep p)) e h =
+    let f = sym h.1 ∙ e in
+    let same : h.0 ≡ rest = cc in
+    ap TooDeep (h.2 ∙ ap (λ l. first_place l end) same)
+refuses-too_deep ts end rest (Err OutOfMemory) e h = tt
+
+pub only-parse-of : AreLaws → (ts : List Token) (end : Place) (r : Result Tree ParseError) → IsReadingOf ts end r → IsOnlyParseOf ts end r
+only-parse-of laws ts end r h = record {
+  spelled = λ t s. gives ts end t r (ap (read_program max_nesting) s.0 ∙ laws.complete t s.1) h;
+  unexpected = λ rest w. refuses-unexpected ts end rest r ((laws.unexpected_at ts rest).1 w) h;
+  too_deep = λ rest w. refuses-too_deep ts end rest r ((laws.too_deep_at ts rest).1 w) h;
+}
+
+-- the end of a list stands in one place
+same-end : (a b : List Token) (x y : Token) → a ++ x ∷ [] ≡ b ++ y ∷ [] → (a ≡ b) × (x ≡ y)
+same-end [] [] x y e = (refl, cc)
+same-end [] (t ∷ []) x y e = absurd cc
+same-end [] (t ∷ u ∷ b) x y e = absurd cc
+same-end (t ∷ []) [] x y e = absurd cc
+same-end (t ∷ u ∷ a) [] x y e = absurd cc
+same-end (t ∷ a) (u ∷ b) x y e =
+    let h : t ≡ u = cc in
+    let k : a ++ x ∷ [] ≡ b ++ y ∷ [] = cc in
+    let i = same-end a b x y k in
+    (ap (λ l. t ∷ l) i.0 ∙ ap (λ z. z ∷ b) h, i.1)
+
+pub parse-answers : AreLaws → (all before : List Token) (last : Token) (r : Result Tree ParseError) → all ≡ before ++ last ∷ []
+    → IsReadingOf before last.place r → (front : List Token) (end : Token) → all ≡ front ++ end ∷ [] → IsParseOf front end.place r
+parse-answers laws all before last r a h front end b =
+    let same = same-end before front last end (sym a ∙ b) in
+    subst (λ l. IsParseOf l end.place r) same.0 (subst (λ t. IsParseOf before t.place r) same.1 (parse-of laws before last.place r h))
+
+pub parse-only : AreLaws → (all before : List Token) (last : Token) (r : Result Tree ParseError) → all ≡ before ++ last ∷ []
+    → IsReadingOf before last.place r → (front : List Token) (end : Token) → all ≡ front ++ end ∷ [] → IsOnlyParseOf front end.place r
+parse-only laws all before last r a h front end b =
+    let same = same-end before front last end (sym a ∙ b) in
+    subst (λ l. IsOnlyParseOf l end.place r) same.0 (subst (λ t. IsOnlyParseOf before t.place r) same.1 (only-parse-of laws before last.place r h))
+
+pub never-empty : EndsOnce [] → ⊥
+never-empty e = by e.front e.whole
+  where
+    by : (front : List Token) → [] ≡ front ++ e.last ∷ [] → ⊥
+    by [] w = cc
+    by (t ∷ ts) w = cc
