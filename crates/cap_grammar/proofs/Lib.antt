@@ -1,2 +1,6 @@
 pub mod Tags
 pub mod Shapes
+pub mod Automaton
+pub mod Meets
+pub mod MeetsTerms
+pub mod MeetsAssertions
