@@ -4,3 +4,4 @@ pub mod Automaton
 pub mod Meets
 pub mod MeetsTerms
 pub mod MeetsAssertions
+pub mod MeetsStatements

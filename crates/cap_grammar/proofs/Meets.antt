@@ -133,15 +133,23 @@ pub no_room-meets : {A : Type 0} {R : A → List Token → Type 0} (k : Class) (
 no_room-meets k ts s s2 d n r =
     either (are_same k (ahead ts)) (λ e. record { held = too-deep k ts s n r (this-token k ts e) }) (λ e. refuse _ _ _ (other-token k s ts e))
 
--- a bracket, and what is in it
+-- a bracket, what is in it, and what comes behind
+pub opened-within : {B : Type 0} {Q : B → List Token → Type 0} {s2 : Stack} {next_reader : (ℕ × Place) × List Token → Outcome B} (k : Class) (room : ℕ) (ts : List Token) (s : Stack)
+    → is_plain k ≡ true → ((d : ℕ) → room_after d k ≡ one_fewer d)
+    → ((o : (ℕ × Place) × List Token) → suc o.0.0 ≡ room → ts ≡ plain k o.0.1 ∷ o.1 → Meets Q (run s o.0.0 o.1) s2 room (next_reader o))
+    → Meets Q (run (fixed k ∷ s) room ts) s2 room (read_opening room k ts >>= next_reader)
+opened-within k zero ts s n r then = chain {R = λ o rest. ⊥} (no_room-meets k ts s s 0 n (r 0)) (λ o f. absurd f)
+opened-within {Q = Q} {s2 = s2} {next_reader = reader} k (suc d) ts s n r then =
+    chain {R = λ o rest. (o.0 ≡ d) × (ts ≡ plain k o.1 ∷ rest)} (chain (expect-meets k (suc d) d ts s n (r (suc d))) (λ p f. so (refl, f))) (λ o f.
+    from (ap (λ e. run s e o.1) (sym f.0)) (then o (ap suc f.0) f.1))
+
+-- a bracket, and what is in it up to the bracket that closes it
 pub opened : {B : Type 0} {Q : B → List Token → Type 0} {s2 : Stack} {next_reader : (ℕ × Place) × List Token → Outcome B} (k : Class) (room : ℕ) (ts : List Token) (s : Stack)
     → is_plain k ≡ true → ((d : ℕ) → room_after d k ≡ one_fewer d)
     → ((o : (ℕ × Place) × List Token) → ts ≡ plain k o.0.1 ∷ o.1 → Meets Q (run s o.0.0 o.1) s2 (suc o.0.0) (next_reader o))
     → Meets Q (run (fixed k ∷ s) room ts) s2 room (read_opening room k ts >>= next_reader)
-opened k zero ts s n r then = chain {R = λ o rest. ⊥} (no_room-meets k ts s s 0 n (r 0)) (λ o f. absurd f)
-opened {Q = Q} {s2 = s2} {next_reader = reader} k (suc d) ts s n r then =
-    chain {R = λ o rest. (o.0 ≡ d) × (ts ≡ plain k o.1 ∷ rest)} (chain (expect-meets k (suc d) d ts s n (r (suc d))) (λ p f. so (refl, f))) (λ o f.
-    subst (λ e. Meets Q (run s e o.1) s2 (suc e) (reader o)) f.0 (then o f.1))
+opened {Q = Q} {s2 = s2} {next_reader = reader} k room ts s n r then =
+    opened-within k room ts s n r (λ o e f. subst (λ m. Meets Q (run s o.0.0 o.1) s2 m (reader o)) e (then o f))
 
 -- lists of parts, and parts that may be absent
 
