@@ -5,3 +5,4 @@ pub mod Meets
 pub mod MeetsTerms
 pub mod MeetsAssertions
 pub mod MeetsStatements
+pub mod MeetsTexts
