@@ -6,3 +6,4 @@ pub mod MeetsTerms
 pub mod MeetsAssertions
 pub mod MeetsStatements
 pub mod MeetsTexts
+pub mod Gives
