@@ -7,3 +7,4 @@ pub mod MeetsAssertions
 pub mod MeetsStatements
 pub mod MeetsTexts
 pub mod Gives
+pub mod Complete
