@@ -56,29 +56,29 @@ unfolding list_of_items
 items-again no_item = refl
 items-again (and_item p i more) = ap (and_item p i) (items-again more)
 
-list_of_statements : StatementTrees → List StatementTree
+pub list_of_statements : StatementTrees → List StatementTree
 list_of_statements no_statement = []
 list_of_statements (then_statement s more) = s ∷ list_of_statements more
 
-statements-again : (more : StatementTrees) → statements_of (list_of_statements more) ≡ more
+pub statements-again : (more : StatementTrees) → statements_of (list_of_statements more) ≡ more
 unfolding list_of_statements
 statements-again no_statement = refl
 statements-again (then_statement s more) = ap (then_statement s) (statements-again more)
 
-list_of_declareds : DeclaredTrees → List BothTree
+pub list_of_declareds : DeclaredTrees → List BothTree
 list_of_declareds no_declared = []
 list_of_declareds (and_declared p d more) = (p, d) ∷ list_of_declareds more
 
-declareds-again : (more : DeclaredTrees) → declareds_of (list_of_declareds more) ≡ more
+pub declareds-again : (more : DeclaredTrees) → declareds_of (list_of_declareds more) ≡ more
 unfolding list_of_declareds
 declareds-again no_declared = refl
 declareds-again (and_declared p d more) = ap (and_declared p d) (declareds-again more)
 
-list_of_joints : JointTrees → List EitherTree
+pub list_of_joints : JointTrees → List EitherTree
 list_of_joints no_joint = []
 list_of_joints (or_joint p j more) = (p, j) ∷ list_of_joints more
 
-joints-again : (more : JointTrees) → joints_of (list_of_joints more) ≡ more
+pub joints-again : (more : JointTrees) → joints_of (list_of_joints more) ≡ more
 unfolding list_of_joints
 joints-again no_joint = refl
 joints-again (or_joint p j more) = ap (or_joint p j) (joints-again more)
@@ -95,7 +95,7 @@ factor-gives d h (named w) ts = gives
 factor-gives d h (bracketed p t q) ts = h p t q ts
 
 -- no term goes on with this
-abbrev ends_term : Class → Bool
+abbrev pub ends_term : Class → Bool
 ends_term c.Star = false
 ends_term c.Plus = false
 ends_term c.Minus = false
@@ -110,14 +110,14 @@ sign-ends c.Plus e = cc
 sign-ends c.Minus e = cc
 sign-ends k e = refl
 
-abbrev no_star : Class → Bool
+abbrev pub no_star : Class → Bool
 no_star k = not (are_same c.Star k)
 
-no-star : (k : Class) → no_star k ≡ true → are_same c.Star k ≡ false
+pub no-star : (k : Class) → no_star k ≡ true → are_same c.Star k ≡ false
 no-star c.Star e = cc
 no-star k e = refl
 
-star-no : (k : Class) → are_same c.Star k ≡ false → no_star k ≡ true
+pub star-no : (k : Class) → are_same c.Star k ≡ false → no_star k ≡ true
 star-no c.Star e = cc
 star-no k e = refl
 
@@ -169,10 +169,10 @@ bracketed-gives : (d : ℕ) → BracketGives d
 bracketed-gives zero p t q ts = not-here
 bracketed-gives (suc d) p t q ts = yields _ (term-gives-with d (bracketed-gives d) t (symbol (codes ")") q ∷ ts) refl) gives
 
-term-gives : (d : ℕ) (t : TermTree) (ts : List Token) → ends_term (ahead ts) ≡ true → Gives t ts (read_term d (spell_term t ts))
+pub term-gives : (d : ℕ) (t : TermTree) (ts : List Token) → ends_term (ahead ts) ≡ true → Gives t ts (read_term d (spell_term t ts))
 term-gives d = term-gives-with d (bracketed-gives d)
 
-abbrev begins_term : Class → Bool
+abbrev pub begins_term : Class → Bool
 begins_term c.Minus = true
 begins_term c.Number = true
 begins_term c.Share = true
@@ -180,7 +180,7 @@ begins_term c.Name = true
 begins_term c.Open = true
 begins_term k = false
 
-term-begins : (t : TermTree) (ts : List Token) → begins_term (ahead (spell_term t ts)) ≡ true
+pub term-begins : (t : TermTree) (ts : List Token) → begins_term (ahead (spell_term t ts)) ≡ true
 term-begins (term (Some p) (product f fs) ms) ts = refl
 term-begins (term None (product (literal n) fs) ms) ts = refl
 term-begins (term None (product (whole_share p) fs) ms) ts = refl
@@ -188,7 +188,7 @@ term-begins (term None (product (named w) fs) ms) ts = refl
 term-begins (term None (product (bracketed p t q) fs) ms) ts = refl
 
 -- what holds of a sign, a star and the next token holds behind a term's first factor
-rest-begins : (test : Class → Bool) → test c.Star ≡ true → test c.Plus ≡ true → test c.Minus ≡ true → (fs : FactorTrees) (ms : ProductTrees) (ts : List Token)
+pub rest-begins : (test : Class → Bool) → test c.Star ≡ true → test c.Plus ≡ true → test c.Minus ≡ true → (fs : FactorTrees) (ms : ProductTrees) (ts : List Token)
     → test (ahead ts) ≡ true → test (ahead (spell_factors fs (spell_products ms ts))) ≡ true
 rest-begins test s p m (times q f fs) ms ts h = s
 rest-begins test s p m no_factor no_product ts h = h
@@ -215,7 +215,7 @@ comparison_from-gives d x ts e = by x.relation
     by Greater = yields _ (term-gives d x.right ts e) gives
     by AtLeast = yields _ (term-gives d x.right ts e) gives
 
-comparison-gives : (d : ℕ) (x : ComparisonTree) (ts : List Token) → ends_term (ahead ts) ≡ true → Gives x ts (read_comparison d (spell_comparison x ts))
+pub comparison-gives : (d : ℕ) (x : ComparisonTree) (ts : List Token) → ends_term (ahead ts) ≡ true → Gives x ts (read_comparison d (spell_comparison x ts))
 comparison-gives d x ts e =
     yields _ (term-gives d x.left (symbol (relation_text x.relation) x.place ∷ spell_term x.right ts) (relation-ends x.relation x.place)) (comparison_from-gives d x ts e)
 
@@ -243,17 +243,17 @@ guard-gives d (count Source k w p x q) ts e =
 guard-gives d (count Tokens k w p x q) ts e =
     opens-then _ c.OpenBracket d (symbol (codes "[") p) (spell_slot x (symbol (codes "]") q ∷ ts)) refl (λ n. yields _ (slot-gives n x (symbol (codes "]") q ∷ ts) refl) gives)
 
-guards-gives : (d : ℕ) (g : GuardsTree) (ts : List Token) → are_same c.Star (ahead ts) ≡ false → not (are_same c.OpenBracket (ahead ts)) ≡ true → Gives g ts (read_guards d (spell_guards g ts))
+pub guards-gives : (d : ℕ) (g : GuardsTree) (ts : List Token) → are_same c.Star (ahead ts) ≡ false → not (are_same c.OpenBracket (ahead ts)) ≡ true → Gives g ts (read_guards d (spell_guards g ts))
 guards-gives d g ts e f =
     several-gives spell_guard (λ k. not (are_same c.OpenBracket k)) c.Star (codes "*") (read_guard d) (λ p. refl) refl refl (takes-keeps (read_guard d) (guard-takes d)) (guard-gives d) g ts e f
 
-abbrev begins_guard : Class → Bool
+abbrev pub begins_guard : Class → Bool
 begins_guard c.Name = true
 begins_guard c.Source = true
 begins_guard c.Tokens = true
 begins_guard k = false
 
-guard-begins : (g : GuardTree) (ts : List Token) → begins_guard (ahead (spell_guard g ts)) ≡ true
+pub guard-begins : (g : GuardTree) (ts : List Token) → begins_guard (ahead (spell_guard g ts)) ≡ true
 guard-begins (alone w) ts = refl
 guard-begins (amount w p x q) ts = refl
 guard-begins (count Source k w p x q) ts = refl
@@ -299,7 +299,7 @@ no-choice sides x c.Question ts e = cc
 no-choice sides x k ts e = refl
 
 -- behind a name neither a fact's parts nor guards come
-abbrev no_item_of_its_own : Class → Bool
+abbrev pub no_item_of_its_own : Class → Bool
 no_item_of_its_own c.Open = false
 no_item_of_its_own c.At = false
 no_item_of_its_own k = true
@@ -387,14 +387,14 @@ side-gives : (d : ℕ) → SideGives d
 side-gives zero (side p a q) ts = not-here
 side-gives (suc d) (side p a q) ts = yields _ (assertion-gives-with d (side-gives d) a (symbol (codes "}") q ∷ ts) refl refl) gives
 
-assertion-gives : (d : ℕ) (a : AssertionTree) (ts : List Token) → are_same c.And (ahead ts) ≡ false → ends_item (ahead ts) ≡ true
+pub assertion-gives : (d : ℕ) (a : AssertionTree) (ts : List Token) → are_same c.And (ahead ts) ≡ false → ends_item (ahead ts) ≡ true
     → Gives a ts (read_assertion d (spell_assertion a ts))
 assertion-gives d = assertion-gives-with d (side-gives d)
 
-expect-gives : (k : Class) (t : Token) (ts : List Token) → class t ≡ k → Gives t.place ts (expect k (t ∷ ts))
+pub expect-gives : (k : Class) (t : Token) (ts : List Token) → class t ≡ k → Gives t.place ts (expect k (t ∷ ts))
 expect-gives k t ts e = where-true (are_same k (class t)) _ (is-same k t e) gives
 
-clause-gives : (d : ℕ) (k : Class) (text : List ℕ) (x : ClauseTree) (ts : List Token) → ((p : Place) → class (keyword text p) ≡ k) → Gives x ts (read_clause d k (spell_clause text x ts))
+pub clause-gives : (d : ℕ) (k : Class) (text : List ℕ) (x : ClauseTree) (ts : List Token) → ((p : Place) → class (keyword text p) ≡ k) → Gives x ts (read_clause d k (spell_clause text x ts))
 clause-gives d k text x ts e =
     yields _ (expect-gives k (keyword text x.key) (spell_assertion x.assertion (symbol (codes ";") x.semicolon ∷ ts)) (e x.key))
     (yields _ (assertion-gives d x.assertion (symbol (codes ";") x.semicolon ∷ ts) refl refl) gives)

@@ -8,3 +8,4 @@ pub mod MeetsStatements
 pub mod MeetsTexts
 pub mod Gives
 pub mod Complete
+pub mod CompleteTexts
