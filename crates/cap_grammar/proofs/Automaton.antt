@@ -7,6 +7,14 @@ use Rattle.cap_grammar.specs.declared.class.Class.{Class}
 use Rattle.cap_grammar.specs.declared.class.Class.TheVariants as c
 use Rattle.cap_grammar.specs.Classes.{class, are_same}
 
+-- what ends a list of conditions
+pub data Ending : Type 0 where
+  a_colon a_semicolon : Ending
+
+abbrev pub end_class : Ending → Class
+end_class a_colon = c.Colon
+end_class a_semicolon = c.Semicolon
+
 -- what the next token decides. `may_` and `more_` parts may be empty; a part named for what it ends in
 -- has its last token too: `terms` and `names` end in a parenthesis, `slots` and `returned` in a
 -- semicolon, `statements`, `cases` and `actions` in a brace
@@ -17,7 +25,7 @@ pub data Rule : Type 0 where
   a_value named_value terms more_terms : Rule
   a_statement named_statement may_else may_invariant returned statements : Rule
   a_declared more_declared more_joints : Rule
-  may_when more_comparisons : Class → Rule
+  may_when more_comparisons : Ending → Rule
   cases actions names more_names may_requires may_ensures a_declaration declarations : Rule
 
 pub data Symbol : Type 0 where
@@ -61,10 +69,10 @@ abbrev pub an_algebra : Stack
 an_algebra = a_joint ++ rule more_joints ∷ []
 
 abbrev pub a_case : Stack
-a_case = a_term ++ rule (may_when c.Colon) ∷ an_assertion ++ fixed c.Semicolon ∷ []
+a_case = a_term ++ rule (may_when a_colon) ∷ an_assertion ++ fixed c.Semicolon ∷ []
 
 abbrev pub the_rest_of_an_action : Stack
-the_rest_of_an_action = rule more_guards ∷ fixed c.Colon ∷ a_term ++ fixed c.LeadsTo ∷ a_term ++ rule (may_when c.Semicolon) ∷ []
+the_rest_of_an_action = rule more_guards ∷ fixed c.Colon ∷ a_term ++ fixed c.LeadsTo ∷ a_term ++ rule (may_when a_semicolon) ∷ []
 
 -- what comes behind a token of each class that may come next
 abbrev pub Steps : Type 0
@@ -163,11 +171,11 @@ steps a_declared =
     ∷ (c.Open, an_algebra ++ fixed c.Close ∷ []) ∷ []
 steps more_declared = (c.Star, a_joint) ∷ []
 steps more_joints = (c.Plus, an_algebra) ∷ []
-steps (may_when end) = (c.When, a_comparison ++ rule (more_comparisons end) ∷ []) ∷ (end, []) ∷ []
-steps (more_comparisons end) = (c.Comma, a_comparison ++ rule (more_comparisons end) ∷ []) ∷ (end, []) ∷ []
+steps (may_when end) = (c.When, a_comparison ++ rule (more_comparisons end) ∷ []) ∷ (end_class end, []) ∷ []
+steps (more_comparisons end) = (c.Comma, a_comparison ++ rule (more_comparisons end) ∷ []) ∷ (end_class end, []) ∷ []
 steps cases =
     (c.CloseBrace, [])
-    ∷ behind (rule (may_when c.Colon) ∷ an_assertion ++ fixed c.Semicolon ∷ rule cases ∷ []) term_steps
+    ∷ behind (rule (may_when a_colon) ∷ an_assertion ++ fixed c.Semicolon ∷ rule cases ∷ []) term_steps
 steps actions = (c.CloseBrace, []) ∷ behind (the_rest_of_an_action ++ rule actions ∷ []) guard_steps
 steps names = (c.Close, []) ∷ (c.Name, rule more_names ∷ []) ∷ []
 steps more_names = (c.Comma, fixed c.Name ∷ rule more_names ∷ []) ∷ (c.Close, []) ∷ []

@@ -9,3 +9,5 @@ pub mod MeetsTexts
 pub mod Gives
 pub mod Complete
 pub mod CompleteTexts
+pub mod Completion
+pub mod Stops

@@ -10,7 +10,7 @@ use Rattle.cap_tree.specs.declared.term.Relation.{Relation}
 use Rattle.cap_tree.specs.declared.term.Relation.TheVariants.{Equal, Unequal, Less, AtMost, Greater, AtLeast}
 use Rattle.cap_tree.specs.declared.assertion.Counted.{Counted}
 use Rattle.cap_tree.specs.declared.assertion.Counted.TheVariants.{Source, Tokens}
-use Rattle.cap_tree.specs.Tree.{FactorTree, ProductTree, FactorTrees, TermTree, ProductTrees, SlotTree, GuardTree, HeldTree, ItemTree, ItemTrees, AssertionTree, SideTree, ValueTree, StatementTree, ElseTree, StatementTrees, BlockTree, DeclaredTree, DeclaredTrees, JointTree, JointTrees, AlgebraTree, DeclarationTree, Several, InParentheses, InBraces, ComparisonTree, ClauseTree, WhenTree, CaseTree, ActionTree, RegionTree, FunctionTree, ProgramTree, GuardsTree, literal, whole_share, named, bracketed, product, no_factor, times, term, no_product, signed, holds, fails, fact, guards, cell, compare, choose, no_item, and_item, assertion, side, assign, store, call, fork, branch, loop, check, give_back, no_else, else_block, no_statement, then_statement, block, unique, divisible, counting, grouped, no_declared, and_declared, joint, no_joint, or_joint, algebra}
+use Rattle.cap_tree.specs.Tree.{any, is, alone, amount, count, bare, in_parentheses, value, load, alloc, cas, result_of, region, function, FactorTree, ProductTree, FactorTrees, TermTree, ProductTrees, SlotTree, GuardTree, HeldTree, ItemTree, ItemTrees, AssertionTree, SideTree, ValueTree, StatementTree, ElseTree, StatementTrees, BlockTree, DeclaredTree, DeclaredTrees, JointTree, JointTrees, AlgebraTree, DeclarationTree, Several, InParentheses, InBraces, ComparisonTree, ClauseTree, WhenTree, CaseTree, ActionTree, RegionTree, FunctionTree, ProgramTree, GuardsTree, literal, whole_share, named, bracketed, product, no_factor, times, term, no_product, signed, holds, fails, fact, guards, cell, compare, choose, no_item, and_item, assertion, side, assign, store, call, fork, branch, loop, check, give_back, no_else, else_block, no_statement, then_statement, block, unique, divisible, counting, grouped, no_declared, and_declared, joint, no_joint, or_joint, algebra}
 use Rattle.cap_tree.specs.Tokens.{name, number, share, wildcard, keyword, symbol}
 use Rattle.cap_tree.specs.Spelling.{Spells, spell_all, spell_behind, spell_more, spell_several, spell_option, spell_listed, spell_group, spell_name, sign_text, spell_minus, spell_factor, spell_product, spell_factors, spell_term, spell_products, relation_text, spell_comparison, spell_slot, counted_text, spell_guard, spell_guards, spell_held, spell_item, spell_items, spell_assertion, spell_side, spell_clause, spell_terms, spell_value, spell_statement, spell_else, spell_statements, spell_block, spell_declared, spell_declareds, spell_joint, spell_joints, spell_algebra, spell_when, spell_case, spell_action, spell_region, spell_function, spell_declaration, spelling}
 use Rattle.cap_tree.specs.Views.{TimesTree, AddendTree, factors_of, products_of, AndTree, items_of, statements_of, else_of, BothTree, EitherTree, declareds_of, joints_of}
@@ -21,7 +21,7 @@ use Rattle.cap_grammar.specs.Readers.{Fault, unexpected, too_deep, Outcome, Read
 use Rattle.cap_grammar.specs.Grammar.{factor_by, read_factor, read_product_from, read_product, is_sign, sign_by, read_sign, read_addend, read_term_from, read_term_with, read_bracketed, bracketed_at, read_term, relation_by, read_relation, read_comparison_from, read_comparison, slot_by, read_slot, amount_by, read_amount, read_counted, guard_by, read_guard, read_guards, held_by, read_held, choice_by, read_choice, item_from_by, read_item_from, read_fact, named_item_by, read_named_item, item_by, read_item, read_assertion_with, read_side, side_at, read_assertion, read_clause, read_terms, read_load, read_alloc, read_cas, named_value_by, read_named_value, value_by, read_value, named_statement_by, read_named_statement, read_store, read_fork, read_else, read_branch, read_loop, read_check, read_give_back, statement_by, read_statement, read_block_with, block_at, declared_by, read_declared, read_joint, read_algebra_with, read_grouped, grouped_at, read_algebra, read_when, read_optional_when, read_case, read_action, read_head, read_region_body, read_region, read_function, declaration_by, read_declaration, read_program, HeadTree}
 use Rattle.cap_grammar.specs.Laws.Taking.{and_more, Takes, Keeps, takes-keeps, expect-takes, name-takes, at_most-keeps, behind-takes, factor-takes, addend-takes, term-takes, comparison-takes, slot-takes, guard-takes, side-takes, item-takes, block-takes, statement-takes, declared-takes, joint-takes, case-takes, action-takes, declaration-takes, statement-ends, case-ends, action-ends, enough-serves, while-begins, while-stops, while-taken, while-refused, while-done}
 use Rattle.cap_grammar.proofs.Shapes.{same_is_equal, same-self, shaped, plain, is_known, is_plain, plain-known, plain-shaped, room_after, shaped-room, known, not-end}
-use Rattle.cap_grammar.proofs.Automaton.{Symbol, fixed, rule, Rule, may_minus, a_factor, more_factors, a_sign, more_products, a_relation, a_slot, a_guard, may_amount, more_guards, a_held, an_item, named_item, item_rest, may_choose, more_items, slots, a_value, named_value, terms, more_terms, a_statement, named_statement, may_else, may_invariant, returned, statements, a_declared, more_declared, more_joints, may_when, more_comparisons, cases, actions, names, more_names, may_requires, may_ensures, a_declaration, declarations, Move, on, stop, done, Answer, whole, wrong, deep, Stack, the_rest_of_a_term, a_product, a_term, a_comparison, some_guards, an_assertion, a_side, a_clause, a_block, a_joint, an_algebra, a_case, the_rest_of_an_action, Steps, behind, factor_steps, term_steps, rest_steps, relation_steps, counted_guard, guard_steps, item_rest_steps, statement_steps, the_rest_of_a_region, the_rest_of_a_function, declaration_steps, steps, may_be_empty, found, next, ended, goes, within, run, walk, start}
+use Rattle.cap_grammar.proofs.Automaton.{Ending, a_colon, a_semicolon, end_class, Symbol, fixed, rule, Rule, may_minus, a_factor, more_factors, a_sign, more_products, a_relation, a_slot, a_guard, may_amount, more_guards, a_held, an_item, named_item, item_rest, may_choose, more_items, slots, a_value, named_value, terms, more_terms, a_statement, named_statement, may_else, may_invariant, returned, statements, a_declared, more_declared, more_joints, may_when, more_comparisons, cases, actions, names, more_names, may_requires, may_ensures, a_declaration, declarations, Move, on, stop, done, Answer, whole, wrong, deep, Stack, the_rest_of_a_term, a_product, a_term, a_comparison, some_guards, an_assertion, a_side, a_clause, a_block, a_joint, an_algebra, a_case, the_rest_of_an_action, Steps, behind, factor_steps, term_steps, rest_steps, relation_steps, counted_guard, guard_steps, item_rest_steps, statement_steps, the_rest_of_a_region, the_rest_of_a_function, declaration_steps, steps, may_be_empty, found, next, ended, goes, within, run, walk, start}
 use Rattle.cap_grammar.proofs.Meets.{Meets, IsChoice, so, chain, from, enter, refuse, either, this-token, place-meets, word-meets, literal-meets, expect-meets, name-meets, number-meets, no_room-meets, opened, opened-within, Read, IsRead, lead, until, optional-meets, while-meets, IsSeparator, behind-meets, more-meets, several-meets, comma, listed-meets, group-meets}
 use Rattle.cap_grammar.proofs.MeetsTerms.{star, factors-spelled, spell_addend, products-spelled, term_from-meets-with, term-meets, term_from-meets, comparison_from-meets, comparison-meets, slot-meets}
 use Rattle.cap_grammar.proofs.MeetsAssertions.{guards-meets, items-spelled, assertion-meets, clause-meets}
@@ -79,33 +79,33 @@ algebra-meets : (d : ℕ) → IsRead an_algebra spell_algebra d (read_algebra d)
 algebra-meets d = algebra-meets-with d (grouped-meets d)
 
 -- the conditions of a state or an action, before the token that ends them
-optional_when-meets : (d : ℕ) (end : Class) (ts : List Token) (s : Stack)
-    → Meets (Read (spell_option spell_when) ts) (run (rule (may_when end) ∷ s) d ts) (fixed end ∷ s) d (read_optional_when d ts)
+optional_when-meets : (d : ℕ) (end : Ending) (ts : List Token) (s : Stack)
+    → Meets (Read (spell_option spell_when) ts) (run (rule (may_when end) ∷ s) d ts) (fixed (end_class end) ∷ s) d (read_optional_when d ts)
 optional_when-meets d end ts s =
     optional-meets (read_when d) d ts
-    (lead (rule (may_when end) ∷ s) (fixed c.When ∷ a_comparison ++ rule (more_comparisons end) ∷ s) (fixed end ∷ s) (a_comparison ++ rule (more_comparisons end) ∷ s) c.When (λ k. refl) (λ k. refl)) (λ y.
+    (lead (rule (may_when end) ∷ s) (fixed c.When ∷ a_comparison ++ rule (more_comparisons end) ∷ s) (fixed (end_class end) ∷ s) (a_comparison ++ rule (more_comparisons end) ∷ s) c.When (λ k. refl) (λ k. refl)) (λ y.
     chain (expect-meets c.When d d ts (a_comparison ++ rule (more_comparisons end) ∷ s) refl refl) (λ p f.
     chain (several-meets c.Comma (codes ",") d p.1 comma
-      (lead (rule (more_comparisons end) ∷ s) (fixed c.Comma ∷ a_comparison ++ rule (more_comparisons end) ∷ s) (fixed end ∷ s) (a_comparison ++ rule (more_comparisons end) ∷ s) c.Comma (λ k. refl) (λ k. refl))
+      (lead (rule (more_comparisons end) ∷ s) (fixed c.Comma ∷ a_comparison ++ rule (more_comparisons end) ∷ s) (fixed (end_class end) ∷ s) (a_comparison ++ rule (more_comparisons end) ∷ s) c.Comma (λ k. refl) (λ k. refl))
       (takes-keeps (read_comparison d) (comparison-takes d)) (λ us. comparison-meets d us (rule (more_comparisons end) ∷ s))) (λ ks g.
     so (rw (f, g)))))
 
 case-meets : (d : ℕ) → IsRead a_case spell_case d (read_case d)
 case-meets d ts s =
-    chain (term-meets d ts (rule (may_when c.Colon) ∷ an_assertion ++ fixed c.Semicolon ∷ s)) (λ t f1.
-    chain (optional_when-meets d c.Colon t.1 (an_assertion ++ fixed c.Semicolon ∷ s)) (λ w f2.
+    chain (term-meets d ts (rule (may_when a_colon) ∷ an_assertion ++ fixed c.Semicolon ∷ s)) (λ t f1.
+    chain (optional_when-meets d a_colon t.1 (an_assertion ++ fixed c.Semicolon ∷ s)) (λ w f2.
     chain (expect-meets c.Colon d d w.1 (an_assertion ++ fixed c.Semicolon ∷ s) refl refl) (λ p f3.
     chain (assertion-meets d p.1 (fixed c.Semicolon ∷ s)) (λ a f4.
     chain (expect-meets c.Semicolon d d a.1 s refl refl) (λ e f5. so (rw (f1, f2, f3, f4, f5)))))))
 
 action-meets : (d : ℕ) → IsRead (rule a_guard ∷ the_rest_of_an_action) spell_action d (read_action d)
 action-meets d ts s =
-    chain (guards-meets d ts (fixed c.Colon ∷ a_term ++ fixed c.LeadsTo ∷ a_term ++ rule (may_when c.Semicolon) ∷ s)) (λ g f1.
-    chain (expect-meets c.Colon d d g.1 (a_term ++ fixed c.LeadsTo ∷ a_term ++ rule (may_when c.Semicolon) ∷ s) refl refl) (λ p f2.
-    chain (term-meets d p.1 (fixed c.LeadsTo ∷ a_term ++ rule (may_when c.Semicolon) ∷ s)) (λ x f3.
-    chain (expect-meets c.LeadsTo d d x.1 (a_term ++ rule (may_when c.Semicolon) ∷ s) refl refl) (λ q f4.
-    chain (term-meets d q.1 (rule (may_when c.Semicolon) ∷ s)) (λ t f5.
-    chain (optional_when-meets d c.Semicolon t.1 s) (λ w f6.
+    chain (guards-meets d ts (fixed c.Colon ∷ a_term ++ fixed c.LeadsTo ∷ a_term ++ rule (may_when a_semicolon) ∷ s)) (λ g f1.
+    chain (expect-meets c.Colon d d g.1 (a_term ++ fixed c.LeadsTo ∷ a_term ++ rule (may_when a_semicolon) ∷ s) refl refl) (λ p f2.
+    chain (term-meets d p.1 (fixed c.LeadsTo ∷ a_term ++ rule (may_when a_semicolon) ∷ s)) (λ x f3.
+    chain (expect-meets c.LeadsTo d d x.1 (a_term ++ rule (may_when a_semicolon) ∷ s) refl refl) (λ q f4.
+    chain (term-meets d q.1 (rule (may_when a_semicolon) ∷ s)) (λ t f5.
+    chain (optional_when-meets d a_semicolon t.1 s) (λ w f6.
     chain (expect-meets c.Semicolon d d w.1 s refl refl) (λ e f7. so (rw (f1, f2, f3, f4, f5, f6, f7)))))))))
 
 -- one more name, behind a comma
