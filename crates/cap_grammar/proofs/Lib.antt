@@ -11,3 +11,5 @@ pub mod Complete
 pub mod CompleteTexts
 pub mod Completion
 pub mod Stops
+pub mod Exact
+pub mod ReadBack

@@ -31,7 +31,7 @@ pub record StopsDeep (s : Stack) (d : ℕ) (ts rest : List Token) : Type 0 where
   pub begun : walk s (front ++ bracket ∷ more) ≡ whole
 
 -- one step of each
-step-walk : (s s2 : Stack) (t : Token) (ts : List Token) → next s (class t) ≡ on s2 → walk s (t ∷ ts) ≡ walk s2 ts
+pub step-walk : (s s2 : Stack) (t : Token) (ts : List Token) → next s (class t) ≡ on s2 → walk s (t ∷ ts) ≡ walk s2 ts
 step-walk s s2 t ts n = ap (λ m. goes m (λ s3. walk s3 ts) (wrong (t ∷ ts))) n
 
 step-run : (s s2 : Stack) (d left : ℕ) (t : Token) (ts : List Token) → next s (class t) ≡ on s2 → room_behind d t ≡ Some left → run s d (t ∷ ts) ≡ run s2 left ts
