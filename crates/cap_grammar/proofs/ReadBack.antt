@@ -42,7 +42,7 @@ pieces-spaced n (t ∷ []) = by (is_zero n && may_end_line t)
 pieces-spaced n (t ∷ u ∷ ts) = by (is_zero n && may_end_line t) (pieces-spaced (parentheses_behind n t) (u ∷ ts))
   where
     by : (b : Bool) → AreSpaced (pieces_from (parentheses_behind n t) (u ∷ ts))
-        → (0 < length (cond b (10 ∷ []) (32 ∷ []))) × IsTrue (list_all is_blank (cond b (10 ∷ []) (32 ∷ []))) × AreSpaced (pieces_from (parentheses_behind n t) (u ∷ ts))
+        → (0 < length {A = ℕ} (cond b (10 ∷ []) (32 ∷ []))) × IsTrue (list_all is_blank (cond b (10 ∷ []) (32 ∷ []))) × AreSpaced (pieces_from (parentheses_behind n t) (u ∷ ts))
     by true h = (omega arith, refl, h)
     by false h = (omega arith, refl, h)
 
