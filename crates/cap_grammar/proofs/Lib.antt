@@ -1,1 +1,15 @@
 pub mod Tags
+pub mod Shapes
+pub mod Automaton
+pub mod Meets
+pub mod MeetsTerms
+pub mod MeetsAssertions
+pub mod MeetsStatements
+pub mod MeetsTexts
+pub mod Gives
+pub mod Complete
+pub mod CompleteTexts
+pub mod Completion
+pub mod Stops
+pub mod Exact
+pub mod ReadBack

@@ -12,8 +12,8 @@ abbrev pub class_in : List (List ℕ × Class) → List ℕ → Class
 class_in [] text = Other
 class_in (entry ∷ more) text = cond (bytes_eq text entry.0) entry.1 (class_in more text)
 
-abbrev pub keyword_class : List ℕ → Class
-keyword_class = class_in (
+abbrev pub keyword_table : List (List ℕ × Class)
+keyword_table =
     (codes "region", Region) ∷
     (codes "function", Function) ∷
     (codes "requires", Requires) ∷
@@ -34,10 +34,13 @@ keyword_class = class_in (
     (codes "true", True) ∷
     (codes "false", False) ∷
     (codes "src", Source) ∷
-    (codes "tok", Tokens) ∷ [])
+    (codes "tok", Tokens) ∷ []
 
-abbrev pub symbol_class : List ℕ → Class
-symbol_class = class_in (
+abbrev pub keyword_class : List ℕ → Class
+keyword_class = class_in keyword_table
+
+abbrev pub symbol_table : List (List ℕ × Class)
+symbol_table =
     (codes "(", Open) ∷
     (codes ")", Close) ∷
     (codes "{", OpenBrace) ∷
@@ -63,7 +66,10 @@ symbol_class = class_in (
     (codes "|", Bar) ∷
     (codes "|->", PointsTo) ∷
     (codes "&*&", And) ∷
-    (codes "~>", LeadsTo) ∷ [])
+    (codes "~>", LeadsTo) ∷ []
+
+abbrev pub symbol_class : List ℕ → Class
+symbol_class = class_in symbol_table
 
 -- a token that is no number counts nothing
 abbrev pub class_by : TokenKind → List ℕ → Class

@@ -588,7 +588,7 @@ while-begins begins one h z ts b =
     ∙ bind_same (one ts) (λ a. and_more a.0 (read_at_most begins one (length ts) a.1)) (λ a. and_more a.0 (read_while begins one a.1)) (λ a e.
     ap (and_more a.0) (enough-serves begins one h z (length ts) (length a.1) a.1 (omega (arith, (h ts).fewer a.0 a.1 e)) (omega arith)))
 
-at_most-stops : {A : Type 0} (begins : Class → Bool) (one : Reader A) (n : ℕ) (ts : List Token)
+pub at_most-stops : {A : Type 0} (begins : Class → Bool) (one : Reader A) (n : ℕ) (ts : List Token)
     → begins (ahead ts) ≡ false → read_at_most begins one n ts ≡ Ok ([], ts)
 at_most-stops begins one zero ts b = ap (λ o. cond o (Err (unexpected ts)) (Ok ([], ts))) b
 at_most-stops begins one (suc n) ts b =
