@@ -16,6 +16,10 @@ use Rattle.cap_parse.specs.declared.text.ParseError.TheVariants.{Unexpected, Too
 use Rattle.cap_parse.specs.Parsing.{first_place, IsTreeOf, IsParseOf, GivesTree, Refuses, IsOnlyParseOf}
 use Rattle.cap_parse.specs.Reading.{IsReadingOf}
 
+pub nesting_is : max_nesting ≡ 64
+unfolding max_nesting
+nesting_is = refl
+
 -- the laws of the grammar
 pub record AreLaws : Type 0 where
   pub sound : (ts : List Token) (t : ProgramTree) → read_program max_nesting ts ≡ Ok t → (ts ≡ spelling t) × Nests t

@@ -1,12 +1,15 @@
 -- The parser's loops: what was read, in front of what is read of the rest, is what is read of all.
-use Rattle.std.proofs.Common.{◌≡◌, ◌<◌, ◌++◌, Bool, true, List, [], ◌∷◌, length, map, Ok, refl, sym, ap, ◌∙◌}
+use Rattle.std.proofs.Common.{◌≡◌, ◌<◌, ◌++◌, Bool, true, List, [], ◌∷◌, length, map, Ok, Err, refl, sym, ap, ◌∙◌}
 use Rattle.std.proofs.lemmas.List.{map_push}
 use Rattle.cap_syntax.specs.declared.place.Place.{Place}
 use Rattle.cap_syntax.specs.declared.token.Token.{Token}
 use Rattle.cap_grammar.specs.declared.class.Class.{Class}
 use Rattle.cap_grammar.specs.Classes.{are_same}
-use Rattle.cap_grammar.specs.Readers.{Outcome, Reader, ◌>>=◌, ahead, next_place, read_while, read_behind, read_more}
-use Rattle.cap_grammar.specs.Laws.Taking.{Takes, Ends, takes-keeps, behind-takes, while-taken, with_front}
+use Rattle.cap_grammar.specs.Readers.{unexpected, too_deep, Outcome, Reader, ◌>>=◌, ahead, next_place, read_while, read_behind, read_more}
+use Rattle.cap_grammar.specs.Laws.Taking.{Takes, Ends, takes-keeps, behind-takes, while-taken, while-refused, with_front}
+use Rattle.cap_parse.specs.declared.cursor.Stop.{Stop}
+use Rattle.cap_parse.specs.declared.cursor.Stop.TheVariants.{Unexpected, TooDeep, OutOfMemory}
+use Rattle.cap_parse.specs.Reads.{IsRead}
 
 -- a separator and a part behind it
 behind-read : {A : Type 0} (k : Class) (one : Reader A) (all mid rest : List Token) (p : Place) (a : A)
@@ -39,3 +42,14 @@ pub more-smaller : {A : Type 0} (k : Class) (one : Reader A) → Takes one → (
     → length rest < length all
 more-smaller k one takes all mid rest p a b e f =
     (behind-takes k one (takes-keeps one takes) all).fewer (p, a) rest (behind-read k one all mid rest p a b e f)
+
+-- a part was refused
+pub while-refuses : {X Y A : Type 0} (begins : Class → Bool) (one : Reader A) (view : X → A) (all_view : Y → List A) (takes : Takes one)
+    (ends : Ends begins one) (front : List A) (all rest : List Token) (whole : Outcome (List A)) (e : Stop)
+    → begins (ahead all) ≡ true → IsRead view (Err e) rest (one all)
+    → with_front front (read_while begins one all) ≡ whole → IsRead all_view (Err e) rest whole
+while-refuses begins one view all_view takes ends front all rest whole Unexpected b h w =
+    sym w ∙ ap (with_front front) (while-refused begins one takes ends all (unexpected rest) b h)
+while-refuses begins one view all_view takes ends front all rest whole TooDeep b h w =
+    sym w ∙ ap (with_front front) (while-refused begins one takes ends all (too_deep rest) b h)
+while-refuses begins one view all_view takes ends front all rest whole OutOfMemory b h w = tt

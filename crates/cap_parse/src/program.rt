@@ -6,11 +6,21 @@ ghost use Rattle.cap_grammar.specs.Classes.{are_same};
 ghost use Rattle.cap_grammar.specs.Grammar.{read_function, read_declaration};
 ghost use Rattle.cap_grammar.specs.Readers.{read_name, read_several, read_optional, read_until, read_listed};
 ghost use Rattle.cap_grammar.specs.declared.class.Class.TheVariants.{Comma, Close, End};
+ghost use Rattle.cap_parse.specs.Heads.{function_head_view, read_function_head, read_function_from};
 ghost use Rattle.cap_parse.specs.Reads.{IsRead};
 
 use crate::cursor::{Cursor, Stop};
 use cap_grammar::Class;
+use cap_syntax::Place;
 use cap_tree::{Declaration, Function, Listed, Separated, Word};
+
+/// A function's keyword, name and parameters.
+#[derive(Drop)]
+pub(crate) struct FunctionHead {
+    key: Place,
+    name: Word,
+    parameters: Listed<Word>,
+}
 
 impl<'a> Cursor<'a> {
     fn optional_names(&mut self) -> Result<Option<Separated<Word>>, Stop>
@@ -36,17 +46,34 @@ impl<'a> Cursor<'a> {
         Ok(Listed { open, parts, close })
     }
 
-    /// What `function`, which comes next, begins.
-    fn function(&mut self, room: u32) -> Result<Function, Stop>
-        ensures { IsRead function_view result self.new.rest.now
-            (read_function room self.old.rest.now) }
+    /// The keyword, which comes next, the name and the parameters of a function.
+    fn function_head(&mut self, room: u32) -> Result<FunctionHead, Stop>
+        ensures { IsRead function_head_view result self.new.rest.now
+            (read_function_head room self.old.rest.now) }
     {
         let key = self.next_place()?;
         let name = self.name()?;
         let parameters = self.names(room)?;
+        Ok(FunctionHead {
+            key,
+            name,
+            parameters,
+        })
+    }
+
+    /// What stands behind a function's head.
+    fn function_from(&mut self, room: u32, head: FunctionHead) -> Result<Function, Stop>
+        ensures { IsRead function_view result self.new.rest.now
+            (read_function_from room (function_head_view head) self.old.rest.now) }
+    {
         let precondition = self.optional_clause(room, Class::Requires)?;
         let postcondition = self.optional_clause(room, Class::Ensures)?;
         let body = self.block(room)?;
+        let FunctionHead {
+            key,
+            name,
+            parameters,
+        } = head;
         Ok(Function {
             key,
             name,
@@ -55,6 +82,16 @@ impl<'a> Cursor<'a> {
             postcondition,
             body,
         })
+    }
+
+    /// What `function`, which comes next, begins.
+    #[tactic(auto, using(crate::proofs::Functions::function_parts))]
+    fn function(&mut self, room: u32) -> Result<Function, Stop>
+        ensures { IsRead function_view result self.new.rest.now
+            (read_function room self.old.rest.now) }
+    {
+        let head = self.function_head(room)?;
+        self.function_from(room, head)
     }
 
     fn declaration(&mut self, room: u32) -> Result<Declaration, Stop>

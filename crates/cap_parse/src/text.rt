@@ -41,7 +41,7 @@ fn first_place(tokens: &[Token], end: Place) -> Place
 }
 
 /// The tree of these tokens, behind which the text ends at this place.
-#[tactic(auto, unfolding(cap_tree::specs::Nesting::max_nesting))]
+#[tactic(auto, using(crate::proofs::Exactly::nesting_is))]
 fn read(alloc: Global, tokens: &[Token], end: Place) -> Result<Tree, ParseError>
     ensures { IsReadingOf tokens.now end result }
 {

@@ -1,13 +1,13 @@
-use Rattle.std.proofs.Common.{rules, not, ap, sym, ◌∙◌}
+use Rattle.std.proofs.Common.{rules, refl, not, ap, sym, ◌∙◌, arith}
 use Rattle.cap_tree.specs.declared.assertion.Item.TheFolds.{the_lemmas}
-use Rattle.cap_tree.specs.Views.{and_view}
+use Rattle.std.proofs.lemmas.Bool.Decides.{nat_tests}
+use Rattle.cap_parse.proofs.Inside.{side-inside}
+use Rattle.cap_tree.specs.Views.{item_view, and_view}
 use Rattle.cap_grammar.specs.Grammar.{read_item, side_at}
+use Rattle.cap_grammar.specs.Readers.{read_more}
 use Rattle.cap_grammar.specs.declared.class.Class.TheVariants.{And}
 use Rattle.cap_grammar.specs.Laws.Taking.{item-takes}
 use Rattle.cap_parse.proofs.Loops.{more-pushed, more-smaller}
-use Rattle.std.proofs.Common.{arith}
-use Rattle.std.proofs.lemmas.Bool.Decides.{nat_tests}
-use Rattle.cap_parse.proofs.Brackets.{side-inside}
 use Rattle.cap_parse.proofs.cursor.Cursor.+items.Goals as goal
 
 pub side-returns-then-room-gt0 : goal.side-returns-then-room-gt0
@@ -18,10 +18,11 @@ side-returns-then-room-gt0 t c =
 pub more_items-loop-self-preserved : goal.more_items-loop-self-preserved
 more_items-loop-self-preserved t c =
     rw c.in_ok-push.ensures.items
-    (more-pushed And (read_item (side_at c.args.room) c.args.room) and_view (item-takes c.args.room) (λ e. cc) c.loop-self.more.items _ _ _ _ _ _ _ (search (rules, the_lemmas))
-      (sym c.is_ahead.ensures ∙ c.loop-self-test.true) c.in_ok-place.ensures c.in_ok-item.ensures c.loop-self.invariant)
+    (more-pushed And (read_item (side_at c.args.room) c.args.room) and_view (item-takes c.args.room) (λ e. cc) c.loop-self.more.items _ c.in_ok-place.place (item_view c.in_ok-item.item)
+      c.loop-self.self.rest.now c.next_place.new.self.rest.now c.item.new.self.rest.now (read_more And (read_item (side_at c.args.room) c.args.room) c.args.self.now.rest.now)
+      (search (rules, the_lemmas)) (sym c.is_ahead.ensures ∙ c.loop-self-test.true) c.in_ok-place.ensures c.in_ok-item.ensures c.loop-self.invariant)
 
 pub more_items-loop-self-smaller : goal.more_items-loop-self-smaller
 more_items-loop-self-smaller t c =
-    more-smaller And (read_item (side_at c.args.room) c.args.room) (item-takes c.args.room) _ _ _ _ _
+    more-smaller And (read_item (side_at c.args.room) c.args.room) (item-takes c.args.room) c.loop-self.self.rest.now c.next_place.new.self.rest.now c.item.new.self.rest.now c.in_ok-place.place (item_view c.in_ok-item.item)
       (sym c.is_ahead.ensures ∙ c.loop-self-test.true) c.in_ok-place.ensures c.in_ok-item.ensures
