@@ -1,31 +1,26 @@
 -- What is spelled is read: terms and assertions.
-use Rattle.std.proofs.Common.{◌≡◌, ℕ, zero, suc, not, cond, ◌<◌, ◌≤◌, ◌⊎◌, inl, inr, Bool, true, false, List, [], ◌∷◌, ◌++◌, length, Option, Some, None, Result, Ok, Err, refl, sym, ap, ◌∙◌, subst, arith, codes}
+use Rattle.std.proofs.Common.{◌≡◌, ℕ, zero, suc, not, Bool, true, false, List, [], ◌∷◌, Option, Some, None, Ok, refl, sym, ap, subst, codes}
 use Rattle.cap_syntax.specs.declared.place.Place.{Place}
 use Rattle.cap_syntax.specs.declared.token.Token.{Token}
 use Rattle.cap_tree.specs.declared.word.Word.{Word}
-use Rattle.cap_tree.specs.declared.word.Literal.{Literal}
 use Rattle.cap_tree.specs.declared.term.Sign.{Sign}
 use Rattle.cap_tree.specs.declared.term.Sign.TheVariants.{Plus, Minus}
 use Rattle.cap_tree.specs.declared.term.Relation.{Relation}
 use Rattle.cap_tree.specs.declared.term.Relation.TheVariants.{Equal, Unequal, Less, AtMost, Greater, AtLeast}
-use Rattle.cap_tree.specs.declared.assertion.Counted.{Counted}
 use Rattle.cap_tree.specs.declared.assertion.Counted.TheVariants.{Source, Tokens}
-use Rattle.cap_tree.specs.Tree.{any, is, alone, amount, count, bare, in_parentheses, value, load, alloc, cas, result_of, region, function, FactorTree, ProductTree, FactorTrees, TermTree, ProductTrees, SlotTree, GuardTree, HeldTree, ItemTree, ItemTrees, AssertionTree, SideTree, ValueTree, StatementTree, ElseTree, StatementTrees, BlockTree, DeclaredTree, DeclaredTrees, JointTree, JointTrees, AlgebraTree, DeclarationTree, Several, InParentheses, InBraces, ComparisonTree, ClauseTree, WhenTree, CaseTree, ActionTree, RegionTree, FunctionTree, ProgramTree, GuardsTree, literal, whole_share, named, bracketed, product, no_factor, times, term, no_product, signed, holds, fails, fact, guards, cell, compare, choose, no_item, and_item, assertion, side, assign, store, call, fork, branch, loop, check, give_back, no_else, else_block, no_statement, then_statement, block, unique, divisible, counting, grouped, no_declared, and_declared, joint, no_joint, or_joint, algebra}
-use Rattle.cap_tree.specs.Tokens.{name, number, share, wildcard, keyword, symbol}
-use Rattle.cap_tree.specs.Spelling.{Spells, spell_all, spell_behind, spell_more, spell_several, spell_option, spell_listed, spell_group, spell_name, sign_text, spell_minus, spell_factor, spell_product, spell_factors, spell_term, spell_products, relation_text, spell_comparison, spell_slot, counted_text, spell_guard, spell_guards, spell_held, spell_item, spell_items, spell_assertion, spell_side, spell_clause, spell_terms, spell_value, spell_statement, spell_else, spell_statements, spell_block, spell_declared, spell_declareds, spell_joint, spell_joints, spell_algebra, spell_when, spell_case, spell_action, spell_region, spell_function, spell_declaration, spelling}
-use Rattle.cap_tree.specs.Views.{TimesTree, AddendTree, factors_of, products_of, AndTree, items_of, statements_of, else_of, BothTree, EitherTree, declareds_of, joints_of}
+use Rattle.cap_tree.specs.Tree.{any, is, alone, amount, count, bare, in_parentheses, FactorTree, ProductTree, FactorTrees, TermTree, ProductTrees, SlotTree, GuardTree, HeldTree, ItemTree, ItemTrees, AssertionTree, SideTree, StatementTree, StatementTrees, DeclaredTrees, JointTrees, ComparisonTree, ClauseTree, GuardsTree, literal, whole_share, named, bracketed, product, no_factor, times, term, no_product, signed, holds, fails, fact, guards, cell, compare, choose, no_item, and_item, assertion, side, no_statement, then_statement, no_declared, and_declared, no_joint, or_joint}
+use Rattle.cap_tree.specs.Tokens.{name, keyword, symbol}
+use Rattle.cap_tree.specs.Spelling.{spell_all, spell_more, sign_text, spell_factor, spell_product, spell_factors, spell_term, spell_products, relation_text, spell_comparison, spell_slot, spell_guard, spell_guards, spell_held, spell_item, spell_items, spell_assertion, spell_side, spell_clause}
+use Rattle.cap_tree.specs.Views.{TimesTree, AddendTree, factors_of, products_of, AndTree, items_of, statements_of, BothTree, EitherTree, declareds_of, joints_of}
 use Rattle.cap_grammar.specs.declared.class.Class.{Class}
 use Rattle.cap_grammar.specs.declared.class.Class.TheVariants as c
 use Rattle.cap_grammar.specs.Classes.{class, are_same}
-use Rattle.cap_grammar.specs.Readers.{Fault, unexpected, too_deep, Outcome, Reader, ◌>>=◌, ahead, next_token, next_place, next_word, next_literal, expect, read_name, read_number, no_room, read_opening, read_optional, read_at_most, read_while, read_until, read_behind, read_more, read_several, read_listed, read_group}
-use Rattle.cap_grammar.specs.Grammar.{factor_by, read_factor, read_product_from, read_product, is_sign, sign_by, read_sign, read_addend, read_term_from, read_term_with, read_bracketed, bracketed_at, read_term, relation_by, read_relation, read_comparison_from, read_comparison, slot_by, read_slot, amount_by, read_amount, read_counted, guard_by, read_guard, read_guards, held_by, read_held, choice_by, read_choice, item_from_by, read_item_from, read_fact, named_item_by, read_named_item, item_by, read_item, read_assertion_with, read_side, side_at, read_assertion, read_clause, read_terms, read_load, read_alloc, read_cas, named_value_by, read_named_value, value_by, read_value, named_statement_by, read_named_statement, read_store, read_fork, read_else, read_branch, read_loop, read_check, read_give_back, statement_by, read_statement, read_block_with, block_at, declared_by, read_declared, read_joint, read_algebra_with, read_grouped, grouped_at, read_algebra, read_when, read_optional_when, read_case, read_action, read_head, read_region_body, read_region, read_function, declaration_by, read_declaration, read_program, HeadTree}
-use Rattle.cap_grammar.specs.Laws.Taking.{and_more, Takes, Keeps, takes-keeps, expect-takes, name-takes, at_most-keeps, behind-takes, factor-takes, addend-takes, term-takes, comparison-takes, slot-takes, guard-takes, side-takes, item-takes, block-takes, statement-takes, declared-takes, joint-takes, case-takes, action-takes, declaration-takes, statement-ends, case-ends, action-ends, enough-serves, while-begins, while-stops, while-taken, while-refused, while-done}
-use Rattle.cap_grammar.proofs.Shapes.{same_is_equal, same-self, shaped, plain, is_known, is_plain, plain-known, plain-shaped, room_after, shaped-room, known, not-end}
-use Rattle.cap_grammar.proofs.MeetsTerms.{star, factors-spelled, spell_addend, products-spelled, term_from-meets-with, term-meets, term_from-meets, comparison_from-meets, comparison-meets, slot-meets}
-use Rattle.cap_grammar.proofs.MeetsAssertions.{guards-meets, items-spelled, assertion-meets, clause-meets}
-use Rattle.cap_grammar.proofs.MeetsStatements.{statements-spelled, block-meets}
-use Rattle.cap_grammar.proofs.MeetsTexts.{declareds-spelled, joints-spelled, Agrees, program-agrees}
-use Rattle.cap_grammar.proofs.Gives.{Gives, gives, not-here, yields, known-yields, where-true, where-false, is-same, opens-then, optional-gives, Begins, parts-follow, while-gives, more-gives, several-gives}
+use Rattle.cap_grammar.specs.Readers.{Reader, ◌>>=◌, ahead, expect}
+use Rattle.cap_grammar.specs.Grammar.{read_factor, read_product_from, read_product, is_sign, read_addend, read_term_from, bracketed_at, read_term, read_comparison_from, read_comparison, slot_by, read_slot, amount_by, read_guard, read_guards, held_by, read_held, choice_by, read_choice, read_item_from, named_item_by, read_item, side_at, read_assertion, read_clause}
+use Rattle.cap_grammar.specs.Laws.Taking.{takes-keeps, factor-takes, addend-takes, slot-takes, guard-takes, item-takes}
+use Rattle.cap_grammar.proofs.MeetsTerms.{factors-spelled, spell_addend, products-spelled}
+use Rattle.cap_grammar.proofs.MeetsAssertions.{items-spelled}
+use Rattle.cap_grammar.proofs.Gives.{Gives, gives, not-here, yields, where-true, is-same, opens-then, Begins, parts-follow, while-gives, more-gives, several-gives}
 
 -- the list that a list of the tree is
 

@@ -1,17 +1,17 @@
 -- Reading, spelling, and the places where a text goes wrong.
-use Rattle.std.proofs.Common.{◌≡◌, ℕ, ◌≤◌, ◌⊎◌, inl, inr, Bool, true, false, List, [], ◌∷◌, ◌++◌, length, Option, Some, None, IsSome, is_some, Result, Ok, Err, refl, sym, ap, ◌∙◌, subst, arith, append_assoc, append-nil}
+use Rattle.std.proofs.Common.{◌≡◌, ℕ, ◌⊎◌, inl, inr, true, List, [], ◌∷◌, ◌++◌, length, Option, Some, None, IsSome, Result, Ok, Err, refl, sym, ap, ◌∙◌, subst, arith, append_assoc, append-nil}
 use Rattle.cap_syntax.specs.declared.token.Token.{Token}
 use Rattle.cap_tree.specs.Tree.{ProgramTree}
 use Rattle.cap_tree.specs.Spelling.{spelling}
-use Rattle.cap_tree.specs.Nesting.{max_nesting, opens, one_fewer, room_behind, room_left, Nests}
+use Rattle.cap_tree.specs.Nesting.{max_nesting, opens, room_behind, room_left, Nests}
 use Rattle.cap_tree.specs.Texts.{BeginsText, IsUnexpectedAt, IsTooDeepAt}
 use Rattle.cap_grammar.specs.declared.class.Class.TheVariants as c
 use Rattle.cap_grammar.specs.Classes.{class}
 use Rattle.cap_grammar.specs.Readers.{Fault, unexpected, too_deep}
 use Rattle.cap_grammar.specs.Grammar.{read_program}
-use Rattle.cap_grammar.proofs.Automaton.{Stack, Move, on, stop, done, Answer, whole, wrong, deep, next, ended, goes, within, run, walk, start}
-use Rattle.cap_grammar.proofs.Completion.{IsSound, next-sound, completed, completion}
-use Rattle.cap_grammar.proofs.Stops.{StopsWrong, StopsDeep, step-walk, stops-wrong, stops-deep, Comes, comes, run-whole, large}
+use Rattle.cap_grammar.proofs.Automaton.{Stack, Move, on, stop, done, whole, wrong, deep, next, ended, goes, within, run, walk, start}
+use Rattle.cap_grammar.proofs.Completion.{IsCompletable, next-completable, completed, completion}
+use Rattle.cap_grammar.proofs.Stops.{step-walk, stops-wrong, stops-deep, Comes, comes, run-whole, large}
 use Rattle.cap_grammar.proofs.MeetsTexts.{Agrees, program-agrees}
 use Rattle.cap_grammar.proofs.CompleteTexts.{IsReadUnlessDeep, program-gives}
 
@@ -62,8 +62,10 @@ spelled-is-read-largely t = by (read_program n ts) refl (program-gives n t) (pro
   where
     ts : List Token
     ts = spelling t
+
     n : ℕ
     n = length (spelling t)
+
     by : (r : Result ProgramTree Fault) → read_program (length (spelling t)) (spelling t) ≡ r → IsReadUnlessDeep t r → Agrees (spelling t) (run start (length (spelling t)) (spelling t)) r
         → read_program (length (spelling t)) (spelling t) ≡ Ok t
     by (Ok u) f g a = f ∙ ap Ok g
@@ -157,11 +159,11 @@ wrong-at-the-end s h = by (next s c.End) refl
     by stop n = refl
     by done n = absurd (h (ap ended n))
 
-wrong-here : (s : Stack) (d : ℕ) (t : Token) (others : List Token) → IsSound s → ((more : List Token) → walk s (t ∷ more) ≡ whole → ⊥) → run s d (t ∷ others) ≡ wrong (t ∷ others)
+wrong-here : (s : Stack) (d : ℕ) (t : Token) (others : List Token) → IsCompletable s → ((more : List Token) → walk s (t ∷ more) ≡ whole → ⊥) → run s d (t ∷ others) ≡ wrong (t ∷ others)
 wrong-here s d t others h never = by (next s (class t)) refl
   where
     by : (m : Move) → next s (class t) ≡ m → goes m (λ s2. within (room_behind d t) (λ left. run s2 left others) (deep (t ∷ others))) (wrong (t ∷ others)) ≡ wrong (t ∷ others)
-    by (on s2) n = absurd (never (completion s2) (step-walk s s2 t (completion s2) n ∙ completed s2 (next-sound s (class t) s2 h n)))
+    by (on s2) n = absurd (never (completion s2) (step-walk s s2 t (completion s2) n ∙ completed s2 (next-completable s (class t) s2 h n)))
     by stop n = refl
     by done n = refl
 

@@ -1,47 +1,41 @@
 -- The automaton goes along with each reader: what is read is spelled, and both stop at one token.
-use Rattle.std.proofs.Common.{◌≡◌, ℕ, zero, suc, not, cond, ◌<◌, ◌≤◌, Bool, true, false, List, [], ◌∷◌, ◌++◌, length, Option, Some, None, Result, Ok, Err, refl, sym, ap, ◌∙◌, subst, arith, codes}
+use Rattle.std.proofs.Common.{◌≡◌, ℕ, zero, suc, not, cond, ◌≤◌, Bool, true, false, List, [], ◌∷◌, ◌++◌, length, Some, None, Ok, Err, refl, sym, ap, ◌∙◌, subst, arith, codes}
 use Rattle.cap_syntax.specs.declared.place.Place.{Place}
 use Rattle.cap_syntax.specs.declared.token.Token.{Token}
-use Rattle.cap_tree.specs.declared.word.Word.{Word}
-use Rattle.cap_tree.specs.declared.word.Literal.{Literal}
-use Rattle.cap_tree.specs.Tree.{Several, InParentheses, InBraces}
 use Rattle.cap_tree.specs.Tokens.{name, number, symbol, keyword}
 use Rattle.cap_tree.specs.Nesting.{room_behind, one_fewer}
 use Rattle.cap_tree.specs.Spelling.{Spells, spell_all, spell_behind, spell_more, spell_several, spell_option, spell_listed, spell_group}
 use Rattle.cap_grammar.specs.declared.class.Class.{Class}
 use Rattle.cap_grammar.specs.declared.class.Class.TheVariants as c
 use Rattle.cap_grammar.specs.Classes.{class, are_same}
-use Rattle.cap_grammar.specs.Readers.{Fault, unexpected, too_deep, Outcome, Reader, ◌>>=◌, ahead, next_token, next_place, next_word, next_literal, expect, read_name, read_number, no_room, read_opening, read_optional, read_at_most, read_while, read_until, read_behind, read_more, read_several, read_listed, read_group}
+use Rattle.cap_grammar.specs.Readers.{unexpected, too_deep, Outcome, Reader, ◌>>=◌, ahead, next_token, next_place, next_word, next_literal, expect, read_name, read_number, no_room, read_opening, read_optional, read_at_most, read_while, read_behind, read_more, read_several, read_listed, read_group}
 use Rattle.cap_grammar.specs.Laws.Taking.{Takes, Keeps, behind-takes}
 use Rattle.cap_grammar.proofs.Shapes.{same_is_equal, same-self, shaped, plain, is_known, is_plain, plain-known, plain-shaped, room_after, shaped-room, known}
-use Rattle.cap_grammar.proofs.Automaton.{Symbol, fixed, rule, Rule, Stack, Move, on, stop, done, next, Answer, whole, wrong, deep, ended, goes, within, run}
+use Rattle.cap_grammar.proofs.Automaton.{Symbol, fixed, Stack, on, stop, next, Answer, wrong, deep, ended, goes, within, run}
 
-abbrev Holds : {A : Type 0} → (A → List Token → Type 0) → Answer → Stack → ℕ → Outcome A → Type 0
-Holds R a s d (Ok x) = R x.0 x.1 × (a ≡ run s d x.1)
-Holds R a s d (Err (unexpected rest)) = a ≡ wrong rest
-Holds R a s d (Err (too_deep rest)) = a ≡ deep rest
+abbrev MetBy : {A : Type 0} → (A → List Token → Type 0) → Answer → Stack → ℕ → Outcome A → Type 0
+MetBy R a s d (Ok x) = R x.0 x.1 × (a ≡ run s d x.1)
+MetBy R a s d (Err (unexpected rest)) = a ≡ wrong rest
+MetBy R a s d (Err (too_deep rest)) = a ≡ deep rest
 
 -- of what was read and its rest R holds, and the automaton, which answers a, is at the rest with this
 -- stack and room; or both stop at one token, for one cause
 pub record Meets {A : Type 0} (R : A → List Token → Type 0) (a : Answer) (s : Stack) (d : ℕ) (r : Outcome A) : Type 0 where
-  pub held : Holds R a s d r
+  pub held : MetBy R a s d r
 
 pub so : {A : Type 0} {R : A → List Token → Type 0} {s : Stack} {d : ℕ} {x : A} {rest : List Token} → R x rest → Meets R (run s d rest) s d (Ok (x, rest))
 so h = record { held = (h, refl) }
 
--- one reader, then the next
-pub chain : {A B : Type 0} {R : A → List Token → Type 0} {Q : B → List Token → Type 0} {a : Answer} {s s2 : Stack} {d d2 : ℕ} {r : Outcome A} {k : A × List Token → Outcome B}
-    → Meets R a s d r → ((x : A × List Token) → R x.0 x.1 → Meets Q (run s d x.1) s2 d2 (k x)) → Meets Q a s2 d2 (r >>= k)
-chain {Q = Q} {s2 = s2} {d2 = d2} {r = Ok x} {k = k} h then = subst (λ b. Meets Q b s2 d2 (k x)) (sym h.held.1) (then x h.held.0)
-chain {r = Err (unexpected rest)} h then = record { held = h.held }
-chain {r = Err (too_deep rest)} h then = record { held = h.held }
-
--- the same, where it counts what was read
+-- one reader, then the next, which may go by what was read
 known-chain : {A B : Type 0} {R : A → List Token → Type 0} {Q : B → List Token → Type 0} {a : Answer} {s s2 : Stack} {d d2 : ℕ} {r : Outcome A} {k : A × List Token → Outcome B}
     → Meets R a s d r → ((x : A × List Token) → r ≡ Ok x → R x.0 x.1 → Meets Q (run s d x.1) s2 d2 (k x)) → Meets Q a s2 d2 (r >>= k)
 known-chain {Q = Q} {s2 = s2} {d2 = d2} {r = Ok x} {k = k} h then = subst (λ b. Meets Q b s2 d2 (k x)) (sym h.held.1) (then x refl h.held.0)
 known-chain {r = Err (unexpected rest)} h then = record { held = h.held }
 known-chain {r = Err (too_deep rest)} h then = record { held = h.held }
+
+pub chain : {A B : Type 0} {R : A → List Token → Type 0} {Q : B → List Token → Type 0} {a : Answer} {s s2 : Stack} {d d2 : ℕ} {r : Outcome A} {k : A × List Token → Outcome B}
+    → Meets R a s d r → ((x : A × List Token) → R x.0 x.1 → Meets Q (run s d x.1) s2 d2 (k x)) → Meets Q a s2 d2 (r >>= k)
+chain h then = known-chain h (λ x e. then x)
 
 -- the same of an answer that is the same
 pub from : {A : Type 0} {R : A → List Token → Type 0} {a b : Answer} {s : Stack} {d : ℕ} {r : Outcome A} → a ≡ b → Meets R b s d r → Meets R a s d r
@@ -83,7 +77,7 @@ token-meets k d d2 (t ∷ ts) s n r e =
       held = (
         ap (λ u. u ∷ ts) is,
         ap (λ b. goes (cond b (on s) stop) (λ s2. within (room_behind d t) (λ left. run s2 left ts) (deep (t ∷ ts))) (wrong (t ∷ ts))) same
-        ∙ ap (λ o. within o (λ left. run s left ts) (deep (t ∷ ts))) room,
+            ∙ ap (λ o. within o (λ left. run s left ts) (deep (t ∷ ts))) room,
       );
     }
 
@@ -158,8 +152,8 @@ abbrev pub Read : {A : Type 0} → Spells A → List Token → A → List Token 
 Read spell ts a rest = ts ≡ spell a rest
 
 -- in front of whatever is still to come, the automaton goes along
-abbrev pub IsRead : {A : Type 0} → Stack → Spells A → ℕ → Reader A → Type 0
-IsRead w spell d read = (ts : List Token) (s : Stack) → Meets (Read spell ts) (run (w ++ s) d ts) s d (read ts)
+abbrev pub IsMet : {A : Type 0} → Stack → Spells A → ℕ → Reader A → Type 0
+IsMet w spell d read = (ts : List Token) (s : Stack) → Meets (Read spell ts) (run (w ++ s) d ts) s d (read ts)
 
 -- a stack is as good as t where a part begins, and as s2 where none does
 pub record IsChoice (s t s2 : Stack) (begins : Class → Bool) : Type 0 where
@@ -181,6 +175,7 @@ until s t u j e = record { enters = λ k b. by_enters k (are_same j k) refl b; l
     by_enters : (k : Class) (o : Bool) → are_same j k ≡ o → not o ≡ true → next s k ≡ next t k
     by_enters k true f b = cc
     by_enters k false f b = e k ∙ ap (λ o. cond o (on u) (next t k)) f
+
     by_leaves : (k : Class) (o : Bool) → are_same j k ≡ o → not o ≡ false → next s k ≡ next (fixed j ∷ u) k
     by_leaves k true f b = e k ∙ ap (λ o. cond o (on u) (next t k)) f ∙ sym (ap (λ o. cond o (on u) stop) f)
     by_leaves k false f b = cc
@@ -201,9 +196,9 @@ at_most-meets d choice takes edge one zero (u ∷ ts) l = absurd (omega (arith, 
 at_most-meets {spell = spell} {begins = begins} {s = s} {t = t} {s2 = s2} d choice takes edge one (suc n) ts l =
     either (begins (ahead ts))
     (λ b. from (same-next s t d ts (choice.enters (ahead ts) b)) (
-      known-chain (one ts) (λ a e f.
-      chain (at_most-meets d choice takes edge one n a.1 (omega (arith, l, (takes ts).fewer a.0 a.1 e))) (λ more g.
-      so (f ∙ ap (spell a.0) g)))))
+    known-chain (one ts) (λ a e f.
+    chain (at_most-meets d choice takes edge one n a.1 (omega (arith, l, (takes ts).fewer a.0 a.1 e))) (λ more g.
+    so (f ∙ ap (spell a.0) g)))))
     (λ b. from (same-next s s2 d ts (choice.leaves (ahead ts) b)) (so refl))
 
 pub while-meets : {A : Type 0} {spell : Spells A} {one : Reader A} {begins : Class → Bool} {s t s2 : Stack} (d : ℕ) (ts : List Token) → IsChoice s t s2 begins → Takes one
@@ -244,7 +239,7 @@ comma = (refl, λ d. refl, λ p. refl)
 pub listed-meets : {A : Type 0} {spell : Spells A} {one : ℕ → Reader A} (x m : Symbol) (w : Stack) (room : ℕ) (ts : List Token) (s : Stack)
     → IsChoice (x ∷ s) (w ++ (m ∷ s)) (fixed c.Close ∷ s) (λ k. not (are_same c.Close k))
     → IsChoice (m ∷ s) (fixed c.Comma ∷ (w ++ (m ∷ s))) (fixed c.Close ∷ s) (are_same c.Comma)
-    → ((d : ℕ) → Keeps (one d)) → ((d : ℕ) → IsRead w spell d (one d))
+    → ((d : ℕ) → Keeps (one d)) → ((d : ℕ) → IsMet w spell d (one d))
     → Meets (Read (spell_listed spell) ts) (run (fixed c.Open ∷ x ∷ s) room ts) s room (read_listed room one ts)
 listed-meets {spell = spell} {one = one} x m w room ts s choice more keeps each =
     opened c.Open room ts (x ∷ s) refl (λ d. refl) (λ o f.
@@ -256,7 +251,7 @@ listed-meets {spell = spell} {one = one} x m w room ts s choice more keeps each 
 pub group-meets : {A : Type 0} {spell : Spells A} {one : ℕ → Reader A} (k : Class) (text : List ℕ) (x : Symbol) (w : Stack) (room : ℕ) (ts : List Token) (s : Stack)
     → is_plain k ≡ true → ((d : ℕ) → room_after d k ≡ Some d) → ((p : Place) → plain k p ≡ keyword text p)
     → IsChoice (x ∷ s) (w ++ (x ∷ s)) (fixed c.CloseBrace ∷ s) (λ k. not (are_same c.CloseBrace k)) → next (x ∷ s) c.End ≡ stop
-    → ((d : ℕ) → Takes (one d)) → ((d : ℕ) → IsRead w spell d (one d))
+    → ((d : ℕ) → Takes (one d)) → ((d : ℕ) → IsMet w spell d (one d))
     → Meets (Read (spell_group text spell) ts) (run (fixed k ∷ fixed c.OpenBrace ∷ x ∷ s) room ts) s room (read_group room k one ts)
 group-meets {spell = spell} {one = one} k text x w room ts s n r t choice edge takes each =
     chain (expect-meets k room room ts (fixed c.OpenBrace ∷ x ∷ s) n (r room)) (λ key e.

@@ -1,5 +1,5 @@
 -- What a token of each class is.
-use Rattle.std.proofs.Common.{◌≡◌, ◌==◌, ◌⊎◌, inl, inr, ℕ, zero, suc, Bool, true, false, cond, List, [], ◌∷◌, Option, Some, None, codes, refl, sym, ap, ◌∙◌, subst, arith, nat_eq}
+use Rattle.std.proofs.Common.{◌≡◌, ◌==◌, ◌⊎◌, inl, inr, ℕ, suc, Bool, true, false, cond, List, [], ◌∷◌, Option, Some, codes, refl, sym, ap, ◌∙◌, arith, nat_eq}
 use Rattle.std.proofs.lemmas.Bool.Decides.{nat_tests}
 use Rattle.std.proofs.lemmas.Slice.Eq.{bytes_eq-Decides}
 use Rattle.std.specs.Str.{bytes_eq}
@@ -26,6 +26,7 @@ decode n =
     cond (nat_eq n 40) AtLeast (cond (nat_eq n 41) Plus (cond (nat_eq n 42) Minus (cond (nat_eq n 43) Star (cond (nat_eq n 44) Percent (
     cond (nat_eq n 45) At (cond (nat_eq n 46) Question (cond (nat_eq n 47) Bar (cond (nat_eq n 48) PointsTo (cond (nat_eq n 49) And (
     cond (nat_eq n 50) LeadsTo (cond (nat_eq n 51) Other (End))))))))))))))))))))))))))))))))))))))))))))))))))))
+
 decode-number : (k : Class) → decode (class_number k) ≡ k
 unfolding decode
 decode-number Name = refl
