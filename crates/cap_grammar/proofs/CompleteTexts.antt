@@ -24,10 +24,12 @@ not-closing : (k : Class) → begins_term k ≡ true → not (are_same c.Close k
 not-closing c.Close e = cc
 not-closing k e = refl
 
-listed-gives : {A : Type 0} (spell : Spells A) (follows : Class → Bool) (one : ℕ → Reader A) → follows c.Comma ≡ true → follows c.Close ≡ true → ((d : ℕ) → Keeps (one d))
+listed-gives : {A : Type 0} (spell : Spells A) (follows : Class → Bool) (one : ℕ → Reader A)
+    → follows c.Comma ≡ true → follows c.Close ≡ true → ((d : ℕ) → Keeps (one d))
     → ((a : A) (ts : List Token) → not (are_same c.Close (ahead (spell a ts))) ≡ true)
     → ((d : ℕ) (a : A) (ts : List Token) → follows (ahead ts) ≡ true → Gives a ts (one d (spell a ts)))
-    → (d : ℕ) (l : InParentheses A) (ts : List Token) → Gives l ts (read_listed d one (spell_listed spell l ts))
+    → (d : ℕ) (l : InParentheses A) (ts : List Token)
+    → Gives l ts (read_listed d one (spell_listed spell l ts))
 listed-gives spell follows one f g keeps first each d l ts =
     let rest = symbol (codes ")") l.behind ∷ ts in
     opens-then _ c.Open d (symbol (codes "(") l.before) (spell_option (spell_several (codes ",") spell) l.parts rest) refl (λ n.
@@ -35,10 +37,12 @@ listed-gives spell follows one f g keeps first each d l ts =
     (λ a. first a.first (spell_more (codes ",") spell a.more rest))
     (λ a. several-gives spell follows c.Comma (codes ",") (one n) (λ p. refl) refl f (keeps n) (each n) a rest refl g)) gives)
 
-group-gives : {A : Type 0} (spell : Spells A) (k : Class) (text : List ℕ) (one : ℕ → Reader A) → ((p : Place) → class (keyword text p) ≡ k) → ((d : ℕ) → Takes (one d))
+group-gives : {A : Type 0} (spell : Spells A) (k : Class) (text : List ℕ) (one : ℕ → Reader A)
+    → ((p : Place) → class (keyword text p) ≡ k) → ((d : ℕ) → Takes (one d))
     → ((a : A) (ts : List Token) → Begins (λ j. not (are_same c.CloseBrace j)) (λ j. true) (spell a ts))
     → ((d : ℕ) (a : A) (ts : List Token) → Gives a ts (one d (spell a ts)))
-    → (d : ℕ) (l : InBraces A) (ts : List Token) → Gives l ts (read_group d k one (spell_group text spell l ts))
+    → (d : ℕ) (l : InBraces A) (ts : List Token)
+    → Gives l ts (read_group d k one (spell_group text spell l ts))
 group-gives spell k text one e takes first each d l ts =
     let rest = symbol (codes "}") l.behind ∷ ts in
     yields _ (expect-gives k (keyword text l.key) (symbol (codes "{") l.before ∷ spell_all spell l.parts rest) (e l.key))
@@ -47,7 +51,8 @@ group-gives spell k text one e takes first each d l ts =
 
 -- statements
 
-terms-gives : (d : ℕ) (l : InParentheses TermTree) (ts : List Token) → Gives l ts (read_terms d (spell_terms l ts))
+terms-gives : (d : ℕ) (l : InParentheses TermTree) (ts : List Token)
+    → Gives l ts (read_terms d (spell_terms l ts))
 terms-gives d l ts =
     listed-gives spell_term ends_term read_term refl refl (λ n. takes-keeps (read_term n) (term-takes n))
     (λ t us. not-closing (ahead (spell_term t us)) (term-begins t us)) term-gives d l ts
@@ -68,7 +73,8 @@ value-of-term d (term None (product (named w) fs) ms) us e =
 value-of-term d (term None (product (bracketed p t q) fs) ms) us e = refl
 
 -- a value, before its semicolon
-value-gives : (d : ℕ) (v : ValueTree) (e : Place) (ts : List Token) → Gives v (symbol (codes ";") e ∷ ts) (read_value d (spell_value v (symbol (codes ";") e ∷ ts)))
+value-gives : (d : ℕ) (v : ValueTree) (e : Place) (ts : List Token)
+    → Gives v (symbol (codes ";") e ∷ ts) (read_value d (spell_value v (symbol (codes ";") e ∷ ts)))
 value-gives d (value t) e ts =
     let rest = symbol (codes ";") e ∷ ts in
     subst (Gives (value t) rest) (sym (value-of-term d t rest refl)) (yields _ (term-gives d t rest refl) gives)
@@ -95,7 +101,9 @@ no-else : (k : Class) → no_else_ahead k ≡ true → are_same c.Else k ≡ fal
 no-else c.Else e = cc
 no-else k e = refl
 
-branch-gives : (d : ℕ) → BlockGives d → (p q : Place) (x : ComparisonTree) (r : Place) (b : BlockTree) (f : ElseTree) (ts : List Token) → are_same c.Else (ahead ts) ≡ false
+branch-gives : (d : ℕ) → BlockGives d
+    → (p q : Place) (x : ComparisonTree) (r : Place) (b : BlockTree) (f : ElseTree) (ts : List Token)
+    → are_same c.Else (ahead ts) ≡ false
     → Gives (branch p q x r b f) ts (read_branch (block_at d) d (spell_statement (branch p q x r b f) ts))
 branch-gives d h p q x r b no_else ts e =
     let rest = symbol (codes ")") r ∷ spell_block b ts in
@@ -116,7 +124,9 @@ no-semicolon : (k : Class) → begins_term k ≡ true → not (are_same c.Semico
 no-semicolon c.Semicolon e = cc
 no-semicolon k e = refl
 
-statement-gives : (d : ℕ) → BlockGives d → (s : StatementTree) (ts : List Token) → no_else_ahead (ahead ts) ≡ true → Gives s ts (read_statement (block_at d) d (spell_statement s ts))
+statement-gives : (d : ℕ) → BlockGives d → (s : StatementTree) (ts : List Token)
+    → no_else_ahead (ahead ts) ≡ true
+    → Gives s ts (read_statement (block_at d) d (spell_statement s ts))
 statement-gives d h (assign w p v e) ts f = yields _ (value-gives d v e ts) gives
 statement-gives d h (store p a q r t e) ts f =
     let rest2 = symbol (codes ";") e ∷ ts in
@@ -138,7 +148,8 @@ statement-gives d h (give_back p t e) ts f =
     let rest = symbol (codes ";") e ∷ ts in
     yields _ (optional-gives spell_term (λ k. not (are_same c.Semicolon k)) (read_term d) t rest refl (λ y. no-semicolon (ahead (spell_term y rest)) (term-begins y rest)) (λ y. term-gives d y rest refl)) gives
 
-statement-begins : (s : StatementTree) (ts : List Token) → Begins (λ k. not (are_same c.CloseBrace k)) no_else_ahead (spell_statement s ts)
+statement-begins : (s : StatementTree) (ts : List Token)
+    → Begins (λ k. not (are_same c.CloseBrace k)) no_else_ahead (spell_statement s ts)
 statement-begins (assign w p v e) ts = (refl, refl, refl)
 statement-begins (store p a q r t e) ts = (refl, refl, refl)
 statement-begins (call w l e) ts = (refl, refl, refl)
@@ -164,13 +175,15 @@ block-gives (suc d) (block p ss q) ts =
 abbrev GroupedGives : ℕ → Type 0
 GroupedGives d = (p : Place) (a : AlgebraTree) (q : Place) (ts : List Token) → Gives (grouped p a q) ts (grouped_at d (symbol (codes "(") p ∷ spell_algebra a (symbol (codes ")") q ∷ ts)))
 
-declared-gives : (d : ℕ) → GroupedGives d → (x : DeclaredTree) (ts : List Token) → Gives x ts (read_declared (grouped_at d) (spell_declared x ts))
+declared-gives : (d : ℕ) → GroupedGives d → (x : DeclaredTree) (ts : List Token)
+    → Gives x ts (read_declared (grouped_at d) (spell_declared x ts))
 declared-gives d h (unique w) ts = gives
 declared-gives d h (divisible p w) ts = gives
 declared-gives d h (counting p w q) ts = gives
 declared-gives d h (grouped p a q) ts = h p a q ts
 
-joint-gives : (d : ℕ) → GroupedGives d → (j : JointTree) (ts : List Token) → no_star (ahead ts) ≡ true → Gives j ts (read_joint (grouped_at d) (spell_joint j ts))
+joint-gives : (d : ℕ) → GroupedGives d → (j : JointTree) (ts : List Token)
+    → no_star (ahead ts) ≡ true → Gives j ts (read_joint (grouped_at d) (spell_joint j ts))
 joint-gives d h (joint x more) ts e =
     subst (λ m. Gives (joint x m) ts (read_joint (grouped_at d) (spell_declared x (spell_declareds m ts)))) (declareds-again more) (by (list_of_declareds more))
   where
@@ -180,11 +193,14 @@ joint-gives d h (joint x more) ts e =
         (yields _ (declared-gives d h x (spell_more (codes "*") spell_declared l ts))
         (yields _ (more-gives spell_declared (λ k. true) c.Star (codes "*") (read_declared (grouped_at d)) (λ p. refl) refl refl (takes-keeps (read_declared (grouped_at d)) (declared-takes d)) (λ a us f. declared-gives d h a us) l ts (no-star (ahead ts) e) refl) gives))
 
-plus-no-star : (more : List EitherTree) (ts : List Token) → no_star (ahead ts) ≡ true → no_star (ahead (spell_more (codes "+") spell_joint more ts)) ≡ true
+plus-no-star : (more : List EitherTree) (ts : List Token) → no_star (ahead ts) ≡ true
+    → no_star (ahead (spell_more (codes "+") spell_joint more ts)) ≡ true
 plus-no-star [] ts e = e
 plus-no-star (j ∷ more) ts e = refl
 
-algebra-gives-with : (d : ℕ) → GroupedGives d → (a : AlgebraTree) (ts : List Token) → are_same c.Plus (ahead ts) ≡ false → no_star (ahead ts) ≡ true → Gives a ts (read_algebra d (spell_algebra a ts))
+algebra-gives-with : (d : ℕ) → GroupedGives d → (a : AlgebraTree) (ts : List Token)
+    → are_same c.Plus (ahead ts) ≡ false → no_star (ahead ts) ≡ true
+    → Gives a ts (read_algebra d (spell_algebra a ts))
 algebra-gives-with d h (algebra j more) ts e f =
     subst (λ m. Gives (algebra j m) ts (read_algebra d (spell_joint j (spell_joints m ts)))) (joints-again more) (by (list_of_joints more))
   where
@@ -203,16 +219,20 @@ abbrev ends_when : Class → Bool
 ends_when c.Comma = false
 ends_when k = ends_term k
 
-when-gives : (d : ℕ) (w : WhenTree) (ts : List Token) → ends_term (ahead ts) ≡ true → are_same c.Comma (ahead ts) ≡ false → Gives w ts (read_when d (spell_when w ts))
+when-gives : (d : ℕ) (w : WhenTree) (ts : List Token) → ends_term (ahead ts) ≡ true
+    → are_same c.Comma (ahead ts) ≡ false → Gives w ts (read_when d (spell_when w ts))
 when-gives d w ts e f =
     yields _ (several-gives spell_comparison ends_term c.Comma (codes ",") (read_comparison d) (λ p. refl) refl refl (takes-keeps (read_comparison d) (comparison-takes d)) (comparison-gives d) w.comparisons ts f e) gives
 
 -- conditions, or none, before a token of a class that ends them
-optional_when-gives : (d : ℕ) (w : Option WhenTree) (t : Token) (ts : List Token) → ends_term (class t) ≡ true → are_same c.Comma (class t) ≡ false → are_same c.When (class t) ≡ false
+optional_when-gives : (d : ℕ) (w : Option WhenTree) (t : Token) (ts : List Token)
+    → ends_term (class t) ≡ true → are_same c.Comma (class t) ≡ false
+    → are_same c.When (class t) ≡ false
     → Gives w (t ∷ ts) (read_optional_when d (spell_option spell_when w (t ∷ ts)))
 optional_when-gives d w t ts e f g = optional-gives spell_when (are_same c.When) (read_when d) w (t ∷ ts) g (λ y. refl) (λ y. when-gives d y (t ∷ ts) e f)
 
-when-ends : (w : Option WhenTree) (t : Token) (ts : List Token) → ends_term (class t) ≡ true → ends_term (ahead (spell_option spell_when w (t ∷ ts))) ≡ true
+when-ends : (w : Option WhenTree) (t : Token) (ts : List Token) → ends_term (class t) ≡ true
+    → ends_term (ahead (spell_option spell_when w (t ∷ ts))) ≡ true
 when-ends None t ts e = e
 when-ends (Some w) t ts e = refl
 
@@ -225,7 +245,8 @@ case-gives d x ts =
     (yields _ (optional_when-gives d x.when colon rest refl refl refl)
     (yields _ (assertion-gives d x.assertion end refl refl) gives))
 
-action-gives : (d : ℕ) (x : ActionTree) (ts : List Token) → Gives x ts (read_action d (spell_action x ts))
+action-gives : (d : ℕ) (x : ActionTree) (ts : List Token)
+    → Gives x ts (read_action d (spell_action x ts))
 action-gives d x ts =
     let end = symbol (codes ";") x.semicolon in
     let target = spell_term x.target (spell_option spell_when x.when (end ∷ ts)) in
@@ -235,25 +256,30 @@ action-gives d x ts =
     (yields _ (term-gives d x.target (spell_option spell_when x.when (end ∷ ts)) (when-ends x.when end ts refl))
     (yields _ (optional_when-gives d x.when end ts refl refl refl) gives)))
 
-term-in-braces : (k : Class) → begins_term k ≡ true → (not (are_same c.CloseBrace k) ≡ true) × (true ≡ true) × (are_same c.End k ≡ false)
+term-in-braces : (k : Class) → begins_term k ≡ true
+    → (not (are_same c.CloseBrace k) ≡ true) × (true ≡ true) × (are_same c.End k ≡ false)
 term-in-braces c.CloseBrace e = cc
 term-in-braces c.End e = cc
 term-in-braces k e = (refl, refl, refl)
 
-guard-in-braces : (k : Class) → begins_guard k ≡ true → (not (are_same c.CloseBrace k) ≡ true) × (true ≡ true) × (are_same c.End k ≡ false)
+guard-in-braces : (k : Class) → begins_guard k ≡ true
+    → (not (are_same c.CloseBrace k) ≡ true) × (true ≡ true) × (are_same c.End k ≡ false)
 guard-in-braces c.CloseBrace e = cc
 guard-in-braces c.End e = cc
 guard-in-braces k e = (refl, refl, refl)
 
-case-begins : (x : CaseTree) (ts : List Token) → Begins (λ j. not (are_same c.CloseBrace j)) (λ j. true) (spell_case x ts)
+case-begins : (x : CaseTree) (ts : List Token)
+    → Begins (λ j. not (are_same c.CloseBrace j)) (λ j. true) (spell_case x ts)
 case-begins x ts = let l = spell_case x ts in term-in-braces (ahead l) (term-begins x.state (spell_option spell_when x.when (symbol (codes ":") x.colon ∷ spell_assertion x.assertion (symbol (codes ";") x.semicolon ∷ ts))))
 
-action-begins : (x : ActionTree) (ts : List Token) → Begins (λ j. not (are_same c.CloseBrace j)) (λ j. true) (spell_action x ts)
+action-begins : (x : ActionTree) (ts : List Token)
+    → Begins (λ j. not (are_same c.CloseBrace j)) (λ j. true) (spell_action x ts)
 action-begins x ts =
     let l = spell_action x ts in
     guard-in-braces (ahead l) (guard-begins x.guards.first (spell_more (codes "*") spell_guard x.guards.more (symbol (codes ":") x.colon ∷ spell_term x.source (symbol (codes "~>") x.arrow ∷ spell_term x.target (spell_option spell_when x.when (symbol (codes ";") x.semicolon ∷ ts))))))
 
-region-gives : (d : ℕ) (x : RegionTree) (ts : List Token) → Gives x ts (read_region d (spell_region x ts))
+region-gives : (d : ℕ) (x : RegionTree) (ts : List Token)
+    → Gives x ts (read_region d (spell_region x ts))
 region-gives d x ts =
     let end = symbol (codes "}") x.end ∷ ts in
     let acts = spell_group (codes "actions") spell_action x.actions end in
@@ -268,12 +294,14 @@ region-gives d x ts =
     (yields _ (group-gives spell_case c.Interpretation (codes "interpretation") read_case (λ p. refl) case-takes case-begins case-gives n x.cases acts)
     (yields _ (group-gives spell_action c.Actions (codes "actions") read_action (λ p. refl) action-takes action-begins action-gives n x.actions end) gives))))
 
-no-clause : (j : Class) (x : Option ClauseTree) (b : BlockTree) (ts : List Token) → are_same j c.Ensures ≡ false → are_same j c.OpenBrace ≡ false
+no-clause : (j : Class) (x : Option ClauseTree) (b : BlockTree) (ts : List Token)
+    → are_same j c.Ensures ≡ false → are_same j c.OpenBrace ≡ false
     → are_same j (ahead (spell_option (spell_clause (codes "ensures")) x (spell_block b ts))) ≡ false
 no-clause j None b ts e f = ap (are_same j) (block-begins b ts) ∙ f
 no-clause j (Some x) b ts e f = e
 
-function-gives : (d : ℕ) (x : FunctionTree) (ts : List Token) → Gives x ts (read_function d (spell_function x ts))
+function-gives : (d : ℕ) (x : FunctionTree) (ts : List Token)
+    → Gives x ts (read_function d (spell_function x ts))
 function-gives d x ts =
     let body = spell_block x.body ts in
     let post = spell_option (spell_clause (codes "ensures")) x.postcondition body in
@@ -283,11 +311,13 @@ function-gives d x ts =
     (yields _ (optional-gives (spell_clause (codes "ensures")) (are_same c.Ensures) (read_clause d c.Ensures) x.postcondition body (ap (are_same c.Ensures) (block-begins x.body ts)) (λ y. refl) (λ y. clause-gives d c.Ensures (codes "ensures") y body (λ p. refl)))
     (yields _ (block-gives d x.body ts) gives)))
 
-declaration-gives : (d : ℕ) (x : DeclarationTree) (ts : List Token) → Gives x ts (read_declaration d (spell_declaration x ts))
+declaration-gives : (d : ℕ) (x : DeclarationTree) (ts : List Token)
+    → Gives x ts (read_declaration d (spell_declaration x ts))
 declaration-gives d (region r) ts = yields _ (region-gives d r ts) gives
 declaration-gives d (function f) ts = yields _ (function-gives d f ts) gives
 
-declaration-begins : (x : DeclarationTree) (ts : List Token) → Begins (λ j. not (are_same c.End j)) (λ j. true) (spell_declaration x ts)
+declaration-begins : (x : DeclarationTree) (ts : List Token)
+    → Begins (λ j. not (are_same c.End j)) (λ j. true) (spell_declaration x ts)
 declaration-begins (region r) ts = (refl, refl, refl)
 declaration-begins (function f) ts = (refl, refl, refl)
 

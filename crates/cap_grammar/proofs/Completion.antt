@@ -113,7 +113,8 @@ and-assoc : (x y z : Bool) → (x && (y && z)) ≡ ((x && y) && z)
 and-assoc true y z = refl
 and-assoc false y z = refl
 
-completable-append : (b : Bool) (w s : Stack) → is_completable b (w ++ s) ≡ (is_completable (is_led b s) w && is_completable b s)
+completable-append : (b : Bool) (w s : Stack)
+    → is_completable b (w ++ s) ≡ (is_completable (is_led b s) w && is_completable b s)
 completable-append b [] s = refl
 completable-append b (fixed k ∷ w) s = ap (λ x. is_known k && x) (completable-append b w s) ∙ and-assoc (is_known k) (is_completable (is_led b s) w) (is_completable b s)
 completable-append b (rule r ∷ w) s =
@@ -135,7 +136,9 @@ steps-completable r = refl
 on-same : (s t : Stack) → on s ≡ on t → s ≡ t
 on-same s t e = cc
 
-found-completable : (st : Steps) (k : Class) (s : Stack) (m : Move) (s2 : Stack) → all_completable st ≡ true → is_led false s ≡ false → IsCompletable s → (m ≡ on s2 → IsCompletable s2)
+found-completable : (st : Steps) (k : Class) (s : Stack) (m : Move) (s2 : Stack)
+    → all_completable st ≡ true → is_led false s ≡ false → IsCompletable s
+    → (m ≡ on s2 → IsCompletable s2)
     → found st k s m ≡ on s2 → IsCompletable s2
 found-completable [] k s m s2 a l h other e = other e
 found-completable (step ∷ more) k s m s2 a l h other e =
@@ -148,7 +151,8 @@ found-completable (step ∷ more) k s m s2 a l h other e =
         ∙ and-true (is_completable (is_led false s) step.1) (is_completable false s) (ap (λ x. is_completable x step.1) l ∙ p.0) h
     by p later false f = later p.1 f
 
-pub next-completable : (s : Stack) (k : Class) (s2 : Stack) → IsCompletable s → next s k ≡ on s2 → IsCompletable s2
+pub next-completable : (s : Stack) (k : Class) (s2 : Stack) → IsCompletable s → next s k ≡ on s2
+    → IsCompletable s2
 next-completable [] k s2 h e = by (are_same c.End k) e
   where
     by : (b : Bool) → cond b done stop ≡ on s2 → IsCompletable s2
@@ -200,7 +204,8 @@ optional-part more_names e = cc
 optional-part a_declaration e = cc
 optional-part r e = (refl, refl)
 
-found-none : (st : Steps) (k : Class) (s : Stack) (m : Move) → all_lead st ≡ true → leads k ≡ false → found st k s m ≡ m
+found-none : (st : Steps) (k : Class) (s : Stack) (m : Move) → all_lead st ≡ true → leads k ≡ false
+    → found st k s m ≡ m
 found-none [] k s m a l = refl
 found-none (step ∷ more) k s m a l = by (both (leads step.0) (all_lead more) a) (λ f. found-none more k s m f l) (are_same step.0 k) refl
   where
@@ -209,14 +214,16 @@ found-none (step ∷ more) k s m a l = by (both (leads step.0) (all_lead more) a
     by p later false f = later p.1
 
 -- a part that may be empty is, before no lead
-skipped : (r : Rule) (s : Stack) (ts : List Token) → may_be_empty r ≡ true → leads (ahead ts) ≡ false → walk (rule r ∷ s) ts ≡ walk s ts
+skipped : (r : Rule) (s : Stack) (ts : List Token) → may_be_empty r ≡ true
+    → leads (ahead ts) ≡ false → walk (rule r ∷ s) ts ≡ walk s ts
 skipped r s [] e l = ap ended (found-none (steps r) c.End s (cond (may_be_empty r) (next s c.End) stop) (optional-part r e).0 l ∙ ap (λ b. cond b (next s c.End) stop) e)
 skipped r s (t ∷ ts) e l =
     ap (λ m. goes m (λ s2. walk s2 ts) (wrong (t ∷ ts)))
     (found-none (steps r) (class t) s (cond (may_be_empty r) (next s (class t)) stop) (optional-part r e).0 l ∙ ap (λ b. cond b (next s (class t)) stop) e)
 
 -- whatever comes, a part's word is walked over
-word-walked : (r : Rule) (s : Stack) (ts : List Token) → may_be_empty r ≡ false → walk (rule r ∷ s) (map a_token (word r) ++ ts) ≡ walk s ts
+word-walked : (r : Rule) (s : Stack) (ts : List Token) → may_be_empty r ≡ false
+    → walk (rule r ∷ s) (map a_token (word r) ++ ts) ≡ walk s ts
 word-walked may_minus s ts e = cc
 word-walked more_factors s ts e = cc
 word-walked more_products s ts e = cc
@@ -238,7 +245,8 @@ word-walked (more_comparisons a_colon) s ts e = refl
 word-walked (more_comparisons a_semicolon) s ts e = refl
 word-walked r s ts e = refl
 
-word-lead : (r : Rule) (ts : List Token) → leads (ahead (map a_token (word r) ++ ts)) ≡ lead_of (word r) (leads (ahead ts))
+word-lead : (r : Rule) (ts : List Token)
+    → leads (ahead (map a_token (word r) ++ ts)) ≡ lead_of (word r) (leads (ahead ts))
 word-lead (may_when a_colon) ts = refl
 word-lead (may_when a_semicolon) ts = refl
 word-lead (more_comparisons a_colon) ts = refl

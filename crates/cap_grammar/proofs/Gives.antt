@@ -28,19 +28,23 @@ pub not-here : {A : Type 0} {a : A} {ts rest : List Token} → Gives a ts (Err (
 not-here = record { held = tt }
 
 -- one reader, then the next, which may go by what was read
-pub known-yields : {A B : Type 0} {a : A} {ts us : List Token} {b : B} {r : Outcome A} (k : A × List Token → Outcome B) → Gives a ts r → (r ≡ Ok (a, ts) → Gives b us (k (a, ts))) → Gives b us (r >>= k)
+pub known-yields : {A B : Type 0} {a : A} {ts us : List Token} {b : B} {r : Outcome A} (k : A × List Token → Outcome B)
+    → Gives a ts r → (r ≡ Ok (a, ts) → Gives b us (k (a, ts))) → Gives b us (r >>= k)
 known-yields {us = us} {b = b} {r = Ok x} k h g = subst (λ y. Gives b us (k y)) (sym h.held) (g (ap Ok h.held))
 known-yields {r = Err (unexpected rest)} k h g = absurd h.held
 known-yields {r = Err (too_deep rest)} k h g = not-here
 
-pub yields : {A B : Type 0} {a : A} {ts us : List Token} {b : B} {r : Outcome A} (k : A × List Token → Outcome B) → Gives a ts r → Gives b us (k (a, ts)) → Gives b us (r >>= k)
+pub yields : {A B : Type 0} {a : A} {ts us : List Token} {b : B} {r : Outcome A} (k : A × List Token → Outcome B)
+    → Gives a ts r → Gives b us (k (a, ts)) → Gives b us (r >>= k)
 yields k h g = known-yields k h (λ e. g)
 
-pub where-true : {A : Type 0} {a : A} {ts : List Token} {r : Outcome A} (b : Bool) (t : Outcome A) → b ≡ true → Gives a ts r → Gives a ts (cond b r t)
+pub where-true : {A : Type 0} {a : A} {ts : List Token} {r : Outcome A} (b : Bool) (t : Outcome A)
+    → b ≡ true → Gives a ts r → Gives a ts (cond b r t)
 where-true true t e h = h
 where-true false t e h = absurd cc
 
-pub where-false : {A : Type 0} {a : A} {ts : List Token} {r : Outcome A} (b : Bool) (t : Outcome A) → b ≡ false → Gives a ts r → Gives a ts (cond b t r)
+pub where-false : {A : Type 0} {a : A} {ts : List Token} {r : Outcome A} (b : Bool) (t : Outcome A)
+    → b ≡ false → Gives a ts r → Gives a ts (cond b t r)
 where-false false t e h = h
 where-false true t e h = absurd cc
 
@@ -51,15 +55,19 @@ abbrev with_room : ℕ → Outcome Place → Outcome (ℕ × Place)
 with_room d r = r >>= λ p. Ok ((d, p.0), p.1)
 
 -- a bracket, and what is in it
-pub opens-then : {B : Type 0} {b : B} {us : List Token} (next_reader : (ℕ × Place) × List Token → Outcome B) (k : Class) (room : ℕ) (t : Token) (ts : List Token) → class t ≡ k
-    → ((d : ℕ) → Gives b us (next_reader ((d, t.place), ts))) → Gives b us (read_opening room k (t ∷ ts) >>= next_reader)
+pub opens-then : {B : Type 0} {b : B} {us : List Token} (next_reader : (ℕ × Place) × List Token → Outcome B) (k : Class) (room : ℕ) (t : Token) (ts : List Token)
+    → class t ≡ k
+    → ((d : ℕ) → Gives b us (next_reader ((d, t.place), ts)))
+    → Gives b us (read_opening room k (t ∷ ts) >>= next_reader)
 opens-then {b = b} {us = us} reader k zero t ts e h =
     subst (λ o. Gives b us (cond {A = Outcome (ℕ × Place)} o (Err (too_deep (t ∷ ts))) (Err (unexpected (t ∷ ts))) >>= reader)) (sym (is-same k t e)) not-here
 opens-then {b = b} {us = us} reader k (suc d) t ts e h =
     subst (λ o. Gives b us (with_room d (cond o (Ok (t.place, ts)) (Err (unexpected (t ∷ ts)))) >>= reader)) (sym (is-same k t e)) (h d)
 
-pub optional-gives : {A : Type 0} (spell : Spells A) (begins : Class → Bool) (one : Reader A) (o : Option A) (ts : List Token) → begins (ahead ts) ≡ false
-    → ((a : A) → begins (ahead (spell a ts)) ≡ true) → ((a : A) → Gives a ts (one (spell a ts))) → Gives o ts (read_optional begins one (spell_option spell o ts))
+pub optional-gives : {A : Type 0} (spell : Spells A) (begins : Class → Bool) (one : Reader A) (o : Option A) (ts : List Token)
+    → begins (ahead ts) ≡ false
+    → ((a : A) → begins (ahead (spell a ts)) ≡ true) → ((a : A) → Gives a ts (one (spell a ts)))
+    → Gives o ts (read_optional begins one (spell_option spell o ts))
 optional-gives spell begins one None ts n y h = where-false (begins (ahead ts)) _ n gives
 optional-gives spell begins one (Some a) ts n y h = where-true (begins (ahead (spell a ts))) _ (y a) (yields _ (h a) gives)
 
@@ -72,14 +80,18 @@ begun-long [] e l = cc
 begun-long (t ∷ ts) e l = omega (arith, l)
 
 -- parts one behind another, none of which the reader of one takes too far
-pub parts-follow : {A : Type 0} (spell : Spells A) (begins follows : Class → Bool) → ((a : A) (ts : List Token) → Begins begins follows (spell a ts))
-    → (parts : List A) (ts : List Token) → follows (ahead ts) ≡ true → follows (ahead (spell_all spell parts ts)) ≡ true
+pub parts-follow : {A : Type 0} (spell : Spells A) (begins follows : Class → Bool)
+    → ((a : A) (ts : List Token) → Begins begins follows (spell a ts))
+    → (parts : List A) (ts : List Token) → follows (ahead ts) ≡ true
+    → follows (ahead (spell_all spell parts ts)) ≡ true
 parts-follow spell begins follows first [] ts f = f
 parts-follow spell begins follows first (a ∷ more) ts f = (first a (spell_all spell more ts)).1
 
-at_most-gives : {A : Type 0} (spell : Spells A) (begins follows : Class → Bool) (one : Reader A) → Takes one → ((a : A) (ts : List Token) → Begins begins follows (spell a ts))
+at_most-gives : {A : Type 0} (spell : Spells A) (begins follows : Class → Bool) (one : Reader A)
+    → Takes one → ((a : A) (ts : List Token) → Begins begins follows (spell a ts))
     → ((a : A) (ts : List Token) → follows (ahead ts) ≡ true → Gives a ts (one (spell a ts)))
-    → (n : ℕ) (parts : List A) (ts : List Token) → begins (ahead ts) ≡ false → follows (ahead ts) ≡ true → length (spell_all spell parts ts) ≤ n
+    → (n : ℕ) (parts : List A) (ts : List Token) → begins (ahead ts) ≡ false
+    → follows (ahead ts) ≡ true → length (spell_all spell parts ts) ≤ n
     → Gives parts ts (read_at_most begins one n (spell_all spell parts ts))
 at_most-gives spell begins follows one takes first each n [] ts e f l = subst (Gives [] ts) (sym (at_most-stops begins one n ts e)) gives
 at_most-gives spell begins follows one takes first each zero (a ∷ more) ts e f l = absurd (begun-long (spell a (spell_all spell more ts)) (first a (spell_all spell more ts)).2 l)
@@ -89,16 +101,19 @@ at_most-gives spell begins follows one takes first each (suc n) (a ∷ more) ts 
     (known-yields _ (each a rest (parts-follow spell begins follows first more ts f)) (λ r.
     yields _ (at_most-gives spell begins follows one takes first each n more ts e f (omega (arith, l, (takes (spell a rest)).fewer a rest r))) gives))
 
-pub while-gives : {A : Type 0} (spell : Spells A) (begins follows : Class → Bool) (one : Reader A) → Takes one → ((a : A) (ts : List Token) → Begins begins follows (spell a ts))
+pub while-gives : {A : Type 0} (spell : Spells A) (begins follows : Class → Bool) (one : Reader A)
+    → Takes one → ((a : A) (ts : List Token) → Begins begins follows (spell a ts))
     → ((a : A) (ts : List Token) → follows (ahead ts) ≡ true → Gives a ts (one (spell a ts)))
     → (parts : List A) (ts : List Token) → begins (ahead ts) ≡ false → follows (ahead ts) ≡ true
     → Gives parts ts (read_while begins one (spell_all spell parts ts))
 while-gives spell begins follows one takes first each parts ts e f = at_most-gives spell begins follows one takes first each (length (spell_all spell parts ts)) parts ts e f (omega arith)
 
 -- parts behind a separator k, which may follow a part
-pub more-gives : {A : Type 0} (spell : Spells A) (follows : Class → Bool) (k : Class) (text : List ℕ) (one : Reader A) → ((p : Place) → class (symbol text p) ≡ k) → is_plain k ≡ true → follows k ≡ true → Keeps one
+pub more-gives : {A : Type 0} (spell : Spells A) (follows : Class → Bool) (k : Class) (text : List ℕ) (one : Reader A)
+    → ((p : Place) → class (symbol text p) ≡ k) → is_plain k ≡ true → follows k ≡ true → Keeps one
     → ((a : A) (ts : List Token) → follows (ahead ts) ≡ true → Gives a ts (one (spell a ts)))
-    → (parts : List (Place × A)) (ts : List Token) → are_same k (ahead ts) ≡ false → follows (ahead ts) ≡ true
+    → (parts : List (Place × A)) (ts : List Token) → are_same k (ahead ts) ≡ false
+    → follows (ahead ts) ≡ true
     → Gives parts ts (read_more k one (spell_more text spell parts ts))
 more-gives {A = A} spell follows k text one it plain_k f keeps each parts ts e g =
     while-gives (spell_behind text spell) (are_same k) follows (read_behind k one) (behind-takes k one keeps)
@@ -114,9 +129,11 @@ more-gives {A = A} spell follows k text one it plain_k f keeps each parts ts e g
         subst (λ o. Gives a us (cond {A = Outcome Place} o (Ok (a.0, spell a.1 us)) (Err (unexpected (symbol text a.0 ∷ spell a.1 us))) >>= λ p. one p.1 >>= λ x. Ok ((p.0, x.0), x.1))) (sym (is-same k (symbol text a.0) (it a.0)))
         (yields _ h gives)
 
-pub several-gives : {A : Type 0} (spell : Spells A) (follows : Class → Bool) (k : Class) (text : List ℕ) (one : Reader A) → ((p : Place) → class (symbol text p) ≡ k) → is_plain k ≡ true → follows k ≡ true → Keeps one
+pub several-gives : {A : Type 0} (spell : Spells A) (follows : Class → Bool) (k : Class) (text : List ℕ) (one : Reader A)
+    → ((p : Place) → class (symbol text p) ≡ k) → is_plain k ≡ true → follows k ≡ true → Keeps one
     → ((a : A) (ts : List Token) → follows (ahead ts) ≡ true → Gives a ts (one (spell a ts)))
-    → (parts : Several A) (ts : List Token) → are_same k (ahead ts) ≡ false → follows (ahead ts) ≡ true
+    → (parts : Several A) (ts : List Token) → are_same k (ahead ts) ≡ false
+    → follows (ahead ts) ≡ true
     → Gives parts ts (read_several k one (spell_several text spell parts ts))
 several-gives {A = A} spell follows k text one it plain_k f keeps each parts ts e g =
     yields _ (each parts.first (spell_more text spell parts.more ts) (then_follows parts.more))

@@ -19,7 +19,8 @@ use Rattle.cap_grammar.proofs.Automaton.{fixed, rule, a_relation, a_slot, a_guar
 use Rattle.cap_grammar.proofs.Meets.{Meets, so, chain, enter, refuse, place-meets, word-meets, expect-meets, name-meets, no_room-meets, opened, Read, IsMet, lead, more-meets, several-meets, comma}
 use Rattle.cap_grammar.proofs.MeetsTerms.{star, term-meets, term_from-meets, comparison_from-meets, slot-meets}
 
-amount_by-meets : (d : ℕ) (w : Word) (k : Class) (ts : List Token) (s : Stack) (all : List Token) → all ≡ name w ∷ ts → ahead ts ≡ k
+amount_by-meets : (d : ℕ) (w : Word) (k : Class) (ts : List Token) (s : Stack) (all : List Token)
+    → all ≡ name w ∷ ts → ahead ts ≡ k
     → Meets (Read spell_guard all) (run (rule may_amount ∷ s) d ts) s d (amount_by d w k ts)
 amount_by-meets d w c.OpenBracket ts s all a e =
     enter _ (fixed c.OpenBracket ∷ rule a_slot ∷ fixed c.CloseBracket ∷ s) d ts c.OpenBracket e refl
@@ -28,7 +29,8 @@ amount_by-meets d w c.OpenBracket ts s all a e =
     chain (expect-meets c.CloseBracket o.0.0 (suc o.0.0) x.1 s refl refl) (λ q i. so (rw (a, f, g, i))))))
 amount_by-meets d w k ts s all a e = enter (rule may_amount ∷ s) s d ts k e refl (so a)
 
-counted-meets : (d : ℕ) (key : Class) (kind : Counted) (ts : List Token) (s : Stack) → is_plain key ≡ true → room_after d key ≡ Some d
+counted-meets : (d : ℕ) (key : Class) (kind : Counted) (ts : List Token) (s : Stack)
+    → is_plain key ≡ true → room_after d key ≡ Some d
     → ((p : Place) → plain key p ≡ keyword (counted_text kind) p) → ahead ts ≡ key
     → Meets (Read spell_guard ts) (run (fixed key ∷ counted_guard ++ s) d ts) s d (read_counted d kind ts)
 counted-meets d key kind ts s n r t e =
@@ -38,7 +40,8 @@ counted-meets d key kind ts s n r t e =
     chain (slot-meets o.0.0 o.1 (fixed c.CloseBracket ∷ s)) (λ x j.
     chain (expect-meets c.CloseBracket o.0.0 (suc o.0.0) x.1 s refl refl) (λ q l. so (rw (f, g, i, j, l, t p.0)))))))
 
-guard_by-meets : (d : ℕ) (k : Class) (ts : List Token) (s : Stack) → ahead ts ≡ k → Meets (Read spell_guard ts) (run (rule a_guard ∷ s) d ts) s d (guard_by d k ts)
+guard_by-meets : (d : ℕ) (k : Class) (ts : List Token) (s : Stack) → ahead ts ≡ k
+    → Meets (Read spell_guard ts) (run (rule a_guard ∷ s) d ts) s d (guard_by d k ts)
 guard_by-meets d c.Name ts s e =
     enter _ (fixed c.Name ∷ rule may_amount ∷ s) d ts c.Name e refl
     (chain (word-meets d ts (rule may_amount ∷ s) e) (λ w f. amount_by-meets d w.0 (ahead w.1) w.1 s ts f refl))
@@ -57,7 +60,8 @@ guards-meets d ts s =
     (lead (rule more_guards ∷ s) (fixed c.Star ∷ some_guards ++ s) s (some_guards ++ s) c.Star (λ k. refl) (λ k. refl))
     (takes-keeps (read_guard d) (guard-takes d)) (λ us. guard-meets d us (rule more_guards ∷ s))
 
-held_by-meets : (d : ℕ) (k : Class) (ts : List Token) (s : Stack) → ahead ts ≡ k → Meets (Read spell_held ts) (run (rule a_held ∷ s) d ts) s d (held_by d k ts)
+held_by-meets : (d : ℕ) (k : Class) (ts : List Token) (s : Stack) → ahead ts ≡ k
+    → Meets (Read spell_held ts) (run (rule a_held ∷ s) d ts) s d (held_by d k ts)
 held_by-meets d c.Open ts s e =
     enter _ (fixed c.Open ∷ some_guards ++ fixed c.Close ∷ s) d ts c.Open e refl
     (opened c.Open d ts (some_guards ++ fixed c.Close ∷ s) refl (λ n. refl) (λ o f.
@@ -69,7 +73,9 @@ held_by-meets d k ts s e = enter _ (some_guards ++ s) d ts k e refl (chain (guar
 abbrev SideMeets : ℕ → Type 0
 SideMeets d = IsMet a_side spell_side d (side_at d)
 
-choice_by-meets : (d : ℕ) → SideMeets d → (x : ComparisonTree) (k : Class) (ts : List Token) (s : Stack) (all : List Token) → all ≡ spell_comparison x ts → ahead ts ≡ k
+choice_by-meets : (d : ℕ) → SideMeets d
+    → (x : ComparisonTree) (k : Class) (ts : List Token) (s : Stack) (all : List Token)
+    → all ≡ spell_comparison x ts → ahead ts ≡ k
     → Meets (Read spell_item all) (run (rule may_choose ∷ s) d ts) s d (choice_by (side_at d) x k ts)
 choice_by-meets d h x c.Question ts s all a e =
     enter _ (fixed c.Question ∷ a_side ++ fixed c.Colon ∷ a_side ++ s) d ts c.Question e refl
@@ -79,7 +85,9 @@ choice_by-meets d h x c.Question ts s all a e =
     chain (h q.1 s) (λ z j. so (rw (a, f, g, i, j)))))))
 choice_by-meets d h x k ts s all a e = enter (rule may_choose ∷ s) s d ts k e refl (so a)
 
-item_from_by-meets : (d : ℕ) → SideMeets d → (t : TermTree) (k : Class) (ts : List Token) (s : Stack) (all : List Token) → all ≡ spell_term t ts → ahead ts ≡ k
+item_from_by-meets : (d : ℕ) → SideMeets d
+    → (t : TermTree) (k : Class) (ts : List Token) (s : Stack) (all : List Token)
+    → all ≡ spell_term t ts → ahead ts ≡ k
     → Meets (Read spell_item all) (run (rule item_rest ∷ s) d ts) s d (item_from_by (side_at d) d t k ts)
 item_from_by-meets d h t c.PointsTo ts s all a e =
     enter _ (fixed c.PointsTo ∷ rule a_slot ∷ s) d ts c.PointsTo e refl
@@ -103,7 +111,9 @@ fact-meets d w ts s all a =
     chain (expect-meets c.Close o.0.0 (suc o.0.0) x.1 s refl refl) (λ e m.
     so (rw (a, f, g, i, j, l, m))))))))
 
-named_item_by-meets : (d : ℕ) → SideMeets d → (w : Word) (k : Class) (ts : List Token) (s : Stack) (all : List Token) → all ≡ name w ∷ ts → ahead ts ≡ k
+named_item_by-meets : (d : ℕ) → SideMeets d
+    → (w : Word) (k : Class) (ts : List Token) (s : Stack) (all : List Token) → all ≡ name w ∷ ts
+    → ahead ts ≡ k
     → Meets (Read spell_item all) (run (rule named_item ∷ s) d ts) s d (named_item_by (side_at d) d w k ts)
 named_item_by-meets d h w c.Open ts s all a e =
     enter _ (fixed c.Open ∷ fixed c.Name ∷ rule slots ∷ rule a_slot ∷ fixed c.Close ∷ s) d ts c.Open e refl (fact-meets d w ts s all a)
@@ -116,7 +126,8 @@ named_item_by-meets d h w k ts s all a e =
     (chain (term_from-meets d w ts (rule item_rest ∷ s) all a) (λ t f.
     item_from_by-meets d h t.0 (ahead t.1) t.1 s all f refl))
 
-item_by-meets : (d : ℕ) → SideMeets d → (k : Class) (ts : List Token) (s : Stack) → ahead ts ≡ k → Meets (Read spell_item ts) (run (rule an_item ∷ s) d ts) s d (item_by (side_at d) d k ts)
+item_by-meets : (d : ℕ) → SideMeets d → (k : Class) (ts : List Token) (s : Stack) → ahead ts ≡ k
+    → Meets (Read spell_item ts) (run (rule an_item ∷ s) d ts) s d (item_by (side_at d) d k ts)
 item_by-meets d h c.True ts s e = enter _ (fixed c.True ∷ s) d ts c.True e refl (chain (place-meets c.True d d ts s refl refl e) (λ p f. so f))
 item_by-meets d h c.False ts s e = enter _ (fixed c.False ∷ s) d ts c.False e refl (chain (place-meets c.False d d ts s refl refl e) (λ p f. so f))
 item_by-meets d h c.Name ts s e =
@@ -126,11 +137,13 @@ item_by-meets d h k ts s e =
     enter _ (a_term ++ rule item_rest ∷ s) d ts k e refl
     (chain (term-meets d ts (rule item_rest ∷ s)) (λ t f. item_from_by-meets d h t.0 (ahead t.1) t.1 s ts f refl))
 
-pub items-spelled : (more : List AndTree) (ts : List Token) → spell_more (codes "&*&") spell_item more ts ≡ spell_items (items_of more) ts
+pub items-spelled : (more : List AndTree) (ts : List Token)
+    → spell_more (codes "&*&") spell_item more ts ≡ spell_items (items_of more) ts
 items-spelled [] ts = refl
 items-spelled (i ∷ more) ts = ap (λ l. symbol (codes "&*&") i.0 ∷ spell_item i.1 l) (items-spelled more ts)
 
-assertion-meets-with : (d : ℕ) → SideMeets d → IsMet an_assertion spell_assertion d (read_assertion d)
+assertion-meets-with : (d : ℕ) → SideMeets d
+    → IsMet an_assertion spell_assertion d (read_assertion d)
 assertion-meets-with d h ts s =
     chain (item_by-meets d h (ahead ts) ts (rule more_items ∷ s) refl) (λ i f.
     chain (more-meets c.And (codes "&*&") d i.1 (refl, λ d. refl, λ p. refl)
@@ -148,7 +161,8 @@ side-meets (suc d) ts s =
 pub assertion-meets : (d : ℕ) → IsMet an_assertion spell_assertion d (read_assertion d)
 assertion-meets d = assertion-meets-with d (side-meets d)
 
-pub clause-meets : (d : ℕ) (key : Class) (text : List ℕ) (ts : List Token) (s : Stack) → is_plain key ≡ true → room_after d key ≡ Some d
+pub clause-meets : (d : ℕ) (key : Class) (text : List ℕ) (ts : List Token) (s : Stack)
+    → is_plain key ≡ true → room_after d key ≡ Some d
     → ((p : Place) → plain key p ≡ keyword text p)
     → Meets (Read (spell_clause text) ts) (run (a_clause key ++ s) d ts) s d (read_clause d key ts)
 clause-meets d key text ts s n r t =

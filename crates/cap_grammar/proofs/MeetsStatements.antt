@@ -18,10 +18,12 @@ use Rattle.cap_grammar.proofs.MeetsTerms.{term-meets, term_from-meets, compariso
 use Rattle.cap_grammar.proofs.MeetsAssertions.{clause-meets}
 
 -- the comma leads one more term, and the parenthesis ends them
-more-terms : (s : Stack) → IsChoice (rule more_terms ∷ s) (fixed c.Comma ∷ a_term ++ rule more_terms ∷ s) (fixed c.Close ∷ s) (are_same c.Comma)
+more-terms : (s : Stack)
+    → IsChoice (rule more_terms ∷ s) (fixed c.Comma ∷ a_term ++ rule more_terms ∷ s) (fixed c.Close ∷ s) (are_same c.Comma)
 more-terms s = lead (rule more_terms ∷ s) (fixed c.Comma ∷ a_term ++ rule more_terms ∷ s) (fixed c.Close ∷ s) (a_term ++ rule more_terms ∷ s) c.Comma (λ k. refl) (λ k. refl)
 
-some-terms : (s : Stack) → IsChoice (rule terms ∷ s) (a_term ++ rule more_terms ∷ s) (fixed c.Close ∷ s) (λ k. not (are_same c.Close k))
+some-terms : (s : Stack)
+    → IsChoice (rule terms ∷ s) (a_term ++ rule more_terms ∷ s) (fixed c.Close ∷ s) (λ k. not (are_same c.Close k))
 some-terms s = until (rule terms ∷ s) (a_term ++ rule more_terms ∷ s) s c.Close (λ k. refl)
 
 term-keeps : (d : ℕ) → Keeps (read_term d)
@@ -30,7 +32,8 @@ term-keeps d = takes-keeps (read_term d) (term-takes d)
 terms-meets : (d : ℕ) → IsMet (fixed c.Open ∷ rule terms ∷ []) spell_terms d (read_terms d)
 terms-meets d ts s = listed-meets (rule terms) (rule more_terms) a_term d ts s (some-terms s) (more-terms s) term-keeps term-meets
 
-load-meets : (d : ℕ) → IsMet (fixed c.OpenBracket ∷ a_term ++ fixed c.CloseBracket ∷ []) spell_value d (read_load d)
+load-meets : (d : ℕ)
+    → IsMet (fixed c.OpenBracket ∷ a_term ++ fixed c.CloseBracket ∷ []) spell_value d (read_load d)
 load-meets d ts s =
     opened c.OpenBracket d ts (a_term ++ fixed c.CloseBracket ∷ s) refl (λ n. refl) (λ o f.
     chain (term-meets o.0.0 o.1 (fixed c.CloseBracket ∷ s)) (λ t g.
@@ -56,14 +59,16 @@ cas-meets d ts s e =
     chain (term-meets o.0.0 n.1 (fixed c.Close ∷ s)) (λ z f7.
     chain (expect-meets c.Close o.0.0 (suc o.0.0) z.1 s refl refl) (λ q f8. so (rw (f1, f2, f3, f4, f5, f6, f7, f8))))))))))
 
-named_value_by-meets : (d : ℕ) (w : Word) (k : Class) (ts : List Token) (s : Stack) (all : List Token) → all ≡ name w ∷ ts → ahead ts ≡ k
+named_value_by-meets : (d : ℕ) (w : Word) (k : Class) (ts : List Token) (s : Stack) (all : List Token)
+    → all ≡ name w ∷ ts → ahead ts ≡ k
     → Meets (Read spell_value all) (run (rule named_value ∷ s) d ts) s d (named_value_by d w k ts)
 named_value_by-meets d w c.Open ts s all a e =
     enter _ (fixed c.Open ∷ rule terms ∷ s) d ts c.Open e refl (chain (terms-meets d ts s) (λ l f. so (rw (a, f))))
 named_value_by-meets d w k ts s all a e =
     enter _ (the_rest_of_a_term ++ s) d ts k e refl (chain (term_from-meets d w ts s all a) (λ t f. so f))
 
-value_by-meets : (d : ℕ) (k : Class) (ts : List Token) (s : Stack) → ahead ts ≡ k → Meets (Read spell_value ts) (run (rule a_value ∷ s) d ts) s d (value_by d k ts)
+value_by-meets : (d : ℕ) (k : Class) (ts : List Token) (s : Stack) → ahead ts ≡ k
+    → Meets (Read spell_value ts) (run (rule a_value ∷ s) d ts) s d (value_by d k ts)
 value_by-meets d c.OpenBracket ts s e = enter _ (fixed c.OpenBracket ∷ a_term ++ fixed c.CloseBracket ∷ s) d ts c.OpenBracket e refl (load-meets d ts s)
 value_by-meets d c.Alloc ts s e = enter _ (fixed c.Alloc ∷ fixed c.Open ∷ fixed c.Number ∷ fixed c.Close ∷ s) d ts c.Alloc e refl (alloc-meets d ts s e)
 value_by-meets d c.Cas ts s e =
@@ -73,7 +78,8 @@ value_by-meets d c.Name ts s e =
     (chain (word-meets d ts (rule named_value ∷ s) e) (λ w f. named_value_by-meets d w.0 (ahead w.1) w.1 s ts f refl))
 value_by-meets d k ts s e = enter _ (a_term ++ s) d ts k e refl (chain (term-meets d ts s) (λ t f. so f))
 
-named_statement_by-meets : (d : ℕ) (w : Word) (k : Class) (ts : List Token) (s : Stack) (all : List Token) → all ≡ name w ∷ ts → ahead ts ≡ k
+named_statement_by-meets : (d : ℕ) (w : Word) (k : Class) (ts : List Token) (s : Stack) (all : List Token)
+    → all ≡ name w ∷ ts → ahead ts ≡ k
     → Meets (Read spell_statement all) (run (rule named_statement ∷ s) d ts) s d (named_statement_by d w k ts)
 named_statement_by-meets d w c.Becomes ts s all a e =
     enter _ (fixed c.Becomes ∷ rule a_value ∷ fixed c.Semicolon ∷ s) d ts c.Becomes e refl
@@ -86,7 +92,8 @@ named_statement_by-meets d w c.Open ts s all a e =
     chain (expect-meets c.Semicolon d d l.1 s refl refl) (λ q i. so (rw (a, f, i)))))
 named_statement_by-meets d w k ts s all a e = refuse (rule named_statement ∷ s) d ts (ap (next (rule named_statement ∷ s)) e)
 
-store-meets : (d : ℕ) → IsMet (fixed c.OpenBracket ∷ a_term ++ fixed c.CloseBracket ∷ fixed c.Becomes ∷ a_term ++ fixed c.Semicolon ∷ []) spell_statement d (read_store d)
+store-meets : (d : ℕ)
+    → IsMet (fixed c.OpenBracket ∷ a_term ++ fixed c.CloseBracket ∷ fixed c.Becomes ∷ a_term ++ fixed c.Semicolon ∷ []) spell_statement d (read_store d)
 store-meets d ts s =
     opened-within c.OpenBracket d ts (a_term ++ fixed c.CloseBracket ∷ fixed c.Becomes ∷ a_term ++ fixed c.Semicolon ∷ s) refl (λ n. refl) (λ o n f1.
     chain (term-meets o.0.0 o.1 (fixed c.CloseBracket ∷ fixed c.Becomes ∷ a_term ++ fixed c.Semicolon ∷ s)) (λ x f2.
@@ -110,11 +117,13 @@ BlockMeets d = IsMet a_block spell_block d (block_at d)
 abbrev spell_else_block : Spells ElseTree
 spell_else_block e ts = spell_else e ts
 
-else-spelled : (o : Option ElseTree) (ts : List Token) → spell_option spell_else o ts ≡ spell_else (else_of o) ts
+else-spelled : (o : Option ElseTree) (ts : List Token)
+    → spell_option spell_else o ts ≡ spell_else (else_of o) ts
 else-spelled None ts = refl
 else-spelled (Some e) ts = refl
 
-may-else : (s : Stack) → IsChoice (rule may_else ∷ s) (fixed c.Else ∷ a_block ++ s) s (are_same c.Else)
+may-else : (s : Stack)
+    → IsChoice (rule may_else ∷ s) (fixed c.Else ∷ a_block ++ s) s (are_same c.Else)
 may-else s = lead (rule may_else ∷ s) (fixed c.Else ∷ a_block ++ s) s (a_block ++ s) c.Else (λ k. refl) (λ k. refl)
 
 branch-meets : (d : ℕ) → BlockMeets d → (ts : List Token) (s : Stack) → ahead ts ≡ c.If
@@ -130,7 +139,8 @@ branch-meets d h ts s e =
     chain (h q.1 s) (λ z g2. so (rw (g1, g2)))))) (λ l f6.
     so (rw (f1, f2, f3, f4, f5, f6 ∙ else-spelled l.0 l.1))))))))
 
-may-invariant : (s : Stack) → IsChoice (rule may_invariant ∷ s) (a_clause c.Invariant ++ s) s (are_same c.Invariant)
+may-invariant : (s : Stack)
+    → IsChoice (rule may_invariant ∷ s) (a_clause c.Invariant ++ s) s (are_same c.Invariant)
 may-invariant s = lead (rule may_invariant ∷ s) (a_clause c.Invariant ++ s) s (an_assertion ++ fixed c.Semicolon ∷ s) c.Invariant (λ k. refl) (λ k. refl)
 
 loop-meets : (d : ℕ) → BlockMeets d → (ts : List Token) (s : Stack) → ahead ts ≡ c.While
@@ -157,7 +167,8 @@ give_back-meets d ts s e =
     chain (optional-meets (read_term d) d p.1 (until (rule returned ∷ s) (a_term ++ fixed c.Semicolon ∷ s) s c.Semicolon (λ k. refl)) (λ y. term-meets d p.1 (fixed c.Semicolon ∷ s))) (λ t g.
     chain (expect-meets c.Semicolon d d t.1 s refl refl) (λ q i. so (rw (f, g, i)))))
 
-statement_by-meets : (d : ℕ) → BlockMeets d → (k : Class) (ts : List Token) (s : Stack) → ahead ts ≡ k
+statement_by-meets : (d : ℕ) → BlockMeets d → (k : Class) (ts : List Token) (s : Stack)
+    → ahead ts ≡ k
     → Meets (Read spell_statement ts) (run (rule a_statement ∷ s) d ts) s d (statement_by (block_at d) d k ts)
 statement_by-meets d h c.Name ts s e =
     enter _ (fixed c.Name ∷ rule named_statement ∷ s) d ts c.Name e refl
@@ -174,7 +185,8 @@ statement_by-meets d h c.Assert ts s e = enter _ (fixed c.Assert ∷ a_compariso
 statement_by-meets d h c.Return ts s e = enter _ (fixed c.Return ∷ rule returned ∷ s) d ts c.Return e refl (give_back-meets d ts s e)
 statement_by-meets d h k ts s e = refuse (rule a_statement ∷ s) d ts (ap (next (rule a_statement ∷ s)) e)
 
-pub statements-spelled : (ss : List StatementTree) (ts : List Token) → spell_all spell_statement ss ts ≡ spell_statements (statements_of ss) ts
+pub statements-spelled : (ss : List StatementTree) (ts : List Token)
+    → spell_all spell_statement ss ts ≡ spell_statements (statements_of ss) ts
 statements-spelled [] ts = refl
 statements-spelled (s ∷ ss) ts = ap (spell_statement s) (statements-spelled ss ts)
 

@@ -24,28 +24,33 @@ star = (refl, λ d. refl, λ p. refl)
 abbrev BracketMeets : ℕ → Type 0
 BracketMeets d = (ts : List Token) (s : Stack) → Meets (Read spell_factor ts) (run (fixed c.Open ∷ a_term ++ fixed c.Close ∷ s) d ts) s d (bracketed_at d ts)
 
-factor_by-meets : (d : ℕ) → BracketMeets d → (k : Class) (ts : List Token) (s : Stack) → ahead ts ≡ k
+factor_by-meets : (d : ℕ) → BracketMeets d → (k : Class) (ts : List Token) (s : Stack)
+    → ahead ts ≡ k
     → Meets (Read spell_factor ts) (run (rule a_factor ∷ s) d ts) s d (factor_by (bracketed_at d) k ts)
 factor_by-meets d h c.Number ts s e = enter _ (fixed c.Number ∷ s) d ts c.Number e refl (chain (literal-meets d ts s e) (λ n f. so f))
 factor_by-meets d h c.Share ts s e = enter _ (fixed c.Share ∷ s) d ts c.Share e refl (chain (place-meets c.Share d d ts s refl refl e) (λ p f. so f))
 factor_by-meets d h c.Name ts s e = enter _ (fixed c.Name ∷ s) d ts c.Name e refl (chain (word-meets d ts s e) (λ w f. so f))
 factor_by-meets d h k ts s e = enter _ (fixed c.Open ∷ a_term ++ fixed c.Close ∷ s) d ts k e refl (h ts s)
 
-factor-meets : (d : ℕ) → BracketMeets d → (ts : List Token) (s : Stack) → Meets (Read spell_factor ts) (run (rule a_factor ∷ s) d ts) s d (read_factor (bracketed_at d) ts)
+factor-meets : (d : ℕ) → BracketMeets d → (ts : List Token) (s : Stack)
+    → Meets (Read spell_factor ts) (run (rule a_factor ∷ s) d ts) s d (read_factor (bracketed_at d) ts)
 factor-meets d h ts s = factor_by-meets d h (ahead ts) ts s refl
 
-pub factors-spelled : (fs : List TimesTree) (ts : List Token) → spell_more (codes "*") spell_factor fs ts ≡ spell_factors (factors_of fs) ts
+pub factors-spelled : (fs : List TimesTree) (ts : List Token)
+    → spell_more (codes "*") spell_factor fs ts ≡ spell_factors (factors_of fs) ts
 factors-spelled [] ts = refl
 factors-spelled (f ∷ fs) ts = ap (λ l. symbol (codes "*") f.0 ∷ spell_factor f.1 l) (factors-spelled fs ts)
 
-product_from-meets : (d : ℕ) → BracketMeets d → (f : FactorTree) (ts : List Token) (s : Stack) (all : List Token) → all ≡ spell_factor f ts
+product_from-meets : (d : ℕ) → BracketMeets d
+    → (f : FactorTree) (ts : List Token) (s : Stack) (all : List Token) → all ≡ spell_factor f ts
     → Meets (Read spell_product all) (run (rule more_factors ∷ s) d ts) s d (read_product_from (bracketed_at d) f ts)
 product_from-meets d h f ts s all a =
     chain (more-meets c.Star (codes "*") d ts star (lead (rule more_factors ∷ s) (fixed c.Star ∷ a_product ++ s) s (a_product ++ s) c.Star (λ k. refl) (λ k. refl))
     (takes-keeps (read_factor (bracketed_at d)) (factor-takes d)) (λ us. factor-meets d h us (rule more_factors ∷ s))) (λ fs g.
     so (a ∙ ap (spell_factor f) (g ∙ factors-spelled fs.0 fs.1)))
 
-product-meets : (d : ℕ) → BracketMeets d → (ts : List Token) (s : Stack) → Meets (Read spell_product ts) (run (a_product ++ s) d ts) s d (read_product (bracketed_at d) ts)
+product-meets : (d : ℕ) → BracketMeets d → (ts : List Token) (s : Stack)
+    → Meets (Read spell_product ts) (run (a_product ++ s) d ts) s d (read_product (bracketed_at d) ts)
 product-meets d h ts s =
     chain (factor-meets d h ts (rule more_factors ∷ s)) (λ f g. product_from-meets d h f.0 f.1 s ts g)
 
@@ -58,27 +63,32 @@ sign_by-meets d k ts s e = refuse (rule a_sign ∷ s) d ts (ap (next (rule a_sig
 abbrev pub spell_addend : Spells AddendTree
 spell_addend a ts = symbol (sign_text a.sign) a.place ∷ spell_product a.product ts
 
-pub products-spelled : (ms : List AddendTree) (ts : List Token) → spell_all spell_addend ms ts ≡ spell_products (products_of ms) ts
+pub products-spelled : (ms : List AddendTree) (ts : List Token)
+    → spell_all spell_addend ms ts ≡ spell_products (products_of ms) ts
 products-spelled [] ts = refl
 products-spelled (m ∷ ms) ts = ap (spell_addend m) (products-spelled ms ts)
 
-addend-meets : (d : ℕ) → BracketMeets d → (ts : List Token) (s : Stack) → Meets (Read spell_addend ts) (run (rule a_sign ∷ a_product ++ s) d ts) s d (read_addend (bracketed_at d) ts)
+addend-meets : (d : ℕ) → BracketMeets d → (ts : List Token) (s : Stack)
+    → Meets (Read spell_addend ts) (run (rule a_sign ∷ a_product ++ s) d ts) s d (read_addend (bracketed_at d) ts)
 addend-meets d h ts s =
     chain (sign_by-meets d (ahead ts) ts (a_product ++ s) refl) (λ g f.
     chain (product-meets d h g.1 s) (λ m i. so (f ∙ ap (λ l. symbol (sign_text g.0.0) g.0.1 ∷ l) i)))
 
-sign-enters : (s : Stack) (k : Class) → is_sign k ≡ true → next (rule more_products ∷ s) k ≡ next (rule a_sign ∷ a_product ++ rule more_products ∷ s) k
+sign-enters : (s : Stack) (k : Class) → is_sign k ≡ true
+    → next (rule more_products ∷ s) k ≡ next (rule a_sign ∷ a_product ++ rule more_products ∷ s) k
 sign-enters s c.Plus b = refl
 sign-enters s c.Minus b = refl
 sign-enters s k b = absurd cc
 
-sign-leaves : (s : Stack) (k : Class) → is_sign k ≡ false → next (rule more_products ∷ s) k ≡ next s k
+sign-leaves : (s : Stack) (k : Class) → is_sign k ≡ false
+    → next (rule more_products ∷ s) k ≡ next s k
 sign-leaves s c.Plus b = absurd cc
 sign-leaves s c.Minus b = absurd cc
 sign-leaves s k b = refl
 
 -- behind a term's first factor
-pub term_from-meets-with : (d : ℕ) → BracketMeets d → (minus : Option Place) (f : FactorTree) (ts : List Token) (s : Stack) (all : List Token)
+pub term_from-meets-with : (d : ℕ) → BracketMeets d
+    → (minus : Option Place) (f : FactorTree) (ts : List Token) (s : Stack) (all : List Token)
     → all ≡ spell_option spell_minus minus (spell_factor f ts)
     → Meets (Read spell_term all) (run (the_rest_of_a_term ++ s) d ts) s d (read_term_from (bracketed_at d) minus f ts)
 term_from-meets-with d h minus f ts s all a =
@@ -104,7 +114,8 @@ bracketed-meets (suc d) ts s =
 pub term-meets : (d : ℕ) → IsMet a_term spell_term d (read_term d)
 term-meets d = term-meets-with d (bracketed-meets d)
 
-pub term_from-meets : (d : ℕ) (w : Word) (ts : List Token) (s : Stack) (all : List Token) → all ≡ name w ∷ ts
+pub term_from-meets : (d : ℕ) (w : Word) (ts : List Token) (s : Stack) (all : List Token)
+    → all ≡ name w ∷ ts
     → Meets (Read spell_term all) (run (the_rest_of_a_term ++ s) d ts) s d (read_term_from (bracketed_at d) None (named w) ts)
 term_from-meets d w ts s all a = term_from-meets-with d (bracketed-meets d) None (named w) ts s all a
 
@@ -118,7 +129,8 @@ relation_by-meets d c.Greater ts s e = enter _ (fixed c.Greater ∷ s) d ts c.Gr
 relation_by-meets d c.AtLeast ts s e = enter _ (fixed c.AtLeast ∷ s) d ts c.AtLeast e refl (chain (place-meets c.AtLeast d d ts s refl refl e) (λ p f. so f))
 relation_by-meets d k ts s e = refuse (rule a_relation ∷ s) d ts (ap (next (rule a_relation ∷ s)) e)
 
-pub comparison_from-meets : (d : ℕ) (left : TermTree) (ts : List Token) (s : Stack) (all : List Token) → all ≡ spell_term left ts
+pub comparison_from-meets : (d : ℕ) (left : TermTree) (ts : List Token) (s : Stack) (all : List Token)
+    → all ≡ spell_term left ts
     → Meets (Read spell_comparison all) (run (rule a_relation ∷ a_term ++ s) d ts) s d (read_comparison_from d left ts)
 comparison_from-meets d left ts s all a =
     chain (relation_by-meets d (ahead ts) ts (a_term ++ s) refl) (λ r f.
@@ -128,7 +140,8 @@ pub comparison-meets : (d : ℕ) → IsMet a_comparison spell_comparison d (read
 comparison-meets d ts s =
     chain (term-meets d ts (rule a_relation ∷ a_term ++ s)) (λ left f. comparison_from-meets d left.0 left.1 s ts f)
 
-slot_by-meets : (d : ℕ) (k : Class) (ts : List Token) (s : Stack) → ahead ts ≡ k → Meets (Read spell_slot ts) (run (rule a_slot ∷ s) d ts) s d (slot_by d k ts)
+slot_by-meets : (d : ℕ) (k : Class) (ts : List Token) (s : Stack) → ahead ts ≡ k
+    → Meets (Read spell_slot ts) (run (rule a_slot ∷ s) d ts) s d (slot_by d k ts)
 slot_by-meets d c.Wildcard ts s e = enter _ (fixed c.Wildcard ∷ s) d ts c.Wildcard e refl (chain (place-meets c.Wildcard d d ts s refl refl e) (λ p f. so f))
 slot_by-meets d k ts s e = enter _ (a_term ++ s) d ts k e refl (chain (term-meets d ts s) (λ t f. so f))
 

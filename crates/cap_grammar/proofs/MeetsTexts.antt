@@ -23,7 +23,8 @@ use Rattle.cap_grammar.proofs.MeetsStatements.{block-meets}
 abbrev GroupedMeets : ℕ → Type 0
 GroupedMeets d = (ts : List Token) (s : Stack) → Meets (Read spell_declared ts) (run (fixed c.Open ∷ an_algebra ++ fixed c.Close ∷ s) d ts) s d (grouped_at d ts)
 
-declared_by-meets : (d : ℕ) → GroupedMeets d → (k : Class) (ts : List Token) (s : Stack) → ahead ts ≡ k
+declared_by-meets : (d : ℕ) → GroupedMeets d → (k : Class) (ts : List Token) (s : Stack)
+    → ahead ts ≡ k
     → Meets (Read spell_declared ts) (run (rule a_declared ∷ s) d ts) s d (declared_by (grouped_at d) k ts)
 declared_by-meets d h c.Name ts s e = enter _ (fixed c.Name ∷ s) d ts c.Name e refl (chain (word-meets d ts s e) (λ w f. so f))
 declared_by-meets d h c.Percent ts s e =
@@ -36,15 +37,18 @@ declared_by-meets d h c.Bar ts s e =
     chain (expect-meets c.Bar d d w.1 s refl refl) (λ q i. so (rw (f, g, i))))))
 declared_by-meets d h k ts s e = enter _ (fixed c.Open ∷ an_algebra ++ fixed c.Close ∷ s) d ts k e refl (h ts s)
 
-pub declareds-spelled : (ds : List BothTree) (ts : List Token) → spell_more (codes "*") spell_declared ds ts ≡ spell_declareds (declareds_of ds) ts
+pub declareds-spelled : (ds : List BothTree) (ts : List Token)
+    → spell_more (codes "*") spell_declared ds ts ≡ spell_declareds (declareds_of ds) ts
 declareds-spelled [] ts = refl
 declareds-spelled (d ∷ ds) ts = ap (λ l. symbol (codes "*") d.0 ∷ spell_declared d.1 l) (declareds-spelled ds ts)
 
-pub joints-spelled : (js : List EitherTree) (ts : List Token) → spell_more (codes "+") spell_joint js ts ≡ spell_joints (joints_of js) ts
+pub joints-spelled : (js : List EitherTree) (ts : List Token)
+    → spell_more (codes "+") spell_joint js ts ≡ spell_joints (joints_of js) ts
 joints-spelled [] ts = refl
 joints-spelled (j ∷ js) ts = ap (λ l. symbol (codes "+") j.0 ∷ spell_joint j.1 l) (joints-spelled js ts)
 
-joint-meets : (d : ℕ) → GroupedMeets d → (ts : List Token) (s : Stack) → Meets (Read spell_joint ts) (run (a_joint ++ s) d ts) s d (read_joint (grouped_at d) ts)
+joint-meets : (d : ℕ) → GroupedMeets d → (ts : List Token) (s : Stack)
+    → Meets (Read spell_joint ts) (run (a_joint ++ s) d ts) s d (read_joint (grouped_at d) ts)
 joint-meets d h ts s =
     chain (declared_by-meets d h (ahead ts) ts (rule more_declared ∷ s) refl) (λ x f.
     chain (more-meets c.Star (codes "*") d x.1 star
@@ -101,14 +105,16 @@ action-meets d ts s =
     chain (expect-meets c.Semicolon d d w.1 s refl refl) (λ e f7. so (rw (f1, f2, f3, f4, f5, f6, f7)))))))))
 
 -- one more name, behind a comma
-more-names : (s : Stack) → IsChoice (rule more_names ∷ s) (fixed c.Comma ∷ fixed c.Name ∷ rule more_names ∷ s) (fixed c.Close ∷ s) (are_same c.Comma)
+more-names : (s : Stack)
+    → IsChoice (rule more_names ∷ s) (fixed c.Comma ∷ fixed c.Name ∷ rule more_names ∷ s) (fixed c.Close ∷ s) (are_same c.Comma)
 more-names s = lead (rule more_names ∷ s) (fixed c.Comma ∷ fixed c.Name ∷ rule more_names ∷ s) (fixed c.Close ∷ s) (fixed c.Name ∷ rule more_names ∷ s) c.Comma (λ k. refl) (λ k. refl)
 
 -- the tokens of a region type's head
 spell_head : Spells HeadTree
 spell_head h ts = name h.name ∷ symbol (codes "(") h.before ∷ spell_several (codes ",") spell_name h.parameters (symbol (codes ")") h.behind ∷ ts)
 
-head-meets : (d : ℕ) → IsMet (fixed c.Name ∷ fixed c.Open ∷ fixed c.Name ∷ rule more_names ∷ []) spell_head d (read_head d)
+head-meets : (d : ℕ)
+    → IsMet (fixed c.Name ∷ fixed c.Open ∷ fixed c.Name ∷ rule more_names ∷ []) spell_head d (read_head d)
 unfolding spell_head
 head-meets d ts s =
     chain (name-meets d ts (fixed c.Open ∷ fixed c.Name ∷ rule more_names ∷ s)) (λ w f1.
@@ -122,13 +128,16 @@ region_inside =
     ∷ fixed c.Interpretation ∷ fixed c.OpenBrace ∷ rule cases
     ∷ fixed c.Actions ∷ fixed c.OpenBrace ∷ rule actions ∷ fixed c.CloseBrace ∷ []
 
-some-cases : (s : Stack) → IsChoice (rule cases ∷ s) (a_case ++ rule cases ∷ s) (fixed c.CloseBrace ∷ s) (λ k. not (are_same c.CloseBrace k))
+some-cases : (s : Stack)
+    → IsChoice (rule cases ∷ s) (a_case ++ rule cases ∷ s) (fixed c.CloseBrace ∷ s) (λ k. not (are_same c.CloseBrace k))
 some-cases s = until (rule cases ∷ s) (a_case ++ rule cases ∷ s) s c.CloseBrace (λ k. refl)
 
-some-actions : (s : Stack) → IsChoice (rule actions ∷ s) ((rule a_guard ∷ the_rest_of_an_action) ++ rule actions ∷ s) (fixed c.CloseBrace ∷ s) (λ k. not (are_same c.CloseBrace k))
+some-actions : (s : Stack)
+    → IsChoice (rule actions ∷ s) ((rule a_guard ∷ the_rest_of_an_action) ++ rule actions ∷ s) (fixed c.CloseBrace ∷ s) (λ k. not (are_same c.CloseBrace k))
 some-actions s = until (rule actions ∷ s) ((rule a_guard ∷ the_rest_of_an_action) ++ rule actions ∷ s) s c.CloseBrace (λ k. refl)
 
-region_body-meets : (d n : ℕ) (key : Place) (head : HeadTree) (brace : Place) (ts : List Token) (s : Stack) (all : List Token) → suc d ≡ n
+region_body-meets : (d n : ℕ) (key : Place) (head : HeadTree) (brace : Place) (ts : List Token) (s : Stack) (all : List Token)
+    → suc d ≡ n
     → all ≡ keyword (codes "region") key ∷ spell_head head (symbol (codes "{") brace ∷ ts)
     → Meets (Read spell_region all) (run (region_inside ++ s) d ts) s n (read_region_body d key head brace ts)
 unfolding spell_head
@@ -149,13 +158,16 @@ region-meets d ts s e =
     opened-within c.OpenBrace d head.1 (region_inside ++ s) refl (λ n. refl) (λ o n f3.
     region_body-meets o.0.0 d key.0 head.0 o.0.1 o.1 s ts n (rw (f1, f2, f3)))))
 
-some-names : (s : Stack) → IsChoice (rule names ∷ s) (fixed c.Name ∷ rule more_names ∷ s) (fixed c.Close ∷ s) (λ k. not (are_same c.Close k))
+some-names : (s : Stack)
+    → IsChoice (rule names ∷ s) (fixed c.Name ∷ rule more_names ∷ s) (fixed c.Close ∷ s) (λ k. not (are_same c.Close k))
 some-names s = until (rule names ∷ s) (fixed c.Name ∷ rule more_names ∷ s) s c.Close (λ k. refl)
 
-may-requires : (s : Stack) → IsChoice (rule may_requires ∷ s) (a_clause c.Requires ++ s) s (are_same c.Requires)
+may-requires : (s : Stack)
+    → IsChoice (rule may_requires ∷ s) (a_clause c.Requires ++ s) s (are_same c.Requires)
 may-requires s = lead (rule may_requires ∷ s) (a_clause c.Requires ++ s) s (an_assertion ++ fixed c.Semicolon ∷ s) c.Requires (λ k. refl) (λ k. refl)
 
-may-ensures : (s : Stack) → IsChoice (rule may_ensures ∷ s) (a_clause c.Ensures ++ s) s (are_same c.Ensures)
+may-ensures : (s : Stack)
+    → IsChoice (rule may_ensures ∷ s) (a_clause c.Ensures ++ s) s (are_same c.Ensures)
 may-ensures s = lead (rule may_ensures ∷ s) (a_clause c.Ensures ++ s) s (an_assertion ++ fixed c.Semicolon ∷ s) c.Ensures (λ k. refl) (λ k. refl)
 
 function-meets : (d : ℕ) (ts : List Token) (s : Stack) → ahead ts ≡ c.Function
@@ -179,7 +191,8 @@ declaration_by-meets d k ts s e = refuse (rule a_declaration ∷ s) d ts (ap (ne
 
 -- the whole text
 
-text-enters : (k : Class) → not (are_same c.End k) ≡ true → next start k ≡ next (rule a_declaration ∷ start) k
+text-enters : (k : Class) → not (are_same c.End k) ≡ true
+    → next start k ≡ next (rule a_declaration ∷ start) k
 text-enters c.End b = absurd cc
 text-enters k b = refl
 
@@ -187,7 +200,8 @@ text-leaves : (k : Class) → not (are_same c.End k) ≡ false → next start k 
 text-leaves c.End b = refl
 text-leaves k b = absurd cc
 
-declarations-meet : (d : ℕ) (ts : List Token) → Meets (Read (spell_all spell_declaration) ts) (run start d ts) [] d (read_until c.End (read_declaration d) ts)
+declarations-meet : (d : ℕ) (ts : List Token)
+    → Meets (Read (spell_all spell_declaration) ts) (run start d ts) [] d (read_until c.End (read_declaration d) ts)
 declarations-meet d ts =
     while-meets d ts (record { enters = text-enters; leaves = text-leaves }) (declaration-takes d) (λ b. absurd cc)
     (λ us. declaration_by-meets d (ahead us) us start refl)
@@ -202,7 +216,8 @@ left-of : {A : Type 0} → Outcome A → List Token
 left-of (Ok x) = x.1
 left-of (Err f) = []
 
-left-same : {A : Type 0} (a b : A) (ts us : List Token) (r : Outcome A) → r ≡ Ok (a, ts) → r ≡ Ok (b, us) → ts ≡ us
+left-same : {A : Type 0} (a b : A) (ts us : List Token) (r : Outcome A) → r ≡ Ok (a, ts)
+    → r ≡ Ok (b, us) → ts ≡ us
 unfolding left-of
 left-same {A = A} a b ts us r f e = sym (ap (left-of {A = A}) f) ∙ ap (left-of {A = A}) e
 

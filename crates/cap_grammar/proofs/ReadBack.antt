@@ -59,7 +59,8 @@ same-class t u e = ap (λ (x : TokenKind × List ℕ × ℕ). class_with x.0 x.1
 same-room : (d : ℕ) (t u : Token) → unplaced t ≡ unplaced u → room_behind d t ≡ room_behind d u
 same-room d t u e = ap (λ (x : TokenKind × List ℕ × ℕ). room_behind d (record { kind = x.0; text = x.1; value = x.2; place = t.place })) e
 
-alike : (s : Stack) (d : ℕ) (ts us : List Token) → map unplaced ts ≡ map unplaced us → run s d ts ≡ whole → run s d us ≡ whole
+alike : (s : Stack) (d : ℕ) (ts us : List Token) → map unplaced ts ≡ map unplaced us
+    → run s d ts ≡ whole → run s d us ≡ whole
 alike s d [] [] e h = h
 alike s d [] (u ∷ us) e h = absurd cc
 alike s d (t ∷ ts) [] e h = absurd cc
@@ -89,7 +90,8 @@ ArePrintedBack = (pieces : List (Token × List ℕ)) → All IsSpelled (tokens_i
 abbrev pub HasAgain : List ℕ → ProgramTree → Type 0
 HasAgain text t = (again : ProgramTree) × AreTokensOf text (spelling again ++ end_of text ∷ []) × Nests again × AreSameApartFromPlaces again t
 
-pub canonical-again : ArePrintedBack → (t : ProgramTree) → Nests t → All IsSpelled (spelling t) → HasAgain (canonical_text t) t
+pub canonical-again : ArePrintedBack → (t : ProgramTree) → Nests t → All IsSpelled (spelling t)
+    → HasAgain (canonical_text t) t
 canonical-again law t nests spelled =
     let ps = pieces_from 0 (spelling t) in
     let same_tokens : tokens_in ps ≡ spelling t = pieces-tokens 0 (spelling t) in
@@ -107,7 +109,8 @@ canonical-again law t nests spelled =
 abbrev pub AreSpelledInTexts : Type 0
 AreSpelledInTexts = (bytes : List ℕ) (ts : List Token) → AreTokensOf bytes (ts ++ end_of bytes ∷ []) → All IsSpelled ts
 
-pub text-again : ArePrintedBack → AreSpelledInTexts → (bytes : List ℕ) (t : ProgramTree) → Spells bytes t → length (canonical_text t) ≤ max_text
+pub text-again : ArePrintedBack → AreSpelledInTexts → (bytes : List ℕ) (t : ProgramTree)
+    → Spells bytes t → length (canonical_text t) ≤ max_text
     → (again : ProgramTree) × Spells (canonical_text t) again × AreSameApartFromPlaces again t
 text-again law spelled bytes t s l =
     let x = canonical-again law t s.nests (spelled bytes (spelling t) s.tokens) in

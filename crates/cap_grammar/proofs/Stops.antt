@@ -31,18 +31,22 @@ pub record StopsDeep (s : Stack) (d : ℕ) (ts rest : List Token) : Type 0 where
   pub begun : walk s (front ++ bracket ∷ more) ≡ whole
 
 -- one step of each
-pub step-walk : (s s2 : Stack) (t : Token) (ts : List Token) → next s (class t) ≡ on s2 → walk s (t ∷ ts) ≡ walk s2 ts
+pub step-walk : (s s2 : Stack) (t : Token) (ts : List Token) → next s (class t) ≡ on s2
+    → walk s (t ∷ ts) ≡ walk s2 ts
 step-walk s s2 t ts n = ap (λ m. goes m (λ s3. walk s3 ts) (wrong (t ∷ ts))) n
 
-step-run : (s s2 : Stack) (d left : ℕ) (t : Token) (ts : List Token) → next s (class t) ≡ on s2 → room_behind d t ≡ Some left → run s d (t ∷ ts) ≡ run s2 left ts
+step-run : (s s2 : Stack) (d left : ℕ) (t : Token) (ts : List Token) → next s (class t) ≡ on s2
+    → room_behind d t ≡ Some left → run s d (t ∷ ts) ≡ run s2 left ts
 step-run s s2 d left t ts n r =
     ap (λ m. goes m (λ s3. within (room_behind d t) (λ e. run s3 e ts) (deep (t ∷ ts))) (wrong (t ∷ ts))) n
     ∙ ap (λ o. within o (λ e. run s2 e ts) (deep (t ∷ ts))) r
 
-step-room : (d left : ℕ) (t : Token) (ts : List Token) → room_behind d t ≡ Some left → room_left d (t ∷ ts) ≡ room_left left ts
+step-room : (d left : ℕ) (t : Token) (ts : List Token) → room_behind d t ≡ Some left
+    → room_left d (t ∷ ts) ≡ room_left left ts
 step-room d left t ts r = ap (λ o. onwards o (λ e. room_left e ts)) r
 
-stays-walk : (s : Stack) (t : Token) (ts : List Token) (m : Move) → next s (class t) ≡ m → ((s2 : Stack) → m ≡ on s2 → ⊥) → walk s (t ∷ ts) ≡ wrong (t ∷ ts)
+stays-walk : (s : Stack) (t : Token) (ts : List Token) (m : Move) → next s (class t) ≡ m
+    → ((s2 : Stack) → m ≡ on s2 → ⊥) → walk s (t ∷ ts) ≡ wrong (t ∷ ts)
 stays-walk s t ts (on s2) n h = absurd (h s2 refl)
 stays-walk s t ts stop n h = ap (λ m. goes m (λ s2. walk s2 ts) (wrong (t ∷ ts))) n
 stays-walk s t ts done n h = ap (λ m. goes m (λ s2. walk s2 ts) (wrong (t ∷ ts))) n
@@ -56,7 +60,8 @@ wrong-same ts us e = cc
 deep-same : (ts us : List Token) → deep ts ≡ deep us → ts ≡ us
 deep-same ts us e = cc
 
-stays-here : (s : Stack) (d : ℕ) (t : Token) (ts rest : List Token) (m : Move) → IsCompletable s → next s (class t) ≡ m → ((s2 : Stack) → m ≡ on s2 → ⊥)
+stays-here : (s : Stack) (d : ℕ) (t : Token) (ts rest : List Token) (m : Move) → IsCompletable s
+    → next s (class t) ≡ m → ((s2 : Stack) → m ≡ on s2 → ⊥)
     → t ∷ ts ≡ rest → StopsWrong s d (t ∷ ts) rest
 stays-here s d t ts rest m h n o e = record {
   front = [];
@@ -70,7 +75,8 @@ stays-here s d t ts rest m h n o e = record {
   short = λ f. absurd cc;
 }
 
-pub stops-wrong : (s : Stack) (d : ℕ) (ts rest : List Token) → IsCompletable s → run s d ts ≡ wrong rest → StopsWrong s d ts rest
+pub stops-wrong : (s : Stack) (d : ℕ) (ts rest : List Token) → IsCompletable s
+    → run s d ts ≡ wrong rest → StopsWrong s d ts rest
 stops-wrong s d [] rest h e = by (next s c.End) refl e
   where
     nothing : walk s [] ≡ wrong [] → [] ≡ rest → StopsWrong s d [] rest
@@ -124,7 +130,8 @@ no-room d t e = by (opens t) refl d e
     by true o (suc d) f = absurd cc
     by false o d f = absurd (closing (closes t) d f)
 
-pub stops-deep : (s : Stack) (d : ℕ) (ts rest : List Token) → IsCompletable s → run s d ts ≡ deep rest → StopsDeep s d ts rest
+pub stops-deep : (s : Stack) (d : ℕ) (ts rest : List Token) → IsCompletable s
+    → run s d ts ≡ deep rest → StopsDeep s d ts rest
 stops-deep s d [] rest h e = absurd (by (next s c.End) e)
   where
     by : (m : Move) → ended m ≡ deep rest → ⊥
@@ -177,7 +184,8 @@ pub record Comes (front : List Token) (s : Stack) (d d2 : ℕ) : Type 0 where
   pub runs : (rest : List Token) → run s d (front ++ rest) ≡ run to d2 rest
   pub walks : (rest : List Token) → walk s (front ++ rest) ≡ walk to rest
 
-pub comes : (front : List Token) (s : Stack) (d d2 : ℕ) (more : List Token) → IsCompletable s → walk s (front ++ more) ≡ whole → room_left d front ≡ Some d2 → Comes front s d d2
+pub comes : (front : List Token) (s : Stack) (d d2 : ℕ) (more : List Token) → IsCompletable s
+    → walk s (front ++ more) ≡ whole → room_left d front ≡ Some d2 → Comes front s d d2
 comes [] s d d2 more h w r = record { to = s; sound = h; runs = λ rest. ap (λ e. run s e rest) (some-same d d2 r); walks = λ rest. refl }
   where
     some-same : (a b : ℕ) → Some a ≡ Some b → a ≡ b
@@ -202,7 +210,8 @@ comes (t ∷ front) s d d2 more h w r = by (λ s2 left. comes front s2 left d2 m
     by again done n f = absurd cc
 
 -- what is run to its end is walked to it, and nests
-pub run-whole : (s : Stack) (d : ℕ) (ts : List Token) → run s d ts ≡ whole → (walk s ts ≡ whole) × IsSome (room_left d ts)
+pub run-whole : (s : Stack) (d : ℕ) (ts : List Token) → run s d ts ≡ whole
+    → (walk s ts ≡ whole) × IsSome (room_left d ts)
 run-whole s d [] e = (e, refl)
 run-whole s d (t ∷ ts) e = by (λ s2 left. run-whole s2 left ts) (next s (class t)) refl e
   where
@@ -217,7 +226,8 @@ run-whole s d (t ∷ ts) e = by (λ s2 left. run-whole s2 left ts) (next s (clas
     by again stop n f = absurd cc
     by again done n f = absurd cc
 
-enough : (d : ℕ) (t : Token) (n : ℕ) → suc n ≤ d → (left : ℕ) × (room_behind d t ≡ Some left) × (n ≤ left)
+enough : (d : ℕ) (t : Token) (n : ℕ) → suc n ≤ d
+    → (left : ℕ) × (room_behind d t ≡ Some left) × (n ≤ left)
 enough d t n l = by (opens t) refl d l
   where
     closing : (b : Bool) (d : ℕ) → suc n ≤ d → (left : ℕ) × (cond b (Some (suc d)) (Some d) ≡ Some left) × (n ≤ left)
