@@ -2,7 +2,7 @@
 
 ghost use Rattle.std.specs.Prelude.{◌≡◌, ◌∷◌, [], ◌+◌, ◌^◌, ◌<◌, IfOk};
 ghost use Rattle.std.specs.Option.{option_to_list};
-ghost use Rattle.cap_tree.specs.Canonical.{is_the_symbol as is_this, may_end_line as ends, parentheses_behind as behind, gap_behind, canonical_from};
+ghost use Rattle.cap_tree.specs.Canonical.{is_the_symbol, may_end_line, parentheses_behind, gap_behind, canonical_from};
 ghost use Rattle.cap_tree.specs.Nesting.{is_symbol as is_a_symbol};
 ghost use Rattle.cap_print.specs.Pieces.{piece_view, tokens_of};
 
@@ -27,7 +27,7 @@ fn is_symbol(kind: TokenKind) -> bool
 impl<'a> Piece<'a> {
     /// Whether it is the symbol of this one byte.
     fn is_the_symbol(&self, symbol: u8) -> bool
-        ensures { result ≡ is_this (symbol ∷ []) (piece_view self.now) }
+        ensures { result ≡ is_the_symbol (symbol ∷ []) (piece_view self.now) }
     {
         match self.text {
             [byte] => is_symbol(self.kind) && *byte == symbol,
@@ -36,7 +36,7 @@ impl<'a> Piece<'a> {
     }
 
     fn may_end_line(&self) -> bool
-        ensures { result ≡ ends (piece_view self.now) }
+        ensures { result ≡ may_end_line (piece_view self.now) }
     {
         self.is_the_symbol(b'{') || self.is_the_symbol(b'}') || self.is_the_symbol(b';')
     }
@@ -44,7 +44,7 @@ impl<'a> Piece<'a> {
     /// How many parentheses are open behind it, where so many are before it.
     fn parentheses_behind(&self, parentheses: usize) -> usize
         requires { parentheses + 1 < 2 ^ 64 }
-        ensures { result ≡ behind parentheses (piece_view self.now) }
+        ensures { result ≡ parentheses_behind parentheses (piece_view self.now) }
     {
         if self.is_the_symbol(b'(') {
             parentheses + 1
