@@ -140,7 +140,8 @@ impl<'a> Tail<'a> {
         clause: &'a Option<Clause>,
     ) -> Result<(), AllocError>
         ensures { IfOk result (λ _.
-            self.new ≡ spell_option (spell_clause key.now) (option_map clause_view clause.now) self.old) }
+            self.new
+            ≡ spell_option (spell_clause key.now) (option_map clause_view clause.now) self.old) }
     {
         match clause {
             Some(clause) => {
@@ -155,7 +156,9 @@ impl<'a> Tail<'a> {
 
 impl Part for GuardAtom {
     ghost Plain = { GuardTree };
+
     ghost view = { guard_view };
+
     ghost spell = { spell_guard };
 
     fn put<'a>(&'a self, tail: &mut Tail<'a>) -> Result<(), AllocError> {

@@ -14,7 +14,9 @@ use std::alloc::AllocError;
 /// A part of a tree that lists have. `view` is the plain part, and `spell` what it spells.
 pub(crate) trait Part {
     ghost Plain: { Type 0 };
+
     ghost view: { Self → Plain };
+
     ghost spell: { Plain → List Token → List Token };
 
     /// Puts the part in front of the tail.
@@ -24,7 +26,9 @@ pub(crate) trait Part {
 
 impl Part for Word {
     ghost Plain = { Word };
+
     ghost view = { word_view };
+
     ghost spell = { spell_name };
 
     fn put<'a>(&'a self, tail: &mut Tail<'a>) -> Result<(), AllocError> {
@@ -60,7 +64,8 @@ impl<'a> Tail<'a> {
         more: &'a [(Place, T)],
     ) -> Result<(), AllocError>
         ensures { IfOk result (λ _.
-            self.new ≡ spell_more separator.now T.spell (map (behind_view T.view) more.now) self.old) }
+            self.new
+            ≡ spell_more separator.now T.spell (map (behind_view T.view) more.now) self.old) }
     {
         for i in (0..more.len()).rev() {
             let (place, part) = &more[i];
@@ -76,7 +81,8 @@ impl<'a> Tail<'a> {
         parts: &'a Separated<T>,
     ) -> Result<(), AllocError>
         ensures { IfOk result (λ _.
-            self.new ≡ spell_several separator.now T.spell (several_view T.view parts.now) self.old) }
+            self.new
+            ≡ spell_several separator.now T.spell (several_view T.view parts.now) self.old) }
     {
         self.more(separator, &parts.more)?;
         parts.first.put(self)

@@ -13,7 +13,8 @@ use std::alloc::{AllocError, Global};
 
 impl<'a> Tail<'a> {
     fn function(&mut self, function: &'a Function) -> Result<(), AllocError>
-        ensures { IfOk result (λ _. self.new ≡ spell_function (function_view function.now) self.old) }
+        ensures { IfOk result (λ _.
+            self.new ≡ spell_function (function_view function.now) self.old) }
     {
         self.block(&function.body)?;
         self.clause(b"ensures", &function.postcondition)?;
@@ -36,7 +37,9 @@ impl<'a> Tail<'a> {
 
 impl Part for Declaration {
     ghost Plain = { DeclarationTree };
+
     ghost view = { declaration_view };
+
     ghost spell = { spell_declaration };
 
     fn put<'a>(&'a self, tail: &mut Tail<'a>) -> Result<(), AllocError> {
@@ -44,9 +47,9 @@ impl Part for Declaration {
     }
 }
 
-/// The canonical text of a tree: its tokens with one space between two, but a line feed behind each
-/// `{`, `}` and `;` that stands in no parentheses. The last token is followed by that line feed or by
-/// nothing. It fails only where memory runs out.
+/// The canonical text of a tree: its tokens in their order, with a line feed behind each `{`, `}` and
+/// `;` that stands in no parentheses, and one space behind each other token but the last. It fails
+/// only where memory runs out.
 pub fn print(alloc: Global, tree: &Tree) -> Result<Vec<u8>, AllocError>
     ensures { IfOk result (λ text. text.items ≡ canonical_text (tree_view tree.now)) }
 {

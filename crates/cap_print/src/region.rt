@@ -14,7 +14,8 @@ use std::alloc::AllocError;
 impl<'a> Tail<'a> {
     #[cycle(algebras)]
     fn declared(&mut self, declared: &'a Declared) -> Result<(), AllocError>
-        ensures { IfOk result (λ _. self.new ≡ spell_declared (declared_view declared.now) self.old) }
+        ensures { IfOk result (λ _.
+            self.new ≡ spell_declared (declared_view declared.now) self.old) }
     {
         match declared {
             Declared::Unique(name) => self.name(name),
@@ -126,7 +127,9 @@ impl<'a> Tail<'a> {
 
 impl Part for When {
     ghost Plain = { WhenTree };
+
     ghost view = { when_view };
+
     ghost spell = { spell_when };
 
     fn put<'a>(&'a self, tail: &mut Tail<'a>) -> Result<(), AllocError> {
@@ -136,7 +139,9 @@ impl Part for When {
 
 impl Part for Case {
     ghost Plain = { CaseTree };
+
     ghost view = { case_view };
+
     ghost spell = { spell_case };
 
     fn put<'a>(&'a self, tail: &mut Tail<'a>) -> Result<(), AllocError> {
@@ -146,7 +151,9 @@ impl Part for Case {
 
 impl Part for Action {
     ghost Plain = { ActionTree };
+
     ghost view = { action_view };
+
     ghost spell = { spell_action };
 
     fn put<'a>(&'a self, tail: &mut Tail<'a>) -> Result<(), AllocError> {

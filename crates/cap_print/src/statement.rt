@@ -110,7 +110,8 @@ impl<'a> Tail<'a> {
     #[cycle(statements)]
     fn statements(&mut self, statements: &'a [Statement]) -> Result<(), AllocError>
         ensures { IfOk result (λ _.
-            self.new ≡ spell_statements (statements_of (map statement_view statements.now)) self.old) }
+            self.new
+            ≡ spell_statements (statements_of (map statement_view statements.now)) self.old) }
     {
         for i in (0..statements.len()).rev() {
             self.statement(&statements[i])?;

@@ -1,7 +1,7 @@
 // The tail of a text, which grows to the front.
 
 ghost use Rattle.std.specs.Prelude.{◌≡◌, ◌∷◌, [], IfOk};
-ghost use Rattle.cap_tree.specs.Tokens.{name, number, share, wildcard, keyword, symbol};
+ghost use Rattle.cap_tree.specs.Tokens.{plain_token, name, number, share, wildcard, keyword, symbol};
 ghost use Rattle.cap_print.specs.Pieces.{piece_view, tokens_of};
 
 use cap_syntax::{Place, TokenKind};
@@ -37,7 +37,6 @@ impl<'a> Model for Tail<'a> {
     ghost view = { λ t. tokens_of t.pieces.items };
 }
 
-#[tactic(auto, using(crate::proofs::Tails::tails))]
 impl<'a> Tail<'a> {
     pub(crate) fn new(alloc: Global) -> Tail<'a>
         ensures { result ≡ [] }
@@ -60,6 +59,7 @@ impl<'a> Tail<'a> {
         self.room
     }
 
+    #[tactic(auto, using(crate::proofs::Tails::tails))]
     fn put(&mut self, piece: Piece<'a>) -> Result<(), AllocError>
         ensures { IfOk result (λ _. self.new ≡ piece_view piece.entry ∷ self.old) }
     {
@@ -68,13 +68,8 @@ impl<'a> Tail<'a> {
         Ok(())
     }
 
-    fn put_plain(
-        &mut self,
-        kind: TokenKind,
-        text: &'a [u8],
-        place: Place,
-    ) -> Result<(), AllocError>
-        ensures { IfOk result (λ _. self.new ≡ record { kind = kind; text = text.now; value = 0; place = place } ∷ self.old) }
+    fn put_plain(&mut self, kind: TokenKind, text: &'a [u8], place: Place) -> Result<(), AllocError>
+        ensures { IfOk result (λ _. self.new ≡ plain_token kind text.now place ∷ self.old) }
     {
         self.put(Piece {
             kind,

@@ -115,7 +115,9 @@ impl<'a> Tail<'a> {
 
 impl Part for Term {
     ghost Plain = { TermTree };
+
     ghost view = { term_view };
+
     ghost spell = { spell_term };
 
     fn put<'a>(&'a self, tail: &mut Tail<'a>) -> Result<(), AllocError> {
@@ -125,7 +127,9 @@ impl Part for Term {
 
 impl Part for Comparison {
     ghost Plain = { ComparisonTree };
+
     ghost view = { comparison_view };
+
     ghost spell = { spell_comparison };
 
     fn put<'a>(&'a self, tail: &mut Tail<'a>) -> Result<(), AllocError> {
@@ -135,7 +139,9 @@ impl Part for Comparison {
 
 impl Part for Slot {
     ghost Plain = { SlotTree };
+
     ghost view = { slot_view };
+
     ghost spell = { spell_slot };
 
     fn put<'a>(&'a self, tail: &mut Tail<'a>) -> Result<(), AllocError> {

@@ -55,9 +55,11 @@ impl<'a> Piece<'a> {
         }
     }
 
-    /// The byte behind it, where so many parentheses are open before it and these pieces follow.
+    /// The byte behind it, where so many parentheses are open before it and the text goes on with
+    /// these pieces.
     fn gap(&self, parentheses: usize, rest: &[Piece<'a>]) -> Option<u8>
-        ensures { option_to_list result ≡ gap_behind parentheses (piece_view self.now) (tokens_of rest.now) }
+        ensures { option_to_list result
+            ≡ gap_behind parentheses (piece_view self.now) (tokens_of rest.now) }
     {
         if parentheses == 0 && self.may_end_line() {
             Some(b'\n')

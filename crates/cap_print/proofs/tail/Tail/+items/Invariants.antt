@@ -4,4 +4,5 @@ use Rattle.cap_tree.specs.Views.{items_of, and_view}
 use Rattle.cap_print.proofs.tail.Tail.+items.Given as goal
 
 abbrev pub invariant-items-loop-i : goal.invariant-items-loop-i
-invariant-items-loop-i l = l.self ≡ spell_items (items_of (map and_view (drop l.i l.items))) l.fn.self
+invariant-items-loop-i l =
+    l.self ≡ spell_items (items_of (map and_view (drop l.i l.items))) l.fn.self

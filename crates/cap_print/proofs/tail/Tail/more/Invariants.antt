@@ -5,4 +5,5 @@ use Rattle.cap_print.proofs.tail.Tail.more.Given as goal
 
 abbrev pub invariant-loop-i : goal.invariant-loop-i
 invariant-loop-i g l =
-    l.self ≡ spell_more l.separator g.T.Part.spell (map (behind_view g.T.Part.view) (drop l.i l.more)) l.fn.self
+    l.self
+    ≡ spell_more l.separator g.T.Part.spell (map (behind_view g.T.Part.view) (drop l.i l.more)) l.fn.self
