@@ -1,0 +1,4 @@
+mod Classes
+mod Numbers
+mod Built
+mod Leaf
