@@ -58,6 +58,14 @@ same_bytes (x ∷ xs) (y ∷ ys) e =
     let h = both (x == y) (bytes_eq xs ys) e in
     ap₂ (λ z zs. z ∷ zs) (eqb-true x y h.0) (same_bytes xs ys h.1)
 
+-- a word that begins with no `-` is not `--`
+pub begins_none : (w : Word) → begins_option w ≡ false → bytes_eq w (codes "--") ≡ false
+begins_none w e = go (bytes_eq w (codes "--")) refl
+  where
+    go : (b : Bool) → bytes_eq w (codes "--") ≡ b → b ≡ false
+    go false h = refl
+    go true h = absurd (true≢false (sym (ap begins_option (same_bytes w (codes "--") h)) ∙ e))
+
 pub rest_after-Some : (front w n : Word) → rest_after front w ≡ Some n → w ≡ front ++ n
 rest_after-Some [] w n e = cc
 rest_after-Some (c ∷ cs) [] n e = cc

@@ -139,17 +139,3 @@ run_other s sparse rows pending waiting position word rest o =
     rw (no_name waiting word, o.not_ends)
     (stop (flag_word_fault s.rules s.args_override_self (long_of word) word (held rows pending)) _ _
     (flag_refused s.rules s.args_override_self sparse word o.flag rows pending))
-
--- ---- what waits to be used may be used at once
-
-guard : (k next : Kinds) (o : Option (List Row)) → cond (is_clear (or_else k next)) o None ≡ cond (is_clear k) (cond (is_clear next) o None) None
-guard [] next o = refl
-guard (k ∷ ks) next o = refl
-
-neither : (b : Bool) → None ≡ cond b (None {A = List Row}) None
-neither true = refl
-neither false = refl
-
-and_false : (b : Bool) → (b && false) ≡ false
-and_false true = refl
-and_false false = refl

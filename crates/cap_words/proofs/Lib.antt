@@ -2,3 +2,6 @@ mod Classes
 mod Numbers
 mod Built
 mod Leaf
+mod Settling
+mod Option
+mod Chain
