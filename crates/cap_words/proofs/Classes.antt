@@ -5,8 +5,9 @@ use Rattle.std.specs.Prelude.{slice_get}
 use Rattle.std.specs.Str.{IsUtf8, bytes_eq, chars, encode_utf8_all}
 use Rattle.std.proofs.lemmas.Str.{IsCharBoundary-after_ascii, IsUtf8-drop, encodes-chars}
 use Rattle.std.proofs.lemmas.Bool.{cases_lt}
+use Rattle.std.proofs.lemmas.Bool.Decides.{Decides-like, same_from_decides}
+use Rattle.std.proofs.lemmas.Slice.Eq.{bytes_eq-Decides}
 use Rattle.std.proofs.lemmas.List.Sums.{passes_at_first, split_at_first}
-use Rattle.clap.proofs.WalkLemmas.{both}
 use Rattle.clap.specs.Lexer.{long_of, name_and_value, short_of}
 use Rattle.cap_words.specs.Meaning.{Word, begins_option, rest_after}
 use Rattle.cap_words.specs.Parser.{has_lone_dash}
@@ -51,12 +52,13 @@ AreTexts (w ∷ words) = IsUtf8 w × AreTexts words
 -- ---- tests of bytes
 
 pub same_bytes : (xs ys : Word) → bytes_eq xs ys ≡ true → xs ≡ ys
-same_bytes [] [] e = refl
-same_bytes [] (y ∷ ys) e = cc
-same_bytes (x ∷ xs) [] e = cc
-same_bytes (x ∷ xs) (y ∷ ys) e =
-    let h = both (x == y) (bytes_eq xs ys) e in
-    ap₂ (λ z zs. z ∷ zs) (eqb-true x y h.0) (same_bytes xs ys h.1)
+same_bytes xs ys = (bytes_eq-Decides xs ys).0
+
+pub equal_bytes : (bs : Word) → bytes_eq bs bs ≡ true
+equal_bytes bs = (bytes_eq-Decides bs bs).1 refl
+
+pub bytes_eq-flipped : (xs ys : Word) → bytes_eq xs ys ≡ bytes_eq ys xs
+bytes_eq-flipped xs ys = same_from_decides (bytes_eq xs ys) (bytes_eq ys xs) (bytes_eq-Decides xs ys) (Decides-like (bytes_eq ys xs) sym sym (bytes_eq-Decides ys xs))
 
 -- a word that begins with no `-` is not `--`
 pub begins_none : (w : Word) → begins_option w ≡ false → bytes_eq w (codes "--") ≡ false

@@ -5,3 +5,5 @@ mod Leaf
 mod Settling
 mod Option
 mod Chain
+mod Subcommands
+mod Parse

@@ -1,0 +1,207 @@
+-- The subcommands: what each reads is what its form makes of the arguments.
+use Rattle.std.proofs.Common.{◌≡◌, ◌∷◌, ◌+◌, ℕ, true, false, min, refl, inl, inr, List, [], map, Option, Some, None, codes}
+use Rattle.std.specs.Prelude.{option_and_then, option_map}
+use Rattle.std.specs.Str.{bytes_eq}
+use Rattle.clap.specs.Lexer.{usize_max}
+use Rattle.clap.specs.Walk.{Rule, arg_by_long, arg_by_short, nothing_held, walk_from}
+use Rattle.clap.specs.Simple.{Shape, built, filled_from, new_shape}
+use Rattle.clap.specs.Faults.{defaults_fault}
+use Rattle.cap_words.specs.Number.{number_within}
+use Rattle.cap_words.specs.Meaning.{Form, forms, PlainCommand, Word, arguments_of, budgeted, one, two, verify, derive, check, replay, show, trial}
+use Rattle.cap_words.specs.Parser.{Reading, budgeted_in, budgeted_rules, caper_app, one_in, operand_rules, readings, two_in}
+use Rattle.cap_words.proofs.Classes.{Classes, equal_bytes}
+use Rattle.cap_words.proofs.Leaf.{HasOption, IsSparse, has, lacks, leaf, run}
+use Rattle.cap_words.proofs.Chain.{Chain, Never, Once, made_of, reads_with, reads_without}
+
+-- the subcommand's shape, built
+abbrev pub leaf_of : Word → List Rule → Shape
+leaf_of name rules = leaf name (filled_from 1 rules)
+
+-- the level above the subcommands
+abbrev pub top_level : Shape
+top_level = record (new_shape (codes "caper")) {
+  is_leaf = false;
+  no_binary_name = true;
+  disable_help_flag = true;
+  disable_help_subcommand = true;
+  subcommand_required = true;
+  is_built = true;
+}
+
+pub record Subcommand : Type 0 where
+  pub name : Word
+  pub rules : List Rule
+  pub reading : Reading
+  pub form : Form
+  pub reads : (words : List Word) → Classes words
+      → option_and_then reading (run (leaf_of name rules) (walk_from nothing_held) words) ≡ made_of form (arguments_of words)
+
+-- ---- one operand and the option
+
+has_budget : HasOption (filled_from 1 budgeted_rules)
+has_budget = record { by_long = refl; by_id = refl }
+
+two_budgets : (make : Word → ℕ → PlainCommand) (n m : Word) (budgets operands : List Word) → budgeted make (n ∷ m ∷ budgets) operands ≡ None
+two_budgets make n m budgets [] = refl
+two_budgets make n m budgets (a ∷ []) = refl
+two_budgets make n m budgets (a ∷ b ∷ operands) = refl
+
+module _ (name : Word) (make : Word → ℕ → PlainCommand) where
+  budgeted_chain : Chain (budgeted_in make) name (filled_from 1 budgeted_rules) (Once (budgeted_in make) name (filled_from 1 budgeted_rules)) [] 1 (codes "file" ∷ []) (budgeted make)
+  unfolding defaults_fault
+  budgeted_chain = (
+    record { slot = refl; ends = refl },
+    record {
+      option = has_budget;
+      fresh = refl;
+      given = λ n. (
+        record { slot = refl; ends = refl },
+        record { refused = inr (has_budget, refl); none = λ m budgets operands. two_budgets make n m budgets operands },
+        record { by_id = refl; fresh = refl },
+        λ w. (
+          record { slot = refl; ends = refl },
+          record { refused = inr (has_budget, refl); none = λ m budgets operands. two_budgets make n m budgets (w ∷ operands) },
+          λ budgets v operands. refl,
+        ),
+      );
+    },
+    record { by_id = refl; fresh = refl },
+    λ w. (
+      record { slot = refl; ends = refl },
+      record {
+        option = has_budget;
+        fresh = refl;
+        given = λ n. (
+          record { slot = refl; ends = refl },
+          record { refused = inr (has_budget, refl); none = λ m budgets operands. two_budgets make n m budgets (w ∷ operands) },
+          λ budgets v operands. refl,
+        );
+      },
+      λ budgets v operands. refl,
+    ),
+  )
+
+  pub budgeted_reads : (words : List Word) → Classes words
+      → option_and_then (budgeted_in make) (run (leaf_of name budgeted_rules) (walk_from nothing_held) words) ≡ made_of (budgeted make) (arguments_of words)
+  budgeted_reads = reads_with (budgeted_in make) name (filled_from 1 budgeted_rules) (record { long = λ n e. rw e refl; short = λ x. refl })
+      (has has_budget) [] 1 (codes "file" ∷ []) (budgeted make) budgeted_chain
+
+-- ---- operands alone
+
+no_long : (i : ℕ) (ids : List Word) (name : Word) → arg_by_long (filled_from i (operand_rules ids)) name ≡ None
+no_long i [] name = refl
+no_long i (id ∷ ids) name = no_long (min (i + 1) usize_max) ids name
+
+no_short : (i : ℕ) (ids : List Word) (x : ℕ) → arg_by_short (filled_from i (operand_rules ids)) x ≡ None
+no_short i [] x = refl
+no_short i (id ∷ ids) x = no_short (min (i + 1) usize_max) ids x
+
+operands_reads : (name : Word) (ids : List Word) (reading : Reading) (form : Form)
+    → Chain reading name (filled_from 1 (operand_rules ids)) (Never reading name (filled_from 1 (operand_rules ids))) [] 1 ids form
+    → (words : List Word) → Classes words → option_and_then reading (run (leaf_of name (operand_rules ids)) (walk_from nothing_held) words) ≡ made_of form (arguments_of words)
+operands_reads name ids reading form = reads_without reading name (filled_from 1 (operand_rules ids))
+    (record { long = λ n e. no_long 1 ids n; short = no_short 1 ids }) (lacks (no_long 1 ids (codes "budget"))) [] 1 ids form
+
+one_more : (make : Word → Option PlainCommand) (a b : Word) (budgets operands : List Word) → one make budgets (a ∷ b ∷ operands) ≡ None
+one_more make a b [] operands = refl
+one_more make a b (n ∷ budgets) operands = refl
+
+two_more : (make : Word → Word → Option PlainCommand) (a b d : Word) (budgets operands : List Word) → two make budgets (a ∷ b ∷ d ∷ operands) ≡ None
+two_more make a b d [] operands = refl
+two_more make a b d (n ∷ budgets) operands = refl
+
+module _ (name id : Word) where
+  one_chain : (make : Word → Option PlainCommand)
+      → Chain (one_in id make) name (filled_from 1 (operand_rules (id ∷ []))) (Never (one_in id make) name (filled_from 1 (operand_rules (id ∷ [])))) [] 1 (id ∷ []) (one make)
+  unfolding defaults_fault
+  one_chain make = (
+    record { slot = refl; ends = refl },
+    record { refused = inl refl; none = λ n budgets operands. refl },
+    record { by_id = simp (equal_bytes id) refl; fresh = refl },
+    λ w. (
+      record { slot = refl; ends = simp (equal_bytes id) refl },
+      record { refused = inl refl; none = λ n budgets operands. refl },
+      λ budgets v operands. one_more make w v budgets operands,
+    ),
+  )
+
+  pub one_reads : (make : Word → Option PlainCommand) (words : List Word) → Classes words
+      → option_and_then (one_in id make) (run (leaf_of name (operand_rules (id ∷ []))) (walk_from nothing_held) words) ≡ made_of (one make) (arguments_of words)
+  one_reads make = operands_reads name (id ∷ []) (one_in id make) (one make) (one_chain make)
+
+  module _ (other : Word) (differs : bytes_eq id other ≡ false) (differs_too : bytes_eq other id ≡ false) where
+    two_chain : (make : Word → Word → Option PlainCommand)
+        → Chain (two_in id other make) name (filled_from 1 (operand_rules (id ∷ other ∷ []))) (Never (two_in id other make) name (filled_from 1 (operand_rules (id ∷ other ∷ [])))) [] 1 (id ∷ other ∷ []) (two make)
+    unfolding defaults_fault
+    two_chain make = (
+      record { slot = refl; ends = refl },
+      record { refused = inl refl; none = λ n budgets operands. refl },
+      record { by_id = simp (equal_bytes id) refl; fresh = refl },
+      λ w. (
+        record { slot = refl; ends = simp (equal_bytes id, differs, differs_too) refl },
+        record { refused = inl refl; none = λ n budgets operands. refl },
+        record { by_id = simp (equal_bytes other, differs) refl; fresh = simp differs refl },
+        λ v. (
+          record { slot = refl; ends = simp (equal_bytes id, equal_bytes other, differs, differs_too) refl },
+          record { refused = inl refl; none = λ n budgets operands. refl },
+          λ budgets u operands. two_more make w v u budgets operands,
+        ),
+      ),
+    )
+
+    pub two_reads : (make : Word → Word → Option PlainCommand) (words : List Word) → Classes words
+        → option_and_then (two_in id other make) (run (leaf_of name (operand_rules (id ∷ other ∷ []))) (walk_from nothing_held) words) ≡ made_of (two make) (arguments_of words)
+    two_reads make = operands_reads name (id ∷ other ∷ []) (two_in id other make) (two make) (two_chain make)
+
+-- ---- the subcommands of the parser
+
+abbrev budgeted_subcommand : Word → (Word → ℕ → PlainCommand) → Subcommand
+budgeted_subcommand name make = record {
+  name = name;
+  rules = budgeted_rules;
+  reading = budgeted_in make;
+  form = budgeted make;
+  reads = budgeted_reads name make;
+}
+
+abbrev one_subcommand : Word → Word → (Word → Option PlainCommand) → Subcommand
+one_subcommand name id make = record {
+  name = name;
+  rules = operand_rules (id ∷ []);
+  reading = one_in id make;
+  form = one make;
+  reads = one_reads name id make;
+}
+
+abbrev two_subcommand : (name id other : Word) → bytes_eq id other ≡ false → bytes_eq other id ≡ false → (Word → Word → Option PlainCommand) → Subcommand
+two_subcommand name id other differs differs_too make = record {
+  name = name;
+  rules = operand_rules (id ∷ other ∷ []);
+  reading = two_in id other make;
+  form = two make;
+  reads = two_reads name id other differs differs_too make;
+}
+
+pub all : List Subcommand
+all =
+    budgeted_subcommand (codes "verify") verify
+    ∷ budgeted_subcommand (codes "derive") derive
+    ∷ two_subcommand (codes "check") (codes "file") (codes "derivation") refl refl (λ file derivation. Some (check file derivation))
+    ∷ two_subcommand (codes "replay") (codes "file") (codes "schedule") refl refl (λ file schedule. Some (replay file schedule))
+    ∷ one_subcommand (codes "show") (codes "file") (λ file. Some (show file))
+    ∷ one_subcommand (codes "trial") (codes "number") (λ n. option_map trial (number_within 1 50 n))
+    ∷ []
+
+-- the parser and the tables are made of them
+
+pub parser_is : built caper_app ≡ record { top = top_level; subs = map (λ s. leaf_of s.name s.rules) all }
+unfolding all
+parser_is = refl
+
+pub readings_are : readings ≡ map (λ s. (s.name, s.reading)) all
+unfolding all
+readings_are = refl
+
+pub forms_are : forms ≡ map (λ s. (s.name, s.form)) all
+unfolding all
+forms_are = refl
