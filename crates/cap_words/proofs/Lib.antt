@@ -7,3 +7,5 @@ mod Option
 mod Chain
 mod Subcommands
 mod Parse
+mod Tables
+mod Exact

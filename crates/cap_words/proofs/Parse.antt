@@ -1,5 +1,5 @@
 -- A whole parse, at the words of the definition.
-use Rattle.std.proofs.Common.{◌≡◌, ◌∙◌, ◌||◌, ◌&&◌, ◌++◌, Bool, cond, true, false, refl, sym, ap, ap₂, List, [], ◌∷◌, map, Option, Some, None, true≢false, codes}
+use Rattle.std.proofs.Common.{◌≡◌, ◌∙◌, ◌||◌, ◌&&◌, ◌++◌, Bool, cond, true, false, refl, sym, ap, ap₂, subst, List, [], ◌∷◌, map, Option, Some, None, true≢false, codes}
 use Rattle.std.specs.Prelude.{find, is_some, option_and_then, option_map}
 use Rattle.std.specs.List.{fold}
 use Rattle.std.specs.Str.{bytes_eq}
@@ -19,7 +19,7 @@ use Rattle.cap_words.proofs.Subcommands.{Subcommand, leaf_of, top_level}
 abbrev shape_of : Subcommand → Shape
 shape_of s = leaf_of s.name s.rules
 
-abbrev is_named : Word → Subcommand → Bool
+abbrev pub is_named : Word → Subcommand → Bool
 is_named name s = bytes_eq name s.name
 
 -- ---- the subcommand of a name
@@ -123,3 +123,90 @@ module _ (subs : List Subcommand) where
         let shape_is : find (λ l. answers_to s.name (label_of l)) (map shape_of subs) ≡ Some (shape_of s) = shape_met subs s.name ∙ ap (option_map shape_of) found in
         ap₂ parsed (walk_is rest) (walk_clear rest)
         ∙ rw shape_is (given (level_fault (shape_of s) [] nothing_held rest false []) s.name (rows_after (shape_of s).rules [] rest))
+
+  -- ---- a first word that names no subcommand
+
+  refused : (a b : Kinds) (goes : Option (Word × List Row)) → is_clear a ≡ false → cond (is_clear (or_else a b)) goes None ≡ None
+  refused [] b goes e = absurd (true≢false e)
+  refused (k ∷ ks) b goes e = refl
+
+  first_refused : (a b : Kinds) → is_clear a ≡ false → is_clear (or_else a b) ≡ false
+  first_refused [] b e = absurd (true≢false e)
+  first_refused (k ∷ ks) b e = refl
+
+  outcome_refused : (words : List Word) → is_clear (walk_fault top_level names (walk_from nothing_held) words) ≡ false → outcome words ≡ None
+  unfolding outcome
+  outcome_refused words e = refused (walk_fault top_level names (walk_from nothing_held) words) _ _ e
+
+  turn_refused : (name : Word) (rest : List Word) → is_clear (turn_fault top_level names (walk_from nothing_held) name) ≡ false → outcome (name ∷ rest) ≡ None
+  unfolding walk_fault
+  turn_refused name rest e = outcome_refused (name ∷ rest) (first_refused (turn_fault top_level names (walk_from nothing_held) name) _ e)
+
+  no_rules : IsSparse []
+  no_rules = record { long = λ name e. refl; short = λ x. refl }
+
+  module _ (name : Word) (none : find (is_named name) subs ≡ None) where
+    unmet : subcommand_met names idle name ≡ None
+    unmet = met subs name ∙ ap (option_map (λ (x : Subcommand). x.name)) none
+
+    module _ (e : name ≡ codes "--") where
+      closed_is : walked [] names (walk_from nothing_held) name ≡ record (walk_from nothing_held) { is_trailing = true }
+      unfolding walked
+      closed_is = rw (unmet, e) refl
+
+      closed_clear : turn_fault top_level names (walk_from nothing_held) name ≡ []
+      closed_clear = rw (unmet, e) refl
+
+      closed_refused : (rest : List Word) → outcome (name ∷ rest) ≡ None
+      unfolding outcome walk_fault defaults_fault
+      closed_refused [] = ap₂ parsed closed_is (ap (λ (k : Kinds). or_else k []) closed_clear)
+      closed_refused (x ∷ rest) = outcome_refused (name ∷ x ∷ rest)
+          (ap is_clear (ap₂ or_else closed_clear (ap (λ (w : Walk). walk_fault top_level names w (x ∷ rest)) closed_is)))
+
+    outcome_none : Class name → (rest : List Word) → outcome (name ∷ rest) ≡ None
+    outcome_none (ends e) rest = closed_refused e rest
+    outcome_none (option e) rest = turn_refused name rest (rw (unmet, e) refl)
+    outcome_none (joined n e) rest = turn_refused name rest (rw (unmet, e) refl)
+    outcome_none (other o) rest = turn_refused name rest (rw (unmet, o.not_ends)
+        (first_refused (flag_word_fault [] false (long_of name) name nothing_held) _ (flag_refused [] false no_rules name o.flag [] None)))
+    outcome_none (plain p) rest = turn_refused name rest (rw (unmet, p.not_ends, p.no_long, p.no_short) refl)
+
+  -- ---- the command
+
+  abbrev pub reading_of : Word → List Row → Option PlainCommand
+  reading_of name rows = option_and_then (λ s. s.reading rows) (find (is_named name) subs)
+
+  abbrev pub read : Option (Word × List Row) → Option PlainCommand
+  read = option_and_then (λ p. reading_of p.0 p.1)
+
+  abbrev pub meaning : List Word → Option PlainCommand
+  meaning [] = None
+  meaning (name ∷ rest) = option_and_then (λ s. made_of s.form (arguments_of rest)) (find (is_named name) subs)
+
+  read_named : (name : Word) (o : Option (List Row)) → read (option_and_then (with_name name) o) ≡ option_and_then (reading_of name) o
+  read_named name None = refl
+  read_named name (Some rows) = refl
+
+  found_exact : (s : Subcommand) → find (is_named s.name) subs ≡ Some s → (rest : List Word) → Classes rest → read (outcome (s.name ∷ rest)) ≡ made_of s.form (arguments_of rest)
+  found_exact s found rest classes =
+      ap read (outcome_found s found rest)
+      ∙ read_named s.name (level (shape_of s) rest)
+      ∙ ap (λ (o : Option Subcommand). option_and_then (λ rows. option_and_then (λ s. s.reading rows) o) (level (shape_of s) rest)) found
+      ∙ ap (option_and_then s.reading) (level_is (shape_of s) rest)
+      ∙ s.reads rest classes
+
+  -- the words that `clap` takes, and what is read of them, are the definition's
+  pub exact : (words : List Word) → Classes words → read (outcome words) ≡ meaning words
+  unfolding outcome walk_fault defaults_fault
+  exact [] classes = refl
+  exact (name ∷ rest) classes = go (find (is_named name) subs) refl
+    where
+      named : (s : Subcommand) → find (is_named name) subs ≡ Some s → read (outcome (name ∷ rest)) ≡ made_of s.form (arguments_of rest)
+      named s e =
+          let is = found_name subs name s e in
+          ap (λ (n : Word). read (outcome (n ∷ rest))) is
+          ∙ found_exact s (subst (λ n. find (is_named n) subs ≡ Some s) is e) rest (classes.1 (ap (λ (n : Word). bytes_eq n (codes "--")) is ∙ s.not_ends))
+
+      go : (o : Option Subcommand) → find (is_named name) subs ≡ o → read (outcome (name ∷ rest)) ≡ option_and_then (λ s. made_of s.form (arguments_of rest)) o
+      go None e = ap read (outcome_none name e classes.0 rest)
+      go (Some s) e = named s e

@@ -30,6 +30,7 @@ top_level = record (new_shape (codes "caper")) {
 
 pub record Subcommand : Type 0 where
   pub name : Word
+  pub not_ends : bytes_eq name (codes "--") ≡ false
   pub rules : List Rule
   pub reading : Reading
   pub form : Form
@@ -155,27 +156,30 @@ module _ (name id : Word) where
 
 -- ---- the subcommands of the parser
 
-abbrev budgeted_subcommand : Word → (Word → ℕ → PlainCommand) → Subcommand
-budgeted_subcommand name make = record {
+abbrev budgeted_subcommand : (name : Word) → bytes_eq name (codes "--") ≡ false → (Word → ℕ → PlainCommand) → Subcommand
+budgeted_subcommand name not_ends make = record {
   name = name;
+  not_ends = not_ends;
   rules = budgeted_rules;
   reading = budgeted_in make;
   form = budgeted make;
   reads = budgeted_reads name make;
 }
 
-abbrev one_subcommand : Word → Word → (Word → Option PlainCommand) → Subcommand
-one_subcommand name id make = record {
+abbrev one_subcommand : (name : Word) → bytes_eq name (codes "--") ≡ false → Word → (Word → Option PlainCommand) → Subcommand
+one_subcommand name not_ends id make = record {
   name = name;
+  not_ends = not_ends;
   rules = operand_rules (id ∷ []);
   reading = one_in id make;
   form = one make;
   reads = one_reads name id make;
 }
 
-abbrev two_subcommand : (name id other : Word) → bytes_eq id other ≡ false → bytes_eq other id ≡ false → (Word → Word → Option PlainCommand) → Subcommand
-two_subcommand name id other differs differs_too make = record {
+abbrev two_subcommand : (name : Word) → bytes_eq name (codes "--") ≡ false → (id other : Word) → bytes_eq id other ≡ false → bytes_eq other id ≡ false → (Word → Word → Option PlainCommand) → Subcommand
+two_subcommand name not_ends id other differs differs_too make = record {
   name = name;
+  not_ends = not_ends;
   rules = operand_rules (id ∷ other ∷ []);
   reading = two_in id other make;
   form = two make;
@@ -184,12 +188,12 @@ two_subcommand name id other differs differs_too make = record {
 
 pub all : List Subcommand
 all =
-    budgeted_subcommand (codes "verify") verify
-    ∷ budgeted_subcommand (codes "derive") derive
-    ∷ two_subcommand (codes "check") (codes "file") (codes "derivation") refl refl (λ file derivation. Some (check file derivation))
-    ∷ two_subcommand (codes "replay") (codes "file") (codes "schedule") refl refl (λ file schedule. Some (replay file schedule))
-    ∷ one_subcommand (codes "show") (codes "file") (λ file. Some (show file))
-    ∷ one_subcommand (codes "trial") (codes "number") (λ n. option_map trial (number_within 1 50 n))
+    budgeted_subcommand (codes "verify") refl verify
+    ∷ budgeted_subcommand (codes "derive") refl derive
+    ∷ two_subcommand (codes "check") refl (codes "file") (codes "derivation") refl refl (λ file derivation. Some (check file derivation))
+    ∷ two_subcommand (codes "replay") refl (codes "file") (codes "schedule") refl refl (λ file schedule. Some (replay file schedule))
+    ∷ one_subcommand (codes "show") refl (codes "file") (λ file. Some (show file))
+    ∷ one_subcommand (codes "trial") refl (codes "number") (λ n. option_map trial (number_within 1 50 n))
     ∷ []
 
 -- the parser and the tables are made of them
