@@ -9,3 +9,5 @@ mod Subcommands
 mod Parse
 mod Tables
 mod Exact
+mod Writings
+mod Commands

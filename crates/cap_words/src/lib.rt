@@ -2,6 +2,7 @@
 #![tactic(auto)]
 
 mod command;
+mod laws;
 mod numeral;
 mod parser;
 mod reading;
@@ -9,4 +10,5 @@ mod reading;
 mod tests;
 
 pub use command::Command;
+pub use laws::commands_are_written;
 pub use reading::read_command;
