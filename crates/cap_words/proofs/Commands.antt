@@ -33,8 +33,8 @@ one_written make [] [] command e = cc
 one_written make [] (a ∷ []) command e = (a, refl, refl, e)
 one_written make [] (a ∷ b ∷ operands) command e = cc
 
-two_written : (make : Word → Word → Option PlainCommand) (budgets operands : List Word) (command : PlainCommand) → two make budgets operands ≡ Some command
-    → (a b : Word) × (operands ≡ a ∷ b ∷ []) × (budgets ≡ []) × (make a b ≡ Some command)
+two_written : (make : Word → Word → PlainCommand) (budgets operands : List Word) (command : PlainCommand) → two make budgets operands ≡ Some command
+    → (a b : Word) × (operands ≡ a ∷ b ∷ []) × (budgets ≡ []) × (Some (make a b) ≡ Some command)
 two_written make (n ∷ budgets) operands command e = cc
 two_written make [] [] command e = cc
 two_written make [] (a ∷ []) command e = cc
@@ -54,9 +54,9 @@ budgeted_row name make has budgets operands command e =
 
 two_row : (name : Word) (make : Word → Word → PlainCommand)
     → ((a b : Word) (budgets operands : List Word) → operands ≡ a ∷ b ∷ [] → budgets ≡ [] → HasForm (make a b) name budgets operands)
-    → IsRow (name, two (λ a b. Some (make a b)))
+    → IsRow (name, two make)
 two_row name make has budgets operands command e =
-    let w = two_written (λ a b. Some (make a b)) budgets operands command e in
+    let w = two_written make budgets operands command e in
     let made : make w.0 w.1 ≡ command = cc in
     subst (λ d. HasForm d name budgets operands) made (has w.0 w.1 budgets operands w.2 w.3)
 
@@ -85,10 +85,16 @@ AreRows (row ∷ rows) = IsRow row × AreRows rows
 rows : AreRows forms
 rows = (
   budgeted_row (codes "verify") verify (λ file n budgets operands is budget. (refl, is, budget)),
-  (budgeted_row (codes "derive") derive (λ file n budgets operands is budget. (refl, is, budget)),
-  (two_row (codes "check") check (λ a b budgets operands is none. (refl, is, none)),
-  (two_row (codes "replay") replay (λ a b budgets operands is none. (refl, is, none)),
-  (show_row, (trial_row, tt))))),
+  (
+    budgeted_row (codes "derive") derive (λ file n budgets operands is budget. (refl, is, budget)),
+    (
+      two_row (codes "check") check (λ a b budgets operands is none. (refl, is, none)),
+      (
+        two_row (codes "replay") replay (λ a b budgets operands is none. (refl, is, none)),
+        (show_row, (trial_row, tt)),
+      ),
+    ),
+  ),
 )
 
 form_written : (table : List (Word × Form)) → AreRows table → (name : Word) (form : Form) → option_map (λ row. row.1) (find (λ row. bytes_eq name row.0) table) ≡ Some form

@@ -107,7 +107,7 @@ one_more : (make : Word → Option PlainCommand) (a b : Word) (budgets operands 
 one_more make a b [] operands = refl
 one_more make a b (n ∷ budgets) operands = refl
 
-two_more : (make : Word → Word → Option PlainCommand) (a b d : Word) (budgets operands : List Word) → two make budgets (a ∷ b ∷ d ∷ operands) ≡ None
+two_more : (make : Word → Word → PlainCommand) (a b d : Word) (budgets operands : List Word) → two make budgets (a ∷ b ∷ d ∷ operands) ≡ None
 two_more make a b d [] operands = refl
 two_more make a b d (n ∷ budgets) operands = refl
 
@@ -131,7 +131,7 @@ module _ (name id : Word) where
   one_reads make = operands_reads name (id ∷ []) (one_in id make) (one make) (one_chain make)
 
   module _ (other : Word) (differs : bytes_eq id other ≡ false) (differs_too : bytes_eq other id ≡ false) where
-    two_chain : (make : Word → Word → Option PlainCommand)
+    two_chain : (make : Word → Word → PlainCommand)
         → Chain (two_in id other make) name (filled_from 1 (operand_rules (id ∷ other ∷ []))) (Never (two_in id other make) name (filled_from 1 (operand_rules (id ∷ other ∷ [])))) [] 1 (id ∷ other ∷ []) (two make)
     unfolding defaults_fault
     two_chain make = (
@@ -150,7 +150,7 @@ module _ (name id : Word) where
       ),
     )
 
-    pub two_reads : (make : Word → Word → Option PlainCommand) (words : List Word) → Classes words
+    pub two_reads : (make : Word → Word → PlainCommand) (words : List Word) → Classes words
         → option_and_then (two_in id other make) (run (leaf_of name (operand_rules (id ∷ other ∷ []))) (walk_from nothing_held) words) ≡ made_of (two make) (arguments_of words)
     two_reads make = operands_reads name (id ∷ other ∷ []) (two_in id other make) (two make) (two_chain make)
 
@@ -176,7 +176,7 @@ one_subcommand name not_ends id make = record {
   reads = one_reads name id make;
 }
 
-abbrev two_subcommand : (name : Word) → bytes_eq name (codes "--") ≡ false → (id other : Word) → bytes_eq id other ≡ false → bytes_eq other id ≡ false → (Word → Word → Option PlainCommand) → Subcommand
+abbrev two_subcommand : (name : Word) → bytes_eq name (codes "--") ≡ false → (id other : Word) → bytes_eq id other ≡ false → bytes_eq other id ≡ false → (Word → Word → PlainCommand) → Subcommand
 two_subcommand name not_ends id other differs differs_too make = record {
   name = name;
   not_ends = not_ends;
@@ -190,8 +190,8 @@ pub all : List Subcommand
 all =
     budgeted_subcommand (codes "verify") refl verify
     ∷ budgeted_subcommand (codes "derive") refl derive
-    ∷ two_subcommand (codes "check") refl (codes "file") (codes "derivation") refl refl (λ file derivation. Some (check file derivation))
-    ∷ two_subcommand (codes "replay") refl (codes "file") (codes "schedule") refl refl (λ file schedule. Some (replay file schedule))
+    ∷ two_subcommand (codes "check") refl (codes "file") (codes "derivation") refl refl check
+    ∷ two_subcommand (codes "replay") refl (codes "file") (codes "schedule") refl refl replay
     ∷ one_subcommand (codes "show") refl (codes "file") (λ file. Some (show file))
     ∷ one_subcommand (codes "trial") refl (codes "number") (λ n. option_map trial (number_within 1 50 n))
     ∷ []

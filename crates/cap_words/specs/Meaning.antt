@@ -1,5 +1,6 @@
 -- Which words are which command.
-use Rattle.std.specs.Prelude.{ℕ, ◌==◌, Bool, false, List, [], ◌∷◌, Option, Some, None, option_map, option_and_then, find, if◌then◌else◌, codes}
+use Rattle.std.specs.Prelude.{ℕ, ◌==◌, Bool, false, List, [], ◌∷◌, Option, Some, None, codes}
+use Rattle.std.specs.Prelude.{option_map, option_and_then, find, if◌then◌else◌}
 use Rattle.std.specs.Str.{bytes_eq}
 use Rattle.cap_words.specs.Number.{number_within}
 
@@ -7,6 +8,7 @@ use Rattle.cap_words.specs.Number.{number_within}
 abbrev pub Word : Type 0
 Word = List ℕ
 
+-- a command: words stand for files, numbers for a budget or a trial
 pub data PlainCommand : Type 0 where
   verify : Word → ℕ → PlainCommand
   derive : Word → ℕ → PlainCommand
@@ -43,8 +45,8 @@ abbrev pub joined_or_operand : Option Word → Word → Option Arguments → Opt
 joined_or_operand (Some n) w others = with_budget n others
 joined_or_operand None w others = if begins_option w then None else with_operand w others
 
--- The arguments that the words give. Before the first `--` the option is `--budget` and the next word, or
--- `--budget=N`, and no other word begins with `-`. The words after the first `--` are operands.
+-- The arguments that the words give. Before the first `--` the option is `--budget` and the next
+-- word, or `--budget=N`, and no other word begins with `-`. The words after it are operands.
 abbrev mutual
   pub arguments_of : List Word → Option Arguments
   arguments_of [] = Some (record { budgets = []; operands = [] })
@@ -56,7 +58,8 @@ abbrev mutual
   -- the word before was `--budget`
   pub arguments_after_option : List Word → Option Arguments
   arguments_after_option [] = None
-  arguments_after_option (n ∷ words) = if begins_option n then None else with_budget n (arguments_of words)
+  arguments_after_option (n ∷ words) =
+      if begins_option n then None else with_budget n (arguments_of words)
 
 -- ---- the commands
 
@@ -84,16 +87,17 @@ one make [] (a ∷ []) = make a
 one make _ _ = None
 
 -- two operands
-abbrev pub two : (Word → Word → Option PlainCommand) → Form
-two make [] (a ∷ b ∷ []) = make a b
+abbrev pub two : (Word → Word → PlainCommand) → Form
+two make [] (a ∷ b ∷ []) = Some (make a b)
 two make _ _ = None
 
+-- each command's name and form
 abbrev pub forms : List (Word × Form)
 forms =
     (codes "verify", budgeted verify)
     ∷ (codes "derive", budgeted derive)
-    ∷ (codes "check", two (λ file derivation. Some (check file derivation)))
-    ∷ (codes "replay", two (λ file schedule. Some (replay file schedule)))
+    ∷ (codes "check", two check)
+    ∷ (codes "replay", two replay)
     ∷ (codes "show", one (λ file. Some (show file)))
     ∷ (codes "trial", one (λ n. option_map trial (number_within 1 50 n)))
     ∷ []
@@ -106,4 +110,5 @@ form_of name = option_map (λ row. row.1) (find (λ row. bytes_eq name row.0) fo
 abbrev pub command_of : List Word → Option PlainCommand
 command_of [] = None
 command_of (name ∷ words) =
-    option_and_then (λ form. option_and_then (λ a. form a.budgets a.operands) (arguments_of words)) (form_of name)
+    option_and_then (λ form. option_and_then (λ a. form a.budgets a.operands) (arguments_of words))
+    (form_of name)

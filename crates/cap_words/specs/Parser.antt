@@ -1,12 +1,15 @@
 -- The parser that `clap` runs, and what is read of its matches.
-use Rattle.std.specs.Prelude.{◌≡◌, ℕ, ◌||◌, Bool, true, false, List, [], ◌∷◌, Option, Some, None, option_map, option_and_then, find, fold, map, if◌then◌else◌, codes}
+use Rattle.std.specs.Prelude.{◌≡◌, ℕ, ◌||◌, Bool, true, false, List, [], ◌∷◌, Option, Some, None, codes}
+use Rattle.std.specs.Prelude.{option_map, option_and_then, find, fold, map, if◌then◌else◌}
 use Rattle.std.specs.Str.{bytes_eq}
 use Rattle.clap.specs.Walk.{Row, Rule, first_of}
-use Rattle.clap.specs.Simple.{App, Shape, app_of, new_app, new_rule, new_shape, on_top, with_subcommand}
+use Rattle.clap.specs.Simple.{App, Shape, app_of, new_app, new_rule, new_shape, on_top}
+use Rattle.clap.specs.Simple.{with_subcommand}
 use Rattle.clap.specs.declared.builder.command.Command.{Command}
 use Rattle.clap.specs.declared.builder.command.Command.TheViews.{out-Command}
 use Rattle.cap_words.specs.Number.{number_within}
-use Rattle.cap_words.specs.Meaning.{PlainCommand, Word, verify, derive, check, replay, show, trial, default_budget}
+use Rattle.cap_words.specs.Meaning.{PlainCommand, Word, default_budget}
+use Rattle.cap_words.specs.Meaning.{verify, derive, check, replay, show, trial}
 
 -- ---- `-` alone, which `clap` takes for an operand
 
@@ -54,11 +57,14 @@ bare_app = on_top (λ s. record s {
 }) (new_app (codes "caper"))
 
 abbrev pub caper_app : App
-caper_app = fold (λ app sub. with_subcommand app (subcommand_of_rules sub.0 sub.1)) bare_app subcommands
+caper_app =
+    fold (λ app sub. with_subcommand app (subcommand_of_rules sub.0 sub.1)) bare_app subcommands
 
 -- a subcommand of this name and these arguments
 abbrev pub IsSubcommand : Word → List Rule → Command → Type 0
-IsSubcommand name rules c = (app_of c ≡ record { top = subcommand_of_rules name rules; subs = [] }) × ((out-Command c).has_globals ≡ false)
+IsSubcommand name rules c =
+    (app_of c ≡ record { top = subcommand_of_rules name rules; subs = [] })
+    × ((out-Command c).has_globals ≡ false)
 
 -- ---- what is read of the rows of a subcommand
 
@@ -80,20 +86,21 @@ budgeted_in make rows =
 abbrev pub one_in : Word → (Word → Option PlainCommand) → Reading
 one_in id make rows = option_and_then make (first_of id rows)
 
-abbrev pub two_in : Word → Word → (Word → Word → Option PlainCommand) → Reading
+abbrev pub two_in : Word → Word → (Word → Word → PlainCommand) → Reading
 two_in id other make rows =
-    option_and_then (λ a. option_and_then (make a) (first_of other rows)) (first_of id rows)
+    option_and_then (λ a. option_map (make a) (first_of other rows)) (first_of id rows)
 
 abbrev pub readings : List (Word × Reading)
 readings =
     (codes "verify", budgeted_in verify)
     ∷ (codes "derive", budgeted_in derive)
-    ∷ (codes "check", two_in (codes "file") (codes "derivation") (λ file derivation. Some (check file derivation)))
-    ∷ (codes "replay", two_in (codes "file") (codes "schedule") (λ file schedule. Some (replay file schedule)))
+    ∷ (codes "check", two_in (codes "file") (codes "derivation") check)
+    ∷ (codes "replay", two_in (codes "file") (codes "schedule") replay)
     ∷ (codes "show", one_in (codes "file") (λ file. Some (show file)))
     ∷ (codes "trial", one_in (codes "number") (λ n. option_map trial (number_within 1 50 n)))
     ∷ []
 
 -- what is read of the rows of the subcommand of this name
 abbrev pub command_in : Word → List Row → Option PlainCommand
-command_in name rows = option_and_then (λ row. row.1 rows) (find (λ row. bytes_eq name row.0) readings)
+command_in name rows =
+    option_and_then (λ row. row.1 rows) (find (λ row. bytes_eq name row.0) readings)

@@ -1,6 +1,7 @@
 -- What a command of the code is to the definition.
 use Rattle.cap_words.specs.declared.command.Command.{Command}
-use Rattle.cap_words.specs.declared.command.Command.TheVariants.{Verify, Derive, Check, Replay, Show, Trial}
+use Rattle.cap_words.specs.declared.command.Command.TheVariants.{Verify, Derive, Check, Replay}
+use Rattle.cap_words.specs.declared.command.Command.TheVariants.{Show, Trial}
 use Rattle.cap_words.specs.Meaning.{PlainCommand, verify, derive, check, replay, show, trial}
 
 abbrev pub command_view : Command → PlainCommand

@@ -1,10 +1,12 @@
 -- The ways to write a command.
-use Rattle.std.specs.Prelude.{◌≡◌, ℕ, ◌≤◌, ◌⊎◌, false, List, [], ◌∷◌, ◌++◌, Option, Some, None, codes}
+use Rattle.std.specs.Prelude.{◌≡◌, ℕ, ◌≤◌, ◌⊎◌, false, List, [], ◌∷◌, ◌++◌, codes}
+use Rattle.std.specs.Prelude.{Option, Some, None}
 use Rattle.std.specs.List.{All}
 use Rattle.std.specs.Fmt.{decimal}
-use Rattle.cap_words.specs.Meaning.{Arguments, PlainCommand, Word, verify, derive, check, replay, show, trial, begins_option, default_budget}
+use Rattle.cap_words.specs.Meaning.{PlainCommand, Word, begins_option, default_budget}
+use Rattle.cap_words.specs.Meaning.{verify, derive, check, replay, show, trial}
 
--- a piece of the words before any `--`: an operand, or the option with its value, in two words or in one
+-- a piece of the words before any `--`: an operand, or the option with its value, as two words or one
 pub data Piece : Type 0 where
   operand : Word → Piece
   apart : Word → Piece
@@ -53,21 +55,26 @@ pub record IsNumber (least most : ℕ) (word : Word) (n : ℕ) : Type 0 where
 -- the option's value, at most one, is the budget; without it the budget is the usual one
 abbrev pub IsBudget : List Word → ℕ → Type 0
 IsBudget budgets n =
-    ((budgets ≡ []) × (n ≡ default_budget)) ⊎ ((word : Word) × (budgets ≡ word ∷ []) × IsNumber 1 1000000000 word n)
+    ((budgets ≡ []) × (n ≡ default_budget))
+    ⊎ ((word : Word) × (budgets ≡ word ∷ []) × IsNumber 1 1000000000 word n)
 
 -- the command has this name, these values of the option and these operands
 abbrev pub HasForm : PlainCommand → Word → List Word → List Word → Type 0
-HasForm (verify file n) name budgets operands = (name ≡ codes "verify") × (operands ≡ file ∷ []) × IsBudget budgets n
-HasForm (derive file n) name budgets operands = (name ≡ codes "derive") × (operands ≡ file ∷ []) × IsBudget budgets n
+HasForm (verify file n) name budgets operands =
+    (name ≡ codes "verify") × (operands ≡ file ∷ []) × IsBudget budgets n
+HasForm (derive file n) name budgets operands =
+    (name ≡ codes "derive") × (operands ≡ file ∷ []) × IsBudget budgets n
 HasForm (check file derivation) name budgets operands =
     (name ≡ codes "check") × (operands ≡ file ∷ derivation ∷ []) × (budgets ≡ [])
 HasForm (replay file schedule) name budgets operands =
     (name ≡ codes "replay") × (operands ≡ file ∷ schedule ∷ []) × (budgets ≡ [])
-HasForm (show file) name budgets operands = (name ≡ codes "show") × (operands ≡ file ∷ []) × (budgets ≡ [])
+HasForm (show file) name budgets operands =
+    (name ≡ codes "show") × (operands ≡ file ∷ []) × (budgets ≡ [])
 HasForm (trial n) name budgets operands =
-    (name ≡ codes "trial") × ((word : Word) × (operands ≡ word ∷ []) × IsNumber 1 50 word n) × (budgets ≡ [])
+    (name ≡ codes "trial")
+    × ((word : Word) × (operands ≡ word ∷ []) × IsNumber 1 50 word n) × (budgets ≡ [])
 
--- the words write the command: its name, and then pieces and perhaps `--` with what its form asks for
+-- the words write the command: its name, and then pieces and perhaps `--`, as its form asks
 pub record IsWritten (words : List Word) (command : PlainCommand) : Type 0 where
   pub name : Word
   pub pieces : List Piece

@@ -1,16 +1,19 @@
 /// A command, with the words and numbers that it was given.
+///
+/// A budget bounds the cost of the search for each unit's proof: it is from 1 to 1,000,000,000, and
+/// 200,000 where the words give none.
 #[derive(Debug, Clone, Copy, PartialEq, Eq)]
 pub enum Command<'a> {
-    /// Verifies the program of a file, with a bound on the cost of a unit's search.
+    /// Verifies the program in a file.
     Verify { file: &'a str, budget: u64 },
-    /// The same, and prints the derivation where all is proved.
+    /// Verifies the program in a file, and writes its derivation where all of it is proved.
     Derive { file: &'a str, budget: u64 },
-    /// Judges the derivation in one file for the program of another.
+    /// Judges the derivation in a file for the program in another.
     Check { file: &'a str, derivation: &'a str },
-    /// Runs the program of a file along the schedule of another.
+    /// Runs the program in a file along the schedule in another.
     Replay { file: &'a str, schedule: &'a str },
-    /// Prints the canonical text of a file.
+    /// Writes the program in a file in its canonical layout.
     Show { file: &'a str },
-    /// Verifies a program made from a number, which is from 1 to 50.
+    /// Verifies a large program that is made from the number, which is from 1 to 50.
     Trial { number: u32 },
 }

@@ -1,11 +1,12 @@
 ghost use Rattle.std.specs.Prelude.{◌≡◌, ◌∷◌, IfOk, codes, false, map};
 ghost use Rattle.clap.specs.Words.{app_of, rule_of};
-ghost use Rattle.cap_words.specs.Parser.{IsSubcommand, budget_rule, budgeted_rules, caper_app, operand_rule, operand_rules};
+ghost use Rattle.cap_words.specs.Parser.{IsSubcommand, budget_rule, budgeted_rules, caper_app};
+ghost use Rattle.cap_words.specs.Parser.{operand_rule, operand_rules};
 
 use clap::{Arg, Command};
 use std::alloc::{AllocError, Global};
 
-// A word that has to be there.
+// An operand, which has to be there.
 fn operand<'a>(alloc: Global, id: &'a str) -> Arg<'a>
     ensures rule { rule_of result ≡ operand_rule id.entry.now }
     ensures local { result.global ≡ false }
@@ -27,7 +28,8 @@ fn with_operands<'a>(
     name: &'a str,
     operands: &[&'a str],
 ) -> Result<Command<'a>, AllocError>
-    ensures { IfOk result (IsSubcommand name.entry.now (operand_rules (map (λ id. id.now) operands.entry.now))) }
+    ensures { let ids = map (λ id. id.now) operands.entry.now in
+        IfOk result (IsSubcommand name.entry.now (operand_rules ids)) }
 {
     let mut command = Command::new(alloc, name);
     for id in operands {
@@ -47,7 +49,8 @@ fn budgeted<'a>(alloc: Global, name: &'a str) -> Result<Command<'a>, AllocError>
     )
 }
 
-/// The parser of the words after the program's name.
+/// The parser of the words after the program's name: one level of subcommands, all values as text,
+/// and no help.
 pub(crate) fn parser<'a>(alloc: Global) -> Result<Command<'a>, AllocError>
     ensures { IfOk result (λ c. app_of c ≡ caper_app) }
 {

@@ -28,13 +28,61 @@ fn words_that_are_commands(rt: HostRuntime) -> Result<(), Fail> {
         ("verify a --budget 1", "a", 1),
         ("verify a --budget=1000000000 --", "a", 1_000_000_000),
     ] {
-        assert!(rt; is_command(&rt, line, Command::Verify { file, budget })?, "{line}");
+        assert!(rt;
+            is_command(&rt, line, Command::Verify { file, budget })?,
+            "{line}"
+        );
     }
-    assert!(rt; is_command(&rt, "derive d --budget=10", Command::Derive { file: "d", budget: 10 })?);
-    assert!(rt; is_command(&rt, "check a b", Command::Check { file: "a", derivation: "b" })?);
-    assert!(rt; is_command(&rt, "check a -- --", Command::Check { file: "a", derivation: "--" })?);
-    assert!(rt; is_command(&rt, "replay a b --", Command::Replay { file: "a", schedule: "b" })?);
-    assert!(rt; is_command(&rt, "replay -- -a -b", Command::Replay { file: "-a", schedule: "-b" })?);
+    assert!(rt;
+        is_command(
+            &rt,
+            "derive d --budget=10",
+            Command::Derive {
+                file: "d",
+                budget: 10
+            }
+        )?
+    );
+    assert!(rt;
+        is_command(
+            &rt,
+            "check a b",
+            Command::Check {
+                file: "a",
+                derivation: "b"
+            }
+        )?
+    );
+    assert!(rt;
+        is_command(
+            &rt,
+            "check a -- --",
+            Command::Check {
+                file: "a",
+                derivation: "--"
+            }
+        )?
+    );
+    assert!(rt;
+        is_command(
+            &rt,
+            "replay a b --",
+            Command::Replay {
+                file: "a",
+                schedule: "b"
+            }
+        )?
+    );
+    assert!(rt;
+        is_command(
+            &rt,
+            "replay -- -a -b",
+            Command::Replay {
+                file: "-a",
+                schedule: "-b"
+            }
+        )?
+    );
     assert!(rt; is_command(&rt, "show -- -", Command::Show { file: "-" })?);
     assert!(rt; is_command(&rt, "show show", Command::Show { file: "show" })?);
     assert!(rt; is_command(&rt, "trial 1", Command::Trial { number: 1 })?);
