@@ -1,12 +1,12 @@
 -- The calls that make the parser.
-use Rattle.std.proofs.Common.{◌≡◌, ◌∙◌, ◌+◌, ◌<◌, ◌++◌, ◌∷◌, ℕ, suc, [], true, List, Bor, map, drop, length, get_or, refl, sym, ap, ap₂, add-one, append_assoc, codes}
+use Rattle.std.proofs.Common.{◌≡◌, ◌∙◌, ◌+◌, ◌<◌, ◌++◌, ◌∷◌, ℕ, suc, [], true, List, Bor, map, drop, length, get_or, sym, ap, ap₂, add-one, append_assoc, codes}
 use Rattle.std.proofs.Math.Seq.{drop-cons}
 use Rattle.clap.specs.Words.{AddsSubcommand, App, Rule, app_of, new_app, with_rule, with_subcommand}
-use Rattle.clap.specs.Simple.{Shape, app_of_fields, on_top}
+use Rattle.clap.specs.Simple.{app_of_fields, on_top}
 use Rattle.clap.specs.declared.builder.command.Command.{Command}
 use Rattle.clap.specs.declared.builder.command.Command.TheViews.{out-Command}
 use Rattle.clap.specs.declared.builder.command.Command.TheOpen.{Command-F}
-use Rattle.cap_words.specs.Meaning.{Word}
+use Rattle.cap_words.specs.Meaning.{CommandWord}
 use Rattle.cap_words.specs.Parser.{IsSubcommand, bare_app, operand_rule, operand_rules, subcommand_of_rules}
 
 abbrev pub with_rules : List Rule → App → App
@@ -18,18 +18,18 @@ with_rules-cons old new r rules e =
     ap (with_rules rules) e ∙ ap (λ (rs : List Rule). on_top (λ s. record s { rules = rs }) old) (append_assoc old.top.rules (r ∷ []) rules)
 
 -- the same of the operands that are still to be added
-pub operands_after : (ids : List (Bor Word)) (i : ℕ) (d : Bor Word) (old new whole : App) (r : Rule) → i < length ids → r ≡ operand_rule (get_or ids i d).now
+pub operands_after : (ids : List (Bor CommandWord)) (i : ℕ) (d : Bor CommandWord) (old new whole : App) (r : Rule) → i < length ids → r ≡ operand_rule (get_or ids i d).now
     → new ≡ with_rule old r → with_rules (operand_rules (map (λ id. id.now) (drop i ids))) old ≡ whole
     → with_rules (operand_rules (map (λ id. id.now) (drop (i + 1) ids))) new ≡ whole
 operands_after ids i d old new whole r inside is adds e =
-    let others : List (Bor Word) → List Rule = λ bs. operand_rules (map (λ id. id.now) bs) in
+    let others : List (Bor CommandWord) → List Rule = λ bs. operand_rules (map (λ id. id.now) bs) in
     rw (add-one i)
     (with_rules-cons old new r (others (drop (suc i) ids)) adds
     ∙ ap (λ (a : Rule). with_rules (a ∷ others (drop (suc i) ids)) old) is
-    ∙ sym (ap (λ (bs : List (Bor Word)). with_rules (others bs) old) (drop-cons ids i d inside))
+    ∙ sym (ap (λ (bs : List (Bor CommandWord)). with_rules (others bs) old) (drop-cons ids i d inside))
     ∙ e)
 
-pub added : (old sub new : Command) (name : Word) (rules : List Rule) (a : App) → AddsSubcommand old sub new → IsSubcommand name rules sub → app_of old ≡ a
+pub added : (old sub new : Command) (name : CommandWord) (rules : List Rule) (a : App) → AddsSubcommand old sub new → IsSubcommand name rules sub → app_of old ≡ a
     → app_of new ≡ with_subcommand a (subcommand_of_rules name rules)
 added old sub new name rules a adds is e = adds.shape is.1 ∙ ap₂ with_subcommand e (ap (λ (b : App). b.top) is.0)
 

@@ -4,7 +4,7 @@ use Rattle.std.specs.Prelude.{Box, String, option_map, string_bytes}
 use Rattle.std.specs.Box.{box_value}
 use Rattle.std.proofs.lemmas.Str.{IsUtf8-string_bytes}
 use Rattle.clap.specs.Words.{App, HasMatchesOf, IsAmong, Row, app_of, fault_of, is_simple, is_simple_and_free, subcommand_name_of, subcommand_of, subcommand_rows, subcommand_rows_of}
-use Rattle.clap.specs.Simple.{built, entered, names_of}
+use Rattle.clap.specs.Simple.{entered, names_of}
 use Rattle.clap.specs.Walk.{nothing_held, stop_after}
 use Rattle.clap.specs.Faults.{built_fault}
 use Rattle.clap.specs.Kinds.{Kinds}
@@ -14,11 +14,11 @@ use Rattle.clap.specs.declared.error.kind.ErrorKind.TheVariants.{OutOfMemory}
 use Rattle.clap.specs.declared.parser.matches.ArgMatches.{ArgMatches}
 use Rattle.clap.specs.declared.parser.matches.ArgMatches.TheViews.{out-ArgMatches, out-SubCommand}
 use Rattle.clap.specs.declared.parser.matches.SubCommand.{SubCommand}
-use Rattle.cap_words.specs.Meaning.{Word, command_of}
+use Rattle.cap_words.specs.Meaning.{CommandWord, command_of}
 use Rattle.cap_words.specs.Parser.{caper_app, command_in, has_lone_dash}
-use Rattle.cap_words.proofs.Classes.{AreTexts, classes_of}
+use Rattle.cap_words.proofs.Classes.{AreTexts, word_classes_of}
 use Rattle.cap_words.proofs.Leaf.{is_clear}
-use Rattle.cap_words.proofs.Parse.{app, exact, outcome, read, reading_of}
+use Rattle.cap_words.proofs.Parse.{exact, outcome, read, reading_of}
 use Rattle.cap_words.proofs.Subcommands.{all, parser_is}
 use Rattle.cap_words.proofs.Tables.{command_in-reading, command_of-meaning}
 
@@ -33,17 +33,17 @@ simple : is_simple caper_app ≡ true
 simple = refl
 
 -- what a parse of the words gives, where it does not fail
-outcome_is : (words : List Word) → cond (is_clear (fault_of caper_app words)) (subcommand_of caper_app words) None ≡ outcome all words
+outcome_is : (words : List CommandWord) → cond (is_clear (fault_of caper_app words)) (subcommand_of caper_app words) None ≡ outcome all words
 unfolding outcome
 outcome_is words = ap (λ (a : App). cond (is_clear (built_fault a nothing_held words)) (entered a (stop_after a.top.rules (names_of a) words)) None) parser_is
 
-among_none : (k : ErrorKind) (kinds : Kinds) (o : Option (Word × List Row)) → IsAmong k kinds → cond (is_clear kinds) o None ≡ None
+among_none : (k : ErrorKind) (kinds : Kinds) (o : Option (CommandWord × List Row)) → IsAmong k kinds → cond (is_clear kinds) o None ≡ None
 among_none k [] o h = absurd h
 among_none k (x ∷ kinds) o h = refl
 
-module _ (command : Command) (words : List Word) (is : app_of command ≡ caper_app) (texts : AreTexts words) (whole : has_lone_dash words ≡ false) where
+module _ (command : Command) (words : List CommandWord) (is : app_of command ≡ caper_app) (texts : AreTexts words) (whole : has_lone_dash words ≡ false) where
   exact_here : read all (cond (is_clear (fault_of caper_app words)) (subcommand_of caper_app words) None) ≡ command_of words
-  exact_here = ap (read all) (outcome_is words) ∙ exact all words (classes_of words texts whole) ∙ sym (command_of-meaning words)
+  exact_here = ap (read all) (outcome_is words) ∙ exact all words (word_classes_of words texts whole) ∙ sym (command_of-meaning words)
 
   pub taken : (m : ArgMatches) → fault_of (app_of command) words ≡ [] → HasMatchesOf (app_of command) words m → read all (subcommand_rows_of m) ≡ command_of words
   taken m free found =
@@ -59,14 +59,14 @@ module _ (command : Command) (words : List Word) (is : app_of command ≡ caper_
 
 -- ---- the subcommand that was met
 
-names_in : {Z : Type 0} (o : Option (Box SubCommand Z)) → option_map (λ b. (out-SubCommand (box_value b)).name.now) o ≡ option_map (λ (p : Word × List Row). p.0) (subcommand_rows o)
+names_in : {Z : Type 0} (o : Option (Box SubCommand Z)) → option_map (λ b. (out-SubCommand (box_value b)).name.now) o ≡ option_map (λ (p : CommandWord × List Row). p.0) (subcommand_rows o)
 names_in None = refl
 names_in (Some b) = refl
 
-name_in : (m : ArgMatches) → subcommand_name_of m ≡ option_map (λ (p : Word × List Row). p.0) (subcommand_rows_of m)
+name_in : (m : ArgMatches) → subcommand_name_of m ≡ option_map (λ (p : CommandWord × List Row). p.0) (subcommand_rows_of m)
 name_in m = names_in (out-ArgMatches m).subcommand
 
-met : (o : Option (Word × List Row)) (name : Word) (rows : List Row) → Some name ≡ option_map (λ p. p.0) o → Some rows ≡ option_map (λ p. p.1) o
+met : (o : Option (CommandWord × List Row)) (name : CommandWord) (rows : List Row) → Some name ≡ option_map (λ p. p.0) o → Some rows ≡ option_map (λ p. p.1) o
     → reading_of all name rows ≡ read all o
 met None name rows n r = cc
 met (Some p) name rows n r =
@@ -74,6 +74,6 @@ met (Some p) name rows n r =
     let b : rows ≡ p.1 = cc in
     ap₂ (reading_of all) a b
 
-pub met_is : (m : ArgMatches) (name : Word) (rows : List Row) → Some name ≡ subcommand_name_of m → Some rows ≡ option_map (λ p. p.1) (subcommand_rows_of m)
+pub met_is : (m : ArgMatches) (name : CommandWord) (rows : List Row) → Some name ≡ subcommand_name_of m → Some rows ≡ option_map (λ p. p.1) (subcommand_rows_of m)
     → command_in name rows ≡ read all (subcommand_rows_of m)
 met_is m name rows n r = command_in-reading name rows ∙ met (subcommand_rows_of m) name rows (n ∙ name_in m) r

@@ -1,18 +1,17 @@
 -- How `clap` parses the words of a subcommand whose arguments are operands and perhaps the option
 -- `--budget`: one word at a time, from any place of its walk.
-use Rattle.std.proofs.Common.{◌≡◌, ◌∙◌, ◌&&◌, ◌++◌, ℕ, Bool, cond, true, false, refl, sym, List, [], ◌∷◌, Option, Some, None, true≢false, codes}
+use Rattle.std.proofs.Common.{◌≡◌, ◌∙◌, ℕ, Bool, cond, true, false, refl, sym, List, [], ◌∷◌, Option, Some, None, true≢false, codes}
 use Rattle.std.specs.Prelude.{option_map}
 use Rattle.std.specs.List.{fold}
 use Rattle.std.specs.Str.{bytes_eq}
 use Rattle.clap.specs.Lexer.{long_of}
-use Rattle.clap.specs.Walk.{Held, Row, Rule, Waiting, Walk, idle, option, positional, after_step, arg_by_id, arg_by_index, arg_by_long, arg_by_short, finished, has_row, nothing_held, plain_word, rows_after, settled, settled_rows, subcommand_met, used, walk_from, walked}
+use Rattle.clap.specs.Walk.{Held, Row, Rule, Waiting, Walk, idle, option, positional, after_step, arg_by_id, arg_by_long, arg_by_short, finished, nothing_held, plain_word, rows_after, settled, subcommand_met, walk_from, walked}
 use Rattle.clap.specs.Simple.{Shape, filled, new_shape, with_index}
 use Rattle.clap.specs.Kinds.{Kinds, or_else}
 use Rattle.clap.specs.Faults.{check_fault, defaults_fault, flag_word_fault, flags_fault, level_fault, settle_fault, step_fault, turn_fault, walk_fault}
-use Rattle.cap_words.specs.Meaning.{Word, begins_option}
+use Rattle.cap_words.specs.Meaning.{CommandWord}
 use Rattle.cap_words.specs.Parser.{budget_rule, operand_rule}
-use Rattle.cap_words.proofs.Classes.{Class, Classes, IsFlag, IsOther, IsPlain, long, short, ends, joined, other, plain}
-use Rattle.cap_words.proofs.Classes as class
+use Rattle.cap_words.proofs.Classes.{IsFlag, IsOther, IsPlain, long, short}
 
 -- ---- the parse as a recursion over the words
 
@@ -26,11 +25,11 @@ at_end s h = cond (is_clear (or_else (settle_fault s.rules s.args_override_self 
     (or_else (defaults_fault (settled s.rules h).rows s.rules) (check_fault s (finished s.rules h) false)))) (Some (finished s.rules h)) None
 
 -- the rows of the words from a place of the walk on, where none is refused
-unfoldable pub run : Shape → Walk → List Word → Option (List Row)
+unfoldable pub run : Shape → Walk → List CommandWord → Option (List Row)
 run s w [] = at_end s w.held
 run s w (x ∷ xs) = cond (is_clear (turn_fault s [] w x)) (run s (walked s.rules [] w x) xs) None
 
-run_is : (s : Shape) (w : Walk) (words : List Word)
+run_is : (s : Shape) (w : Walk) (words : List CommandWord)
     → run s w words ≡ cond (is_clear (walk_fault s [] w words)) (at_end s (fold (walked s.rules []) w words).held) None
 unfolding run walk_fault
 run_is s w [] = refl
@@ -42,10 +41,10 @@ run_is s w (x ∷ xs) = rw (run_is s (walked s.rules [] w x) xs) (go (turn_fault
     go (k ∷ ks) = refl
 
 -- the rows of a subcommand, where it takes the words
-abbrev pub level : Shape → List Word → Option (List Row)
+abbrev pub level : Shape → List CommandWord → Option (List Row)
 level s words = cond (is_clear (level_fault s [] nothing_held words false [])) (Some (rows_after s.rules [] words)) None
 
-pub level_is : (s : Shape) (words : List Word) → level s words ≡ run s (walk_from nothing_held) words
+pub level_is : (s : Shape) (words : List CommandWord) → level s words ≡ run s (walk_from nothing_held) words
 level_is s words = go (walk_fault s [] (walk_from nothing_held) words) ∙ sym (run_is s (walk_from nothing_held) words)
   where
     end : Held
@@ -58,10 +57,10 @@ level_is s words = go (walk_fault s [] (walk_from nothing_held) words) ∙ sym (
 
 -- ---- places, and the arguments
 
-abbrev pub held : List Row → Option (Word × List Word) → Held
+abbrev pub held : List Row → Option (CommandWord × List CommandWord) → Held
 held rows pending = record { rows = rows; pending = pending; skip = 0 }
 
-abbrev pub place : List Row → Option (Word × List Word) → Waiting → ℕ → Bool → Walk
+abbrev pub place : List Row → Option (CommandWord × List CommandWord) → Waiting → ℕ → Bool → Walk
 place rows pending waiting position trailing = record {
   held = held rows pending;
   waiting = waiting;
@@ -71,19 +70,19 @@ place rows pending waiting position trailing = record {
 }
 
 -- the arguments of a command that is built
-abbrev pub operand : Word → ℕ → Rule
+abbrev pub operand : CommandWord → ℕ → Rule
 operand id position = with_index position (filled (operand_rule id))
 
 abbrev pub budget : Rule
 budget = filled budget_rule
 
 -- the operand at the position, if there is one
-abbrev pub operand_at : ℕ → Option Word → Option Rule
+abbrev pub operand_at : ℕ → Option CommandWord → Option Rule
 operand_at position = option_map (λ id. operand id position)
 
 -- no flag names an argument, but perhaps `--budget`
 pub record IsSparse (c : List Rule) : Type 0 where
-  pub long : (name : Word) → bytes_eq (codes "budget") name ≡ false → arg_by_long c name ≡ None
+  pub long : (name : CommandWord) → bytes_eq (codes "budget") name ≡ false → arg_by_long c name ≡ None
   pub short : (x : ℕ) → arg_by_short c x ≡ None
 
 pub record HasOption (c : List Rule) : Type 0 where
@@ -95,7 +94,7 @@ pub data Knows (c : List Rule) : Type 0 where
   lacks : arg_by_long c (codes "budget") ≡ None → Knows c
 
 -- the built subcommand
-abbrev pub leaf : Word → List Rule → Shape
+abbrev pub leaf : CommandWord → List Rule → Shape
 leaf name c = record (new_shape name) {
   rules = c;
   no_binary_name = true;
@@ -106,23 +105,23 @@ leaf name c = record (new_shape name) {
 
 -- ---- a word that begins with no `-`, and a flag that nothing answers to
 
-no_name : (waiting : Waiting) (word : Word) → subcommand_met [] waiting word ≡ None
+no_name : (waiting : Waiting) (word : CommandWord) → subcommand_met [] waiting word ≡ None
 no_name idle word = refl
 no_name (option id) word = refl
 no_name positional word = refl
 
 -- the word goes to the option that waits, or to an operand
-abbrev pub placed : Shape → Walk → Word → List Word → Option (List Row)
+abbrev pub placed : Shape → Walk → CommandWord → List CommandWord → Option (List Row)
 placed s w word rest =
     let p = plain_word s.rules w.waiting word w.held in
     cond (is_clear (step_fault s w.position p.0 p.1)) (run s (after_step s.rules word w p.0 p.1) rest) None
 
-pub run_plain : (s : Shape) (rows : List Row) (pending : Option (Word × List Word)) (waiting : Waiting) (position : ℕ) (word : Word) (rest : List Word)
+pub run_plain : (s : Shape) (rows : List Row) (pending : Option (CommandWord × List CommandWord)) (waiting : Waiting) (position : ℕ) (word : CommandWord) (rest : List CommandWord)
     → IsPlain word → run s (place rows pending waiting position false) (word ∷ rest) ≡ placed s (place rows pending waiting position false) word rest
 unfolding run walked
 run_plain s rows pending waiting position word rest p = rw (no_name waiting word, p.not_ends, p.no_long, p.no_short) refl
 
-pub flag_refused : (c : List Rule) (again : Bool) → IsSparse c → (word : Word) → IsFlag word → (rows : List Row) (pending : Option (Word × List Word))
+pub flag_refused : (c : List Rule) (again : Bool) → IsSparse c → (word : CommandWord) → IsFlag word → (rows : List Row) (pending : Option (CommandWord × List CommandWord))
     → is_clear (flag_word_fault c again (long_of word) word (held rows pending)) ≡ false
 unfolding flags_fault
 flag_refused c again sparse word (long name v is differs) rows pending = rw (is, sparse.long name differs) refl
@@ -132,7 +131,7 @@ stop : (first next : Kinds) (goes : Option (List Row)) → is_clear first ≡ fa
 stop [] next goes e = absurd (true≢false e)
 stop (k ∷ ks) next goes e = refl
 
-pub run_other : (s : Shape) → IsSparse s.rules → (rows : List Row) (pending : Option (Word × List Word)) (waiting : Waiting) (position : ℕ) (word : Word) (rest : List Word)
+pub run_other : (s : Shape) → IsSparse s.rules → (rows : List Row) (pending : Option (CommandWord × List CommandWord)) (waiting : Waiting) (position : ℕ) (word : CommandWord) (rest : List CommandWord)
     → IsOther word → run s (place rows pending waiting position false) (word ∷ rest) ≡ None
 unfolding run
 run_other s sparse rows pending waiting position word rest o =

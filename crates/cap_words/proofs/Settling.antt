@@ -1,13 +1,13 @@
 -- Where nothing waits for a value, what is pending may as well be used before the next word.
-use Rattle.std.proofs.Common.{◌≡◌, ◌∙◌, ◌&&◌, ◌++◌, ℕ, Bool, cond, true, false, refl, sym, List, [], ◌∷◌, Option, Some, None, codes}
+use Rattle.std.proofs.Common.{◌≡◌, ◌&&◌, ◌++◌, ℕ, Bool, cond, true, false, refl, List, [], ◌∷◌, Option, Some, None, codes}
 use Rattle.std.specs.Str.{bytes_eq}
-use Rattle.clap.specs.Walk.{Row, Rule, Waiting, idle, option, arg_by_id, arg_by_index, has_row, settled_rows, used, walked}
+use Rattle.clap.specs.Walk.{Row, Rule, Waiting, idle, arg_by_index, settled_rows, walked}
 use Rattle.clap.specs.Kinds.{Kinds, or_else}
-use Rattle.clap.specs.Faults.{defaults_fault, settle_fault}
-use Rattle.cap_words.specs.Meaning.{Word, begins_option}
-use Rattle.cap_words.proofs.Classes.{Class, Classes, IsPlain, ends, joined, other, plain}
+use Rattle.clap.specs.Faults.{settle_fault}
+use Rattle.cap_words.specs.Meaning.{CommandWord}
+use Rattle.cap_words.proofs.Classes.{WordClass, WordClasses, IsPlain, ends, joined, other, plain}
 use Rattle.cap_words.proofs.Classes as class
-use Rattle.cap_words.proofs.Leaf.{HasOption, IsSparse, Knows, budget, has, held, is_clear, lacks, leaf, operand, operand_at, place, run, run_other, run_plain}
+use Rattle.cap_words.proofs.Leaf.{IsSparse, Knows, has, held, is_clear, lacks, leaf, operand_at, place, run, run_other, run_plain}
 
 guard : (k next : Kinds) (o : Option (List Row)) → cond (is_clear (or_else k next)) o None ≡ cond (is_clear k) (cond (is_clear next) o None) None
 guard [] next o = refl
@@ -26,8 +26,8 @@ and_false : (b : Bool) → (b && false) ≡ false
 and_false true = refl
 and_false false = refl
 
-module _ (name : Word) (c : List Rule) (position : ℕ) (slot : Option Word) (stands : arg_by_index c position ≡ operand_at position slot)
-    (rows : List Row) (p : Word × List Word) where
+module _ (name : CommandWord) (c : List Rule) (position : ℕ) (slot : Option CommandWord) (stands : arg_by_index c position ≡ operand_at position slot)
+    (rows : List Row) (p : CommandWord × List CommandWord) where
   abbrev fault : Kinds
   fault = settle_fault c false (held rows (Some p))
 
@@ -35,21 +35,21 @@ module _ (name : Word) (c : List Rule) (position : ℕ) (slot : Option Word) (st
   after = settled_rows c (Some p) rows
 
   -- after `--`
-  pub settles_closed : (waiting : Waiting) (words : List Word)
+  pub settles_closed : (waiting : Waiting) (words : List CommandWord)
       → run (leaf name c) (place rows (Some p) waiting position true) words
       ≡ cond (is_clear fault) (run (leaf name c) (place after None waiting position true) words) None
   unfolding run walked
   settles_closed waiting [] = guard fault _ _
   settles_closed waiting (w ∷ words) = go slot stands
     where
-      go : (slot : Option Word) → arg_by_index c position ≡ operand_at position slot
+      go : (slot : Option CommandWord) → arg_by_index c position ≡ operand_at position slot
           → run (leaf name c) (place rows (Some p) waiting position true) (w ∷ words)
           ≡ cond (is_clear fault) (run (leaf name c) (place after None waiting position true) (w ∷ words)) None
       go None e = rw e (neither (is_clear fault))
       go (Some id) e = rw (e, and_false (bytes_eq p.0 id)) refl
 
   -- before it
-  pub settles : IsSparse c → Knows c → (words : List Word) → Classes words
+  pub settles : IsSparse c → Knows c → (words : List CommandWord) → WordClasses words
       → run (leaf name c) (place rows (Some p) idle position false) words
       ≡ cond (is_clear fault) (run (leaf name c) (place after None idle position false) words) None
   unfolding run walked
@@ -61,18 +61,18 @@ module _ (name : Word) (c : List Rule) (position : ℕ) (slot : Option Word) (st
       option_met (has h) = rw h.by_long (guard fault [] _)
       option_met (lacks e) = rw e (neither (is_clear fault))
 
-      joined_met : (n : Word) → Knows c → run (leaf name c) (place rows (Some p) idle position false) ((codes "--budget=" ++ n) ∷ words)
+      joined_met : (n : CommandWord) → Knows c → run (leaf name c) (place rows (Some p) idle position false) ((codes "--budget=" ++ n) ∷ words)
           ≡ cond (is_clear fault) (run (leaf name c) (place after None idle position false) ((codes "--budget=" ++ n) ∷ words)) None
       joined_met n (has h) = rw h.by_long (nested fault _ _ _)
       joined_met n (lacks e) = rw e (neither (is_clear fault))
 
-      plain_met : IsPlain w → (slot : Option Word) → arg_by_index c position ≡ operand_at position slot
+      plain_met : IsPlain w → (slot : Option CommandWord) → arg_by_index c position ≡ operand_at position slot
           → run (leaf name c) (place rows (Some p) idle position false) (w ∷ words)
           ≡ cond (is_clear fault) (run (leaf name c) (place after None idle position false) (w ∷ words)) None
       plain_met is None e = rw (run_plain (leaf name c) rows (Some p) idle position w words is, run_plain (leaf name c) after None idle position w words is, e) (neither (is_clear fault))
       plain_met is (Some id) e = rw (run_plain (leaf name c) rows (Some p) idle position w words is, run_plain (leaf name c) after None idle position w words is, e, and_false (bytes_eq p.0 id)) refl
 
-      go : Class w → run (leaf name c) (place rows (Some p) idle position false) (w ∷ words)
+      go : WordClass w → run (leaf name c) (place rows (Some p) idle position false) (w ∷ words)
           ≡ cond (is_clear fault) (run (leaf name c) (place after None idle position false) (w ∷ words)) None
       go (ends e) = rw e (settles_closed idle words)
       go (class.option e) = rw e (option_met knows)

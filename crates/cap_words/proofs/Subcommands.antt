@@ -7,14 +7,14 @@ use Rattle.clap.specs.Walk.{Rule, arg_by_long, arg_by_short, nothing_held, walk_
 use Rattle.clap.specs.Simple.{Shape, built, filled_from, new_shape}
 use Rattle.clap.specs.Faults.{defaults_fault}
 use Rattle.cap_words.specs.Number.{number_within}
-use Rattle.cap_words.specs.Meaning.{Form, forms, PlainCommand, Word, arguments_of, budgeted, one, two, verify, derive, check, replay, show, trial}
-use Rattle.cap_words.specs.Parser.{Reading, budgeted_in, budgeted_rules, caper_app, one_in, operand_rules, readings, two_in}
-use Rattle.cap_words.proofs.Classes.{Classes, equal_bytes}
-use Rattle.cap_words.proofs.Leaf.{HasOption, IsSparse, has, lacks, leaf, run}
+use Rattle.cap_words.specs.Meaning.{Signature, signatures, PlainCommand, CommandWord, arguments_of, file_and_budget, one_operand, two_operands, verify, derive, check, replay, show, trial}
+use Rattle.cap_words.specs.Parser.{RowReader, file_and_budget_in, budgeted_rules, caper_app, one_operand_in, operand_rules, row_readers, two_operands_in}
+use Rattle.cap_words.proofs.Classes.{WordClasses, equal_bytes}
+use Rattle.cap_words.proofs.Leaf.{HasOption, has, lacks, leaf, run}
 use Rattle.cap_words.proofs.Chain.{Chain, Never, Once, made_of, reads_with, reads_without}
 
 -- the subcommand's shape, built
-abbrev pub leaf_of : Word → List Rule → Shape
+abbrev pub leaf_of : CommandWord → List Rule → Shape
 leaf_of name rules = leaf name (filled_from 1 rules)
 
 -- the level above the subcommands
@@ -29,12 +29,12 @@ top_level = record (new_shape (codes "caper")) {
 }
 
 pub record Subcommand : Type 0 where
-  pub name : Word
+  pub name : CommandWord
   pub not_ends : bytes_eq name (codes "--") ≡ false
   pub rules : List Rule
-  pub reading : Reading
-  pub form : Form
-  pub reads : (words : List Word) → Classes words
+  pub reading : RowReader
+  pub form : Signature
+  pub reads : (words : List CommandWord) → WordClasses words
       → option_and_then reading (run (leaf_of name rules) (walk_from nothing_held) words) ≡ made_of form (arguments_of words)
 
 -- ---- one operand and the option
@@ -42,13 +42,13 @@ pub record Subcommand : Type 0 where
 has_budget : HasOption (filled_from 1 budgeted_rules)
 has_budget = record { by_long = refl; by_id = refl }
 
-two_budgets : (make : Word → ℕ → PlainCommand) (n m : Word) (budgets operands : List Word) → budgeted make (n ∷ m ∷ budgets) operands ≡ None
+two_budgets : (make : CommandWord → ℕ → PlainCommand) (n m : CommandWord) (budgets operands : List CommandWord) → file_and_budget make (n ∷ m ∷ budgets) operands ≡ None
 two_budgets make n m budgets [] = refl
 two_budgets make n m budgets (a ∷ []) = refl
 two_budgets make n m budgets (a ∷ b ∷ operands) = refl
 
-module _ (name : Word) (make : Word → ℕ → PlainCommand) where
-  budgeted_chain : Chain (budgeted_in make) name (filled_from 1 budgeted_rules) (Once (budgeted_in make) name (filled_from 1 budgeted_rules)) [] 1 (codes "file" ∷ []) (budgeted make)
+module _ (name : CommandWord) (make : CommandWord → ℕ → PlainCommand) where
+  budgeted_chain : Chain (file_and_budget_in make) name (filled_from 1 budgeted_rules) (Once (file_and_budget_in make) name (filled_from 1 budgeted_rules)) [] 1 (codes "file" ∷ []) (file_and_budget make)
   unfolding defaults_fault
   budgeted_chain = (
     record { slot = refl; ends = refl },
@@ -82,38 +82,38 @@ module _ (name : Word) (make : Word → ℕ → PlainCommand) where
     ),
   )
 
-  pub budgeted_reads : (words : List Word) → Classes words
-      → option_and_then (budgeted_in make) (run (leaf_of name budgeted_rules) (walk_from nothing_held) words) ≡ made_of (budgeted make) (arguments_of words)
-  budgeted_reads = reads_with (budgeted_in make) name (filled_from 1 budgeted_rules) (record { long = λ n e. rw e refl; short = λ x. refl })
-      (has has_budget) [] 1 (codes "file" ∷ []) (budgeted make) budgeted_chain
+  pub budgeted_reads : (words : List CommandWord) → WordClasses words
+      → option_and_then (file_and_budget_in make) (run (leaf_of name budgeted_rules) (walk_from nothing_held) words) ≡ made_of (file_and_budget make) (arguments_of words)
+  budgeted_reads = reads_with (file_and_budget_in make) name (filled_from 1 budgeted_rules) (record { long = λ n e. rw e refl; short = λ x. refl })
+      (has has_budget) [] 1 (codes "file" ∷ []) (file_and_budget make) budgeted_chain
 
 -- ---- operands alone
 
-no_long : (i : ℕ) (ids : List Word) (name : Word) → arg_by_long (filled_from i (operand_rules ids)) name ≡ None
+no_long : (i : ℕ) (ids : List CommandWord) (name : CommandWord) → arg_by_long (filled_from i (operand_rules ids)) name ≡ None
 no_long i [] name = refl
 no_long i (id ∷ ids) name = no_long (min (i + 1) usize_max) ids name
 
-no_short : (i : ℕ) (ids : List Word) (x : ℕ) → arg_by_short (filled_from i (operand_rules ids)) x ≡ None
+no_short : (i : ℕ) (ids : List CommandWord) (x : ℕ) → arg_by_short (filled_from i (operand_rules ids)) x ≡ None
 no_short i [] x = refl
 no_short i (id ∷ ids) x = no_short (min (i + 1) usize_max) ids x
 
-operands_reads : (name : Word) (ids : List Word) (reading : Reading) (form : Form)
+operands_reads : (name : CommandWord) (ids : List CommandWord) (reading : RowReader) (form : Signature)
     → Chain reading name (filled_from 1 (operand_rules ids)) (Never reading name (filled_from 1 (operand_rules ids))) [] 1 ids form
-    → (words : List Word) → Classes words → option_and_then reading (run (leaf_of name (operand_rules ids)) (walk_from nothing_held) words) ≡ made_of form (arguments_of words)
+    → (words : List CommandWord) → WordClasses words → option_and_then reading (run (leaf_of name (operand_rules ids)) (walk_from nothing_held) words) ≡ made_of form (arguments_of words)
 operands_reads name ids reading form = reads_without reading name (filled_from 1 (operand_rules ids))
     (record { long = λ n e. no_long 1 ids n; short = no_short 1 ids }) (lacks (no_long 1 ids (codes "budget"))) [] 1 ids form
 
-one_more : (make : Word → Option PlainCommand) (a b : Word) (budgets operands : List Word) → one make budgets (a ∷ b ∷ operands) ≡ None
+one_more : (make : CommandWord → Option PlainCommand) (a b : CommandWord) (budgets operands : List CommandWord) → one_operand make budgets (a ∷ b ∷ operands) ≡ None
 one_more make a b [] operands = refl
 one_more make a b (n ∷ budgets) operands = refl
 
-two_more : (make : Word → Word → PlainCommand) (a b d : Word) (budgets operands : List Word) → two make budgets (a ∷ b ∷ d ∷ operands) ≡ None
+two_more : (make : CommandWord → CommandWord → PlainCommand) (a b d : CommandWord) (budgets operands : List CommandWord) → two_operands make budgets (a ∷ b ∷ d ∷ operands) ≡ None
 two_more make a b d [] operands = refl
 two_more make a b d (n ∷ budgets) operands = refl
 
-module _ (name id : Word) where
-  one_chain : (make : Word → Option PlainCommand)
-      → Chain (one_in id make) name (filled_from 1 (operand_rules (id ∷ []))) (Never (one_in id make) name (filled_from 1 (operand_rules (id ∷ [])))) [] 1 (id ∷ []) (one make)
+module _ (name id : CommandWord) where
+  one_chain : (make : CommandWord → Option PlainCommand)
+      → Chain (one_operand_in id make) name (filled_from 1 (operand_rules (id ∷ []))) (Never (one_operand_in id make) name (filled_from 1 (operand_rules (id ∷ [])))) [] 1 (id ∷ []) (one_operand make)
   unfolding defaults_fault
   one_chain make = (
     record { slot = refl; ends = refl },
@@ -126,13 +126,13 @@ module _ (name id : Word) where
     ),
   )
 
-  pub one_reads : (make : Word → Option PlainCommand) (words : List Word) → Classes words
-      → option_and_then (one_in id make) (run (leaf_of name (operand_rules (id ∷ []))) (walk_from nothing_held) words) ≡ made_of (one make) (arguments_of words)
-  one_reads make = operands_reads name (id ∷ []) (one_in id make) (one make) (one_chain make)
+  pub one_reads : (make : CommandWord → Option PlainCommand) (words : List CommandWord) → WordClasses words
+      → option_and_then (one_operand_in id make) (run (leaf_of name (operand_rules (id ∷ []))) (walk_from nothing_held) words) ≡ made_of (one_operand make) (arguments_of words)
+  one_reads make = operands_reads name (id ∷ []) (one_operand_in id make) (one_operand make) (one_chain make)
 
-  module _ (other : Word) (differs : bytes_eq id other ≡ false) (differs_too : bytes_eq other id ≡ false) where
-    two_chain : (make : Word → Word → PlainCommand)
-        → Chain (two_in id other make) name (filled_from 1 (operand_rules (id ∷ other ∷ []))) (Never (two_in id other make) name (filled_from 1 (operand_rules (id ∷ other ∷ [])))) [] 1 (id ∷ other ∷ []) (two make)
+  module _ (other : CommandWord) (differs : bytes_eq id other ≡ false) (differs_too : bytes_eq other id ≡ false) where
+    two_chain : (make : CommandWord → CommandWord → PlainCommand)
+        → Chain (two_operands_in id other make) name (filled_from 1 (operand_rules (id ∷ other ∷ []))) (Never (two_operands_in id other make) name (filled_from 1 (operand_rules (id ∷ other ∷ [])))) [] 1 (id ∷ other ∷ []) (two_operands make)
     unfolding defaults_fault
     two_chain make = (
       record { slot = refl; ends = refl },
@@ -150,39 +150,39 @@ module _ (name id : Word) where
       ),
     )
 
-    pub two_reads : (make : Word → Word → PlainCommand) (words : List Word) → Classes words
-        → option_and_then (two_in id other make) (run (leaf_of name (operand_rules (id ∷ other ∷ []))) (walk_from nothing_held) words) ≡ made_of (two make) (arguments_of words)
-    two_reads make = operands_reads name (id ∷ other ∷ []) (two_in id other make) (two make) (two_chain make)
+    pub two_reads : (make : CommandWord → CommandWord → PlainCommand) (words : List CommandWord) → WordClasses words
+        → option_and_then (two_operands_in id other make) (run (leaf_of name (operand_rules (id ∷ other ∷ []))) (walk_from nothing_held) words) ≡ made_of (two_operands make) (arguments_of words)
+    two_reads make = operands_reads name (id ∷ other ∷ []) (two_operands_in id other make) (two_operands make) (two_chain make)
 
 -- ---- the subcommands of the parser
 
-abbrev budgeted_subcommand : (name : Word) → bytes_eq name (codes "--") ≡ false → (Word → ℕ → PlainCommand) → Subcommand
+abbrev budgeted_subcommand : (name : CommandWord) → bytes_eq name (codes "--") ≡ false → (CommandWord → ℕ → PlainCommand) → Subcommand
 budgeted_subcommand name not_ends make = record {
   name = name;
   not_ends = not_ends;
   rules = budgeted_rules;
-  reading = budgeted_in make;
-  form = budgeted make;
+  reading = file_and_budget_in make;
+  form = file_and_budget make;
   reads = budgeted_reads name make;
 }
 
-abbrev one_subcommand : (name : Word) → bytes_eq name (codes "--") ≡ false → Word → (Word → Option PlainCommand) → Subcommand
+abbrev one_subcommand : (name : CommandWord) → bytes_eq name (codes "--") ≡ false → CommandWord → (CommandWord → Option PlainCommand) → Subcommand
 one_subcommand name not_ends id make = record {
   name = name;
   not_ends = not_ends;
   rules = operand_rules (id ∷ []);
-  reading = one_in id make;
-  form = one make;
+  reading = one_operand_in id make;
+  form = one_operand make;
   reads = one_reads name id make;
 }
 
-abbrev two_subcommand : (name : Word) → bytes_eq name (codes "--") ≡ false → (id other : Word) → bytes_eq id other ≡ false → bytes_eq other id ≡ false → (Word → Word → PlainCommand) → Subcommand
+abbrev two_subcommand : (name : CommandWord) → bytes_eq name (codes "--") ≡ false → (id other : CommandWord) → bytes_eq id other ≡ false → bytes_eq other id ≡ false → (CommandWord → CommandWord → PlainCommand) → Subcommand
 two_subcommand name not_ends id other differs differs_too make = record {
   name = name;
   not_ends = not_ends;
   rules = operand_rules (id ∷ other ∷ []);
-  reading = two_in id other make;
-  form = two make;
+  reading = two_operands_in id other make;
+  form = two_operands make;
   reads = two_reads name id other differs differs_too make;
 }
 
@@ -202,10 +202,10 @@ pub parser_is : built caper_app ≡ record { top = top_level; subs = map (λ s. 
 unfolding all
 parser_is = refl
 
-pub readings_are : readings ≡ map (λ s. (s.name, s.reading)) all
+pub row_readers_are : row_readers ≡ map (λ s. (s.name, s.reading)) all
 unfolding all
-readings_are = refl
+row_readers_are = refl
 
-pub forms_are : forms ≡ map (λ s. (s.name, s.form)) all
+pub signatures_are : signatures ≡ map (λ s. (s.name, s.form)) all
 unfolding all
-forms_are = refl
+signatures_are = refl

@@ -1,4 +1,4 @@
-use Rattle.std.proofs.Common.{◌∙◌, cond, false, rules}
+use Rattle.std.proofs.Common.{rules}
 use Rattle.clap.specs.Simple.{app_of}
 use Rattle.clap.specs.Words.{rule_of}
 use Rattle.cap_words.proofs.Built.{operands_after}
