@@ -41,7 +41,8 @@ rest_after (c ∷ cs) [] = None
 rest_after (c ∷ cs) (x ∷ xs) = if x == c then rest_after cs xs else None
 
 -- the word is `--budget=N`, with N what follows the sign, or else an operand
-abbrev pub joined_or_operand : Option CommandWord → CommandWord → Option Arguments → Option Arguments
+abbrev pub joined_or_operand : Option CommandWord → CommandWord → Option Arguments
+    → Option Arguments
 joined_or_operand (Some n) w others = with_budget n others
 joined_or_operand None w others = if begins_option w then None else with_operand w others
 
@@ -110,5 +111,5 @@ signature_of name = option_map (λ row. row.1) (find (λ row. bytes_eq name row.
 abbrev pub command_of : List CommandWord → Option PlainCommand
 command_of [] = None
 command_of (name ∷ words) =
-    option_and_then (λ takes. option_and_then (λ a. takes a.budgets a.operands) (arguments_of words))
-    (signature_of name)
+    let given = arguments_of words in
+    option_and_then (λ takes. option_and_then (λ a. takes a.budgets a.operands) given) (signature_of name)

@@ -1,6 +1,6 @@
 -- The parser that `clap` runs, and what is read of its matches.
-use Rattle.std.specs.Prelude.{◌≡◌, ℕ, ◌||◌, Bool, true, false, List, [], ◌∷◌, Option, Some, None, codes}
-use Rattle.std.specs.Prelude.{option_map, option_and_then, find, fold, map, if◌then◌else◌}
+use Rattle.std.specs.Prelude.{◌≡◌, ℕ, ◌||◌, Bool, true, false, List, [], ◌∷◌, Option, Some, None}
+use Rattle.std.specs.Prelude.{codes, option_map, option_and_then, find, fold, map, if◌then◌else◌}
 use Rattle.std.specs.Str.{bytes_eq}
 use Rattle.clap.specs.Walk.{Row, Rule, first_of}
 use Rattle.clap.specs.Simple.{App, Shape, app_of, new_app, new_rule, new_shape, on_top}
@@ -86,7 +86,8 @@ file_and_budget_in make rows =
 abbrev pub one_operand_in : CommandWord → (CommandWord → Option PlainCommand) → RowReader
 one_operand_in id make rows = option_and_then make (first_of id rows)
 
-abbrev pub two_operands_in : CommandWord → CommandWord → (CommandWord → CommandWord → PlainCommand) → RowReader
+abbrev pub two_operands_in : CommandWord → CommandWord → (CommandWord → CommandWord → PlainCommand)
+    → RowReader
 two_operands_in id other make rows =
     option_and_then (λ a. option_map (make a) (first_of other rows)) (first_of id rows)
 
@@ -97,7 +98,10 @@ row_readers =
     ∷ (codes "check", two_operands_in (codes "file") (codes "derivation") check)
     ∷ (codes "replay", two_operands_in (codes "file") (codes "schedule") replay)
     ∷ (codes "show", one_operand_in (codes "file") (λ file. Some (show file)))
-    ∷ (codes "trial", one_operand_in (codes "number") (λ n. option_map trial (number_within 1 50 n)))
+    ∷ (
+      codes "trial",
+      one_operand_in (codes "number") (λ n. option_map trial (number_within 1 50 n)),
+    )
     ∷ []
 
 -- what is read of the rows of the subcommand of this name

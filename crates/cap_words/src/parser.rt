@@ -39,7 +39,7 @@ fn with_operands<'a>(
 }
 
 // `FILE [--budget N]`
-fn budgeted<'a>(alloc: Global, name: &'a str) -> Result<Command<'a>, AllocError>
+fn with_file_and_budget<'a>(alloc: Global, name: &'a str) -> Result<Command<'a>, AllocError>
     ensures { IfOk result (IsSubcommand name.entry.now budgeted_rules) }
 {
     Ok(
@@ -60,8 +60,8 @@ pub(crate) fn parser<'a>(alloc: Global) -> Result<Command<'a>, AllocError>
         .disable_help_subcommand(true)
         .subcommand_required(true);
     Ok(
-        bare.subcommand(budgeted(alloc, "verify")?)?
-            .subcommand(budgeted(alloc, "derive")?)?
+        bare.subcommand(with_file_and_budget(alloc, "verify")?)?
+            .subcommand(with_file_and_budget(alloc, "derive")?)?
             .subcommand(with_operands(alloc, "check", &["file", "derivation"])?)?
             .subcommand(with_operands(alloc, "replay", &["file", "schedule"])?)?
             .subcommand(with_operands(alloc, "show", &["file"])?)?

@@ -86,7 +86,8 @@ fn command<'a>(name: &str, matches: &ArgMatches<'a>) -> Option<Command<'a>>
 ///
 /// A command is a name and then its operands. Those that have a budget take the option `--budget N`
 /// or `--budget=N` too, at most once, anywhere after the name. Before the first `--` no other word
-/// begins with `-`, and all words after it are operands. A number is decimal, without leading zeros.
+/// begins with `-`, and all words after it are operands. Numbers are decimal, without leading
+/// zeros.
 ///
 /// The words are read by `clap`, none of whose texts is printed. The only error is want of memory.
 pub fn read_command<'a>(
