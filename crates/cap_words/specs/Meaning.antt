@@ -107,9 +107,12 @@ signatures =
 abbrev pub signature_of : CommandWord → Option Signature
 signature_of name = option_map (λ row. row.1) (find (λ row. bytes_eq name row.0) signatures)
 
+-- what the command makes of its arguments
+abbrev pub made_by : Signature → Option Arguments → Option PlainCommand
+made_by takes = option_and_then (λ a. takes a.budgets a.operands)
+
 -- the command that the words are, where they are one
 abbrev pub command_of : List CommandWord → Option PlainCommand
 command_of [] = None
 command_of (name ∷ words) =
-    let given = arguments_of words in
-    option_and_then (λ takes. option_and_then (λ a. takes a.budgets a.operands) given) (signature_of name)
+    option_and_then (λ takes. made_by takes (arguments_of words)) (signature_of name)
