@@ -139,7 +139,7 @@ module _ (name id : CommandWord) where
       record { refused = inl refl; none = λ n budgets operands. refl },
       record { by_id = simp (equal_bytes id) refl; fresh = refl },
       λ w. (
-        record { slot = refl; ends = simp (equal_bytes id, differs, differs_too) refl },
+        record { slot = refl; ends = simp (equal_bytes id, differs) refl },
         record { refused = inl refl; none = λ n budgets operands. refl },
         record { by_id = simp (equal_bytes other, differs) refl; fresh = simp differs refl },
         λ v. (
