@@ -1,6 +1,6 @@
 -- What is found of the bytes, and nothing else.
 use Rattle.std.proofs.Common.{◌≡◌, ℕ, ◌≤◌, List, length, Option, Some, None, Result, Ok, Err, IfSome, IfOk, MatchResult, refl, sym, ap, ◌∙◌, subst, unwrap_or, arith}
-use Rattle.std.specs.Prelude.{Vec}
+use Rattle.std.specs.Prelude.{Vec, ◌<◌, IsSomeAnd}
 use Rattle.std.specs.Global.{Global}
 use Rattle.cap_io.specs.Outside.{Files, content, longest}
 use Rattle.cap_machine.specs.declared.program.Program.{Program}
@@ -35,9 +35,6 @@ found_verdict bytes program v a e = record {
 
 pub found_refusal : (bytes : List ℕ) (e : Refusal) → IsAnswer bytes (Err e) → FindsVerdict bytes (Err e)
 found_refusal bytes e a = record { found = tt; not_found = a.refused; only_found = λ v h. a.only_text h.0 h.1; only_caused = a.only_refused }
-
-pub found_no_memory : (bytes : List ℕ) (e : Refusal) → e ≡ OutOfMemory → FindsVerdict bytes (Err e)
-found_no_memory bytes e h = subst (λ x. FindsVerdict bytes (Err x)) (sym h) (record { found = tt; not_found = tt; only_found = λ v k. refl; only_caused = λ r k. tt })
 
 -- what holds unless memory ran out holds for a cause that lies in the text
 holds_for : (P : Type 0) (e : Refusal) → IsCause e → UnlessMemory e P → P
@@ -177,3 +174,13 @@ pub only_answer : (told : Option Files) (task : Option Task) (c : Command) (name
 only_answer (Some files) task c name bytes w l e before now (Ok o) s = λ p h n. only_said files task c name bytes w e l (output_view o) s p h
 only_answer None task c name bytes w l e before now (Ok o) s = tt
 only_answer told task c name bytes w l e before now (Err a) s = tt
+
+-- a told file of as many bytes as were seen is too long
+pub too_long_said : (told : Option Files) (name : List ℕ) (seen : ℕ) → longest < seen → IfSome told (λ files. IsSomeAnd (content files name) (λ bytes. seen ≡ length bytes))
+    → IfSome told (λ files. IsSomeAnd (content files name) (λ bytes. longest < length bytes))
+too_long_said None name seen l h = tt
+too_long_said (Some files) name seen l h = by (content files name) h
+  where
+    by : (o : Option (List ℕ)) → IsSomeAnd o (λ bytes. seen ≡ length bytes) → IsSomeAnd o (λ bytes. longest < length bytes)
+    by None k = k
+    by (Some bytes) k = omega (arith, l, k)

@@ -1,8 +1,8 @@
 -- What a whole run promises, by what was found and put.
-use Rattle.std.proofs.Common.{◌≡◌, ℕ, ◌⊎◌, inl, inr, List, Option, Some, None, IfSome, ◌≤◌, length, refl, sym, ap, ◌∙◌, subst, arith}
+use Rattle.std.proofs.Common.{◌≡◌, ◌≢◌, ℕ, ◌⊎◌, inl, inr, List, Option, Some, None, IfSome, ◌≤◌, length, refl, sym, ap, ◌∙◌, subst, arith}
 use Rattle.cap_io.specs.Outside.{Files, content, longest, Rose, Gains}
 use Rattle.cap_top.specs.declared.status.Status.{Status}
-use Rattle.cap_top.specs.declared.status.Status.TheVariants.{Good, Refused, NoMemory}
+use Rattle.cap_top.specs.declared.status.Status.TheVariants.{Good, Refused, WriteFault, NoMemory}
 use Rattle.cap_top.specs.declared.task.Command.{Command}
 use Rattle.cap_top.specs.declared.task.Command.TheVariants.{Verify, Show}
 use Rattle.cap_top.specs.declared.verdict.Verdict.{Verdict}
@@ -10,9 +10,9 @@ use Rattle.cap_top.specs.declared.verdict.Verdict.TheVariants.{Proved, Open, Lat
 use Rattle.cap_top.specs.Task.{Task, file_of, IsTask}
 use Rattle.cap_top.specs.Program.{program_of}
 use Rattle.cap_top.specs.Verdict.{verdict}
-use Rattle.cap_top.specs.Output.{HasVerdict, Output, usage, unreadable, too_long, refused, judged, shown, IsAnswerTo, Holds, status_of, text_of, IsOutput}
+use Rattle.cap_top.specs.Output.{HasVerdict, Output, usage, unreadable, too_long, refused, judged, shown, IsAnswerTo, Holds, IsAnswered, status_of, text_of, IsOutput}
 use Rattle.cap_top.specs.Finding.{IsSaid, IsPut, IsRun}
-use Rattle.cap_top.specs.Promise.{IsGood, HasCanonicalText, ShowsFile, IsTextFor, Refuses}
+use Rattle.cap_top.specs.Promise.{IsGood, HasCanonicalText, ShowsFile, IsTextFor, Refuses, IsOf, SaysAll, SaysFirst}
 use Rattle.cap_top.proofs.FindingLaws.{asked_answer, asked_held, the_answer, not_absent, no_task}
 use Rattle.cap_top.proofs.Safety.{proved_is_safe}
 
@@ -142,3 +142,48 @@ pub shows_run : (told : Option Files) (task : Option Task) (reads reads_now : �
 shows_run None task reads reads_now blamed written gained writes writes_now status run = tt
 shows_run (Some files) task reads reads_now blamed written gained writes writes_now status run = λ r w name text t s.
     output_run files task reads reads_now blamed written gained writes writes_now status run r w (shown text) (shown_is_output name task files text t s)
+
+-- an answer by files that are told is one by some bytes
+untold : (told : Option Files) (task : Option Task) (o : Output) → IsAnswered told task o → IsAnswered None task o
+untold told task o h = record {
+  bytes = h.bytes;
+  held = record { command = h.held.command; name = h.held.name; asked = h.held.asked; has = tt };
+  fits = h.fits;
+  answer = h.answer;
+}
+
+-- what is said is of the task
+is_of : (told : Option Files) (task : Option Task) (reads reads_now : ℕ) (blamed : Option (List ℕ)) (o : Output) → IsSaid told task reads reads_now blamed o → IsOf task o
+is_of told task reads reads_now blamed usage h = h
+is_of told task reads reads_now blamed (unreadable name) h = h.0
+is_of told None reads reads_now blamed too_long h = let e = h.1 in absurd cc
+is_of told (Some task) reads reads_now blamed too_long h = refl
+is_of told task reads reads_now blamed (refused r) h = untold told task (refused r) h
+is_of told task reads reads_now blamed (judged v) h = untold told task (judged v) h
+is_of told task reads reads_now blamed (shown text) h = untold told task (shown text) h
+
+pub whole_run : (told : Option Files) (task : Option Task) (reads reads_now : ℕ) (blamed written gained : Option (List ℕ)) (writes writes_now : ℕ) (status : Status)
+    → IsRun told task reads reads_now blamed written gained writes writes_now status → status ≢ WriteFault → status ≢ NoMemory → SaysAll task written gained status
+whole_run told task reads reads_now blamed written gained writes writes_now status (inr m) w n = absurd (n m.0)
+whole_run told task reads reads_now blamed written gained writes writes_now status (inl (o, said, only, inl p)) w n = (o, is_of told task reads reads_now blamed o said, p)
+whole_run told task reads reads_now blamed written gained writes writes_now status (inl (o, said, only, inr p)) w n = absurd (w p.0)
+
+verdict_writes : (v : Verdict) → status_of (judged v) ≢ WriteFault
+verdict_writes Proved e = absurd cc
+verdict_writes (Open s i) e = absurd cc
+verdict_writes Later e = absurd cc
+
+-- no output has the status of a write fault
+output_writes : (o : Output) → status_of o ≢ WriteFault
+output_writes usage e = absurd cc
+output_writes (unreadable name) e = absurd cc
+output_writes too_long e = absurd cc
+output_writes (refused r) e = absurd cc
+output_writes (judged v) e = verdict_writes v e
+output_writes (shown text) e = absurd cc
+
+pub first_run : (told : Option Files) (task : Option Task) (reads reads_now : ℕ) (blamed written gained : Option (List ℕ)) (writes writes_now : ℕ) (status : Status)
+    → IsRun told task reads reads_now blamed written gained writes writes_now status → status ≡ WriteFault → SaysFirst task written gained
+first_run told task reads reads_now blamed written gained writes writes_now status (inr m) e = let f = sym e ∙ m.0 in absurd cc
+first_run told task reads reads_now blamed written gained writes writes_now status (inl (o, said, only, inl p)) e = absurd (output_writes o (sym p.0 ∙ e))
+first_run told task reads reads_now blamed written gained writes writes_now status (inl (o, said, only, inr p)) e = (o, is_of told task reads reads_now blamed o said, p.2)

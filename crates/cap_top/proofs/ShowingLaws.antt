@@ -146,7 +146,3 @@ text_found bytes t text f e = record {
 
 pub text_refused : (bytes : List ℕ) (e : Refusal) → FindsTree bytes (Err e) → FindsText bytes (Err e)
 text_refused bytes e f = record { found = tt; not_found = f.not_found; only_found = λ text s. f.only_found s.tree s.spelled; only_caused = f.only_caused }
-
-pub text_no_memory : (bytes : List ℕ) (e : Refusal) → e ≡ OutOfMemory → FindsText bytes (Err e)
-text_no_memory bytes e h = subst (λ x. FindsText bytes (Err x)) (sym h)
-    (record { found = tt; not_found = tt; only_found = λ text s. refl; only_caused = λ r g. tt })

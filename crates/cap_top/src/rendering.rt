@@ -60,7 +60,7 @@ fn refusal_text(alloc: Global, refusal: &Refusal) -> Result<Vec<u8>, AllocError>
 
 /// The text that says it. A text that is shown is handed on as it is.
 pub(crate) fn text(alloc: Global, output: Output<'_>) -> Result<Vec<u8>, AllocError>
-    ensures { IfOk result (λ text. text.items ≡ text_of (output_view output)) }
+    ensures { IfOk result (λ text. text.items ≡ text_of (output_view output.entry)) }
 {
     match output {
         Output::Usage => Ok(String::from_str(alloc, USAGE)?.into_bytes()),
