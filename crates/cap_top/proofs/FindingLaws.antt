@@ -1,5 +1,5 @@
 -- What is found of the bytes, and nothing else.
-use Rattle.std.proofs.Common.{◌≡◌, ℕ, ◌≤◌, List, length, Option, Some, None, Result, Ok, Err, IfSome, IfOk, MatchResult, refl, sym, ap, ◌∙◌, subst, unwrap_or, arith}
+use Rattle.std.proofs.Common.{◌≡◌, ℕ, ◌≤◌, List, length, Option, Some, None, Result, Ok, Err, IfSome, IfOk, MatchResult, sym, ap, ◌∙◌, subst, unwrap_or, arith}
 use Rattle.std.specs.Prelude.{Vec, ◌<◌, IsSomeAnd}
 use Rattle.std.specs.Global.{Global}
 use Rattle.cap_io.specs.Outside.{Files, content, longest}
@@ -15,11 +15,11 @@ use Rattle.cap_top.specs.declared.task.Command.TheVariants.{Verify, Show}
 use Rattle.std.specs.declared.alloc.AllocError.{AllocError}
 use Rattle.cap_top.specs.Task.{Task, file_of, IsTask}
 use Rattle.cap_top.specs.Text.{IsText, IsRefused}
-use Rattle.cap_top.specs.Showing.{IsShownAs, SpellNone}
+use Rattle.cap_top.specs.Showing.{SpellNone}
 use Rattle.cap_top.specs.Resolving.{UnlessMemory, IsCause, IsAnswer}
 use Rattle.cap_top.specs.Verdict.{verdict}
-use Rattle.cap_top.specs.Output.{HasVerdict, Output, usage, unreadable, too_long, refused, judged, shown, IsAnswerTo, Holds, IsAnswered, IsOutput}
-use Rattle.cap_top.specs.Finding.{output_view, IsFound, FindsVerdict, FindsText, IsOnlyAnswer, IsSaid, IsOnly}
+use Rattle.cap_top.specs.Output.{Output, usage, unreadable, too_long, refused, judged, shown, IsAnswerTo, Holds, IsAnswered, IsOutput}
+use Rattle.cap_top.specs.Finding.{output_view, FindsVerdict, FindsText, IsOnlyAnswer, IsSaid, IsOnly}
 use Rattle.cap_top.proofs.WellFormed.{well_formed}
 
 pub text_is_well_formed : (bytes : List ℕ) (p : PlainProgram) → IsText bytes p → IsWellFormed p

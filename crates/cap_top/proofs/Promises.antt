@@ -1,13 +1,13 @@
 -- What a whole run promises, by what was found and put.
-use Rattle.std.proofs.Common.{◌≡◌, ◌≢◌, ℕ, ◌⊎◌, inl, inr, List, Option, Some, None, IfSome, ◌≤◌, length, refl, sym, ap, ◌∙◌, subst, arith}
-use Rattle.cap_io.specs.Outside.{Files, content, longest, Rose, Gains}
+use Rattle.std.proofs.Common.{◌≡◌, ◌≢◌, ℕ, ◌⊎◌, inl, inr, List, Option, Some, None, IfSome, ◌≤◌, length, refl, sym, ap, ◌∙◌, arith}
+use Rattle.cap_io.specs.Outside.{Files, content, longest, Rose}
 use Rattle.cap_top.specs.declared.status.Status.{Status}
 use Rattle.cap_top.specs.declared.status.Status.TheVariants.{Good, Refused, WriteFault, NoMemory}
 use Rattle.cap_top.specs.declared.task.Command.{Command}
 use Rattle.cap_top.specs.declared.task.Command.TheVariants.{Verify, Show}
 use Rattle.cap_top.specs.declared.verdict.Verdict.{Verdict}
 use Rattle.cap_top.specs.declared.verdict.Verdict.TheVariants.{Proved, Open, Later}
-use Rattle.cap_top.specs.Task.{Task, file_of, IsTask}
+use Rattle.cap_top.specs.Task.{Task, IsTask}
 use Rattle.cap_top.specs.Program.{program_of}
 use Rattle.cap_top.specs.Verdict.{verdict}
 use Rattle.cap_top.specs.Output.{HasVerdict, Output, usage, unreadable, too_long, refused, judged, shown, IsAnswerTo, Holds, IsAnswered, status_of, text_of, IsOutput}

@@ -1,5 +1,5 @@
 -- The text of a tree that the bytes spell, and nothing else.
-use Rattle.std.proofs.Common.{◌≡◌, ℕ, List, [], ◌∷◌, ◌++◌, length, ◌≤◌, Result, Ok, Err, refl, sym, ap, ◌∙◌, subst}
+use Rattle.std.proofs.Common.{◌≡◌, ℕ, List, [], ◌∷◌, ◌++◌, length, ◌≤◌, Ok, Err, refl, sym, ap, ◌∙◌, subst}
 use Rattle.std.specs.Prelude.{Vec}
 use Rattle.std.specs.Global.{Global}
 use Rattle.std.proofs.lemmas.List.{append_cancel_right}
@@ -11,10 +11,9 @@ use Rattle.cap_syntax.specs.Layout.{end_of, AreTokensOf}
 use Rattle.cap_syntax.specs.Place.{place_of}
 use Rattle.cap_syntax.specs.Refusal.{max_text}
 use Rattle.cap_tree.specs.declared.tree.Tree.{Tree}
-use Rattle.cap_tree.specs.Tree.{ProgramTree}
 use Rattle.cap_tree.specs.Spelling.{spelling}
 use Rattle.cap_tree.specs.Canonical.{canonical_text}
-use Rattle.cap_tree.specs.Texts.{Spells, IsUnexpectedAt, IsTooDeepAt}
+use Rattle.cap_tree.specs.Texts.{IsUnexpectedAt, IsTooDeepAt}
 use Rattle.cap_tree.specs.Views.{tree_view}
 use Rattle.cap_parse.specs.Parsing.{first_place, IsParseOf, IsOnlyParseOf}
 use Rattle.cap_parse.specs.declared.text.ParseError.{ParseError}
@@ -23,7 +22,7 @@ use Rattle.cap_top.specs.declared.refusal.Refusal.{Refusal}
 use Rattle.cap_top.specs.declared.refusal.Refusal.TheVariants.{BadByte, LongLiteral, TextTooLong, Unexpected, TooDeep, Unknown, OutOfMemory}
 use Rattle.cap_top.specs.Finding.{FindsTree, FindsText}
 use Rattle.cap_top.specs.Resolving.{UnlessMemory}
-use Rattle.cap_top.specs.Showing.{IsShownAs, GoWrong, SpellNone, parsing_refusal_of}
+use Rattle.cap_top.specs.Showing.{GoWrong, SpellNone, parsing_refusal_of}
 use Rattle.cap_top.specs.TokenRefusals.{refusal_of, IsTokenRefused}
 use Rattle.cap_top.proofs.TextLaws.{TellsCauses, the_refusal, memory_is}
 

@@ -5,7 +5,7 @@ use Rattle.cap_machine.specs.Program.{PlainProgram}
 use Rattle.cap_tree.specs.Tree.{ProgramTree}
 use Rattle.cap_tree.specs.Texts as whole
 use Rattle.cap_top.specs.declared.status.Status.{Status}
-use Rattle.cap_top.specs.declared.status.Status.TheVariants.{Good, Refused, WriteFault, NoMemory}
+use Rattle.cap_top.specs.declared.status.Status.TheVariants.{Refused, WriteFault, NoMemory}
 use Rattle.cap_top.specs.declared.task.Command.{Command}
 use Rattle.cap_top.specs.declared.task.Command.TheVariants.{Verify, Show}
 use Rattle.cap_top.specs.declared.verdict.Verdict.TheVariants.{Proved}

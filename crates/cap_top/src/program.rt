@@ -54,7 +54,7 @@ pub fn run<S: Shelf, K: Sink>(
     // Where `show` ends well, the text that was read is shown: the canonical one of its tree.
     ensures shown { (name : List ℕ) → IsTask Command.Show name (task_in words.now)
         → result ≡ Status.Good → IfSome (S.holds shelf.old) (λ files.
-            ShowsFile name files (K.written sink.old) (K.written sink.new)) }
+        ShowsFile name files (K.written sink.old) (K.written sink.new)) }
 
     // Over a shelf that tells its files there are four ways to end, whatever faults come.
     ensures ends { IfSome (S.holds shelf.old) (λ files. Ends (task_in words.now) files

@@ -216,9 +216,11 @@ fn runs_of_a_thousand_steps(rt: HostRuntime) -> Result<(), Fail> {
     Ok(())
 }
 
-const REGION: &str = "// A lock.\nregion Lock(r,x){guards %LOCK;interpretation{0:x|->0;}actions{LOCK[1p]:0~>1;}}\nfunction f(a)requires Lock(r,a;_);{return;}";
+const REGION: &str =
+    "// A lock.\nregion Lock(r,x){guards %LOCK;interpretation{0:x|->0;}actions{LOCK[1p]:0~>1;}}\nfunction f(a)requires Lock(r,a;_);{return;}";
 
-const REGION_SHOWN: &str = "region Lock ( r , x ) {\nguards % LOCK ;\ninterpretation {\n0 : x |-> 0 ;\n}\nactions {\nLOCK [ 1p ] : 0 ~> 1 ;\n}\n}\nfunction f ( a ) requires Lock ( r , a ; _ ) ;\n{\nreturn ;\n}\n";
+const REGION_SHOWN: &str =
+    "region Lock ( r , x ) {\nguards % LOCK ;\ninterpretation {\n0 : x |-> 0 ;\n}\nactions {\nLOCK [ 1p ] : 0 ~> 1 ;\n}\n}\nfunction f ( a ) requires Lock ( r , a ; _ ) ;\n{\nreturn ;\n}\n";
 
 #[test]
 fn shown_texts(rt: HostRuntime) -> Result<(), Fail> {
@@ -237,7 +239,10 @@ fn shown_texts(rt: HostRuntime) -> Result<(), Fail> {
     for (text, written) in [
         ("function main ( { }", "refused 1:17: unexpected token\n"),
         ("function main()", "refused 1:16: unexpected token\n"),
-        ("function main() { x := 1 # 2; }", "refused 1:26: bad byte\n"),
+        (
+            "function main() { x := 1 # 2; }",
+            "refused 1:26: bad byte\n",
+        ),
     ] {
         show(&rt, alloc, text, Status::Refused, written)?;
     }
