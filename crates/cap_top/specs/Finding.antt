@@ -27,12 +27,15 @@ output_view (Refused r) = refused r
 output_view (Judged v) = judged v
 output_view (Shown text) = shown text.items
 
--- What is so, seen by a view, or the cause for which nothing is, and no other, unless memory ran out.
-pub record IsFound {X Y : Type 0} (view : X → Y) (IsSo : Y → Type 0) (IsCaused : Refusal → Type 0) (result : Result X Refusal) : Type 0 where
+-- What is so, seen by a view, or the cause for which nothing is, and no other, unless memory ran
+-- out.
+pub record IsFound {X Y : Type 0} (view : X → Y) (IsSo : Y → Type 0) (IsCaused : Refusal → Type 0)
+    (result : Result X Refusal) : Type 0 where
   pub found : IfOk result (λ x. IsSo (view x))
   pub not_found : IfErr result (λ e. UnlessMemory e (IsCaused e))
   pub only_found : (y : Y) → IsSo y → MatchResult result (λ x. view x ≡ y) (λ e. e ≡ OutOfMemory)
-  pub only_caused : (r : Refusal) → IsCaused r → MatchResult result (λ _. ⊥) (λ e. UnlessMemory e (e ≡ r))
+  pub only_caused : (r : Refusal) → IsCaused r
+      → MatchResult result (λ _. ⊥) (λ e. UnlessMemory e (e ≡ r))
 
 -- the verdict of the program that the bytes spell
 abbrev pub FindsVerdict : List ℕ → Result Verdict Refusal → Type 0
@@ -51,13 +54,14 @@ pub record IsOnlyAnswer (command : Command) (bytes : List ℕ) (o : Output) : Ty
   pub answer : IsAnswerTo command bytes o
   pub only : (p : Output) → IsAnswerTo command bytes p → o ≡ p
 
--- What is said, over a shelf that tells its files or does not, where its count of faults and the name
--- that it blames are now these.
+-- What is said, over a shelf that tells its files or does not, where its count of faults and the
+-- name that it blames are now these.
 abbrev pub IsSaid : Option Files → Option Task → ℕ → ℕ → Option (List ℕ) → Output → Type 0
 IsSaid told task before now blames usage = task ≡ None
 IsSaid told task before now blames (unreadable name) =
     (file_of task ≡ Some name)
-    × ((Rose before now × (blames ≡ Some name)) ⊎ IsSomeAnd told (λ files. content files name ≡ None))
+    × ((Rose before now × (blames ≡ Some name))
+    ⊎ IsSomeAnd told (λ files. content files name ≡ None))
 IsSaid told task before now blames too_long =
     (name : List ℕ) × (file_of task ≡ Some name)
     × IfSome told (λ files. IsSomeAnd (content files name) (λ bytes. longest < length bytes))

@@ -55,7 +55,8 @@ pub record IsAnswered (told : Option Files) (task : Option Task) (o : Output) : 
 abbrev pub IsOutput : Option Task → Files → Output → Type 0
 IsOutput task files usage = task ≡ None
 IsOutput task files (unreadable name) = (file_of task ≡ Some name) × (content files name ≡ None)
-IsOutput task files too_long = (bytes : List ℕ) × Holds (Some files) task bytes × (longest < length bytes)
+IsOutput task files too_long =
+    (bytes : List ℕ) × Holds (Some files) task bytes × (longest < length bytes)
 IsOutput task files o = IsAnswered (Some files) task o
 
 abbrev pub verdict_status : Verdict → Status

@@ -18,9 +18,9 @@ use Rattle.cap_top.specs.Program.{program_of}
 use Rattle.cap_top.specs.Verdict.{verdict, IsSafe}
 use Rattle.cap_top.specs.Output.{Output, usage, unreadable, too_long, Holds, IsAnswered, IsOutput, status_of, text_of}
 
--- The bytes that the files hold under the name spell a program without unknown names whose verdict is
--- `proved`, and every run of it, of every length and from every heap, makes no memory fault and fails
--- no assertion.
+-- The bytes that the files hold under the name spell a program without unknown names whose verdict
+-- is `proved`, and every run of it, of every length and from every heap, makes no memory fault and
+-- fails no assertion.
 pub record IsGood (name : List ℕ) (files : Files) : Type 0 where
   pub bytes : List ℕ
   pub held : content files name ≡ Some bytes
@@ -61,14 +61,23 @@ IsOutputOrFault task files reads reads_now blamed o =
     IsOutput task files o
     ⊎ ((name : List ℕ) × IsFaulted task reads reads_now blamed name × (o ≡ unreadable name))
 
--- The four ways to end: the whole output; the line of a read fault; a write fault, with the first of
--- either text; no memory, with nothing.
+-- the first of the text of an output, or of the line of a read fault, is written
+abbrev pub SaysFirstOf : Option Task → Files → ℕ → ℕ → Option (List ℕ) → Option (List ℕ)
+    → Option (List ℕ) → Type 0
+SaysFirstOf task files reads reads_now blamed written gained =
+    (o : Output) × IsOutputOrFault task files reads reads_now blamed o
+    × GainsPrefix written gained (text_of o)
+
+-- The four ways to end: the whole output; the line of a read fault; a write fault, with the first
+-- of either text; no memory, with nothing.
 abbrev pub Ends : Option Task → Files → ℕ → ℕ → Option (List ℕ) → Option (List ℕ)
     → Option (List ℕ) → ℕ → ℕ → Status → Type 0
 Ends task files reads reads_now blamed written gained writes writes_now status =
     ((o : Output) × IsOutput task files o × Says written gained status o)
-    ⊎ (((name : List ℕ) × IsFaulted task reads reads_now blamed name × Says written gained status (unreadable name))
-    ⊎ (((status ≡ WriteFault) × Rose writes writes_now × ((o : Output) × IsOutputOrFault task files reads reads_now blamed o × GainsPrefix written gained (text_of o)))
+    ⊎ (((name : List ℕ) × IsFaulted task reads reads_now blamed name
+    × Says written gained status (unreadable name))
+    ⊎ (((status ≡ WriteFault) × Rose writes writes_now
+    × SaysFirstOf task files reads reads_now blamed written gained)
     ⊎ ((status ≡ NoMemory) × (gained ≡ written))))
 
 -- each output over these files is the one that is said, unless memory ran out
@@ -86,7 +95,8 @@ Refuses task files status =
 abbrev pub ReadFails : Option Files → Option Task → ℕ → ℕ → Option (List ℕ) → Type 0
 ReadFails told task reads reads_now blamed =
     (name : List ℕ) × (file_of task ≡ Some name)
-    × ((Rose reads reads_now × (blamed ≡ Some name)) ⊎ IsSomeAnd told (λ files. content files name ≡ None))
+    × ((Rose reads reads_now × (blamed ≡ Some name))
+    ⊎ IsSomeAnd told (λ files. content files name ≡ None))
 
 -- an output that the task can have
 abbrev pub IsOf : Option Task → Output → Type 0

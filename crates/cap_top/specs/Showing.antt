@@ -23,7 +23,8 @@ pub record IsShownAs (bytes text : List ℕ) : Type 0 where
 
 -- The tokens of the bytes go wrong in this way; at the place stands the first token of the rest, or
 -- where there is none the end.
-pub record GoWrong (Wrong : List Token → List Token → Type 0) (bytes : List ℕ) (place : Place) : Type 0 where
+pub record GoWrong (Wrong : List Token → List Token → Type 0) (bytes : List ℕ) (place : Place)
+    : Type 0 where
   pub fits : length bytes ≤ max_text
   pub tokens : List Token
   pub are : AreTokensOf bytes (tokens ++ end_of bytes ∷ [])

@@ -14,7 +14,7 @@ use crate::verdict::{Verdict, judge};
 use cap_io::{FetchError, Shelf};
 use std::alloc::{AllocError, Global};
 
-/// What is said. A file that cannot be read is named, and a text that is shown is the canonical one.
+/// What is said. A file that cannot be read is named, and a text that is shown is canonical.
 #[derive(Debug, Drop)]
 pub(crate) enum Output<'a> {
     Usage,
@@ -51,7 +51,8 @@ impl<'a> Output<'a> {
 
 /// What is said of a text that is refused, unless for want of memory.
 fn refuse<'a>(cause: Refusal) -> Result<Output<'a>, AllocError>
-    ensures { MatchResult result (λ o. (output_view o ≡ refused cause) × IsCause cause) (λ _. cause ≡ OutOfMemory) }
+    ensures { MatchResult result (λ o. (output_view o ≡ refused cause) × IsCause cause)
+        (λ _. cause ≡ OutOfMemory) }
 {
     match cause {
         Refusal::OutOfMemory => Err(AllocError),

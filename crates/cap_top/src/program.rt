@@ -35,12 +35,12 @@ fn perform<S: Shelf, K: Sink>(
     }
 }
 
-/// Does all that the program does with the words after its name: reads the file that they name, does
-/// what they ask with it, and writes what is found.
+/// Does all that the program does with the words after its name: reads the file that they name,
+/// does what they ask with it, and writes what is found.
 ///
 /// The order is: usage, read of the file, its text, the work, the write. The whole output is built
-/// before the one put, so that after every status but `WriteFault` and `NoMemory` the sink has gained
-/// the whole text, after `WriteFault` the first of it, and after `NoMemory` nothing.
+/// before the one put, so that after every status but `WriteFault` and `NoMemory` the sink has
+/// gained the whole text, after `WriteFault` the first of it, and after `NoMemory` nothing.
 pub fn run<S: Shelf, K: Sink>(
     alloc: Global,
     words: &[String],
@@ -89,7 +89,8 @@ pub fn run<S: Shelf, K: Sink>(
     ensures read_fault { result ≡ Status.ReadFault
         → ReadFails (S.holds shelf.old) (task_in words.now)
         (S.faults shelf.old) (S.faults shelf.new) (S.blamed shelf.new) }
-    ensures write_fault { result ≡ Status.WriteFault → Rose (K.faults sink.old) (K.faults sink.new) }
+    ensures write_fault { result ≡ Status.WriteFault
+        → Rose (K.faults sink.old) (K.faults sink.new) }
     ensures no_memory { result ≡ Status.NoMemory → K.written sink.new ≡ K.written sink.old }
     ensures whole { result ≢ Status.WriteFault → result ≢ Status.NoMemory
         → SaysAll (task_in words.now) (K.written sink.old) (K.written sink.new) result }

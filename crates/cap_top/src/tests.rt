@@ -45,7 +45,7 @@ fn ends<S: Shelf>(
     if let Some(count) = fails_after {
         failing.push((1, count))?;
     }
-    let mut sink = MemorySink::new(alloc, failing, 200)?;
+    let mut sink = MemorySink::new(alloc, failing, 500)?;
     let found = run(alloc, words.as_slice(), shelf, &mut sink);
     if found == Status::NoMemory {
         assert!(rt; sink.bytes().is_empty());
