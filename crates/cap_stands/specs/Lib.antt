@@ -8,3 +8,4 @@ pub mod Regions
 pub mod Functions
 pub mod Program
 pub mod Stands
+pub mod Refusal
