@@ -1,3 +1,9 @@
 pub mod Every
 pub mod Nothing
 pub mod First
+pub mod Variables
+pub mod Sorts
+pub mod Known
+pub mod Algebras
+pub mod Terms
+pub mod Items
