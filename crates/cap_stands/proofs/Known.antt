@@ -24,20 +24,21 @@ text-itself x = (bytes_eq-Decides x x).1 refl
 
 -- ---- the sorts of scopes
 
-pub sorts-append : (a b : NameScope) → sorts_of (a ++ b) ≡ sorts_of a ++ sorts_of b
-sorts-append a b = map-append known_sort a b
+pub sorts-whole : (ws : List Word) (b : NameScope) → sorts_of (whole_numbers ws ++ b) ≡ sorted.whole_numbers (length ws) ++ sorts_of b
+sorts-whole [] b = refl
+sorts-whole (w ∷ ws) b = ap (λ ss. Some Int ∷ ss) (sorts-whole ws b)
 
-pub sorts-whole : (ws : List Word) → sorts_of (whole_numbers ws) ≡ sorted.whole_numbers (length ws)
-sorts-whole [] = refl
-sorts-whole (w ∷ ws) = ap (λ ss. Some Int ∷ ss) (sorts-whole ws)
+pub sorts-hidden : (ws : List Word) (b : NameScope) → sorts_of (hidden ws ++ b) ≡ sorted.hidden (length ws) ++ sorts_of b
+sorts-hidden [] b = refl
+sorts-hidden (w ∷ ws) b = ap (λ ss. None ∷ ss) (sorts-hidden ws b)
 
-pub sorts-hidden : (ws : List Word) → sorts_of (hidden ws) ≡ sorted.hidden (length ws)
-sorts-hidden [] = refl
-sorts-hidden (w ∷ ws) = ap (λ ss. None ∷ ss) (sorts-hidden ws)
+pub sorts-names : (os : List Occurrence) (b : NameScope) → sorts_of (scope_of os ++ b) ≡ known (occurrence_sorts os) ++ sorts_of b
+sorts-names [] b = refl
+sorts-names (o ∷ os) b = ap (λ ss. Some o.sort ∷ ss) (sorts-names os b)
 
-pub sorts-names : (os : List Occurrence) → sorts_of (scope_of os) ≡ known (occurrence_sorts os)
-sorts-names [] = refl
-sorts-names (o ∷ os) = ap (λ ss. Some o.sort ∷ ss) (sorts-names os)
+pub sorts-last : (os : List Occurrence) → sorts_of (scope_of os) ≡ known (occurrence_sorts os)
+sorts-last [] = refl
+sorts-last (o ∷ os) = ap (λ ss. Some o.sort ∷ ss) (sorts-last os)
 
 -- ---- names that are known
 

@@ -7,3 +7,5 @@ pub mod Known
 pub mod Algebras
 pub mod Terms
 pub mod Items
+pub mod Counts
+pub mod Clauses
