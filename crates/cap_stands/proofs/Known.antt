@@ -56,40 +56,40 @@ knows-front a b x e = list_any-append (has_name x) a b ∙ or-left (knows a x) (
 pub knows-behind : (a b : NameScope) (x : List ℕ) → knows b x ≡ true → knows (a ++ b) x ≡ true
 knows-behind a b x e = list_any-append (has_name x) a b ∙ or-right (knows a x) (knows b x) e
 
-abbrev pub occurs-in : List Occurrence → List ℕ → Bool
-occurs-in os x = list_any (λ o. bytes_eq x (name_of o)) os
+abbrev pub stands-in : {A : Type 0} → (A → List ℕ) → List A → List ℕ → Bool
+stands-in name xs x = list_any (λ a. bytes_eq x (name a)) xs
 
-knows-scope_of : (os : List Occurrence) (x : List ℕ) → occurs-in os x ≡ true → knows (scope_of os) x ≡ true
+knows-scope_of : (os : List Occurrence) (x : List ℕ) → stands-in name_of os x ≡ true → knows (scope_of os) x ≡ true
 knows-scope_of [] x e = e
 knows-scope_of (o ∷ os) x e = by (bytes_eq x (name_of o)) e (λ d. knows-scope_of os x d)
   where
-    by : (b : Bool) → (b || occurs-in os x) ≡ true → (occurs-in os x ≡ true → knows (scope_of os) x ≡ true) → (b || knows (scope_of os) x) ≡ true
+    by : (b : Bool) → (b || stands-in name_of os x) ≡ true → (stands-in name_of os x ≡ true → knows (scope_of os) x ≡ true) → (b || knows (scope_of os) x) ≡ true
     by true d rest = refl
     by false d rest = rest d
 
--- ---- first occurrences
+-- ---- the first of each name
 
-stays : (os : List Occurrence) (a : Occurrence) (x : List ℕ) → occurs-in os x ≡ true → occurs-in (with_first name_of os a) x ≡ true
-stays os a x e = by (list_any (λ b. bytes_eq (name_of a) (name_of b)) os)
+stays : {A : Type 0} (name : A → List ℕ) (os : List A) (a : A) (x : List ℕ) → stands-in name os x ≡ true → stands-in name (with_first name os a) x ≡ true
+stays name os a x e = by (list_any (λ b. bytes_eq (name a) (name b)) os)
   where
-    by : (b : Bool) → occurs-in (cond b os (os ++ a ∷ [])) x ≡ true
+    by : (b : Bool) → stands-in name (cond b os (os ++ a ∷ [])) x ≡ true
     by true = e
-    by false = list_any-append (λ o. bytes_eq x (name_of o)) os (a ∷ []) ∙ or-left _ _ e
+    by false = list_any-append (λ o. bytes_eq x (name o)) os (a ∷ []) ∙ or-left _ _ e
 
-is-put : (os : List Occurrence) (a : Occurrence) → occurs-in (with_first name_of os a) (name_of a) ≡ true
-is-put os a = by (occurs-in os (name_of a)) refl
+is-put : {A : Type 0} (name : A → List ℕ) (os : List A) (a : A) → stands-in name (with_first name os a) (name a) ≡ true
+is-put name os a = by (stands-in name os (name a)) refl
   where
-    by : (b : Bool) → occurs-in os (name_of a) ≡ b → occurs-in (cond b os (os ++ a ∷ [])) (name_of a) ≡ true
+    by : (b : Bool) → stands-in name os (name a) ≡ b → stands-in name (cond b os (os ++ a ∷ [])) (name a) ≡ true
     by true e = e
-    by false e = list_any-append (λ o. bytes_eq (name_of a) (name_of o)) os (a ∷ []) ∙ or-right _ _ (or-left _ _ (text-itself (name_of a)))
+    by false e = list_any-append (λ o. bytes_eq (name a) (name o)) os (a ∷ []) ∙ or-right _ _ (or-left _ _ (text-itself (name a)))
 
-stays-through : (os more : List Occurrence) (x : List ℕ) → occurs-in os x ≡ true → occurs-in (fold (with_first name_of) os more) x ≡ true
-stays-through os [] x e = e
-stays-through os (a ∷ more) x e = stays-through (with_first name_of os a) more x (stays os a x e)
+stays-through : {A : Type 0} (name : A → List ℕ) (os more : List A) (x : List ℕ) → stands-in name os x ≡ true → stands-in name (fold (with_first name) os more) x ≡ true
+stays-through name os [] x e = e
+stays-through name os (a ∷ more) x e = stays-through name (with_first name os a) more x (stays name os a x e)
 
-all-put : (os more : List Occurrence) → AllByRecursion (λ o. occurs-in (fold (with_first name_of) os more) (name_of o) ≡ true) more
-all-put os [] = tt
-all-put os (a ∷ more) = (stays-through (with_first name_of os a) more (name_of a) (is-put os a), all-put (with_first name_of os a) more)
+pub all-put : {A : Type 0} (name : A → List ℕ) (os more : List A) → AllByRecursion (λ o. stands-in name (fold (with_first name) os more) (name o) ≡ true) more
+all-put name os [] = tt
+all-put name os (a ∷ more) = (stays-through name (with_first name os a) more (name a) (is-put name os a), all-put name (with_first name os a) more)
 
 -- what a filter leaves out is known already
 new-known : (scope : NameScope) (P : Occurrence → Type 0) → ((o : Occurrence) → knows scope (name_of o) ≡ true → P o) → (os : List Occurrence) → AllByRecursion P (filter (λ o. not (knows scope (name_of o))) os) → AllByRecursion P os
@@ -107,9 +107,9 @@ OccursKnown scope o = knows scope (name_of o) ≡ true
 pub occurrences-known : (scope : NameScope) (os : List Occurrence) → AllByRecursion (OccursKnown (scope ++ scope_of (new_names scope os))) os
 occurrences-known scope os =
     new-known scope (OccursKnown (scope ++ scope_of (new_names scope os))) (λ o e. knows-front scope (scope_of (new_names scope os)) (name_of o) e) os
-      (each_weaker (λ o. occurs-in (new_names scope os) (name_of o) ≡ true) (OccursKnown (scope ++ scope_of (new_names scope os)))
+      (each_weaker (λ o. stands-in name_of (new_names scope os) (name_of o) ≡ true) (OccursKnown (scope ++ scope_of (new_names scope os)))
         (λ o e. knows-behind scope (scope_of (new_names scope os)) (name_of o) (knows-scope_of (new_names scope os) (name_of o) e))
-        (filter (λ o. not (knows scope (name_of o))) os) (all-put [] (filter (λ o. not (knows scope (name_of o))) os)))
+        (filter (λ o. not (knows scope (name_of o))) os) (all-put name_of [] (filter (λ o. not (knows scope (name_of o))) os)))
 
 -- where none is left out, a filter keeps all
 pub all-kept : {A : Type 0} (p : A → Bool) (xs : List A) → AllByRecursion (λ x. not (p x) ≡ false) xs → filter p xs ≡ xs

@@ -9,3 +9,4 @@ pub mod Terms
 pub mod Items
 pub mod Counts
 pub mod Clauses
+pub mod Regions
