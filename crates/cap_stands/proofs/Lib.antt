@@ -10,3 +10,4 @@ pub mod Items
 pub mod Counts
 pub mod Clauses
 pub mod Regions
+pub mod Bodies
