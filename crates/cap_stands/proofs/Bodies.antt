@@ -72,7 +72,7 @@ local-variable ps ls more x e h =
     (omega arith, omega arith)
 
 -- names that are hidden add nothing
-abbrev IsHidden : Option KnownName → Type 0
+abbrev pub IsHidden : Option KnownName → Type 0
 IsHidden k = k ≡ None
 
 hidden-behind : (xs : Scope) (ks : NameScope) (x : ℕ) (s : Sort) → AllByRecursion IsHidden ks → slice_get (xs ++ sorts_of ks) x ≡ Some (Some s) → slice_get xs x ≡ Some (Some s)
@@ -163,7 +163,7 @@ mutual
   pub block-numbered : (g : Context) (n : ℕ) (b : BlockTree) → Numbered n (length (block_parts b)) (all_statements (block_program g n b))
   block-numbered g n (block p ss q) = statements-numbered g n ss
 
-all_statements-append : (a b : Block) → all_statements (append a b) ≡ all_statements a ++ all_statements b
+pub all_statements-append : (a b : Block) → all_statements (append a b) ≡ all_statements a ++ all_statements b
 all_statements-append done b = refl
 all_statements-append (first l s a) b = ap (λ ss. record { label = l; act = s } ∷ ss) (ap (λ ss. block_statements s ++ ss) (all_statements-append a b) ∙ sym (append_assoc (block_statements s) (all_statements a) (all_statements b)))
 

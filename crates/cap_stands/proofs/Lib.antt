@@ -11,3 +11,4 @@ pub mod Counts
 pub mod Clauses
 pub mod Regions
 pub mod Bodies
+pub mod Functions
