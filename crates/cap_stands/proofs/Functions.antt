@@ -40,7 +40,7 @@ use Rattle.cap_stands.proofs.Bodies.{HasFunctions, IsHidden, local-variable, bod
 
 -- ---- destinations
 
-flat-options : {A B : Type 0} (P : B → Type 0) (h : A → Option B) (xs : List A) → AllByRecursion (λ x. AllByRecursion P (option_to_list (h x))) xs → AllByRecursion P (filter_map h xs)
+pub flat-options : {A B : Type 0} (P : B → Type 0) (h : A → Option B) (xs : List A) → AllByRecursion (λ x. AllByRecursion P (option_to_list (h x))) xs → AllByRecursion P (filter_map h xs)
 flat-options P h [] a = tt
 flat-options {A} {B} P h (x ∷ xs) a = by (h x) a.0 (flat-options P h xs a.1)
   where
@@ -59,10 +59,10 @@ not-same x y e = by (bytes_eq y x) refl
     by false h = refl
     by true h = absurd (true≢false (sym (subst (λ z. bytes_eq x z ≡ true) (sym (same-text y x h)) (text-itself x)) ∙ e))
 
-abbrev Free : FunctionTree → List RegionTree → Word → Type 0
+abbrev pub Free : FunctionTree → List RegionTree → Word → Type 0
 Free f rs w = (is_among (parameters f) w.text ≡ false) × (is_among (fixed_words rs f) w.text ≡ false)
 
-free-destination : (rs : List RegionTree) (fs : List FunctionTree) (f : FunctionTree) (s : StatementTree) → statement_findings (context_of rs fs f) s ≡ [] → AllByRecursion (Free f rs) (option_to_list (destination s))
+pub free-destination : (rs : List RegionTree) (fs : List FunctionTree) (f : FunctionTree) (s : StatementTree) → statement_findings (context_of rs fs f) s ≡ [] → AllByRecursion (Free f rs) (option_to_list (destination s))
 free-destination rs fs f s e =
     each_weaker (λ w. is_forbidden (context_of rs fs f) w ≡ false) (Free f rs)
       (λ w x. or-false (is_among (parameters f) w.text) (is_among (fixed_words rs f) w.text) (sym (list_any-append (λ v. bytes_eq w.text v.text) (parameters f) (fixed_words rs f)) ∙ (or-false (is_among (parameters f ++ fixed_words rs f) w.text) (is_ret w.text) x).0))
@@ -78,14 +78,14 @@ not-destination (d ∷ ds) o a = both (bytes_eq (name_of o) d.text) (not-same d.
     both true e h = absurd (true≢false e)
     both false e h = h
 
-hidden-names : (f : FunctionTree) (os : List Occurrence) → AllByRecursion (λ d. is_among (occurrence_words os) d.text ≡ false) (destinations f) → AllByRecursion IsHidden (map (name_in_body f) os)
+pub hidden-names : (f : FunctionTree) (os : List Occurrence) → AllByRecursion (λ d. is_among (occurrence_words os) d.text ≡ false) (destinations f) → AllByRecursion IsHidden (map (name_in_body f) os)
 hidden-names f [] a = tt
 hidden-names f (o ∷ os) a =
     (ap (λ b. if b then known_as o.sort o.word else None) (not-destination (destinations f) o (each_weaker (λ d. is_among (occurrence_words (o ∷ os)) d.text ≡ false) (λ d. bytes_eq d.text (name_of o) ≡ false) (λ d x. (or-false (bytes_eq d.text (name_of o)) (is_among (occurrence_words os) d.text) x).0) (destinations f) a)),
       hidden-names f os (each_weaker (λ d. is_among (occurrence_words (o ∷ os)) d.text ≡ false) (λ d. is_among (occurrence_words os) d.text ≡ false) (λ d x. (or-false (bytes_eq d.text (name_of o)) (is_among (occurrence_words os) d.text) x).1) (destinations f) a))
 
 -- a destination that is free is a local
-kept-if : {A : Type 0} (P : A → Type 0) (p : A → Bool) (xs : List A) → AllByRecursion P (filter p xs) → AllByRecursion (λ x. p x ≡ true → P x) xs
+pub kept-if : {A : Type 0} (P : A → Type 0) (p : A → Bool) (xs : List A) → AllByRecursion P (filter p xs) → AllByRecursion (λ x. p x ≡ true → P x) xs
 kept-if P p [] a = tt
 kept-if P p (x ∷ xs) a = by (p x) a (λ d. kept-if P p xs d)
   where
@@ -101,14 +101,14 @@ in-both before w more = list_any-append (λ v. bytes_eq w.text v.text) before (w
     at false true e = refl
     at false false e = absurd (true≢false (sym e))
 
-among-from : (before more : List Word) → AllByRecursion (λ w. is_among (before ++ more) w.text ≡ true) more
+pub among-from : (before more : List Word) → AllByRecursion (λ w. is_among (before ++ more) w.text ≡ true) more
 among-from before [] = tt
 among-from before (w ∷ more) = (in-both before w more, subst (λ xs. AllByRecursion (λ v. is_among xs v.text ≡ true) more) (append_assoc before (w ∷ []) more) (among-from (before ++ w ∷ []) more))
 
-abbrev Local : List RegionTree → FunctionTree → Word → Type 0
+abbrev pub Local : List RegionTree → FunctionTree → Word → Type 0
 Local rs f w = (is_among (parameters f) w.text ≡ false) × (is_among (locals rs f) w.text ≡ true)
 
-options-flat : {A B : Type 0} (P : B → Type 0) (h : A → Option B) (xs : List A) → AllByRecursion P (filter_map h xs) → AllByRecursion (λ x. AllByRecursion P (option_to_list (h x))) xs
+pub options-flat : {A B : Type 0} (P : B → Type 0) (h : A → Option B) (xs : List A) → AllByRecursion P (filter_map h xs) → AllByRecursion (λ x. AllByRecursion P (option_to_list (h x))) xs
 options-flat P h [] a = tt
 options-flat {A} {B} P h (x ∷ xs) a = by (h x) a (λ d. options-flat P h xs d)
   where
@@ -116,7 +116,7 @@ options-flat {A} {B} P h (x ∷ xs) a = by (h x) a (λ d. options-flat P h xs d)
     by None d rest = (tt, rest d)
     by (Some b) d rest = ((d.0, tt), rest d.1)
 
-local-destinations : (rs : List RegionTree) (fs : List FunctionTree) (f : FunctionTree) (ss : List StatementTree) → AllByRecursion (λ s. AllByRecursion (λ w. is_among (destinations f) w.text ≡ true) (option_to_list (destination s))) ss → AllByRecursion (λ s. AllByRecursion (λ w. is_local rs f w ≡ true → is_among (locals rs f) w.text ≡ true) (statement_words s)) ss → AllByRecursion (λ s. statement_findings (context_of rs fs f) s ≡ []) ss → AllByRecursion (λ s. AllByRecursion (Local rs f) (option_to_list (destination s))) ss
+pub local-destinations : (rs : List RegionTree) (fs : List FunctionTree) (f : FunctionTree) (ss : List StatementTree) → AllByRecursion (λ s. AllByRecursion (λ w. is_among (destinations f) w.text ≡ true) (option_to_list (destination s))) ss → AllByRecursion (λ s. AllByRecursion (λ w. is_local rs f w ≡ true → is_among (locals rs f) w.text ≡ true) (statement_words s)) ss → AllByRecursion (λ s. statement_findings (context_of rs fs f) s ≡ []) ss → AllByRecursion (λ s. AllByRecursion (Local rs f) (option_to_list (destination s))) ss
 local-destinations rs fs f [] a b c = tt
 local-destinations rs fs f (s ∷ ss) a b c =
     (zipped (option_to_list (destination s)) a.0 (each_front (λ w. is_local rs f w ≡ true → is_among (locals rs f) w.text ≡ true) (option_to_list (destination s)) _ b.0) (free-destination rs fs f s c.0),
@@ -167,10 +167,10 @@ in-body p rs fs f h s t a = each_weaker (λ (q : ℕ × ℤ). HasSort (sorts_of 
 statement-known : (rs : List RegionTree) (fs : List FunctionTree) (f : FunctionTree) (s : StatementTree) → statement_findings (context_of rs fs f) s ≡ [] → AllByRecursion (IsKnown (names.body_scope rs f)) (statement_names s)
 statement-known rs fs f s e = names-known (names.body_scope rs f) (statement_names s) (nothing_front (unknown_in (names.body_scope rs f) (statement_names s)) _ (nothing_behind (map twice_word (filter (is_forbidden (context_of rs fs f)) (option_to_list (destination s)))) _ e))
 
-after-names : (g : Context) (s : StatementTree) → statement_findings g s ≡ [] → flat_map (callee_findings g.functions) (option_to_list (callee s)) ++ (flat_map cells_findings (option_to_list (cells s)) ++ (terms_findings g.body (statement_wanted g.body s) ++ clause_findings g g.loop (invariant s))) ≡ []
+pub after-names : (g : Context) (s : StatementTree) → statement_findings g s ≡ [] → flat_map (callee_findings g.functions) (option_to_list (callee s)) ++ (flat_map cells_findings (option_to_list (cells s)) ++ (terms_findings g.body (statement_wanted g.body s) ++ clause_findings g g.loop (invariant s))) ≡ []
 after-names g s e = nothing_behind (unknown_in g.body (statement_names s)) _ (nothing_behind (map twice_word (filter (is_forbidden g) (option_to_list (destination s)))) _ e)
 
-after-callee : (g : Context) (s : StatementTree) → statement_findings g s ≡ [] → flat_map cells_findings (option_to_list (cells s)) ++ (terms_findings g.body (statement_wanted g.body s) ++ clause_findings g g.loop (invariant s)) ≡ []
+pub after-callee : (g : Context) (s : StatementTree) → statement_findings g s ≡ [] → flat_map cells_findings (option_to_list (cells s)) ++ (terms_findings g.body (statement_wanted g.body s) ++ clause_findings g g.loop (invariant s)) ≡ []
 after-callee g s e = nothing_behind (flat_map (callee_findings g.functions) (option_to_list (callee s))) _ (after-names g s e)
 
 after-cells : (g : Context) (s : StatementTree) → statement_findings g s ≡ [] → terms_findings g.body (statement_wanted g.body s) ++ clause_findings g g.loop (invariant s) ≡ []
@@ -179,17 +179,17 @@ after-cells g s e = nothing_behind (flat_map cells_findings (option_to_list (cel
 statement-terms : (rs : List RegionTree) (fs : List FunctionTree) (f : FunctionTree) (s : StatementTree) → statement_findings (context_of rs fs f) s ≡ [] → terms_findings (names.body_scope rs f) (statement_wanted (names.body_scope rs f) s) ≡ []
 statement-terms rs fs f s e = nothing_front (terms_findings (names.body_scope rs f) (statement_wanted (names.body_scope rs f) s)) _ (after-cells (context_of rs fs f) s e)
 
-statement-invariant : (g : Context) (s : StatementTree) → statement_findings g s ≡ [] → clause_findings g g.loop (invariant s) ≡ []
+pub statement-invariant : (g : Context) (s : StatementTree) → statement_findings g s ≡ [] → clause_findings g g.loop (invariant s) ≡ []
 statement-invariant g s e = nothing_behind (terms_findings g.body (statement_wanted g.body s)) _ (after-cells g s e)
 
-statement-values : (p : PlainProgram) (rs : List RegionTree) (fs : List FunctionTree) (f : FunctionTree) → FunctionReads p rs fs f → (s : StatementTree) → RightStatement rs fs f s → AllByRecursion (IsValue (function_program rs fs f)) (body_terms (context_of rs fs f) (statement_terms s))
+pub statement-values : (p : PlainProgram) (rs : List RegionTree) (fs : List FunctionTree) (f : FunctionTree) → FunctionReads p rs fs f → (s : StatementTree) → RightStatement rs fs f s → AllByRecursion (IsValue (function_program rs fs f)) (body_terms (context_of rs fs f) (statement_terms s))
 statement-values p rs fs f h s a =
     each_weaker (TermFits (sorts_of (names.body_scope rs f)) Int) (IsValue (function_program rs fs f)) (λ t x. in-body p rs fs f h Int t x) (map (term_form (names.body_scope rs f)) (statement_terms s))
       (terms-fit (names.body_scope rs f) (statement_terms s)
         (each_front (IsKnown (names.body_scope rs f)) (flat_map term_words (statement_terms s)) _ (statement-known rs fs f s a.nothing))
         (terms-front (names.body_scope rs f) (map (wanted_as (Some Int)) (statement_terms s)) _ (statement-terms rs fs f s a.nothing)))
 
-statement-comparisons : (p : PlainProgram) (rs : List RegionTree) (fs : List FunctionTree) (f : FunctionTree) → FunctionReads p rs fs f → (s : StatementTree) → RightStatement rs fs f s → AllByRecursion (CompFits (body_scope (function_program rs fs f))) (map (comparison_program (names.body_scope rs f)) (option_to_list (statement_comparison s)))
+pub statement-comparisons : (p : PlainProgram) (rs : List RegionTree) (fs : List FunctionTree) (f : FunctionTree) → FunctionReads p rs fs f → (s : StatementTree) → RightStatement rs fs f s → AllByRecursion (CompFits (body_scope (function_program rs fs f))) (map (comparison_program (names.body_scope rs f)) (option_to_list (statement_comparison s)))
 statement-comparisons p rs fs f h s a =
     each_weaker (CompFits (sorts_of (names.body_scope rs f))) (CompFits (body_scope (function_program rs fs f))) (λ (c : Comp) x. (in-body p rs fs f h c.sort c.left x.0, in-body p rs fs f h c.sort c.right x.1)) (map (comparison_program (names.body_scope rs f)) (option_to_list (statement_comparison s)))
       (comparisons-fit (names.body_scope rs f) (option_to_list (statement_comparison s))

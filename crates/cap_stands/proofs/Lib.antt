@@ -12,3 +12,4 @@ pub mod Clauses
 pub mod Regions
 pub mod Bodies
 pub mod Functions
+pub mod Statements
