@@ -187,7 +187,7 @@ fact-fits p rs h scope inside k args s e a w = by (region_named rs k.text) refl 
           value = slot-fits scope Int s (slot-known scope inside Int s (each_behind (OccursKnown scope) (flat_map (λ (a : Place × SlotTree). slot_occurrences inside Int a.1) args) _ a)) (terms-behind scope (flat_map (λ (a : Place × SlotTree). slot_wanted (Some Int) a.1) args) _ w);
         })
 
-all_items-append : (P : PlainItem → Type 0) (a b : Items) → ItemsAre P a → ItemsAre P b → ItemsAre P (append_items a b)
+pub all_items-append : (P : PlainItem → Type 0) (a b : Items) → ItemsAre P a → ItemsAre P b → ItemsAre P (append_items a b)
 all_items-append P none b x y = y
 all_items-append P (item i a) b x y =
     (x.0, each_append P (side_items i) (all_items (append_items a b)) (each_front P (side_items i) (all_items a) x.1) (all_items-append P a b (each_behind P (side_items i) (all_items a) x.1) y))

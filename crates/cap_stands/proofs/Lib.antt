@@ -13,3 +13,4 @@ pub mod Regions
 pub mod Bodies
 pub mod Functions
 pub mod Statements
+pub mod Tokens
