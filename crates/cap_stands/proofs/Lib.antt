@@ -14,3 +14,4 @@ pub mod Bodies
 pub mod Functions
 pub mod Statements
 pub mod Tokens
+pub mod Short

@@ -23,7 +23,7 @@ use Rattle.cap_stands.proofs.Bodies.{all_statements-append}
 use Rattle.cap_stands.proofs.Statements.{FunctionShort}
 
 -- each adds at least one token
-abbrev Adds : {A : Type 0} → Spells A → Type 0
+abbrev pub Adds : {A : Type 0} → Spells A → Type 0
 Adds {A} spell = (a : A) (ts : List Token) → length ts < length (spell a ts)
 
 mutual
@@ -40,7 +40,7 @@ mutual
   factors-add no_factor ts = omega arith
   factors-add (times p f fs) ts = omega (arith, factor-adds f (spell_factors fs ts), factors-add fs ts)
 
-  term-adds : Adds spell_term
+  pub term-adds : Adds spell_term
   term-adds (term None m ms) ts = omega (arith, product-adds m (spell_products ms ts), products-add ms ts)
   term-adds (term (Some p) m ms) ts = omega (arith, product-adds m (spell_products ms ts), products-add ms ts)
 
@@ -48,46 +48,46 @@ mutual
   products-add no_product ts = omega arith
   products-add (signed s p m ms) ts = omega (arith, product-adds m (spell_products ms ts), products-add ms ts)
 
-comparison-adds : Adds spell_comparison
+pub comparison-adds : Adds spell_comparison
 comparison-adds c ts = omega (arith, term-adds c.left (symbol (relation_text c.relation) c.place ∷ spell_term c.right ts), term-adds c.right ts)
 
-slot-adds : Adds spell_slot
+pub slot-adds : Adds spell_slot
 slot-adds (any p) ts = omega arith
 slot-adds (is t) ts = term-adds t ts
 
-guard-adds : Adds spell_guard
+pub guard-adds : Adds spell_guard
 guard-adds (alone w) ts = omega arith
 guard-adds (amount w p s q) ts = omega (arith, slot-adds s (symbol (codes "]") q ∷ ts))
 guard-adds (count c k w p s q) ts = omega (arith, slot-adds s (symbol (codes "]") q ∷ ts))
 
-name-adds : Adds spell_name
+pub name-adds : Adds spell_name
 name-adds w ts = omega arith
 
 -- lists of parts
-all-add : {A : Type 0} (spell : Spells A) → Adds spell → (xs : List A) (ts : List Token) → length xs + length ts ≤ length (spell_all spell xs ts)
+pub all-add : {A : Type 0} (spell : Spells A) → Adds spell → (xs : List A) (ts : List Token) → length xs + length ts ≤ length (spell_all spell xs ts)
 all-add spell h [] ts = omega arith
 all-add spell h (x ∷ xs) ts = omega (arith, h x (spell_all spell xs ts), all-add spell h xs ts)
 
 behind-adds : {A : Type 0} (separator : List ℕ) (spell : Spells A) → Adds spell → Adds (spell_behind separator spell)
 behind-adds separator spell h a ts = omega (arith, h a.1 ts)
 
-several-add : {A : Type 0} (separator : List ℕ) (spell : Spells A) → Adds spell → (s : Several A) (ts : List Token) → length (parts_of s) + length ts ≤ length (spell_several separator spell s ts)
+pub several-add : {A : Type 0} (separator : List ℕ) (spell : Spells A) → Adds spell → (s : Several A) (ts : List Token) → length (parts_of s) + length ts ≤ length (spell_several separator spell s ts)
 several-add {A} separator spell h s ts =
     let n : length (map (λ (m : Place × A). m.1) s.more) ≡ length s.more = length-map s.more (λ (m : Place × A). m.1) in
     omega (arith, h s.first (spell_more separator spell s.more ts), all-add (spell_behind separator spell) (behind-adds separator spell h) s.more ts)
 
-option-adds : {A : Type 0} (spell : Spells A) → Adds spell → (o : Option A) (ts : List Token) → length ts ≤ length (spell_option spell o ts)
+pub option-adds : {A : Type 0} (spell : Spells A) → Adds spell → (o : Option A) (ts : List Token) → length ts ≤ length (spell_option spell o ts)
 option-adds spell h None ts = omega arith
 option-adds spell h (Some a) ts = omega (arith, h a ts)
 
-listed-adds : {A : Type 0} (spell : Spells A) → Adds spell → Adds (spell_listed spell)
+pub listed-adds : {A : Type 0} (spell : Spells A) → Adds spell → Adds (spell_listed spell)
 listed-adds {A} spell h l ts = by l.parts
   where
     by : (o : Option (Several A)) → length ts < length (symbol (codes "(") l.before ∷ spell_option (spell_several (codes ",") spell) o (symbol (codes ")") l.behind ∷ ts))
     by None = omega arith
     by (Some s) = omega (arith, several-add (codes ",") spell h s (symbol (codes ")") l.behind ∷ ts))
 
-group-add : {A : Type 0} (key : List ℕ) (spell : Spells A) → Adds spell → (g : InBraces A) (ts : List Token) → length g.parts + length ts ≤ length (spell_group key spell g ts)
+pub group-add : {A : Type 0} (key : List ℕ) (spell : Spells A) → Adds spell → (g : InBraces A) (ts : List Token) → length g.parts + length ts ≤ length (spell_group key spell g ts)
 group-add key spell h g ts = omega (arith, all-add spell h g.parts (symbol (codes "}") g.behind ∷ ts))
 
 -- ---- assertions
@@ -119,7 +119,7 @@ mutual
   items-add rs types scope no_item ts = omega arith
   items-add rs types scope (and_item p i more) ts = omega (arith, append-count (item_program rs types scope i) (items_program rs types scope more), item-adds rs types scope i (spell_items more ts), items-add rs types scope more ts)
 
-  assertion-adds : (rs : List RegionTree) (types : List TypedName) (scope : NameScope) (a : AssertionTree) (ts : List Token) → items_length (assertion_program rs types scope a) + length ts ≤ length (spell_assertion a ts)
+  pub assertion-adds : (rs : List RegionTree) (types : List TypedName) (scope : NameScope) (a : AssertionTree) (ts : List Token) → items_length (assertion_program rs types scope a) + length ts ≤ length (spell_assertion a ts)
   assertion-adds rs types scope (assertion i more) ts = omega (arith, append-count (item_program rs types scope i) (items_program rs types scope more), item-adds rs types scope i (spell_items more ts), items-add rs types scope more ts)
 
   side-adds : (rs : List RegionTree) (types : List TypedName) (scope : NameScope) (s : SideTree) (ts : List Token) → items_length (side_program rs types scope s) + length ts ≤ length (spell_side s ts)
@@ -169,13 +169,13 @@ mutual
       let x : length (spell_assertion a (symbol (codes "}") q ∷ ts)) ≤ most_members = omega arith in
       assertion-short rs types scope a (symbol (codes "}") q ∷ ts) x
 
-assertion-items : (rs : List RegionTree) (types : List TypedName) (scope : NameScope) (a : AssertionTree) (ts : List Token) → length (spell_assertion a ts) ≤ most_members → ItemsShort (assertion_program rs types scope a)
+pub assertion-items : (rs : List RegionTree) (types : List TypedName) (scope : NameScope) (a : AssertionTree) (ts : List Token) → length (spell_assertion a ts) ≤ most_members → ItemsShort (assertion_program rs types scope a)
 assertion-items rs types scope a ts h = record { length = omega (arith, assertion-adds rs types scope a ts); sides = assertion-short rs types scope a ts h }
 
-clause-adds : (key : List ℕ) → Adds (spell_clause key)
+pub clause-adds : (key : List ℕ) → Adds (spell_clause key)
 clause-adds key c ts = omega (arith, assertion-adds [] [] [] c.assertion (symbol (codes ";") c.semicolon ∷ ts))
 
-clause-items : (rs : List RegionTree) (types : List TypedName) (scope : NameScope) (key : List ℕ) (c : Option ClauseTree) (ts : List Token) → length (spell_option (spell_clause key) c ts) ≤ most_members → ItemsShort (clause_program rs types scope c)
+pub clause-items : (rs : List RegionTree) (types : List TypedName) (scope : NameScope) (key : List ℕ) (c : Option ClauseTree) (ts : List Token) → length (spell_option (spell_clause key) c ts) ≤ most_members → ItemsShort (clause_program rs types scope c)
 clause-items rs types scope key None ts h = record { length = omega arith; sides = tt }
 clause-items rs types scope key (Some c) ts h =
     let x : length (spell_assertion c.assertion (symbol (codes ";") c.semicolon ∷ ts)) ≤ most_members = omega arith in
