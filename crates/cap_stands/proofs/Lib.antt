@@ -15,3 +15,4 @@ pub mod Functions
 pub mod Statements
 pub mod Tokens
 pub mod Short
+pub mod WellFormed
