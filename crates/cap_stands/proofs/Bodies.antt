@@ -1,36 +1,22 @@
 -- The body of a function in which nothing is found fits a program.
-use Rattle.std.proofs.Common.{◌≡◌, ℕ, zero, suc, ◌+◌, ◌-◌, ◌<◌, ◌≤◌, Bool, true, false, true≢false, not, ◌&&◌, ◌||◌, cond, bytes_eq, find, List, [], ◌∷◌, ◌++◌, map, filter, filter_map, flat_map, length, slice_get, Option, Some, None, option_to_list, option_map, IsSomeAnd, refl, sym, ap, subst, ◌∙◌, arith, append_assoc, append-nil, length-append, eqb-true, zero-add}
-use Rattle.std.specs.Prelude.{◌==◌, nat_lt, nat_le, if◌then◌else◌}
-use Rattle.std.specs.List.{AllByRecursion, list_any, position_or_len, range_with_len, cons_option}
+use Rattle.std.proofs.Common.{◌≡◌, ℕ, zero, suc, ◌+◌, ◌-◌, ◌<◌, ◌≤◌, Bool, true, false, true≢false, not, ◌||◌, cond, bytes_eq, List, [], ◌∷◌, ◌++◌, map, length, slice_get, Option, Some, None, refl, sym, ap, subst, ◌∙◌, arith, append_assoc, length-append, zero-add}
+use Rattle.std.specs.List.{AllByRecursion, list_any, position_or_len, range_with_len}
 use Rattle.std.proofs.lemmas.List.{length-map, map-append, replicate-append-replicate}
-use Rattle.std.proofs.lemmas.List.Folds.{find_at, list_any-append}
-use Rattle.std.proofs.lemmas.Option.{slice_get-map}
-use Rattle.std.proofs.lemmas.Bool.Decides.{nat_tests}
-use Rattle.cap_lin.specs.Linear.{Linear, number}
 use Rattle.cap_lin.specs.declared.row.Sort.{Sort}
 use Rattle.cap_lin.specs.declared.row.Sort.TheVariants.{Int}
 use Rattle.cap_syntax.specs.declared.place.Place.{Place}
-use Rattle.cap_prog.specs.Program.{PlainAct, Block, done, first, append, PlainStatement, PlainProgram, PlainFunction}
-use Rattle.cap_prog.specs.Parts.{all_statements, block_statements, blocks, block_length}
+use Rattle.cap_prog.specs.Program.{Block, done, first, append, PlainStatement, PlainProgram}
+use Rattle.cap_prog.specs.Parts.{all_statements, block_statements}
 use Rattle.cap_prog.specs.Scopes.{Scope, HasSort, TermFits, CompFits, body_scope, fixed_start}
 use Rattle.cap_prog.specs.Scopes as sorted
-use Rattle.cap_prog.specs.WellFormed.{most_cells, most_members, ActFits, IsLocal, IsValue, CallFits, AssertionFits, EndsInReturn, IsClosingReturn}
+use Rattle.cap_prog.specs.WellFormed.{EndsInReturn}
 use Rattle.cap_tree.specs.declared.word.Word.{Word}
-use Rattle.cap_tree.specs.Tree.{listed_parts, TermTree, ComparisonTree, ClauseTree, ValueTree, value, load, alloc, cas, result_of, StatementTree, assign, store, call, fork, branch, loop, check, give_back, ElseTree, no_else, else_block, StatementTrees, no_statement, then_statement, BlockTree, block, RegionTree, FunctionTree}
-use Rattle.cap_stands.specs.Finding.{Finding, unknown_word, twice_word, wrong_arity, limit, cell_count}
-use Rattle.cap_stands.specs.Parts.{term_words, comparison_words, statement_parts, else_parts, statements_parts, block_parts, statement_terms, statement_comparison, statement_names, destination, invariant, callee, cells, parameters}
-use Rattle.cap_stands.specs.Names.{KnownName, NameScope, knows, has_name, known_sort, sorts_of, variable_of, whole_numbers, is_among, is_ret, firsts, word_text}
-use Rattle.cap_stands.specs.Linear.{term_form}
-use Rattle.cap_stands.specs.Terms.{WantedTerm, wanted_as, term_findings, terms_findings, comparison_wanted}
-use Rattle.cap_stands.specs.Items.{Occurrence, name_of, occurrence_words}
-use Rattle.cap_stands.specs.Functions.{fixed_names, fixed_words, statements, statement_words, clause_words, destinations, is_local, locals, name_in_body, loop_scope, Context, context_of, clause_types, clause_bound, clause_scope, clause_findings, unknown_in, is_function, function_named, called_findings, callee_findings, cells_findings, is_forbidden, statement_wanted, statement_findings}
-use Rattle.cap_stands.specs.Program.{comparison_program, clause_program, occurrence_sorts, function_number, destination_number, body_term, body_terms, new_assertion, assign_program, returned, statement_place, label, act_program, else_program, statements_program, block_program, closing_return, block_end, body_program, function_program}
-use Rattle.cap_stands.proofs.Every.{each_append, each_front, each_behind, each_map, each_flat, each_weaker}
-use Rattle.cap_stands.proofs.Nothing.{cons_not_nil, nothing_front, nothing_behind, nothing_flat, nothing_mapped, nothing_kept, not_found}
-use Rattle.cap_stands.proofs.Sorts.{IsKnown}
-use Rattle.cap_stands.proofs.Known.{same-text, stands-in, all-put, sorts-whole}
-use Rattle.cap_stands.proofs.Terms.{TermKnown, ComparisonKnown, term-fits, comparison-fits, terms-front, terms-behind}
-use Rattle.cap_stands.proofs.Items.{HasRegions}
+use Rattle.cap_tree.specs.Tree.{value, load, alloc, cas, result_of, StatementTree, assign, store, call, fork, branch, loop, check, give_back, ElseTree, no_else, else_block, StatementTrees, no_statement, then_statement, BlockTree, block, RegionTree, FunctionTree}
+use Rattle.cap_stands.specs.Parts.{statement_parts, else_parts, statements_parts, block_parts}
+use Rattle.cap_stands.specs.Names.{KnownName, NameScope, knows, has_name, known_sort, sorts_of, variable_of, whole_numbers, is_among}
+use Rattle.cap_stands.specs.Functions.{Context}
+use Rattle.cap_stands.specs.Program.{act_program, else_program, statements_program, block_program, closing_return, block_end, body_program, function_program}
+use Rattle.cap_stands.proofs.Known.{sorts-whole}
 
 -- a program that has the functions of these trees
 abbrev pub HasFunctions : PlainProgram → List RegionTree → List FunctionTree → Type 0
@@ -140,7 +126,7 @@ mutual
   act-numbered g n (branch p q c r b e) =
       let h : length (block_parts b) + length (else_parts e) ≡ length (statement_parts (branch p q c r b e)) - 1 = omega (arith, length-append (block_parts b) (else_parts e)) in
       subst (λ k. Numbered (n + 1) k (all_statements (block_program g (n + 1) b) ++ all_statements (else_program g (n + 1 + length (block_parts b)) e))) h
-        (numbered-append (n + 1) (length (block_parts b)) (length (else_parts e)) (all_statements (block_program g (n + 1) b)) (all_statements (else_program g (n + 1 + length (block_parts b)) e)) (block-numbered g (n + 1) b) (else-numbered g (n + 1 + length (block_parts b)) e))
+      (numbered-append (n + 1) (length (block_parts b)) (length (else_parts e)) (all_statements (block_program g (n + 1) b)) (all_statements (else_program g (n + 1 + length (block_parts b)) e)) (block-numbered g (n + 1) b) (else-numbered g (n + 1 + length (block_parts b)) e))
   act-numbered g n (loop p q c r i b) =
       let h : length (block_parts b) ≡ length (statement_parts (loop p q c r i b)) - 1 = omega arith in
       subst (λ k. Numbered (n + 1) k (all_statements (block_program g (n + 1) b))) h (block-numbered g (n + 1) b)
@@ -157,8 +143,8 @@ mutual
       let h : suc (length (statement_parts s) - 1 + length (statements_parts ss)) ≡ length (statement_parts s ++ statements_parts ss) = omega (arith, some-parts s, length-append (statement_parts s) (statements_parts ss)) in
       let d : n + length (statement_parts s) ≡ n + 1 + (length (statement_parts s) - 1) = omega (arith, some-parts s) in
       subst (λ k. Numbered n k (all_statements (statements_program g n (then_statement s ss)))) h
-        (ap (λ ks. n ∷ ks) (numbered-append (n + 1) (length (statement_parts s) - 1) (length (statements_parts ss)) (block_statements (act_program g n s)) (all_statements (statements_program g (n + length (statement_parts s)) ss)) (act-numbered g n s)
-          (subst (λ k. Numbered k (length (statements_parts ss)) (all_statements (statements_program g (n + length (statement_parts s)) ss))) d (statements-numbered g (n + length (statement_parts s)) ss))))
+      (ap (λ ks. n ∷ ks) (numbered-append (n + 1) (length (statement_parts s) - 1) (length (statements_parts ss)) (block_statements (act_program g n s)) (all_statements (statements_program g (n + length (statement_parts s)) ss)) (act-numbered g n s)
+      (subst (λ k. Numbered k (length (statements_parts ss)) (all_statements (statements_program g (n + length (statement_parts s)) ss))) d (statements-numbered g (n + length (statement_parts s)) ss))))
 
   pub block-numbered : (g : Context) (n : ℕ) (b : BlockTree) → Numbered n (length (block_parts b)) (all_statements (block_program g n b))
   block-numbered g n (block p ss q) = statements-numbered g n ss

@@ -1,11 +1,10 @@
 -- The assertions of a function and of a case fit a program, where nothing is found in them.
-use Rattle.std.proofs.Common.{◌≡◌, ℕ, ◌+◌, ◌≤◌, Bool, true, false, true≢false, not, ◌||◌, List, [], ◌∷◌, ◌++◌, map, filter, length, flat_map, replicate, Option, Some, None, refl, sym, ap, subst, ◌∙◌, arith, append_assoc, length-append, append-nil}
+use Rattle.std.proofs.Common.{◌≡◌, ℕ, ◌+◌, ◌≤◌, Bool, true, false, not, ◌||◌, List, [], ◌∷◌, ◌++◌, map, filter, length, flat_map, Option, Some, None, refl, sym, ap, subst, ◌∙◌, append_assoc, length-append}
 use Rattle.std.specs.List.{AllByRecursion}
-use Rattle.std.proofs.lemmas.List.{length-map, map-append, replicate-append-replicate}
+use Rattle.std.proofs.lemmas.List.{length-map, replicate-append-replicate}
 use Rattle.std.proofs.lemmas.List.Folds.{list_any-append}
 use Rattle.cap_lin.specs.declared.row.Sort.TheVariants.{Int}
-use Rattle.cap_syntax.specs.declared.place.Place.{Place}
-use Rattle.cap_prog.specs.Program.{Items, none, PlainProgram, PlainFunction}
+use Rattle.cap_prog.specs.Program.{PlainProgram}
 use Rattle.cap_prog.specs.Scopes.{Scope, known}
 use Rattle.cap_prog.specs.Scopes as sorted
 use Rattle.cap_prog.specs.WellFormed.{ItemFits, most_variables}
@@ -15,14 +14,14 @@ use Rattle.cap_stands.specs.Finding.{Finding, unknown_word}
 use Rattle.cap_stands.specs.Parts.{PlacedItem, clause_parts, parameters}
 use Rattle.cap_stands.specs.Names.{KnownName, NameScope, knows, has_name, known_sort, sorts_of, whole_numbers, hidden, word_place, past_variables}
 use Rattle.cap_stands.specs.Terms.{terms_findings}
-use Rattle.cap_stands.specs.Items.{TypedName, types_told, Occurrence, name_of, is_bound, occurrences, item_occurrences, new_names, scope_of, occurrence_word, occurrence_words, ret_findings, item_findings, item_wanted}
-use Rattle.cap_stands.specs.Functions.{requires_types, requires_new, fixed_names, locals, requires_scope, result_scope, result_entry, loop_scope, Context, context_of, new_findings, items_findings, requires_findings, clause_types, clause_new, clause_bound, clause_scope, clause_findings}
-use Rattle.cap_stands.specs.Program.{clause_program, occurrence_sort, occurrence_sorts, new_assertion}
-use Rattle.cap_stands.proofs.Every.{each_append, each_flat, each_weaker, each_mapped}
+use Rattle.cap_stands.specs.Items.{TypedName, Occurrence, name_of, is_bound, occurrences, item_occurrences, scope_of, occurrence_word, occurrence_words, ret_findings, item_findings, item_wanted}
+use Rattle.cap_stands.specs.Functions.{requires_types, requires_new, fixed_names, locals, requires_scope, result_entry, Context, new_findings, items_findings, requires_findings, clause_types, clause_new, clause_bound, clause_scope, clause_findings}
+use Rattle.cap_stands.specs.Program.{clause_program, occurrence_sort, occurrence_sorts}
+use Rattle.cap_stands.proofs.Every.{each_flat, each_weaker}
 use Rattle.cap_stands.proofs.Nothing.{nothing_front, nothing_behind, nothing_flat, nothing_mapped, nothing_kept}
 use Rattle.cap_stands.proofs.Known.{OccursKnown, occurrences-known, all-kept, knows-front, knows-behind, sorts-whole, sorts-hidden, sorts-names, sorts-last}
 use Rattle.cap_stands.proofs.Terms.{terms-flat}
-use Rattle.cap_stands.proofs.Items.{RightItem, Right, Reads, TypesNumbered, HasRegions, told-numbered, ItemsAre, assertion-fit}
+use Rattle.cap_stands.proofs.Items.{Right, Reads, ItemsAre, assertion-fit}
 use Rattle.cap_stands.proofs.Counts.{within-limit}
 
 -- each item is right
@@ -56,23 +55,23 @@ between a h b x e = by (knows a x) refl (sym (list_any-append (has_name x) a b) 
 pub requires-right : (rs : List RegionTree) (f : FunctionTree) → requires_findings rs f ≡ [] → Right rs None (requires_types rs f) (requires_scope rs f) (clause_parts f.precondition)
 requires-right rs f e =
     right-items rs None (requires_types rs f) (requires_scope rs f) (clause_parts f.precondition)
-      (each_weaker (OccursKnown (whole_numbers (parameters f) ++ scope_of (requires_new rs f))) (OccursKnown (requires_scope rs f))
-        (λ o x. between (whole_numbers (parameters f)) (hidden (locals rs f)) (scope_of (fixed_names rs f)) (name_of o)
-          (subst (λ os. knows (whole_numbers (parameters f) ++ scope_of os) (name_of o) ≡ true) (sym (all-bound (requires_new rs f) (nothing_front (new_findings (requires_new rs f)) _ e))) x))
-        (occurrences (requires_types rs f) (clause_parts f.precondition))
-        (occurrences-known (whole_numbers (parameters f)) (occurrences (requires_types rs f) (clause_parts f.precondition))))
-      (nothing_front (flat_map (λ (i : PlacedItem). item_findings rs None (requires_types rs f) (requires_scope rs f) i.1) (clause_parts f.precondition)) _ (nothing_behind (new_findings (requires_new rs f)) _ e))
-      (nothing_behind (flat_map (λ (i : PlacedItem). item_findings rs None (requires_types rs f) (requires_scope rs f) i.1) (clause_parts f.precondition)) _ (nothing_behind (new_findings (requires_new rs f)) _ e))
+    (each_weaker (OccursKnown (whole_numbers (parameters f) ++ scope_of (requires_new rs f))) (OccursKnown (requires_scope rs f))
+    (λ o x. between (whole_numbers (parameters f)) (hidden (locals rs f)) (scope_of (fixed_names rs f)) (name_of o)
+    (subst (λ os. knows (whole_numbers (parameters f) ++ scope_of os) (name_of o) ≡ true) (sym (all-bound (requires_new rs f) (nothing_front (new_findings (requires_new rs f)) _ e))) x))
+    (occurrences (requires_types rs f) (clause_parts f.precondition))
+    (occurrences-known (whole_numbers (parameters f)) (occurrences (requires_types rs f) (clause_parts f.precondition))))
+    (nothing_front (flat_map (λ (i : PlacedItem). item_findings rs None (requires_types rs f) (requires_scope rs f) i.1) (clause_parts f.precondition)) _ (nothing_behind (new_findings (requires_new rs f)) _ e))
+    (nothing_behind (flat_map (λ (i : PlacedItem). item_findings rs None (requires_types rs f) (requires_scope rs f) i.1) (clause_parts f.precondition)) _ (nothing_behind (new_findings (requires_new rs f)) _ e))
 
 -- ---- `ensures` and invariants
 
 pub clause-right : (g : Context) (known : NameScope) (c : Option ClauseTree) → clause_findings g known c ≡ [] → Right g.regions None (clause_types g c) (clause_scope g known c) (clause_parts c)
 clause-right g known c e =
     right-items g.regions None (clause_types g c) (clause_scope g known c) (clause_parts c)
-      (subst (λ os. AllByRecursion (OccursKnown (known ++ scope_of os)) (occurrences (clause_types g c) (clause_parts c))) (sym (all-bound (clause_new g known c) (nothing_front (new_findings (clause_new g known c)) _ e)))
-        (occurrences-known known (occurrences (clause_types g c) (clause_parts c))))
-      (nothing_front items _ rest)
-      (nothing_behind items _ rest)
+    (subst (λ os. AllByRecursion (OccursKnown (known ++ scope_of os)) (occurrences (clause_types g c) (clause_parts c))) (sym (all-bound (clause_new g known c) (nothing_front (new_findings (clause_new g known c)) _ e)))
+    (occurrences-known known (occurrences (clause_types g c) (clause_parts c))))
+    (nothing_front items _ rest)
+    (nothing_behind items _ rest)
   where
     items : List Finding
     items = flat_map (λ (i : PlacedItem). item_findings g.regions None (clause_types g c) (clause_scope g known c) i.1) (clause_parts c)
@@ -84,7 +83,7 @@ pub clause-count : (g : Context) (known : NameScope) (c : Option ClauseTree) →
 clause-count g known c e =
     let h = within-limit (g.counted ++ map word_place (occurrence_words (clause_bound g known c))) (nothing_front (past_variables (g.counted ++ map word_place (occurrence_words (clause_bound g known c)))) _ (nothing_behind (new_findings (clause_new g known c)) _ e)) in
     let n : length (g.counted ++ map word_place (occurrence_words (clause_bound g known c))) ≡ length g.counted + length (occurrence_sorts (clause_bound g known c)) =
-        length-append g.counted (map word_place (occurrence_words (clause_bound g known c))) ∙ ap (λ k. length g.counted + k) (length-map (occurrence_words (clause_bound g known c)) word_place ∙ (length-map (clause_bound g known c) occurrence_word ∙ sym (length-map (clause_bound g known c) occurrence_sort))) in
+    length-append g.counted (map word_place (occurrence_words (clause_bound g known c))) ∙ ap (λ k. length g.counted + k) (length-map (occurrence_words (clause_bound g known c)) word_place ∙ (length-map (clause_bound g known c) occurrence_word ∙ sym (length-map (clause_bound g known c) occurrence_sort))) in
     subst (λ k. k ≤ most_variables) n h
 
 -- ---- the sorts of the scopes of a function
@@ -105,7 +104,7 @@ result-sorts ps ls os vs =
     ap sorts_of (moved (whole_numbers ps) (hidden ls) (scope_of os) result_entry (scope_of vs))
     ∙ (sorts-whole ps (hidden ls ++ (scope_of os ++ (result_entry ∷ scope_of vs)))
     ∙ ap (λ ss. sorted.whole_numbers (length ps) ++ ss) (sorts-hidden ls (scope_of os ++ (result_entry ∷ scope_of vs))
-      ∙ ap (λ ss. sorted.hidden (length ls) ++ ss) (last-sorts os vs result_entry)))
+    ∙ ap (λ ss. sorted.hidden (length ls) ++ ss) (last-sorts os vs result_entry)))
 
 joined-sorts : (n m : ℕ) (b : Scope) → sorted.whole_numbers n ++ (sorted.whole_numbers m ++ b) ≡ sorted.whole_numbers (n + m) ++ b
 joined-sorts n m b = sym (append_assoc (sorted.whole_numbers n) (sorted.whole_numbers m) b) ∙ ap (λ ss. ss ++ b) (replicate-append-replicate n m (Some Int))
@@ -115,5 +114,5 @@ loop-sorts ps ls os vs =
     ap sorts_of (moved (whole_numbers ps) (whole_numbers ls) (scope_of os) None (scope_of vs))
     ∙ (sorts-whole ps (whole_numbers ls ++ (scope_of os ++ (None ∷ scope_of vs)))
     ∙ (ap (λ ss. sorted.whole_numbers (length ps) ++ ss) (sorts-whole ls (scope_of os ++ (None ∷ scope_of vs))
-      ∙ ap (λ ss. sorted.whole_numbers (length ls) ++ ss) (last-sorts os vs None))
+    ∙ ap (λ ss. sorted.whole_numbers (length ls) ++ ss) (last-sorts os vs None))
     ∙ joined-sorts (length ps) (length ls) (known (occurrence_sorts os) ++ (None ∷ known (occurrence_sorts vs)))))

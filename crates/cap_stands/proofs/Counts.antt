@@ -1,7 +1,7 @@
 -- Where no limit is passed, lists are short, and where no name is repeated, its numbers are distinct.
-use Rattle.std.proofs.Common.{◌≡◌, ℕ, zero, suc, ◌+◌, ◌<◌, ◌≤◌, Bool, true, false, true≢false, not, cond, ◌||◌, ◌&&◌, nat_lt, nat_eq, bytes_eq, count_by, fold, find, List, [], ◌∷◌, ◌++◌, map, length, slice_get, Option, Some, None, refl, sym, ap, subst, ◌∙◌, arith, ltb-false, eqb-true, zero-add}
+use Rattle.std.proofs.Common.{◌≡◌, ℕ, ◌+◌, ◌≤◌, Bool, true, false, true≢false, not, cond, ◌||◌, ◌&&◌, nat_lt, nat_eq, bytes_eq, count_by, fold, find, List, [], ◌∷◌, ◌++◌, map, length, slice_get, Some, refl, sym, ap, subst, ◌∙◌, arith, ltb-false, eqb-true, zero-add}
 use Rattle.std.specs.Prelude.{◌==◌, if◌then◌else◌}
-use Rattle.std.specs.List.{AllByRecursion, list_any, position_or_len, IsDistinct}
+use Rattle.std.specs.List.{AllByRecursion, IsDistinct}
 use Rattle.std.proofs.lemmas.List.Folds.{find_at, list_any-append}
 use Rattle.std.proofs.lemmas.Bool.Decides.{nat_tests}
 use Rattle.std.proofs.lemmas.Map.Keys.{IsDistinct-cons}
@@ -12,8 +12,8 @@ use Rattle.cap_tree.specs.declared.word.Word.{Word}
 use Rattle.cap_tree.specs.Tree.{GuardTree, DeclaredTree, unique, divisible, counting, grouped}
 use Rattle.cap_stands.specs.Finding.{is_earlier, limit, variable_count}
 use Rattle.cap_stands.specs.Parts.{atom_word}
-use Rattle.cap_stands.specs.Names.{is_among, repeated_after, repeated, is_past, past_variables}
-use Rattle.cap_stands.specs.Items.{NumberedRegion, is_guard, guard_words, guard_in, region_guards, guard_kind}
+use Rattle.cap_stands.specs.Names.{is_among, repeated_after, is_past, past_variables}
+use Rattle.cap_stands.specs.Items.{NumberedRegion, is_guard, region_guards}
 use Rattle.cap_stands.specs.Program.{guard_number}
 use Rattle.cap_stands.proofs.Every.{each_weaker}
 use Rattle.cap_stands.proofs.Nothing.{cons_not_nil, nothing_front, nothing_behind, nothing_flat, not_found}
@@ -104,11 +104,12 @@ distinct-guards k g h a b e = by (nat_eq (guard_number k g) (guard_number k h)) 
 -- no later name is one of these
 not-among : (before : List Word) (ws : List Word) → repeated_after before ws ≡ [] → AllByRecursion (λ w. is_among before w.text ≡ false) ws
 not-among before [] e = tt
-not-among before (w ∷ ws) e =
-    (unless (is_among before w.text) (nothing_front (if is_among before w.text then w ∷ [] else []) _ e),
-      each_weaker (λ v. is_among (before ++ w ∷ []) v.text ≡ false) (λ v. is_among before v.text ≡ false)
-        (λ v x. front (is_among before v.text) (is_among (w ∷ []) v.text) (sym (list_any-append (λ u. bytes_eq v.text u.text) before (w ∷ [])) ∙ x)) ws
-        (not-among (before ++ w ∷ []) ws (nothing_behind (if is_among before w.text then w ∷ [] else []) _ e)))
+not-among before (w ∷ ws) e = (
+  unless (is_among before w.text) (nothing_front (if is_among before w.text then w ∷ [] else []) _ e),
+  each_weaker (λ v. is_among (before ++ w ∷ []) v.text ≡ false) (λ v. is_among before v.text ≡ false)
+      (λ v x. front (is_among before v.text) (is_among (w ∷ []) v.text) (sym (list_any-append (λ u. bytes_eq v.text u.text) before (w ∷ [])) ∙ x)) ws
+      (not-among (before ++ w ∷ []) ws (nothing_behind (if is_among before w.text then w ∷ [] else []) _ e)),
+)
   where
     unless : (b : Bool) → (if b then w ∷ [] else []) ≡ [] → b ≡ false
     unless true h = cons_not_nil h
@@ -126,8 +127,8 @@ pub distinct : (k : NumberedRegion) (before : List Word) (gs : List GuardTree) �
 distinct k before [] e a = distinct-nil
 distinct k before (g ∷ gs) e a =
     IsDistinct-cons nat_eq (guard_number k g) (map (guard_number k) gs)
-      (apart gs (not-among (before ++ atom_word g ∷ []) (map atom_word gs) rest) a.1)
-      (distinct k (before ++ atom_word g ∷ []) gs rest a.1)
+    (apart gs (not-among (before ++ atom_word g ∷ []) (map atom_word gs) rest) a.1)
+    (distinct k (before ++ atom_word g ∷ []) gs rest a.1)
   where
     rest : repeated_after (before ++ atom_word g ∷ []) (map atom_word gs) ≡ []
     rest = nothing_behind (if is_among before (atom_word g).text then atom_word g ∷ [] else []) _ e
@@ -139,6 +140,7 @@ distinct k before (g ∷ gs) e a =
 
     apart : (hs : List GuardTree) → AllByRecursion (λ w. is_among (before ++ atom_word g ∷ []) w.text ≡ false) (map atom_word hs) → AllByRecursion (IsDeclared k) hs → AllByRecursion (λ n. nat_eq (guard_number k g) n ≡ false) (map (guard_number k) hs)
     apart [] x b = tt
-    apart (h ∷ hs) x b =
-        (distinct-guards k g h a.0 b.0 (last-not (is_among before (atom_word h).text) (bytes_eq (atom_word h).text (atom_word g).text) (sym (list_any-append (λ u. bytes_eq (atom_word h).text u.text) before (atom_word g ∷ [])) ∙ x.0)),
-          apart hs x.1 b.1)
+    apart (h ∷ hs) x b = (
+      distinct-guards k g h a.0 b.0 (last-not (is_among before (atom_word h).text) (bytes_eq (atom_word h).text (atom_word g).text) (sym (list_any-append (λ u. bytes_eq (atom_word h).text u.text) before (atom_word g ∷ [])) ∙ x.0)),
+      apart hs x.1 b.1,
+    )

@@ -1,42 +1,34 @@
 -- A function in which nothing is found fits a program.
-use Rattle.std.proofs.Common.{◌≡◌, ℕ, ℤ, zero, suc, ◌+◌, ◌<◌, ◌≤◌, Bool, true, false, true≢false, not, ◌&&◌, ◌||◌, cond, bytes_eq, find, List, [], ◌∷◌, ◌++◌, map, filter, filter_map, flat_map, length, slice_get, Option, Some, None, option_to_list, option_map, IsSomeAnd, refl, sym, ap, subst, ◌∙◌, arith, append_assoc, append-nil, length-append, eqb-true, zero-add}
-use Rattle.std.specs.Prelude.{◌==◌, nat_lt, nat_le, if◌then◌else◌}
-use Rattle.std.specs.List.{AllByRecursion, list_any, cons_option}
-use Rattle.std.proofs.lemmas.List.{length-map}
-use Rattle.std.proofs.lemmas.List.Folds.{find_at, list_any-append}
-use Rattle.std.proofs.lemmas.Option.{slice_get-map}
-use Rattle.std.proofs.lemmas.Bool.Decides.{nat_tests}
-use Rattle.cap_lin.specs.Linear.{Linear, number}
+use Rattle.std.proofs.Common.{◌≡◌, ℕ, ℤ, Bool, true, false, true≢false, not, ◌&&◌, ◌||◌, cond, bytes_eq, List, [], ◌∷◌, ◌++◌, map, filter, filter_map, flat_map, Option, Some, None, option_to_list, refl, sym, ap, subst, ◌∙◌, append_assoc}
+use Rattle.std.specs.Prelude.{if◌then◌else◌}
+use Rattle.std.specs.List.{AllByRecursion, cons_option}
+use Rattle.std.proofs.lemmas.List.Folds.{list_any-append}
+use Rattle.cap_lin.specs.Linear.{Linear}
 use Rattle.cap_lin.specs.declared.row.Sort.{Sort}
 use Rattle.cap_lin.specs.declared.row.Sort.TheVariants.{Int}
-use Rattle.cap_syntax.specs.declared.place.Place.{Place}
 use Rattle.cap_prog.specs.declared.assertion.Comp.{Comp}
-use Rattle.cap_prog.specs.Program.{Items, PlainAct, Block, done, first, PlainStatement, PlainProgram, PlainFunction}
-use Rattle.cap_prog.specs.Parts.{all_statements, block_statements, blocks, block_length}
-use Rattle.cap_prog.specs.Scopes.{Scope, HasSort, TermFits, CompFits, body_scope, requires_scope, ensures_scope, invariant_scope, fixed_start}
-use Rattle.cap_prog.specs.Scopes as sorted
-use Rattle.cap_prog.specs.WellFormed.{most_cells, most_members, ItemFits, ItemsFit, ActFits, IsLocal, IsValue, CallFits, AssertionFits, BodyFits, FunctionFits}
+use Rattle.cap_prog.specs.Program.{PlainProgram}
+use Rattle.cap_prog.specs.Scopes.{HasSort, TermFits, CompFits, body_scope}
+use Rattle.cap_prog.specs.WellFormed.{IsValue}
 use Rattle.cap_tree.specs.declared.word.Word.{Word}
-use Rattle.cap_tree.specs.declared.word.Literal.{Literal}
-use Rattle.cap_tree.specs.Tree.{listed_parts, TermTree, ComparisonTree, ClauseTree, ValueTree, value, load, alloc, cas, result_of, StatementTree, assign, store, call, fork, branch, loop, check, give_back, ElseTree, no_else, else_block, StatementTrees, no_statement, then_statement, BlockTree, block, RegionTree, FunctionTree}
-use Rattle.cap_stands.specs.Finding.{Finding, unknown_word, twice_word, wrong_arity, limit, cell_count}
-use Rattle.cap_stands.specs.Parts.{term_words, comparison_words, clause_parts, statement_parts, else_parts, statements_parts, block_parts, statement_terms, statement_comparison, statement_names, destination, invariant, callee, cells, parameters}
-use Rattle.cap_stands.specs.Names.{KnownName, NameScope, knows, known_as, sorts_of, variable_of, whole_numbers, is_among, is_ret, firsts, word_text, word_place, parameters_findings}
+use Rattle.cap_tree.specs.Tree.{TermTree, StatementTree, RegionTree, FunctionTree}
+use Rattle.cap_stands.specs.Finding.{unknown_word, twice_word}
+use Rattle.cap_stands.specs.Parts.{term_words, statement_terms, statement_comparison, statement_names, destination, invariant, callee, cells, parameters}
+use Rattle.cap_stands.specs.Names.{NameScope, knows, known_as, sorts_of, is_among, is_ret}
 use Rattle.cap_stands.specs.Linear.{term_form}
-use Rattle.cap_stands.specs.Terms.{WantedTerm, wanted_as, term_findings, terms_findings, comparison_wanted}
-use Rattle.cap_stands.specs.Items.{TypedName, types_told, Occurrence, name_of, occurrence_word, occurrence_words}
+use Rattle.cap_stands.specs.Terms.{wanted_as, term_findings, terms_findings}
+use Rattle.cap_stands.specs.Items.{Occurrence, name_of, occurrence_words}
 use Rattle.cap_stands.specs.Functions.{requires_types, fixed_names, fixed_words, statements, statement_words, clause_words, destinations, is_local, locals, name_in_body, Context, context_of, clause_types, clause_new, clause_bound, clause_scope, requires_findings, clause_findings, unknown_in, is_function, function_named, called_findings, callee_findings, cells_findings, is_forbidden, statement_wanted, statement_findings, body_findings, function_findings}
 use Rattle.cap_stands.specs.Functions as names
-use Rattle.cap_stands.specs.Program.{comparison_program, clause_program, occurrence_sort, occurrence_sorts, function_number, destination_number, body_term, body_terms, new_assertion, assign_program, returned, act_program, else_program, statements_program, block_program, closing_return, block_end, body_program, function_program}
-use Rattle.cap_stands.proofs.Every.{each_append, each_front, each_behind, each_map, each_flat, each_weaker, each_both}
-use Rattle.cap_stands.proofs.Nothing.{cons_not_nil, nothing_front, nothing_behind, nothing_flat, nothing_mapped, nothing_kept, not_found}
+use Rattle.cap_stands.specs.Program.{comparison_program, body_terms, new_assertion, function_program}
+use Rattle.cap_stands.proofs.Every.{each_front, each_behind, each_weaker}
+use Rattle.cap_stands.proofs.Nothing.{nothing_front, nothing_behind, nothing_mapped, nothing_kept}
 use Rattle.cap_stands.proofs.Sorts.{IsKnown}
-use Rattle.cap_stands.proofs.Known.{same-text, text-itself, stands-in, all-put}
-use Rattle.cap_stands.proofs.Terms.{TermKnown, ComparisonKnown, term-fits, comparison-fits, terms-front, terms-behind}
-use Rattle.cap_stands.proofs.Items.{HasRegions, Reads, TypesNumbered, told-numbered, ItemsAre}
-use Rattle.cap_stands.proofs.Clauses.{clause-fit, requires-right, clause-right, clause-count, requires-sorts, result-sorts, loop-sorts}
-use Rattle.cap_stands.proofs.Regions.{ItemsShort, parameters-count, comparisons-fit}
-use Rattle.cap_stands.proofs.Bodies.{HasFunctions, IsHidden, local-variable, body-variable, block-numbered, body-numbered, all_statements-append, closing}
+use Rattle.cap_stands.proofs.Known.{same-text, text-itself}
+use Rattle.cap_stands.proofs.Terms.{term-fits, terms-front, terms-behind}
+use Rattle.cap_stands.proofs.Items.{HasRegions}
+use Rattle.cap_stands.proofs.Regions.{ItemsShort, comparisons-fit}
+use Rattle.cap_stands.proofs.Bodies.{HasFunctions, IsHidden, body-variable}
 
 -- ---- destinations
 
@@ -65,9 +57,9 @@ Free f rs w = (is_among (parameters f) w.text ≡ false) × (is_among (fixed_wor
 pub free-destination : (rs : List RegionTree) (fs : List FunctionTree) (f : FunctionTree) (s : StatementTree) → statement_findings (context_of rs fs f) s ≡ [] → AllByRecursion (Free f rs) (option_to_list (destination s))
 free-destination rs fs f s e =
     each_weaker (λ w. is_forbidden (context_of rs fs f) w ≡ false) (Free f rs)
-      (λ w x. or-false (is_among (parameters f) w.text) (is_among (fixed_words rs f) w.text) (sym (list_any-append (λ v. bytes_eq w.text v.text) (parameters f) (fixed_words rs f)) ∙ (or-false (is_among (parameters f ++ fixed_words rs f) w.text) (is_ret w.text) x).0))
-      (option_to_list (destination s))
-      (nothing_kept (is_forbidden (context_of rs fs f)) (option_to_list (destination s)) (nothing_mapped twice_word (filter (is_forbidden (context_of rs fs f)) (option_to_list (destination s))) (nothing_front (map twice_word (filter (is_forbidden (context_of rs fs f)) (option_to_list (destination s)))) _ e)))
+    (λ w x. or-false (is_among (parameters f) w.text) (is_among (fixed_words rs f) w.text) (sym (list_any-append (λ v. bytes_eq w.text v.text) (parameters f) (fixed_words rs f)) ∙ (or-false (is_among (parameters f ++ fixed_words rs f) w.text) (is_ret w.text) x).0))
+    (option_to_list (destination s))
+    (nothing_kept (is_forbidden (context_of rs fs f)) (option_to_list (destination s)) (nothing_mapped twice_word (filter (is_forbidden (context_of rs fs f)) (option_to_list (destination s))) (nothing_front (map twice_word (filter (is_forbidden (context_of rs fs f)) (option_to_list (destination s)))) _ e)))
 
 -- no fixed name is a destination
 not-destination : (ds : List Word) (o : Occurrence) → AllByRecursion (λ d. bytes_eq d.text (name_of o) ≡ false) ds → is_among ds (name_of o) ≡ false
@@ -80,9 +72,10 @@ not-destination (d ∷ ds) o a = both (bytes_eq (name_of o) d.text) (not-same d.
 
 pub hidden-names : (f : FunctionTree) (os : List Occurrence) → AllByRecursion (λ d. is_among (occurrence_words os) d.text ≡ false) (destinations f) → AllByRecursion IsHidden (map (name_in_body f) os)
 hidden-names f [] a = tt
-hidden-names f (o ∷ os) a =
-    (ap (λ b. if b then known_as o.sort o.word else None) (not-destination (destinations f) o (each_weaker (λ d. is_among (occurrence_words (o ∷ os)) d.text ≡ false) (λ d. bytes_eq d.text (name_of o) ≡ false) (λ d x. (or-false (bytes_eq d.text (name_of o)) (is_among (occurrence_words os) d.text) x).0) (destinations f) a)),
-      hidden-names f os (each_weaker (λ d. is_among (occurrence_words (o ∷ os)) d.text ≡ false) (λ d. is_among (occurrence_words os) d.text ≡ false) (λ d x. (or-false (bytes_eq d.text (name_of o)) (is_among (occurrence_words os) d.text) x).1) (destinations f) a))
+hidden-names f (o ∷ os) a = (
+  ap (λ b. if b then known_as o.sort o.word else None) (not-destination (destinations f) o (each_weaker (λ d. is_among (occurrence_words (o ∷ os)) d.text ≡ false) (λ d. bytes_eq d.text (name_of o) ≡ false) (λ d x. (or-false (bytes_eq d.text (name_of o)) (is_among (occurrence_words os) d.text) x).0) (destinations f) a)),
+  hidden-names f os (each_weaker (λ d. is_among (occurrence_words (o ∷ os)) d.text ≡ false) (λ d. is_among (occurrence_words os) d.text ≡ false) (λ d x. (or-false (bytes_eq d.text (name_of o)) (is_among (occurrence_words os) d.text) x).1) (destinations f) a),
+)
 
 -- a destination that is free is a local
 pub kept-if : {A : Type 0} (P : A → Type 0) (p : A → Bool) (xs : List A) → AllByRecursion P (filter p xs) → AllByRecursion (λ x. p x ≡ true → P x) xs
@@ -118,9 +111,10 @@ options-flat {A} {B} P h (x ∷ xs) a = by (h x) a (λ d. options-flat P h xs d)
 
 pub local-destinations : (rs : List RegionTree) (fs : List FunctionTree) (f : FunctionTree) (ss : List StatementTree) → AllByRecursion (λ s. AllByRecursion (λ w. is_among (destinations f) w.text ≡ true) (option_to_list (destination s))) ss → AllByRecursion (λ s. AllByRecursion (λ w. is_local rs f w ≡ true → is_among (locals rs f) w.text ≡ true) (statement_words s)) ss → AllByRecursion (λ s. statement_findings (context_of rs fs f) s ≡ []) ss → AllByRecursion (λ s. AllByRecursion (Local rs f) (option_to_list (destination s))) ss
 local-destinations rs fs f [] a b c = tt
-local-destinations rs fs f (s ∷ ss) a b c =
-    (zipped (option_to_list (destination s)) a.0 (each_front (λ w. is_local rs f w ≡ true → is_among (locals rs f) w.text ≡ true) (option_to_list (destination s)) _ b.0) (free-destination rs fs f s c.0),
-      local-destinations rs fs f ss a.1 b.1 c.1)
+local-destinations rs fs f (s ∷ ss) a b c = (
+  zipped (option_to_list (destination s)) a.0 (each_front (λ w. is_local rs f w ≡ true → is_among (locals rs f) w.text ≡ true) (option_to_list (destination s)) _ b.0) (free-destination rs fs f s c.0),
+  local-destinations rs fs f ss a.1 b.1 c.1,
+)
   where
     is-one : (d p x : Bool) → d ≡ true → p ≡ false → x ≡ false → (d && (not p && not x)) ≡ true
     is-one true false false d e h = refl
@@ -142,7 +136,7 @@ pub record RightStatement (rs : List RegionTree) (fs : List FunctionTree) (f : F
 names-known : (scope : NameScope) (ws : List Word) → unknown_in scope ws ≡ [] → AllByRecursion (IsKnown scope) ws
 names-known scope ws e =
     each_weaker (λ w. not (knows scope w.text) ≡ false) (IsKnown scope) (λ w x. back (knows scope w.text) x) ws
-      (nothing_kept (λ w. not (knows scope w.text)) ws (nothing_mapped unknown_word (filter (λ w. not (knows scope w.text)) ws) e))
+    (nothing_kept (λ w. not (knows scope w.text)) ws (nothing_mapped unknown_word (filter (λ w. not (knows scope w.text)) ws) e))
   where
     back : (b : Bool) → not b ≡ false → b ≡ true
     back true h = refl
@@ -150,9 +144,10 @@ names-known scope ws e =
 
 terms-fit : (scope : NameScope) (ts : List TermTree) → AllByRecursion (IsKnown scope) (flat_map term_words ts) → terms_findings scope (map (wanted_as (Some Int)) ts) ≡ [] → AllByRecursion (TermFits (sorts_of scope) Int) (map (term_form scope) ts)
 terms-fit scope [] a e = tt
-terms-fit scope (t ∷ ts) a e =
-    (term-fits scope Int t (each_front (IsKnown scope) (term_words t) (flat_map term_words ts) a) (nothing_front (term_findings scope (wanted_as (Some Int) t)) _ e),
-      terms-fit scope ts (each_behind (IsKnown scope) (term_words t) (flat_map term_words ts) a) (nothing_behind (term_findings scope (wanted_as (Some Int) t)) _ e))
+terms-fit scope (t ∷ ts) a e = (
+  term-fits scope Int t (each_front (IsKnown scope) (term_words t) (flat_map term_words ts) a) (nothing_front (term_findings scope (wanted_as (Some Int) t)) _ e),
+  terms-fit scope ts (each_behind (IsKnown scope) (term_words t) (flat_map term_words ts) a) (nothing_behind (term_findings scope (wanted_as (Some Int) t)) _ e),
+)
 
 -- all that a function is read with
 pub record FunctionReads (p : PlainProgram) (rs : List RegionTree) (fs : List FunctionTree) (f : FunctionTree) : Type 0 where
@@ -185,13 +180,13 @@ statement-invariant g s e = nothing_behind (terms_findings g.body (statement_wan
 pub statement-values : (p : PlainProgram) (rs : List RegionTree) (fs : List FunctionTree) (f : FunctionTree) → FunctionReads p rs fs f → (s : StatementTree) → RightStatement rs fs f s → AllByRecursion (IsValue (function_program rs fs f)) (body_terms (context_of rs fs f) (statement_terms s))
 statement-values p rs fs f h s a =
     each_weaker (TermFits (sorts_of (names.body_scope rs f)) Int) (IsValue (function_program rs fs f)) (λ t x. in-body p rs fs f h Int t x) (map (term_form (names.body_scope rs f)) (statement_terms s))
-      (terms-fit (names.body_scope rs f) (statement_terms s)
-        (each_front (IsKnown (names.body_scope rs f)) (flat_map term_words (statement_terms s)) _ (statement-known rs fs f s a.nothing))
-        (terms-front (names.body_scope rs f) (map (wanted_as (Some Int)) (statement_terms s)) _ (statement-terms rs fs f s a.nothing)))
+    (terms-fit (names.body_scope rs f) (statement_terms s)
+    (each_front (IsKnown (names.body_scope rs f)) (flat_map term_words (statement_terms s)) _ (statement-known rs fs f s a.nothing))
+    (terms-front (names.body_scope rs f) (map (wanted_as (Some Int)) (statement_terms s)) _ (statement-terms rs fs f s a.nothing)))
 
 pub statement-comparisons : (p : PlainProgram) (rs : List RegionTree) (fs : List FunctionTree) (f : FunctionTree) → FunctionReads p rs fs f → (s : StatementTree) → RightStatement rs fs f s → AllByRecursion (CompFits (body_scope (function_program rs fs f))) (map (comparison_program (names.body_scope rs f)) (option_to_list (statement_comparison s)))
 statement-comparisons p rs fs f h s a =
     each_weaker (CompFits (sorts_of (names.body_scope rs f))) (CompFits (body_scope (function_program rs fs f))) (λ (c : Comp) x. (in-body p rs fs f h c.sort c.left x.0, in-body p rs fs f h c.sort c.right x.1)) (map (comparison_program (names.body_scope rs f)) (option_to_list (statement_comparison s)))
-      (comparisons-fit (names.body_scope rs f) (option_to_list (statement_comparison s))
-        (each_behind (IsKnown (names.body_scope rs f)) (flat_map term_words (statement_terms s)) _ (statement-known rs fs f s a.nothing))
-        (terms-behind (names.body_scope rs f) (map (wanted_as (Some Int)) (statement_terms s)) _ (statement-terms rs fs f s a.nothing)))
+    (comparisons-fit (names.body_scope rs f) (option_to_list (statement_comparison s))
+    (each_behind (IsKnown (names.body_scope rs f)) (flat_map term_words (statement_terms s)) _ (statement-known rs fs f s a.nothing))
+    (terms-behind (names.body_scope rs f) (map (wanted_as (Some Int)) (statement_terms s)) _ (statement-terms rs fs f s a.nothing)))

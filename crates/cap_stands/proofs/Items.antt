@@ -1,7 +1,7 @@
 -- The items of an assertion in which nothing is found, and whose names are known, fit their place in a program.
-use Rattle.std.proofs.Common.{◌≡◌, ℕ, zero, suc, ◌+◌, ◌<◌, Bool, true, false, true≢false, not, cond, find, List, [], ◌∷◌, ◌++◌, map, length, flat_map, filter_map, slice_get, Option, Some, None, option_map, IsSomeAnd, refl, sym, ap, subst, ◌∙◌, arith, eqb-true, append-nil}
+use Rattle.std.proofs.Common.{◌≡◌, ℕ, zero, suc, ◌+◌, Bool, true, false, true≢false, not, cond, find, List, [], ◌∷◌, ◌++◌, map, length, flat_map, slice_get, Option, Some, None, option_map, IsSomeAnd, refl, sym, ap, subst, ◌∙◌, arith, eqb-true}
 use Rattle.std.specs.Prelude.{◌==◌}
-use Rattle.std.specs.List.{AllByRecursion, cons_option, enumerate_from, position_or_len}
+use Rattle.std.specs.List.{AllByRecursion, cons_option, enumerate_from}
 use Rattle.std.proofs.lemmas.List.{length-map}
 use Rattle.std.proofs.lemmas.List.Folds.{find_at}
 use Rattle.std.proofs.lemmas.Option.{slice_get-map, same_Some}
@@ -11,22 +11,20 @@ use Rattle.cap_galg.specs.Algebras.{PlainAlgebra, atoms, atom_algebra}
 use Rattle.cap_galg.specs.Algebras as algebra
 use Rattle.cap_syntax.specs.declared.place.Place.{Place}
 use Rattle.cap_prog.specs.Program.{PlainItem, Items, none, item, append_items, PlainProgram, PlainRegionType}
-use Rattle.cap_prog.specs.Program as plain
 use Rattle.cap_prog.specs.Parts.{all_items, side_items}
-use Rattle.cap_prog.specs.Scopes.{Scope, HasSort, TermFits, SlotFits}
+use Rattle.cap_prog.specs.Scopes.{HasSort, TermFits, SlotFits}
 use Rattle.cap_prog.specs.WellFormed.{AskedFits, AtomFits, FactFits, ItemFits}
 use Rattle.cap_tree.specs.declared.word.Word.{Word}
 use Rattle.cap_tree.specs.declared.assertion.Counted.TheVariants.{Source, Tokens}
 use Rattle.cap_tree.specs.Tree.{TermTree, SlotTree, any, is, GuardTree, alone, amount, count, HeldTree, ItemTree, holds, fails, fact, guards, cell, compare, choose, ItemTrees, no_item, and_item, AssertionTree, assertion, SideTree, side, DeclaredTree, RegionTree}
-use Rattle.cap_stands.specs.Finding.{Finding, found_if, unknown_word, wrong_arity, wrong_sort, self_fact}
+use Rattle.cap_stands.specs.Finding.{found_if, wrong_arity, wrong_sort, self_fact}
 use Rattle.cap_stands.specs.Parts.{PlacedItem, item_parts, items_parts, assertion_parts, side_parts, term_words, comparison_words, held_atoms, atom_word, atom_place, atom_slots, region_parameters}
 use Rattle.cap_stands.specs.Names.{NameScope, sort_of, sorts_of, variable_of}
 use Rattle.cap_stands.specs.Linear.{term_form}
-use Rattle.cap_stands.specs.Terms.{clash, WantedTerm, wanted_as, term_findings, terms_findings, slot_wanted, comparison_wanted}
-use Rattle.cap_stands.specs.Items.{NumberedRegion, numbered, numbered_regions, is_region, region_named, is_guard, guard_kind, guard_in, region_guards, declared_kind, TypedName, typed, is_typed, name_type, type_of, fact_type, types_told, Occurrence, occurs, unbound, slot_occurrences, atom_occurrences, amount_sort, item_occurrences, kind_sort, has_form, item_wanted, atom_wanted, guard_findings, atom_findings, atoms_twice, held_findings, arity_findings, is_other_type, region_findings, is_own, item_findings}
-use Rattle.cap_stands.specs.Program.{type_number, guard_number, slot_program, asked_program, comparison_program, atoms_program, item_program, items_program, assertion_program, side_program, region_program}
-use Rattle.cap_stands.specs.Regions.{own_parameters}
-use Rattle.cap_stands.proofs.Every.{each_append, each_front, each_behind, each_map, each_mapped, each_flat, each_weaker}
+use Rattle.cap_stands.specs.Terms.{clash, wanted_as, term_findings, terms_findings, slot_wanted}
+use Rattle.cap_stands.specs.Items.{NumberedRegion, numbered, numbered_regions, is_region, region_named, is_guard, guard_kind, guard_in, region_guards, declared_kind, TypedName, typed, is_typed, name_type, type_of, fact_type, types_told, occurs, unbound, slot_occurrences, atom_occurrences, amount_sort, item_occurrences, kind_sort, has_form, item_wanted, atom_wanted, guard_findings, atom_findings, held_findings, arity_findings, region_findings, is_own, item_findings}
+use Rattle.cap_stands.specs.Program.{type_number, guard_number, slot_program, asked_program, atoms_program, item_program, items_program, assertion_program, side_program, region_program}
+use Rattle.cap_stands.proofs.Every.{each_append, each_front, each_behind, each_mapped, each_flat, each_weaker}
 use Rattle.cap_stands.proofs.Nothing.{cons_not_nil, nothing_front, nothing_behind, nothing_flat, not_found}
 use Rattle.cap_stands.proofs.Sorts.{IsKnown, known-sort, sorted-variable, no-clash}
 use Rattle.cap_stands.proofs.Known.{OccursKnown}
@@ -118,8 +116,8 @@ form-fits scope (algebra.sum a b) g h e k = absurd (true≢false (sym h))
 slots-known : (scope : NameScope) (inside : Bool) (k : Option NumberedRegion) (g : GuardTree) → AllByRecursion (OccursKnown scope) (atom_occurrences inside k g) → AllByRecursion (SlotKnown scope) (atom_slots g)
 slots-known scope inside k g a =
     each_weaker (λ t. AllByRecursion (OccursKnown scope) (slot_occurrences inside (amount_sort (declared_kind k g) g) t)) (SlotKnown scope)
-      (λ t x. slot-known scope inside (amount_sort (declared_kind k g) g) t x) (atom_slots g)
-      (each_flat (OccursKnown scope) (slot_occurrences inside (amount_sort (declared_kind k g) g)) (atom_slots g) a)
+    (λ t x. slot-known scope inside (amount_sort (declared_kind k g) g) t x) (atom_slots g)
+    (each_flat (OccursKnown scope) (slot_occurrences inside (amount_sort (declared_kind k g) g)) (atom_slots g) a)
 
 not-false : (b : Bool) → not b ≡ false → b ≡ true
 not-false true e = refl
@@ -134,9 +132,9 @@ atom-fits rs scope inside k g e a w = by (find (is_guard (atom_word g).text) (re
         record {
           exists = there.0;
           form = rw there.1 (form-fits scope (guard_kind d) g
-            (not-false (has_form (guard_kind d) g) (not_found (not (has_form (guard_kind d) g)) (atom_place g) wrong_sort (sym (ap (λ o. guard_findings o g) h) ∙ e)))
-            (sym (ap (λ o. terms_findings scope (flat_map (slot_wanted (option_map kind_sort o)) (atom_slots g))) h) ∙ w)
-            (slots-known scope inside (Some k) g a));
+              (not-false (has_form (guard_kind d) g) (not_found (not (has_form (guard_kind d) g)) (atom_place g) wrong_sort (sym (ap (λ o. guard_findings o g) h) ∙ e)))
+              (sym (ap (λ o. terms_findings scope (flat_map (slot_wanted (option_map kind_sort o)) (atom_slots g))) h) ∙ w)
+              (slots-known scope inside (Some k) g a));
         }
 
     by : (o : Option DeclaredTree) → find (is_guard (atom_word g).text) (region_guards k.region) ≡ o → AtomFits (sorts_of scope) (region_program rs k) (guard_number k g) (asked_program scope g)
@@ -158,9 +156,10 @@ ItemsAre P list = AllByRecursion P (all_items list)
 
 atoms-fit : (p : PlainProgram) (rs : List RegionTree) → HasRegions p rs → (scope : NameScope) (inside : Bool) (k : NumberedRegion) → IsNumbered rs k → (r : Word) → HasSort (sorts_of scope) Int (variable_of scope r.text) → (gs : List GuardTree) → AllByRecursion (λ g. atom_findings k g ≡ []) gs → AllByRecursion (λ g. AllByRecursion (OccursKnown scope) (atom_occurrences inside (Some k) g)) gs → AllByRecursion (λ g. terms_findings scope (atom_wanted (Some k) g) ≡ []) gs → ItemsAre (ItemFits p (sorts_of scope)) (atoms_program (Some k) scope r gs)
 atoms-fit p rs h scope inside k n r s [] a b c = tt
-atoms-fit p rs h scope inside k n r s (g ∷ gs) a b c =
-    ((s, region-at p rs h k.number k n (λ type. AtomFits (sorts_of scope) type (guard_number k g) (asked_program scope g)) (atom-fits rs scope inside k g a.0 b.0 c.0)),
-      atoms-fit p rs h scope inside k n r s gs a.1 b.1 c.1)
+atoms-fit p rs h scope inside k n r s (g ∷ gs) a b c = (
+  (s, region-at p rs h k.number k n (λ type. AtomFits (sorts_of scope) type (guard_number k g) (asked_program scope g)) (atom-fits rs scope inside k g a.0 b.0 c.0)),
+  atoms-fit p rs h scope inside k n r s gs a.1 b.1 c.1,
+)
 
 held-fit : (p : PlainProgram) (rs : List RegionTree) → HasRegions p rs → (scope : NameScope) (inside : Bool) (o : Option NumberedRegion) → ((k : NumberedRegion) → o ≡ Some k → IsNumbered rs k) → (r : Word) → HasSort (sorts_of scope) Int (variable_of scope r.text) → (gs : List GuardTree) → held_findings o r gs ≡ [] → AllByRecursion (OccursKnown scope) (flat_map (atom_occurrences inside o) gs) → terms_findings scope (flat_map (atom_wanted o) gs) ≡ [] → ItemsAre (ItemFits p (sorts_of scope)) (atoms_program o scope r gs)
 held-fit p rs h scope inside None n r s gs a b c = tt
@@ -169,9 +168,10 @@ held-fit p rs h scope inside (Some k) n r s gs a b c =
 
 slots-fit : (scope : NameScope) (inside : Bool) (args : List (Place × SlotTree)) → AllByRecursion (OccursKnown scope) (flat_map (λ (a : Place × SlotTree). slot_occurrences inside Int a.1) args) → terms_findings scope (flat_map (λ (a : Place × SlotTree). slot_wanted (Some Int) a.1) args) ≡ [] → AllByRecursion (SlotFits (sorts_of scope) Int) (map (λ (a : Place × SlotTree). slot_program scope a.1) args)
 slots-fit scope inside [] k e = tt
-slots-fit scope inside (a ∷ args) k e =
-    (slot-fits scope Int a.1 (slot-known scope inside Int a.1 (each_front (OccursKnown scope) (slot_occurrences inside Int a.1) _ k)) (terms-front scope (slot_wanted (Some Int) a.1) _ e),
-      slots-fit scope inside args (each_behind (OccursKnown scope) (slot_occurrences inside Int a.1) _ k) (terms-behind scope (slot_wanted (Some Int) a.1) _ e))
+slots-fit scope inside (a ∷ args) k e = (
+  slot-fits scope Int a.1 (slot-known scope inside Int a.1 (each_front (OccursKnown scope) (slot_occurrences inside Int a.1) _ k)) (terms-front scope (slot_wanted (Some Int) a.1) _ e),
+  slots-fit scope inside args (each_behind (OccursKnown scope) (slot_occurrences inside Int a.1) _ k) (terms-behind scope (slot_wanted (Some Int) a.1) _ e),
+)
 
 fact-fits : (p : PlainProgram) (rs : List RegionTree) → HasRegions p rs → (scope : NameScope) (inside : Bool) (k : Word) (args : List (Place × SlotTree)) (s : SlotTree) → arity_findings (region_named rs k.text) k (length args) ≡ [] → AllByRecursion (OccursKnown scope) (flat_map (λ (a : Place × SlotTree). slot_occurrences inside Int a.1) args ++ slot_occurrences inside Int s) → terms_findings scope (flat_map (λ (a : Place × SlotTree). slot_wanted (Some Int) a.1) args ++ slot_wanted (Some Int) s) ≡ []
     → IsSomeAnd (slice_get p.regions (type_number rs k.text)) (λ type. FactFits (sorts_of scope) type (map (λ (a : Place × SlotTree). slot_program scope a.1) args) (slot_program scope s))
@@ -204,20 +204,22 @@ fact-item : (p : PlainProgram) (rs : List RegionTree) (own : Option Word) (types
     → HasSort (sorts_of scope) Int (variable_of scope r.text) × IsSomeAnd (slice_get p.regions (type_number rs k.text)) (λ type. FactFits (sorts_of scope) type (map (λ (a : Place × SlotTree). slot_program scope a.1) args) (slot_program scope s))
 fact-item p rs own types scope h inside k q r args c s e a =
     let rest = nothing_behind (arity_findings (region_named rs k.text) k (length args)) _ a.nothing in
-    let rest2 = nothing_behind (found_if (is_own own r.text) k.place self_fact) _ rest in
-    (region-sorted scope r a.known.0 (nothing_front (region_findings scope r) _ rest2),
-      fact-fits p rs h.declared scope inside k args s (nothing_front (arity_findings (region_named rs k.text) k (length args)) _ a.nothing) a.known.1 a.wanted)
+    let rest2 = nothing_behind (found_if (is_own own r.text) k.place self_fact) _ rest in (
+      region-sorted scope r a.known.0 (nothing_front (region_findings scope r) _ rest2),
+      fact-fits p rs h.declared scope inside k args s (nothing_front (arity_findings (region_named rs k.text) k (length args)) _ a.nothing) a.known.1 a.wanted,
+    )
 
 held-item : (p : PlainProgram) (rs : List RegionTree) (own : Option Word) (types : List TypedName) (scope : NameScope) → Reads p rs types → (inside : Bool) (r : Word) (q : Place) (g : HeldTree) → RightItem rs own types scope (inside, guards r q g) → ItemsAre (ItemFits p (sorts_of scope)) (atoms_program (type_of types r.text) scope r (held_atoms g))
 held-item p rs own types scope h inside r q g a =
     held-fit p rs h.declared scope inside (type_of types r.text) (λ k e. typed-numbered rs types r.text k h.told e) r
-      (region-sorted scope r a.known.0 (nothing_front (region_findings scope r) _ a.nothing)) (held_atoms g)
-      (nothing_front (held_findings (type_of types r.text) r (held_atoms g)) _ (nothing_behind (region_findings scope r) _ a.nothing)) a.known.1 a.wanted
+    (region-sorted scope r a.known.0 (nothing_front (region_findings scope r) _ a.nothing)) (held_atoms g)
+    (nothing_front (held_findings (type_of types r.text) r (held_atoms g)) _ (nothing_behind (region_findings scope r) _ a.nothing)) a.known.1 a.wanted
 
 cell-item : (p : PlainProgram) (rs : List RegionTree) (own : Option Word) (types : List TypedName) (scope : NameScope) (inside : Bool) (t : TermTree) (q : Place) (s : SlotTree) → RightItem rs own types scope (inside, cell t q s) → TermFits (sorts_of scope) Int (term_form scope t) × SlotFits (sorts_of scope) Int (slot_program scope s)
-cell-item p rs own types scope inside t q s a =
-    (term-fits scope Int t (each_mapped (OccursKnown scope) (occurs false Int) (term_words t) (each_front (OccursKnown scope) (unbound (term_words t)) _ a.known)) (nothing_front (term_findings scope (wanted_as (Some Int) t)) _ a.wanted),
-      slot-fits scope Int s (slot-known scope inside Int s (each_behind (OccursKnown scope) (unbound (term_words t)) _ a.known)) (nothing_behind (term_findings scope (wanted_as (Some Int) t)) _ a.wanted))
+cell-item p rs own types scope inside t q s a = (
+  term-fits scope Int t (each_mapped (OccursKnown scope) (occurs false Int) (term_words t) (each_front (OccursKnown scope) (unbound (term_words t)) _ a.known)) (nothing_front (term_findings scope (wanted_as (Some Int) t)) _ a.wanted),
+  slot-fits scope Int s (slot-known scope inside Int s (each_behind (OccursKnown scope) (unbound (term_words t)) _ a.known)) (nothing_behind (term_findings scope (wanted_as (Some Int) t)) _ a.wanted),
+)
 
 mutual
   item-fit : (p : PlainProgram) (rs : List RegionTree) (own : Option Word) (types : List TypedName) (scope : NameScope) → Reads p rs types → (inside : Bool) (i : ItemTree) → Right rs own types scope (item_parts inside i) → ItemsAre (ItemFits p (sorts_of scope)) (item_program rs types scope i)
@@ -227,25 +229,26 @@ mutual
   item-fit p rs own types scope h inside (guards r q g) a = held-item p rs own types scope h inside r q g a.0
   item-fit p rs own types scope h inside (cell t q s) a = (cell-item p rs own types scope inside t q s a.0, tt)
   item-fit p rs own types scope h inside (compare c) a = (comparison-fits scope c (each_mapped (OccursKnown scope) (occurs false Int) (comparison_words c) a.0.known) a.0.wanted, tt)
-  item-fit p rs own types scope h inside (choose c q x d y) a =
-      (comparison-fits scope c (each_mapped (OccursKnown scope) (occurs false Int) (comparison_words c) a.0.known) a.0.wanted,
-        each_append (ItemFits p (sorts_of scope)) (all_items (side_program rs types scope x) ++ all_items (side_program rs types scope y)) []
-          (each_append (ItemFits p (sorts_of scope)) (all_items (side_program rs types scope x)) (all_items (side_program rs types scope y))
-            (side-fit p rs own types scope h x (each_front (RightItem rs own types scope) (side_parts x) (side_parts y) a.1))
-            (side-fit p rs own types scope h y (each_behind (RightItem rs own types scope) (side_parts x) (side_parts y) a.1))) tt)
+  item-fit p rs own types scope h inside (choose c q x d y) a = (
+    comparison-fits scope c (each_mapped (OccursKnown scope) (occurs false Int) (comparison_words c) a.0.known) a.0.wanted,
+    each_append (ItemFits p (sorts_of scope)) (all_items (side_program rs types scope x) ++ all_items (side_program rs types scope y)) []
+        (each_append (ItemFits p (sorts_of scope)) (all_items (side_program rs types scope x)) (all_items (side_program rs types scope y))
+        (side-fit p rs own types scope h x (each_front (RightItem rs own types scope) (side_parts x) (side_parts y) a.1))
+        (side-fit p rs own types scope h y (each_behind (RightItem rs own types scope) (side_parts x) (side_parts y) a.1))) tt,
+  )
 
   items-fit : (p : PlainProgram) (rs : List RegionTree) (own : Option Word) (types : List TypedName) (scope : NameScope) → Reads p rs types → (inside : Bool) (more : ItemTrees) → Right rs own types scope (items_parts inside more) → ItemsAre (ItemFits p (sorts_of scope)) (items_program rs types scope more)
   items-fit p rs own types scope h inside no_item a = tt
   items-fit p rs own types scope h inside (and_item q i more) a =
       all_items-append (ItemFits p (sorts_of scope)) (item_program rs types scope i) (items_program rs types scope more)
-        (item-fit p rs own types scope h inside i (each_front (RightItem rs own types scope) (item_parts inside i) (items_parts inside more) a))
-        (items-fit p rs own types scope h inside more (each_behind (RightItem rs own types scope) (item_parts inside i) (items_parts inside more) a))
+      (item-fit p rs own types scope h inside i (each_front (RightItem rs own types scope) (item_parts inside i) (items_parts inside more) a))
+      (items-fit p rs own types scope h inside more (each_behind (RightItem rs own types scope) (item_parts inside i) (items_parts inside more) a))
 
   pub assertion-fit : (p : PlainProgram) (rs : List RegionTree) (own : Option Word) (types : List TypedName) (scope : NameScope) → Reads p rs types → (inside : Bool) (a : AssertionTree) → Right rs own types scope (assertion_parts inside a) → ItemsAre (ItemFits p (sorts_of scope)) (assertion_program rs types scope a)
   assertion-fit p rs own types scope h inside (assertion i more) a =
       all_items-append (ItemFits p (sorts_of scope)) (item_program rs types scope i) (items_program rs types scope more)
-        (item-fit p rs own types scope h inside i (each_front (RightItem rs own types scope) (item_parts inside i) (items_parts inside more) a))
-        (items-fit p rs own types scope h inside more (each_behind (RightItem rs own types scope) (item_parts inside i) (items_parts inside more) a))
+      (item-fit p rs own types scope h inside i (each_front (RightItem rs own types scope) (item_parts inside i) (items_parts inside more) a))
+      (items-fit p rs own types scope h inside more (each_behind (RightItem rs own types scope) (item_parts inside i) (items_parts inside more) a))
 
   side-fit : (p : PlainProgram) (rs : List RegionTree) (own : Option Word) (types : List TypedName) (scope : NameScope) → Reads p rs types → (x : SideTree) → Right rs own types scope (side_parts x) → ItemsAre (ItemFits p (sorts_of scope)) (side_program rs types scope x)
   side-fit p rs own types scope h (side q a e) r = assertion-fit p rs own types scope h true a r

@@ -1,18 +1,16 @@
 -- Which names are known: a scope with the new names of an assertion knows all names that occur in it.
-use Rattle.std.proofs.Common.{◌≡◌, ℕ, Bool, true, false, true≢false, not, ◌&&◌, ◌||◌, cond, List, [], ◌∷◌, ◌++◌, map, filter, fold, length, replicate, Option, Some, None, refl, sym, ap, subst, ◌∙◌, inl, inr, ◌⊎◌, bytes_eq}
+use Rattle.std.proofs.Common.{◌≡◌, ℕ, Bool, true, false, true≢false, not, ◌||◌, cond, List, [], ◌∷◌, ◌++◌, filter, fold, length, Some, None, refl, sym, ap, ◌∙◌, bytes_eq}
 use Rattle.std.specs.List.{AllByRecursion, list_any}
-use Rattle.std.proofs.lemmas.List.{map-append}
 use Rattle.std.proofs.lemmas.List.Folds.{list_any-append}
 use Rattle.std.proofs.lemmas.Slice.Eq.{bytes_eq-Decides}
-use Rattle.cap_lin.specs.declared.row.Sort.{Sort}
 use Rattle.cap_lin.specs.declared.row.Sort.TheVariants.{Int}
 use Rattle.cap_prog.specs.Scopes.{known}
 use Rattle.cap_prog.specs.Scopes as sorted
 use Rattle.cap_tree.specs.declared.word.Word.{Word}
-use Rattle.cap_stands.specs.Names.{KnownName, NameScope, knows, has_name, known_sort, sorts_of, whole_numbers, hidden, known_as, with_first, firsts}
-use Rattle.cap_stands.specs.Items.{Occurrence, name_of, is_bound, new_names, known_name, scope_of}
-use Rattle.cap_stands.specs.Program.{occurrence_sort, occurrence_sorts}
-use Rattle.cap_stands.proofs.Every.{each_append, each_front, each_behind, each_weaker}
+use Rattle.cap_stands.specs.Names.{NameScope, knows, has_name, sorts_of, whole_numbers, hidden, with_first}
+use Rattle.cap_stands.specs.Items.{Occurrence, name_of, new_names, scope_of}
+use Rattle.cap_stands.specs.Program.{occurrence_sorts}
+use Rattle.cap_stands.proofs.Every.{each_weaker}
 
 -- ---- equal texts
 
@@ -107,9 +105,9 @@ OccursKnown scope o = knows scope (name_of o) ≡ true
 pub occurrences-known : (scope : NameScope) (os : List Occurrence) → AllByRecursion (OccursKnown (scope ++ scope_of (new_names scope os))) os
 occurrences-known scope os =
     new-known scope (OccursKnown (scope ++ scope_of (new_names scope os))) (λ o e. knows-front scope (scope_of (new_names scope os)) (name_of o) e) os
-      (each_weaker (λ o. stands-in name_of (new_names scope os) (name_of o) ≡ true) (OccursKnown (scope ++ scope_of (new_names scope os)))
-        (λ o e. knows-behind scope (scope_of (new_names scope os)) (name_of o) (knows-scope_of (new_names scope os) (name_of o) e))
-        (filter (λ o. not (knows scope (name_of o))) os) (all-put name_of [] (filter (λ o. not (knows scope (name_of o))) os)))
+    (each_weaker (λ o. stands-in name_of (new_names scope os) (name_of o) ≡ true) (OccursKnown (scope ++ scope_of (new_names scope os)))
+    (λ o e. knows-behind scope (scope_of (new_names scope os)) (name_of o) (knows-scope_of (new_names scope os) (name_of o) e))
+    (filter (λ o. not (knows scope (name_of o))) os) (all-put name_of [] (filter (λ o. not (knows scope (name_of o))) os)))
 
 -- where none is left out, a filter keeps all
 pub all-kept : {A : Type 0} (p : A → Bool) (xs : List A) → AllByRecursion (λ x. not (p x) ≡ false) xs → filter p xs ≡ xs

@@ -16,3 +16,5 @@ pub mod Statements
 pub mod Tokens
 pub mod Short
 pub mod WellFormed
+pub mod Values
+pub mod References

@@ -1,32 +1,31 @@
 -- A region type in which nothing is found fits a program.
-use Rattle.std.proofs.Common.{◌≡◌, ℕ, suc, ◌+◌, ◌<◌, ◌≤◌, Bool, true, false, true≢false, not, nat_eq, find, List, [], ◌∷◌, ◌++◌, map, filter, length, flat_map, Option, Some, None, option_map, refl, sym, ap, subst, ◌∙◌, arith, length-append}
+use Rattle.std.proofs.Common.{◌≡◌, ℕ, ◌+◌, ◌≤◌, false, not, nat_eq, find, List, [], ◌∷◌, ◌++◌, map, filter, length, flat_map, Option, Some, None, option_map, refl, sym, ap, subst, ◌∙◌, arith, length-append}
 use Rattle.std.specs.List.{AllByRecursion, IsDistinct}
 use Rattle.std.proofs.lemmas.List.{length-map}
 use Rattle.cap_lin.specs.declared.row.Sort.TheVariants.{Int}
-use Rattle.cap_galg.specs.Algebras.{atoms}
 use Rattle.cap_prog.specs.declared.assertion.Asked.{Asked}
-use Rattle.cap_prog.specs.Program.{Items, PlainProgram, PlainCase, PlainAction, PlainRegionType}
+use Rattle.cap_prog.specs.Program.{Items, PlainProgram}
 use Rattle.cap_prog.specs.Parts.{all_items, sides, items_length}
 use Rattle.cap_prog.specs.Scopes.{known, region_scope, TermFits, CompFits}
 use Rattle.cap_prog.specs.Scopes as sorted
-use Rattle.cap_prog.specs.WellFormed.{most_members, most_variables, most_atoms, most_params, AtomFits, ItemFits, ItemsFit, CaseFits, ActionFits, RegionFits}
+use Rattle.cap_prog.specs.WellFormed.{most_members, most_variables, most_atoms, most_params, AtomFits, ItemFits, CaseFits, ActionFits, RegionFits}
 use Rattle.cap_tree.specs.declared.word.Word.{Word}
 use Rattle.cap_tree.specs.Tree.{parts_of, ComparisonTree, GuardTree, DeclaredTree, unique, divisible, counting, grouped, DeclaredTrees, no_declared, and_declared, JointTree, joint, JointTrees, no_joint, or_joint, AlgebraTree, algebra, CaseTree, ActionTree, RegionTree}
-use Rattle.cap_stands.specs.Finding.{Finding, unknown_word, twice_word, guard_count, parameter_count}
+use Rattle.cap_stands.specs.Finding.{unknown_word, twice_word, guard_count, parameter_count}
 use Rattle.cap_stands.specs.Parts.{PlacedItem, term_words, comparison_words, when_comparisons, placed_items, atom_word, declared_guards, declareds_guards, joint_guards, joints_guards, algebra_guards}
 use Rattle.cap_stands.specs.Names.{NameScope, sorts_of, word_text, word_place, repeated, past_variables, past, parameters_findings}
 use Rattle.cap_stands.specs.Linear.{term_form}
-use Rattle.cap_stands.specs.Terms.{WantedTerm, wanted_as, term_findings, terms_findings, comparison_wanted}
-use Rattle.cap_stands.specs.Items.{NumberedRegion, is_guard, guard_words, guard_kind, region_guards, TypedName, Occurrence, occurs, unbound, occurrences, atom_occurrences, scope_of, occurrence_word, occurrence_words, ret_findings, item_wanted, item_findings, atom_wanted, atom_findings, guard_findings, atoms_twice}
-use Rattle.cap_stands.specs.Regions.{own_parameters, own_name, parameters_scope, case_types, assertion_occurrences, case_occurrences, case_new, is_known_in, case_known, case_unknown, case_scope, case_wanted, case_items_findings, case_findings, action_atoms, action_occurrences, action_new, is_whole_in, action_known, action_unknown, action_scope, action_wanted, action_findings, guard_names, region_type_findings}
-use Rattle.cap_stands.specs.Program.{comparison_program, guard_number, asked_program, action_guard, assertion_program, algebra_program, occurrence_sort, occurrence_sorts, case_program, action_program, region_program}
-use Rattle.cap_stands.proofs.Every.{each_append, each_front, each_behind, each_map, each_mapped, each_flat, each_weaker}
+use Rattle.cap_stands.specs.Terms.{wanted_as, term_findings, terms_findings, comparison_wanted}
+use Rattle.cap_stands.specs.Items.{NumberedRegion, is_guard, guard_words, guard_kind, region_guards, Occurrence, occurs, unbound, atom_occurrences, scope_of, occurrence_word, occurrence_words, ret_findings, item_wanted, atom_wanted, atom_findings, guard_findings, atoms_twice}
+use Rattle.cap_stands.specs.Regions.{own_parameters, own_name, parameters_scope, case_types, case_occurrences, case_new, is_known_in, case_known, case_unknown, case_scope, case_wanted, case_items_findings, case_findings, action_atoms, action_occurrences, action_new, is_whole_in, action_known, action_unknown, action_scope, action_wanted, action_findings, guard_names, region_type_findings}
+use Rattle.cap_stands.specs.Program.{comparison_program, guard_number, action_guard, assertion_program, occurrence_sort, occurrence_sorts, case_program, action_program, region_program}
+use Rattle.cap_stands.proofs.Every.{each_append, each_front, each_behind, each_mapped, each_flat, each_weaker}
 use Rattle.cap_stands.proofs.Nothing.{cons_not_nil, nothing_front, nothing_behind, nothing_flat, nothing_mapped, nothing_kept, not_past}
 use Rattle.cap_stands.proofs.Sorts.{IsKnown}
 use Rattle.cap_stands.proofs.Known.{OccursKnown, occurrences-known, all-kept, sorts-whole, sorts-last}
 use Rattle.cap_stands.proofs.Algebras.{algebra-count}
-use Rattle.cap_stands.proofs.Terms.{TermKnown, ComparisonKnown, term-fits, comparison-fits, terms-front, terms-behind, terms-flat}
-use Rattle.cap_stands.proofs.Items.{HasRegions, Reads, IsNumbered, told-numbered, ItemsAre, assertion-fit, atom-fits}
+use Rattle.cap_stands.proofs.Terms.{term-fits, comparison-fits, terms-front, terms-behind, terms-flat}
+use Rattle.cap_stands.proofs.Items.{HasRegions, IsNumbered, told-numbered, ItemsAre, assertion-fit, atom-fits}
 use Rattle.cap_stands.proofs.Clauses.{right-items}
 use Rattle.cap_stands.proofs.Counts.{IsDeclared, within-limit, distinct}
 
@@ -40,9 +39,10 @@ unbound-known scope ws a = each_mapped (OccursKnown scope) (occurs false Int) ws
 
 pub comparisons-fit : (scope : NameScope) (cs : List ComparisonTree) → AllByRecursion (IsKnown scope) (flat_map comparison_words cs) → terms_findings scope (flat_map (comparison_wanted scope) cs) ≡ [] → AllByRecursion (CompFits (sorts_of scope)) (map (comparison_program scope) cs)
 comparisons-fit scope [] a e = tt
-comparisons-fit scope (c ∷ cs) a e =
-    (comparison-fits scope c (each_front (IsKnown scope) (comparison_words c) (flat_map comparison_words cs) a) (terms-front scope (comparison_wanted scope c) (flat_map (comparison_wanted scope) cs) e),
-      comparisons-fit scope cs (each_behind (IsKnown scope) (comparison_words c) (flat_map comparison_words cs) a) (terms-behind scope (comparison_wanted scope c) (flat_map (comparison_wanted scope) cs) e))
+comparisons-fit scope (c ∷ cs) a e = (
+  comparison-fits scope c (each_front (IsKnown scope) (comparison_words c) (flat_map comparison_words cs) a) (terms-front scope (comparison_wanted scope c) (flat_map (comparison_wanted scope) cs) e),
+  comparisons-fit scope cs (each_behind (IsKnown scope) (comparison_words c) (flat_map comparison_words cs) a) (terms-behind scope (comparison_wanted scope c) (flat_map (comparison_wanted scope) cs) e),
+)
 
 -- ---- the names of a case or an action
 
@@ -53,7 +53,7 @@ names-count : (k : NumberedRegion) (os : List Occurrence) → past_variables (ma
 names-count k os e =
     let h = within-limit (map word_place (own_parameters k ++ occurrence_words os)) e in
     let n : length (map word_place (own_parameters k ++ occurrence_words os)) ≡ length (own_parameters k) + length (occurrence_sorts os) =
-        length-map (own_parameters k ++ occurrence_words os) word_place ∙ (length-append (own_parameters k) (occurrence_words os) ∙ ap (λ m. length (own_parameters k) + m) (length-map os occurrence_word ∙ sym (length-map os occurrence_sort))) in
+    length-map (own_parameters k ++ occurrence_words os) word_place ∙ (length-append (own_parameters k) (occurrence_words os) ∙ ap (λ m. length (own_parameters k) + m) (length-map os occurrence_word ∙ sym (length-map os occurrence_sort))) in
     subst (λ m. m ≤ most_variables) n h
 
 none-unknown : (os : List Occurrence) → map unknown_word (occurrence_words os) ≡ [] → os ≡ []
@@ -69,11 +69,11 @@ case-fits p rs h k n c e short few = record {
   comparisons = subst (λ m. m ≤ most_members) (sym (length-map (when_comparisons c.when) (comparison_program (case_scope rs k c)))) few;
   items = record {
     items = in-scope (λ sc. ItemsAre (ItemFits p sc) (assertion_program rs (case_types rs k c) (case_scope rs k c) c.assertion))
-      (assertion-fit p rs (Some (own_name k)) (case_types rs k c) (case_scope rs k c) (record { declared = h; told = (n, told-numbered rs (placed_items c.assertion)) }) false c.assertion
+        (assertion-fit p rs (Some (own_name k)) (case_types rs k c) (case_scope rs k c) (record { declared = h; told = (n, told-numbered rs (placed_items c.assertion)) }) false c.assertion
         (right-items rs (Some (own_name k)) (case_types rs k c) (case_scope rs k c) (placed_items c.assertion)
-          (each_behind (OccursKnown (case_scope rs k c)) (unbound (term_words c.state ++ flat_map comparison_words (when_comparisons c.when))) _ all-known)
-          (nothing_front (case_items_findings rs k c) _ rest3)
-          (terms-behind (case_scope rs k c) (flat_map (comparison_wanted (case_scope rs k c)) (when_comparisons c.when)) _ terms2)));
+        (each_behind (OccursKnown (case_scope rs k c)) (unbound (term_words c.state ++ flat_map comparison_words (when_comparisons c.when))) _ all-known)
+        (nothing_front (case_items_findings rs k c) _ rest3)
+        (terms-behind (case_scope rs k c) (flat_map (comparison_wanted (case_scope rs k c)) (when_comparisons c.when)) _ terms2)));
     length = short.length;
     sides = short.sides;
   };
@@ -127,7 +127,7 @@ pub action-fits : (rs : List RegionTree) (k : NumberedRegion) (a : ActionTree) �
 action-fits rs k a e some few = record {
   variables = names-count k (action_known k a) (nothing_front (past_variables (map word_place (own_parameters k ++ occurrence_words (action_known k a)))) _ rest2);
   guards = in-scope (λ sc. AllByRecursion (λ (g : ℕ × Asked). AtomFits sc (region_program rs k) g.0 g.1) (map (action_guard k (action_scope k a)) (parts_of a.guards)))
-    (guards-fit rs (action_scope k a) k (parts_of a.guards) found
+      (guards-fit rs (action_scope k a) k (parts_of a.guards) found
       (each_flat (OccursKnown (action_scope k a)) (atom_occurrences false (Some k)) (parts_of a.guards) (each_front (OccursKnown (action_scope k a)) (action_atoms k a) _ all-known))
       (terms-flat (action_scope k a) (atom_wanted (Some k)) (parts_of a.guards) (terms-front (action_scope k a) (flat_map (atom_wanted (Some k)) (parts_of a.guards)) _ terms)));
   distinct = subst (IsDistinct nat_eq) (sym (first-parts k (action_scope k a) (parts_of a.guards))) (distinct k [] (parts_of a.guards) (nothing_mapped twice_word (repeated (map atom_word (parts_of a.guards))) (nothing_front (atoms_twice (parts_of a.guards)) _ rest4)) (each_weaker (λ g. atom_findings k g ≡ []) (IsDeclared k) (λ g x. declared-atom k g x) (parts_of a.guards) found));

@@ -1,23 +1,23 @@
 -- The lists of region types and functions are short, where the tree has no more tokens than a text may have.
-use Rattle.std.proofs.Common.{◌≡◌, ℕ, suc, ◌+◌, ◌<◌, ◌≤◌, codes, List, [], ◌∷◌, ◌++◌, map, length, filter_map, Option, Some, None, refl, sym, ap, subst, ◌∙◌, arith}
-use Rattle.std.specs.List.{AllByRecursion, cons_option}
+use Rattle.std.proofs.Common.{◌≡◌, ℕ, ◌+◌, ◌<◌, ◌≤◌, codes, List, [], ◌∷◌, length, filter_map, Option, Some, None, sym, subst, arith}
+use Rattle.std.specs.List.{AllByRecursion}
 use Rattle.cap_syntax.specs.declared.token.Token.{Token}
 use Rattle.cap_prog.specs.Program.{none, PlainAct, Block, done, first, append, PlainStatement}
-use Rattle.cap_prog.specs.Parts.{all_items, sides, items_length, all_statements, block_statements, blocks, block_length}
+use Rattle.cap_prog.specs.Parts.{all_statements, block_statements, blocks, block_length}
 use Rattle.cap_prog.specs.WellFormed.{most_members}
-use Rattle.cap_tree.specs.Tree.{parts_of, listed_parts, TermTree, ComparisonTree, GuardTree, ClauseTree, ValueTree, value, load, alloc, cas, result_of, StatementTree, assign, store, call, fork, branch, loop, check, give_back, ElseTree, no_else, else_block, StatementTrees, no_statement, then_statement, BlockTree, block, DeclaredTree, unique, divisible, counting, grouped, DeclaredTrees, no_declared, and_declared, JointTree, joint, JointTrees, no_joint, or_joint, AlgebraTree, algebra, WhenTree, CaseTree, ActionTree, RegionTree, FunctionTree, DeclarationTree, region, function, ProgramTree}
-use Rattle.cap_tree.specs.Tokens.{symbol, keyword, name, number}
-use Rattle.cap_tree.specs.Spelling.{Spells, spell_all, spell_several, spell_option, spell_listed, spell_group, spell_name, spell_term, spell_comparison, relation_text, spell_guard, spell_guards, spell_assertion, spell_clause, spell_terms, spell_value, spell_statement, spell_else, spell_statements, spell_block, spell_declared, spell_declareds, spell_joint, spell_joints, spell_algebra, spell_when, spell_case, spell_action, spell_region, spell_function, spell_declaration, spelling}
+use Rattle.cap_tree.specs.Tree.{value, load, alloc, cas, result_of, StatementTree, assign, store, call, fork, branch, loop, check, give_back, ElseTree, no_else, else_block, StatementTrees, no_statement, then_statement, BlockTree, block, unique, divisible, counting, grouped, DeclaredTrees, no_declared, and_declared, joint, JointTrees, no_joint, or_joint, algebra, WhenTree, CaseTree, ActionTree, RegionTree, FunctionTree, DeclarationTree, region, function, ProgramTree}
+use Rattle.cap_tree.specs.Tokens.{symbol, keyword}
+use Rattle.cap_tree.specs.Spelling.{spell_all, spell_option, spell_listed, spell_group, spell_name, spell_term, spell_comparison, spell_guard, spell_assertion, spell_clause, spell_value, spell_statement, spell_else, spell_statements, spell_block, spell_declared, spell_declareds, spell_joint, spell_joints, spell_algebra, spell_when, spell_case, spell_action, spell_region, spell_function, spell_declaration, spelling}
 use Rattle.cap_stands.specs.Parts.{when_comparisons, statement_parts, else_parts, statements_parts, block_parts, invariant, region_in, function_in, regions, functions}
 use Rattle.cap_stands.specs.Items.{NumberedRegion}
-use Rattle.cap_stands.specs.Functions.{Context, context_of, clause_types, clause_scope, requires_types, requires_scope, statements}
+use Rattle.cap_stands.specs.Functions.{Context, context_of, clause_types, clause_scope, requires_types, requires_scope}
 use Rattle.cap_stands.specs.Regions.{case_types, case_scope}
-use Rattle.cap_stands.specs.Program.{new_assertion, act_program, else_program, statements_program, block_program, closing_return, block_end, body_program, function_program}
+use Rattle.cap_stands.specs.Program.{new_assertion, act_program, else_program, statements_program, block_program, closing_return, block_end}
 use Rattle.cap_stands.proofs.Every.{each_append}
 use Rattle.cap_stands.proofs.Regions.{ItemsShort, CaseShort, ActionShort, RegionShort}
 use Rattle.cap_stands.proofs.Bodies.{all_statements-append}
 use Rattle.cap_stands.proofs.Statements.{FunctionShort}
-use Rattle.cap_stands.proofs.Tokens.{Adds, term-adds, comparison-adds, guard-adds, name-adds, all-add, several-add, option-adds, listed-adds, group-add, clause-adds, clause-items, assertion-items, assertion-adds}
+use Rattle.cap_stands.proofs.Tokens.{Adds, term-adds, comparison-adds, guard-adds, name-adds, several-add, option-adds, listed-adds, group-add, clause-adds, clause-items, assertion-items, assertion-adds}
 
 -- ---- statements
 
@@ -72,10 +72,11 @@ mutual
   act-blocks g n (fork b v l e) ts h = (tt, tt)
   act-blocks g n (branch p q c r b e) ts h =
       let x : length (spell_block b (spell_else e ts)) ≤ most_members = omega (arith, comparison-adds c (symbol (codes ")") r ∷ spell_block b (spell_else e ts))) in
-      let y : length (spell_else e ts) ≤ most_members = omega (arith, block-adds g (n + 1) b (spell_else e ts)) in
-      ((omega (arith, block-adds g (n + 1) b (spell_else e ts)), (omega (arith, else-length g (n + 1 + length (block_parts b)) e ts), tt)),
+      let y : length (spell_else e ts) ≤ most_members = omega (arith, block-adds g (n + 1) b (spell_else e ts)) in (
+        (omega (arith, block-adds g (n + 1) b (spell_else e ts)), (omega (arith, else-length g (n + 1 + length (block_parts b)) e ts), tt)),
         each_append (λ (s : PlainStatement). ShortBlocks s.act) (all_statements (block_program g (n + 1) b)) (all_statements (else_program g (n + 1 + length (block_parts b)) e))
-          (block-blocks g (n + 1) b (spell_else e ts) x) (else-blocks g (n + 1 + length (block_parts b)) e ts y))
+            (block-blocks g (n + 1) b (spell_else e ts) x) (else-blocks g (n + 1 + length (block_parts b)) e ts y),
+      )
   act-blocks g n (loop p q c r i b) ts h =
       let x : length (spell_block b ts) ≤ most_members = omega (arith, comparison-adds c (symbol (codes ")") r ∷ spell_option (spell_clause (codes "invariant")) i (spell_block b ts)), option-adds (spell_clause (codes "invariant")) (clause-adds (codes "invariant")) i (spell_block b ts)) in
       ((omega (arith, block-adds g (n + 1) b ts), tt), block-blocks g (n + 1) b ts x)
@@ -143,10 +144,13 @@ listed-names f ts = listed-adds spell_name name-adds f.parameters ts
 
 function-adds : (rs : List RegionTree) (fs : List FunctionTree) → Adds spell_function
 function-adds rs fs f ts =
-    omega (arith, listed-names f (spell_option (spell_clause (codes "requires")) f.precondition (spell_option (spell_clause (codes "ensures")) f.postcondition (spell_block f.body ts))),
+    omega (
+      arith,
+      listed-names f (spell_option (spell_clause (codes "requires")) f.precondition (spell_option (spell_clause (codes "ensures")) f.postcondition (spell_block f.body ts))),
       option-adds (spell_clause (codes "requires")) (clause-adds (codes "requires")) f.precondition (spell_option (spell_clause (codes "ensures")) f.postcondition (spell_block f.body ts)),
       option-adds (spell_clause (codes "ensures")) (clause-adds (codes "ensures")) f.postcondition (spell_block f.body ts),
-      block-adds (context_of rs fs f) 1 f.body ts)
+      block-adds (context_of rs fs f) 1 f.body ts,
+    )
 
 pub function-short : (rs : List RegionTree) (fs : List FunctionTree) (f : FunctionTree) (ts : List Token) → length (spell_function f ts) ≤ most_members → FunctionShort rs fs f
 function-short rs fs f ts h =
@@ -163,7 +167,7 @@ function-short rs fs f ts h =
       invariants = block-invariants g f.body ts z1;
       length = omega (arith, block-adds g 1 f.body ts, append-length (block_program g 1 f.body) (closing_return (1 + length (block_parts f.body)) (block_end f.body)));
       blocks = subst BlocksShort (sym (all_statements-append (block_program g 1 f.body) (closing_return (1 + length (block_parts f.body)) (block_end f.body))))
-        (each_append (λ (s : PlainStatement). ShortBlocks s.act) (all_statements (block_program g 1 f.body)) (all_statements (closing_return (1 + length (block_parts f.body)) (block_end f.body))) (block-blocks g 1 f.body ts z1) (tt, tt));
+          (each_append (λ (s : PlainStatement). ShortBlocks s.act) (all_statements (block_program g 1 f.body)) (all_statements (closing_return (1 + length (block_parts f.body)) (block_end f.body))) (block-blocks g 1 f.body ts z1) (tt, tt));
     }
 
 -- ---- region types
@@ -195,16 +199,22 @@ when-add (Some w) ts = omega (arith, several-add (codes ",") spell_comparison co
 
 case-adds : Adds spell_case
 case-adds c ts =
-    omega (arith, term-adds c.state (spell_option spell_when c.when (symbol (codes ":") c.colon ∷ spell_assertion c.assertion (symbol (codes ";") c.semicolon ∷ ts))),
+    omega (
+      arith,
+      term-adds c.state (spell_option spell_when c.when (symbol (codes ":") c.colon ∷ spell_assertion c.assertion (symbol (codes ";") c.semicolon ∷ ts))),
       when-add c.when (symbol (codes ":") c.colon ∷ spell_assertion c.assertion (symbol (codes ";") c.semicolon ∷ ts)),
-      assertion-adds [] [] [] c.assertion (symbol (codes ";") c.semicolon ∷ ts))
+      assertion-adds [] [] [] c.assertion (symbol (codes ";") c.semicolon ∷ ts),
+    )
 
 action-adds : Adds spell_action
 action-adds a ts =
-    omega (arith, several-add (codes "*") spell_guard guard-adds a.guards (symbol (codes ":") a.colon ∷ spell_term a.source (symbol (codes "~>") a.arrow ∷ spell_term a.target (spell_option spell_when a.when (symbol (codes ";") a.semicolon ∷ ts)))),
+    omega (
+      arith,
+      several-add (codes "*") spell_guard guard-adds a.guards (symbol (codes ":") a.colon ∷ spell_term a.source (symbol (codes "~>") a.arrow ∷ spell_term a.target (spell_option spell_when a.when (symbol (codes ";") a.semicolon ∷ ts)))),
       term-adds a.source (symbol (codes "~>") a.arrow ∷ spell_term a.target (spell_option spell_when a.when (symbol (codes ";") a.semicolon ∷ ts))),
       term-adds a.target (spell_option spell_when a.when (symbol (codes ";") a.semicolon ∷ ts)),
-      when-add a.when (symbol (codes ";") a.semicolon ∷ ts))
+      when-add a.when (symbol (codes ";") a.semicolon ∷ ts),
+    )
 
 case-short : (rs : List RegionTree) (k : NumberedRegion) (c : CaseTree) (ts : List Token) → length (spell_case c ts) ≤ most_members → CaseShort rs k c
 case-short rs k c ts h =
@@ -220,10 +230,13 @@ action-short a ts h =
     let b = several-add (codes "*") spell_guard guard-adds a.guards (symbol (codes ":") a.colon ∷ spell_term a.source (symbol (codes "~>") a.arrow ∷ spell_term a.target (spell_option spell_when a.when (symbol (codes ";") a.semicolon ∷ ts)))) in
     record {
       guards = omega (arith, b);
-      comparisons = omega (arith, b,
+      comparisons = omega (
+        arith,
+        b,
         term-adds a.source (symbol (codes "~>") a.arrow ∷ spell_term a.target (spell_option spell_when a.when (symbol (codes ";") a.semicolon ∷ ts))),
         term-adds a.target (spell_option spell_when a.when (symbol (codes ";") a.semicolon ∷ ts)),
-        when-add a.when (symbol (codes ";") a.semicolon ∷ ts));
+        when-add a.when (symbol (codes ";") a.semicolon ∷ ts),
+      );
     }
 
 cases-short : (rs : List RegionTree) (k : NumberedRegion) (cs : List CaseTree) (ts : List Token) → length (spell_all spell_case cs ts) ≤ most_members → AllByRecursion (CaseShort rs k) cs
@@ -252,8 +265,13 @@ after_parameters r ts = symbol (codes ")") r.behind ∷ symbol (codes "{") r.bra
 
 region-adds : Adds spell_region
 region-adds r ts =
-    omega (arith, several-add (codes ",") spell_name name-adds r.parameters (after_parameters r ts), algebra-adds r.algebra (after_algebra r ts),
-      group-add (codes "interpretation") spell_case case-adds r.cases (after_cases r ts), group-add (codes "actions") spell_action action-adds r.actions (after_actions r ts))
+    omega (
+      arith,
+      several-add (codes ",") spell_name name-adds r.parameters (after_parameters r ts),
+      algebra-adds r.algebra (after_algebra r ts),
+      group-add (codes "interpretation") spell_case case-adds r.cases (after_cases r ts),
+      group-add (codes "actions") spell_action action-adds r.actions (after_actions r ts),
+    )
 
 pub region-short : (rs : List RegionTree) (k : NumberedRegion) (ts : List Token) → length (spell_region k.region ts) ≤ most_members → RegionShort rs k
 region-short rs k ts h =

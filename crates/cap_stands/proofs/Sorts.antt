@@ -1,22 +1,20 @@
 -- Where nothing is wrong in a term whose names are known, all its names are of the sort that is wanted.
-use Rattle.std.proofs.Common.{◌≡◌, ℕ, Bool, true, false, true≢false, not, ◌&&◌, ◌||◌, cond, List, [], ◌∷◌, ◌++◌, map, filter, flat_map, get_or, find, slice_get, Option, Some, None, option_map, refl, sym, ap, subst, ◌∙◌, if◌then◌else◌}
-use Rattle.std.specs.List.{AllByRecursion, list_all, list_any, position_or_len}
+use Rattle.std.proofs.Common.{◌≡◌, ℕ, Bool, true, false, true≢false, not, ◌&&◌, ◌||◌, cond, List, [], ◌∷◌, ◌++◌, filter, flat_map, find, Option, Some, None, option_map, refl, sym, ap, subst, ◌∙◌, if◌then◌else◌}
+use Rattle.std.specs.List.{AllByRecursion, list_all}
 use Rattle.std.proofs.lemmas.List.Folds.{find_at}
-use Rattle.std.proofs.lemmas.Option.{slice_get-map, same_Some}
+use Rattle.std.proofs.lemmas.Option.{slice_get-map}
 use Rattle.cap_lin.specs.declared.row.Sort.{Sort}
 use Rattle.cap_lin.specs.declared.row.Sort.TheVariants.{Int, Perm}
-use Rattle.cap_syntax.specs.declared.place.Place.{Place}
 use Rattle.cap_tree.specs.declared.word.Word.{Word}
 use Rattle.cap_tree.specs.Tree.{FactorTree, literal, whole_share, named, bracketed, ProductTree, product, FactorTrees, no_factor, times, TermTree, term, ProductTrees, no_product, signed}
-use Rattle.cap_prog.specs.Scopes.{HasSort, TermFits}
-use Rattle.cap_stands.specs.Finding.{Finding, found_if, wrong_sort, nonlinear}
-use Rattle.cap_stands.specs.Parts.{factor_leaves, product_leaves, factors_leaves, term_leaves, products_leaves, is_number, is_name, is_multiplier, holds_name, factor_brackets, product_brackets, factors_brackets, term_brackets, products_brackets, products, more_products, more_factors, factors, first_factor, factor_place}
+use Rattle.cap_prog.specs.Scopes.{HasSort}
+use Rattle.cap_stands.specs.Finding.{found_if, wrong_sort, nonlinear}
+use Rattle.cap_stands.specs.Parts.{factor_leaves, product_leaves, factors_leaves, term_leaves, products_leaves, is_number, is_multiplier, holds_name, factor_brackets, product_brackets, factors_brackets, term_brackets, products_brackets, more_products, more_factors, factor_place}
 use Rattle.cap_stands.specs.Names.{KnownName, NameScope, knows, has_name, sort_of, found_sort, known_sort, sorts_of, variable_of}
-use Rattle.cap_stands.specs.Linear.{term_form}
 use Rattle.cap_stands.specs.Terms.{factor_sort, product_sort, factors_sort, term_sort, clash, main_factors, wrong_product, wrong_second, products_of_names, names_multiplied, product_findings, products_findings}
-use Rattle.cap_stands.proofs.Every.{each_append, each_front, each_behind, each_weaker}
-use Rattle.cap_stands.proofs.Nothing.{cons_not_nil, nothing_front, nothing_behind, nothing_flat, not_found}
-use Rattle.cap_stands.proofs.Variables.{NamesAre, LeavesAre, term-form-parts}
+use Rattle.cap_stands.proofs.Every.{each_append, each_front, each_behind}
+use Rattle.cap_stands.proofs.Nothing.{cons_not_nil, nothing_front, nothing_behind, not_found}
+use Rattle.cap_stands.proofs.Variables.{NamesAre, LeavesAre}
 
 abbrev pub IsKnown : NameScope → Word → Type 0
 IsKnown scope w = knows scope w.text ≡ true
@@ -59,15 +57,15 @@ mutual
   product-sorted : (scope : NameScope) (m : ProductTree) → LeavesAre (IsKnown scope) (product_leaves m) → SomeSort (product_sort scope m)
   product-sorted scope (product f fs) a =
       either-sorted (is_multiplier f)
-        (factors-sorted scope fs (each_behind (NamesAre (IsKnown scope)) (factor_leaves f) (factors_leaves fs) a))
-        (factor-sorted scope f (each_front (NamesAre (IsKnown scope)) (factor_leaves f) (factors_leaves fs) a))
+      (factors-sorted scope fs (each_behind (NamesAre (IsKnown scope)) (factor_leaves f) (factors_leaves fs) a))
+      (factor-sorted scope f (each_front (NamesAre (IsKnown scope)) (factor_leaves f) (factors_leaves fs) a))
 
   factors-sorted : (scope : NameScope) (fs : FactorTrees) → LeavesAre (IsKnown scope) (factors_leaves fs) → SomeSort (factors_sort scope fs)
   factors-sorted scope no_factor a = (Int, refl)
   factors-sorted scope (times p f fs) a =
       either-sorted (is_multiplier f)
-        (factors-sorted scope fs (each_behind (NamesAre (IsKnown scope)) (factor_leaves f) (factors_leaves fs) a))
-        (factor-sorted scope f (each_front (NamesAre (IsKnown scope)) (factor_leaves f) (factors_leaves fs) a))
+      (factors-sorted scope fs (each_behind (NamesAre (IsKnown scope)) (factor_leaves f) (factors_leaves fs) a))
+      (factor-sorted scope f (each_front (NamesAre (IsKnown scope)) (factor_leaves f) (factors_leaves fs) a))
 
   pub term-sorted : (scope : NameScope) (t : TermTree) → LeavesAre (IsKnown scope) (term_leaves t) → SomeSort (term_sort scope t)
   term-sorted scope (term p m ms) a = product-sorted scope m (each_front (NamesAre (IsKnown scope)) (product_leaves m) (products_leaves ms) a)
@@ -169,28 +167,28 @@ mutual
   rest-names scope s no_factor a e w p b = tt
   rest-names scope s (times q f fs) a e w p b =
       joined scope s f fs (is_multiplier f) refl e w p.0 (nothing_behind (found_if (p.0 && holds_name f) q nonlinear) (products_of_names (p.0 || holds_name f) fs) p.1)
-        (λ e1. factor-names scope s f (each_front (NamesAre (IsKnown scope)) (factor_leaves f) (factors_leaves fs) a) e1 (each_front (Bracketed scope) (factor_brackets f) (factors_brackets fs) b))
-        (λ e1 w1 p1. rest-names scope s fs (each_behind (NamesAre (IsKnown scope)) (factor_leaves f) (factors_leaves fs) a) e1 w1 p1 (each_behind (Bracketed scope) (factor_brackets f) (factors_brackets fs) b))
+      (λ e1. factor-names scope s f (each_front (NamesAre (IsKnown scope)) (factor_leaves f) (factors_leaves fs) a) e1 (each_front (Bracketed scope) (factor_brackets f) (factors_brackets fs) b))
+      (λ e1 w1 p1. rest-names scope s fs (each_behind (NamesAre (IsKnown scope)) (factor_leaves f) (factors_leaves fs) a) e1 w1 p1 (each_behind (Bracketed scope) (factor_brackets f) (factors_brackets fs) b))
 
   product-names : (scope : NameScope) (s : Sort) (m : ProductTree) → LeavesAre (IsKnown scope) (product_leaves m) → product_findings scope (Some s) m ≡ [] → AllByRecursion (Bracketed scope) (product_brackets m) → LeavesAre (IsOfSort scope s) (product_leaves m)
   product-names scope s (product f fs) a e b =
       joined scope s f fs (is_multiplier f) refl
-        (no-clash s (product_sort scope (product f fs)) (product-sorted scope (product f fs) a) (not_found (clash (Some s) (product_sort scope (product f fs))) _ wrong_sort (nothing_front (wrong_product scope (Some s) (product f fs)) _ e)))
-        (nothing_front (wrong_second (main_factors (product f fs))) (names_multiplied (product f fs)) (nothing_behind (wrong_product scope (Some s) (product f fs)) _ e))
-        false
-        (nothing_behind (wrong_second (main_factors (product f fs))) (names_multiplied (product f fs)) (nothing_behind (wrong_product scope (Some s) (product f fs)) _ e))
-        (λ e1. factor-names scope s f (each_front (NamesAre (IsKnown scope)) (factor_leaves f) (factors_leaves fs) a) e1 (each_front (Bracketed scope) (factor_brackets f) (factors_brackets fs) b))
-        (λ e1 w1 p1. rest-names scope s fs (each_behind (NamesAre (IsKnown scope)) (factor_leaves f) (factors_leaves fs) a) e1 w1 p1 (each_behind (Bracketed scope) (factor_brackets f) (factors_brackets fs) b))
+      (no-clash s (product_sort scope (product f fs)) (product-sorted scope (product f fs) a) (not_found (clash (Some s) (product_sort scope (product f fs))) _ wrong_sort (nothing_front (wrong_product scope (Some s) (product f fs)) _ e)))
+      (nothing_front (wrong_second (main_factors (product f fs))) (names_multiplied (product f fs)) (nothing_behind (wrong_product scope (Some s) (product f fs)) _ e))
+      false
+      (nothing_behind (wrong_second (main_factors (product f fs))) (names_multiplied (product f fs)) (nothing_behind (wrong_product scope (Some s) (product f fs)) _ e))
+      (λ e1. factor-names scope s f (each_front (NamesAre (IsKnown scope)) (factor_leaves f) (factors_leaves fs) a) e1 (each_front (Bracketed scope) (factor_brackets f) (factors_brackets fs) b))
+      (λ e1 w1 p1. rest-names scope s fs (each_behind (NamesAre (IsKnown scope)) (factor_leaves f) (factors_leaves fs) a) e1 w1 p1 (each_behind (Bracketed scope) (factor_brackets f) (factors_brackets fs) b))
 
   pub term-names : (scope : NameScope) (s : Sort) (t : TermTree) → LeavesAre (IsKnown scope) (term_leaves t) → products_findings scope (Some s) t ≡ [] → AllByRecursion (Bracketed scope) (term_brackets t) → LeavesAre (IsOfSort scope s) (term_leaves t)
   term-names scope s (term p m ms) a e b =
       each_append (NamesAre (IsOfSort scope s)) (product_leaves m) (products_leaves ms)
-        (product-names scope s m (each_front (NamesAre (IsKnown scope)) (product_leaves m) (products_leaves ms) a) (nothing_front (product_findings scope (Some s) m) (flat_map (product_findings scope (Some s)) (more_products ms)) e) (each_front (Bracketed scope) (product_brackets m) (products_brackets ms) b))
-        (products-names scope s ms (each_behind (NamesAre (IsKnown scope)) (product_leaves m) (products_leaves ms) a) (nothing_behind (product_findings scope (Some s) m) (flat_map (product_findings scope (Some s)) (more_products ms)) e) (each_behind (Bracketed scope) (product_brackets m) (products_brackets ms) b))
+      (product-names scope s m (each_front (NamesAre (IsKnown scope)) (product_leaves m) (products_leaves ms) a) (nothing_front (product_findings scope (Some s) m) (flat_map (product_findings scope (Some s)) (more_products ms)) e) (each_front (Bracketed scope) (product_brackets m) (products_brackets ms) b))
+      (products-names scope s ms (each_behind (NamesAre (IsKnown scope)) (product_leaves m) (products_leaves ms) a) (nothing_behind (product_findings scope (Some s) m) (flat_map (product_findings scope (Some s)) (more_products ms)) e) (each_behind (Bracketed scope) (product_brackets m) (products_brackets ms) b))
 
   products-names : (scope : NameScope) (s : Sort) (ms : ProductTrees) → LeavesAre (IsKnown scope) (products_leaves ms) → flat_map (product_findings scope (Some s)) (more_products ms) ≡ [] → AllByRecursion (Bracketed scope) (products_brackets ms) → LeavesAre (IsOfSort scope s) (products_leaves ms)
   products-names scope s no_product a e b = tt
   products-names scope s (signed g p m ms) a e b =
       each_append (NamesAre (IsOfSort scope s)) (product_leaves m) (products_leaves ms)
-        (product-names scope s m (each_front (NamesAre (IsKnown scope)) (product_leaves m) (products_leaves ms) a) (nothing_front (product_findings scope (Some s) m) (flat_map (product_findings scope (Some s)) (more_products ms)) e) (each_front (Bracketed scope) (product_brackets m) (products_brackets ms) b))
-        (products-names scope s ms (each_behind (NamesAre (IsKnown scope)) (product_leaves m) (products_leaves ms) a) (nothing_behind (product_findings scope (Some s) m) (flat_map (product_findings scope (Some s)) (more_products ms)) e) (each_behind (Bracketed scope) (product_brackets m) (products_brackets ms) b))
+      (product-names scope s m (each_front (NamesAre (IsKnown scope)) (product_leaves m) (products_leaves ms) a) (nothing_front (product_findings scope (Some s) m) (flat_map (product_findings scope (Some s)) (more_products ms)) e) (each_front (Bracketed scope) (product_brackets m) (products_brackets ms) b))
+      (products-names scope s ms (each_behind (NamesAre (IsKnown scope)) (product_leaves m) (products_leaves ms) a) (nothing_behind (product_findings scope (Some s) m) (flat_map (product_findings scope (Some s)) (more_products ms)) e) (each_behind (Bracketed scope) (product_brackets m) (products_brackets ms) b))

@@ -1,32 +1,29 @@
 -- The statements and the contract of a function in which nothing is found fit a program.
-use Rattle.std.proofs.Common.{◌≡◌, ℕ, zero, suc, ◌+◌, ◌<◌, ◌≤◌, Bool, true, false, true≢false, not, ◌&&◌, ◌||◌, cond, find, List, [], ◌∷◌, ◌++◌, map, filter, filter_map, flat_map, length, slice_get, Option, Some, None, option_to_list, option_map, IsSomeAnd, refl, sym, ap, subst, ◌∙◌, arith, append-nil, length-append, eqb-true, ltb-true, leb-true}
+use Rattle.std.proofs.Common.{◌≡◌, ℕ, ◌+◌, ◌<◌, ◌≤◌, Bool, true, false, true≢false, not, ◌&&◌, List, [], ◌∷◌, ◌++◌, map, filter, flat_map, length, slice_get, Option, Some, None, option_to_list, IsSomeAnd, refl, sym, subst, ◌∙◌, arith, length-append, eqb-true, ltb-true, leb-true}
 use Rattle.std.specs.Prelude.{◌==◌, nat_lt, nat_le}
 use Rattle.std.specs.List.{AllByRecursion}
 use Rattle.std.proofs.lemmas.List.{length-map}
 use Rattle.std.proofs.lemmas.List.Folds.{find_at}
 use Rattle.std.proofs.lemmas.Option.{slice_get-map}
-use Rattle.cap_lin.specs.Linear.{Linear, number}
-use Rattle.cap_lin.specs.declared.row.Sort.TheVariants.{Int}
-use Rattle.cap_syntax.specs.declared.place.Place.{Place}
-use Rattle.cap_prog.specs.Program.{Items, PlainAct, Block, done, first, PlainStatement, PlainProgram, PlainFunction}
+use Rattle.cap_prog.specs.Program.{PlainStatement, PlainProgram, PlainFunction}
 use Rattle.cap_prog.specs.Parts.{all_statements, block_statements, blocks, block_length}
-use Rattle.cap_prog.specs.Scopes.{Scope, CompFits, body_scope, requires_scope, ensures_scope, invariant_scope, fixed_start}
-use Rattle.cap_prog.specs.WellFormed.{most_cells, most_members, most_variables, ItemFits, ItemsFit, ActFits, IsLocal, IsValue, CallFits, AssertionFits, BodyFits, FunctionFits}
+use Rattle.cap_prog.specs.Scopes.{Scope, requires_scope, ensures_scope, invariant_scope, fixed_start}
+use Rattle.cap_prog.specs.WellFormed.{most_cells, most_members, most_variables, ItemFits, ItemsFit, ActFits, IsLocal, IsValue, CallFits, AssertionFits, FunctionFits}
 use Rattle.cap_tree.specs.declared.word.Word.{Word}
 use Rattle.cap_tree.specs.declared.word.Literal.{Literal}
-use Rattle.cap_tree.specs.Tree.{listed_parts, TermTree, ClauseTree, ValueTree, value, load, alloc, cas, result_of, StatementTree, assign, store, call, fork, branch, loop, check, give_back, ElseTree, no_else, else_block, StatementTrees, no_statement, then_statement, BlockTree, block, RegionTree, FunctionTree}
+use Rattle.cap_tree.specs.Tree.{listed_parts, TermTree, ClauseTree, value, load, alloc, cas, result_of, StatementTree, assign, store, call, fork, branch, loop, check, give_back, ElseTree, no_else, else_block, StatementTrees, no_statement, then_statement, BlockTree, block, RegionTree, FunctionTree}
 use Rattle.cap_stands.specs.Finding.{wrong_arity, limit, cell_count}
-use Rattle.cap_stands.specs.Parts.{clause_parts, statement_parts, else_parts, statements_parts, block_parts, destination, invariant, callee, cells, parameters}
+use Rattle.cap_stands.specs.Parts.{clause_parts, statement_parts, else_parts, statements_parts, block_parts, destination, invariant, parameters}
 use Rattle.cap_stands.specs.Names.{NameScope, sorts_of, word_text, parameters_findings, is_among}
-use Rattle.cap_stands.specs.Items.{TypedName, types_told, Occurrence, occurrence_word}
+use Rattle.cap_stands.specs.Items.{TypedName, types_told, occurrence_word}
 use Rattle.cap_stands.specs.Functions.{requires_types, fixed_names, fixed_words, statements, statement_words, destinations, is_local, locals, name_in_body, Context, context_of, clause_types, clause_bound, clause_scope, requires_findings, clause_findings, is_function, function_named, called_findings, callee_findings, cells_findings, statement_findings, body_findings, function_findings}
 use Rattle.cap_stands.specs.Functions as names
 use Rattle.cap_stands.specs.Names as tree
-use Rattle.cap_stands.specs.Program.{clause_program, occurrence_sort, occurrence_sorts, function_number, destination_number, body_term, body_terms, new_assertion, assign_program, returned, act_program, else_program, statements_program, block_program, closing_return, block_end, body_program, function_program}
-use Rattle.cap_stands.proofs.Every.{each_append, each_front, each_behind, each_flat, each_weaker, each_of}
+use Rattle.cap_stands.specs.Program.{occurrence_sort, occurrence_sorts, function_number, destination_number, body_term, body_terms, new_assertion, act_program, else_program, statements_program, block_program, closing_return, block_end, function_program}
+use Rattle.cap_stands.proofs.Every.{each_append, each_front, each_behind, each_flat, each_weaker}
 use Rattle.cap_stands.proofs.Nothing.{cons_not_nil, nothing_front, nothing_behind, nothing_flat, not_found}
 use Rattle.cap_stands.proofs.Known.{all-put}
-use Rattle.cap_stands.proofs.Items.{HasRegions, Reads, IsNumbered, TypesNumbered, told-numbered, ItemsAre}
+use Rattle.cap_stands.proofs.Items.{HasRegions, IsNumbered, TypesNumbered, told-numbered, ItemsAre}
 use Rattle.cap_stands.proofs.Clauses.{clause-fit, requires-right, clause-right, clause-count, requires-sorts, result-sorts, loop-sorts}
 use Rattle.cap_stands.proofs.Regions.{ItemsShort, parameters-count}
 use Rattle.cap_stands.proofs.Bodies.{HasFunctions, local-variable, body-numbered, all_statements-append, closing}
@@ -52,14 +49,14 @@ assertion-counts rs fs f known c e = subst (λ m. m + length (occurrence_sorts (
 clause-items : (p : PlainProgram) (rs : List RegionTree) (fs : List FunctionTree) (f : FunctionTree) → FunctionReads p rs fs f → (known : NameScope) (c : Option ClauseTree) → clause_findings (context_of rs fs f) known c ≡ [] → (scope : Scope) → sorts_of (clause_scope (context_of rs fs f) known c) ≡ scope → ItemsAre (ItemFits p scope) (new_assertion (context_of rs fs f) known c).items
 clause-items p rs fs f h known c e scope s =
     subst (λ sc. ItemsAre (ItemFits p sc) (new_assertion (context_of rs fs f) known c).items) s
-      (clause-fit p rs (clause_types (context_of rs fs f) c) (clause_scope (context_of rs fs f) known c) (record { declared = h.regions; told = types-numbered rs fs f c }) c (clause-right (context_of rs fs f) known c e))
+    (clause-fit p rs (clause_types (context_of rs fs f) c) (clause_scope (context_of rs fs f) known c) (record { declared = h.regions; told = types-numbered rs fs f c }) c (clause-right (context_of rs fs f) known c e))
 
 pub ensures-fits : (p : PlainProgram) (rs : List RegionTree) (fs : List FunctionTree) (f : FunctionTree) → FunctionReads p rs fs f → clause_findings (context_of rs fs f) (context_of rs fs f).result f.postcondition ≡ [] → ItemsShort (function_program rs fs f).ensures.items → AssertionFits p (function_program rs fs f) (ensures_scope (function_program rs fs f) (function_program rs fs f).ensures.names) (function_program rs fs f).ensures
 ensures-fits p rs fs f h e short = record {
   variables = assertion-counts rs fs f (context_of rs fs f).result f.postcondition e;
   items = record {
     items = clause-items p rs fs f h (context_of rs fs f).result f.postcondition e (ensures_scope (function_program rs fs f) (function_program rs fs f).ensures.names)
-      (result-sorts (parameters f) (locals rs f) (fixed_names rs f) (clause_bound (context_of rs fs f) (context_of rs fs f).result f.postcondition));
+        (result-sorts (parameters f) (locals rs f) (fixed_names rs f) (clause_bound (context_of rs fs f) (context_of rs fs f).result f.postcondition));
     length = short.length;
     sides = short.sides;
   };
@@ -70,7 +67,7 @@ invariant-fits p rs fs f h c e short = record {
   variables = assertion-counts rs fs f (context_of rs fs f).loop c e;
   items = record {
     items = clause-items p rs fs f h (context_of rs fs f).loop c e (invariant_scope (function_program rs fs f) (new_assertion (context_of rs fs f) (context_of rs fs f).loop c).names)
-      (loop-sorts (parameters f) (locals rs f) (fixed_names rs f) (clause_bound (context_of rs fs f) (context_of rs fs f).loop c));
+        (loop-sorts (parameters f) (locals rs f) (fixed_names rs f) (clause_bound (context_of rs fs f) (context_of rs fs f).loop c));
     length = short.length;
     sides = short.sides;
   };
@@ -79,7 +76,7 @@ invariant-fits p rs fs f h c e short = record {
 pub requires-fits : (p : PlainProgram) (rs : List RegionTree) (fs : List FunctionTree) (f : FunctionTree) → HasRegions p rs → requires_findings rs f ≡ [] → ItemsShort (function_program rs fs f).requires → ItemsFit p (requires_scope (function_program rs fs f)) (function_program rs fs f).requires
 requires-fits p rs fs f h e short = record {
   items = subst (λ sc. ItemsAre (ItemFits p sc) (function_program rs fs f).requires) (requires-sorts (parameters f) (locals rs f) (fixed_names rs f))
-    (clause-fit p rs (requires_types rs f) (names.requires_scope rs f) (record { declared = h; told = told-numbered rs (clause_parts f.precondition) }) f.precondition (requires-right rs f e));
+      (clause-fit p rs (requires_types rs f) (names.requires_scope rs f) (record { declared = h; told = told-numbered rs (clause_parts f.precondition) }) f.precondition (requires-right rs f e));
   length = short.length;
   sides = short.sides;
 }
@@ -104,7 +101,7 @@ call-fits p rs fs f h w args e a = record { arity = by (function_named fs w.text
     by : (o : Option FunctionTree) → function_named fs w.text ≡ o → called_findings o w args ≡ [] → IsSomeAnd (slice_get p.functions (function_number fs w.text)) (λ g. length (body_terms (context_of rs fs f) args) ≡ g.params)
     by None n d = cons_not_nil d
     by (Some k) n d = function-at p rs fs h w.text k n (λ g. length (body_terms (context_of rs fs f) args) ≡ g.params)
-      (length-map args (body_term (context_of rs fs f)) ∙ sym (eqb-true (length (parameters k)) (length args) (truly (length (parameters k) == length args) (not_found (not (length (parameters k) == length args)) w.place wrong_arity d))))
+        (length-map args (body_term (context_of rs fs f)) ∙ sym (eqb-true (length (parameters k)) (length args) (truly (length (parameters k) == length args) (not_found (not (length (parameters k) == length args)) w.place wrong_arity d))))
 
 cells-fit : (n : Literal) → cells_findings n ≡ [] → (0 < n.value) × (n.value ≤ most_cells)
 cells-fit n e = both (nat_lt 0 n.value) (nat_le n.value most_cells) refl refl (not_found (not (nat_lt 0 n.value && nat_le n.value most_cells)) n.place (limit cell_count) e)
@@ -144,11 +141,12 @@ mutual
   inner-fit p rs fs f h n (store b t c d u e) a = (act-fits p rs fs f h n (store b t c d u e) a.0, tt)
   inner-fit p rs fs f h n (call v l e) a = (act-fits p rs fs f h n (call v l e) a.0, tt)
   inner-fit p rs fs f h n (fork b v l e) a = (act-fits p rs fs f h n (fork b v l e) a.0, tt)
-  inner-fit p rs fs f h n (branch b c d e k l) a =
-      (act-fits p rs fs f h n (branch b c d e k l) a.0,
-        each_append (λ (s : PlainStatement). ActFits p (function_program rs fs f) s.act) (all_statements (block_program (context_of rs fs f) (n + 1) k)) (all_statements (else_program (context_of rs fs f) (n + 1 + length (block_parts k)) l))
-          (block-fit p rs fs f h (n + 1) k (each_front (RightStatement rs fs f) (block_parts k) (else_parts l) a.1))
-          (else-fit p rs fs f h (n + 1 + length (block_parts k)) l (each_behind (RightStatement rs fs f) (block_parts k) (else_parts l) a.1)))
+  inner-fit p rs fs f h n (branch b c d e k l) a = (
+    act-fits p rs fs f h n (branch b c d e k l) a.0,
+    each_append (λ (s : PlainStatement). ActFits p (function_program rs fs f) s.act) (all_statements (block_program (context_of rs fs f) (n + 1) k)) (all_statements (else_program (context_of rs fs f) (n + 1 + length (block_parts k)) l))
+        (block-fit p rs fs f h (n + 1) k (each_front (RightStatement rs fs f) (block_parts k) (else_parts l) a.1))
+        (else-fit p rs fs f h (n + 1 + length (block_parts k)) l (each_behind (RightStatement rs fs f) (block_parts k) (else_parts l) a.1)),
+  )
   inner-fit p rs fs f h n (loop b c d e i k) a = (act-fits p rs fs f h n (loop b c d e i k) a.0, block-fit p rs fs f h (n + 1) k a.1)
   inner-fit p rs fs f h n (check b c e) a = (act-fits p rs fs f h n (check b c e) a.0, tt)
   inner-fit p rs fs f h n (give_back b t e) a = (act-fits p rs fs f h n (give_back b t e) a.0, tt)
@@ -160,9 +158,11 @@ mutual
   statements-fit : (p : PlainProgram) (rs : List RegionTree) (fs : List FunctionTree) (f : FunctionTree) → FunctionReads p rs fs f → (n : ℕ) (ss : StatementTrees) → AllByRecursion (RightStatement rs fs f) (statements_parts ss) → AllFit p (function_program rs fs f) (all_statements (statements_program (context_of rs fs f) n ss))
   statements-fit p rs fs f h n no_statement a = tt
   statements-fit p rs fs f h n (then_statement s ss) a =
-      let x = inner-fit p rs fs f h n s (each_front (RightStatement rs fs f) (statement_parts s) (statements_parts ss) a) in
-      (x.0, each_append (λ (t : PlainStatement). ActFits p (function_program rs fs f) t.act) (block_statements (act_program (context_of rs fs f) n s)) (all_statements (statements_program (context_of rs fs f) (n + length (statement_parts s)) ss)) x.1
-        (statements-fit p rs fs f h (n + length (statement_parts s)) ss (each_behind (RightStatement rs fs f) (statement_parts s) (statements_parts ss) a)))
+      let x = inner-fit p rs fs f h n s (each_front (RightStatement rs fs f) (statement_parts s) (statements_parts ss) a) in (
+        x.0,
+        each_append (λ (t : PlainStatement). ActFits p (function_program rs fs f) t.act) (block_statements (act_program (context_of rs fs f) n s)) (all_statements (statements_program (context_of rs fs f) (n + length (statement_parts s)) ss)) x.1
+            (statements-fit p rs fs f h (n + length (statement_parts s)) ss (each_behind (RightStatement rs fs f) (statement_parts s) (statements_parts ss) a)),
+      )
 
   block-fit : (p : PlainProgram) (rs : List RegionTree) (fs : List FunctionTree) (f : FunctionTree) → FunctionReads p rs fs f → (n : ℕ) (b : BlockTree) → AllByRecursion (RightStatement rs fs f) (block_parts b) → AllFit p (function_program rs fs f) (all_statements (block_program (context_of rs fs f) n b))
   block-fit p rs fs f h n (block q ss r) a = statements-fit p rs fs f h n ss a
@@ -189,7 +189,7 @@ function-fits p rs fs hr hf f e short = record {
   ensures = ensures-fits p rs fs f reads (nothing_front (clause_findings (context_of rs fs f) (context_of rs fs f).result f.postcondition) _ body) short.ensures;
   body = record {
     statements = subst (λ ss. AllByRecursion (λ (s : PlainStatement). ActFits p (function_program rs fs f) s.act) ss) (sym (all_statements-append (block_program (context_of rs fs f) 1 f.body) (closing_return (1 + length (block_parts f.body)) (block_end f.body))))
-      (each_append (λ (s : PlainStatement). ActFits p (function_program rs fs f) s.act) (all_statements (block_program (context_of rs fs f) 1 f.body)) (all_statements (closing_return (1 + length (block_parts f.body)) (block_end f.body)))
+        (each_append (λ (s : PlainStatement). ActFits p (function_program rs fs f) s.act) (all_statements (block_program (context_of rs fs f) 1 f.body)) (all_statements (closing_return (1 + length (block_parts f.body)) (block_end f.body)))
         (block-fit p rs fs f reads 1 f.body (right-statements rs fs f (statements f) locals-are each short.invariants)) (tt, tt));
     numbered = body-numbered (context_of rs fs f) f.body;
     closing = closing (1 + length (block_parts f.body)) (block_end f.body) (block_program (context_of rs fs f) 1 f.body);
@@ -220,10 +220,10 @@ function-fits p rs fs hr hf f e short = record {
     locals-are : AllByRecursion (λ s. AllByRecursion (Local rs f) (option_to_list (destination s))) (statements f)
     locals-are =
         local-destinations rs fs f (statements f)
-          (options-flat (λ w. is_among (destinations f) w.text ≡ true) destination (statements f) (among-from [] (destinations f)))
-          (each_flat (λ w. is_local rs f w ≡ true → is_among (locals rs f) w.text ≡ true) statement_words (statements f)
-            (kept-if (λ w. is_among (locals rs f) w.text ≡ true) (is_local rs f) (flat_map statement_words (statements f)) (all-put word_text [] (filter (is_local rs f) (flat_map statement_words (statements f))))))
-          each
+        (options-flat (λ w. is_among (destinations f) w.text ≡ true) destination (statements f) (among-from [] (destinations f)))
+        (each_flat (λ w. is_local rs f w ≡ true → is_among (locals rs f) w.text ≡ true) statement_words (statements f)
+        (kept-if (λ w. is_among (locals rs f) w.text ≡ true) (is_local rs f) (flat_map statement_words (statements f)) (all-put word_text [] (filter (is_local rs f) (flat_map statement_words (statements f))))))
+        each
 
     variables : length (function_program rs fs f).variables ≡ fixed_start (function_program rs fs f) + length (function_program rs fs f).fixed
     variables =

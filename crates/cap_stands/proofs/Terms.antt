@@ -1,13 +1,12 @@
 -- Where nothing is found in terms whose names are known, they fit their places in a program.
-use Rattle.std.proofs.Common.{◌≡◌, ℕ, List, [], ◌∷◌, ◌++◌, map, flat_map, Option, Some, None, refl, sym, ap, subst, ◌∙◌}
+use Rattle.std.proofs.Common.{◌≡◌, List, [], ◌∷◌, ◌++◌, flat_map, Some, refl, sym, ap, ◌∙◌}
 use Rattle.std.specs.List.{AllByRecursion}
 use Rattle.cap_lin.specs.declared.row.Sort.{Sort}
 use Rattle.cap_prog.specs.Scopes.{HasSort, TermFits, SlotFits, CompFits}
 use Rattle.cap_tree.specs.declared.word.Word.{Word}
 use Rattle.cap_tree.specs.Tree.{FactorTree, literal, whole_share, named, bracketed, TermTree, ComparisonTree, SlotTree, any, is}
-use Rattle.cap_stands.specs.Finding.{Finding, found_if}
-use Rattle.cap_stands.specs.Parts.{term_leaves, term_brackets, term_words, comparison_words, term_place}
-use Rattle.cap_stands.specs.Names.{NameScope, knows, sort_of, sorts_of, variable_of}
+use Rattle.cap_stands.specs.Parts.{term_leaves, term_brackets, term_words, comparison_words}
+use Rattle.cap_stands.specs.Names.{NameScope, sorts_of, variable_of}
 use Rattle.cap_stands.specs.Linear.{term_form}
 use Rattle.cap_stands.specs.Terms.{term_sort, products_findings, WantedTerm, wanted_as, term_findings, terms_findings, comparison_wanted, slot_wanted}
 use Rattle.cap_stands.specs.Program.{comparison_program, sort_or_int, slot_program}
@@ -41,12 +40,12 @@ HasVariable scope s w = HasSort (sorts_of scope) s (variable_of scope w.text)
 pub term-fits : (scope : NameScope) (s : Sort) (t : TermTree) → TermKnown scope t → term_findings scope (wanted_as (Some s) t) ≡ [] → TermFits (sorts_of scope) s (term_form scope t)
 term-fits scope s t a e =
     term-form-parts scope (HasSort (sorts_of scope) s) t
-      (each_weaker (NamesAre (IsOfSort scope s)) (NamesAre (HasVariable scope s))
-        (names-weaker (IsOfSort scope s) (HasVariable scope s) (λ w x. sorted-variable scope w.text s x))
-        (term_leaves t)
-        (term-names scope s t (known-leaves scope t a) (nothing_front (products_findings scope (Some s) t) _ e)
-          (nothing_flat (λ u. products_findings scope (term_sort scope u) u) (term_brackets t)
-            (nothing_front (flat_map (λ u. products_findings scope (term_sort scope u) u) (term_brackets t)) _ (nothing_behind (products_findings scope (Some s) t) _ e)))))
+    (each_weaker (NamesAre (IsOfSort scope s)) (NamesAre (HasVariable scope s))
+    (names-weaker (IsOfSort scope s) (HasVariable scope s) (λ w x. sorted-variable scope w.text s x))
+    (term_leaves t)
+    (term-names scope s t (known-leaves scope t a) (nothing_front (products_findings scope (Some s) t) _ e)
+    (nothing_flat (λ u. products_findings scope (term_sort scope u) u) (term_brackets t)
+    (nothing_front (flat_map (λ u. products_findings scope (term_sort scope u) u) (term_brackets t)) _ (nothing_behind (products_findings scope (Some s) t) _ e)))))
 
 pub slot-fits : (scope : NameScope) (s : Sort) (t : SlotTree) → SlotKnown scope t → terms_findings scope (slot_wanted (Some s) t) ≡ [] → SlotFits (sorts_of scope) s (slot_program scope t)
 slot-fits scope s (any p) a e = tt
@@ -70,7 +69,8 @@ comparison-fits scope c a e = of-sort (term-sorted scope c.left (known-leaves sc
     of-sort : SomeSort (term_sort scope c.left) → TermFits (sorts_of scope) (sort_or_int (term_sort scope c.left)) (term_form scope c.left) × TermFits (sorts_of scope) (sort_or_int (term_sort scope c.left)) (term_form scope c.right)
     of-sort h = rw h.1 (
       term-fits scope h.0 c.left left (sym (ap (λ o. term_findings scope (wanted_as o c.left)) h.1) ∙ first),
-      term-fits scope h.0 c.right right (sym (ap (λ o. term_findings scope (wanted_as o c.right)) h.1) ∙ second))
+      term-fits scope h.0 c.right right (sym (ap (λ o. term_findings scope (wanted_as o c.right)) h.1) ∙ second),
+    )
 
 -- one after another
 pub terms-front : (scope : NameScope) (ws vs : List WantedTerm) → terms_findings scope (ws ++ vs) ≡ [] → terms_findings scope ws ≡ []

@@ -1,26 +1,23 @@
 -- No list in the program of a tree has more members than the tree has tokens.
-use Rattle.std.proofs.Common.{◌≡◌, ℕ, suc, ◌+◌, ◌<◌, ◌≤◌, codes, List, [], ◌∷◌, ◌++◌, map, length, Option, Some, None, refl, sym, ap, subst, ◌∙◌, arith}
+use Rattle.std.proofs.Common.{◌≡◌, ℕ, ◌+◌, ◌<◌, ◌≤◌, codes, List, [], ◌∷◌, ◌++◌, map, length, Option, Some, None, arith}
 use Rattle.std.specs.List.{AllByRecursion}
 use Rattle.std.proofs.lemmas.List.{length-map}
 use Rattle.cap_syntax.specs.declared.place.Place.{Place}
 use Rattle.cap_syntax.specs.declared.token.Token.{Token}
-use Rattle.cap_prog.specs.Program.{PlainItem, Items, none, item, append_items, PlainAct, Block, done, first, append, PlainStatement}
-use Rattle.cap_prog.specs.Parts.{all_items, side_items, sides, items_length, all_statements, block_statements, blocks, block_length}
+use Rattle.cap_prog.specs.Program.{PlainItem, Items, none, item, append_items}
+use Rattle.cap_prog.specs.Parts.{all_items, sides, items_length}
 use Rattle.cap_prog.specs.WellFormed.{most_members}
 use Rattle.cap_tree.specs.declared.word.Word.{Word}
-use Rattle.cap_tree.specs.Tree.{Several, parts_of, InParentheses, listed_parts, InBraces, FactorTree, literal, whole_share, named, bracketed, ProductTree, product, FactorTrees, no_factor, times, TermTree, term, ProductTrees, no_product, signed, ComparisonTree, SlotTree, any, is, GuardTree, alone, amount, count, GuardsTree, HeldTree, bare, in_parentheses, ItemTree, holds, fails, fact, guards, cell, compare, choose, ItemTrees, no_item, and_item, AssertionTree, assertion, SideTree, side, ClauseTree, ValueTree, value, load, alloc, cas, result_of, StatementTree, assign, store, call, fork, branch, loop, check, give_back, ElseTree, no_else, else_block, StatementTrees, no_statement, then_statement, BlockTree, block, DeclaredTree, unique, divisible, counting, grouped, DeclaredTrees, no_declared, and_declared, JointTree, joint, JointTrees, no_joint, or_joint, AlgebraTree, algebra, WhenTree, CaseTree, ActionTree, RegionTree, FunctionTree, DeclarationTree, region, function, ProgramTree}
-use Rattle.cap_tree.specs.Tokens.{symbol, keyword, name}
-use Rattle.cap_tree.specs.Spelling.{Spells, spell_all, spell_behind, spell_more, spell_several, spell_option, spell_listed, spell_group, spell_name, spell_minus, sign_text, spell_factor, spell_product, spell_factors, spell_term, spell_products, relation_text, spell_comparison, spell_slot, counted_text, spell_guard, spell_guards, spell_held, spell_item, spell_items, spell_assertion, spell_side, spell_clause, spell_terms, spell_value, spell_statement, spell_else, spell_statements, spell_block, spell_declared, spell_declareds, spell_joint, spell_joints, spell_algebra, spell_when, spell_case, spell_action, spell_region, spell_function, spell_declaration, spelling}
-use Rattle.cap_stands.specs.Parts.{held_atoms, when_comparisons, statement_parts, else_parts, statements_parts, block_parts, invariant}
+use Rattle.cap_tree.specs.Tree.{Several, parts_of, InBraces, literal, whole_share, named, bracketed, product, FactorTrees, no_factor, times, term, ProductTrees, no_product, signed, any, is, GuardTree, alone, amount, count, HeldTree, bare, in_parentheses, ItemTree, holds, fails, fact, guards, cell, compare, choose, ItemTrees, no_item, and_item, AssertionTree, assertion, SideTree, side, ClauseTree, RegionTree}
+use Rattle.cap_tree.specs.Tokens.{symbol}
+use Rattle.cap_tree.specs.Spelling.{Spells, spell_all, spell_behind, spell_more, spell_several, spell_option, spell_listed, spell_group, spell_name, spell_factor, spell_product, spell_factors, spell_term, spell_products, relation_text, spell_comparison, spell_slot, spell_guard, spell_held, spell_item, spell_items, spell_assertion, spell_side, spell_clause}
+use Rattle.cap_stands.specs.Parts.{held_atoms}
 use Rattle.cap_stands.specs.Names.{NameScope}
 use Rattle.cap_stands.specs.Items.{NumberedRegion, TypedName, type_of}
-use Rattle.cap_stands.specs.Functions.{Context, context_of}
-use Rattle.cap_stands.specs.Program.{atoms_program, item_program, items_program, assertion_program, side_program, clause_program, new_assertion, act_program, else_program, statements_program, block_program, closing_return, block_end, body_program}
+use Rattle.cap_stands.specs.Program.{atoms_program, item_program, items_program, assertion_program, side_program, clause_program}
 use Rattle.cap_stands.proofs.Every.{each_append}
 use Rattle.cap_stands.proofs.Items.{all_items-append}
-use Rattle.cap_stands.proofs.Regions.{ItemsShort, CaseShort, ActionShort, RegionShort}
-use Rattle.cap_stands.proofs.Bodies.{all_statements-append}
-use Rattle.cap_stands.proofs.Statements.{FunctionShort}
+use Rattle.cap_stands.proofs.Regions.{ItemsShort}
 
 -- each adds at least one token
 abbrev pub Adds : {A : Type 0} → Spells A → Type 0
@@ -147,10 +144,11 @@ mutual
   item-short rs types scope (compare c) ts h = (tt, tt)
   item-short rs types scope (choose c p a q b) ts h =
       let x : length (spell_side a (symbol (codes ":") q ∷ spell_side b ts)) ≤ most_members = omega (arith, comparison-adds c (symbol (codes "?") p ∷ spell_side a (symbol (codes ":") q ∷ spell_side b ts))) in
-      let y : length (spell_side b ts) ≤ most_members = omega (arith, side-adds rs types scope a (symbol (codes ":") q ∷ spell_side b ts)) in
-      ((omega (arith, side-adds rs types scope a (symbol (codes ":") q ∷ spell_side b ts)), (omega (arith, side-adds rs types scope b ts), tt)),
+      let y : length (spell_side b ts) ≤ most_members = omega (arith, side-adds rs types scope a (symbol (codes ":") q ∷ spell_side b ts)) in (
+        (omega (arith, side-adds rs types scope a (symbol (codes ":") q ∷ spell_side b ts)), (omega (arith, side-adds rs types scope b ts), tt)),
         each_append ShortSides (all_items (side_program rs types scope a) ++ all_items (side_program rs types scope b)) []
-          (each_append ShortSides (all_items (side_program rs types scope a)) (all_items (side_program rs types scope b)) (side-short rs types scope a (symbol (codes ":") q ∷ spell_side b ts) x) (side-short rs types scope b ts y)) tt)
+            (each_append ShortSides (all_items (side_program rs types scope a)) (all_items (side_program rs types scope b)) (side-short rs types scope a (symbol (codes ":") q ∷ spell_side b ts) x) (side-short rs types scope b ts y)) tt,
+      )
 
   items-short : (rs : List RegionTree) (types : List TypedName) (scope : NameScope) (more : ItemTrees) (ts : List Token) → length (spell_items more ts) ≤ most_members → AllShort (items_program rs types scope more)
   items-short rs types scope no_item ts h = tt

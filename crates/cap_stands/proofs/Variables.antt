@@ -1,9 +1,9 @@
 -- Which variables stand in a linear form: those of the names in the term.
-use Rattle.std.proofs.Common.{◌≡◌, ℕ, zero, suc, ℤ, pos, negsuc, ◌+ℤ◌, ◌*ℤ◌, List, [], ◌∷◌, ◌++◌, map, filter_map, Option, Some, None, arith, refl, inl, inr}
+use Rattle.std.proofs.Common.{ℕ, zero, suc, ℤ, pos, negsuc, ◌+ℤ◌, ◌*ℤ◌, List, [], ◌∷◌, map, filter_map, Option, Some, None, inl, inr}
 use Rattle.std.specs.List.{AllByRecursion}
 use Rattle.std.proofs.lemmas.Bool.{cases_lt}
 use Rattle.cap_syntax.specs.declared.place.Place.{Place}
-use Rattle.cap_lin.specs.Linear.{Linear, number, variable, merged, only_right, put_part, sums, plus, multiples, negative, minus}
+use Rattle.cap_lin.specs.Linear.{Linear, merged, only_right, put_part, sums, plus, multiples, negative}
 use Rattle.cap_lin.specs.Linear.{times as multiple}
 use Rattle.cap_lin.proofs.Merge.{merged-lt, merged-gt, merged-eq, merged-left}
 use Rattle.cap_tree.specs.declared.term.Sign.{Sign}
@@ -97,7 +97,7 @@ abbrev VariableIs : NameScope → (ℕ → Type 0) → Word → Type 0
 VariableIs scope P w = P (variable_of scope w.text)
 
 mutual
-  factor-form-parts : (scope : NameScope) (P : ℕ → Type 0) (f : FactorTree) → LeavesAre (VariableIs scope P) (factor_leaves f) → PartsAre P (factor_form scope f).parts
+  pub factor-form-parts : (scope : NameScope) (P : ℕ → Type 0) (f : FactorTree) → LeavesAre (VariableIs scope P) (factor_leaves f) → PartsAre P (factor_form scope f).parts
   factor-form-parts scope P (literal n) a = tt
   factor-form-parts scope P (whole_share p) a = tt
   factor-form-parts scope P (named w) a = (a.0, tt)
@@ -106,25 +106,25 @@ mutual
   product-form-parts : (scope : NameScope) (P : ℕ → Type 0) (m : ProductTree) → LeavesAre (VariableIs scope P) (product_leaves m) → PartsAre P (product_form scope m).parts
   product-form-parts scope P (product f fs) a =
       factors-form-parts scope P fs (factor_form scope f)
-        (factor-form-parts scope P f (each_front (NamesAre (VariableIs scope P)) (factor_leaves f) (factors_leaves fs) a))
-        (each_behind (NamesAre (VariableIs scope P)) (factor_leaves f) (factors_leaves fs) a)
+      (factor-form-parts scope P f (each_front (NamesAre (VariableIs scope P)) (factor_leaves f) (factors_leaves fs) a))
+      (each_behind (NamesAre (VariableIs scope P)) (factor_leaves f) (factors_leaves fs) a)
 
   factors-form-parts : (scope : NameScope) (P : ℕ → Type 0) (fs : FactorTrees) (a : Linear) → PartsAre P a.parts → LeavesAre (VariableIs scope P) (factors_leaves fs) → PartsAre P (factors_form scope a fs).parts
   factors-form-parts scope P no_factor a x h = x
   factors-form-parts scope P (times p f fs) a x h =
       factors-form-parts scope P fs (product_of a (factor_form scope f))
-        (product-parts P a (factor_form scope f) x (factor-form-parts scope P f (each_front (NamesAre (VariableIs scope P)) (factor_leaves f) (factors_leaves fs) h)))
-        (each_behind (NamesAre (VariableIs scope P)) (factor_leaves f) (factors_leaves fs) h)
+      (product-parts P a (factor_form scope f) x (factor-form-parts scope P f (each_front (NamesAre (VariableIs scope P)) (factor_leaves f) (factors_leaves fs) h)))
+      (each_behind (NamesAre (VariableIs scope P)) (factor_leaves f) (factors_leaves fs) h)
 
   pub term-form-parts : (scope : NameScope) (P : ℕ → Type 0) (t : TermTree) → LeavesAre (VariableIs scope P) (term_leaves t) → PartsAre P (term_form scope t).parts
   term-form-parts scope P (term p m ms) h =
       products-form-parts scope P ms (opened p (product_form scope m))
-        (opened-parts P p (product_form scope m) (product-form-parts scope P m (each_front (NamesAre (VariableIs scope P)) (product_leaves m) (products_leaves ms) h)))
-        (each_behind (NamesAre (VariableIs scope P)) (product_leaves m) (products_leaves ms) h)
+      (opened-parts P p (product_form scope m) (product-form-parts scope P m (each_front (NamesAre (VariableIs scope P)) (product_leaves m) (products_leaves ms) h)))
+      (each_behind (NamesAre (VariableIs scope P)) (product_leaves m) (products_leaves ms) h)
 
   products-form-parts : (scope : NameScope) (P : ℕ → Type 0) (ms : ProductTrees) (a : Linear) → PartsAre P a.parts → LeavesAre (VariableIs scope P) (products_leaves ms) → PartsAre P (products_form scope a ms).parts
   products-form-parts scope P no_product a x h = x
   products-form-parts scope P (signed s p m ms) a x h =
       products-form-parts scope P ms (signed_sum s a (product_form scope m))
-        (signed-parts P s a (product_form scope m) x (product-form-parts scope P m (each_front (NamesAre (VariableIs scope P)) (product_leaves m) (products_leaves ms) h)))
-        (each_behind (NamesAre (VariableIs scope P)) (product_leaves m) (products_leaves ms) h)
+      (signed-parts P s a (product_form scope m) x (product-form-parts scope P m (each_front (NamesAre (VariableIs scope P)) (product_leaves m) (products_leaves ms) h)))
+      (each_behind (NamesAre (VariableIs scope P)) (product_leaves m) (products_leaves ms) h)

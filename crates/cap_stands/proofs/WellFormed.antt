@@ -1,5 +1,5 @@
 -- The program for which a tree stands is well-formed.
-use Rattle.std.proofs.Common.{◌≡◌, ℕ, suc, ◌+◌, ◌<◌, ◌≤◌, codes, find, List, [], ◌∷◌, ◌++◌, map, flat_map, length, slice_get, Option, Some, None, option_to_list, refl, sym, ap, subst, ◌∙◌, arith, append_assoc, length-append}
+use Rattle.std.proofs.Common.{◌≡◌, ℕ, suc, ◌+◌, ◌<◌, ◌≤◌, codes, List, [], ◌∷◌, ◌++◌, map, flat_map, length, slice_get, Option, Some, None, option_to_list, refl, sym, ap, subst, ◌∙◌, arith, append_assoc, length-append}
 use Rattle.std.specs.List.{AllByRecursion, enumerate_from}
 use Rattle.std.proofs.lemmas.List.{length-map}
 use Rattle.std.proofs.lemmas.List.Folds.{find_at}
@@ -8,7 +8,7 @@ use Rattle.cap_prog.specs.Program.{PlainProgram}
 use Rattle.cap_prog.specs.WellFormed.{most_members, most_regions, most_functions, RegionFits, FunctionFits, IsWellFormed}
 use Rattle.cap_tree.specs.Spelling.{spelling}
 use Rattle.cap_tree.specs.Tree.{RegionTree, FunctionTree, ProgramTree}
-use Rattle.cap_stands.specs.Finding.{Finding, twice_word, region_count, function_count}
+use Rattle.cap_stands.specs.Finding.{twice_word, region_count, function_count}
 use Rattle.cap_stands.specs.Parts.{regions, functions}
 use Rattle.cap_stands.specs.Names.{repeated, past}
 use Rattle.cap_stands.specs.Items.{NumberedRegion, numbered, numbered_regions}
@@ -16,8 +16,7 @@ use Rattle.cap_stands.specs.Regions.{region_type_findings}
 use Rattle.cap_stands.specs.Functions.{is_function, function_findings, main_findings}
 use Rattle.cap_stands.specs.Program.{region_program, function_program, function_number, program_of}
 use Rattle.cap_stands.specs.Refusal.{IsRight}
-use Rattle.cap_stands.specs.Stands.{region_word, function_word, main_of, findings, Stands}
-use Rattle.cap_stands.proofs.Every.{each_map}
+use Rattle.cap_stands.specs.Stands.{region_word, function_word, main_of, Stands}
 use Rattle.cap_stands.proofs.Nothing.{nothing_front, nothing_behind, nothing_flat, not_past}
 use Rattle.cap_stands.proofs.First.{unrefused-right}
 use Rattle.cap_stands.proofs.Items.{IsNumbered}
@@ -34,10 +33,11 @@ at-front n (f ∷ front) r rs = at-front (n + 1) front r rs ∙ ap (λ k. Some (
 numbered-from : (front rs : List RegionTree) → AllByRecursion (IsNumbered (front ++ rs)) (map numbered (enumerate_from (length front) rs))
 numbered-from front [] = tt
 numbered-from front (r ∷ rs) =
-    let e : length (front ++ r ∷ []) ≡ length front + 1 = length-append front (r ∷ []) in
-    (at-front 0 front r rs ∙ ap (λ k. Some (record { number = k; region = r })) (omega arith),
+    let e : length (front ++ r ∷ []) ≡ length front + 1 = length-append front (r ∷ []) in (
+      at-front 0 front r rs ∙ ap (λ k. Some (record { number = k; region = r })) (omega arith),
       subst (λ all. AllByRecursion (IsNumbered all) (map numbered (enumerate_from (length front + 1) rs))) (append_assoc front (r ∷ []) rs)
-        (subst (λ n. AllByRecursion (IsNumbered ((front ++ r ∷ []) ++ rs)) (map numbered (enumerate_from n rs))) e (numbered-from (front ++ r ∷ []) rs)))
+          (subst (λ n. AllByRecursion (IsNumbered ((front ++ r ∷ []) ++ rs)) (map numbered (enumerate_from n rs))) e (numbered-from (front ++ r ∷ []) rs)),
+    )
 
 numbered-short : (n : ℕ) (rs : List RegionTree) → AllByRecursion IsShortRegion rs → AllByRecursion (λ (k : NumberedRegion). IsShortRegion k.region) (map numbered (enumerate_from n rs))
 numbered-short n [] a = tt

@@ -9,3 +9,4 @@ pub mod Functions
 pub mod Program
 pub mod Stands
 pub mod Refusal
+pub mod Meaning
