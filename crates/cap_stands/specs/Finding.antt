@@ -6,9 +6,9 @@ use Rattle.cap_tree.specs.declared.word.Word.{Word}
 pub data Limit : Type 0 where
   function_count region_count parameter_count guard_count variable_count cell_count width : Limit
 
--- a name that isn't known; a name that stands twice or where it may not; a wrong number of arguments; a
--- wrong sort; a product of two names; no function `main`; a `main` that asks for more than cells; a
--- region that states itself; a limit that is passed
+-- a name that isn't known; a name that stands twice or where it may not; a wrong number of
+-- arguments; a wrong sort; a product of two names; no function `main`; a `main` that asks for more
+-- than cells; a region that states itself; a limit that is passed
 pub data Cause : Type 0 where
   unknown : List ℕ → Cause
   twice : List ℕ → Cause

@@ -82,9 +82,10 @@ body_scope rs f =
     whole_numbers (parameters f)
     ++ (whole_numbers (locals rs f) ++ map (name_in_body f) (fixed_names rs f))
 
--- What the parts of a function are read with: the declarations, the types that `requires` tells, the names
--- that are known in `ensures`, in invariants and in the body, the parameters and fixed names, which are no
--- destinations, and the places of the names that are counted with the new names of each assertion.
+-- What the parts of a function are read with: the declarations, the types that `requires` tells,
+-- the names that are known in `ensures`, in invariants and in the body, the parameters and fixed
+-- names, which are no destinations, and the places of the names that are counted with the new names
+-- of each assertion.
 pub record Context : Type 0 where
   pub regions : List RegionTree
   pub functions : List FunctionTree
@@ -114,7 +115,8 @@ abbrev pub new_findings : List Occurrence → List Finding
 new_findings os =
     map unknown_word (occurrence_words (filter (λ o. not o.bound) os)) ++ ret_findings os
 
-abbrev pub items_findings : List RegionTree → List TypedName → NameScope → List PlacedItem → List Finding
+abbrev pub items_findings :
+    List RegionTree → List TypedName → NameScope → List PlacedItem → List Finding
 items_findings rs types scope items =
     flat_map (λ i. item_findings rs None types scope i.1) items
     ++ terms_findings scope (flat_map (λ i. item_wanted types scope i.1) items)

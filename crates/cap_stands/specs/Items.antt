@@ -1,4 +1,5 @@
--- The names that occur in an assertion, the region types that its facts tell, and what is wrong in its items.
+-- The names that occur in an assertion, the region types that its facts tell, and what is wrong in
+-- its items.
 use Rattle.std.specs.Prelude.{ℕ, ◌+◌, Bool, true, false, not, ◌&&◌, ◌==◌, List, [], ◌∷◌, ◌++◌, map, length, flat_map, filter, filter_map, find, Option, Some, None, option_map, is_some}
 use Rattle.std.specs.List.{enumerate_from, list_any}
 use Rattle.std.specs.Str.{bytes_eq}
@@ -86,8 +87,9 @@ types_told rs items = filter_map (λ i. fact_type rs i.1) items
 
 -- ---- occurrences of names
 
--- A name where it occurs. It is bound in a binding position outside the sides of conditionals. The sort
--- of a name is that of its first occurrence: Perm in the amount of a divisible guard, and else Int.
+-- A name where it occurs. It is bound in a binding position outside the sides of conditionals. The
+-- sort of a name is that of its first occurrence: Perm in the amount of a divisible guard, and else
+-- Int.
 pub record Occurrence : Type 0 where
   pub word : Word
   pub bound : Bool
@@ -220,7 +222,8 @@ abbrev pub is_own : Option Word → List ℕ → Bool
 is_own None x = false
 is_own (Some w) x = bytes_eq x w.text
 
-abbrev pub item_findings : List RegionTree → Option Word → List TypedName → NameScope → ItemTree → List Finding
+abbrev pub item_findings :
+    List RegionTree → Option Word → List TypedName → NameScope → ItemTree → List Finding
 item_findings rs own types scope (fact k p r args q s e) =
     arity_findings (region_named rs k.text) k (length args)
     ++ (found_if (is_own own r.text) k.place self_fact

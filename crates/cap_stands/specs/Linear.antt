@@ -10,7 +10,7 @@ use Rattle.cap_tree.specs.Tree.{FactorTree, literal, whole_share, named, bracket
 use Rattle.cap_stands.specs.Parts.{term_words}
 use Rattle.cap_stands.specs.Names.{NameScope, variable_of, whole_numbers}
 
--- A product of two terms of which one is a number. Where neither is, it is refused, and counts as 0.
+-- A product of two terms of which one is a number. Where neither is, it is refused and counts as 0.
 abbrev pub product_by_parts : Linear → Linear → List (ℕ × ℤ) → List (ℕ × ℤ) → Linear
 product_by_parts a b ps [] = multiple b.constant a
 product_by_parts a b [] qs = multiple a.constant b

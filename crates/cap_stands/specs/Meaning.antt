@@ -1,5 +1,5 @@
--- What the definitions mean: terms have the values that they are written with, and a name stands for the first
--- that has it.
+-- What the definitions mean: terms have the values that they are written with, and a name stands
+-- for the first that has it.
 use Rattle.std.specs.Prelude.{◌≡◌, ℕ, ℤ, ◌<◌, List, [], ◌∷◌, slice_get, Option, Some, IsSomeAnd}
 use Rattle.std.specs.List.{AllByRecursion}
 use Rattle.cap_lin.specs.Values.{value}
@@ -13,14 +13,17 @@ use Rattle.cap_stands.specs.Items.{NumberedRegion}
 -- no product in the term or in its brackets is one of two names
 abbrev pub HasNoProducts : TermTree → Type 0
 HasNoProducts t =
-    AllByRecursion (λ u. AllByRecursion (λ m. names_multiplied m ≡ []) (products u)) (t ∷ term_brackets t)
+    AllByRecursion (λ u. AllByRecursion (λ m. names_multiplied m ≡ []) (products u))
+    (t ∷ term_brackets t)
 
 -- at every valuation of the variables the linear form has the value of the term as it is written
 abbrev pub HasValue : NameScope → TermTree → Type 0
-HasValue scope t = (n : ℕ → ℤ) → value n (term_form scope t) ≡ term_value (λ x. n (variable_of scope x)) t
+HasValue scope t =
+    (n : ℕ → ℤ) → value n (term_form scope t) ≡ term_value (λ x. n (variable_of scope x)) t
 
 -- the member at the place has the name, and none before it has
-pub record IsFirstNamed {A : Type 0} (HasName : A → Type 0) (members : List A) (place : ℕ) : Type 0 where
+pub record IsFirstNamed {A : Type 0} (HasName : A → Type 0) (members : List A) (place : ℕ)
+    : Type 0 where
   pub member : A
   pub there : slice_get members place ≡ Some member
   pub named : HasName member

@@ -1,5 +1,5 @@
--- The program of a tree: each name replaced by what it names, each term by its linear form, and each absent
--- part filled in.
+-- The program of a tree: each name replaced by what it names, each term by its linear form, and
+-- each absent part filled in.
 use Rattle.std.specs.Prelude.{ℕ, ◌+◌, pos, codes, List, [], ◌∷◌, ◌++◌, map, length, Option, Some, None}
 use Rattle.std.specs.List.{position_or_len}
 use Rattle.cap_lin.specs.Linear.{Linear, number}
@@ -77,7 +77,8 @@ abbrev pub atoms_program : Option NumberedRegion → NameScope → Word → List
 atoms_program None scope r gs = none
 atoms_program (Some k) scope r [] = none
 atoms_program (Some k) scope r (g ∷ gs) =
-    item (plain.atom r.place (variable_of scope r.text) k.number (guard_number k g) (asked_program scope g))
+    item (plain.atom r.place (variable_of scope r.text) k.number (guard_number k g)
+    (asked_program scope g))
     (atoms_program (Some k) scope r gs)
 
 abbrev pub lone : PlainItem → Items
@@ -247,7 +248,8 @@ abbrev mutual
       plain.branch (comparison_program g.body c) (block_program g (n + 1) b)
       (else_program g (n + 1 + length (block_parts b)) e)
   act_program g n (loop p q c r i b) =
-      plain.loop (comparison_program g.body c) (new_assertion g g.loop i) (block_program g (n + 1) b)
+      plain.loop (comparison_program g.body c) (new_assertion g g.loop i)
+      (block_program g (n + 1) b)
   act_program g n (check p c e) = plain.check (comparison_program g.body c)
   act_program g n (give_back p t e) = plain.give_back (returned g t)
 

@@ -64,7 +64,8 @@ abbrev pub case_wanted : List RegionTree → NumberedRegion → CaseTree → Lis
 case_wanted rs k c =
     wanted_as (Some Int) c.state
     ∷ (flat_map (comparison_wanted (case_scope rs k c)) (when_comparisons c.when)
-    ++ flat_map (λ i. item_wanted (case_types rs k c) (case_scope rs k c) i.1) (placed_items c.assertion))
+    ++ flat_map (λ i. item_wanted (case_types rs k c) (case_scope rs k c) i.1)
+    (placed_items c.assertion))
 
 abbrev pub case_items_findings : List RegionTree → NumberedRegion → CaseTree → List Finding
 case_items_findings rs k c =

@@ -24,7 +24,8 @@ main_of t = function_named (functions t) (codes "main")
 -- all that is wrong in a tree, but for a missing `main`
 abbrev pub findings : ProgramTree → List Finding
 findings t =
-    map twice_word (repeated (map region_word (regions t)) ++ repeated (map function_word (functions t)))
+    map twice_word
+    (repeated (map region_word (regions t)) ++ repeated (map function_word (functions t)))
     ++ (past most_regions region_count (map region_word (regions t))
     ++ (past most_functions function_count (map function_word (functions t))
     ++ (flat_map (region_type_findings (regions t)) (numbered_regions (regions t))

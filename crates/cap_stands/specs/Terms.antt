@@ -1,5 +1,5 @@
--- The sorts of terms, and what is wrong in a term: a factor of the wrong sort, a product of two names, a
--- number past 128 bits.
+-- The sorts of terms, and what is wrong in a term: a factor of the wrong sort, a product of two
+-- names, a number past 128 bits.
 use Rattle.std.specs.Prelude.{Bool, true, false, not, ◌&&◌, ◌||◌, if◌then◌else◌, get_or, List, [], ◌∷◌, ◌++◌, flat_map, filter, Option, Some}
 use Rattle.cap_lin.specs.declared.row.Sort.{Sort}
 use Rattle.cap_lin.specs.declared.row.Sort.TheVariants.{Int, Perm}
@@ -9,8 +9,8 @@ use Rattle.cap_stands.specs.Parts.{term_brackets, products, factors, first_facto
 use Rattle.cap_stands.specs.Names.{NameScope, sort_of}
 use Rattle.cap_stands.specs.Linear.{is_wide}
 
--- The sort of a product is that of its first factor that is no multiplier, and Int where there is none.
--- The sort of a term is that of its first product. A name that isn't known has none.
+-- The sort of a product is that of its first factor that is no multiplier, and Int where there is
+-- none. The sort of a term is that of its first product. A name that isn't known has none.
 abbrev mutual
   pub factor_sort : NameScope → FactorTree → Option Sort
   factor_sort scope (literal n) = Some Int

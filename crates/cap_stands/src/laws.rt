@@ -13,20 +13,21 @@ ghost use Rattle.cap_stands.specs.Refusal.{IsRefusal, IsRight};
 ghost use Rattle.cap_stands.specs.Meaning.{HasNoProducts, HasValue, IsFirstNamed, IsKnownAs, IsRegionNamed, IsFunctionNamed};
 
 /// A law: what is refused is a finding with the least place and, at one place, the least number, or
-/// the want of a `main` where nothing else is wrong. Nothing is refused exactly where nothing is wrong.
+/// the want of a `main` where nothing else is wrong. Nothing is refused exactly where nothing is
+/// wrong.
 pub fn refusals_are_first()
     ensures first { (t : ProgramTree) (f : Finding) → refusal t ≡ Some f → IsRefusal t f }
     ensures none { (t : ProgramTree) → (refusal t ≡ None) ↔ IsRight t }
 {}
 
-/// A law: where no product in a term is one of two names, its linear form has, at every valuation, the
-/// value of the term as it is written, by its operators.
+/// A law: where no product in a term is one of two names, its linear form has, at every valuation,
+/// the value of the term as it is written, by its operators.
 pub fn linear_forms_have_the_values_of_their_terms()
     ensures { (scope : NameScope) (t : TermTree) → HasNoProducts t → HasValue scope t }
 {}
 
-/// A law: a known name stands for the first variable of its scope that has it, and of the functions,
-/// and of the region types, of one name the first is meant.
+/// A law: a known name stands for the first variable of its scope that has it, and of the functions
+/// and of the region types of one name the first is meant.
 pub fn names_stand_for_the_first_that_has_them()
     ensures variables { (scope : NameScope) (x : List ℕ) → knows scope x ≡ true
         → IsFirstNamed (IsKnownAs x) scope (variable_of scope x) }
@@ -38,8 +39,8 @@ pub fn names_stand_for_the_first_that_has_them()
         → IsFirstNamed (IsRegionNamed x) (numbered_regions rs) (type_number rs x) }
 {}
 
-/// A law: the program for which a tree stands is well-formed, where the tree has no more tokens than a
-/// text may have bytes.
+/// A law: the program for which a tree stands is well-formed, where the tree has no more tokens
+/// than a text may have bytes.
 pub fn programs_are_well_formed()
     ensures { (t : ProgramTree) (p : PlainProgram) → length (spelling t) ≤ most_members
         → Stands t p → IsWellFormed p }

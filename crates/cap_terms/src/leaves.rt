@@ -86,9 +86,10 @@ fn term_holds_name(term: &Term) -> bool
     any
 }
 
-/// Notes each `*` before a factor that holds a name, where an earlier factor of the product holds one.
+/// Notes each `*` before a factor that holds a name, where one before it in the product holds one.
 pub fn note_names_multiplied(noted: &mut Noted<'_>, product: &Product)
-    ensures { noted_view noted.new ≡ fold note (noted_view noted.old) (names_multiplied (product_view product.now)) }
+    ensures { noted_view noted.new
+        ≡ fold note (noted_view noted.old) (names_multiplied (product_view product.now)) }
 {
     let mut earlier = holds_name(&product.first);
     for times in &product.more {

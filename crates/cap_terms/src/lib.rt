@@ -1,5 +1,5 @@
-//! The first layer of the resolver: what is found wrong in a text, which names are known, and the sorts
-//! of terms.
+//! The first layer of the resolver: what is found wrong in a text, which names are known, and the
+//! sorts of terms.
 #![tactic(auto)]
 
 mod finding;

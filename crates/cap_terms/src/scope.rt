@@ -14,8 +14,8 @@ pub struct Known<'a> {
     pub sort: Sort,
 }
 
-/// Of each variable its name and sort, or none where its name is not known. Of two variables with one
-/// name the first is meant.
+/// Of each variable its name and sort, or none where its name is not known. Of two variables with
+/// one name the first is meant.
 #[derive(Drop)]
 pub struct Scope<'a> {
     entries: Vec<Option<Known<'a>>>,
@@ -31,7 +31,8 @@ impl<'a> Model for Scope<'a> {
 
     ghost view = { λ s. map entry_view s.entries.items };
 
-    ghost invariant = { λ s. (length s.entries.items < 2 ^ 32) × Numbers s.numbers.entries (map entry_view s.entries.items) };
+    ghost invariant = { λ s. (length s.entries.items < 2 ^ 32)
+        × Numbers s.numbers.entries (map entry_view s.entries.items) };
 }
 
 impl<'a> Scope<'a> {
@@ -45,8 +46,8 @@ impl<'a> Scope<'a> {
         }
     }
 
-    /// The number of the variable that a name stands for, or the number of variables where it is not
-    /// known.
+    /// The number of the variable that a name stands for, or the number of variables where it is
+    /// not known.
     pub fn number(&self, name: &[u8]) -> u32
         ensures { result ≡ variable_of self.now name.now }
     {

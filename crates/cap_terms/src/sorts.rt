@@ -72,7 +72,8 @@ fn factor_place(factor: &Factor) -> Place
 
 /// The place of the first factor that is no multiplier, else of the first.
 fn judged_place(product: &Product) -> Place
-    ensures { result ≡ place_of (get_or (main_factors (product_view product.now)) 0 (first_of (product_view product.now))) }
+    ensures { result ≡ place_of
+        (get_or (main_factors (product_view product.now)) 0 (first_of (product_view product.now))) }
 {
     if !is_multiplier(&product.first) {
         return factor_place(&product.first);
@@ -87,7 +88,9 @@ fn judged_place(product: &Product) -> Place
 
 /// Notes a second factor that is no multiplier, unless it and the first hold names.
 fn note_second(noted: &mut Noted<'_>, product: &Product)
-    ensures { noted_view noted.new ≡ fold note (noted_view noted.old) (wrong_second (main_factors (product_view product.now))) }
+    ensures { noted_view noted.new
+        ≡ fold note (noted_view noted.old)
+        (wrong_second (main_factors (product_view product.now))) }
 {
     let mut first = None;
     if !is_multiplier(&product.first) {
@@ -108,7 +111,9 @@ fn note_second(noted: &mut Noted<'_>, product: &Product)
 }
 
 fn note_product(noted: &mut Noted<'_>, scope: &Scope<'_>, wanted: Option<Sort>, product: &Product)
-    ensures { noted_view noted.new ≡ fold note (noted_view noted.old) (product_findings scope.now wanted (product_view product.now)) }
+    ensures { noted_view noted.new
+        ≡ fold note (noted_view noted.old)
+        (product_findings scope.now wanted (product_view product.now)) }
 {
     let wrong = clash(wanted, product_sort(scope, product));
     noted.note_if(wrong, judged_place(product), Cause::Sort);
@@ -118,7 +123,8 @@ fn note_product(noted: &mut Noted<'_>, scope: &Scope<'_>, wanted: Option<Sort>, 
 
 /// Notes what is wrong in the products of a term, which are wanted of this sort.
 pub fn note_products_of(noted: &mut Noted<'_>, scope: &Scope<'_>, wanted: Option<Sort>, term: &Term)
-    ensures { noted_view noted.new ≡ fold note (noted_view noted.old) (products_findings scope.now wanted (term_view term.now)) }
+    ensures { noted_view noted.new ≡ fold note (noted_view noted.old)
+        (products_findings scope.now wanted (term_view term.now)) }
 {
     note_product(noted, scope, wanted, &term.first);
     for addend in &term.more {
@@ -129,7 +135,8 @@ pub fn note_products_of(noted: &mut Noted<'_>, scope: &Scope<'_>, wanted: Option
 /// Notes what is wrong in the brackets of a factor.
 #[cycle(inner)]
 fn note_factor_brackets(noted: &mut Noted<'_>, scope: &Scope<'_>, factor: &Factor)
-    ensures { noted_view noted.new ≡ fold note (noted_view noted.old) (brackets_findings scope.now (factor_brackets (factor_view factor.now))) }
+    ensures { noted_view noted.new ≡ fold note (noted_view noted.old)
+        (brackets_findings scope.now (factor_brackets (factor_view factor.now))) }
 {
     match factor {
         Factor::Number(_) | Factor::WholeShare(_) | Factor::Name(_) => {}
@@ -142,7 +149,8 @@ fn note_factor_brackets(noted: &mut Noted<'_>, scope: &Scope<'_>, factor: &Facto
 
 #[cycle(inner)]
 fn note_product_brackets(noted: &mut Noted<'_>, scope: &Scope<'_>, product: &Product)
-    ensures { noted_view noted.new ≡ fold note (noted_view noted.old) (brackets_findings scope.now (product_brackets (product_view product.now))) }
+    ensures { noted_view noted.new ≡ fold note (noted_view noted.old)
+        (brackets_findings scope.now (product_brackets (product_view product.now))) }
 {
     note_factor_brackets(noted, scope, &product.first);
     for times in &product.more {
@@ -153,7 +161,8 @@ fn note_product_brackets(noted: &mut Noted<'_>, scope: &Scope<'_>, product: &Pro
 /// Notes what is wrong in the brackets of a term.
 #[cycle(inner)]
 pub fn note_brackets(noted: &mut Noted<'_>, scope: &Scope<'_>, term: &Term)
-    ensures { noted_view noted.new ≡ fold note (noted_view noted.old) (brackets_findings scope.now (term_brackets (term_view term.now))) }
+    ensures { noted_view noted.new ≡ fold note (noted_view noted.old)
+        (brackets_findings scope.now (term_brackets (term_view term.now))) }
 {
     note_product_brackets(noted, scope, &term.first);
     for addend in &term.more {
