@@ -1,5 +1,5 @@
 -- What may be known of a fact's state after steps of others.
-use Rattle.std.specs.Prelude.{ℕ, ◌&&◌, ◌+◌, Bool, nat_lt, is_none, if◌then◌else◌, List, [], ◌∷◌, ◌++◌, flat_map, length, ℤ, Option, Some, None}
+use Rattle.std.specs.Prelude.{◌&&◌, Bool, nat_lt, is_none, if◌then◌else◌, List, [], ◌∷◌, ◌++◌, flat_map, length, ℤ, Option, Some, None}
 use Rattle.std.specs.List.{list_any, list_all}
 use Rattle.cap_lin.specs.Linear.{Linear, variable}
 use Rattle.cap_lin.specs.Steps.{Step, first_wide}

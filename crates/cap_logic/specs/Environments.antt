@@ -1,5 +1,5 @@
 -- What the names of assertions stand for.
-use Rattle.std.specs.Prelude.{ℕ, ◌+◌, Bool, true, false, ◌==◌, ◌||◌, if◌then◌else◌, is_some, List, [], ◌∷◌, ◌++◌, map, length, replicate, slice_get, slice_set, unwrap_or, pos, Option, Some, None}
+use Rattle.std.specs.Prelude.{ℕ, ◌+◌, Bool, false, ◌==◌, ◌||◌, if◌then◌else◌, is_some, List, ◌∷◌, ◌++◌, map, length, replicate, slice_get, slice_set, unwrap_or, pos, Option, Some, None}
 use Rattle.std.specs.List.{list_all, list_any}
 use Rattle.cap_lin.specs.Linear.{Linear, number}
 use Rattle.cap_lin.specs.Steps.{Step}

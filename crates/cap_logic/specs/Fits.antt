@@ -1,14 +1,13 @@
 -- Which states and goals fit a program: each number in them names what exists, in the program or in the state.
-use Rattle.std.specs.Prelude.{◌≡◌, ℕ, suc, ◌+◌, ◌<◌, ◌≤◌, false, List, [], ◌∷◌, length, slice_get, Option, Some, None, IsSomeAnd}
+use Rattle.std.specs.Prelude.{◌≡◌, ℕ, suc, ◌+◌, ◌≤◌, false, List, [], ◌∷◌, length, slice_get, Option, Some, None, IsSomeAnd}
 use Rattle.std.specs.List.{AllByRecursion, list_any}
 use Rattle.cap_lin.specs.Linear.{Linear, IsBelow}
-use Rattle.cap_lin.specs.declared.row.Row.{Row}
 use Rattle.cap_gsolve.specs.declared.piece.Form.{Form}
 use Rattle.cap_gsolve.specs.declared.piece.Form.TheVariants.{One, Share, Src, Tok}
 use Rattle.cap_gsolve.specs.declared.piece.Piece.{Piece}
 use Rattle.cap_gsolve.specs.Pieces.{same_part}
 use Rattle.cap_gsolve.specs.Meaning.{Fits}
-use Rattle.cap_prog.specs.Program.{Items, PlainCase, PlainRegionType, PlainAct, loop, Block, done, first, PlainFunction, PlainProgram}
+use Rattle.cap_prog.specs.Program.{Items, PlainRegionType, loop, Block, first, PlainFunction, PlainProgram}
 use Rattle.cap_prog.specs.Parts.{all_items, all_statements}
 use Rattle.cap_prog.specs.Scopes.{Scope, fixed_start}
 use Rattle.cap_prog.specs.WellFormed.{ItemFits, ActFits, EndsInReturn}

@@ -4,7 +4,7 @@ use Rattle.cap_lin.specs.Linear.{Linear}
 use Rattle.cap_lin.specs.declared.row.Row.{Row}
 use Rattle.cap_lin.specs.declared.row.Sort.{Sort}
 use Rattle.cap_gsolve.specs.declared.piece.Piece.{Piece}
-use Rattle.cap_prog.specs.Program.{Items, none, item, Block}
+use Rattle.cap_prog.specs.Program.{Items, none, Block}
 
 -- a region, its type, its arguments without the region itself, and its state. A fact is loose while what it says of the state is out of date
 pub record PlainFact : Type 0 where

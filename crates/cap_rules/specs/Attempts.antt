@@ -1,5 +1,5 @@
 -- An attempt to take a rule: what it meets on its way, in order, and what it comes to.
-use Rattle.std.specs.Prelude.{ℕ, ◌==◌, Bool, true, false, nat_lt, List, [], ◌∷◌, ◌++◌, map, length, Option, Some, None}
+use Rattle.std.specs.Prelude.{Bool, true, false, nat_lt, List, [], ◌∷◌, ◌++◌, map, length, Option, Some, None}
 use Rattle.cap_lin.specs.Linear.{Linear}
 use Rattle.cap_lin.specs.Steps.{Step}
 use Rattle.cap_lin.specs.Rows.{row_of, row_of_steps, negations, negations_steps}

@@ -1,10 +1,9 @@
 -- Regions are opened, a statement acts on a cell, and the regions are closed by moves.
-use Rattle.std.specs.Prelude.{ℕ, zero, suc, ◌+◌, ◌==◌, ◌&&◌, ◌||◌, nat_le, Bool, true, false, if◌then◌else◌, List, [], ◌∷◌, ◌++◌, map, flat_map, filter, length, find, remove, replicate, slice_get, slice_set, Option, Some, None, is_some}
+use Rattle.std.specs.Prelude.{ℕ, zero, suc, ◌==◌, ◌&&◌, ◌||◌, nat_le, Bool, true, false, if◌then◌else◌, List, [], ◌∷◌, ◌++◌, map, flat_map, filter, length, find, remove, slice_get, slice_set, Option, Some, None}
 use Rattle.std.specs.List.{range_with_len}
 use Rattle.cap_lin.specs.Linear.{Linear}
 use Rattle.cap_lin.specs.declared.row.Sort.TheVariants.{Int, Perm}
 use Rattle.cap_lin.specs.declared.row.Op.TheVariants.{Eq as Equal, Ne as Unequal, Le as AtMost, Gt as Greater, Ge as AtLeast}
-use Rattle.cap_farkas.specs.declared.cert.Cert.{Cert}
 use Rattle.cap_gsolve.specs.declared.piece.Form.{Form}
 use Rattle.cap_gsolve.specs.declared.piece.Form.TheVariants as form
 use Rattle.cap_gsolve.specs.Pieces.{of_atom}
@@ -16,8 +15,8 @@ use Rattle.cap_prog.specs.Program.{PlainAct, read, write, cas, PlainCase, PlainA
 use Rattle.cap_logic.specs.Terms.{lone_variable, variables_from}
 use Rattle.cap_logic.specs.States.{PlainFact, PlainEnv, PlainState, PlainTask, to_give, to_close, to_rest, PlainGoal, goals_of}
 use Rattle.cap_logic.specs.Environments.{zero_value, one_value, Reading, settled, open_to, stuck, reading, bind_open, asked_slot, bound, unbound, region_env}
-use Rattle.cap_rules.specs.Attempts.{Attempt, unit, ◌>>=◌, found, not_applicable, need, prove_that, comparison_row}
-use Rattle.cap_rules.specs.Making.{is_empty, value_here, value_by, determined, rows_by, prove_comparisons, prove_equal, prove_differ, match_reading, fresh, with_sort, with_sorts, with_row, with_rows, with_comparison, with_local, with_env, with_state, with_fact}
+use Rattle.cap_rules.specs.Attempts.{Attempt, unit, ◌>>=◌, found, not_applicable, prove_that, comparison_row}
+use Rattle.cap_rules.specs.Making.{is_empty, value_here, value_by, determined, rows_by, prove_comparisons, prove_equal, prove_differ, match_reading, fresh, with_sort, with_sorts, with_rows, with_comparison, with_local, with_env, with_state, with_fact}
 
 -- the address of a heap statement
 abbrev pub address_of : PlainAct → Option Linear

@@ -1,5 +1,5 @@
 -- A fact is settled: what is then known of its state stays true whatever the others do.
-use Rattle.std.specs.Prelude.{ℕ, ◌+◌, ◌-◌, ℤ, nat_le, Bool, List, [], ◌∷◌, ◌++◌, length, get_or, slice_get, slice_set, Option, Some, None}
+use Rattle.std.specs.Prelude.{ℕ, ◌+◌, ◌-◌, ℤ, nat_le, List, [], ◌∷◌, ◌++◌, length, get_or, slice_get, slice_set, Option, Some, None}
 use Rattle.cap_lin.specs.Linear.{Linear, variable, replaced}
 use Rattle.cap_lin.specs.Steps.{replaced_steps}
 use Rattle.cap_lin.specs.declared.row.Row.{Row}
@@ -16,10 +16,10 @@ use Rattle.cap_prog.specs.declared.assertion.Asked.TheVariants.{One, Share, Src,
 use Rattle.cap_prog.specs.Program.{PlainAction, PlainRegionType}
 use Rattle.cap_logic.specs.Terms.{term_over, term_over_steps, variables_from}
 use Rattle.cap_logic.specs.States.{PlainFact, PlainState}
-use Rattle.cap_logic.specs.Environments.{zero_value, asked_slot}
+use Rattle.cap_logic.specs.Environments.{zero_value}
 use Rattle.cap_logic.specs.Candidates.{MadeRow, candidates, later_state}
 use Rattle.cap_rules.specs.Attempts.{Attempt, unit, ◌>>=◌, computed, found, need, comparison_row, prove, prove_that}
-use Rattle.cap_rules.specs.Making.{with_sort, with_rows, with_state, is_empty}
+use Rattle.cap_rules.specs.Making.{with_sort, with_rows, with_state}
 
 -- ---- an action of the others, at unknown names
 

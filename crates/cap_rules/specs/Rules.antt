@@ -1,5 +1,5 @@
 -- The 26 rules: what a choice makes of a goal. Each is said by the head of the goal's tasks; what has no line here doesn't apply.
-use Rattle.std.specs.Prelude.{ℕ, zero, suc, ◌+◌, ◌-◌, ◌==◌, ◌&&◌, Bool, true, false, not, is_none, nat_lt, List, [], ◌∷◌, ◌++◌, length, map, flat_map, take, drop, remove, slice_get, pos, Option, Some, None}
+use Rattle.std.specs.Prelude.{ℕ, zero, suc, ◌+◌, ◌-◌, ◌==◌, ◌&&◌, Bool, true, false, not, is_none, nat_lt, List, [], ◌∷◌, ◌++◌, length, flat_map, take, drop, remove, slice_get, pos, Option, Some, None}
 use Rattle.cap_lin.specs.Linear.{Linear, number, variable}
 use Rattle.cap_lin.specs.declared.row.Sort.TheVariants.{Int}
 use Rattle.cap_lin.specs.declared.row.Op.TheVariants.{Ge as AtLeast}
@@ -8,15 +8,14 @@ use Rattle.cap_prog.specs.declared.assertion.Slot.{Slot}
 use Rattle.cap_prog.specs.declared.assertion.Slot.TheVariants.{Is}
 use Rattle.cap_prog.specs.declared.assertion.Asked.{Asked}
 use Rattle.cap_prog.specs.declared.assertion.Asked.TheVariants.{Tok}
-use Rattle.cap_prog.specs.Program.{PlainItem, compare, choose, fact, atom, cell, Items, item, append_items, Label, PlainAct, set, read, write, cas, alloc, call, fork, branch, loop, check, give_back, Block, first, append, PlainFunction, PlainProgram}
-use Rattle.cap_logic.specs.Terms.{variables_from}
-use Rattle.cap_logic.specs.States.{PlainFact, PlainEnv, PlainState, Home, PlainTask, to_run, to_turn, to_give, to_take, to_make, to_close, to_shift, to_rest, PlainGoal, goals_of}
+use Rattle.cap_prog.specs.Program.{PlainItem, compare, choose, fact, atom, cell, Items, item, append_items, Label, PlainAct, set, alloc, call, fork, branch, loop, check, give_back, Block, first, append, PlainFunction, PlainProgram}
+use Rattle.cap_logic.specs.States.{PlainEnv, PlainState, Home, PlainTask, to_run, to_turn, to_give, to_take, to_make, to_close, to_shift, to_rest, PlainGoal, goals_of}
 use Rattle.cap_logic.specs.Choices.{PlainChoice, by_absurd, by_clash, by_set, by_alloc, by_assert, by_if, by_loop, by_turn, by_call, by_fork, by_return, by_enter, by_act, by_pick, by_shift, by_settle, by_keep, by_give, by_fact, by_cases, by_cell, by_region, by_guard, by_convert, by_create, by_made}
 use Rattle.cap_logic.specs.Environments.{zero_value, one_value, term_of, bound, unbound, callee_env, own_env}
-use Rattle.cap_rules.specs.Attempts.{Claim, refuted, Event, claims, Attempt, unit, ◌>>=◌, found, not_applicable, need, each, prove}
+use Rattle.cap_rules.specs.Attempts.{refuted, claims, Attempt, unit, ◌>>=◌, found, not_applicable, need, each, prove}
 use Rattle.cap_rules.specs.Making.{value_here, values_here, row_here, determined, determined_slot, row_by, prove_comparisons, prove_equal, match_slot, match_slots, opposite, fresh, with_sort, with_row, with_comparison, with_local, with_destination, with_cell, with_env, env_at, with_env_at, fact_of, with_fact, with_pieces, sum}
 use Rattle.cap_rules.specs.Giving.{give}
-use Rattle.cap_rules.specs.Taking.{Cut, cut_form, after_cut, sum_in, given_side, other_side, side_pieces, without_full, with_new_region, case_env}
+use Rattle.cap_rules.specs.Taking.{cut_form, after_cut, sum_in, given_side, other_side, side_pieces, without_full, with_new_region, case_env}
 use Rattle.cap_rules.specs.Closing.{address_of, of_type, prove_other, with_opened, case_goals, rivals, with_marks, acted, closing, may_move, move_target, prove_move, with_closed}
 use Rattle.cap_rules.specs.Resting.{settle, keep}
 

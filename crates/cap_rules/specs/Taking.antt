@@ -1,23 +1,22 @@
 -- An assertion is given up: guards are taken out of pieces and converted, and regions are created.
-use Rattle.std.specs.Prelude.{ℕ, zero, suc, ◌+◌, ◌-◌, ◌==◌, ◌&&◌, nat_lt, Bool, not, if◌then◌else◌, List, [], ◌∷◌, ◌++◌, map, take, drop, find, length, is_none, slice_get, Option, Some, None}
+use Rattle.std.specs.Prelude.{ℕ, zero, suc, ◌+◌, ◌-◌, nat_lt, Bool, if◌then◌else◌, List, [], ◌∷◌, ◌++◌, map, take, drop, find, length, Option, Some, None}
 use Rattle.std.specs.List.{list_all, range_with_len}
 use Rattle.cap_lin.specs.Linear.{Linear}
 use Rattle.cap_lin.specs.declared.row.Row.{Row}
 use Rattle.cap_lin.specs.declared.row.Sort.TheVariants.{Int, Perm}
 use Rattle.cap_lin.specs.declared.row.Op.TheVariants.{Eq as Equal, Le as AtMost, Lt as Less, Gt as Greater}
-use Rattle.cap_galg.specs.Algebras.{PlainAlgebra, unique, divisible, counting, product, sum as either, atoms}
+use Rattle.cap_galg.specs.Algebras.{PlainAlgebra, product, sum as either, atoms}
 use Rattle.cap_gsolve.specs.declared.piece.Form.{Form}
 use Rattle.cap_gsolve.specs.declared.piece.Form.TheVariants as form
 use Rattle.cap_gsolve.specs.declared.piece.Piece.{Piece}
 use Rattle.cap_gsolve.specs.Pieces.{piece, same_part, full_forms, full_pieces}
-use Rattle.cap_prog.specs.declared.assertion.Slot.{Slot}
 use Rattle.cap_prog.specs.declared.assertion.Asked.{Asked}
 use Rattle.cap_prog.specs.declared.assertion.Asked.TheVariants.{One, Share, Src, Tok}
-use Rattle.cap_prog.specs.Program.{Items, PlainCase, PlainRegionType, PlainProgram}
+use Rattle.cap_prog.specs.Program.{PlainCase, PlainRegionType, PlainProgram}
 use Rattle.cap_logic.specs.States.{PlainFact, PlainEnv, PlainState}
-use Rattle.cap_logic.specs.Environments.{zero_value, one_value, Reading, settled, open_to, stuck, reading, bind_open, is_bound_by, bound, unbound, region_env}
-use Rattle.cap_rules.specs.Attempts.{Attempt, unit, ◌>>=◌, found, not_applicable, need, each, prove_that}
-use Rattle.cap_rules.specs.Making.{sum, difference, value_by, determined_slot, fresh, with_sort, with_comparison, with_differing, with_env, with_env_at, without_first, with_pieces}
+use Rattle.cap_logic.specs.Environments.{zero_value, one_value, Reading, settled, open_to, reading, bind_open, is_bound_by, unbound, region_env}
+use Rattle.cap_rules.specs.Attempts.{Attempt, unit, ◌>>=◌, found, not_applicable, prove_that}
+use Rattle.cap_rules.specs.Making.{sum, difference, value_by, fresh, with_sort, with_comparison, with_differing, with_env_at, without_first, with_pieces}
 
 -- ---- taking a guard out of a piece
 
