@@ -1,1 +1,4 @@
 pub mod Machine
+pub mod Results
+pub mod Fits
+pub mod Laws

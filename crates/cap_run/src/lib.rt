@@ -2,5 +2,7 @@
 #![tactic(auto)]
 
 mod event;
+mod laws;
 
 pub use event::{Entry, Event, StepError};
+pub use laws::{enabled_entries_step, faults_are_exact, starts_fit, steps_keep_fit};
