@@ -94,12 +94,12 @@ returns-kept p s v [] h k = placed p s [] h tt
 returns-kept p s v (f ∷ fs) h k = placed p s _ h (receives-thread p s.frame.destination v f fs k)
 
 -- the statement fits the function of its frame
-record Runs (p : PlainProgram) (f : Frame) (l : Label) (a : PlainAct) : Type 0 where
-  function : PlainFunction
-  is : slice_get p.functions f.function ≡ Some function
-  act : ActFits p function a
+pub record Runs (p : PlainProgram) (f : Frame) (l : Label) (a : PlainAct) : Type 0 where
+  pub function : PlainFunction
+  pub is : slice_get p.functions f.function ≡ Some function
+  pub act : ActFits p function a
 
-runs : (p : PlainProgram) (f : Frame) (l : Label) (a : PlainAct) (b : Block) → IsWellFormed p → IsSomeAnd (slice_get p.functions f.function) (λ g. FrameFits g (with_rest f (first l a b))) → Runs p f l a
+pub runs : (p : PlainProgram) (f : Frame) (l : Label) (a : PlainAct) (b : Block) → IsWellFormed p → IsSomeAnd (slice_get p.functions f.function) (λ g. FrameFits g (with_rest f (first l a b))) → Runs p f l a
 runs p f l a b w h = go (slice_get p.functions f.function) refl h
   where
     go : (o : Option PlainFunction) → slice_get p.functions f.function ≡ o → IsSomeAnd o (λ g. FrameFits g (with_rest f (first l a b))) → Runs p f l a

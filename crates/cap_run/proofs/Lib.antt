@@ -1,3 +1,4 @@
 pub mod Lists
 pub mod Keeping
 pub mod Faults
+pub mod Enabled
