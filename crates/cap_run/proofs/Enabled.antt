@@ -38,18 +38,18 @@ returns-steps s v (f ∷ fs) = refl
 
 -- ---- the base of an allocation
 
-and_first : (a b : Bool) → a && b ≡ true → a ≡ true
+pub and_first : (a b : Bool) → a && b ≡ true → a ≡ true
 and_first true b h = refl
 and_first false b h = absurd (cc)
 
-and_second : (a b : Bool) → a && b ≡ true → b ≡ true
+pub and_second : (a b : Bool) → a && b ≡ true → b ≡ true
 and_second true b h = h
 and_second false b h = absurd (cc)
 
-and_both : (a b : Bool) → a ≡ true → b ≡ true → a && b ≡ true
+pub and_both : (a b : Bool) → a ≡ true → b ≡ true → a && b ≡ true
 and_both a b h k = ap (λ x. x && b) h ∙ k
 
-none_is : (o : Option ℤ) → is_none o ≡ true → o ≡ None
+pub none_is : (o : Option ℤ) → is_none o ≡ true → o ≡ None
 none_is None h = refl
 none_is (Some v) h = absurd (cc)
 

@@ -2,3 +2,4 @@ pub mod Lists
 pub mod Keeping
 pub mod Faults
 pub mod Enabled
+pub mod HeapLemmas

@@ -2,3 +2,4 @@ pub mod Machine
 pub mod Results
 pub mod Fits
 pub mod Laws
+pub mod Cells

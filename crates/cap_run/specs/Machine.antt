@@ -98,7 +98,7 @@ are_free heap base (suc n) = are_free heap base n && is_none (get heap (base +�
 
 abbrev pub with_cells : Heap → ℤ → ℕ → Heap
 with_cells heap base zero = heap
-with_cells heap base (suc n) = insert (with_cells heap base n) (base +ℤ pos n) (pos 0)
+with_cells heap base (suc n) = with_cells (insert heap (base +ℤ pos n) (pos 0)) base n
 
 -- whether the cells may be at this base
 abbrev pub may_be_at : Heap → ℤ → ℕ → Bool

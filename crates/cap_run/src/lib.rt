@@ -2,6 +2,7 @@
 #![tactic(auto)]
 
 mod event;
+mod heap;
 mod laws;
 
 pub use event::{Entry, Event, StepError};
