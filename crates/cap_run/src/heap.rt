@@ -42,8 +42,7 @@ impl Heap {
             cells: BTreeMap::new(alloc),
         };
         for cell in cells {
-            let (address, value) = *cell;
-            heap.add(address, value)?;
+            heap.add(cell.0, cell.1)?;
         }
         Ok(heap)
     }
