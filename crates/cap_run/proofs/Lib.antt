@@ -3,3 +3,4 @@ pub mod Keeping
 pub mod Faults
 pub mod Enabled
 pub mod HeapLemmas
+pub mod PlaceLemmas

@@ -3,3 +3,4 @@ pub mod Results
 pub mod Fits
 pub mod Laws
 pub mod Cells
+pub mod Places

@@ -4,6 +4,7 @@
 mod event;
 mod heap;
 mod laws;
+mod position;
 
 pub use event::{Entry, Event, StepError};
 pub use laws::{enabled_entries_step, faults_are_exact, starts_fit, steps_keep_fit};
