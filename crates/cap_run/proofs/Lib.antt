@@ -4,3 +4,4 @@ pub mod Faults
 pub mod Enabled
 pub mod HeapLemmas
 pub mod PlaceLemmas
+pub mod FrameLemmas

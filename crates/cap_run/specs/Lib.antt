@@ -4,3 +4,5 @@ pub mod Fits
 pub mod Laws
 pub mod Cells
 pub mod Places
+pub mod View
+pub mod Changes

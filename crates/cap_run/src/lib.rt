@@ -2,8 +2,10 @@
 #![tactic(auto)]
 
 mod event;
+mod frame;
 mod heap;
 mod laws;
+mod machine;
 mod position;
 
 pub use event::{Entry, Event, StepError};

@@ -89,7 +89,7 @@ fn is_loop(act: &Act) -> bool
 }
 
 // The index behind the statement at an index.
-fn past(block: &[Statement], index: usize) -> usize
+pub(crate) fn past(block: &[Statement], index: usize) -> usize
     ensures { result ≡ past (skip index (block_view block.now)) index }
 {
     match statement_at(block, index) {
@@ -99,7 +99,7 @@ fn past(block: &[Statement], index: usize) -> usize
 }
 
 // The innermost block.
-fn block_at<'a>(body: &'a [Statement], levels: &[Level]) -> &'a [Statement]
+pub(crate) fn block_at<'a>(body: &'a [Statement], levels: &[Level]) -> &'a [Statement]
     ensures { block_view result.now ≡ block_at (block_view body.now) levels.now }
 {
     match levels {
@@ -122,7 +122,7 @@ pub(crate) fn ahead<'a>(
 
 /// Leaves the blocks at whose end the place stands.
 #[tactic(auto, using(crate::proofs::PlaceLemmas::leave))]
-fn settle(body: &[Statement], levels: &mut Vec<Level>, next: usize) -> usize
+pub(crate) fn settle(body: &[Statement], levels: &mut Vec<Level>, next: usize) -> usize
     ensures rest { rest_at (block_view body.now) levels.new.items result
         ≡ rest_at (block_view body.now) levels.old.items next }
     ensures settled { IsSettled (block_view body.now) levels.new.items result }
