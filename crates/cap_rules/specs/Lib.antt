@@ -7,3 +7,4 @@ pub mod Resting
 pub mod Rules
 pub mod Answers
 pub mod Valid
+pub mod Laws

@@ -33,6 +33,6 @@ RootDerives p (Some t) (Some g) = Derives p 1 t g
 RootDerives p _ _ = ⊥
 
 -- one tree for each root of all units, the terms of which stay within 128 bits
-pub record IsValid (p : PlainProgram) (trees : List (Option PlainTree)) : Type 0 where
+pub record Valid (p : PlainProgram) (trees : List (Option PlainTree)) : Type 0 where
   pub narrow : first_wide (all_roots_steps p) ≡ None
   pub derivations : AllZip (RootDerives p) trees (all_roots p)

@@ -1,0 +1,5 @@
+pub mod Parts
+pub mod Assertions
+pub mod Accounts
+pub mod Following
+pub mod Safety
