@@ -8,3 +8,5 @@ pub mod Rules
 pub mod Answers
 pub mod Valid
 pub mod Laws
+pub mod Example
+pub mod Expected

@@ -3,6 +3,7 @@
 //! nothing.
 #![tactic(auto)]
 ghost use Rattle.cap_rules.specs.Laws.{AnswersAreOne, SubgoalsSucceed, SuccessesAreSubgoals};
+ghost use Rattle.cap_rules.specs.Expected.{ValidExamples, BrokenExamples};
 
 /// One choice has one answer at a goal.
 pub fn answers_are_one()
@@ -18,4 +19,16 @@ pub fn subgoals_succeed()
 /// Where nothing fails, what the rule makes of the goal are its subgoals.
 pub fn successes_are_subgoals()
     ensures { SuccessesAreSubgoals }
+{}
+
+/// The derivations of an empty program, of one that asserts `0 <= 1`, and of the body of a function
+/// that makes a region are valid.
+pub fn examples_are_valid()
+    ensures { ValidExamples }
+{}
+
+/// Derivations are not valid where a tree is missing, a node is left over, another rule is taken, or a
+/// certificate is missing or empty.
+pub fn broken_examples_are_not_valid()
+    ensures { BrokenExamples }
 {}
