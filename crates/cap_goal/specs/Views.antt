@@ -95,4 +95,3 @@ is_done facts (to_give is e n) = has_no_items is
 is_done facts (to_take is e left n) = has_no_items is
 is_done facts (to_rest j n) = j == facts
 is_done facts t = false
-

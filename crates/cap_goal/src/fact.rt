@@ -21,11 +21,11 @@ impl Model for Fact {
     ghost Value = { PlainFact };
 
     ghost view = { λ f. record {
-        region = f.region;
-        kind = f.kind;
-        args = f.args.items;
-        state = f.state;
-        loose = f.loose;
+      region = f.region;
+      kind = f.kind;
+      args = f.args.items;
+      state = f.state;
+      loose = f.loose;
     } };
 }
 

@@ -32,15 +32,15 @@ impl Model for State {
     ghost Value = { PlainState };
 
     ghost view = { λ s. record {
-        sorts = s.sorts;
-        rows = s.rows;
-        store = s.store;
-        cells = s.cells;
-        facts = s.facts;
-        guards = s.guards;
-        before = s.before;
-        opened = s.opened;
-        envs = s.envs;
+      sorts = s.sorts;
+      rows = s.rows;
+      store = s.store;
+      cells = s.cells;
+      facts = s.facts;
+      guards = s.guards;
+      before = s.before;
+      opened = s.opened;
+      envs = s.envs;
     } };
 }
 

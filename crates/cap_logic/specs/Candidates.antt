@@ -40,11 +40,14 @@ bounds_by k f u t =
 abbrev pub action_bounds : PlainRegionType → PlainFact → Linear → PlainAction → List MadeRow
 action_bounds k f u a = bounds_by k f u a.source ++ bounds_by k f u a.target
 
--- the state itself, bounds by it, and bounds by the states of cases, and by sources and targets of actions
+-- the state itself, bounds by it, and bounds by the states of cases, and by sources and targets of
+-- actions
 abbrev pub all_candidates : PlainRegionType → PlainFact → Linear → List MadeRow
 all_candidates k f u =
     made_row [] u Equal f.state
-    ∷ (bounds u [] f.state ++ (flat_map (λ c. bounds_by k f u c.state) k.cases ++ flat_map (action_bounds k f u) k.actions))
+    ∷ (bounds u [] f.state
+    ++ (flat_map (λ c. bounds_by k f u c.state) k.cases
+    ++ flat_map (action_bounds k f u) k.actions))
 
 abbrev pub is_made : MadeRow → Bool
 is_made m = is_none (first_wide m.steps)

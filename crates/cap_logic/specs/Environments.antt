@@ -91,16 +91,19 @@ bound ts = map Some ts
 abbrev pub unbound : ℕ → PlainEnv
 unbound n = replicate n None
 
--- of a call: the arguments and the result; the locals, the fixed names and the new names are unbound
+-- of a call: the arguments and the result; the locals, the fixed names and the new names are
+-- unbound
 abbrev pub callee_env : PlainFunction → List Linear → Linear → PlainEnv
 callee_env f args result =
-    bound args ++ (unbound (f.locals + length f.fixed) ++ Some result ∷ unbound (length f.ensures.names))
+    bound args ++
+    (unbound (f.locals + length f.fixed) ++ Some result ∷ unbound (length f.ensures.names))
 
--- of a function at home: parameters, what is bound of the locals, the variables of the fixed names, perhaps the result; so many new names are
--- unbound
+-- of a function at home: parameters, what is bound of the locals, the variables of the fixed names,
+-- perhaps the result; so many new names are unbound
 abbrev pub own_env : PlainFunction → Home → List Linear → PlainEnv → Option Linear → ℕ → PlainEnv
 own_env f home params locals result new =
-    bound params ++ (locals ++ (bound (variables_from home.fixed (length f.fixed)) ++ result ∷ unbound new))
+    bound params ++
+    (locals ++ (bound (variables_from home.fixed (length f.fixed)) ++ result ∷ unbound new))
 
 -- of a region type: the region and its arguments, and then the names of a case or an action
 abbrev pub region_env : PlainFact → PlainEnv → PlainEnv

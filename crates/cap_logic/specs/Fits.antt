@@ -1,4 +1,5 @@
--- Which states and goals fit a program: each number in them names what exists, in the program or in the state.
+-- Which states and goals fit a program: each number in them names what exists, in the program or in
+-- the state.
 use Rattle.std.specs.Prelude.{◌≡◌, ℕ, suc, ◌+◌, ◌≤◌, false, List, [], ◌∷◌, length, slice_get, Option, Some, None, IsSomeAnd}
 use Rattle.std.specs.List.{AllByRecursion, list_any}
 use Rattle.cap_lin.specs.Linear.{Linear, IsBelow}
@@ -70,8 +71,10 @@ pub record StateFits (p : PlainProgram) (s : PlainState) : Type 0 where
 
 -- ---- tasks
 
--- the statements are those of a function, and the last is a return; the state has the function's store, and its fixed names have variables
-pub record RunFits (p : PlainProgram) (s : PlainState) (home : Home) (b : Block) (f : PlainFunction) : Type 0 where
+-- the statements are those of a function, and the last is a return; the state has the function's
+-- store, and its fixed names have variables
+pub record RunFits (p : PlainProgram) (s : PlainState) (home : Home) (b : Block)
+    (f : PlainFunction) : Type 0 where
   pub store : length s.store ≡ fixed_start f
   pub fixed : home.fixed + length f.fixed ≤ length s.sorts
   pub statements : AllByRecursion (λ t. ActFits p f t.act) (all_statements b)
@@ -90,7 +93,8 @@ pub record ItemsFitEnv (p : PlainProgram) (env : PlainEnv) (items : Items) : Typ
 -- the environment has the region type's parameters and the names of its case
 abbrev pub CaseEnvFits : PlainState → PlainRegionType → ℕ → ℕ → Type 0
 CaseEnvFits s k c e =
-    IsSomeAnd (slice_get k.cases c) (λ x. IsSomeAnd (slice_get s.envs e) (λ env. length env ≡ k.params + length x.names))
+    IsSomeAnd (slice_get k.cases c)
+    (λ x. IsSomeAnd (slice_get s.envs e) (λ env. length env ≡ k.params + length x.names))
 
 -- a move is 0 or the number of an action
 pub record ShiftFits (s : PlainState) (c m e : ℕ) (k : PlainRegionType) : Type 0 where
@@ -99,13 +103,17 @@ pub record ShiftFits (s : PlainState) (c m e : ℕ) (k : PlainRegionType) : Type
 
 abbrev pub TaskFits : PlainProgram → PlainState → PlainTask → Type 0
 TaskFits p s (to_run home b) = IsSomeAnd (slice_get p.functions home.function) (RunFits p s home b)
-TaskFits p s (to_turn home b) = IsSomeAnd (slice_get p.functions home.function) (RunFits p s home b) × StartsWithLoop b
+TaskFits p s (to_turn home b) =
+    IsSomeAnd (slice_get p.functions home.function) (RunFits p s home b) × StartsWithLoop b
 TaskFits p s (to_give items e n) = IsSomeAnd (slice_get s.envs e) (λ env. ItemsFitEnv p env items)
-TaskFits p s (to_take items e left n) = IsSomeAnd (slice_get s.envs e) (λ env. ItemsFitEnv p env items)
-TaskFits p s (to_make k c e t n) = IsSomeAnd (slice_get p.regions k) (λ type. CaseEnvFits s type c e) × IsBelow (length s.sorts) t
+TaskFits p s (to_take items e left n) =
+    IsSomeAnd (slice_get s.envs e) (λ env. ItemsFitEnv p env items)
+TaskFits p s (to_make k c e t n) =
+    IsSomeAnd (slice_get p.regions k) (λ type. CaseEnvFits s type c e) × IsBelow (length s.sorts) t
 TaskFits p s (to_close any n) = Unit {0}
 TaskFits p s (to_shift o c m e n) =
-    IsSomeAnd (slice_get s.opened o) (λ f. IsSomeAnd (slice_get p.regions f.kind) (ShiftFits s c m e))
+    IsSomeAnd (slice_get s.opened o)
+    (λ f. IsSomeAnd (slice_get p.regions f.kind) (ShiftFits s c m e))
 TaskFits p s (to_rest j n) = j ≤ length s.facts
 
 -- a Rest begins with the first fact once it is the first task

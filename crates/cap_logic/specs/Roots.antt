@@ -42,7 +42,13 @@ written_steps c = row_of_steps c.left c.op c.right c.sort
 
 -- the region is open, in the case's state; variables are its parameters and then the case's names
 abbrev pub case_fact : PlainRegionType → ℕ → PlainCase → PlainFact
-case_fact k n c = record { region = variable 0; kind = n; args = variables_from 1 (k.params - 1); state = c.state; loose = false }
+case_fact k n c = record {
+  region = variable 0;
+  kind = n;
+  args = variables_from 1 (k.params - 1);
+  state = c.state;
+  loose = false;
+}
 
 abbrev pub case_state : PlainRegionType → ℕ → PlainCase → PlainState
 case_state k n c = record empty_state {
@@ -54,7 +60,8 @@ case_state k n c = record empty_state {
 
 -- a case's assertion, once given, can be given up again after steps of others
 abbrev pub case_root : PlainRegionType → ℕ → PlainCase → Option PlainGoal
-case_root k n c = goal_of (case_state k n c) (to_give c.items 0 0 ∷ to_rest 0 0 ∷ to_close false 0 ∷ [])
+case_root k n c =
+    goal_of (case_state k n c) (to_give c.items 0 0 ∷ to_rest 0 0 ∷ to_close false 0 ∷ [])
 
 abbrev pub case_steps : PlainCase → List Step
 case_steps c = flat_map written_steps c.when
@@ -82,14 +89,18 @@ abbrev pub root_locals : Knows → PlainFunction → PlainEnv
 root_locals w f = if w.locals then bound (variables_from f.params f.locals) else unbound f.locals
 
 abbrev pub root_result : Knows → PlainFunction → ℕ → Option Linear
-root_result w f n = if w.result then Some (variable ((home_of w f n).fixed + length f.fixed)) else None
+root_result w f n =
+    if w.result then Some (variable ((home_of w f n).fixed + length f.fixed)) else None
 
 abbrev pub root_env : Knows → PlainFunction → ℕ → ℕ → PlainEnv
-root_env w f n new = own_env f (home_of w f n) (variables_from 0 f.params) (root_locals w f) (root_result w f n) new
+root_env w f n new =
+    own_env f (home_of w f n) (variables_from 0 f.params) (root_locals w f) (root_result w f n) new
 
 -- without variables locals are 0
 abbrev pub root_store : Knows → PlainFunction → List Linear
-root_store w f = variables_from 0 f.params ++ (if w.locals then variables_from f.params f.locals else replicate f.locals zero_value)
+root_store w f =
+    variables_from 0 f.params ++
+    (if w.locals then variables_from f.params f.locals else replicate f.locals zero_value)
 
 abbrev pub root_state : Knows → PlainFunction → ℕ → List PlainEnv → PlainState
 root_state w f n envs = record empty_state {
@@ -98,7 +109,8 @@ root_state w f n envs = record empty_state {
   envs = envs;
 }
 
--- an assertion, once given, can be given up again after steps of others; so many names are new in it
+-- an assertion, once given, can be given up again after steps of others; so many names are new in
+-- it
 abbrev pub stability : Knows → PlainFunction → ℕ → ℕ → Items → Option PlainGoal
 stability w f n new items =
     goal_of (root_state w f n (root_env w f n new ∷ root_env w f n new ∷ []))
@@ -106,7 +118,8 @@ stability w f n new items =
 
 -- a task, once an assertion is given
 abbrev pub from_given : Knows → PlainFunction → ℕ → ℕ → Items → PlainTask → Option PlainGoal
-from_given w f n new items t = goal_of (root_state w f n (root_env w f n new ∷ [])) (to_give items 0 0 ∷ t ∷ [])
+from_given w f n new items t =
+    goal_of (root_state w f n (root_env w f n new ∷ [])) (to_give items 0 0 ∷ t ∷ [])
 
 -- a loop: its invariant, and the statements from it on
 pub record LoopPoint : Type 0 where
@@ -125,7 +138,8 @@ abbrev mutual
   loops_of (fork f args) l after = []
   loops_of (branch c a b) l after = loops_in a after ++ loops_in b after
   loops_of (loop c i a) l after =
-      record { invariant = i; block = first l (loop c i a) after } ∷ loops_in a (first l (loop c i a) after)
+      record { invariant = i; block = first l (loop c i a) after }
+      ∷ loops_in a (first l (loop c i a) after)
   loops_of (check c) l after = []
   loops_of (give_back t) l after = []
 
@@ -136,7 +150,8 @@ abbrev mutual
 abbrev pub loop_roots : PlainFunction → ℕ → LoopPoint → List (Option PlainGoal)
 loop_roots f n w =
     stability at_loop f n (length w.invariant.names) w.invariant.items
-    ∷ from_given at_loop f n (length w.invariant.names) w.invariant.items (to_turn (home_of at_loop f n) w.block)
+    ∷ from_given at_loop f n (length w.invariant.names) w.invariant.items
+    (to_turn (home_of at_loop f n) w.block)
     ∷ []
 
 abbrev pub function_roots : PlainFunction → ℕ → List (Option PlainGoal)
@@ -172,7 +187,8 @@ roots_steps p (function_unit n) = []
 -- the region types in the order of the text, and then the functions
 abbrev pub units : PlainProgram → List PlainUnit
 units p =
-    map region_unit (range_with_len 0 (length p.regions)) ++ map function_unit (range_with_len 0 (length p.functions))
+    map region_unit (range_with_len 0 (length p.regions))
+    ++ map function_unit (range_with_len 0 (length p.functions))
 
 abbrev pub all_roots : PlainProgram → List (Option PlainGoal)
 all_roots p = flat_map (roots p) (units p)

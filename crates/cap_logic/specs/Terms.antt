@@ -3,7 +3,8 @@ use Rattle.std.specs.Prelude.{ℕ, zero, suc, ℤ, pos, List, [], ◌∷◌, ◌
 use Rattle.cap_lin.specs.Linear.{Linear, number, variable, plus, times, is_zero, same_number}
 use Rattle.cap_lin.specs.Steps.{Step, plus_steps, times_steps}
 
--- a sum, and to it the multiple of each variable's term, in order: first the multiple is made, and then the sum
+-- a sum, and to it the multiple of each variable's term, in order: first the multiple is made, and
+-- then the sum
 abbrev pub with_multiples : (ℕ → Linear) → Linear → List (ℕ × ℤ) → Linear
 with_multiples terms sum [] = sum
 with_multiples terms sum (p ∷ ps) = with_multiples terms (plus sum (times p.1 (terms p.0))) ps
@@ -12,7 +13,8 @@ abbrev pub with_multiples_steps : (ℕ → Linear) → Linear → List (ℕ × �
 with_multiples_steps terms sum [] = []
 with_multiples_steps terms sum (p ∷ ps) =
     times_steps p.1 (terms p.0)
-    ++ (plus_steps sum (times p.1 (terms p.0)) ++ with_multiples_steps terms (plus sum (times p.1 (terms p.0))) ps)
+    ++ (plus_steps sum (times p.1 (terms p.0)) ++ with_multiples_steps terms
+    (plus sum (times p.1 (terms p.0))) ps)
 
 -- the term with these terms in the place of its variables
 abbrev pub term_over : (ℕ → Linear) → Linear → Linear

@@ -13,7 +13,7 @@ use Rattle.cap_meaning.specs.Parts.{Guard, join_all, IsGuard, GuardAtMost, Part,
 use Rattle.cap_meaning.specs.Assertions.{IsOwned, IsInterpreted, Acts}
 use Rattle.cap_meaning.specs.Accounts.{GuardsFit, IsValidAccount}
 use Rattle.cap_meaning.specs.Following.{SomeHasCell, IsBound, Follows}
-use Rattle.cap_meaning.specs.Example.{flag_case, raise, flag_type, flag_program, main_function, cell_at_5, configuration_with, with_cell, the_guard, with_the_guard, flag_in, account_with, flag_down, flag_up, flag_values}
+use Rattle.cap_meaning.specs.Example.{flag_case, raise, flag_type, flag_program, main_function, cell_at_5, configuration_with, flag_part, the_guard, with_the_guard, flag_in, account_with, flag_down, flag_up, flag_values}
 use Rattle.cap_meaning.specs.Expected.{AcceptedStep}
 use Rattle.cap_meaning.proofs.Example.{none-some, some-same, get-nothing, get-alone, value-zero, value-one, guard-there}
 
@@ -57,7 +57,7 @@ at-five : value flag_values.whole (variable 1) ≡ pos 5
 unfolding value parts_value
 at-five = refl
 
-owned : (z : ℤ) → value flag_values.whole (number z) ≡ z → IsOwned flag_values (variable 1) (Is (number z)) (with_cell z)
+owned : (z : ℤ) → value flag_values.whole (number z) ≡ z → IsOwned flag_values (variable 1) (Is (number z)) (flag_part z)
 owned z e = record {
   number = z;
   positive = subst (λ x. pos 0 <ℤ x) (sym at-five) (omega arith);
@@ -65,7 +65,7 @@ owned z e = record {
   content_is = e;
 }
 
-down-interpreted : IsInterpreted flag_program (flag_in (pos 0) ∷ []) (flag_in (pos 0)) (with_cell (pos 0))
+down-interpreted : IsInterpreted flag_program (flag_in (pos 0) ∷ []) (flag_in (pos 0)) (flag_part (pos 0))
 down-interpreted = record {
   type = flag_type;
   is_type = refl;
@@ -80,7 +80,7 @@ down-interpreted = record {
   met = (_, (_, (owned (pos 0) (value-zero flag_values.whole), refl), refl));
 }
 
-up-interpreted : IsInterpreted flag_program (flag_in (pos 1) ∷ []) (flag_in (pos 1)) (with_cell (pos 1))
+up-interpreted : IsInterpreted flag_program (flag_in (pos 1) ∷ []) (flag_in (pos 1)) (flag_part (pos 1))
 up-interpreted = record {
   type = flag_type;
   is_type = refl;
@@ -95,11 +95,11 @@ up-interpreted = record {
   met = (_, (_, (owned (pos 1) (value-one flag_values.whole), refl), refl));
 }
 
-valid : (z : ℤ) → IsInterpreted flag_program (flag_in z ∷ []) (flag_in z) (with_cell z) → IsValidAccount flag_program (configuration_with z) (account_with z (with_cell z) with_the_guard no_part)
+valid : (z : ℤ) → IsInterpreted flag_program (flag_in z ∷ []) (flag_in z) (flag_part z) → IsValidAccount flag_program (configuration_with z) (account_with z (flag_part z) with_the_guard no_part)
 valid z i = record {
   frames = (((main_function, refl, tt), tt), (((main_function, refl, tt), tt), tt));
   numbers = (tt, tt);
-  guards_fit = (no-guards-fit (flag_in z ∷ []) (with_cell z) refl, (the-guard-fits z, (no-guards-fit (flag_in z ∷ []) no_part refl, tt)));
+  guards_fit = (no-guards-fit (flag_in z ∷ []) (flag_part z) refl, (the-guard-fits z, (no-guards-fit (flag_in z ∷ []) no_part refl, tt)));
   cells_apart = (((λ a h k. no-cell a with_the_guard refl k), ((λ a h k. no-cell a no_part refl k), tt)), (((λ a h k. no-cell a no_part refl k), tt), (tt, tt)));
   cells_within = ((λ a y e. e), ((λ a y e. absurd (no-cell a with_the_guard refl (y, e))), ((λ a y e. absurd (no-cell a no_part refl (y, e))), tt)));
   guards_compose = λ n. (guard_at with_the_guard n, three-join _ (guard_at with_the_guard n) _ (get-nothing n) (get-nothing n));
@@ -134,7 +134,7 @@ follows = record {
   opened = pos 1 ∷ [];
   at_most_two = omega arith;
   only_at_access = λ e. absurd (some-none e);
-  kept = record { region = flag_in (pos 1); part = with_cell (pos 1) } ∷ [];
+  kept = record { region = flag_in (pos 1); part = flag_part (pos 1) } ∷ [];
   made = [];
   regions = refl;
   old_regions = (record { number = refl; kind = refl; args = refl; moves = inr (refl, raised); keeps = λ n. absurd (n refl) }, tt);
@@ -145,15 +145,18 @@ follows = record {
   exchanges = record { cells = cells; guards = guards };
 }
   where
-    moved : (a : ℤ) → HasCell (with_cell (pos 1)) a → HasCell (with_cell (pos 0)) a
+    moved : (a : ℤ) → HasCell (flag_part (pos 1)) a → HasCell (flag_part (pos 0)) a
     moved a h = (pos 0, ap (get (cell_at_5 (pos 0))) (alone-key (pos 5) (pos 1) a h.0 h.1).0 ∙ cell-in (pos 0))
-    cells : (a : ℤ) → SomeHasCell (with_the_guard ∷ with_cell (pos 1) ∷ []) a → SomeHasCell (with_the_guard ∷ with_cell (pos 0) ∷ []) a ⊎ (get (cell_at_5 (pos 0)) a ≡ None)
+
+    cells : (a : ℤ) → SomeHasCell (with_the_guard ∷ flag_part (pos 1) ∷ []) a → SomeHasCell (with_the_guard ∷ flag_part (pos 0) ∷ []) a ⊎ (get (cell_at_5 (pos 0)) a ≡ None)
     cells a (inl h) = absurd (no-cell a with_the_guard refl h)
     cells a (inr (inl h)) = inl (inr (inl (moved a h)))
     cells a (inr (inr x)) = absurd x
-    both : (z n : ℤ) → guards_at (with_the_guard ∷ with_cell z ∷ []) n ≡ Some (guard_at with_the_guard n)
+
+    both : (z n : ℤ) → guards_at (with_the_guard ∷ flag_part z ∷ []) n ≡ Some (guard_at with_the_guard n)
     both z n = two-join (guard_at with_the_guard n) _ (get-nothing n)
-    guards : (n : ℤ) (g h : Option Guard) → guards_at (with_the_guard ∷ with_cell (pos 1) ∷ []) n ≡ Some g → IsBound flag_program (flag_in (pos 0) ∷ []) [] (with_the_guard ∷ with_cell (pos 0) ∷ []) n h → GuardAtMost flag_program g h
+
+    guards : (n : ℤ) (g h : Option Guard) → guards_at (with_the_guard ∷ flag_part (pos 1) ∷ []) n ≡ Some g → IsBound flag_program (flag_in (pos 0) ∷ []) [] (with_the_guard ∷ flag_part (pos 0) ∷ []) n h → GuardAtMost flag_program g h
     guards n g h e (inl r) =
         let same : g ≡ h = some-same g h (sym e ∙ (both (pos 1) n ∙ (sym (both (pos 0) n) ∙ r.2))) in
         subst (GuardAtMost flag_program g) same (at-most-same g)

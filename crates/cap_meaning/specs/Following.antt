@@ -1,4 +1,5 @@
--- How one account follows another by a step. Regions that are opened are listed; nothing is invented.
+-- How one account follows another by a step. Regions that are opened are listed; nothing is
+-- invented.
 use Rattle.std.specs.Prelude.{◌≡◌, ◌⊎◌, ℕ, ◌≤◌, ℤ, Bool, IsTrue, List, [], ◌∷◌, ◌++◌, map, filter, length, slice_get, slice_set, Option, Some, None}
 use Rattle.std.specs.List.{list_any}
 use Rattle.std.specs.FinMap.{get}
@@ -16,23 +17,27 @@ use Rattle.cap_meaning.specs.Accounts.{Held, OwnedRegion, Account, table_of, tab
 abbrev pub is_opened : List ℤ → OwnedRegion → Bool
 is_opened opened r = list_any (same_number r.region.number) opened
 
--- the state stays, or it takes an action whose guards the stepping frame's part held; only an opened region may
+-- the state stays, or it takes an action whose guards the stepping frame's part held; only an
+-- opened region may
 abbrev pub Moves : PlainProgram → Part → List ℤ → OwnedRegion → ℤ → Type 0
 Moves p frame opened old new =
     (new ≡ old.region.state)
     ⊎ (IsTrue (is_opened opened old) × Acts p old.region (guard_at frame old.region.number) new)
 
 -- an old region keeps number, type and arguments, and unless it is opened also its part
-pub record FollowsRegion (p : PlainProgram) (frame : Part) (opened : List ℤ) (old new : OwnedRegion) : Type 0 where
+pub record FollowsRegion (p : PlainProgram) (frame : Part) (opened : List ℤ)
+    (old new : OwnedRegion) : Type 0 where
   pub number : new.region.number ≡ old.region.number
   pub kind : new.region.kind ≡ old.region.kind
   pub args : new.region.args ≡ old.region.args
   pub moves : Moves p frame opened old new.region.state
   pub keeps : (¬ IsTrue (is_opened opened old)) → new.part ≡ old.part
 
-abbrev pub FollowRegions : PlainProgram → Part → List ℤ → List OwnedRegion → List OwnedRegion → Type 0
+abbrev pub FollowRegions :
+    PlainProgram → Part → List ℤ → List OwnedRegion → List OwnedRegion → Type 0
 FollowRegions p frame opened [] [] = Unit {0}
-FollowRegions p frame opened (r ∷ rs) (s ∷ ss) = FollowsRegion p frame opened r s × FollowRegions p frame opened rs ss
+FollowRegions p frame opened (r ∷ rs) (s ∷ ss) =
+    FollowsRegion p frame opened r s × FollowRegions p frame opened rs ss
 FollowRegions p frame opened rs ss = ⊥
 
 abbrev pub opened_parts : List ℤ → List OwnedRegion → List Part
@@ -40,9 +45,11 @@ opened_parts opened rs = map (λ r. r.part) (filter (is_opened opened) rs)
 
 -- ---- frames
 
--- the joined part has the cells of the one, the cells of the other and no more, and their guards together
+-- the joined part has the cells of the one, the cells of the other and no more, and their guards
+-- together
 pub record Joins (q r joined : Part) : Type 0 where
-  pub cells : (a z : ℤ) → get joined.cells a ≡ Some z → (get q.cells a ≡ Some z) ⊎ (get r.cells a ≡ Some z)
+  pub cells :
+      (a z : ℤ) → get joined.cells a ≡ Some z → (get q.cells a ≡ Some z) ⊎ (get r.cells a ≡ Some z)
   pub first : (a z : ℤ) → get q.cells a ≡ Some z → get joined.cells a ≡ Some z
   pub second : (a z : ℤ) → get r.cells a ≡ Some z → get joined.cells a ≡ Some z
   pub guards : (n : ℤ) → guards_at (q ∷ r ∷ []) n ≡ Some (guard_at joined n)
@@ -90,9 +97,11 @@ Returns s new handed left =
 
 -- or nobody gets it
 abbrev pub EndsThread : Stepping → List (List Held) → Part → List Part → Type 0
-EndsThread s new handed left = (s.below ≡ []) × (new ≡ slice_set s.threads s.thread []) × (left ≡ handed ∷ [])
+EndsThread s new handed left =
+    (s.below ≡ []) × (new ≡ slice_set s.threads s.thread []) × (left ≡ handed ∷ [])
 
--- what the threads have after the step; `left` are the parts into which the stepping frame's part goes
+-- what the threads have after the step; `left` are the parts into which the stepping frame's part
+-- goes
 abbrev pub FramesFollow : Event → Stepping → List (List Held) → Part → List Part → Type 0
 FramesFollow (Set v) s new handed left = StaysOn s new left
 FramesFollow (Read a v) s new handed left = StaysOn s new left
@@ -122,20 +131,28 @@ abbrev pub SomeHasCell : List Part → ℤ → Type 0
 SomeHasCell [] a = ⊥
 SomeHasCell (q ∷ qs) a = HasCell q a ⊎ SomeHasCell qs a
 
--- what the guards of a region may compose to: of an old region what they composed to, of a new one all of them
-abbrev pub IsBound : PlainProgram → List Region → List Region → List Part → ℤ → Option Guard → Type 0
+-- what the guards of a region may compose to: of an old region what they composed to, of a new one
+-- all of them
+abbrev pub IsBound :
+    PlainProgram → List Region → List Region → List Part → ℤ → Option Guard → Type 0
 IsBound p old made before n g =
     ((r : Region) × (region_at old n ≡ Some r) × (guards_at before n ≡ Some g))
     ⊎ ((r : Region) × (region_at made n ≡ Some r) × (g ≡ full_guard p r.kind))
 
--- nothing is invented: each cell was in a part before, or is allocated by the step, and guards compose to no more than their bounds
-pub record Exchanges (p : PlainProgram) (heap : Heap) (old made : List Region) (before after : List Part) : Type 0 where
+-- nothing is invented: each cell was in a part before, or is allocated by the step, and guards
+-- compose to no more than their bounds
+pub record Exchanges (p : PlainProgram) (heap : Heap) (old made : List Region)
+    (before after : List Part) : Type 0 where
   pub cells : (a : ℤ) → SomeHasCell after a → SomeHasCell before a ⊎ (get heap a ≡ None)
-  pub guards : (n : ℤ) (g h : Option Guard) → guards_at after n ≡ Some g → IsBound p old made before n h → GuardAtMost p g h
+  pub guards :
+      (n : ℤ) (g h : Option Guard) → guards_at after n ≡ Some g → IsBound p old made before n h →
+      GuardAtMost p g h
 
--- account `b` follows account `a` by a step of a thread with this event, from this heap. Cells and guards may pass between the stepping frame
--- and the opened regions, of which there are at most two, and none but at an access; what new regions own comes from these. New regions come last
-pub record Follows (p : PlainProgram) (heap : Heap) (thread : ℕ) (event : Event) (a b : Account) (handed : Part) : Type 0 where
+-- account `b` follows account `a` by a step of a thread with this event, from this heap. Cells and
+-- guards may pass between the stepping frame and the opened regions, of which there are at most
+-- two, and none but at an access; what new regions own comes from these. New regions come last
+pub record Follows (p : PlainProgram) (heap : Heap) (thread : ℕ) (event : Event) (a b : Account)
+    (handed : Part) : Type 0 where
   pub top : Held
   pub below : List Held
   pub is_stepping : slice_get a.threads thread ≡ Some (top ∷ below)
@@ -147,9 +164,12 @@ pub record Follows (p : PlainProgram) (heap : Heap) (thread : ℕ) (event : Even
   pub regions : b.regions ≡ kept ++ made
   pub old_regions : FollowRegions p top.part opened a.regions kept
   pub left : List Part
-  pub frames : FramesFollow event (record { thread = thread; top = top; below = below; threads = a.threads }) b.threads handed left
+  pub frames : FramesFollow event
+      (record { thread = thread; top = top; below = below; threads = a.threads })
+      b.threads handed left
   pub handed_fits : GuardsFit p (table b) handed
-  pub access : (x : ℤ) → accesses event ≡ Some x → SomeHasCell (top.part ∷ opened_parts opened a.regions) x
+  pub access :
+      (x : ℤ) → accesses event ≡ Some x → SomeHasCell (top.part ∷ opened_parts opened a.regions) x
   pub exchanges : Exchanges p heap (table a) (table_of made)
       (top.part ∷ opened_parts opened a.regions)
       (left ++ (opened_parts opened kept ++ map (λ r. r.part) made))

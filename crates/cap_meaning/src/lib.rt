@@ -2,6 +2,7 @@
 //! no symbolic state, row, solver, choice or tree. An example shows that the definitions accept what
 //! they should, and refuse what is broken; each law is the contract of a function that does nothing.
 #![tactic(auto)]
+
 ghost use Rattle.cap_meaning.specs.Expected.{AcceptedStep, BrokenAccounts, BrokenSteps, ThirdRegion, NothingHandedOver};
 
 /// A valid account, and one that follows it by a step that acts on a region.

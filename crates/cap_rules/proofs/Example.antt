@@ -90,7 +90,6 @@ empty-certificate v =
     contradicted (inl h) = omega arith
     contradicted (inr h) = h.1
 
-
 pub broken-examples : BrokenExamples
 broken-examples = record {
   no_tree = no-tree;

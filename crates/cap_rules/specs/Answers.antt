@@ -11,7 +11,8 @@ use Rattle.cap_rules.specs.Attempts.{Claim, owed, Event, makes, claims, Attempt}
 use Rattle.cap_rules.specs.Closing.{rivals}
 use Rattle.cap_rules.specs.Rules.{rule}
 
--- it applies, or it doesn't, or a term is too wide: with the operands of the result that leaves 128 bits
+-- it applies, or it doesn't, or a term is too wide: with the operands of the result that leaves 128
+-- bits
 pub data Answer (A : Type 0) : Type 0 where
   applies : A → Answer A
   inapplicable : Answer A
@@ -47,7 +48,8 @@ lists_if ls (Some x) = Some ls
 
 -- the lists, or the first failure that isn't a certificate's
 abbrev pub proofs_of : {A : Type 0} → Attempt A → Answer (List (List Row))
-proofs_of o = answer_unless (first_wide (steps_of o.events)) (lists_if (owed_lists o.events) o.value)
+proofs_of o =
+    answer_unless (first_wide (steps_of o.events)) (lists_if (owed_lists o.events) o.value)
 
 -- which marks are certificates
 abbrev pub marks_of : PlainChoice → List Bool
@@ -59,20 +61,22 @@ abbrev pub full_marks : PlainState → PlainChoice → List Bool
 full_marks s (by_act j cs ms) = map (λ x. true) (rivals s)
 full_marks s c = []
 
--- the lists of rows that the choice's certificates, and after them its marks, have to refute, whatever it holds
+-- the lists of rows that the choice's certificates, and after them its marks, have to refute,
+-- whatever it holds
 abbrev pub proofs : PlainProgram → PlainGoal → PlainChoice → Answer (List (List Row))
 proofs p g c = proofs_of (rule p g c (full_marks g.state c))
 
 -- ---- what the choice answers
 
--- how the events end: with certificates left over, with a list that is not refuted, or with a result that leaves 128 bits
+-- how the events end: with certificates left over, with a list that is not refuted, or with a
+-- result that leaves 128 bits
 pub data Ending : Type 0 where
   passed : List Cert → Ending
   refused : Ending
   stopped : ℤ → ℤ → Ending
 
--- the certificates refute the lists one after the other, and then this holds of those that are left; or it is refused at the first that they
--- don't
+-- the certificates refute the lists one after the other, and then this holds of those that are
+-- left; or it is refused at the first that they don't
 abbrev pub Refuting : List (List Row) → List Cert → (List Cert → Type 0) → Type 0 → Type 0
 Refuting [] cs P R = P cs
 Refuting (rows ∷ ls) [] P R = R
@@ -85,7 +89,8 @@ Within (Some w) P W = W w.0 w.1
 
 abbrev pub Ends : List Event → List Cert → Ending → Type 0
 Ends [] cs end = end ≡ passed cs
-Ends (makes x ∷ es) cs end = Within (first_wide (x ∷ [])) (Ends es cs end) (λ a b. end ≡ stopped a b)
+Ends (makes x ∷ es) cs end =
+    Within (first_wide (x ∷ [])) (Ends es cs end) (λ a b. end ≡ stopped a b)
 Ends (claims c ∷ es) cs end = Refuting (owed c) cs (λ rest. Ends es rest end) (end ≡ refused)
 
 -- certificates left over make the choice not applicable

@@ -19,7 +19,8 @@ abbrev pub IsTrueClaim : Claim → Type 0
 IsTrueClaim (refuted rows) = HasNone rows
 IsTrueClaim (proved rows r) = Proves rows r
 
--- the lists of rows that certificates have to refute for it: to prove a row is to refute the rows with each of its negations as the last
+-- the lists of rows that certificates have to refute for it: to prove a row is to refute the rows
+-- with each of its negations as the last
 abbrev pub owed : Claim → List (List Row)
 owed (refuted rows) = rows ∷ []
 owed (proved rows r) = map (λ n. rows ++ n ∷ []) (negations r)
@@ -84,7 +85,10 @@ comparison_row l op r o = computed (row_of l op r o) (row_of_steps l op r o)
 
 -- the rows prove a row, whose negations are made first
 abbrev pub prove : List Row → Row → Attempt (Unit {0})
-prove rows r = record { events = map makes (negations_steps r) ++ claims (proved rows r) ∷ []; value = Some tt }
+prove rows r = record {
+  events = map makes (negations_steps r) ++ claims (proved rows r) ∷ [];
+  value = Some tt;
+}
 
 -- the rows prove a comparison
 abbrev pub prove_that : List Row → Linear → Op → Linear → Sort → Attempt (Unit {0})

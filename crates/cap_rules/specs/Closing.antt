@@ -59,7 +59,8 @@ in_case s f c = do
   s''' ← with_rows s'' rows
   with_env s''' (case_names s f c)
 
-abbrev pub case_goals : PlainState → PlainFact → ℕ → List PlainTask → List PlainCase → Attempt (List PlainGoal)
+abbrev pub case_goals :
+    PlainState → PlainFact → ℕ → List PlainTask → List PlainCase → Attempt (List PlainGoal)
 case_goals s f n ts [] = unit []
 case_goals s f n ts (c ∷ cs) = do
   s' ← in_case s f c
@@ -141,7 +142,9 @@ source_name f None x = None
 source_name f (Some y) x = if y == x then Some f.state else None
 
 abbrev pub source_env : PlainRegionType → PlainFact → PlainAction → PlainEnv
-source_env k f a = region_env f (map (source_name f (lone_variable a.source)) (range_with_len k.params (length a.names)))
+source_env k f a =
+    region_env f
+    (map (source_name f (lone_variable a.source)) (range_with_len k.params (length a.names)))
 
 -- the state to which the move leads, as far as the old state says it
 abbrev pub move_target : PlainRegionType → PlainFact → ℕ → Attempt Linear
@@ -150,13 +153,14 @@ move_target k f (suc i) = do
   a ← found (slice_get k.actions i)
   determined (source_env k f a) a.target
 
--- what a move matches: guards with what was held, the source with the old state, the target with the new one
-pub data Part : Type 0 where
-  guard : ℕ → Asked → Part
-  source : Part
-  target : Part
+-- what a move matches: guards with what was held, the source with the old state, the target with
+-- the new one
+pub data MovePart : Type 0 where
+  guard : ℕ → Asked → MovePart
+  source : MovePart
+  target : MovePart
 
-abbrev pub part_slot : PlainAction → Part → Slot
+abbrev pub part_slot : PlainAction → MovePart → Slot
 part_slot a (guard i asked) = asked_slot asked
 part_slot a source = Is a.source
 part_slot a target = Is a.target
@@ -166,10 +170,11 @@ is_stuck stuck = true
 is_stuck r = false
 
 -- the part holds an unbound name and isn't that name alone
-abbrev pub waits : PlainEnv → PlainAction → Part → Bool
+abbrev pub waits : PlainEnv → PlainAction → MovePart → Bool
 waits env a x = is_stuck (reading env (part_slot a x))
 
--- an amount of what was held: of a share some, of a source with m tokens out one that has at least these out, of tokens some
+-- an amount of what was held: of a share some, of a source with m tokens out one that has at least
+-- these out, of tokens some
 abbrev pub match_share : PlainState → PlainEnv → Linear → Reading → Attempt PlainEnv
 match_share s env a (settled t) = do
   e ← value_by env t
@@ -213,7 +218,8 @@ match_form s env (Tok x) (form.Src m) = match_new_tokens s env (reading env x)
 match_form s env asked f = not_applicable
 
 -- one part of the move of region f from its state to `new`
-abbrev pub match_part : PlainState → PlainFact → Linear → PlainAction → PlainEnv → Part → Attempt PlainEnv
+abbrev pub match_part :
+    PlainState → PlainFact → Linear → PlainAction → PlainEnv → MovePart → Attempt PlainEnv
 match_part s f new a env (guard i asked) = do
   q ← found (find (of_atom f.region f.kind i) s.before)
   match_form s env asked q.form
@@ -223,22 +229,25 @@ match_part s f new a env target = match_reading s.rows env new (reading env (Is 
 -- the parts that need no other one, and those that wait
 pub record Matched : Type 0 where
   pub env : PlainEnv
-  pub waiting : List Part
+  pub waiting : List MovePart
 
-abbrev pub match_ready : PlainState → PlainFact → Linear → PlainAction → PlainEnv → List Part → List Part → Attempt Matched
+abbrev pub match_ready :
+    PlainState → PlainFact → Linear → PlainAction → PlainEnv → List MovePart → List MovePart →
+    Attempt Matched
 match_ready s f new a env waiting [] = unit (record { env = env; waiting = waiting })
 match_ready s f new a env waiting (x ∷ xs) =
     if waits env a x
     then match_ready s f new a env (waiting ++ x ∷ []) xs
     else (match_part s f new a env x >>= λ env'. match_ready s f new a env' waiting xs)
 
-abbrev pub match_all : PlainState → PlainFact → Linear → PlainAction → PlainEnv → List Part → Attempt PlainEnv
+abbrev pub match_all :
+    PlainState → PlainFact → Linear → PlainAction → PlainEnv → List MovePart → Attempt PlainEnv
 match_all s f new a env [] = unit env
 match_all s f new a env (x ∷ xs) = do
   env' ← match_part s f new a env x
   match_all s f new a env' xs
 
-abbrev pub parts_of : PlainAction → List Part
+abbrev pub parts_of : PlainAction → List MovePart
 parts_of a = map (λ g. guard g.0 g.1) a.guards ++ source ∷ target ∷ []
 
 -- the parts that don't wait, then those that did, then the action's comparisons

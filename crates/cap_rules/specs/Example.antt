@@ -78,7 +78,8 @@ assert_tree certs = node (by_assert certs) (above leaf)
 
 -- ---- a counter's region type, and the function that makes one
 
--- region Counter(r, x) { guards %INC; interpretation { n : x |-> n; } actions { INC[_] : n ~> n + 1; } }
+-- region Counter(r, x) { guards %INC; interpretation { n : x |-> n; } actions { INC[_] : n ~> n +
+-- 1; } }
 abbrev pub counter_case : PlainCase
 counter_case = record {
   names = Int ∷ [];
@@ -111,7 +112,8 @@ counter_type = record {
 
 -- function make() ensures Counter(r, ret; 0) &*& r@INC[1p]; { x := alloc(1); return x; }
 abbrev pub make_body : Block
-make_body = first (label 1) (alloc 0 1) (first (label 2) (give_back (variable 0)) (closing_return 3))
+make_body =
+    first (label 1) (alloc 0 1) (first (label 2) (give_back (variable 0)) (closing_return 3))
 
 abbrev pub make_function : PlainFunction
 make_function = record {

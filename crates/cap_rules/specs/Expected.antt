@@ -10,7 +10,8 @@ use Rattle.cap_rules.specs.Example.{empty_program, assert_program, trees_of, lea
 pub record ValidExamples : Type 0 where
   pub empty : Valid empty_program (trees_of leaf)
   pub assertion : Valid assert_program (trees_of (assert_tree (once 0 ∷ [])))
-  pub make : RootDerives counter_program (Some make_tree) (unwrap_or (slice_get (roots counter_program (function_unit 0)) 2) None)
+  pub make : RootDerives counter_program (Some make_tree)
+      (unwrap_or (slice_get (roots counter_program (function_unit 0)) 2) None)
 
 pub record BrokenExamples : Type 0 where
   pub no_tree : ¬ Valid empty_program (None ∷ None ∷ None ∷ [])

@@ -100,13 +100,15 @@ give_item p s e (cell place a x) = do
   with_comparison s' address.value AtLeast one_value Int
 
 -- the items up to the first conditional are given; there the goal splits
-abbrev pub give : PlainProgram → PlainState → ℕ → ℕ → List PlainTask → Items → Attempt (List PlainGoal)
+abbrev pub give :
+    PlainProgram → PlainState → ℕ → ℕ → List PlainTask → Items → Attempt (List PlainGoal)
 give p s e n ts none = unit (goals_of s ts)
 give p s e n ts (item (choose c a b) more) = do
   g ← give_sides s e c
   s' ← with_comparison g.state g.value.0 c.op g.value.1 c.sort
   s'' ← with_comparison g.state g.value.0 (opposite c.op) g.value.1 c.sort
-  unit (goals_of s' (to_give (append_items a more) e n ∷ ts) ++ goals_of s'' (to_give (append_items b more) e n ∷ ts))
+  unit (goals_of s' (to_give (append_items a more) e n ∷ ts) ++ goals_of s''
+      (to_give (append_items b more) e n ∷ ts))
 give p s e n ts (item i more) = do
   s' ← give_item p s e i
   give p s' e n ts more

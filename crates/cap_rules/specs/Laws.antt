@@ -1,4 +1,5 @@
--- What ties the rules' two readings together: what a choice makes of a goal, and where it fails first.
+-- What ties the rules' two readings together: what a choice makes of a goal, and where it fails
+-- first.
 use Rattle.std.specs.Prelude.{◌≡◌, List, Some, None}
 use Rattle.std.specs.List.{AllZip}
 use Rattle.cap_lin.specs.Steps.{first_wide}
@@ -11,14 +12,15 @@ use Rattle.cap_rules.specs.Attempts.{Attempt}
 use Rattle.cap_rules.specs.Answers.{Answer, marks_of, steps_of, owed_lists, IsAnswer, Subgoals}
 use Rattle.cap_rules.specs.Rules.{rule}
 
--- the attempt comes to the value, each result on the way is within 128 bits, and there is exactly one certificate for each list that is owed,
--- which refutes it
+-- the attempt comes to the value, each result on the way is within 128 bits, and there is exactly
+-- one certificate for each list that is owed, which refutes it
 pub record Succeeds {A : Type 0} (o : Attempt A) (certs : List Cert) (x : A) : Type 0 where
   pub value : o.value ≡ Some x
   pub narrow : first_wide (steps_of o.events) ≡ None
   pub refuted : AllZip Refutes (owed_lists o.events) certs
 
--- one choice has one answer at a goal: its subgoals, or that it doesn't apply, or the operands of one result
+-- one choice has one answer at a goal: its subgoals, or that it doesn't apply, or the operands of
+-- one result
 abbrev pub AnswersAreOne : Type 0
 AnswersAreOne =
     (p : PlainProgram) (g : PlainGoal) (c : PlainChoice) (x y : Answer (List PlainGoal)) →

@@ -220,7 +220,8 @@ abbrev pub with_false : PlainState → Bool → Attempt PlainState
 with_false s true = with_comparison s zero_value Equal one_value Int
 with_false s false = unit s
 
--- a fact takes the place of the one of its region and type, which equals it. A region of two types is none
+-- a fact takes the place of the one of its region and type, which equals it. A region of two types
+-- is none
 abbrev pub with_fact : PlainState → PlainFact → Attempt PlainState
 with_fact s f = do
   s' ← with_same s f (find (is_of_region f) s.facts)

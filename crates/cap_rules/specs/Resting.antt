@@ -23,7 +23,8 @@ use Rattle.cap_rules.specs.Making.{with_sort, with_rows, with_state}
 
 -- ---- an action of the others, at unknown names
 
--- terms for the region, its arguments and the names that came up so far, and the next variable that is still free
+-- terms for the region, its arguments and the names that came up so far, and the next variable that
+-- is still free
 pub record Names : Type 0 where
   pub terms : List Linear
   pub next : ℕ
@@ -56,16 +57,20 @@ abbrev pub ask_all : Names → List (ℕ × Asked) → Names
 ask_all w [] = w
 ask_all w (g ∷ gs) = ask_all (ask w g.1) gs
 
--- the variable after the state's own is the fact's later state, and further ones are the action's names
+-- the variable after the state's own is the fact's later state, and further ones are the action's
+-- names
 abbrev pub first_names : PlainState → PlainFact → Names
 first_names s f = record { terms = f.region ∷ f.args; next = length s.sorts + 1 }
 
 abbrev pub action_names : PlainRegionType → PlainState → PlainFact → PlainAction → List Linear
-action_names k s f a = (names_below (ask_all (first_names s f) a.guards) (k.params + length a.names)).terms
+action_names k s f a =
+    (names_below (ask_all (first_names s f) a.guards) (k.params + length a.names)).terms
 
 -- a term of the action
 abbrev pub value_over : List Linear → Linear → Attempt Linear
-value_over names t = computed (term_over (λ x. get_or names x zero_value) t) (term_over_steps (λ x. get_or names x zero_value) t)
+value_over names t =
+    computed (term_over (λ x. get_or names x zero_value) t)
+    (term_over_steps (λ x. get_or names x zero_value) t)
 
 abbrev pub rows_over : List Linear → List Comp → Attempt (List Row)
 rows_over names [] = unit []
@@ -104,14 +109,18 @@ abbrev pub joined_rows : List Row → Option (List Row) → Option (List Row)
 joined_rows rows None = None
 joined_rows rows (Some more) = Some (rows ++ more)
 
--- what holds where others take the action at the later state, of which these rows hold; none where nobody else can hold its guards
-abbrev pub system : PlainRegionType → PlainState → PlainFact → List Row → PlainAction → List Linear → Attempt (Option (List Row))
+-- what holds where others take the action at the later state, of which these rows hold; none where
+-- nobody else can hold its guards
+abbrev pub system :
+    PlainRegionType → PlainState → PlainFact → List Row → PlainAction → List Linear →
+    Attempt (Option (List Row))
 system k s f known a names = do
   source ← value_over names a.source
   q ← comparison_row source Equal (later_state s) Int
   conditions ← rows_over names a.when
   wanted ← want_all names (first_names s f) a.guards
-  compatible ← computed (compat k.algebra s.guards f.region f.kind wanted) (compat_steps k.algebra s.guards f.region f.kind wanted)
+  compatible ← computed (compat k.algebra s.guards f.region f.kind wanted)
+      (compat_steps k.algebra s.guards f.region f.kind wanted)
   unit (joined_rows (s.rows ++ (known ++ q ∷ conditions)) compatible)
 
 -- ---- settling by candidates
@@ -135,14 +144,16 @@ prove_at s rows t (r ∷ rs) = do
   prove_at s rows t rs
 
 -- the target is computed only where there is a candidate
-abbrev pub prove_closed : PlainState → List Row → PlainAction → List Linear → Option (List Row) → Attempt (Unit {0})
+abbrev pub prove_closed :
+    PlainState → List Row → PlainAction → List Linear → Option (List Row) → Attempt (Unit {0})
 prove_closed s [] a names rows = unit tt
 prove_closed s named a names None = unit tt
 prove_closed s named a names (Some rows) = do
   t ← value_over names a.target
   prove_at s rows t named
 
-abbrev pub prove_stable : PlainRegionType → PlainState → PlainFact → List Row → List PlainAction → Attempt (Unit {0})
+abbrev pub prove_stable :
+    PlainRegionType → PlainState → PlainFact → List Row → List PlainAction → Attempt (Unit {0})
 prove_stable k s f named [] = unit tt
 prove_stable k s f named (a ∷ more) = do
   rows ← system k s f named a (action_names k s f a)
@@ -164,13 +175,15 @@ settle k s j f list = do
 
 -- ---- keeping the state
 
-abbrev pub prove_same : PlainFact → PlainAction → List Linear → Option (List Row) → Attempt (Unit {0})
+abbrev pub prove_same :
+    PlainFact → PlainAction → List Linear → Option (List Row) → Attempt (Unit {0})
 prove_same f a names None = unit tt
 prove_same f a names (Some rows) = do
   t ← value_over names a.target
   prove_that rows t Equal f.state Int
 
-abbrev pub prove_kept : PlainRegionType → PlainState → PlainFact → Row → List PlainAction → Attempt (Unit {0})
+abbrev pub prove_kept :
+    PlainRegionType → PlainState → PlainFact → Row → List PlainAction → Attempt (Unit {0})
 prove_kept k s f same [] = unit tt
 prove_kept k s f same (a ∷ more) = do
   rows ← system k s f (same ∷ []) a (action_names k s f a)

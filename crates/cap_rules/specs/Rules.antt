@@ -1,4 +1,5 @@
--- The 26 rules: what a choice makes of a goal. Each is said by the head of the goal's tasks; what has no line here doesn't apply.
+-- The 26 rules: what a choice makes of a goal. Each is said by the head of the goal's tasks; what
+-- has no line here doesn't apply.
 use Rattle.std.specs.Prelude.{ℕ, zero, suc, ◌+◌, ◌-◌, ◌==◌, ◌&&◌, Bool, true, false, not, is_none, nat_lt, List, [], ◌∷◌, ◌++◌, length, flat_map, take, drop, remove, slice_get, pos, Option, Some, None}
 use Rattle.cap_lin.specs.Linear.{Linear, number, variable}
 use Rattle.cap_lin.specs.declared.row.Sort.TheVariants.{Int}
@@ -71,7 +72,8 @@ at_alloc s x n ts = do
   s''' ← with_new_cells s'' (fresh s) 0 n
   leaves (with_local s''' x (fresh s)) ts
 
-abbrev pub at_enter : PlainProgram → PlainState → ℕ → Label → PlainAct → List PlainTask → Attempt (List PlainGoal)
+abbrev pub at_enter :
+    PlainProgram → PlainState → ℕ → Label → PlainAct → List PlainTask → Attempt (List PlainGoal)
 at_enter p s i l a ts = do
   _ ← found (address_of a)
   _ ← need (nat_lt (length s.opened) 2)
@@ -80,7 +82,8 @@ at_enter p s i l a ts = do
   _ ← prove_other s f (of_type f.kind s.opened)
   case_goals (with_opened s i f) f l.number ts k.cases
 
-abbrev pub at_act : PlainState → ℕ → List Bool → Label → PlainAct → List PlainTask → Attempt (List PlainGoal)
+abbrev pub at_act :
+    PlainState → ℕ → List Bool → Label → PlainAct → List PlainTask → Attempt (List PlainGoal)
 at_act s j marks l a ts = do
   x ← found (address_of a)
   c ← found (slice_get s.cells j)
@@ -90,7 +93,9 @@ at_act s j marks l a ts = do
   states ← acted s' j c a
   unit (flat_map (λ s''. goals_of s'' (closing s.opened l.number ts)) states)
 
-abbrev pub at_statement : PlainProgram → PlainState → List Bool → PlainChoice → Home → Label → PlainAct → Block → List PlainTask → Attempt (List PlainGoal)
+abbrev pub at_statement :
+    PlainProgram → PlainState → List Bool → PlainChoice → Home → Label → PlainAct → Block →
+    List PlainTask → Attempt (List PlainGoal)
 at_statement p s marks (by_clash i j cs) h l a rest ts = at_clash s i j a
 at_statement p s marks by_set h l (set x t) rest ts = do
   u ← value_here s t
@@ -104,28 +109,42 @@ at_statement p s marks by_if h l (branch c a b) rest ts =
     branches s c (to_run h (append a rest) ∷ ts) (to_run h (append b rest) ∷ ts)
 at_statement p s marks by_loop h l (loop c i a) rest ts = do
   f ← found (slice_get p.functions h.function)
-  s' ← with_env s (own_env f h (own_params s f) (bound (drop f.params s.store)) None (length i.names))
+  s' ← with_env s
+      (own_env f h (own_params s f) (bound (drop f.params s.store)) None (length i.names))
   leaves s' (to_take i.items (length s.envs) 3 l.number ∷ [])
 at_statement p s marks by_call h l (call x n args) rest ts = do
   f ← found (slice_get p.functions n)
   s' ← called s f args x
-  leaves s' (to_take f.requires (length s.envs) 3 l.number ∷ to_rest 0 l.number ∷ to_give f.ensures.items (length s.envs) l.number ∷ to_run h rest ∷ ts)
+  leaves s'
+      (to_take f.requires (length s.envs) 3 l.number
+      ∷ to_rest 0 l.number
+      ∷ to_give f.ensures.items (length s.envs) l.number
+      ∷ to_run h rest
+      ∷ ts)
 at_statement p s marks by_fork h l (fork n args) rest ts = do
   f ← found (slice_get p.functions n)
   s' ← called s f args None
-  leaves s' (to_take f.requires (length s.envs) 3 l.number ∷ to_rest 0 l.number ∷ to_run h rest ∷ ts)
+  leaves s'
+      (to_take f.requires (length s.envs) 3 l.number
+      ∷ to_rest 0 l.number
+      ∷ to_run h rest
+      ∷ ts)
 at_statement p s marks by_return h l (give_back t) rest ts = do
   f ← found (slice_get p.functions h.function)
   u ← value_here s t
-  s' ← with_env s (own_env f h (own_params s f) (unbound f.locals) (Some u) (length f.ensures.names))
+  s' ← with_env s
+      (own_env f h (own_params s f) (unbound f.locals) (Some u) (length f.ensures.names))
   leaves s' (to_take f.ensures.items (length s.envs) 3 l.number ∷ [])
-at_statement p s marks (by_enter i cs) h l a rest ts = at_enter p s i l a (to_run h (first l a rest) ∷ ts)
+at_statement p s marks (by_enter i cs) h l a rest ts =
+    at_enter p s i l a (to_run h (first l a rest) ∷ ts)
 at_statement p s marks (by_act j cs ms) h l a rest ts = at_act s j marks l a (to_run h rest ∷ ts)
 at_statement p s marks _ h l a rest ts = not_applicable
 
 -- ---- at the head of a loop
 
-abbrev pub at_turn : PlainState → PlainChoice → Home → Label → PlainAct → Block → List PlainTask → Attempt (List PlainGoal)
+abbrev pub at_turn :
+    PlainState → PlainChoice → Home → Label → PlainAct → Block → List PlainTask →
+    Attempt (List PlainGoal)
 at_turn s by_turn h l (loop c i a) rest ts =
     branches s c (to_run h (append a (first l (loop c i a) rest)) ∷ ts) (to_run h rest ∷ ts)
 at_turn s _ h l a rest ts = not_applicable
@@ -173,11 +192,13 @@ at_cell s j a x r = do
   goes (with_env_at (record s { cells = remove s.cells j }) r.env env) r
 
 -- the fact stays; a loose one says too little
-abbrev pub at_region : PlainState → ℕ → ℕ → ℕ → List Slot → Slot → Remaining → Attempt (List PlainGoal)
+abbrev pub at_region :
+    PlainState → ℕ → ℕ → ℕ → List Slot → Slot → Remaining → Attempt (List PlainGoal)
 at_region s j n k args x r = do
   f ← found (slice_get s.facts j)
   _ ← need ((f.kind == k) && not f.loose)
-  env ← match_slots s.rows (env_at s r.env) (Is (variable n) ∷ (args ++ x ∷ [])) (f.region ∷ (f.args ++ f.state ∷ []))
+  env ← match_slots s.rows (env_at s r.env) (Is (variable n) ∷ (args ++ x ∷ []))
+      (f.region ∷ (f.args ++ f.state ∷ []))
   goes (with_env_at s r.env env) r
 
 -- no token is no guard
@@ -203,7 +224,8 @@ at_guard s j (suc (suc zero)) n k i (Tok x) r = at_no_tokens s j x r
 at_guard s j way n k i asked r = at_piece s j way n k i asked r
 
 -- the full pieces of one side of a sum become those of the other side
-abbrev pub at_convert : PlainProgram → PlainState → ℕ → ℕ → ℕ → ℕ → PlainItem → Remaining → Attempt (List PlainGoal)
+abbrev pub at_convert :
+    PlainProgram → PlainState → ℕ → ℕ → ℕ → ℕ → PlainItem → Remaining → Attempt (List PlainGoal)
 at_convert p s m side n k i r = do
   y ← found (slice_get p.regions k)
   sides ← found (sum_in y.algebra 0 m)
@@ -214,7 +236,9 @@ at_convert p s m side n k i r = do
   leaves s' (stays s i r.left r ∷ r.tasks)
 
 -- a region is created, once its case is given up
-abbrev pub at_create : PlainProgram → PlainState → ℕ → ℕ → ℕ → List Slot → Slot → PlainItem → ℕ → Remaining → Attempt (List PlainGoal)
+abbrev pub at_create :
+    PlainProgram → PlainState → ℕ → ℕ → ℕ → List Slot → Slot → PlainItem → ℕ → Remaining →
+    Attempt (List PlainGoal)
 at_create p s c n k args x i left r = do
   y ← found (slice_get p.regions k)
   z ← found (slice_get y.cases c)
@@ -223,20 +247,29 @@ at_create p s c n k args x i left r = do
   s' ← with_new_region p s y k
   env ← case_env y z (fact_of (fresh s) k us zero_value) (determined_slot (env_at s r.env) x)
   s'' ← with_env s' env
-  leaves s'' (to_take z.items (length s.envs) left r.statement ∷ to_make k c (length s.envs) (fresh s) r.statement ∷ stays s i left r ∷ r.tasks)
+  leaves s''
+      (to_take z.items (length s.envs) left r.statement
+      ∷ to_make k c (length s.envs) (fresh s) r.statement
+      ∷ stays s i left r
+      ∷ r.tasks)
 
-abbrev pub creates : PlainProgram → PlainState → ℕ → ℕ → ℕ → List Slot → Slot → PlainItem → Remaining → ℕ → Attempt (List PlainGoal)
+abbrev pub creates :
+    PlainProgram → PlainState → ℕ → ℕ → ℕ → List Slot → Slot → PlainItem → Remaining → ℕ →
+    Attempt (List PlainGoal)
 creates p s c n k args x i r zero = not_applicable
 creates p s c n k args x i r (suc left) = at_create p s c n k args x i left r
 
-abbrev pub at_item : PlainProgram → PlainState → PlainChoice → PlainItem → Remaining → Attempt (List PlainGoal)
+abbrev pub at_item :
+    PlainProgram → PlainState → PlainChoice → PlainItem → Remaining → Attempt (List PlainGoal)
 at_item p s (by_fact cs) (compare c) r = at_fact s c r
 at_item p s by_cases (choose c a b) r = at_cases s c a b r
 at_item p s (by_cell j cs) (cell place a x) r = at_cell s j a x r
 at_item p s (by_region j cs) (fact place n k args x) r = at_region s j n k args x r
 at_item p s (by_guard j way cs) (atom place n k i asked) r = at_guard s j way n k i asked r
-at_item p s (by_convert m side cs) (atom place n k i asked) r = at_convert p s m side n k (atom place n k i asked) r
-at_item p s (by_create c) (fact place n k args x) r = creates p s c n k args x (fact place n k args x) r r.left
+at_item p s (by_convert m side cs) (atom place n k i asked) r =
+    at_convert p s m side n k (atom place n k i asked) r
+at_item p s (by_create c) (fact place n k args x) r =
+    creates p s c n k args x (fact place n k args x) r r.left
 at_item p s _ i r = not_applicable
 
 -- ---- at the other tasks
@@ -246,7 +279,8 @@ abbrev pub creations : Bool → ℕ
 creations true = 1
 creations false = 0
 
-abbrev pub at_close : PlainProgram → PlainState → ℕ → ℕ → ℕ → Bool → ℕ → List PlainTask → Attempt (List PlainGoal)
+abbrev pub at_close :
+    PlainProgram → PlainState → ℕ → ℕ → ℕ → Bool → ℕ → List PlainTask → Attempt (List PlainGoal)
 at_close p s o c m any n ts = do
   f ← found (slice_get s.opened o)
   k ← found (slice_get p.regions f.kind)
@@ -254,9 +288,13 @@ at_close p s o c m any n ts = do
   _ ← need (may_move any m k)
   env ← case_env k x f (move_target k f m)
   s' ← with_env s env
-  leaves s' (to_take x.items (length s.envs) (creations any) n ∷ to_shift o c m (length s.envs) n ∷ ts)
+  leaves s'
+      (to_take x.items (length s.envs) (creations any) n
+      ∷ to_shift o c m (length s.envs) n
+      ∷ ts)
 
-abbrev pub at_shift : PlainProgram → PlainState → ℕ → ℕ → ℕ → ℕ → List PlainTask → Attempt (List PlainGoal)
+abbrev pub at_shift :
+    PlainProgram → PlainState → ℕ → ℕ → ℕ → ℕ → List PlainTask → Attempt (List PlainGoal)
 at_shift p s o c m e ts = do
   f ← found (slice_get s.opened o)
   k ← found (slice_get p.regions f.kind)
@@ -267,7 +305,8 @@ at_shift p s o c m e ts = do
   s' ← with_closed s o f new
   leaves s' ts
 
-abbrev pub at_settle : PlainProgram → PlainState → List ℕ → ℕ → ℕ → List PlainTask → Attempt (List PlainGoal)
+abbrev pub at_settle :
+    PlainProgram → PlainState → List ℕ → ℕ → ℕ → List PlainTask → Attempt (List PlainGoal)
 at_settle p s list j n ts = do
   f ← found (slice_get s.facts j)
   k ← found (slice_get p.regions f.kind)
@@ -285,7 +324,8 @@ at_keep p s j n ts = do
 abbrev pub args_in : PlainEnv → ℕ → Attempt (List Linear)
 args_in env params = each found (take (params - 1) (drop 1 env))
 
-abbrev pub at_made : PlainProgram → PlainState → ℕ → ℕ → ℕ → Linear → List PlainTask → Attempt (List PlainGoal)
+abbrev pub at_made :
+    PlainProgram → PlainState → ℕ → ℕ → ℕ → Linear → List PlainTask → Attempt (List PlainGoal)
 at_made p s k c e t ts = do
   y ← found (slice_get p.regions k)
   z ← found (slice_get y.cases c)
@@ -299,7 +339,9 @@ at_made p s k c e t ts = do
 abbrev pub at_absurd : PlainState → Attempt (List PlainGoal)
 at_absurd s = record { events = claims (refuted s.rows) ∷ []; value = Some [] }
 
-abbrev pub at_task : PlainProgram → PlainState → List Bool → PlainChoice → PlainTask → List PlainTask → Attempt (List PlainGoal)
+abbrev pub at_task :
+    PlainProgram → PlainState → List Bool → PlainChoice → PlainTask → List PlainTask →
+    Attempt (List PlainGoal)
 at_task p s marks (by_absurd c) t ts = at_absurd s
 at_task p s marks c (to_run h (first l a rest)) ts = at_statement p s marks c h l a rest ts
 at_task p s marks c (to_turn h (first l a rest)) ts = at_turn s c h l a rest ts
@@ -313,7 +355,8 @@ at_task p s marks (by_keep cs) (to_rest j n) ts = at_keep p s j n ts
 at_task p s marks (by_made cs) (to_make k c e t n) ts = at_made p s k c e t ts
 at_task p s marks c t ts = not_applicable
 
-abbrev pub at_tasks : PlainProgram → PlainState → List Bool → PlainChoice → List PlainTask → Attempt (List PlainGoal)
+abbrev pub at_tasks :
+    PlainProgram → PlainState → List Bool → PlainChoice → List PlainTask → Attempt (List PlainGoal)
 at_tasks p s marks c [] = not_applicable
 at_tasks p s marks c (t ∷ ts) = at_task p s marks c t ts
 

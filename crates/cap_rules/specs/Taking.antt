@@ -106,7 +106,10 @@ with_form q f = record q { form = f }
 abbrev pub after_cut : ℕ → ℕ → Piece → Cut → PlainState
 after_cut e j q c =
     with_env_at
-    (record c.state { guards = take j c.state.guards ++ (map (with_form q) c.left ++ drop (j + 1) c.state.guards) })
+    (record c.state {
+      guards = take j c.state.guards ++
+          (map (with_form q) c.left ++ drop (j + 1) c.state.guards);
+    })
     e c.env
 
 -- ---- converting
@@ -133,9 +136,11 @@ sum_count a = 0
 
 -- the sum of this number, in preorder, of an algebra whose first atom has number i
 abbrev pub sum_in : PlainAlgebra → ℕ → ℕ → Option Sides
-sum_in (product a b) i n = if nat_lt n (sum_count a) then sum_in a i n else sum_in b (i + atoms a) (n - sum_count a)
+sum_in (product a b) i n =
+    if nat_lt n (sum_count a) then sum_in a i n else sum_in b (i + atoms a) (n - sum_count a)
 sum_in (either a b) i zero = Some (sides_of a b i)
-sum_in (either a b) i (suc n) = if nat_lt n (sum_count a) then sum_in a i n else sum_in b (i + atoms a) (n - sum_count a)
+sum_in (either a b) i (suc n) =
+    if nat_lt n (sum_count a) then sum_in a i n else sum_in b (i + atoms a) (n - sum_count a)
 sum_in a i n = None
 
 -- side 0 is the left one
@@ -182,7 +187,9 @@ binds_all k c = list_all (λ x. is_bound_by x c.items) (range_with_len k.params 
 
 -- names with a binding position are unbound, the others have this term
 abbrev pub names_with : PlainRegionType → PlainCase → Linear → PlainEnv
-names_with k c t = map (λ x. if is_bound_by x c.items then None else Some t) (range_with_len k.params (length c.names))
+names_with k c t =
+    map (λ x. if is_bound_by x c.items then None else Some t)
+    (range_with_len k.params (length c.names))
 
 -- the other names' term is computed only where there is such a name
 abbrev pub case_env : PlainRegionType → PlainCase → PlainFact → Attempt Linear → Attempt PlainEnv

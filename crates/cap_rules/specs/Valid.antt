@@ -1,4 +1,5 @@
--- Valid derivations: a tree for each root, in which each node's choice applies and its children are trees of its subgoals.
+-- Valid derivations: a tree for each root, in which each node's choice applies and its children are
+-- trees of its subgoals.
 use Rattle.std.specs.Prelude.{◌≡◌, ℕ, suc, ◌≤◌, List, [], ◌∷◌, Option, Some, None}
 use Rattle.std.specs.List.{AllZip}
 use Rattle.cap_lin.specs.Steps.{first_wide}
@@ -14,10 +15,13 @@ deepest = 1000
 
 -- a tree by what relates goals, choices and subgoals
 abbrev mutual
-  pub DerivesBy : (PlainGoal → PlainChoice → List PlainGoal → Type 0) → ℕ → PlainTree → PlainGoal → Type 0
-  DerivesBy R depth (node c trees) g = (depth ≤ deepest) × (gs : List PlainGoal) × R g c gs × AllDerive R (suc depth) trees gs
+  pub DerivesBy :
+      (PlainGoal → PlainChoice → List PlainGoal → Type 0) → ℕ → PlainTree → PlainGoal → Type 0
+  DerivesBy R depth (node c trees) g =
+      (depth ≤ deepest) × (gs : List PlainGoal) × R g c gs × AllDerive R (suc depth) trees gs
 
-  pub AllDerive : (PlainGoal → PlainChoice → List PlainGoal → Type 0) → ℕ → PlainTrees → List PlainGoal → Type 0
+  pub AllDerive :
+      (PlainGoal → PlainChoice → List PlainGoal → Type 0) → ℕ → PlainTrees → List PlainGoal → Type 0
   AllDerive R depth no_trees [] = Unit {0}
   AllDerive R depth no_trees (g ∷ gs) = ⊥
   AllDerive R depth (tree t ts) [] = ⊥

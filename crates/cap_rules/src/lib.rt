@@ -2,6 +2,7 @@
 //! first, and which trees are valid; and laws of them, each the contract of a function that does
 //! nothing.
 #![tactic(auto)]
+
 ghost use Rattle.cap_rules.specs.Laws.{AnswersAreOne, SubgoalsSucceed, SuccessesAreSubgoals};
 ghost use Rattle.cap_rules.specs.Expected.{ValidExamples, BrokenExamples};
 
