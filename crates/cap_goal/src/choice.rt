@@ -1,7 +1,8 @@
 use cap_farkas::Cert;
 
 /// Which rule is taken at a goal, and how. Cells, facts, pieces, opened regions, cases, sums and
-/// candidates are named by number, from 0; a move is 0 for none, or the number of an action, from 1.
+/// candidates are named by number, from 0; a move is 0 for none, or the number of an action, from
+/// 1.
 #[derive(Debug, Drop)]
 pub enum Choice {
     /// The rows contradict each other.

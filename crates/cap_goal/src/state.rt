@@ -10,9 +10,9 @@ use cap_lin::{Row, Sort, Term};
 use std::alloc::{AllocError, Global};
 use std::marker::Model;
 
-/// A symbolic state: nine lists, each of at most 100,000,000 members. Its copies share the lists that
-/// they have in common. Each list has four calls: one lends it, and three append, replace and remove
-/// a member. On an error a state is as it was.
+/// A symbolic state: nine lists, each of at most 100,000,000 members. Its copies share the lists
+/// that they have in common. Each list has four calls: one lends it, and three append, replace and
+/// remove a member. On an error a state is as it was.
 #[derive(Drop)]
 pub struct State {
     sorts: Shared<Sort>,
@@ -79,7 +79,8 @@ impl State {
         })
     }
 
-    /// Lends what sort each variable is of; a fresh variable is the next number. It takes no memory.
+    /// Lends what sort each variable is of; a fresh variable is the next number. It takes no
+    /// memory.
     pub fn sorts(&self) -> &[Sort]
         ensures { result.now ≡ self.now.sorts }
     {
@@ -301,7 +302,8 @@ impl State {
         self.guards.cut(at)
     }
 
-    /// Lends the guards when the first region of this step was opened; outside of a step there are none. It takes no memory.
+    /// Lends the guards when the first region of this step was opened; outside of a step there are
+    /// none. It takes no memory.
     pub fn before(&self) -> &[Piece]
         ensures { result.now ≡ self.now.before }
     {
