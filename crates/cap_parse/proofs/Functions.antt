@@ -23,4 +23,4 @@ pub function_parts : (room : ℕ) (ts : List Token)
     → read_function room ts ≡ (read_function_head room ts >>= λ h. read_function_from room h.0 h.1)
 function_parts room ts =
     after-three (next_place ts) (λ key. read_name key.1) (λ w. read_listed room (λ inner. read_name) w.1)
-      (λ key w ps. (record { key = key.0; name = w.0; parameters = ps.0 }, ps.1)) (λ h. read_function_from room h.0 h.1)
+    (λ key w ps. (record { key = key.0; name = w.0; parameters = ps.0 }, ps.1)) (λ h. read_function_from room h.0 h.1)

@@ -35,7 +35,7 @@ pub more-pushed : {X A : Type 0} (k : Class) (one : Reader A) (view : X → Plac
     → with_front (map view (items ++ x ∷ [])) (read_more k one rest) ≡ whole
 more-pushed k one view takes ends items x p a all mid rest whole v b e f w =
     while-pushed (are_same k) (read_behind k one) view (behind-takes k one (takes-keeps one takes)) ends items x all rest whole b
-      (behind-read k one all mid rest p a b e f ∙ ap (λ y. Ok (y, rest)) (sym v)) w
+    (behind-read k one all mid rest p a b e f ∙ ap (λ y. Ok (y, rest)) (sym v)) w
 
 pub more-smaller : {A : Type 0} (k : Class) (one : Reader A) → Takes one → (all mid rest : List Token) (p : Place) (a : A)
     → are_same k (ahead all) ≡ true → next_place all ≡ Ok (p, mid) → one mid ≡ Ok (a, rest)

@@ -13,7 +13,10 @@ use Rattle.cap_parse.specs.declared.program.FunctionHead.{FunctionHead}
 
 abbrev pub head_view : Head → HeadTree
 head_view h = record {
-  name = h.name; before = h.«open»; parameters = several_view word_view h.parameters; behind = h.close
+  name = h.name;
+  before = h.«open»;
+  parameters = several_view word_view h.parameters;
+  behind = h.close;
 }
 
 -- a function's keyword, name and parameters
@@ -37,7 +40,14 @@ read_function_from room h ts = do
   pre ← read_optional (are_same Requires) (read_clause room Requires) ts
   post ← read_optional (are_same Ensures) (read_clause room Ensures) pre.1
   b ← block_at room post.1
-  Ok (record {
-    key = h.key; name = h.name; parameters = h.parameters; precondition = pre.0; postcondition = post.0;
-    body = b.0
-  }, b.1)
+  Ok (
+    record {
+      key = h.key;
+      name = h.name;
+      parameters = h.parameters;
+      precondition = pre.0;
+      postcondition = post.0;
+      body = b.0;
+    },
+    b.1,
+  )

@@ -45,6 +45,6 @@ Refuses e (Err f) = f ≡ e
 pub record IsOnlyParseOf (ts : List Token) (end : Place) (result : Result Tree ParseError) : Type 0 where
   pub spelled : (t : ProgramTree) → IsTreeOf ts t → GivesTree t result
   pub unexpected : (rest : List Token) → IsUnexpectedAt ts rest
-    → Refuses (Unexpected (first_place rest end)) result
+      → Refuses (Unexpected (first_place rest end)) result
   pub too_deep : (rest : List Token) → IsTooDeepAt ts rest
-    → Refuses (TooDeep (first_place rest end)) result
+      → Refuses (TooDeep (first_place rest end)) result

@@ -10,7 +10,10 @@ ghost use Rattle.cap_parse.specs.Reads.{IsRead};
 use crate::cursor::{Cursor, Stop};
 use cap_grammar::Class;
 use cap_syntax::Place;
-use cap_tree::{And, Assertion, Clause, Comparison, Counted, GuardAtom, Guards, Item, Separated, Side, Slot, Term, Word};
+use cap_tree::{
+    And, Assertion, Clause, Comparison, Counted, GuardAtom, Guards, Item, Separated, Side, Slot,
+    Term, Word,
+};
 
 impl<'a> Cursor<'a> {
     /// A guard's name, behind which an amount may come.

@@ -26,7 +26,7 @@ impl<'a> Cursor<'a> {
     fn optional_names(&mut self) -> Result<Option<Separated<Word>>, Stop>
         ensures { IsRead (option_map (several_view word_view)) result self.new.rest.now
             (read_optional (λ a. not (are_same Close a)) (read_several Comma read_name)
-              self.old.rest.now) }
+            self.old.rest.now) }
     {
         if self.is_ahead(Class::Close) {
             Ok(None)

@@ -12,7 +12,10 @@ ghost use Rattle.cap_parse.specs.Heads.{head_view};
 use crate::cursor::{Cursor, Stop};
 use cap_grammar::Class;
 use cap_syntax::Place;
-use cap_tree::{Action, Algebra, Both, Case, Comparison, Declared, Either, Group, Joint, Region, Separated, When, Word};
+use cap_tree::{
+    Action, Algebra, Both, Case, Comparison, Declared, Either, Group, Joint, Region, Separated,
+    When, Word,
+};
 
 /// A region type's name and parameters.
 #[derive(Drop)]
@@ -67,11 +70,7 @@ impl<'a> Cursor<'a> {
         let open = self.expect(Class::Open)?;
         let algebra = self.algebra(room)?;
         let close = self.expect(Class::Close)?;
-        Ok(Declared::Bracketed(
-            open,
-            Box::new(self.alloc, algebra)?,
-            close,
-        ))
+        Ok(Declared::Bracketed(open, Box::new(self.alloc, algebra)?, close))
     }
 
     #[cycle(algebras)]

@@ -39,7 +39,7 @@ impl<'a> Cursor<'a> {
     fn optional_terms(&mut self, room: u32) -> Result<Option<Separated<Term>>, Stop>
         ensures { IsRead (option_map (several_view term_view)) result self.new.rest.now
             (read_optional (λ a. not (are_same Close a)) (read_several Comma (read_term room))
-              self.old.rest.now) }
+            self.old.rest.now) }
     {
         if self.is_ahead(Class::Close) {
             Ok(None)
@@ -91,9 +91,7 @@ impl<'a> Cursor<'a> {
         let second = self.expect(Class::Comma)?;
         let new = self.term(inner)?;
         let close = self.expect(Class::Close)?;
-        Ok(Value::Cas(
-            key, open, address, first, expected, second, new, close,
-        ))
+        Ok(Value::Cas(key, open, address, first, expected, second, new, close))
     }
 
     /// A name, behind which the arguments of a call or more of a term come.
@@ -156,9 +154,7 @@ impl<'a> Cursor<'a> {
         let becomes = self.expect(Class::Becomes)?;
         let value = self.term(room)?;
         let semicolon = self.expect(Class::Semicolon)?;
-        Ok(Statement::Store(
-            open, address, close, becomes, value, semicolon,
-        ))
+        Ok(Statement::Store(open, address, close, becomes, value, semicolon))
     }
 
     /// What `fork`, which comes next, begins.
@@ -257,9 +253,7 @@ impl<'a> Cursor<'a> {
         let close = self.expect(Class::Close)?;
         let block = self.block(room)?;
         let otherwise = self.optional_else(room)?;
-        Ok(Statement::If(
-            key, open, comparison, close, block, otherwise,
-        ))
+        Ok(Statement::If(key, open, comparison, close, block, otherwise))
     }
 
     /// What `while`, which comes next, begins.
@@ -274,9 +268,7 @@ impl<'a> Cursor<'a> {
         let close = self.expect(Class::Close)?;
         let invariant = self.optional_clause(room, Class::Invariant)?;
         let block = self.block(room)?;
-        Ok(Statement::While(
-            key, open, comparison, close, invariant, block,
-        ))
+        Ok(Statement::While(key, open, comparison, close, invariant, block))
     }
 
     #[cycle(statements)]

@@ -26,7 +26,11 @@ fn is_unexpected(rt: &impl Abort, alloc: Global, text: &str, column: u32) -> Res
     match parsed(alloc, text)? {
         Ok(_) => panic!(rt; "{text}: a tree"),
         Err(e) => {
-            assert_eq!(rt; e, ParseError::Unexpected(Place { line: 1, column }), "{text}");
+            assert_eq!(rt;
+                e,
+                ParseError::Unexpected(Place { line: 1, column }),
+                "{text}"
+            );
             Ok(())
         }
     }

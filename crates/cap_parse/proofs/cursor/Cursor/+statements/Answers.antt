@@ -20,8 +20,8 @@ pub statements-loop-self-preserved : goal.statements-loop-self-preserved
 statements-loop-self-preserved t c =
     rw c.in_ok-push.ensures.items
     (while-pushed (λ k. not (are_same CloseBrace k)) (read_statement (block_at c.args.room) c.args.room) statement_view (statement-takes c.args.room) (statement-ends c.args.room (λ k. not (are_same CloseBrace k))) c.loop-self.statements.items c.in_ok-statement.statement
-      c.loop-self.self.rest.now c.statement.new.self.rest.now (read_while (λ k. not (are_same CloseBrace k)) (read_statement (block_at c.args.room) c.args.room) c.args.self.now.rest.now)
-      (ap not (sym c.is_ahead.ensures) ∙ ap not c.loop-self-test.true) c.in_ok-statement.ensures c.loop-self.invariant)
+    c.loop-self.self.rest.now c.statement.new.self.rest.now (read_while (λ k. not (are_same CloseBrace k)) (read_statement (block_at c.args.room) c.args.room) c.args.self.now.rest.now)
+    (ap not (sym c.is_ahead.ensures) ∙ ap not c.loop-self-test.true) c.in_ok-statement.ensures c.loop-self.invariant)
 
 pub statements-loop-self-smaller : goal.statements-loop-self-smaller
 statements-loop-self-smaller t c =
@@ -32,5 +32,5 @@ statements-returns-in_err-statement t c =
     let p = err_from_is_err_and c.from_residual.result c.from_residual.ensures.1 in
     rw (p.1, p.2)
     (while-refuses (λ k. not (are_same CloseBrace k)) (read_statement (block_at c.args.room) c.args.room) statement_view (λ v. map statement_view v.items) (statement-takes c.args.room) (statement-ends c.args.room (λ k. not (are_same CloseBrace k))) (map statement_view c.loop-self.statements.items)
-      c.loop-self.self.rest.now c.statement.new.self.rest.now (read_while (λ k. not (are_same CloseBrace k)) (read_statement (block_at c.args.room) c.args.room) c.args.self.now.rest.now) c.in_err-statement.field-0.0
-      (ap not (sym c.is_ahead.ensures) ∙ ap not c.loop-self-test.true) c.in_err-statement.ensures c.loop-self.invariant)
+    c.loop-self.self.rest.now c.statement.new.self.rest.now (read_while (λ k. not (are_same CloseBrace k)) (read_statement (block_at c.args.room) c.args.room) c.args.self.now.rest.now) c.in_err-statement.field-0.0
+    (ap not (sym c.is_ahead.ensures) ∙ ap not c.loop-self-test.true) c.in_err-statement.ensures c.loop-self.invariant)
