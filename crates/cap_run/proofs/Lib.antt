@@ -5,3 +5,5 @@ pub mod Enabled
 pub mod HeapLemmas
 pub mod PlaceLemmas
 pub mod FrameLemmas
+pub mod ValueLemmas
+pub mod ThreadLemmas
