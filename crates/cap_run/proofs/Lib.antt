@@ -7,3 +7,4 @@ pub mod PlaceLemmas
 pub mod FrameLemmas
 pub mod ValueLemmas
 pub mod ThreadLemmas
+pub mod MachineLemmas

@@ -42,6 +42,23 @@ update f (t ∷ ts) (suc n) = t ∷ update f ts n
 abbrev pub with_thread : (Thread → Thread) → Configuration → ℕ → Configuration
 with_thread f c n = record { heap = c.heap; threads = update f c.threads n }
 
+-- the thread's top frame may change
+pub record CanChange (p : PlainProgram) (m : Machine) (thread : ℕ) : Type 0 where
+  pub top : HasTop m thread
+  pub places : AllArePlaced p m
+
+-- one thread changed so, and the machine is not stopped by that
+pub record HasChanged (p : PlainProgram) (change : Thread → Thread) (thread : ℕ) (before after : Machine) : Type 0 where
+  pub configured : configuration p after ≡ with_thread change (configuration p before) thread
+  pub stop : is_stopped after ≡ is_stopped before
+  pub places : AllArePlaced p after
+
+-- nothing that is seen changed
+pub record IsKept (p : PlainProgram) (before after : Machine) : Type 0 where
+  pub configured : configuration p after ≡ configuration p before
+  pub stop : is_stopped after ≡ is_stopped before
+  pub places : AllArePlaced p after
+
 -- the cells of an allocation
 abbrev pub cells_of : PlainAct → Option ℕ
 cells_of (alloc x n) = Some n
