@@ -8,3 +8,4 @@ pub mod FrameLemmas
 pub mod ValueLemmas
 pub mod ThreadLemmas
 pub mod MachineLemmas
+pub mod StartLemmas

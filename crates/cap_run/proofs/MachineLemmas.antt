@@ -9,9 +9,10 @@ use Rattle.cap_prog.specs.Program.{PlainProgram}
 use Rattle.cap_run.specs.declared.frame.Frame as code
 use Rattle.cap_run.specs.declared.machine.Machine.{Machine}
 use Rattle.cap_run.specs.Machine.{Frame, Thread, Configuration}
-use Rattle.cap_run.specs.View.{thread_view, configuration, is_stopped, ArePlaced, AllArePlaced}
+use Rattle.cap_run.specs.View.{frame_view, thread_view, configuration, is_stopped, ArePlaced, AllArePlaced}
 use Rattle.cap_run.specs.Ready.{HasTop, update, with_thread, CanChange, HasChanged, IsKept}
 use Rattle.cap_run.proofs.Lists.{all_at, all_set}
+use Rattle.cap_run.proofs.ThreadLemmas.{thread_top}
 
 -- the thread that `threads[n]` lends
 pub lent_thread : (threads : List (Vec code.Frame)) (n : ℕ) (t : Vec code.Frame) → n < length threads → t ≡ get_or threads n t → slice_get threads n ≡ Some t
@@ -70,3 +71,31 @@ kept p m n t u threads h is e v k =
       stop = refl;
       places = subst (AllByRecursion (λ (w : Vec code.Frame). ArePlaced p w.items)) (sym e) (all_set (λ (w : Vec code.Frame). ArePlaced p w.items) m.threads.items n u h.places k);
     }
+
+shown_at : (p : PlainProgram) (ts : List (Vec code.Frame)) (n : ℕ) (t : Vec code.Frame) → slice_get ts n ≡ Some t → slice_get (map (λ (v : Vec code.Frame). thread_view p v.items) ts) n ≡ Some (thread_view p t.items)
+shown_at p [] n t e = absurd (cc)
+shown_at p (w ∷ ws) zero t e = let i : w ≡ t = cc in ap (λ (y : Vec code.Frame). Some (thread_view p y.items)) i
+shown_at p (w ∷ ws) (suc n) t e = shown_at p ws n t e
+
+-- the thread that is lent shows these frames
+pub lent_shows : (p : PlainProgram) (m : Machine) (n : ℕ) (t : Vec code.Frame) (fs : Thread) → HasTop m n → t ≡ get_or m.threads.items n t → slice_get (configuration p m).threads n ≡ Some fs → thread_view p t.items ≡ fs
+unfolding configuration
+lent_shows p m n t fs h is e = let i = shown_at p m.threads.items n t (lent_thread m.threads.items n t (is_there m n h) is) in cc
+
+pub top_shows : (p : PlainProgram) (m : Machine) (n k : ℕ) (t : Vec code.Frame) (g : code.Frame) (f : Frame) (fs : List Frame) → HasTop m n → t ≡ get_or m.threads.items n t → k + 1 ≡ length t.items → g ≡ get_or t.items k g → slice_get (configuration p m).threads n ≡ Some (f ∷ fs) → frame_view p g ≡ f
+top_shows p m n k t g f fs h is e top s =
+    let i = lent_shows p m n t (f ∷ fs) h is s in let j = thread_top p t.items k g e in let l = ap (frame_view p) top in cc
+
+-- a thread with a frame has a top frame
+pub has_top : (p : PlainProgram) (m : Machine) (n : ℕ) (f : Frame) (fs : List Frame) → slice_get (configuration p m).threads n ≡ Some (f ∷ fs) → HasTop m n
+unfolding configuration HasTop
+has_top p m n f fs e = go m.threads.items n e
+  where
+    go : (ts : List (Vec code.Frame)) (k : ℕ) → slice_get (map (λ (v : Vec code.Frame). thread_view p v.items) ts) k ≡ Some (f ∷ fs) → IsSomeAnd (slice_get ts k) (λ (t : Vec code.Frame). 0 < length t.items)
+    go [] k i = absurd (cc)
+    go (w ∷ ws) zero i = some w.items cc
+      where
+        some : (xs : List code.Frame) → thread_view p xs ≡ f ∷ fs → 0 < length xs
+        some [] j = absurd (cc)
+        some (x ∷ xs) j = omega arith
+    go (w ∷ ws) (suc k) i = go ws k i
