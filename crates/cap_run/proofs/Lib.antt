@@ -9,3 +9,4 @@ pub mod ValueLemmas
 pub mod ThreadLemmas
 pub mod MachineLemmas
 pub mod StartLemmas
+pub mod ActLemmas

@@ -22,6 +22,7 @@ pub record IsReady (p : PlainProgram) (m : Machine) (e : Entry) (s : PlainStatem
   pub there : slice_get (configuration p m).threads e.thread ≡ Some (frame ∷ below)
   pub next : frame.rest ≡ first s.label s.act rest
   pub base : takes_base s.act e.base ≡ true
+  pub is : slice_get p.functions frame.function ≡ Some function
   pub act : ActFits p function s.act
   pub store : length frame.store ≡ fixed_start function
   pub places : AllArePlaced p m

@@ -1,6 +1,7 @@
 //! The machine that runs programs: one step is one statement of one thread.
 #![tactic(auto)]
 
+mod acts;
 mod evaluation;
 mod event;
 mod frame;
