@@ -103,7 +103,7 @@ no_base o h = none_is o h
 pub can_change : (p : PlainProgram) (m : Machine) (e : Entry) (s : PlainStatement) → IsReady p m e s → CanChange p m e.thread
 can_change p m e s r = record { top = has_top p m e.thread r.frame r.below r.there; places = r.places }
 
-update_is : (f : Thread → Thread) (ts : List Thread) (n : ℕ) (t : Thread) → slice_get ts n ≡ Some t → update f ts n ≡ slice_set ts n (f t)
+pub update_is : (f : Thread → Thread) (ts : List Thread) (n : ℕ) (t : Thread) → slice_get ts n ≡ Some t → update f ts n ≡ slice_set ts n (f t)
 update_is f [] n t e = refl
 update_is f (u ∷ us) zero t e = let i : u ≡ t = cc in ap (λ x. f x ∷ us) i
 update_is f (u ∷ us) (suc n) t e = ap (λ x. u ∷ x) (update_is f us n t e)

@@ -10,3 +10,4 @@ pub mod ThreadLemmas
 pub mod MachineLemmas
 pub mod StartLemmas
 pub mod ActLemmas
+pub mod StepLemmas

@@ -1,5 +1,5 @@
 -- When a statement of a thread may be taken, and what the code's parts of a step promise.
-use Rattle.std.specs.Prelude.{◌≡◌, ℕ, zero, suc, ◌<◌, ℤ, Bool, true, false, List, [], ◌∷◌, length, slice_get, Option, Some, None, IsSomeAnd, Result, Ok, Err, MatchResult, option_and_then, option_map}
+use Rattle.std.specs.Prelude.{◌≡◌, ℕ, zero, suc, ◌<◌, ℤ, Bool, true, false, List, [], ◌∷◌, ◌++◌, length, slice_get, Option, Some, None, IsSomeAnd, Result, Ok, Err, MatchResult, option_and_then, option_map}
 use Rattle.std.specs.Global.{Vec}
 use Rattle.cap_prog.specs.Program.{Label, PlainAct, alloc, Block, done, first, PlainStatement, PlainFunction, PlainProgram}
 use Rattle.cap_prog.specs.Scopes.{fixed_start}
@@ -51,6 +51,12 @@ pub record CanChange (p : PlainProgram) (m : Machine) (thread : ℕ) : Type 0 wh
 -- one thread changed so, and the machine is not stopped by that
 pub record HasChanged (p : PlainProgram) (change : Thread → Thread) (thread : ℕ) (before after : Machine) : Type 0 where
   pub configured : configuration p after ≡ with_thread change (configuration p before) thread
+  pub stop : is_stopped after ≡ is_stopped before
+  pub places : AllArePlaced p after
+
+-- there is one more thread, of this frame
+pub record HasThread (p : PlainProgram) (first : Frame) (before after : Machine) : Type 0 where
+  pub configured : configuration p after ≡ record { heap = (configuration p before).heap; threads = (configuration p before).threads ++ (first ∷ []) ∷ [] }
   pub stop : is_stopped after ≡ is_stopped before
   pub places : AllArePlaced p after
 

@@ -5,9 +5,9 @@ ghost use Rattle.cap_prog.specs.Views.{program_view};
 ghost use Rattle.cap_prog.specs.WellFormed.{IsWellFormed};
 ghost use Rattle.cap_run.specs.Machine as plain;
 ghost use Rattle.cap_run.specs.Cells.{AscendsFrom};
-ghost use Rattle.cap_run.specs.View.{configuration, is_stopped, Fits};
-ghost use Rattle.cap_run.specs.Ready.{HasTop, CanChange, HasChanged, IsKept};
-ghost use Rattle.cap_run.specs.Changes.{passed, entered, with_top};
+ghost use Rattle.cap_run.specs.View.{configuration, is_stopped, frame_view, IsPlaced, AllArePlaced, Fits};
+ghost use Rattle.cap_run.specs.Ready.{HasTop, CanChange, HasChanged, HasThread, IsKept};
+ghost use Rattle.cap_run.specs.Changes.{passed, entered, with_top, returned, return_event};
 
 use crate::event::Event;
 use crate::frame::Frame;
@@ -101,5 +101,51 @@ impl Machine {
         ensures kept { OnErr result (IsKept (program_view program.now) self.old self.new) }
     {
         thread::enter(program, &mut self.threads[thread as usize], side)
+    }
+
+    // It passes its next statement, and a new frame is on top of it.
+    pub(crate) fn push(
+        &mut self,
+        program: &Program,
+        thread: u32,
+        callee: Frame,
+    ) -> Result<(), AllocError>
+        requires can { CanChange (program_view program.now) self.old thread }
+        requires callee { IsPlaced (program_view program.now) callee }
+        ensures pushed { let p = program_view program.now in OnOk result
+            (HasChanged p (λ fs. frame_view p callee ∷ with_top passed fs) thread self.old self.new) }
+        ensures kept { OnErr result (IsKept (program_view program.now) self.old self.new) }
+    {
+        thread::call(program, &mut self.threads[thread as usize], callee)
+    }
+
+    // It ends, and its caller gets the value.
+    pub(crate) fn pop(&mut self, _program: &Program, thread: u32, value: i128) -> Event
+        requires { CanChange (program_view _program.now) self.old thread }
+        ensures popped { HasChanged (program_view _program.now) (returned value) thread self.old self.new }
+        ensures event { (fs : plain.Thread) →
+            slice_get (configuration (program_view _program.now) self.old).threads thread ≡ Some fs →
+            result ≡ return_event value fs }
+    {
+        thread::give_back(&mut self.threads[thread as usize], value)
+    }
+
+    // A new thread begins with this frame.
+    pub(crate) fn add_thread(
+        &mut self,
+        alloc: Global,
+        _program: &Program,
+        first: Frame,
+    ) -> Result<(), AllocError>
+        requires places { AllArePlaced (program_view _program.now) self.old }
+        requires first { IsPlaced (program_view _program.now) first }
+        ensures added { let p = program_view _program.now in
+            OnOk result (HasThread p (frame_view p first) self.old self.new) }
+        ensures kept { OnErr result (IsKept (program_view _program.now) self.old self.new) }
+    {
+        let mut frames = Vec::new(alloc);
+        frames.push(first)?;
+        self.threads.push(frames)?;
+        Ok(())
     }
 }
