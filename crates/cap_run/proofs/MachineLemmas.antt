@@ -5,20 +5,21 @@ use Rattle.std.specs.Global.{Vec}
 use Rattle.std.specs.List.{AllByRecursion}
 use Rattle.std.proofs.lemmas.Option.{slice_get_read}
 use Rattle.std.proofs.Math.ListN.{set}
+use Rattle.std.proofs.lemmas.List.{length-map}
 use Rattle.cap_prog.specs.Program.{PlainProgram}
 use Rattle.cap_run.specs.declared.frame.Frame as code
 use Rattle.cap_run.specs.declared.machine.Machine.{Machine}
 use Rattle.cap_run.specs.Machine.{Frame, Thread, Configuration}
-use Rattle.cap_run.specs.View.{frame_view, thread_view, configuration, is_stopped, ArePlaced, AllArePlaced}
-use Rattle.cap_run.specs.Ready.{HasTop, update, with_thread, CanChange, HasChanged, IsKept}
-use Rattle.cap_run.proofs.Lists.{all_at, all_set}
+use Rattle.cap_run.specs.View.{frame_view, thread_view, configuration, is_stopped, IsPlaced, ArePlaced, AllArePlaced}
+use Rattle.cap_run.specs.Ready.{HasTop, update, with_thread, CanChange, HasChanged, HasThread, IsKept}
+use Rattle.cap_run.proofs.Lists.{all_at, all_set, all_append}
 use Rattle.cap_run.proofs.ThreadLemmas.{thread_top}
 
 -- the thread that `threads[n]` lends
 pub lent_thread : (threads : List (Vec code.Frame)) (n : ℕ) (t : Vec code.Frame) → n < length threads → t ≡ get_or threads n t → slice_get threads n ≡ Some t
 lent_thread threads n t there is = slice_get_read threads (length threads) n t refl there is
 
-below_length : {X : Type 0} (xs : List X) (n : ℕ) (P : X → Type 0) → IsSomeAnd (slice_get xs n) P → n < length xs
+pub below_length : {X : Type 0} (xs : List X) (n : ℕ) (P : X → Type 0) → IsSomeAnd (slice_get xs n) P → n < length xs
 below_length [] n P h = absurd h
 below_length (x ∷ xs) zero P h = omega arith
 below_length (x ∷ xs) (suc n) P h = let k = below_length xs n P h in omega arith
@@ -99,3 +100,34 @@ has_top p m n f fs e = go m.threads.items n e
         some [] j = absurd (cc)
         some (x ∷ xs) j = omega arith
     go (w ∷ ws) (suc k) i = go ws k i
+
+pub threads_same : (p : PlainProgram) (m : Machine) (threads : Vec (Vec code.Frame)) → threads.items ≡ m.threads.items → AllArePlaced p m → IsKept p m (record m { threads = threads })
+unfolding configuration is_stopped AllArePlaced
+threads_same p m threads e h =
+    record {
+      configured = ap (λ ts. record { heap = m.heap; threads = map (λ (w : Vec code.Frame). thread_view p w.items) ts }) e;
+      stop = refl;
+      places = subst (AllByRecursion (λ (w : Vec code.Frame). ArePlaced p w.items)) (sym e) h;
+    }
+
+map_push : (p : PlainProgram) (ts : List (Vec code.Frame)) (u : Vec code.Frame) → map (λ (w : Vec code.Frame). thread_view p w.items) (ts ++ u ∷ []) ≡ map (λ (w : Vec code.Frame). thread_view p w.items) ts ++ thread_view p u.items ∷ []
+map_push p [] u = refl
+map_push p (t ∷ ts) u = ap (λ xs. thread_view p t.items ∷ xs) (map_push p ts u)
+
+-- there is one more thread, of one frame
+pub thread_added : (p : PlainProgram) (m : Machine) (threads : Vec (Vec code.Frame)) (frames : Vec code.Frame) (f : code.Frame) → threads.items ≡ m.threads.items ++ frames ∷ [] → frames.items ≡ f ∷ [] → AllArePlaced p m → IsPlaced p f → HasThread p (frame_view p f) m (record m { threads = threads })
+unfolding configuration is_stopped AllArePlaced
+thread_added p m threads frames f e one h k =
+    let placed : ArePlaced p frames.items = subst (ArePlaced p) (sym one) (k, tt) in
+    record {
+      configured =
+        ap (λ ts. record { heap = m.heap; threads = map (λ (w : Vec code.Frame). thread_view p w.items) ts }) e
+        ∙ (ap (λ ts. record { heap = m.heap; threads = ts }) (map_push p m.threads.items frames)
+        ∙ ap (λ xs. record { heap = m.heap; threads = map (λ (w : Vec code.Frame). thread_view p w.items) m.threads.items ++ thread_view p xs ∷ [] }) one);
+      stop = refl;
+      places = subst (AllByRecursion (λ (w : Vec code.Frame). ArePlaced p w.items)) (sym e) (all_append (λ (w : Vec code.Frame). ArePlaced p w.items) m.threads.items (frames ∷ []) h (placed, tt));
+    }
+
+pub thread_count : (p : PlainProgram) (m : Machine) → length (configuration p m).threads ≡ length m.threads.items
+unfolding configuration
+thread_count p m = length-map m.threads.items _

@@ -23,7 +23,7 @@ pub record IsStart (p : PlainProgram) (args : List ℤ) (heap : Heap) (m : Machi
   pub placed : IsPlaced p frame
   pub runs : m.stopped ≡ false
 
-some_is : {X : Type 0} (o : Option X) (P : X → Type 0) → IsSomeAnd o P → (x : X) × (o ≡ Some x)
+pub some_is : {X : Type 0} (o : Option X) (P : X → Type 0) → IsSomeAnd o P → (x : X) × (o ≡ Some x)
 some_is None P h = absurd h
 some_is (Some x) P h = (x, refl)
 

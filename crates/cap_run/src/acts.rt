@@ -122,32 +122,6 @@ impl Machine {
         }
     }
 
-    // An allocation.
-    pub(crate) fn allocate(
-        &mut self,
-        program: &Program,
-        entry: &Entry,
-        variable: u32,
-        count: u32,
-    ) -> Result<Event, StepError>
-        requires { IsReadyTo (program_view program.now) self.old entry.now (plain.alloc variable count) }
-        ensures steps { Steps (program_view program.now) entry.now self.old self.new result }
-        ensures places { AllArePlaced (program_view program.now) self.new }
-    {
-        let Some(base) = entry.base else {
-            return Err(StepError::NotEnabled);
-        };
-        if base < 1 || !self.heap.is_free(base, count) {
-            return Err(StepError::NotEnabled);
-        }
-        if base.checked_add(i128::from(count - 1)).is_none() {
-            return Err(StepError::Wide);
-        }
-        self.heap.allocate(base, count)?;
-        self.assign(program, entry.thread, variable, base);
-        Ok(Event::Alloc(base))
-    }
-
     // A call.
     pub(crate) fn call(
         &mut self,

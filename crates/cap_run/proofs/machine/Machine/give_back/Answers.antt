@@ -6,10 +6,12 @@ use Rattle.std.proofs.lemmas.Int.{to_z-of_z}
 use Rattle.cap_prog.specs.Views.{program_view}
 use Rattle.cap_run.specs.View.{configuration}
 use Rattle.cap_run.proofs.MachineLemmas.{has_top}
+use Rattle.std.proofs.Common.{◌∷◌}
+use Rattle.cap_run.specs.Changes.{return_event}
 use Rattle.cap_run.specs.Machine.{with_rest, with_value}
 use Rattle.cap_run.proofs.ValueLemmas.{explained_front, explained_back, narrow_both}
-use Rattle.cap_run.proofs.ActLemmas.{value_below, left_below, right_below, all_below, err_steps, no_base, can_change, can_change_over, assigned_ok, passed_ok, entered_ok, kept_memory, fault_ok, fault_places, heap_is, with_frame}
-use Rattle.cap_run.proofs.StepLemmas.{cell_absent, cell_found, same_compared, other_compared, where_true, where_false, chosen, returns_is, returned_ok}
+use Rattle.cap_run.proofs.ActLemmas.{value_below, left_below, right_below, all_below, err_steps, no_base, can_change, can_change_over, assigned_ok, passed_ok, entered_ok, kept_memory, fault_ok, fault_places, heap_is, with_frame, spot}
+use Rattle.cap_run.proofs.StepLemmas.{cell_absent, cell_found, same_compared, other_compared, where_true, where_false, chosen, returns_as, returned_ok}
 use Rattle.cap_run.proofs.machine.Machine.give_back.Goals as goal
 
 pub store-requires : goal.store-requires
@@ -34,5 +36,5 @@ returns-clause-steps c =
     let f : SFits w128 c.in_ok-value.value = search rules in
     let i = rw (c.store.ensures _ _ _ r.there) at c.in_ok-value.ensures in
     let h = rw (to_z-of_z w128 _ f) at c.pop.ensures.popped in
-    let v = rw (to_z-of_z w128 _ f) at (c.pop.ensures.event _ r.there) in
-    returned_ok (program_view c.args.program.now) c.args.self.now c.pop.new.self c.args.entry.now _ r _ c.in_ok-value.value i.0 (rw i.1 (returns_is _ _ _)) h v
+    let v = c.pop.ensures.event _ r.there ∙ ap (λ z. return_event z (r.frame ∷ r.below)) (to_z-of_z w128 _ f) in
+    returned_ok (program_view c.args.program.now) c.args.self.now c.pop.new.self c.args.entry.now _ r _ c.in_ok-value.value i.0 (returns_as (spot (program_view c.args.program.now) c.args.self.now c.args.entry.now _ r) c.in_ok-value.value _ i.1) h v

@@ -6,6 +6,7 @@ use Rattle.std.proofs.lemmas.Int.{to_z-of_z}
 use Rattle.cap_prog.specs.Views.{program_view}
 use Rattle.cap_run.specs.View.{configuration}
 use Rattle.cap_run.proofs.MachineLemmas.{has_top}
+use Rattle.std.proofs.Common.{true}
 use Rattle.cap_run.specs.Machine.{with_rest, with_value}
 use Rattle.cap_run.proofs.ValueLemmas.{explained_front, explained_back, narrow_both}
 use Rattle.cap_run.proofs.ActLemmas.{value_below, left_below, right_below, all_below, err_steps, no_base, can_change, can_change_over, assigned_ok, passed_ok, entered_ok, kept_memory, fault_ok, fault_places, heap_is, with_frame}
@@ -35,7 +36,13 @@ pub enter-requires : goal.enter-requires
 enter-requires c = can_change _ _ _ _ c.requires.2.1
 
 pub returns-in_ok-enter-clause-steps : goal.returns-in_ok-enter-clause-steps
-returns-in_ok-enter-clause-steps c = let r = c.requires.2.1 in let i = c.in_ok-holds.ensures in let j = c.if-branch.true in ?
+returns-in_ok-enter-clause-steps c = 
+    let r = c.requires.2.1 in
+    let i = rw (c.store.ensures _ _ _ r.there) at c.in_ok-holds.ensures in
+    entered_ok (program_view c.args.program.now) c.args.self.now c.enter.new.self c.args.entry.now _ r _ true i.0 (where_true _ _ _ (sym i.1 ∙ c.if-branch.true)) c.in_ok-enter.ensures.entered
 
 pub returns-else-branch-clause-steps : goal.returns-else-branch-clause-steps
-returns-else-branch-clause-steps c = ?
+returns-else-branch-clause-steps c = 
+    let r = c.requires.2.1 in
+    let i = rw (c.store.ensures _ _ _ r.there) at c.in_ok-holds.ensures in
+    passed_ok (program_view c.args.program.now) c.args.self.now c.pass.new.self c.args.self.now.heap c.args.entry.now _ r _ (configuration (program_view c.args.program.now) c.args.self.now).heap i.0 (where_false _ _ _ (sym i.1 ∙ c.if-branch.false)) (heap_is (program_view c.args.program.now) c.args.self.now) c.pass.ensures

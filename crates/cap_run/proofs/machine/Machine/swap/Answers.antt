@@ -6,10 +6,12 @@ use Rattle.std.proofs.lemmas.Int.{to_z-of_z}
 use Rattle.cap_prog.specs.Views.{program_view}
 use Rattle.cap_run.specs.View.{configuration}
 use Rattle.cap_run.proofs.MachineLemmas.{has_top}
-use Rattle.cap_run.specs.Machine.{with_rest, with_value}
+use Rattle.std.specs.FinMap.{insert}
+use mir.Val.{of_z}
+use Rattle.cap_run.specs.Machine.{with_rest, with_value, value_in}
 use Rattle.cap_run.proofs.ValueLemmas.{explained_front, explained_back, narrow_both}
 use Rattle.cap_run.proofs.ActLemmas.{value_below, left_below, right_below, all_below, err_steps, no_base, can_change, can_change_over, assigned_ok, passed_ok, entered_ok, kept_memory, fault_ok, fault_places, heap_is, with_frame}
-use Rattle.cap_run.proofs.StepLemmas.{cell_absent, cell_found, same_compared, other_compared, where_true, where_false, chosen, returns_is, returned_ok}
+use Rattle.cap_run.proofs.StepLemmas.{cell_absent, cell_found, same_compared, other_compared, where_true, where_false, chosen, returns_is, returned_ok, same_number}
 use Rattle.cap_run.proofs.machine.Machine.swap.Goals as goal
 
 pub store-store-requires : goal.store-store-requires
@@ -77,9 +79,11 @@ returns-then-found-expected-clause-steps c =
     let k = rw (c.store-store.ensures _ _ _ r.there) at c.in_ok-value.ensures in
     let n = rw (to_z-of_z w128 _ f) at c.in-Some.ensures in
     let h = rw (to_z-of_z w128 _ f, to_z-of_z w128 _ g) at c.write.ensures in
-    let t = same_compared c.in-Some.found c.in_ok-expected.expected c.if-found-expected.true in
+    let g1 : SFits w128 c.in-Some.found = search rules in
+    let g2 : SFits w128 c.in_ok-expected.expected = search rules in
+    let t = same_compared c.in-Some.found c.in_ok-expected.expected (same_number _ _ g1 g2 c.if-found-expected.true) in
     rw (to_z-of_z w128 _ f)
-    (assigned_ok (program_view c.args.program.now) c.args.self.now c.assign.new.self c.write.new.self c.args.entry.now _ r _ c.args.variable _ _ (narrow_both _ _ i.0 (narrow_both _ _ j.0 k.0)) (rw (i.1, k.1) (cell_found _ c.in_ok-cell.cell c.in-Some.found c.args.self.now.heap _ _ i.1 n (heap_is (program_view c.args.program.now) c.args.self.now) ∙ where_true _ _ _ (rw j.1 at t))) (rw (heap_is (program_view c.args.program.now) c.args.self.now, ← i.1, ← k.1) (sym h)) c.assign.ensures)
+    (assigned_ok (program_view c.args.program.now) c.args.self.now c.assign.new.self c.write.new.self c.args.entry.now _ r _ c.args.variable _ (insert (configuration (program_view c.args.program.now) c.args.self.now).heap (value_in r.frame.store c.args.address.now) (value_in r.frame.store c.args.new.now)) (narrow_both _ _ i.0 (narrow_both _ _ j.0 k.0)) (rw i.1 (cell_found _ c.in_ok-cell.cell c.in-Some.found c.args.self.now.heap _ _ i.1 n (heap_is (program_view c.args.program.now) c.args.self.now) ∙ where_true _ _ _ (rw j.1 at t))) (rw (heap_is (program_view c.args.program.now) c.args.self.now, ← i.1, ← k.1) (sym h)) c.assign.ensures)
 
 pub returns-else-found-expected-clause-steps : goal.returns-else-found-expected-clause-steps
 returns-else-found-expected-clause-steps c = 
@@ -89,6 +93,6 @@ returns-else-found-expected-clause-steps c =
     let j = rw (c.store-store.ensures _ _ _ r.there) at c.in_ok-expected.ensures in
     let k = rw (c.store-store.ensures _ _ _ r.there) at c.in_ok-value.ensures in
     let n = rw (to_z-of_z w128 _ f) at c.in-Some.ensures in
-    let t = other_compared c.in-Some.found c.in_ok-expected.expected c.if-found-expected.false in
+    let t = other_compared c.in-Some.found c.in_ok-expected.expected (λ e. c.if-found-expected.false (ap (of_z w128) e)) in
     rw (to_z-of_z w128 _ f)
     (assigned_ok (program_view c.args.program.now) c.args.self.now c.assign-else-found-expected.new.self c.args.self.now.heap c.args.entry.now _ r _ c.args.variable _ (configuration (program_view c.args.program.now) c.args.self.now).heap (narrow_both _ _ i.0 (narrow_both _ _ j.0 k.0)) (rw i.1 (cell_found _ c.in_ok-cell.cell c.in-Some.found c.args.self.now.heap _ _ i.1 n (heap_is (program_view c.args.program.now) c.args.self.now) ∙ where_false _ _ _ (rw j.1 at t))) (heap_is (program_view c.args.program.now) c.args.self.now) c.assign-else-found-expected.ensures)

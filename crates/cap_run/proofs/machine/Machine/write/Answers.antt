@@ -6,7 +6,8 @@ use Rattle.std.proofs.lemmas.Int.{to_z-of_z}
 use Rattle.cap_prog.specs.Views.{program_view}
 use Rattle.cap_run.specs.View.{configuration}
 use Rattle.cap_run.proofs.MachineLemmas.{has_top}
-use Rattle.cap_run.specs.Machine.{with_rest, with_value}
+use Rattle.std.specs.FinMap.{insert}
+use Rattle.cap_run.specs.Machine.{with_rest, with_value, value_in}
 use Rattle.cap_run.proofs.ValueLemmas.{explained_front, explained_back, narrow_both}
 use Rattle.cap_run.proofs.ActLemmas.{value_below, left_below, right_below, all_below, err_steps, no_base, can_change, can_change_over, assigned_ok, passed_ok, entered_ok, kept_memory, fault_ok, fault_places, heap_is, with_frame}
 use Rattle.cap_run.proofs.StepLemmas.{cell_absent, cell_found, same_compared, other_compared, where_true, where_false, chosen, returns_is, returned_ok}
@@ -61,4 +62,4 @@ returns-in-Some-clause-steps c =
     let n = rw (to_z-of_z w128 _ f) at c.in-Some.ensures in
     let h = rw (to_z-of_z w128 _ f, to_z-of_z w128 _ g) at c.write.ensures in
     rw (to_z-of_z w128 _ f, to_z-of_z w128 _ g)
-    (passed_ok (program_view c.args.program.now) c.args.self.now c.pass.new.self c.write.new.self c.args.entry.now _ r _ _ (narrow_both _ _ i.0 j.0) (rw (i.1, j.1) (cell_found _ c.in_ok-cell.cell _ c.args.self.now.heap _ _ i.1 n (heap_is (program_view c.args.program.now) c.args.self.now))) (rw (heap_is (program_view c.args.program.now) c.args.self.now, ← i.1, ← j.1) (sym h)) c.pass.ensures)
+    (passed_ok (program_view c.args.program.now) c.args.self.now c.pass.new.self c.write.new.self c.args.entry.now _ r _ (insert (configuration (program_view c.args.program.now) c.args.self.now).heap (value_in r.frame.store c.args.address.now) (value_in r.frame.store c.args.term.now)) (narrow_both _ _ i.0 j.0) (rw (i.1, j.1) (cell_found _ c.in_ok-cell.cell _ c.args.self.now.heap _ _ i.1 n (heap_is (program_view c.args.program.now) c.args.self.now))) (rw (heap_is (program_view c.args.program.now) c.args.self.now, ← i.1, ← j.1) (sym h)) c.pass.ensures)
