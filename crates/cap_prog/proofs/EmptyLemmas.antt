@@ -1,5 +1,5 @@
 -- Assertions without items.
-use Rattle.std.proofs.Common.{◌≡◌, refl, sym, subst, ◌+◌, ◌≤◌, List, [], length, arith}
+use Rattle.std.proofs.Common.{◌≡◌, refl, sym, subst, ◌+◌, ◌≤◌, [], length, arith}
 use Rattle.cap_prog.specs.Program.{none, PlainAssertion, first, done, PlainStatement, PlainFunction, PlainProgram}
 use Rattle.cap_prog.specs.Empty.{closing}
 use Rattle.cap_syntax.specs.declared.place.Place.{Place}

@@ -1,4 +1,4 @@
-use Rattle.std.proofs.Common.{rules, ◌≡◌, refl, sym, ap, arith}
+use Rattle.std.proofs.Common.{rules, ◌≡◌, sym, ap, arith}
 use Rattle.cap_galg.specs.Algebras.{unique, atoms}
 use Rattle.cap_galg.specs.Views.{algebra_view}
 use Rattle.cap_galg.specs.declared.algebra.Algebra.TheVariants as Algebra
