@@ -103,7 +103,7 @@ allocation-iff : (s : Spot) (b : Block) (x n : ℕ) (base : Option ℤ) → Step
 allocation-iff s b x n None = (λ h. absurd (cc), λ h. absurd h)
 allocation-iff s b x n (Some base) = allocates-iff s b x n base
 
-statement-iff : (p : PlainProgram) (s : Spot) (base : Option ℤ) (l : Label) (a : PlainAct) (b : Block) → Runs p s.frame l a → Steps (statement_step p s base (first l a b)) ↔ BaseFits s.configuration.heap a base
+pub statement-iff : (p : PlainProgram) (s : Spot) (base : Option ℤ) (l : Label) (a : PlainAct) (b : Block) → Runs p s.frame l a → Steps (statement_step p s base (first l a b)) ↔ BaseFits s.configuration.heap a base
 statement-iff p s base l (set x t) b r = no_base-iff _ base refl
 statement-iff p s base l (read x t) b r = no_base-iff _ base (at_cell-steps (value_in s.frame.store t) (get s.configuration.heap (value_in s.frame.store t)) _ (λ v. refl))
 statement-iff p s base l (write t u) b r = no_base-iff _ base (at_cell-steps (value_in s.frame.store t) (get s.configuration.heap (value_in s.frame.store t)) _ (λ v. refl))

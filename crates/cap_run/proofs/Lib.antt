@@ -5,3 +5,9 @@ pub mod Enabled
 pub mod HeapLemmas
 pub mod PlaceLemmas
 pub mod FrameLemmas
+pub mod ValueLemmas
+pub mod ThreadLemmas
+pub mod MachineLemmas
+pub mod StartLemmas
+pub mod ActLemmas
+pub mod StepLemmas

@@ -6,3 +6,5 @@ pub mod Cells
 pub mod Places
 pub mod View
 pub mod Changes
+pub mod Errors
+pub mod Ready

@@ -1,4 +1,10 @@
+ghost use Rattle.std.specs.Prelude.{◌≡◌};
+ghost use Rattle.cap_run.specs.declared.event.StepError.TheVariants.{OutOfMemory};
+ghost use Rattle.cap_run.specs.Errors.{step_error};
+
+use cap_lin::LinError;
 use cap_syntax::Place;
+use std::alloc::{AllocError, AllocFailed};
 use thiserror::Error;
 
 /// The choice of a step: a thread, counted from 0, and the base address of what it allocates, which
@@ -7,6 +13,16 @@ use thiserror::Error;
 pub struct Entry {
     pub thread: u32,
     pub base: Option<i128>,
+}
+
+/// The next statement of a thread: the number of its function, its number within the function, its
+/// place, and the number of its cells where it is an allocation.
+#[derive(Clone, Copy, Debug, PartialEq, Eq)]
+pub struct Ahead {
+    pub function: u32,
+    pub number: u32,
+    pub place: Place,
+    pub cells: Option<u32>,
 }
 
 /// What a step did. Addresses come before values.
@@ -38,4 +54,31 @@ pub enum StepError {
     Wide,
     #[error("out of memory")]
     OutOfMemory,
+}
+
+impl From<LinError> for StepError {
+    ghost from_gives = { λ e s. s ≡ step_error e };
+
+    fn from(e: LinError) -> StepError {
+        match e {
+            LinError::Wide(_, _) => StepError::Wide,
+            LinError::OutOfMemory => StepError::OutOfMemory,
+        }
+    }
+}
+
+impl From<AllocError> for StepError {
+    ghost from_gives = { λ _ s. s ≡ OutOfMemory };
+
+    fn from(_e: AllocError) -> StepError {
+        StepError::OutOfMemory
+    }
+}
+
+impl<T: Drop> From<AllocFailed<T>> for StepError {
+    ghost from_gives = { λ _ s. s ≡ OutOfMemory };
+
+    fn from(_e: AllocFailed<T>) -> StepError {
+        StepError::OutOfMemory
+    }
 }

@@ -67,7 +67,7 @@ impl Frame {
     }
 
     // Passes the next statement.
-    fn pass(&mut self, program: &Program)
+    pub(crate) fn pass(&mut self, program: &Program)
         requires { IsPlaced (program_view program.now) self.old }
         ensures passed { let p = program_view program.now in
             frame_view p self.new ≡ passed (frame_view p self.old) }
@@ -79,7 +79,7 @@ impl Frame {
     }
 
     // Enters a block of the next statement.
-    fn enter(&mut self, program: &Program, side: bool) -> Result<(), AllocError>
+    pub(crate) fn enter(&mut self, program: &Program, side: bool) -> Result<(), AllocError>
         requires { IsPlaced (program_view program.now) self.old }
         ensures entered { let p = program_view program.now in
             OnOk result (frame_view p self.new ≡ entered side (frame_view p self.old)) }
@@ -97,7 +97,7 @@ impl Frame {
     }
 
     // Writes a local.
-    fn set(&mut self, variable: u32, value: i128)
+    pub(crate) fn set(&mut self, variable: u32, value: i128)
         ensures set { (p : PlainProgram) →
             frame_view p self.new ≡ with_value (frame_view p self.old) variable value }
         ensures placed { (p : PlainProgram) → IsPlaced p self.old → IsPlaced p self.new }
