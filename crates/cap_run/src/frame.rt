@@ -59,7 +59,11 @@ impl Frame {
         ensures { let f = frame_view (program_view program.now) self.now in
             f.rest ≡ here (option_map statement_view (option_copied result)) (tail_of f.rest) }
     {
-        ahead(&program.function(self.function).body, &self.levels, self.next)
+        ahead(
+            &program.function(self.function).body,
+            &self.levels,
+            self.next,
+        )
     }
 
     // Passes the next statement.

@@ -46,13 +46,7 @@ fn side_of(act: &Act, side: bool) -> &[Statement]
     ensures { block_view result.now ≡ the_side_of side (act_view act.now) }
 {
     match act {
-        Act::If(_, first, second) => {
-            if side {
-                first
-            } else {
-                second
-            }
-        }
+        Act::If(_, first, second) => { if side { first } else { second } }
         Act::While(_, _, block) => block,
         Act::Set(_, _)
         | Act::Read(_, _)
