@@ -1,29 +1,28 @@
 -- What the code's parts of a step promise, by the statement that is ready.
-use Rattle.std.proofs.Common.{◌≡◌, ◌∙◌, ap, sym, refl, subst, ℕ, zero, suc, ◌+◌, ◌-◌, ◌<◌, ◌≤◌, Bool, true, false, not, ◌&&◌, cond, List, [], ◌∷◌, ◌++◌, length, map, replicate, arith}
-use Rattle.std.specs.Prelude.{ℤ, pos, slice_get, slice_set, Option, Some, None, is_none, is_some, IsSomeAnd, Result, Ok, Err}
+use Rattle.std.proofs.Common.{◌≡◌, ◌∙◌, ap, sym, refl, subst, ℕ, zero, suc, ◌<◌, Bool, true, not, ◌&&◌, cond, List, [], ◌∷◌, length, replicate, arith}
+use Rattle.std.specs.Prelude.{ℤ, slice_get, slice_set, Option, Some, None, is_none, Ok, Err}
 use Rattle.std.specs.List.{AllByRecursion}
 use Rattle.std.proofs.lemmas.List.Elements.{All-from_recursion}
 use Rattle.cap_lin.specs.Linear.{Linear, IsBelow}
-use Rattle.cap_lin.specs.Steps.{Step}
 use Rattle.cap_lin.specs.declared.row.Sort.{Sort}
 use Rattle.cap_lin.specs.declared.row.Sort.TheVariants.{Int}
 use Rattle.cap_prog.specs.declared.assertion.Comp.{Comp}
-use Rattle.cap_prog.specs.Program.{Label, PlainAct, set, read, write, cas, alloc, call, fork, branch, loop, check, give_back, Block, done, first, append, PlainStatement, PlainFunction, PlainProgram}
+use Rattle.cap_prog.specs.Program.{append, PlainStatement, PlainFunction, PlainProgram}
 use Rattle.cap_prog.specs.Scopes.{body_scope, fixed_start, TermFits, CompFits}
-use Rattle.cap_prog.specs.WellFormed.{IsValue, ActFits}
+use Rattle.cap_prog.specs.WellFormed.{IsValue}
 use Rattle.cap_run.specs.declared.event.Entry.{Entry}
 use Rattle.cap_run.specs.declared.event.Event.{Event}
 use Rattle.cap_run.specs.declared.event.StepError.{StepError}
 use Rattle.cap_run.specs.declared.event.StepError.TheVariants.{NotEnabled, Wide, OutOfMemory}
 use Rattle.cap_run.specs.declared.machine.Machine.{Machine}
-use Rattle.cap_run.specs.Machine.{Heap, Frame, Thread, Configuration, Outcome, next, fault, disabled, Spot, with_rest, with_value, does, takes_base, statement_step, thread_step, step, top_frame}
+use Rattle.cap_run.specs.Machine.{Heap, Frame, Thread, Configuration, Outcome, next, fault, disabled, Spot, with_rest, with_value, does, statement_step, thread_step, step, top_frame}
 use Rattle.cap_run.specs.Results.{act_steps, block_steps, frame_steps, entry_steps, are_narrow}
 use Rattle.cap_run.specs.Laws.{is_step, BaseFits}
 use Rattle.cap_run.specs.Places.{inside, side_of, behind, behind_act}
 use Rattle.cap_run.specs.Changes.{tail_of, passed, entered, with_top}
 use Rattle.cap_run.specs.Errors.{Explains}
 use Rattle.cap_run.specs.View.{configuration, is_stopped, AllArePlaced, IsSame, Leaves, Steps, is_enabled}
-use Rattle.cap_run.specs.Ready.{IsReady, HasTop, update, with_thread, CanChange, HasChanged, IsKept}
+use Rattle.cap_run.specs.Ready.{IsReady, HasTop, update, CanChange, HasChanged, IsKept}
 use Rattle.cap_run.proofs.Lists.{all_map}
 use Rattle.cap_run.proofs.Keeping.{Runs}
 use Rattle.cap_run.proofs.Enabled.{statement-iff, none_is}

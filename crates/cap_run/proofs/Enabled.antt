@@ -1,16 +1,16 @@
 -- An entry makes a step or a fault exactly where it is enabled.
-use Rattle.std.proofs.Common.{◌≡◌, ◌∙◌, sym, refl, ap, subst, ℕ, zero, suc, ◌<◌, ◌≤◌, ◌⊎◌, inl, inr, Bool, true, false, cond, ◌&&◌, List, [], ◌∷◌, map, length, arith}
+use Rattle.std.proofs.Common.{◌≡◌, ◌∙◌, refl, ap, ℕ, zero, suc, ◌<◌, ◌⊎◌, inl, inr, Bool, true, false, cond, ◌&&◌, List, [], ◌∷◌, map, length, arith}
 use Rattle.std.specs.Prelude.{◌↔◌, ℤ, pos, ◌+ℤ◌, ◌≤ℤ◌, int_le, Option, Some, None, slice_get, IsSomeAnd, IfSome, IsSome, IsTrue, is_none, is_some, option_and_then}
-use Rattle.std.specs.FinMap.{get, insert}
+use Rattle.std.specs.FinMap.{get}
 use Rattle.std.proofs.lemmas.Int.{ints}
 use Rattle.cap_lin.specs.declared.row.Op.TheVariants.{Eq as Equal}
-use Rattle.cap_prog.specs.Program.{Label, PlainAct, set, read, write, cas, alloc, call, fork, branch, loop, check, give_back, Block, done, first, append, PlainStatement, PlainFunction, PlainProgram}
+use Rattle.cap_prog.specs.Program.{Label, PlainAct, set, read, write, cas, alloc, call, fork, branch, loop, check, give_back, Block, done, first, PlainFunction, PlainProgram}
 use Rattle.cap_prog.specs.WellFormed.{IsWellFormed}
 use Rattle.cap_run.specs.declared.event.Entry.{Entry}
-use Rattle.cap_run.specs.Machine.{Heap, Frame, Thread, Configuration, Outcome, next, fault, disabled, Spot, with_rest, at_cell, swaps, may_be_at, are_free, allocates, calls, forks, returns, does, takes_base, statement_step, thread_step, step, value_in, holds, compared, top_frame}
+use Rattle.cap_run.specs.Machine.{Heap, Frame, Thread, Configuration, Outcome, disabled, Spot, with_rest, at_cell, swaps, may_be_at, are_free, allocates, calls, forks, returns, statement_step, thread_step, step, value_in, holds, compared, top_frame}
 use Rattle.cap_run.specs.Fits.{FrameFits, ThreadFits, ConfigurationFits}
-use Rattle.cap_run.specs.Laws.{is_step, AreFree, BaseFits, IsEnabled, first_statement, running, next_statement}
-use Rattle.cap_run.proofs.Lists.{all_at, some_map}
+use Rattle.cap_run.specs.Laws.{is_step, AreFree, BaseFits, IsEnabled, first_statement}
+use Rattle.cap_run.proofs.Lists.{all_at}
 use Rattle.cap_run.proofs.Keeping.{Runs, runs}
 
 abbrev Steps : Outcome → Type 0

@@ -1,15 +1,14 @@
 -- A step is a fault exactly where its statement accesses an absent address or asserts what does not hold.
-use Rattle.std.proofs.Common.{◌≡◌, ◌∙◌, sym, refl, ap, subst, ℕ, Bool, true, false, cond, List, [], ◌∷◌, map}
-use Rattle.std.specs.Prelude.{◌↔◌, ℤ, pos, Option, Some, None, slice_get, IsSomeAnd, is_none, is_some}
-use Rattle.std.specs.FinMap.{get, insert}
+use Rattle.std.proofs.Common.{◌≡◌, ◌∙◌, refl, ap, subst, ℕ, Bool, true, false, cond, List, [], ◌∷◌}
+use Rattle.std.specs.Prelude.{◌↔◌, ℤ, Option, Some, None, slice_get, IsSomeAnd, is_none}
+use Rattle.std.specs.FinMap.{get}
 use Rattle.cap_lin.specs.declared.row.Op.TheVariants.{Eq as Equal}
-use Rattle.cap_syntax.specs.declared.place.Place.{Place}
-use Rattle.cap_prog.specs.Program.{Label, PlainAct, set, read, write, cas, alloc, call, fork, branch, loop, check, give_back, Block, done, first, append, PlainStatement, PlainFunction, PlainProgram}
+use Rattle.cap_prog.specs.Program.{Label, PlainAct, set, read, write, cas, alloc, call, fork, branch, loop, check, give_back, Block, done, first, PlainStatement, PlainFunction, PlainProgram}
 use Rattle.cap_run.specs.declared.event.Entry.{Entry}
 use Rattle.cap_run.specs.declared.event.Event.{Event}
 use Rattle.cap_run.specs.declared.event.Event.TheVariants.{Set, Read, Write, Cas, Alloc, Call, Fork, Branch, Assert, Return, End, Bad, Failed}
-use Rattle.cap_run.specs.Machine.{Heap, Frame, Thread, Configuration, Outcome, next, fault, disabled, Spot, passes, sets, at_cell, swaps, may_be_at, allocates, calls, forks, returns, does, takes_base, statement_step, thread_step, step, top_frame, value_in, holds, compared}
-use Rattle.cap_run.specs.Laws.{accessed, IsFailing, FaultsAs, FrameFaults, IsFault, first_statement, running}
+use Rattle.cap_run.specs.Machine.{Heap, Frame, Thread, Configuration, Outcome, next, fault, disabled, Spot, at_cell, swaps, may_be_at, allocates, calls, forks, returns, does, takes_base, statement_step, thread_step, step, top_frame, value_in, holds, compared}
+use Rattle.cap_run.specs.Laws.{accessed, IsFailing, FaultsAs, FrameFaults, IsFault, first_statement}
 
 -- no outcome that is a fault
 abbrev Never : Outcome → Type 0

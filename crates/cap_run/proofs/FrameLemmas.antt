@@ -3,7 +3,7 @@ use Rattle.std.proofs.Common.{◌≡◌, ℕ, zero, suc, Bool, true, false, cond
 use Rattle.std.specs.Prelude.{Option, Some, None}
 use Rattle.cap_prog.specs.Program.{Label, PlainAct, set, read, write, cas, alloc, call, fork, branch, loop, check, give_back, Block, done, first, append, PlainStatement}
 use Rattle.cap_run.specs.declared.position.Level.{Level}
-use Rattle.cap_run.specs.Places.{skip, inside, side_of, is_loop, behind, behind_act, after, past, block_at, rest_at, here, IsFirst, IsSettled}
+use Rattle.cap_run.specs.Places.{skip, inside, side_of, is_loop, behind, behind_act, after, past, block_at, rest_at, here, IsSettled}
 use Rattle.cap_run.specs.Changes.{tail_of}
 use Rattle.cap_run.proofs.PlaceLemmas.{at_head, nothing_left, enters}
 

@@ -1,12 +1,12 @@
 -- Maps of the code and finite maps.
-use Rattle.std.proofs.Common.{◌≡◌, ◌∙◌, ap, refl, sym, subst, ℕ, zero, suc, ◌+◌, ◌-◌, ◌^◌, ◌<◌, ◌≤◌, Bool, true, false, cond, not, ◌&&◌, List, [], ◌∷◌, ◌++◌, length, get_or, take, arith, rules}
+use Rattle.std.proofs.Common.{◌≡◌, ◌∙◌, ap, refl, sym, subst, ℕ, zero, suc, ◌+◌, ◌-◌, ◌^◌, ◌<◌, ◌≤◌, Bool, true, false, cond, not, ◌&&◌, List, [], ◌∷◌, length, get_or, take, arith, rules}
 use Rattle.std.proofs.lemmas.List.{take_more}
 use Rattle.std.specs.Prelude.{ℤ, pos, negsuc, ◌+ℤ◌, ◌<ℤ◌, ◌≤ℤ◌, int_lt, Option, Some, None, IsSome, is_some, is_none, Result, Ok, Err, OnOk, OnErr}
-use Rattle.std.specs.Ordering.{int_cmp, is_eq, eq_by_cmp, is_lt, MatchOrdering}
+use Rattle.std.specs.Ordering.{int_cmp, is_eq, is_lt, MatchOrdering}
 use Rattle.std.specs.declared.cmp.Ordering.{Ordering}
 use Rattle.std.specs.declared.cmp.Ordering.TheVariants.{Less, Equal, Greater}
 use Rattle.std.specs.Cmp.{int_cmp_total, int_ranks}
-use Rattle.std.specs.FinMap.{FinMap, get, insert, remove, from_entries, empty, find, get-from_entries, get-insert, get-remove, gets, same_map, int_cmp-IsAntisymmetric, from_entries_push}
+use Rattle.std.specs.FinMap.{get, insert, remove, from_entries, find, get-from_entries, get-insert, get-remove, gets, same_map, int_cmp-IsAntisymmetric, from_entries_push}
 use Rattle.std.specs.BTreeMap as tree
 use Rattle.std.specs.BTreeMap.{BTreeMap, Updates, UpdatesBy}
 use Rattle.std.specs.Map.{lookup}

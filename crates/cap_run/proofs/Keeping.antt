@@ -1,22 +1,20 @@
 -- A step keeps the configuration fitting.
-use Rattle.std.proofs.Common.{◌≡◌, ◌∙◌, sym, refl, ap, subst, ℕ, ◌+◌, Bool, true, false, cond, List, [], ◌∷◌, ◌++◌, length, map, length-set, length-append, arith}
+use Rattle.std.proofs.Common.{◌≡◌, ◌∙◌, sym, refl, ap, subst, ℕ, ◌+◌, Bool, true, false, cond, List, [], ◌∷◌, length, map, length-set, length-append}
 use Rattle.std.proofs.lemmas.List.{length-map, length-replicate}
 use Rattle.std.specs.Prelude.{ℤ, pos, Option, Some, None, slice_get, slice_set, replicate, IsSomeAnd}
 use Rattle.std.specs.List.{AllByRecursion}
 use Rattle.std.specs.FinMap.{get, insert}
 use Rattle.cap_lin.specs.Linear.{Linear}
-use Rattle.cap_prog.specs.declared.assertion.Comp.{Comp}
-use Rattle.cap_prog.specs.Program.{Label, PlainAssertion, PlainAct, set, read, write, cas, alloc, call, fork, branch, loop, check, give_back, Block, done, first, append, PlainStatement, PlainFunction, PlainProgram}
+use Rattle.cap_prog.specs.Program.{Label, PlainAct, set, read, write, cas, alloc, call, fork, branch, loop, check, give_back, Block, done, first, append, PlainStatement, PlainFunction, PlainProgram}
 use Rattle.cap_prog.specs.Parts.{all_statements, block_statements}
-use Rattle.cap_prog.specs.Scopes.{fixed_start}
-use Rattle.cap_prog.specs.WellFormed.{IsLocal, GivesLocal, CallFits, ActFits, IsClosingReturn, EndsInReturn, BodyFits, FunctionFits, IsWellFormed}
+use Rattle.cap_prog.specs.WellFormed.{IsLocal, GivesLocal, ActFits, IsClosingReturn, EndsInReturn, FunctionFits, IsWellFormed}
 use Rattle.cap_run.specs.declared.event.Entry.{Entry}
 use Rattle.cap_run.specs.declared.event.Event.{Event}
 use Rattle.cap_run.specs.declared.event.Event.TheVariants.{Read, Write, Cas}
 use Rattle.cap_lin.specs.declared.row.Op.TheVariants.{Eq as Equal}
-use Rattle.cap_run.specs.Machine.{Heap, Frame, Thread, Configuration, Outcome, next, fault, disabled, Spot, goes_on, with_rest, with_value, passes, sets, at_cell, swaps, may_be_at, allocates, with_cells, new_frame, calls, forks, receives, returns, does, takes_base, statement_step, thread_step, step, main_frame, start, value_in, holds, compared}
+use Rattle.cap_run.specs.Machine.{Heap, Frame, Thread, Configuration, Outcome, next, fault, disabled, Spot, with_rest, with_value, passes, sets, at_cell, swaps, may_be_at, allocates, new_frame, calls, forks, receives, returns, does, takes_base, statement_step, thread_step, step, start, value_in, holds, compared}
 use Rattle.cap_run.specs.Fits.{IsStatementOf, FrameFits, CallerTakes, ThreadFits, ConfigurationFits}
-use Rattle.cap_run.proofs.Lists.{all_map, all_at, all_set, all_append, all_front, all_back, some_map, all_one, each_of_itself, all_joined}
+use Rattle.cap_run.proofs.Lists.{all_at, all_set, all_append, all_front, all_back, some_map, all_one, each_of_itself, all_joined}
 
 -- the configuration that follows, if there is one
 abbrev pub KeepsFit : PlainProgram → Outcome → Type 0

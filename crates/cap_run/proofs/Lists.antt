@@ -1,9 +1,9 @@
 -- Facts on lists and options, by recursion.
 use Rattle.std.proofs.Common.{◌≡◌, ◌∙◌, sym, refl, ap, subst, ℕ, zero, suc, List, [], ◌∷◌, ◌++◌, append_assoc}
-use Rattle.std.specs.Prelude.{Option, Some, None, slice_get, slice_set, IsSomeAnd, ◌⊎◌}
+use Rattle.std.specs.Prelude.{Option, Some, None, slice_get, slice_set, IsSomeAnd}
 use Rattle.std.proofs.Common.{inl, inr}
 use Rattle.std.specs.List.{AllByRecursion}
-use Rattle.cap_prog.specs.Program.{PlainStatement, PlainAct, Block, done, first, append}
+use Rattle.cap_prog.specs.Program.{PlainStatement, Block, done, first, append}
 use Rattle.cap_prog.specs.Parts.{all_statements, block_statements}
 use Rattle.cap_run.specs.Fits.{IsStatementOf}
 

@@ -1,6 +1,6 @@
 -- The machine of the code, and the configuration that it shows.
-use Rattle.std.proofs.Common.{◌≡◌, ◌∙◌, ap, sym, refl, subst, ℕ, zero, suc, ◌+◌, ◌-◌, ◌<◌, ◌≤◌, List, [], ◌∷◌, ◌++◌, length, get_or, map, arith}
-use Rattle.std.specs.Prelude.{slice_get, slice_set, Option, Some, None, IsSomeAnd}
+use Rattle.std.proofs.Common.{◌≡◌, ◌∙◌, ap, sym, refl, subst, ℕ, zero, suc, ◌+◌, ◌<◌, List, [], ◌∷◌, ◌++◌, length, get_or, map, arith}
+use Rattle.std.specs.Prelude.{slice_get, slice_set, Option, Some, IsSomeAnd}
 use Rattle.std.specs.Global.{Vec}
 use Rattle.std.specs.List.{AllByRecursion}
 use Rattle.std.proofs.lemmas.Option.{slice_get_read}
@@ -9,9 +9,9 @@ use Rattle.std.proofs.lemmas.List.{length-map}
 use Rattle.cap_prog.specs.Program.{PlainProgram}
 use Rattle.cap_run.specs.declared.frame.Frame as code
 use Rattle.cap_run.specs.declared.machine.Machine.{Machine}
-use Rattle.cap_run.specs.Machine.{Frame, Thread, Configuration}
+use Rattle.cap_run.specs.Machine.{Frame, Thread}
 use Rattle.cap_run.specs.View.{frame_view, thread_view, configuration, is_stopped, IsPlaced, ArePlaced, AllArePlaced}
-use Rattle.cap_run.specs.Ready.{HasTop, update, with_thread, CanChange, HasChanged, HasThread, IsKept}
+use Rattle.cap_run.specs.Ready.{HasTop, update, CanChange, HasChanged, HasThread, IsKept}
 use Rattle.cap_run.proofs.Lists.{all_at, all_set, all_append}
 use Rattle.cap_run.proofs.ThreadLemmas.{thread_top}
 
@@ -121,9 +121,9 @@ thread_added p m threads frames f e one h k =
     let placed : ArePlaced p frames.items = subst (ArePlaced p) (sym one) (k, tt) in
     record {
       configured =
-        ap (λ ts. record { heap = m.heap; threads = map (λ (w : Vec code.Frame). thread_view p w.items) ts }) e
-        ∙ (ap (λ ts. record { heap = m.heap; threads = ts }) (map_push p m.threads.items frames)
-        ∙ ap (λ xs. record { heap = m.heap; threads = map (λ (w : Vec code.Frame). thread_view p w.items) m.threads.items ++ thread_view p xs ∷ [] }) one);
+          ap (λ ts. record { heap = m.heap; threads = map (λ (w : Vec code.Frame). thread_view p w.items) ts }) e
+          ∙ (ap (λ ts. record { heap = m.heap; threads = ts }) (map_push p m.threads.items frames)
+          ∙ ap (λ xs. record { heap = m.heap; threads = map (λ (w : Vec code.Frame). thread_view p w.items) m.threads.items ++ thread_view p xs ∷ [] }) one);
       stop = refl;
       places = subst (AllByRecursion (λ (w : Vec code.Frame). ArePlaced p w.items)) (sym e) (all_append (λ (w : Vec code.Frame). ArePlaced p w.items) m.threads.items (frames ∷ []) h (placed, tt));
     }

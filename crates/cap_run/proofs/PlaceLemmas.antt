@@ -1,11 +1,11 @@
 -- Places in bodies.
 use Rattle.std.proofs.Common.{◌≡◌, ℕ, zero, suc, Bool, true, false, cond, List, [], ◌∷◌, ◌++◌, map, refl, sym, ap, ◌∙◌}
-use Rattle.std.specs.Prelude.{slice_get, option_map, Option, Some, None}
+use Rattle.std.specs.Prelude.{slice_get, option_map}
 use Rattle.cap_prog.specs.declared.function.Statement.{Statement}
 use Rattle.cap_prog.specs.Program.{Label, PlainAct, set, read, write, cas, alloc, call, fork, branch, loop, check, give_back, Block, done, first, append, PlainStatement, block_of}
 use Rattle.cap_prog.specs.Views.{block_view, statement_view}
 use Rattle.cap_run.specs.declared.position.Level.{Level}
-use Rattle.cap_run.specs.Places.{skip, inside, side_of, is_loop, behind, behind_act, after, past, block_at, rest_at, here, IsFirst, IsSettled}
+use Rattle.cap_run.specs.Places.{skip, inside, is_loop, behind, after, block_at, rest_at, here, IsFirst, IsSettled}
 
 pub append_assoc : (a b c : Block) → append (append a b) c ≡ append a (append b c)
 append_assoc done b c = refl

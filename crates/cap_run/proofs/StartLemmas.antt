@@ -1,15 +1,15 @@
 -- The machine in which main begins.
-use Rattle.std.proofs.Common.{◌≡◌, ◌∙◌, ap, sym, refl, subst, ℕ, List, [], ◌∷◌, length}
-use Rattle.std.specs.Prelude.{ℤ, false, slice_get, Option, Some, None, option_map, option_to_list, IsSomeAnd}
+use Rattle.std.proofs.Common.{◌≡◌, sym, refl, subst, List, [], ◌∷◌, length}
+use Rattle.std.specs.Prelude.{ℤ, false, slice_get, Option, Some, None, IsSomeAnd}
 use Rattle.std.specs.Global.{Vec}
 use Rattle.std.specs.List.{AllByRecursion}
 use Rattle.cap_prog.specs.Program.{PlainFunction, PlainProgram}
 use Rattle.cap_prog.specs.WellFormed.{IsWellFormed}
 use Rattle.cap_run.specs.declared.frame.Frame as code
 use Rattle.cap_run.specs.declared.machine.Machine.{Machine}
-use Rattle.cap_run.specs.Machine.{Heap, new_frame, main_frame, start}
+use Rattle.cap_run.specs.Machine.{Heap, new_frame, start}
 use Rattle.cap_run.specs.Fits.{ConfigurationFits}
-use Rattle.cap_run.specs.View.{frame_view, thread_view, configuration, is_stopped, IsPlaced, AllArePlaced, ArePlaced, Fits}
+use Rattle.cap_run.specs.View.{frame_view, configuration, is_stopped, IsPlaced, AllArePlaced, ArePlaced, Fits}
 use Rattle.cap_run.proofs.Keeping.{starts_keep}
 
 -- what the code made

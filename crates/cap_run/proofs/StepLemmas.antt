@@ -1,5 +1,5 @@
 -- What the definition does at each statement, by what the code found.
-use Rattle.std.proofs.Common.{◌≡◌, ◌≢◌, ◌∙◌, ap, sym, refl, subst, ℕ, zero, suc, ◌+◌, ◌<◌, Bool, true, false, not, cond, ◌&&◌, List, [], ◌∷◌, ◌++◌, length, arith}
+use Rattle.std.proofs.Common.{◌≡◌, ◌∙◌, ap, sym, refl, ℕ, zero, suc, Bool, true, false, not, cond, ◌&&◌, List, [], ◌∷◌, ◌++◌, length, arith}
 use Rattle.std.specs.Prelude.{ℤ, pos, ◌<ℤ◌, ◌≤ℤ◌, slice_get, slice_set, Option, Some, None, Result, Ok, Err, OnErr, int_le}
 use Rattle.std.specs.FinMap.{get}
 use Rattle.std.proofs.lemmas.Int.{ints, to_z-of_z}
@@ -9,7 +9,7 @@ use Rattle.cap_lin.specs.declared.row.Op.TheVariants.{Eq as Equal}
 use Rattle.cap_prog.specs.Program.{PlainStatement, PlainFunction, PlainProgram}
 use Rattle.cap_run.specs.declared.event.Entry.{Entry}
 use Rattle.cap_run.specs.declared.event.Event.{Event}
-use Rattle.cap_run.specs.declared.event.Event.TheVariants.{Bad, End, Return, Call, Fork}
+use Rattle.cap_run.specs.declared.event.Event.TheVariants.{Bad, Call, Fork}
 use Rattle.cap_run.specs.declared.event.StepError.TheVariants.{NotEnabled}
 use Rattle.cap_run.specs.declared.machine.Machine.{Machine}
 use Rattle.cap_run.specs.Machine.{Heap, Frame, Thread, Configuration, Outcome, next, fault, disabled, Spot, with_rest, new_frame, calls, forks, at_cell, compared, returns, may_be_at, are_free}

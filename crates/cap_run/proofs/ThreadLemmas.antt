@@ -1,6 +1,6 @@
 -- The top frame of a thread, and the thread after it changed.
 use Rattle.std.proofs.Common.{◌≡◌, ◌∙◌, ap, sym, refl, ℕ, zero, suc, ◌+◌, ◌-◌, ◌<◌, ◌≤◌, List, [], ◌∷◌, ◌++◌, length, get_or, take, arith}
-use Rattle.std.specs.Prelude.{ℤ, slice_set, Option, Some, None}
+use Rattle.std.specs.Prelude.{ℤ, Some, None}
 use Rattle.std.proofs.lemmas.List.{take_more, take_all, set_at, map-append, reverse-append, length-take-le, get_or_default}
 use Rattle.std.proofs.Math.ListN.{set}
 use Rattle.cap_prog.specs.Program.{PlainProgram}

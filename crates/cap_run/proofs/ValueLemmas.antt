@@ -1,7 +1,6 @@
 -- Results on the way of several terms.
 use Rattle.std.proofs.Common.{◌≡◌, ◌∙◌, refl, sym, ap, subst, ℕ, zero, suc, ◌+◌, ◌<◌, ◌≤◌, Bool, true, false, cond, ◌&&◌, List, [], ◌∷◌, ◌++◌, map, drop, length, get_or, arith, add-one, append_assoc, drop-cons}
-use Rattle.std.specs.Prelude.{ℤ, ◌+ℤ◌, ◌*ℤ◌, Option, Some, None, is_none}
-use Rattle.std.specs.List.{AllByRecursion}
+use Rattle.std.specs.Prelude.{ℤ, ◌+ℤ◌, ◌*ℤ◌, Option, Some, is_none}
 use Rattle.cap_lin.specs.Linear.{Linear}
 use Rattle.cap_lin.specs.Steps.{Step, sum_of, product_of, first_wide, fits}
 use Rattle.cap_run.specs.declared.event.StepError.{StepError}
@@ -60,11 +59,11 @@ so_far_next store ts i t vs ws v l e h n f g =
     let d = drop_at ts i t l e in
     record {
       values =
-        ap (λ x. x ++ map (value_in store) (drop (i + 1) ts)) (g ∙ ap (λ z. vs ++ z ∷ []) f)
-        ∙ (append_assoc vs (value_in store t ∷ []) (map (value_in store) (drop (i + 1) ts)) ∙ (ap (λ x. vs ++ map (value_in store) x) (sym d) ∙ h.values));
+          ap (λ x. x ++ map (value_in store) (drop (i + 1) ts)) (g ∙ ap (λ z. vs ++ z ∷ []) f)
+          ∙ (append_assoc vs (value_in store t ∷ []) (map (value_in store) (drop (i + 1) ts)) ∙ (ap (λ x. vs ++ map (value_in store) x) (sym d) ∙ h.values));
       narrow =
-        sym (narrow_append (term_steps store t) (terms_steps store (drop (i + 1) ts)) ∙ ap (λ b. b && are_narrow (terms_steps store (drop (i + 1) ts))) n)
-        ∙ (ap (λ x. are_narrow (terms_steps store x)) (sym d) ∙ h.narrow);
+          sym (narrow_append (term_steps store t) (terms_steps store (drop (i + 1) ts)) ∙ ap (λ b. b && are_narrow (terms_steps store (drop (i + 1) ts))) n)
+          ∙ (ap (λ x. are_narrow (terms_steps store x)) (sym d) ∙ h.narrow);
     }
 
 pub so_far_wide : (store : List ℤ) (ts : List Linear) (i : ℕ) (t : Linear) (vs : List ℤ) (e : StepError) → i < length ts → t ≡ get_or ts i t → IsSoFar store ts i vs → Explains e (term_steps store t) → Explains e (terms_steps store ts)

@@ -1,5 +1,5 @@
 -- The cells of a heap.
-use Rattle.std.specs.Prelude.{◌≡◌, ℕ, ℤ, ◌<ℤ◌, ◌≤ℤ◌, false, List, [], ◌∷◌, Option, Some, None, IsSome}
+use Rattle.std.specs.Prelude.{◌≡◌, ℤ, ◌<ℤ◌, ◌≤ℤ◌, false, List, [], ◌∷◌, Option, Some, None, IsSome}
 use Rattle.std.specs.FinMap.{get}
 use Rattle.cap_lin.specs.Steps.{fits}
 use Rattle.cap_run.specs.Machine.{Heap}

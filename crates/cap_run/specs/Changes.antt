@@ -1,9 +1,9 @@
 -- How the top frame of a thread changes.
-use Rattle.std.specs.Prelude.{ℕ, ℤ, Bool, List, [], ◌∷◌}
+use Rattle.std.specs.Prelude.{ℤ, Bool, List, [], ◌∷◌}
 use Rattle.cap_prog.specs.Program.{Block, done, first, append}
 use Rattle.cap_run.specs.declared.event.Event.{Event}
 use Rattle.cap_run.specs.declared.event.Event.TheVariants.{Return, End}
-use Rattle.cap_run.specs.Machine.{Frame, Thread, with_rest, with_value, receives}
+use Rattle.cap_run.specs.Machine.{Frame, Thread, with_rest, receives}
 use Rattle.cap_run.specs.Places.{inside, behind}
 
 abbrev pub tail_of : Block → Block

@@ -1,7 +1,7 @@
 -- What the definition of a step means: when there is one, when it is a fault, and what it keeps.
 use Rattle.std.specs.Prelude.{◌≡◌, ◌↔◌, ℕ, ◌<◌, ℤ, pos, ◌+ℤ◌, ◌≤ℤ◌, Bool, true, false, List, length, slice_get, Option, Some, None, IsTrue, IsSome, IfSome, IsSomeAnd, option_and_then}
 use Rattle.std.specs.FinMap.{get}
-use Rattle.cap_prog.specs.Program.{PlainAct, set, read, write, cas, alloc, call, fork, branch, loop, check, give_back, Block, done, first, PlainStatement, PlainFunction, PlainProgram}
+use Rattle.cap_prog.specs.Program.{PlainAct, read, write, cas, alloc, check, Block, done, first, PlainStatement, PlainProgram}
 use Rattle.cap_prog.specs.WellFormed.{IsWellFormed}
 use Rattle.cap_run.specs.declared.event.Entry.{Entry}
 use Rattle.cap_run.specs.declared.event.Event.{Event}

@@ -1,7 +1,7 @@
 -- When a statement of a thread may be taken, and what the code's parts of a step promise.
-use Rattle.std.specs.Prelude.{◌≡◌, ℕ, zero, suc, ◌<◌, ℤ, Bool, true, false, List, [], ◌∷◌, ◌++◌, length, slice_get, Option, Some, None, IsSomeAnd, Result, Ok, Err, MatchResult, option_and_then, option_map}
+use Rattle.std.specs.Prelude.{◌≡◌, ℕ, zero, suc, ◌<◌, true, false, List, [], ◌∷◌, ◌++◌, length, slice_get, Option, Some, None, IsSomeAnd, option_and_then, option_map}
 use Rattle.std.specs.Global.{Vec}
-use Rattle.cap_prog.specs.Program.{Label, PlainAct, alloc, Block, done, first, PlainStatement, PlainFunction, PlainProgram}
+use Rattle.cap_prog.specs.Program.{Label, PlainAct, alloc, Block, first, PlainStatement, PlainFunction, PlainProgram}
 use Rattle.cap_prog.specs.Scopes.{fixed_start}
 use Rattle.cap_prog.specs.WellFormed.{ActFits}
 use Rattle.cap_run.specs.declared.event.Entry.{Entry}

@@ -1,6 +1,6 @@
 -- The results on the way of a step, in their order: products and sums of the terms that its statement evaluates, and the last address of what
 -- it allocates.
-use Rattle.std.specs.Prelude.{ℕ, ◌-◌, ℤ, pos, Bool, true, is_none, List, [], ◌∷◌, ◌++◌, Option, Some, None, slice_get}
+use Rattle.std.specs.Prelude.{ℕ, ◌-◌, ℤ, pos, Bool, is_none, List, [], ◌∷◌, ◌++◌, Option, Some, None, slice_get}
 use Rattle.cap_lin.specs.Linear.{Linear}
 use Rattle.cap_lin.specs.Values.{number_at}
 use Rattle.cap_lin.specs.Steps.{Step, sum_of, first_wide, value_steps}

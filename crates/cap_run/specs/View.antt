@@ -1,19 +1,19 @@
 -- What is seen of the frames and the machine of the code.
-use Rattle.std.specs.Prelude.{◌≡◌, ℕ, ◌<◌, ℤ, Bool, true, false, not, ◌&&◌, List, [], ◌∷◌, map, reverse, length, slice_get, slice_set, Option, Some, None, Result, Ok, Err}
+use Rattle.std.specs.Prelude.{◌≡◌, ◌<◌, Bool, true, false, not, ◌&&◌, List, map, reverse, length, slice_get, Option, Some, None, Result, Ok, Err}
 use Rattle.std.specs.List.{AllByRecursion}
 use Rattle.std.specs.Global.{Vec}
-use Rattle.cap_prog.specs.Program.{Block, done, first, append, PlainFunction, PlainProgram}
+use Rattle.cap_prog.specs.Program.{Block, done, PlainFunction, PlainProgram}
 use Rattle.cap_run.specs.declared.event.Entry.{Entry}
 use Rattle.cap_run.specs.declared.event.Event.{Event}
 use Rattle.cap_run.specs.declared.event.StepError.{StepError}
 use Rattle.cap_run.specs.declared.event.StepError.TheVariants.{NotEnabled, Wide, OutOfMemory}
 use Rattle.cap_run.specs.declared.frame.Frame as code
 use Rattle.cap_run.specs.declared.machine.Machine.{Machine}
-use Rattle.cap_run.specs.Machine.{Frame, Thread, Configuration, Outcome, next, fault, disabled, with_rest, step}
+use Rattle.cap_run.specs.Machine.{Frame, Thread, Configuration, Outcome, next, fault, disabled, step}
 use Rattle.cap_run.specs.Results.{entry_steps, are_narrow}
 use Rattle.cap_run.specs.Fits.{ConfigurationFits}
 use Rattle.cap_run.specs.Laws.{is_step}
-use Rattle.cap_run.specs.Places.{rest_at, IsSettled, inside, behind}
+use Rattle.cap_run.specs.Places.{rest_at, IsSettled}
 
 abbrev pub body_of : Option PlainFunction → Block
 body_of None = done

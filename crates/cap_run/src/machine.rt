@@ -80,12 +80,7 @@ impl Machine {
         ensures { HasChanged (program_view program.now)
             (with_top (λ f. plain.with_value (passed f) variable value)) thread self.old self.new }
     {
-        thread::assign(
-            program,
-            &mut self.threads[thread as usize],
-            variable,
-            value,
-        );
+        thread::assign(program, &mut self.threads[thread as usize], variable, value);
     }
 
     // It enters a block of its next statement.

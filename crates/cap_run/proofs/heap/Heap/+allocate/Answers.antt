@@ -1,10 +1,9 @@
-use Rattle.std.proofs.Common.{rules, ◌≡◌, ◌∙◌, ap, ◌<◌, ◌-◌, arith, sym, subst, true}
+use Rattle.std.proofs.Common.{rules, ◌∙◌, ap, ◌<◌, ◌-◌, arith}
 use Rattle.std.specs.Prelude.{pos, ◌+ℤ◌}
 use Rattle.std.specs.FinMap.{insert, remove}
 use mir.Val.{SFits}
 use mir.Syntax.{w128}
 use Rattle.std.proofs.lemmas.Int.{to_z-of_z}
-use Rattle.cap_lin.specs.Steps.{fits}
 use Rattle.cap_run.specs.Machine.{are_free}
 use Rattle.cap_run.proofs.HeapLemmas.{free_behind, free_front, fits_below, narrow, remove-insert, sum_is}
 use Rattle.cap_run.proofs.heap.Heap.+allocate.Goals as goal

@@ -1,9 +1,7 @@
 use Rattle.std.proofs.Common.{◌∙◌, ap}
 use Rattle.std.specs.FinMap.{insert}
-use mir.Val.{SFits}
 use mir.Syntax.{w128}
 use Rattle.std.proofs.lemmas.Int.{to_z-of_z}
-use Rattle.cap_run.specs.Cells.{IsNarrow}
 use Rattle.cap_run.proofs.HeapLemmas.{heap_put, insert-narrow, narrow, narrow_along}
 use Rattle.cap_run.proofs.heap.Heap.add.Goals as goal
 

@@ -1,5 +1,5 @@
 use Rattle.std.proofs.Common.{rules, ◌∙◌, ap}
-use Rattle.std.specs.Prelude.{pos, ◌+ℤ◌}
+use Rattle.std.specs.Prelude.{◌+ℤ◌}
 use mir.Val.{SFits}
 use mir.Syntax.{w128}
 use Rattle.std.proofs.lemmas.Int.{to_z-of_z}

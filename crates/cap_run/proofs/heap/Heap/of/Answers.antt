@@ -1,4 +1,4 @@
-use Rattle.std.proofs.Common.{rules, ◌≡◌, ◌∙◌, ap, ◌<◌, length, get_or, arith, take}
+use Rattle.std.proofs.Common.{rules, ◌∙◌, ap, ◌<◌, length, get_or, arith}
 use Rattle.std.specs.FinMap.{insert}
 use mir.Val.{SFits}
 use mir.Syntax.{w128}

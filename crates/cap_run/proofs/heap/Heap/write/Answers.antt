@@ -1,4 +1,3 @@
-use Rattle.std.proofs.Common.{◌∙◌, ap}
 use mir.Syntax.{w128}
 use Rattle.std.proofs.lemmas.Int.{to_z-of_z}
 use Rattle.cap_run.proofs.HeapLemmas.{put_there, insert-narrow, narrow, narrow_along, now_narrow}

@@ -1,15 +1,6 @@
-use Rattle.std.proofs.Common.{rules, ◌≡◌, ◌∙◌, ap, sym, refl, subst}
-use Rattle.std.proofs.lemmas.Result.{err_from_is_err_and}
-use mir.Val.{SFits}
-use mir.Syntax.{w128}
-use Rattle.std.proofs.lemmas.Int.{to_z-of_z}
+use Rattle.std.proofs.Common.{refl}
 use Rattle.cap_prog.specs.Views.{program_view}
-use Rattle.cap_run.specs.View.{configuration}
-use Rattle.cap_run.proofs.MachineLemmas.{has_top, below_length, threads_same, thread_added}
-use Rattle.cap_run.proofs.StartLemmas.{some_is}
-use Rattle.cap_run.specs.View.{frame_view}
-use Rattle.cap_run.proofs.ValueLemmas.{explained_front, explained_back, narrow_both}
-use Rattle.cap_run.proofs.ActLemmas.{all_below, err_steps, no_base, can_change, kept_memory}
+use Rattle.cap_run.proofs.MachineLemmas.{threads_same, thread_added}
 use Rattle.cap_run.proofs.StepLemmas.{on_err}
 use Rattle.cap_run.proofs.machine.Machine.add_thread.Goals as goal
 

@@ -1,8 +1,5 @@
-use Rattle.std.proofs.Common.{rules, ◌≡◌, ◌∙◌, ap, sym, refl, subst}
+use Rattle.std.proofs.Common.{◌∙◌, ap, sym}
 use Rattle.std.proofs.lemmas.Result.{err_from_is_err_and}
-use mir.Val.{SFits}
-use mir.Syntax.{w128}
-use Rattle.std.proofs.lemmas.Int.{to_z-of_z}
 use Rattle.cap_prog.specs.Views.{program_view}
 use Rattle.cap_run.specs.View.{configuration}
 use Rattle.cap_run.proofs.MachineLemmas.{has_top}
@@ -10,10 +7,9 @@ use Rattle.std.proofs.Common.{Bool}
 use Rattle.cap_prog.specs.Program.{branch, append}
 use Rattle.cap_run.specs.declared.event.Event.TheVariants.{Branch}
 use Rattle.cap_run.specs.Places.{side_of, behind_act}
-use Rattle.cap_run.specs.Machine.{Outcome, next, holds, with_rest, with_value}
-use Rattle.cap_run.proofs.ValueLemmas.{explained_front, explained_back, narrow_both}
-use Rattle.cap_run.proofs.ActLemmas.{value_below, left_below, right_below, all_below, err_steps, no_base, can_change, can_change_over, assigned_ok, passed_ok, entered_ok, kept_memory, fault_ok, fault_places, heap_is, with_frame}
-use Rattle.cap_run.proofs.StepLemmas.{cell_absent, cell_found, same_compared, other_compared, where_true, where_false, chosen, returns_is, returned_ok}
+use Rattle.cap_run.specs.Machine.{Outcome, next, holds, with_rest}
+use Rattle.cap_run.proofs.ActLemmas.{left_below, right_below, err_steps, no_base, can_change, entered_ok, with_frame}
+use Rattle.cap_run.proofs.StepLemmas.{chosen}
 use Rattle.cap_run.proofs.machine.Machine.branch.Goals as goal
 
 pub store-requires : goal.store-requires
@@ -26,7 +22,7 @@ pub holds-requires-clause-right : goal.holds-requires-clause-right
 holds-requires-clause-right c = let r = c.requires.2.1 in rw (c.store.ensures _ _ _ r.there) (right_below r.function r.frame.store c.args.comparison.now r.store r.act)
 
 pub returns-in_err-taken-clause-steps : goal.returns-in_err-taken-clause-steps
-returns-in_err-taken-clause-steps c = 
+returns-in_err-taken-clause-steps c =
     let r = c.requires.2.1 in
     let p = err_from_is_err_and c.from_residual.result c.from_residual.ensures.1 in
     let x = rw (c.store.ensures _ _ _ r.there) at c.in_err-taken.ensures in
@@ -36,7 +32,7 @@ pub enter-requires : goal.enter-requires
 enter-requires c = can_change _ _ _ _ c.requires.2.1
 
 pub returns-clause-steps : goal.returns-clause-steps
-returns-clause-steps c = 
+returns-clause-steps c =
     let r = c.requires.2.1 in
     let i = rw (c.store.ensures _ _ _ r.there) at c.in_ok-taken.ensures in
     let a = branch c.args.comparison.now c.requires.0 c.requires.1 in

@@ -1,18 +1,12 @@
-use Rattle.std.proofs.Common.{rules, ◌≡◌, ◌∙◌, ap, sym, refl, subst}
+use Rattle.std.proofs.Common.{refl}
 use Rattle.std.proofs.lemmas.Result.{err_from_is_err_and}
-use mir.Val.{SFits}
-use mir.Syntax.{w128}
-use Rattle.std.proofs.lemmas.Int.{to_z-of_z}
 use Rattle.cap_prog.specs.Views.{program_view}
-use Rattle.cap_run.specs.View.{configuration}
-use Rattle.cap_run.proofs.MachineLemmas.{has_top, below_length, threads_same, thread_added, thread_count}
+use Rattle.cap_run.proofs.MachineLemmas.{has_top, below_length, thread_count}
 use Rattle.cap_run.proofs.StartLemmas.{some_is}
 use Rattle.std.proofs.Common.{arith}
 use Rattle.std.specs.Prelude.{slice_get}
-use Rattle.cap_run.specs.View.{frame_view}
-use Rattle.cap_run.proofs.ValueLemmas.{explained_front, explained_back, narrow_both}
-use Rattle.cap_run.proofs.ActLemmas.{all_below, err_steps, no_base, can_change, kept_memory}
-use Rattle.cap_run.proofs.StepLemmas.{called_ok, forked_ok, can_change_more}
+use Rattle.cap_run.proofs.ActLemmas.{all_below, err_steps, no_base, kept_memory}
+use Rattle.cap_run.proofs.StepLemmas.{forked_ok, can_change_more}
 use Rattle.cap_run.proofs.machine.Machine.fork.Goals as goal
 
 pub store-requires : goal.store-requires
@@ -22,7 +16,7 @@ pub evaluate_all-requires : goal.evaluate_all-requires
 evaluate_all-requires c = let r = c.requires.ready.1 in rw (c.store.ensures _ _ _ r.there) (all_below r.function r.frame.store c.args.args.now r.store r.act.values)
 
 pub returns-in_err-values-clause-steps : goal.returns-in_err-values-clause-steps
-returns-in_err-values-clause-steps c = 
+returns-in_err-values-clause-steps c =
     let r = c.requires.ready.1 in
     let p = err_from_is_err_and c.from_residual.result c.from_residual.ensures.1 in
     let x = rw (c.store.ensures _ _ _ r.there) at c.in_err-values.ensures in
@@ -43,7 +37,7 @@ returns-in_err-add_thread-clause-steps c =
     rw (p.1, p.2) (kept_memory (program_view c.args.program.now) c.args.self.now c.add_thread.new.self c.args.entry.now c.in_err-add_thread.ensures.kept)
 
 pub returns-clause-steps : goal.returns-clause-steps
-returns-clause-steps c = 
+returns-clause-steps c =
     let r = c.requires.ready.1 in
     let i = rw (c.store.ensures _ _ _ r.there) at c.in_ok-values.ensures in
     let g = some_is (slice_get (program_view c.args.program.now).functions c.args.function) _ r.act.arity in

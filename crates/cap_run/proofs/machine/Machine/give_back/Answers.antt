@@ -1,17 +1,14 @@
-use Rattle.std.proofs.Common.{rules, ◌≡◌, ◌∙◌, ap, sym, refl, subst}
+use Rattle.std.proofs.Common.{rules, ◌∙◌, ap}
 use Rattle.std.proofs.lemmas.Result.{err_from_is_err_and}
 use mir.Val.{SFits}
 use mir.Syntax.{w128}
 use Rattle.std.proofs.lemmas.Int.{to_z-of_z}
 use Rattle.cap_prog.specs.Views.{program_view}
-use Rattle.cap_run.specs.View.{configuration}
 use Rattle.cap_run.proofs.MachineLemmas.{has_top}
 use Rattle.std.proofs.Common.{◌∷◌}
 use Rattle.cap_run.specs.Changes.{return_event}
-use Rattle.cap_run.specs.Machine.{with_rest, with_value}
-use Rattle.cap_run.proofs.ValueLemmas.{explained_front, explained_back, narrow_both}
-use Rattle.cap_run.proofs.ActLemmas.{value_below, left_below, right_below, all_below, err_steps, no_base, can_change, can_change_over, assigned_ok, passed_ok, entered_ok, kept_memory, fault_ok, fault_places, heap_is, with_frame, spot}
-use Rattle.cap_run.proofs.StepLemmas.{cell_absent, cell_found, same_compared, other_compared, where_true, where_false, chosen, returns_as, returned_ok}
+use Rattle.cap_run.proofs.ActLemmas.{value_below, err_steps, no_base, can_change, spot}
+use Rattle.cap_run.proofs.StepLemmas.{returns_as, returned_ok}
 use Rattle.cap_run.proofs.machine.Machine.give_back.Goals as goal
 
 pub store-requires : goal.store-requires
@@ -21,7 +18,7 @@ pub evaluate-requires : goal.evaluate-requires
 evaluate-requires c = let r = c.requires.1 in rw (c.store.ensures _ _ _ r.there) (value_below r.function r.frame.store c.args.term.now r.store r.act)
 
 pub returns-in_err-value-clause-steps : goal.returns-in_err-value-clause-steps
-returns-in_err-value-clause-steps c = 
+returns-in_err-value-clause-steps c =
     let r = c.requires.1 in
     let p = err_from_is_err_and c.from_residual.result c.from_residual.ensures.1 in
     let x = rw (c.store.ensures _ _ _ r.there) at c.in_err-value.ensures in
@@ -31,7 +28,7 @@ pub pop-requires : goal.pop-requires
 pop-requires c = can_change _ _ _ _ c.requires.1
 
 pub returns-clause-steps : goal.returns-clause-steps
-returns-clause-steps c = 
+returns-clause-steps c =
     let r = c.requires.1 in
     let f : SFits w128 c.in_ok-value.value = search rules in
     let i = rw (c.store.ensures _ _ _ r.there) at c.in_ok-value.ensures in

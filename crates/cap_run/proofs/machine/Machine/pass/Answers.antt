@@ -1,11 +1,7 @@
 use Rattle.std.proofs.Common.{refl, arith}
-use Rattle.std.proofs.lemmas.Result.{on_ok_weaker, on_err_weaker}
-use mir.Syntax.{w128}
-use Rattle.std.proofs.lemmas.Int.{to_z-of_z}
 use Rattle.cap_prog.specs.Views.{program_view}
-use Rattle.cap_run.specs.Machine.{with_value}
-use Rattle.cap_run.specs.Changes.{passed, entered, with_top}
-use Rattle.cap_run.proofs.MachineLemmas.{is_there, has_frames, are_placed, changed, kept}
+use Rattle.cap_run.specs.Changes.{passed, with_top}
+use Rattle.cap_run.proofs.MachineLemmas.{is_there, has_frames, are_placed, changed}
 use Rattle.cap_run.proofs.machine.Machine.pass.Goals as goal
 
 pub index_mut-requires : goal.index_mut-requires

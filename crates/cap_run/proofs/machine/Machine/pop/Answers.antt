@@ -1,19 +1,10 @@
-use Rattle.std.proofs.Common.{rules, ◌≡◌, ◌∙◌, ap, sym, refl, subst}
-use Rattle.std.proofs.lemmas.Result.{err_from_is_err_and}
-use mir.Val.{SFits}
+use Rattle.std.proofs.Common.{◌∙◌, ap, refl}
 use mir.Syntax.{w128}
 use Rattle.std.proofs.lemmas.Int.{to_z-of_z}
 use Rattle.cap_prog.specs.Views.{program_view}
-use Rattle.cap_run.specs.View.{configuration}
-use Rattle.std.proofs.Common.{arith, ◌∷◌}
-use Rattle.std.proofs.lemmas.Result.{on_ok_weaker, on_err_weaker}
-use Rattle.cap_run.specs.View.{frame_view}
-use Rattle.cap_run.specs.Changes.{passed, with_top, returned, return_event}
-use Rattle.cap_run.proofs.MachineLemmas.{is_there, has_frames, are_placed, changed, kept, lent_shows}
-use Rattle.cap_run.specs.Machine.{with_rest, with_value}
-use Rattle.cap_run.proofs.ValueLemmas.{explained_front, explained_back, narrow_both}
-use Rattle.cap_run.proofs.ActLemmas.{value_below, left_below, right_below, all_below, err_steps, no_base, can_change, can_change_over, assigned_ok, passed_ok, entered_ok, kept_memory, fault_ok, fault_places, heap_is, with_frame}
-use Rattle.cap_run.proofs.StepLemmas.{cell_absent, cell_found, same_compared, other_compared, where_true, where_false, chosen, returns_is, returned_ok}
+use Rattle.std.proofs.Common.{arith}
+use Rattle.cap_run.specs.Changes.{returned, return_event}
+use Rattle.cap_run.proofs.MachineLemmas.{is_there, has_frames, are_placed, changed, lent_shows}
 use Rattle.cap_run.proofs.machine.Machine.pop.Goals as goal
 
 pub index_mut-requires : goal.index_mut-requires
@@ -23,7 +14,7 @@ pub give_back-requires : goal.give_back-requires
 give_back-requires c = has_frames c.args.self.now c.args.thread c.index_mut.result.now c.requires.top c.index_mut.ensures.value
 
 pub returns-clause-popped : goal.returns-clause-popped
-returns-clause-popped c = 
+returns-clause-popped c =
     let v = rw (to_z-of_z w128 _ c.ranges.value) at (c.give_back.ensures.returned (program_view c.args._program.now)) in
     changed (program_view c.args._program.now) c.args.self.now c.args.thread (returned c.args.value) c.index_mut.result.now c.give_back.new.frames _ c.requires c.index_mut.ensures.value refl v (c.give_back.ensures.placed (program_view c.args._program.now) (are_placed (program_view c.args._program.now) c.args.self.now c.args.thread c.index_mut.result.now c.requires c.index_mut.ensures.value))
 

@@ -1,15 +1,12 @@
-use Rattle.std.proofs.Common.{rules, ◌≡◌, ◌∙◌, ap, sym, refl, subst}
-use Rattle.std.proofs.lemmas.Result.{err_from_is_err_and}
+use Rattle.std.proofs.Common.{rules}
 use mir.Val.{SFits}
 use mir.Syntax.{w128}
 use Rattle.std.proofs.lemmas.Int.{to_z-of_z}
 use Rattle.cap_prog.specs.Views.{program_view}
 use Rattle.cap_run.specs.View.{configuration}
 use Rattle.cap_run.proofs.MachineLemmas.{has_top}
-use Rattle.cap_run.specs.Machine.{with_rest, with_value}
-use Rattle.cap_run.proofs.ValueLemmas.{explained_front, explained_back, narrow_both}
-use Rattle.cap_run.proofs.ActLemmas.{value_below, left_below, right_below, all_below, err_steps, no_base, can_change, can_change_over, assigned_ok, passed_ok, entered_ok, kept_memory, fault_ok, fault_places, heap_is, with_frame}
-use Rattle.cap_run.proofs.StepLemmas.{cell_absent, cell_found, same_compared, other_compared, where_true, where_false, chosen, returns_is, returned_ok}
+use Rattle.cap_run.proofs.ActLemmas.{value_below, can_change, assigned_ok, fault_ok, fault_places, heap_is}
+use Rattle.cap_run.proofs.StepLemmas.{cell_absent, cell_found}
 use Rattle.cap_run.proofs.machine.Machine.read.Goals as goal
 
 pub store-requires : goal.store-requires
@@ -22,7 +19,7 @@ pub assign-requires : goal.assign-requires
 assign-requires c = can_change _ _ _ _ c.requires.1
 
 pub returns-in-None-clause-steps : goal.returns-in-None-clause-steps
-returns-in-None-clause-steps c = 
+returns-in-None-clause-steps c =
     let r = c.requires.1 in
     let f : SFits w128 c.in_ok-cell.cell = search rules in
     let i = rw (c.store.ensures _ _ _ r.there) at c.in_ok-cell.ensures in
@@ -33,7 +30,7 @@ pub returns-in-None-clause-places : goal.returns-in-None-clause-places
 returns-in-None-clause-places c = fault_places (program_view c.args.program.now) c.args.self.now (let r = c.requires.1 in r.places)
 
 pub returns-in-Some-clause-steps : goal.returns-in-Some-clause-steps
-returns-in-Some-clause-steps c = 
+returns-in-Some-clause-steps c =
     let r = c.requires.1 in
     let f : SFits w128 c.in_ok-cell.cell = search rules in
     let g : SFits w128 c.in-Some.value = search rules in

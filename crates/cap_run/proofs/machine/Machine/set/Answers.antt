@@ -1,12 +1,11 @@
-use Rattle.std.proofs.Common.{rules, ◌≡◌, ◌∙◌, ap, sym, refl, subst}
-use Rattle.std.proofs.lemmas.Result.{err_from_is_err_and}
+use Rattle.std.proofs.Common.{rules, refl}
 use mir.Val.{SFits}
 use mir.Syntax.{w128}
 use Rattle.std.proofs.lemmas.Int.{to_z-of_z}
 use Rattle.cap_prog.specs.Views.{program_view}
 use Rattle.cap_run.specs.View.{configuration}
 use Rattle.cap_run.proofs.MachineLemmas.{has_top}
-use Rattle.cap_run.proofs.ActLemmas.{value_below, err_steps, no_base, can_change, assigned_ok, heap_is}
+use Rattle.cap_run.proofs.ActLemmas.{value_below, can_change, assigned_ok, heap_is}
 use Rattle.cap_run.proofs.machine.Machine.set.Goals as goal
 
 pub store-requires : goal.store-requires

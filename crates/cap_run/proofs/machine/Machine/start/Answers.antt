@@ -1,10 +1,7 @@
-use Rattle.std.proofs.Common.{refl, ◌∙◌, ap, sym, subst}
-use Rattle.std.specs.Prelude.{slice_get, Some, false}
+use Rattle.std.proofs.Common.{refl}
+use Rattle.std.specs.Prelude.{false}
 use Rattle.std.specs.FinMap.{from_entries}
-use Rattle.cap_prog.specs.Program.{PlainFunction}
 use Rattle.cap_prog.specs.Views.{program_view}
-use Rattle.cap_run.specs.Machine.{new_frame}
-use Rattle.cap_run.specs.View.{frame_view}
 use Rattle.cap_run.proofs.StartLemmas.{IsStart, shows_start, runs_start, fits_start}
 use Rattle.cap_run.proofs.machine.Machine.start.Goals as goal
 
