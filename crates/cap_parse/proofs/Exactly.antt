@@ -1,8 +1,7 @@
 -- What the grammar's reader gives is what the tokens spell, or where they go wrong.
-use Rattle.std.proofs.Common.{◌≡◌, ◌↔◌, List, [], ◌∷◌, ◌++◌, Result, Ok, Err, refl, sym, ap, ◌∙◌, subst}
+use Rattle.std.proofs.Common.{◌≡◌, ◌↔◌, ◌-◌, List, [], ◌∷◌, ◌++◌, length, take, get_or, Result, Ok, Err, refl, sym, ap, ◌∙◌, subst, arith, length-append}
 use Rattle.cap_syntax.specs.declared.place.Place.{Place}
 use Rattle.cap_syntax.specs.declared.token.Token.{Token}
-use Rattle.cap_syntax.specs.Layout.{EndsOnce}
 use Rattle.cap_tree.specs.declared.tree.Tree.{Tree}
 use Rattle.cap_tree.specs.Tree.{ProgramTree}
 use Rattle.cap_tree.specs.Spelling.{spelling}
@@ -66,34 +65,32 @@ only-parse-of laws ts end r h = record {
   too_deep = λ rest w. refuses-too_deep ts end rest r ((laws.too_deep_at ts rest).1 w) h;
 }
 
--- the end of a list stands in one place
-same-end : (a b : List Token) (x y : Token) → a ++ x ∷ [] ≡ b ++ y ∷ [] → (a ≡ b) × (x ≡ y)
-same-end [] [] x y e = (refl, cc)
-same-end [] (t ∷ []) x y e = absurd cc
-same-end [] (t ∷ u ∷ b) x y e = absurd cc
-same-end (t ∷ []) [] x y e = absurd cc
-same-end (t ∷ u ∷ a) [] x y e = absurd cc
-same-end (t ∷ a) (u ∷ b) x y e =
-    let h : t ≡ u = cc in
-    let k : a ++ x ∷ [] ≡ b ++ y ∷ [] = cc in
-    let i = same-end a b x y k in
-    (ap (λ l. t ∷ l) i.0 ∙ ap (λ z. z ∷ b) h, i.1)
+take-front : (front more : List Token) → take (length front) (front ++ more) ≡ front
+take-front [] more = refl
+take-front (t ∷ front) more = ap (λ l. t ∷ l) (take-front front more)
 
-pub parse-answers : AreLaws → (all before : List Token) (last : Token) (r : Result Tree ParseError) → all ≡ before ++ last ∷ []
-    → IsReadingOf before last.place r → (front : List Token) (end : Token) → all ≡ front ++ end ∷ [] → IsParseOf front end.place r
-parse-answers laws all before last r a h front end b =
-    let same = same-end before front last end (sym a ∙ b) in
-    subst (λ l. IsParseOf l end.place r) same.0 (subst (λ t. IsParseOf before t.place r) same.1 (parse-of laws before last.place r h))
+get-behind : (front : List Token) (last other : Token) → get_or (front ++ last ∷ []) (length front) other ≡ last
+get-behind [] last other = refl
+get-behind (t ∷ front) last other = get-behind front last other
 
-pub parse-only : AreLaws → (all before : List Token) (last : Token) (r : Result Tree ParseError) → all ≡ before ++ last ∷ []
-    → IsReadingOf before last.place r → (front : List Token) (end : Token) → all ≡ front ++ end ∷ [] → IsOnlyParseOf front end.place r
-parse-only laws all before last r a h front end b =
-    let same = same-end before front last end (sym a ∙ b) in
-    subst (λ l. IsOnlyParseOf l end.place r) same.0 (subst (λ t. IsOnlyParseOf before t.place r) same.1 (only-parse-of laws before last.place r h))
+one-less : (all front : List Token) (last : Token) → all ≡ front ++ last ∷ [] → length all - 1 ≡ length front
+one-less all front last e = omega (arith, ap length e, length-append front (last ∷ []))
 
-pub never-empty : EndsOnce [] → ⊥
-never-empty e = by e.front e.whole
-  where
-    by : (front : List Token) → [] ≡ front ++ e.last ∷ [] → ⊥
-    by [] w = cc
-    by (t ∷ ts) w = cc
+-- all tokens but the last, and the last
+pub before-last : (all front : List Token) (last : Token) → all ≡ front ++ last ∷ [] → take (length all - 1) all ≡ front
+before-last all front last e =
+    ap (λ n. take n all) (one-less all front last e) ∙ ap (take (length front)) e ∙ take-front front (last ∷ [])
+
+pub the-last : (all front : List Token) (last other : Token) → all ≡ front ++ last ∷ [] → get_or all (length all - 1) other ≡ last
+the-last all front last other e =
+    ap (λ n. get_or all n other) (one-less all front last e) ∙ ap (λ l. get_or l (length front) other) e ∙ get-behind front last other
+
+pub parse-answers : AreLaws → (seen front : List Token) (found last : Token) (r : Result Tree ParseError) → IsReadingOf seen found.place r
+    → seen ≡ front → found ≡ last → IsParseOf front last.place r
+parse-answers laws seen front found last r h s f =
+    subst (λ l. IsParseOf l last.place r) s (subst (λ t. IsParseOf seen t.place r) f (parse-of laws seen found.place r h))
+
+pub parse-only : AreLaws → (seen front : List Token) (found last : Token) (r : Result Tree ParseError) → IsReadingOf seen found.place r
+    → seen ≡ front → found ≡ last → IsOnlyParseOf front last.place r
+parse-only laws seen front found last r h s f =
+    subst (λ l. IsOnlyParseOf l last.place r) s (subst (λ t. IsOnlyParseOf seen t.place r) f (only-parse-of laws seen found.place r h))

@@ -7,8 +7,6 @@ mod program;
 mod region;
 mod statement;
 mod term;
-#[cfg(test)]
-mod tests;
 mod text;
 
 pub use text::{ParseError, parse};

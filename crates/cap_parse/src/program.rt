@@ -1,18 +1,18 @@
 // Functions and whole texts. `room` is how many more brackets may open.
 
 ghost use Rattle.std.specs.Prelude.{◌≡◌, Ok, map, not, option_map};
-ghost use Rattle.cap_tree.specs.Views.{several_view, listed_view, word_view, function_view, declaration_view, tree_view};
+ghost use Rattle.cap_tree.specs.Views.{several_view, listed_view, word_view, clause_view, block_view, function_view, declaration_view, tree_view};
 ghost use Rattle.cap_grammar.specs.Classes.{are_same};
 ghost use Rattle.cap_grammar.specs.Grammar.{read_function, read_declaration};
 ghost use Rattle.cap_grammar.specs.Readers.{read_name, read_several, read_optional, read_until, read_listed};
 ghost use Rattle.cap_grammar.specs.declared.class.Class.TheVariants.{Comma, Close, End};
-ghost use Rattle.cap_parse.specs.Heads.{function_head_view, read_function_head, read_function_from};
+ghost use Rattle.cap_parse.specs.Heads.{function_head_view, read_whole_clause, read_whole_block, read_function_head, read_function_body, read_postcondition, read_function_from};
 ghost use Rattle.cap_parse.specs.Reads.{IsRead};
 
 use crate::cursor::{Cursor, Stop};
 use cap_grammar::Class;
 use cap_syntax::Place;
-use cap_tree::{Declaration, Function, Listed, Separated, Word};
+use cap_tree::{Block, Clause, Declaration, Function, Listed, Separated, Word};
 
 /// A function's keyword, name and parameters.
 #[derive(Drop)]
@@ -61,14 +61,35 @@ impl<'a> Cursor<'a> {
         })
     }
 
-    /// What stands behind a function's head.
-    fn function_from(&mut self, room: u32, head: FunctionHead) -> Result<Function, Stop>
-        ensures { IsRead function_view result self.new.rest.now
-            (read_function_from room (function_head_view head) self.old.rest.now) }
+    #[tactic(auto, unfolding(crate::specs::Heads::read_whole_clause))]
+    fn whole_clause(&mut self, room: u32, class: Class) -> Result<Option<Clause>, Stop>
+        ensures { IsRead (option_map clause_view) result self.new.rest.now
+            (read_optional (are_same class) (read_whole_clause room class) self.old.rest.now) }
     {
-        let precondition = self.optional_clause(room, Class::Requires)?;
-        let postcondition = self.optional_clause(room, Class::Ensures)?;
-        let body = self.block(room)?;
+        self.optional_clause(room, class)
+    }
+
+    #[tactic(auto, unfolding(crate::specs::Heads::read_whole_block))]
+    fn whole_block(&mut self, room: u32) -> Result<Block, Stop>
+        ensures { IsRead block_view result self.new.rest.now
+            (read_whole_block room self.old.rest.now) }
+    {
+        self.block(room)
+    }
+
+    /// The body, behind a function's head and its contract.
+    fn function_body(
+        &mut self,
+        room: u32,
+        head: FunctionHead,
+        precondition: Option<Clause>,
+        postcondition: Option<Clause>,
+    ) -> Result<Function, Stop>
+        ensures { IsRead function_view result self.new.rest.now
+            (read_function_body room (function_head_view head) (option_map clause_view precondition)
+            (option_map clause_view postcondition) self.old.rest.now) }
+    {
+        let body = self.whole_block(room)?;
         let FunctionHead {
             key,
             name,
@@ -82,6 +103,30 @@ impl<'a> Cursor<'a> {
             postcondition,
             body,
         })
+    }
+
+    /// What stands behind a function's head and its precondition.
+    fn postcondition(
+        &mut self,
+        room: u32,
+        head: FunctionHead,
+        precondition: Option<Clause>,
+    ) -> Result<Function, Stop>
+        ensures { IsRead function_view result self.new.rest.now
+            (read_postcondition room (function_head_view head) (option_map clause_view precondition)
+            self.old.rest.now) }
+    {
+        let postcondition = self.whole_clause(room, Class::Ensures)?;
+        self.function_body(room, head, precondition, postcondition)
+    }
+
+    /// What stands behind a function's head.
+    fn function_from(&mut self, room: u32, head: FunctionHead) -> Result<Function, Stop>
+        ensures { IsRead function_view result self.new.rest.now
+            (read_function_from room (function_head_view head) self.old.rest.now) }
+    {
+        let precondition = self.whole_clause(room, Class::Requires)?;
+        self.postcondition(room, head, precondition)
     }
 
     /// What `function`, which comes next, begins.

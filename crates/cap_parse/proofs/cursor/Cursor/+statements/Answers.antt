@@ -1,5 +1,6 @@
 use Rattle.std.proofs.lemmas.Result.{err_from_is_err_and}
-use Rattle.std.proofs.Common.{map, rules, refl, not, ap, sym, ◌∙◌, arith}
+use Rattle.cap_tree.specs.declared.statement.Statement.{Statement}
+use Rattle.std.proofs.Common.{Vec, Global, map, rules, refl, not, ap, sym, ◌∙◌, arith}
 use Rattle.cap_grammar.specs.Classes.{are_same}
 use Rattle.std.proofs.lemmas.Bool.Decides.{nat_tests}
 use Rattle.cap_parse.proofs.Inside.{block-inside}
@@ -31,6 +32,6 @@ pub statements-returns-in_err-statement : goal.statements-returns-in_err-stateme
 statements-returns-in_err-statement t c =
     let p = err_from_is_err_and c.from_residual.result c.from_residual.ensures.1 in
     rw (p.1, p.2)
-    (while-refuses (λ k. not (are_same CloseBrace k)) (read_statement (block_at c.args.room) c.args.room) statement_view (λ v. map statement_view v.items) (statement-takes c.args.room) (statement-ends c.args.room (λ k. not (are_same CloseBrace k))) (map statement_view c.loop-self.statements.items)
+    (while-refuses {Y = Vec Statement Global} (λ k. not (are_same CloseBrace k)) (read_statement (block_at c.args.room) c.args.room) statement_view (λ v. map statement_view v.items) (statement-takes c.args.room) (statement-ends c.args.room (λ k. not (are_same CloseBrace k))) (map statement_view c.loop-self.statements.items)
     c.loop-self.self.rest.now c.statement.new.self.rest.now (read_while (λ k. not (are_same CloseBrace k)) (read_statement (block_at c.args.room) c.args.room) c.args.self.now.rest.now) c.in_err-statement.field-0.0
     (ap not (sym c.is_ahead.ensures) ∙ ap not c.loop-self-test.true) c.in_err-statement.ensures c.loop-self.invariant)

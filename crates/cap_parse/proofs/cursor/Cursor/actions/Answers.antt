@@ -1,5 +1,6 @@
 use Rattle.std.proofs.lemmas.Result.{err_from_is_err_and}
-use Rattle.std.proofs.Common.{map, rules, refl, not, ap, sym, ◌∙◌, arith}
+use Rattle.cap_tree.specs.declared.region.Action.{Action}
+use Rattle.std.proofs.Common.{Vec, Global, map, rules, refl, not, ap, sym, ◌∙◌, arith}
 use Rattle.cap_grammar.specs.Classes.{are_same}
 use Rattle.cap_tree.specs.Views.{action_view}
 use Rattle.cap_grammar.specs.Grammar.{read_action}
@@ -24,6 +25,6 @@ pub returns-in_err-action : goal.returns-in_err-action
 returns-in_err-action c =
     let p = err_from_is_err_and c.from_residual.result c.from_residual.ensures.1 in
     rw (p.1, p.2)
-    (while-refuses (λ k. not (are_same CloseBrace k)) (read_action c.args.room) action_view (λ v. map action_view v.items) (action-takes c.args.room) (action-ends c.args.room (λ k. not (are_same CloseBrace k))) (map action_view c.loop-self.actions.items)
+    (while-refuses {Y = Vec Action Global} (λ k. not (are_same CloseBrace k)) (read_action c.args.room) action_view (λ v. map action_view v.items) (action-takes c.args.room) (action-ends c.args.room (λ k. not (are_same CloseBrace k))) (map action_view c.loop-self.actions.items)
     c.loop-self.self.rest.now c.action.new.self.rest.now (read_while (λ k. not (are_same CloseBrace k)) (read_action c.args.room) c.args.self.now.rest.now) c.in_err-action.field-0.0
     (ap not (sym c.is_ahead.ensures) ∙ ap not c.loop-self-test.true) c.in_err-action.ensures c.loop-self.invariant)

@@ -1,5 +1,6 @@
 use Rattle.std.proofs.lemmas.Result.{err_from_is_err_and}
-use Rattle.std.proofs.Common.{map, rules, refl, not, ap, sym, ◌∙◌, arith}
+use Rattle.cap_tree.specs.declared.tree.Declaration.{Declaration}
+use Rattle.std.proofs.Common.{Vec, Global, map, rules, refl, not, ap, sym, ◌∙◌, arith}
 use Rattle.cap_grammar.specs.Classes.{are_same}
 use Rattle.cap_tree.specs.Views.{declaration_view}
 use Rattle.cap_grammar.specs.Grammar.{read_declaration}
@@ -24,6 +25,6 @@ pub returns-in_err-declaration : goal.returns-in_err-declaration
 returns-in_err-declaration c =
     let p = err_from_is_err_and c.from_residual.result c.from_residual.ensures.1 in
     rw (p.1, p.2)
-    (while-refuses (λ k. not (are_same End k)) (read_declaration c.args.room) declaration_view (λ v. map declaration_view v.items) (declaration-takes c.args.room) (λ e. cc) (map declaration_view c.loop-self.declarations.items)
+    (while-refuses {Y = Vec Declaration Global} (λ k. not (are_same End k)) (read_declaration c.args.room) declaration_view (λ v. map declaration_view v.items) (declaration-takes c.args.room) (λ e. cc) (map declaration_view c.loop-self.declarations.items)
     c.loop-self.self.rest.now c.declaration.new.self.rest.now (read_while (λ k. not (are_same End k)) (read_declaration c.args.room) c.args.self.now.rest.now) c.in_err-declaration.field-0.0
     (ap not (sym c.is_ahead.ensures) ∙ ap not c.loop-self-test.true) c.in_err-declaration.ensures c.loop-self.invariant)
