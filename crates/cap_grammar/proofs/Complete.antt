@@ -1,31 +1,26 @@
 -- What is spelled is read: terms and assertions.
-use Rattle.std.proofs.Common.{◌≡◌, ℕ, zero, suc, not, cond, ◌<◌, ◌≤◌, ◌⊎◌, inl, inr, Bool, true, false, List, [], ◌∷◌, ◌++◌, length, Option, Some, None, Result, Ok, Err, refl, sym, ap, ◌∙◌, subst, arith, codes}
+use Rattle.std.proofs.Common.{◌≡◌, ℕ, zero, suc, not, Bool, true, false, List, [], ◌∷◌, Option, Some, None, Ok, refl, sym, ap, subst, codes}
 use Rattle.cap_syntax.specs.declared.place.Place.{Place}
 use Rattle.cap_syntax.specs.declared.token.Token.{Token}
 use Rattle.cap_tree.specs.declared.word.Word.{Word}
-use Rattle.cap_tree.specs.declared.word.Literal.{Literal}
 use Rattle.cap_tree.specs.declared.term.Sign.{Sign}
 use Rattle.cap_tree.specs.declared.term.Sign.TheVariants.{Plus, Minus}
 use Rattle.cap_tree.specs.declared.term.Relation.{Relation}
 use Rattle.cap_tree.specs.declared.term.Relation.TheVariants.{Equal, Unequal, Less, AtMost, Greater, AtLeast}
-use Rattle.cap_tree.specs.declared.assertion.Counted.{Counted}
 use Rattle.cap_tree.specs.declared.assertion.Counted.TheVariants.{Source, Tokens}
-use Rattle.cap_tree.specs.Tree.{any, is, alone, amount, count, bare, in_parentheses, value, load, alloc, cas, result_of, region, function, FactorTree, ProductTree, FactorTrees, TermTree, ProductTrees, SlotTree, GuardTree, HeldTree, ItemTree, ItemTrees, AssertionTree, SideTree, ValueTree, StatementTree, ElseTree, StatementTrees, BlockTree, DeclaredTree, DeclaredTrees, JointTree, JointTrees, AlgebraTree, DeclarationTree, Several, InParentheses, InBraces, ComparisonTree, ClauseTree, WhenTree, CaseTree, ActionTree, RegionTree, FunctionTree, ProgramTree, GuardsTree, literal, whole_share, named, bracketed, product, no_factor, times, term, no_product, signed, holds, fails, fact, guards, cell, compare, choose, no_item, and_item, assertion, side, assign, store, call, fork, branch, loop, check, give_back, no_else, else_block, no_statement, then_statement, block, unique, divisible, counting, grouped, no_declared, and_declared, joint, no_joint, or_joint, algebra}
-use Rattle.cap_tree.specs.Tokens.{name, number, share, wildcard, keyword, symbol}
-use Rattle.cap_tree.specs.Spelling.{Spells, spell_all, spell_behind, spell_more, spell_several, spell_option, spell_listed, spell_group, spell_name, sign_text, spell_minus, spell_factor, spell_product, spell_factors, spell_term, spell_products, relation_text, spell_comparison, spell_slot, counted_text, spell_guard, spell_guards, spell_held, spell_item, spell_items, spell_assertion, spell_side, spell_clause, spell_terms, spell_value, spell_statement, spell_else, spell_statements, spell_block, spell_declared, spell_declareds, spell_joint, spell_joints, spell_algebra, spell_when, spell_case, spell_action, spell_region, spell_function, spell_declaration, spelling}
-use Rattle.cap_tree.specs.Views.{TimesTree, AddendTree, factors_of, products_of, AndTree, items_of, statements_of, else_of, BothTree, EitherTree, declareds_of, joints_of}
+use Rattle.cap_tree.specs.Tree.{any, is, alone, amount, count, bare, in_parentheses, FactorTree, ProductTree, FactorTrees, TermTree, ProductTrees, SlotTree, GuardTree, HeldTree, ItemTree, ItemTrees, AssertionTree, SideTree, StatementTree, StatementTrees, DeclaredTrees, JointTrees, ComparisonTree, ClauseTree, GuardsTree, literal, whole_share, named, bracketed, product, no_factor, times, term, no_product, signed, holds, fails, fact, guards, cell, compare, choose, no_item, and_item, assertion, side, no_statement, then_statement, no_declared, and_declared, no_joint, or_joint}
+use Rattle.cap_tree.specs.Tokens.{name, keyword, symbol}
+use Rattle.cap_tree.specs.Spelling.{spell_all, spell_more, sign_text, spell_factor, spell_product, spell_factors, spell_term, spell_products, relation_text, spell_comparison, spell_slot, spell_guard, spell_guards, spell_held, spell_item, spell_items, spell_assertion, spell_side, spell_clause}
+use Rattle.cap_tree.specs.Views.{TimesTree, AddendTree, factors_of, products_of, AndTree, items_of, statements_of, BothTree, EitherTree, declareds_of, joints_of}
 use Rattle.cap_grammar.specs.declared.class.Class.{Class}
 use Rattle.cap_grammar.specs.declared.class.Class.TheVariants as c
 use Rattle.cap_grammar.specs.Classes.{class, are_same}
-use Rattle.cap_grammar.specs.Readers.{Fault, unexpected, too_deep, Outcome, Reader, ◌>>=◌, ahead, next_token, next_place, next_word, next_literal, expect, read_name, read_number, no_room, read_opening, read_optional, read_at_most, read_while, read_until, read_behind, read_more, read_several, read_listed, read_group}
-use Rattle.cap_grammar.specs.Grammar.{factor_by, read_factor, read_product_from, read_product, is_sign, sign_by, read_sign, read_addend, read_term_from, read_term_with, read_bracketed, bracketed_at, read_term, relation_by, read_relation, read_comparison_from, read_comparison, slot_by, read_slot, amount_by, read_amount, read_counted, guard_by, read_guard, read_guards, held_by, read_held, choice_by, read_choice, item_from_by, read_item_from, read_fact, named_item_by, read_named_item, item_by, read_item, read_assertion_with, read_side, side_at, read_assertion, read_clause, read_terms, read_load, read_alloc, read_cas, named_value_by, read_named_value, value_by, read_value, named_statement_by, read_named_statement, read_store, read_fork, read_else, read_branch, read_loop, read_check, read_give_back, statement_by, read_statement, read_block_with, block_at, declared_by, read_declared, read_joint, read_algebra_with, read_grouped, grouped_at, read_algebra, read_when, read_optional_when, read_case, read_action, read_head, read_region_body, read_region, read_function, declaration_by, read_declaration, read_program, HeadTree}
-use Rattle.cap_grammar.specs.Laws.Taking.{and_more, Takes, Keeps, takes-keeps, expect-takes, name-takes, at_most-keeps, behind-takes, factor-takes, addend-takes, term-takes, comparison-takes, slot-takes, guard-takes, side-takes, item-takes, block-takes, statement-takes, declared-takes, joint-takes, case-takes, action-takes, declaration-takes, statement-ends, case-ends, action-ends, enough-serves, while-begins, while-stops, while-taken, while-refused, while-done}
-use Rattle.cap_grammar.proofs.Shapes.{same_is_equal, same-self, shaped, plain, is_known, is_plain, plain-known, plain-shaped, room_after, shaped-room, known, not-end}
-use Rattle.cap_grammar.proofs.MeetsTerms.{star, factors-spelled, spell_addend, products-spelled, term_from-meets-with, term-meets, term_from-meets, comparison_from-meets, comparison-meets, slot-meets}
-use Rattle.cap_grammar.proofs.MeetsAssertions.{guards-meets, items-spelled, assertion-meets, clause-meets}
-use Rattle.cap_grammar.proofs.MeetsStatements.{statements-spelled, block-meets}
-use Rattle.cap_grammar.proofs.MeetsTexts.{declareds-spelled, joints-spelled, Agrees, program-agrees}
-use Rattle.cap_grammar.proofs.Gives.{Gives, gives, not-here, yields, known-yields, where-true, where-false, is-same, opens-then, optional-gives, Begins, parts-follow, while-gives, more-gives, several-gives}
+use Rattle.cap_grammar.specs.Readers.{Reader, ◌>>=◌, ahead, expect}
+use Rattle.cap_grammar.specs.Grammar.{read_factor, read_product_from, read_product, is_sign, read_addend, read_term_from, bracketed_at, read_term, read_comparison_from, read_comparison, slot_by, read_slot, amount_by, read_guard, read_guards, held_by, read_held, choice_by, read_choice, read_item_from, named_item_by, read_item, side_at, read_assertion, read_clause}
+use Rattle.cap_grammar.specs.Laws.Taking.{takes-keeps, factor-takes, addend-takes, slot-takes, guard-takes, item-takes}
+use Rattle.cap_grammar.proofs.MeetsTerms.{factors-spelled, spell_addend, products-spelled}
+use Rattle.cap_grammar.proofs.MeetsAssertions.{items-spelled}
+use Rattle.cap_grammar.proofs.Gives.{Gives, gives, not-here, yields, where-true, is-same, opens-then, Begins, parts-follow, while-gives, more-gives, several-gives}
 
 -- the list that a list of the tree is
 
@@ -88,7 +83,8 @@ joints-again (or_joint p j more) = ap (or_joint p j) (joints-again more)
 abbrev BracketGives : ℕ → Type 0
 BracketGives d = (p : Place) (t : TermTree) (q : Place) (ts : List Token) → Gives (bracketed p t q) ts (bracketed_at d (symbol (codes "(") p ∷ spell_term t (symbol (codes ")") q ∷ ts)))
 
-factor-gives : (d : ℕ) → BracketGives d → (f : FactorTree) (ts : List Token) → Gives f ts (read_factor (bracketed_at d) (spell_factor f ts))
+factor-gives : (d : ℕ) → BracketGives d → (f : FactorTree) (ts : List Token)
+    → Gives f ts (read_factor (bracketed_at d) (spell_factor f ts))
 factor-gives d h (literal n) ts = gives
 factor-gives d h (whole_share p) ts = gives
 factor-gives d h (named w) ts = gives
@@ -121,7 +117,8 @@ pub star-no : (k : Class) → are_same c.Star k ≡ false → no_star k ≡ true
 star-no c.Star e = cc
 star-no k e = refl
 
-product_from-gives : (d : ℕ) → BracketGives d → (f : FactorTree) (fs : FactorTrees) (ts : List Token) → are_same c.Star (ahead ts) ≡ false
+product_from-gives : (d : ℕ) → BracketGives d
+    → (f : FactorTree) (fs : FactorTrees) (ts : List Token) → are_same c.Star (ahead ts) ≡ false
     → Gives (product f fs) ts (read_product_from (bracketed_at d) f (spell_factors fs ts))
 product_from-gives d h f fs ts e = subst (λ gs. Gives (product f gs) ts (read_product_from (bracketed_at d) f (spell_factors gs ts))) (factors-again fs) (by (list_of_factors fs))
   where
@@ -130,10 +127,13 @@ product_from-gives d h f fs ts e = subst (λ gs. Gives (product f gs) ts (read_p
         subst (λ us. Gives (product f (factors_of l)) ts (read_product_from (bracketed_at d) f us)) (factors-spelled l ts)
         (yields _ (more-gives spell_factor (λ k. true) c.Star (codes "*") (read_factor (bracketed_at d)) (λ p. refl) refl refl (takes-keeps (read_factor (bracketed_at d)) (factor-takes d)) (λ a us x. factor-gives d h a us) l ts e refl) gives)
 
-product-gives : (d : ℕ) → BracketGives d → (m : ProductTree) (ts : List Token) → are_same c.Star (ahead ts) ≡ false → Gives m ts (read_product (bracketed_at d) (spell_product m ts))
+product-gives : (d : ℕ) → BracketGives d → (m : ProductTree) (ts : List Token)
+    → are_same c.Star (ahead ts) ≡ false
+    → Gives m ts (read_product (bracketed_at d) (spell_product m ts))
 product-gives d h (product f fs) ts e = yields _ (factor-gives d h f (spell_factors fs ts)) (product_from-gives d h f fs ts e)
 
-addend-gives : (d : ℕ) → BracketGives d → (a : AddendTree) (ts : List Token) → no_star (ahead ts) ≡ true → Gives a ts (read_addend (bracketed_at d) (spell_addend a ts))
+addend-gives : (d : ℕ) → BracketGives d → (a : AddendTree) (ts : List Token)
+    → no_star (ahead ts) ≡ true → Gives a ts (read_addend (bracketed_at d) (spell_addend a ts))
 addend-gives d h a ts e = by a.sign
   where
     by : (g : Sign) → Gives (record { sign = g; place = a.place; product = a.product }) ts (read_addend (bracketed_at d) (symbol (sign_text g) a.place ∷ spell_product a.product ts))
@@ -147,7 +147,9 @@ addend-begins a ts = by a.sign
     by Plus = (refl, refl, refl)
     by Minus = (refl, refl, refl)
 
-term_from-gives : (d : ℕ) → BracketGives d → (minus : Option Place) (f : FactorTree) (fs : FactorTrees) (ms : ProductTrees) (ts : List Token) → ends_term (ahead ts) ≡ true
+term_from-gives : (d : ℕ) → BracketGives d
+    → (minus : Option Place) (f : FactorTree) (fs : FactorTrees) (ms : ProductTrees) (ts : List Token)
+    → ends_term (ahead ts) ≡ true
     → Gives (term minus (product f fs) ms) ts (read_term_from (bracketed_at d) minus f (spell_factors fs (spell_products ms ts)))
 term_from-gives d h minus f fs ms ts e =
     subst (λ ns. Gives (term minus (product f fs) ns) ts (read_term_from (bracketed_at d) minus f (spell_factors fs (spell_products ns ts)))) (products-again ms) (by (list_of_products ms))
@@ -158,7 +160,8 @@ term_from-gives d h minus f fs ms ts e =
         (yields _ (product_from-gives d h f fs (spell_all spell_addend l ts) (no-star (ahead (spell_all spell_addend l ts)) (parts-follow spell_addend is_sign no_star addend-begins l ts (star-no (ahead ts) (star-ends (ahead ts) e)))))
         (yields _ (while-gives spell_addend is_sign no_star (read_addend (bracketed_at d)) (addend-takes d) addend-begins (addend-gives d h) l ts (sign-ends (ahead ts) e) (star-no (ahead ts) (star-ends (ahead ts) e))) gives))
 
-term-gives-with : (d : ℕ) → BracketGives d → (t : TermTree) (ts : List Token) → ends_term (ahead ts) ≡ true → Gives t ts (read_term d (spell_term t ts))
+term-gives-with : (d : ℕ) → BracketGives d → (t : TermTree) (ts : List Token)
+    → ends_term (ahead ts) ≡ true → Gives t ts (read_term d (spell_term t ts))
 term-gives-with d h (term (Some p) (product f fs) ms) ts e = yields _ (factor-gives d h f (spell_factors fs (spell_products ms ts))) (term_from-gives d h (Some p) f fs ms ts e)
 term-gives-with d h (term None (product (literal n) fs) ms) ts e = term_from-gives d h None (literal n) fs ms ts e
 term-gives-with d h (term None (product (whole_share p) fs) ms) ts e = term_from-gives d h None (whole_share p) fs ms ts e
@@ -169,7 +172,8 @@ bracketed-gives : (d : ℕ) → BracketGives d
 bracketed-gives zero p t q ts = not-here
 bracketed-gives (suc d) p t q ts = yields _ (term-gives-with d (bracketed-gives d) t (symbol (codes ")") q ∷ ts) refl) gives
 
-pub term-gives : (d : ℕ) (t : TermTree) (ts : List Token) → ends_term (ahead ts) ≡ true → Gives t ts (read_term d (spell_term t ts))
+pub term-gives : (d : ℕ) (t : TermTree) (ts : List Token) → ends_term (ahead ts) ≡ true
+    → Gives t ts (read_term d (spell_term t ts))
 term-gives d = term-gives-with d (bracketed-gives d)
 
 abbrev pub begins_term : Class → Bool
@@ -188,7 +192,8 @@ term-begins (term None (product (named w) fs) ms) ts = refl
 term-begins (term None (product (bracketed p t q) fs) ms) ts = refl
 
 -- what holds of a sign, a star and the next token holds behind a term's first factor
-pub rest-begins : (test : Class → Bool) → test c.Star ≡ true → test c.Plus ≡ true → test c.Minus ≡ true → (fs : FactorTrees) (ms : ProductTrees) (ts : List Token)
+pub rest-begins : (test : Class → Bool) → test c.Star ≡ true → test c.Plus ≡ true
+    → test c.Minus ≡ true → (fs : FactorTrees) (ms : ProductTrees) (ts : List Token)
     → test (ahead ts) ≡ true → test (ahead (spell_factors fs (spell_products ms ts))) ≡ true
 rest-begins test s p m (times q f fs) ms ts h = s
 rest-begins test s p m no_factor no_product ts h = h
@@ -215,26 +220,31 @@ comparison_from-gives d x ts e = by x.relation
     by Greater = yields _ (term-gives d x.right ts e) gives
     by AtLeast = yields _ (term-gives d x.right ts e) gives
 
-pub comparison-gives : (d : ℕ) (x : ComparisonTree) (ts : List Token) → ends_term (ahead ts) ≡ true → Gives x ts (read_comparison d (spell_comparison x ts))
+pub comparison-gives : (d : ℕ) (x : ComparisonTree) (ts : List Token) → ends_term (ahead ts) ≡ true
+    → Gives x ts (read_comparison d (spell_comparison x ts))
 comparison-gives d x ts e =
     yields _ (term-gives d x.left (symbol (relation_text x.relation) x.place ∷ spell_term x.right ts) (relation-ends x.relation x.place)) (comparison_from-gives d x ts e)
 
-slot-of-term : (d : ℕ) (k : Class) (us : List Token) → begins_term k ≡ true → slot_by d k us ≡ (read_term d us >>= λ t. Ok (is t.0, t.1))
+slot-of-term : (d : ℕ) (k : Class) (us : List Token) → begins_term k ≡ true
+    → slot_by d k us ≡ (read_term d us >>= λ t. Ok (is t.0, t.1))
 slot-of-term d c.Wildcard us e = cc
 slot-of-term d k us e = refl
 
-slot-gives : (d : ℕ) (x : SlotTree) (ts : List Token) → ends_term (ahead ts) ≡ true → Gives x ts (read_slot d (spell_slot x ts))
+slot-gives : (d : ℕ) (x : SlotTree) (ts : List Token) → ends_term (ahead ts) ≡ true
+    → Gives x ts (read_slot d (spell_slot x ts))
 slot-gives d (any p) ts e = gives
 slot-gives d (is t) ts e =
     subst (Gives (is t) ts) (sym (slot-of-term d (ahead (spell_term t ts)) (spell_term t ts) (term-begins t ts))) (yields _ (term-gives d t ts e) gives)
 
 -- guards
 
-no-amount : (d : ℕ) (w : Word) (k : Class) (ts : List Token) → not (are_same c.OpenBracket k) ≡ true → amount_by d w k ts ≡ Ok (alone w, ts)
+no-amount : (d : ℕ) (w : Word) (k : Class) (ts : List Token) → not (are_same c.OpenBracket k) ≡ true
+    → amount_by d w k ts ≡ Ok (alone w, ts)
 no-amount d w c.OpenBracket ts e = cc
 no-amount d w k ts e = refl
 
-guard-gives : (d : ℕ) (g : GuardTree) (ts : List Token) → not (are_same c.OpenBracket (ahead ts)) ≡ true → Gives g ts (read_guard d (spell_guard g ts))
+guard-gives : (d : ℕ) (g : GuardTree) (ts : List Token)
+    → not (are_same c.OpenBracket (ahead ts)) ≡ true → Gives g ts (read_guard d (spell_guard g ts))
 guard-gives d (alone w) ts e = subst (Gives (alone w) ts) (sym (no-amount d w (ahead ts) ts e)) gives
 guard-gives d (amount w p x q) ts e =
     opens-then _ c.OpenBracket d (symbol (codes "[") p) (spell_slot x (symbol (codes "]") q ∷ ts)) refl (λ n. yields _ (slot-gives n x (symbol (codes "]") q ∷ ts) refl) gives)
@@ -243,7 +253,9 @@ guard-gives d (count Source k w p x q) ts e =
 guard-gives d (count Tokens k w p x q) ts e =
     opens-then _ c.OpenBracket d (symbol (codes "[") p) (spell_slot x (symbol (codes "]") q ∷ ts)) refl (λ n. yields _ (slot-gives n x (symbol (codes "]") q ∷ ts) refl) gives)
 
-pub guards-gives : (d : ℕ) (g : GuardsTree) (ts : List Token) → are_same c.Star (ahead ts) ≡ false → not (are_same c.OpenBracket (ahead ts)) ≡ true → Gives g ts (read_guards d (spell_guards g ts))
+pub guards-gives : (d : ℕ) (g : GuardsTree) (ts : List Token) → are_same c.Star (ahead ts) ≡ false
+    → not (are_same c.OpenBracket (ahead ts)) ≡ true
+    → Gives g ts (read_guards d (spell_guards g ts))
 guards-gives d g ts e f =
     several-gives spell_guard (λ k. not (are_same c.OpenBracket k)) c.Star (codes "*") (read_guard d) (λ p. refl) refl refl (takes-keeps (read_guard d) (guard-takes d)) (guard-gives d) g ts e f
 
@@ -253,17 +265,20 @@ begins_guard c.Source = true
 begins_guard c.Tokens = true
 begins_guard k = false
 
-pub guard-begins : (g : GuardTree) (ts : List Token) → begins_guard (ahead (spell_guard g ts)) ≡ true
+pub guard-begins : (g : GuardTree) (ts : List Token)
+    → begins_guard (ahead (spell_guard g ts)) ≡ true
 guard-begins (alone w) ts = refl
 guard-begins (amount w p x q) ts = refl
 guard-begins (count Source k w p x q) ts = refl
 guard-begins (count Tokens k w p x q) ts = refl
 
-held-of-guards : (d : ℕ) (k : Class) (us : List Token) → begins_guard k ≡ true → held_by d k us ≡ (read_guards d us >>= λ g. Ok (bare g.0, g.1))
+held-of-guards : (d : ℕ) (k : Class) (us : List Token) → begins_guard k ≡ true
+    → held_by d k us ≡ (read_guards d us >>= λ g. Ok (bare g.0, g.1))
 held-of-guards d c.Open us e = cc
 held-of-guards d k us e = refl
 
-held-gives : (d : ℕ) (g : HeldTree) (ts : List Token) → are_same c.Star (ahead ts) ≡ false → not (are_same c.OpenBracket (ahead ts)) ≡ true → Gives g ts (read_held d (spell_held g ts))
+held-gives : (d : ℕ) (g : HeldTree) (ts : List Token) → are_same c.Star (ahead ts) ≡ false
+    → not (are_same c.OpenBracket (ahead ts)) ≡ true → Gives g ts (read_held d (spell_held g ts))
 held-gives d (in_parentheses p g q) ts e f =
     opens-then _ c.Open d (symbol (codes "(") p) (spell_guards g (symbol (codes ")") q ∷ ts)) refl (λ n. yields _ (guards-gives n g (symbol (codes ")") q ∷ ts) refl refl) gives)
 held-gives d (bare g) ts e f =
@@ -294,7 +309,8 @@ item-ends-guard k e = refl
 abbrev SideGives : ℕ → Type 0
 SideGives d = (x : SideTree) (ts : List Token) → Gives x ts (side_at d (spell_side x ts))
 
-no-choice : (sides : Reader SideTree) (x : ComparisonTree) (k : Class) (ts : List Token) → ends_item k ≡ true → choice_by sides x k ts ≡ Ok (compare x, ts)
+no-choice : (sides : Reader SideTree) (x : ComparisonTree) (k : Class) (ts : List Token)
+    → ends_item k ≡ true → choice_by sides x k ts ≡ Ok (compare x, ts)
 no-choice sides x c.Question ts e = cc
 no-choice sides x k ts e = refl
 
@@ -304,13 +320,15 @@ no_item_of_its_own c.Open = false
 no_item_of_its_own c.At = false
 no_item_of_its_own k = true
 
-named-item-of-term : (sides : Reader SideTree) (d : ℕ) (w : Word) (k : Class) (us : List Token) → no_item_of_its_own k ≡ true
+named-item-of-term : (sides : Reader SideTree) (d : ℕ) (w : Word) (k : Class) (us : List Token)
+    → no_item_of_its_own k ≡ true
     → named_item_by sides d w k us ≡ (read_term_from (bracketed_at d) None (named w) us >>= λ t. read_item_from sides d t.0 t.1)
 named-item-of-term sides d w c.Open us e = cc
 named-item-of-term sides d w c.At us e = cc
 named-item-of-term sides d w k us e = refl
 
-item-of-term : (sides : Reader SideTree) (d : ℕ) (t : TermTree) (us : List Token) → no_item_of_its_own (ahead us) ≡ true
+item-of-term : (sides : Reader SideTree) (d : ℕ) (t : TermTree) (us : List Token)
+    → no_item_of_its_own (ahead us) ≡ true
     → read_item sides d (spell_term t us) ≡ (read_term d (spell_term t us) >>= λ t. read_item_from sides d t.0 t.1)
 item-of-term sides d (term (Some p) (product f fs) ms) us e = refl
 item-of-term sides d (term None (product (literal n) fs) ms) us e = refl
@@ -320,7 +338,8 @@ item-of-term sides d (term None (product (named w) fs) ms) us e =
     named-item-of-term sides d w (ahead rest) rest (rest-begins no_item_of_its_own refl refl refl fs ms us e)
 item-of-term sides d (term None (product (bracketed p t q) fs) ms) us e = refl
 
-relation-item : (r : Relation) (p : Place) → no_item_of_its_own (class (symbol (relation_text r) p)) ≡ true
+relation-item : (r : Relation) (p : Place)
+    → no_item_of_its_own (class (symbol (relation_text r) p)) ≡ true
 relation-item Equal p = refl
 relation-item Unequal p = refl
 relation-item Less p = refl
@@ -338,7 +357,8 @@ item-of-comparison sides d t Greater p us = refl
 item-of-comparison sides d t AtLeast p us = refl
 
 -- an item that begins with a comparison
-comparing : (sides : Reader SideTree) (d : ℕ) (x : ComparisonTree) (i : ItemTree) (us ts : List Token) → ends_term (ahead us) ≡ true
+comparing : (sides : Reader SideTree) (d : ℕ) (x : ComparisonTree) (i : ItemTree) (us ts : List Token)
+    → ends_term (ahead us) ≡ true
     → Gives i ts (read_choice sides x us) → Gives i ts (read_item sides d (spell_comparison x us))
 comparing sides d x i us ts e h =
     let rest = symbol (relation_text x.relation) x.place ∷ spell_term x.right us in
@@ -347,7 +367,8 @@ comparing sides d x i us ts e h =
     (subst (Gives i ts) (sym (item-of-comparison sides d x.left x.relation x.place (spell_term x.right us)))
     (yields _ (comparison_from-gives d x us e) h)))
 
-item-gives : (d : ℕ) → SideGives d → (i : ItemTree) (ts : List Token) → ends_item (ahead ts) ≡ true → Gives i ts (read_item (side_at d) d (spell_item i ts))
+item-gives : (d : ℕ) → SideGives d → (i : ItemTree) (ts : List Token) → ends_item (ahead ts) ≡ true
+    → Gives i ts (read_item (side_at d) d (spell_item i ts))
 item-gives d h (holds p) ts e = gives
 item-gives d h (fails p) ts e = gives
 item-gives d h (fact k p r arguments q x f) ts e =
@@ -368,11 +389,13 @@ item-gives d h (choose x p a q b) ts e =
     comparing (side_at d) d x (choose x p a q b) (symbol (codes "?") p ∷ rest) ts refl
     (yields _ (h a (symbol (codes ":") q ∷ spell_side b ts)) (yields _ (h b ts) gives))
 
-and-ends : (more : List AndTree) (ts : List Token) → ends_item (ahead ts) ≡ true → ends_item (ahead (spell_more (codes "&*&") spell_item more ts)) ≡ true
+and-ends : (more : List AndTree) (ts : List Token) → ends_item (ahead ts) ≡ true
+    → ends_item (ahead (spell_more (codes "&*&") spell_item more ts)) ≡ true
 and-ends [] ts e = e
 and-ends (i ∷ more) ts e = refl
 
-assertion-gives-with : (d : ℕ) → SideGives d → (a : AssertionTree) (ts : List Token) → are_same c.And (ahead ts) ≡ false → ends_item (ahead ts) ≡ true
+assertion-gives-with : (d : ℕ) → SideGives d → (a : AssertionTree) (ts : List Token)
+    → are_same c.And (ahead ts) ≡ false → ends_item (ahead ts) ≡ true
     → Gives a ts (read_assertion d (spell_assertion a ts))
 assertion-gives-with d h (assertion i more) ts e f =
     subst (λ m. Gives (assertion i m) ts (read_assertion d (spell_item i (spell_items m ts)))) (items-again more) (by (list_of_items more))
@@ -387,14 +410,18 @@ side-gives : (d : ℕ) → SideGives d
 side-gives zero (side p a q) ts = not-here
 side-gives (suc d) (side p a q) ts = yields _ (assertion-gives-with d (side-gives d) a (symbol (codes "}") q ∷ ts) refl refl) gives
 
-pub assertion-gives : (d : ℕ) (a : AssertionTree) (ts : List Token) → are_same c.And (ahead ts) ≡ false → ends_item (ahead ts) ≡ true
+pub assertion-gives : (d : ℕ) (a : AssertionTree) (ts : List Token)
+    → are_same c.And (ahead ts) ≡ false → ends_item (ahead ts) ≡ true
     → Gives a ts (read_assertion d (spell_assertion a ts))
 assertion-gives d = assertion-gives-with d (side-gives d)
 
-pub expect-gives : (k : Class) (t : Token) (ts : List Token) → class t ≡ k → Gives t.place ts (expect k (t ∷ ts))
+pub expect-gives : (k : Class) (t : Token) (ts : List Token) → class t ≡ k
+    → Gives t.place ts (expect k (t ∷ ts))
 expect-gives k t ts e = where-true (are_same k (class t)) _ (is-same k t e) gives
 
-pub clause-gives : (d : ℕ) (k : Class) (text : List ℕ) (x : ClauseTree) (ts : List Token) → ((p : Place) → class (keyword text p) ≡ k) → Gives x ts (read_clause d k (spell_clause text x ts))
+pub clause-gives : (d : ℕ) (k : Class) (text : List ℕ) (x : ClauseTree) (ts : List Token)
+    → ((p : Place) → class (keyword text p) ≡ k)
+    → Gives x ts (read_clause d k (spell_clause text x ts))
 clause-gives d k text x ts e =
     yields _ (expect-gives k (keyword text x.key) (spell_assertion x.assertion (symbol (codes ";") x.semicolon ∷ ts)) (e x.key))
     (yields _ (assertion-gives d x.assertion (symbol (codes ";") x.semicolon ∷ ts) refl refl) gives)

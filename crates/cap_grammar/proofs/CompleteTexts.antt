@@ -1,32 +1,22 @@
 -- What is spelled is read: statements, region types and the whole text.
-use Rattle.std.proofs.Common.{◌≡◌, ℕ, zero, suc, not, cond, ◌<◌, ◌≤◌, ◌⊎◌, inl, inr, Bool, true, false, List, [], ◌∷◌, ◌++◌, length, Option, Some, None, Result, Ok, Err, refl, sym, ap, ◌∙◌, subst, arith, codes}
+use Rattle.std.proofs.Common.{◌≡◌, ℕ, zero, suc, not, Bool, true, false, List, [], ◌∷◌, Option, Some, None, Result, Ok, Err, refl, sym, ap, ◌∙◌, subst, codes}
 use Rattle.cap_syntax.specs.declared.place.Place.{Place}
 use Rattle.cap_syntax.specs.declared.token.Token.{Token}
 use Rattle.cap_tree.specs.declared.word.Word.{Word}
-use Rattle.cap_tree.specs.declared.word.Literal.{Literal}
-use Rattle.cap_tree.specs.declared.term.Sign.{Sign}
-use Rattle.cap_tree.specs.declared.term.Sign.TheVariants.{Plus, Minus}
-use Rattle.cap_tree.specs.declared.term.Relation.{Relation}
-use Rattle.cap_tree.specs.declared.term.Relation.TheVariants.{Equal, Unequal, Less, AtMost, Greater, AtLeast}
-use Rattle.cap_tree.specs.declared.assertion.Counted.{Counted}
-use Rattle.cap_tree.specs.declared.assertion.Counted.TheVariants.{Source, Tokens}
-use Rattle.cap_tree.specs.Tree.{any, is, alone, amount, count, bare, in_parentheses, value, load, alloc, cas, result_of, region, function, FactorTree, ProductTree, FactorTrees, TermTree, ProductTrees, SlotTree, GuardTree, HeldTree, ItemTree, ItemTrees, AssertionTree, SideTree, ValueTree, StatementTree, ElseTree, StatementTrees, BlockTree, DeclaredTree, DeclaredTrees, JointTree, JointTrees, AlgebraTree, DeclarationTree, Several, InParentheses, InBraces, ComparisonTree, ClauseTree, WhenTree, CaseTree, ActionTree, RegionTree, FunctionTree, ProgramTree, GuardsTree, literal, whole_share, named, bracketed, product, no_factor, times, term, no_product, signed, holds, fails, fact, guards, cell, compare, choose, no_item, and_item, assertion, side, assign, store, call, fork, branch, loop, check, give_back, no_else, else_block, no_statement, then_statement, block, unique, divisible, counting, grouped, no_declared, and_declared, joint, no_joint, or_joint, algebra}
-use Rattle.cap_tree.specs.Tokens.{name, number, share, wildcard, keyword, symbol}
-use Rattle.cap_tree.specs.Spelling.{Spells, spell_all, spell_behind, spell_more, spell_several, spell_option, spell_listed, spell_group, spell_name, sign_text, spell_minus, spell_factor, spell_product, spell_factors, spell_term, spell_products, relation_text, spell_comparison, spell_slot, counted_text, spell_guard, spell_guards, spell_held, spell_item, spell_items, spell_assertion, spell_side, spell_clause, spell_terms, spell_value, spell_statement, spell_else, spell_statements, spell_block, spell_declared, spell_declareds, spell_joint, spell_joints, spell_algebra, spell_when, spell_case, spell_action, spell_region, spell_function, spell_declaration, spelling}
-use Rattle.cap_tree.specs.Views.{TimesTree, AddendTree, factors_of, products_of, AndTree, items_of, statements_of, else_of, BothTree, EitherTree, declareds_of, joints_of}
+use Rattle.cap_tree.specs.Tree.{value, load, alloc, cas, result_of, region, function, TermTree, ValueTree, StatementTree, ElseTree, BlockTree, DeclaredTree, JointTree, AlgebraTree, DeclarationTree, InParentheses, InBraces, ComparisonTree, ClauseTree, WhenTree, CaseTree, ActionTree, RegionTree, FunctionTree, ProgramTree, literal, whole_share, named, bracketed, product, term, assign, store, call, fork, branch, loop, check, give_back, no_else, else_block, block, unique, divisible, counting, grouped, joint, algebra}
+use Rattle.cap_tree.specs.Tokens.{number, keyword, symbol}
+use Rattle.cap_tree.specs.Spelling.{Spells, spell_all, spell_more, spell_several, spell_option, spell_listed, spell_group, spell_name, spell_factors, spell_term, spell_products, spell_comparison, spell_guard, spell_assertion, spell_clause, spell_terms, spell_value, spell_statement, spell_block, spell_declared, spell_declareds, spell_joint, spell_joints, spell_algebra, spell_when, spell_case, spell_action, spell_region, spell_function, spell_declaration, spelling}
+use Rattle.cap_tree.specs.Views.{statements_of, BothTree, EitherTree, declareds_of, joints_of}
 use Rattle.cap_grammar.specs.declared.class.Class.{Class}
 use Rattle.cap_grammar.specs.declared.class.Class.TheVariants as c
 use Rattle.cap_grammar.specs.Classes.{class, are_same}
-use Rattle.cap_grammar.specs.Readers.{Fault, unexpected, too_deep, Outcome, Reader, ◌>>=◌, ahead, next_token, next_place, next_word, next_literal, expect, read_name, read_number, no_room, read_opening, read_optional, read_at_most, read_while, read_until, read_behind, read_more, read_several, read_listed, read_group}
-use Rattle.cap_grammar.specs.Grammar.{factor_by, read_factor, read_product_from, read_product, is_sign, sign_by, read_sign, read_addend, read_term_from, read_term_with, read_bracketed, bracketed_at, read_term, relation_by, read_relation, read_comparison_from, read_comparison, slot_by, read_slot, amount_by, read_amount, read_counted, guard_by, read_guard, read_guards, held_by, read_held, choice_by, read_choice, item_from_by, read_item_from, read_fact, named_item_by, read_named_item, item_by, read_item, read_assertion_with, read_side, side_at, read_assertion, read_clause, read_terms, read_load, read_alloc, read_cas, named_value_by, read_named_value, value_by, read_value, named_statement_by, read_named_statement, read_store, read_fork, read_else, read_branch, read_loop, read_check, read_give_back, statement_by, read_statement, read_block_with, block_at, declared_by, read_declared, read_joint, read_algebra_with, read_grouped, grouped_at, read_algebra, read_when, read_optional_when, read_case, read_action, read_head, read_region_body, read_region, read_function, declaration_by, read_declaration, read_program, HeadTree}
-use Rattle.cap_grammar.specs.Laws.Taking.{and_more, Takes, Keeps, takes-keeps, expect-takes, name-takes, at_most-keeps, behind-takes, factor-takes, addend-takes, term-takes, comparison-takes, slot-takes, guard-takes, side-takes, item-takes, block-takes, statement-takes, declared-takes, joint-takes, case-takes, action-takes, declaration-takes, statement-ends, case-ends, action-ends, enough-serves, while-begins, while-stops, while-taken, while-refused, while-done}
-use Rattle.cap_grammar.proofs.Shapes.{same_is_equal, same-self, shaped, plain, is_known, is_plain, plain-known, plain-shaped, room_after, shaped-room, known, not-end}
-use Rattle.cap_grammar.proofs.MeetsTerms.{star, factors-spelled, spell_addend, products-spelled, term_from-meets-with, term-meets, term_from-meets, comparison_from-meets, comparison-meets, slot-meets}
-use Rattle.cap_grammar.proofs.MeetsAssertions.{guards-meets, items-spelled, assertion-meets, clause-meets}
-use Rattle.cap_grammar.proofs.MeetsStatements.{statements-spelled, block-meets}
-use Rattle.cap_grammar.proofs.MeetsTexts.{declareds-spelled, joints-spelled, Agrees, program-agrees}
-use Rattle.cap_grammar.proofs.Gives.{Gives, gives, not-here, yields, known-yields, where-true, where-false, is-same, opens-then, optional-gives, Begins, parts-follow, while-gives, more-gives, several-gives}
-use Rattle.cap_grammar.proofs.Complete.{list_of_statements, statements-again, list_of_declareds, declareds-again, list_of_joints, joints-again, no_star, no-star, star-no, ends_term, term-gives, begins_term, term-begins, rest-begins, comparison-gives, guards-gives, begins_guard, guard-begins, no_item_of_its_own, assertion-gives, expect-gives, clause-gives}
+use Rattle.cap_grammar.specs.Readers.{Fault, unexpected, too_deep, Outcome, Reader, ◌>>=◌, ahead, read_name, read_until, read_several, read_listed, read_group}
+use Rattle.cap_grammar.specs.Grammar.{read_term_from, bracketed_at, read_term, read_comparison, read_clause, read_terms, named_value_by, read_value, read_branch, read_statement, read_block_with, block_at, read_declared, read_joint, grouped_at, read_algebra, read_when, read_optional_when, read_case, read_action, read_region, read_function, read_declaration, read_program}
+use Rattle.cap_grammar.specs.Laws.Taking.{Takes, Keeps, takes-keeps, name-takes, term-takes, comparison-takes, statement-takes, declared-takes, joint-takes, case-takes, action-takes, declaration-takes}
+use Rattle.cap_grammar.proofs.MeetsStatements.{statements-spelled}
+use Rattle.cap_grammar.proofs.MeetsTexts.{declareds-spelled, joints-spelled}
+use Rattle.cap_grammar.proofs.Gives.{Gives, gives, not-here, yields, where-false, opens-then, optional-gives, Begins, while-gives, more-gives, several-gives}
+use Rattle.cap_grammar.proofs.Complete.{list_of_statements, statements-again, list_of_declareds, declareds-again, list_of_joints, joints-again, no_star, no-star, ends_term, term-gives, begins_term, term-begins, rest-begins, comparison-gives, guards-gives, begins_guard, guard-begins, no_item_of_its_own, assertion-gives, expect-gives, clause-gives}
 
 -- lists of parts
 
@@ -34,21 +24,25 @@ not-closing : (k : Class) → begins_term k ≡ true → not (are_same c.Close k
 not-closing c.Close e = cc
 not-closing k e = refl
 
-listed-gives : {A : Type 0} (spell : Spells A) (follows : Class → Bool) (one : ℕ → Reader A) → follows c.Comma ≡ true → follows c.Close ≡ true → ((d : ℕ) → Keeps (one d))
+listed-gives : {A : Type 0} (spell : Spells A) (follows : Class → Bool) (one : ℕ → Reader A)
+    → follows c.Comma ≡ true → follows c.Close ≡ true → ((d : ℕ) → Keeps (one d))
     → ((a : A) (ts : List Token) → not (are_same c.Close (ahead (spell a ts))) ≡ true)
     → ((d : ℕ) (a : A) (ts : List Token) → follows (ahead ts) ≡ true → Gives a ts (one d (spell a ts)))
-    → (d : ℕ) (l : InParentheses A) (ts : List Token) → Gives l ts (read_listed d one (spell_listed spell l ts))
+    → (d : ℕ) (l : InParentheses A) (ts : List Token)
+    → Gives l ts (read_listed d one (spell_listed spell l ts))
 listed-gives spell follows one f g keeps first each d l ts =
     let rest = symbol (codes ")") l.behind ∷ ts in
     opens-then _ c.Open d (symbol (codes "(") l.before) (spell_option (spell_several (codes ",") spell) l.parts rest) refl (λ n.
     yields _ (optional-gives (spell_several (codes ",") spell) (λ k. not (are_same c.Close k)) (read_several c.Comma (one n)) l.parts rest refl
-      (λ a. first a.first (spell_more (codes ",") spell a.more rest))
-      (λ a. several-gives spell follows c.Comma (codes ",") (one n) (λ p. refl) refl f (keeps n) (each n) a rest refl g)) gives)
+    (λ a. first a.first (spell_more (codes ",") spell a.more rest))
+    (λ a. several-gives spell follows c.Comma (codes ",") (one n) (λ p. refl) refl f (keeps n) (each n) a rest refl g)) gives)
 
-group-gives : {A : Type 0} (spell : Spells A) (k : Class) (text : List ℕ) (one : ℕ → Reader A) → ((p : Place) → class (keyword text p) ≡ k) → ((d : ℕ) → Takes (one d))
+group-gives : {A : Type 0} (spell : Spells A) (k : Class) (text : List ℕ) (one : ℕ → Reader A)
+    → ((p : Place) → class (keyword text p) ≡ k) → ((d : ℕ) → Takes (one d))
     → ((a : A) (ts : List Token) → Begins (λ j. not (are_same c.CloseBrace j)) (λ j. true) (spell a ts))
     → ((d : ℕ) (a : A) (ts : List Token) → Gives a ts (one d (spell a ts)))
-    → (d : ℕ) (l : InBraces A) (ts : List Token) → Gives l ts (read_group d k one (spell_group text spell l ts))
+    → (d : ℕ) (l : InBraces A) (ts : List Token)
+    → Gives l ts (read_group d k one (spell_group text spell l ts))
 group-gives spell k text one e takes first each d l ts =
     let rest = symbol (codes "}") l.behind ∷ ts in
     yields _ (expect-gives k (keyword text l.key) (symbol (codes "{") l.before ∷ spell_all spell l.parts rest) (e l.key))
@@ -57,7 +51,8 @@ group-gives spell k text one e takes first each d l ts =
 
 -- statements
 
-terms-gives : (d : ℕ) (l : InParentheses TermTree) (ts : List Token) → Gives l ts (read_terms d (spell_terms l ts))
+terms-gives : (d : ℕ) (l : InParentheses TermTree) (ts : List Token)
+    → Gives l ts (read_terms d (spell_terms l ts))
 terms-gives d l ts =
     listed-gives spell_term ends_term read_term refl refl (λ n. takes-keeps (read_term n) (term-takes n))
     (λ t us. not-closing (ahead (spell_term t us)) (term-begins t us)) term-gives d l ts
@@ -78,7 +73,8 @@ value-of-term d (term None (product (named w) fs) ms) us e =
 value-of-term d (term None (product (bracketed p t q) fs) ms) us e = refl
 
 -- a value, before its semicolon
-value-gives : (d : ℕ) (v : ValueTree) (e : Place) (ts : List Token) → Gives v (symbol (codes ";") e ∷ ts) (read_value d (spell_value v (symbol (codes ";") e ∷ ts)))
+value-gives : (d : ℕ) (v : ValueTree) (e : Place) (ts : List Token)
+    → Gives v (symbol (codes ";") e ∷ ts) (read_value d (spell_value v (symbol (codes ";") e ∷ ts)))
 value-gives d (value t) e ts =
     let rest = symbol (codes ";") e ∷ ts in
     subst (Gives (value t) rest) (sym (value-of-term d t rest refl)) (yields _ (term-gives d t rest refl) gives)
@@ -105,7 +101,9 @@ no-else : (k : Class) → no_else_ahead k ≡ true → are_same c.Else k ≡ fal
 no-else c.Else e = cc
 no-else k e = refl
 
-branch-gives : (d : ℕ) → BlockGives d → (p q : Place) (x : ComparisonTree) (r : Place) (b : BlockTree) (f : ElseTree) (ts : List Token) → are_same c.Else (ahead ts) ≡ false
+branch-gives : (d : ℕ) → BlockGives d
+    → (p q : Place) (x : ComparisonTree) (r : Place) (b : BlockTree) (f : ElseTree) (ts : List Token)
+    → are_same c.Else (ahead ts) ≡ false
     → Gives (branch p q x r b f) ts (read_branch (block_at d) d (spell_statement (branch p q x r b f) ts))
 branch-gives d h p q x r b no_else ts e =
     let rest = symbol (codes ")") r ∷ spell_block b ts in
@@ -126,7 +124,9 @@ no-semicolon : (k : Class) → begins_term k ≡ true → not (are_same c.Semico
 no-semicolon c.Semicolon e = cc
 no-semicolon k e = refl
 
-statement-gives : (d : ℕ) → BlockGives d → (s : StatementTree) (ts : List Token) → no_else_ahead (ahead ts) ≡ true → Gives s ts (read_statement (block_at d) d (spell_statement s ts))
+statement-gives : (d : ℕ) → BlockGives d → (s : StatementTree) (ts : List Token)
+    → no_else_ahead (ahead ts) ≡ true
+    → Gives s ts (read_statement (block_at d) d (spell_statement s ts))
 statement-gives d h (assign w p v e) ts f = yields _ (value-gives d v e ts) gives
 statement-gives d h (store p a q r t e) ts f =
     let rest2 = symbol (codes ";") e ∷ ts in
@@ -148,7 +148,8 @@ statement-gives d h (give_back p t e) ts f =
     let rest = symbol (codes ";") e ∷ ts in
     yields _ (optional-gives spell_term (λ k. not (are_same c.Semicolon k)) (read_term d) t rest refl (λ y. no-semicolon (ahead (spell_term y rest)) (term-begins y rest)) (λ y. term-gives d y rest refl)) gives
 
-statement-begins : (s : StatementTree) (ts : List Token) → Begins (λ k. not (are_same c.CloseBrace k)) no_else_ahead (spell_statement s ts)
+statement-begins : (s : StatementTree) (ts : List Token)
+    → Begins (λ k. not (are_same c.CloseBrace k)) no_else_ahead (spell_statement s ts)
 statement-begins (assign w p v e) ts = (refl, refl, refl)
 statement-begins (store p a q r t e) ts = (refl, refl, refl)
 statement-begins (call w l e) ts = (refl, refl, refl)
@@ -174,13 +175,15 @@ block-gives (suc d) (block p ss q) ts =
 abbrev GroupedGives : ℕ → Type 0
 GroupedGives d = (p : Place) (a : AlgebraTree) (q : Place) (ts : List Token) → Gives (grouped p a q) ts (grouped_at d (symbol (codes "(") p ∷ spell_algebra a (symbol (codes ")") q ∷ ts)))
 
-declared-gives : (d : ℕ) → GroupedGives d → (x : DeclaredTree) (ts : List Token) → Gives x ts (read_declared (grouped_at d) (spell_declared x ts))
+declared-gives : (d : ℕ) → GroupedGives d → (x : DeclaredTree) (ts : List Token)
+    → Gives x ts (read_declared (grouped_at d) (spell_declared x ts))
 declared-gives d h (unique w) ts = gives
 declared-gives d h (divisible p w) ts = gives
 declared-gives d h (counting p w q) ts = gives
 declared-gives d h (grouped p a q) ts = h p a q ts
 
-joint-gives : (d : ℕ) → GroupedGives d → (j : JointTree) (ts : List Token) → no_star (ahead ts) ≡ true → Gives j ts (read_joint (grouped_at d) (spell_joint j ts))
+joint-gives : (d : ℕ) → GroupedGives d → (j : JointTree) (ts : List Token)
+    → no_star (ahead ts) ≡ true → Gives j ts (read_joint (grouped_at d) (spell_joint j ts))
 joint-gives d h (joint x more) ts e =
     subst (λ m. Gives (joint x m) ts (read_joint (grouped_at d) (spell_declared x (spell_declareds m ts)))) (declareds-again more) (by (list_of_declareds more))
   where
@@ -190,11 +193,14 @@ joint-gives d h (joint x more) ts e =
         (yields _ (declared-gives d h x (spell_more (codes "*") spell_declared l ts))
         (yields _ (more-gives spell_declared (λ k. true) c.Star (codes "*") (read_declared (grouped_at d)) (λ p. refl) refl refl (takes-keeps (read_declared (grouped_at d)) (declared-takes d)) (λ a us f. declared-gives d h a us) l ts (no-star (ahead ts) e) refl) gives))
 
-plus-no-star : (more : List EitherTree) (ts : List Token) → no_star (ahead ts) ≡ true → no_star (ahead (spell_more (codes "+") spell_joint more ts)) ≡ true
+plus-no-star : (more : List EitherTree) (ts : List Token) → no_star (ahead ts) ≡ true
+    → no_star (ahead (spell_more (codes "+") spell_joint more ts)) ≡ true
 plus-no-star [] ts e = e
 plus-no-star (j ∷ more) ts e = refl
 
-algebra-gives-with : (d : ℕ) → GroupedGives d → (a : AlgebraTree) (ts : List Token) → are_same c.Plus (ahead ts) ≡ false → no_star (ahead ts) ≡ true → Gives a ts (read_algebra d (spell_algebra a ts))
+algebra-gives-with : (d : ℕ) → GroupedGives d → (a : AlgebraTree) (ts : List Token)
+    → are_same c.Plus (ahead ts) ≡ false → no_star (ahead ts) ≡ true
+    → Gives a ts (read_algebra d (spell_algebra a ts))
 algebra-gives-with d h (algebra j more) ts e f =
     subst (λ m. Gives (algebra j m) ts (read_algebra d (spell_joint j (spell_joints m ts)))) (joints-again more) (by (list_of_joints more))
   where
@@ -213,16 +219,20 @@ abbrev ends_when : Class → Bool
 ends_when c.Comma = false
 ends_when k = ends_term k
 
-when-gives : (d : ℕ) (w : WhenTree) (ts : List Token) → ends_term (ahead ts) ≡ true → are_same c.Comma (ahead ts) ≡ false → Gives w ts (read_when d (spell_when w ts))
+when-gives : (d : ℕ) (w : WhenTree) (ts : List Token) → ends_term (ahead ts) ≡ true
+    → are_same c.Comma (ahead ts) ≡ false → Gives w ts (read_when d (spell_when w ts))
 when-gives d w ts e f =
     yields _ (several-gives spell_comparison ends_term c.Comma (codes ",") (read_comparison d) (λ p. refl) refl refl (takes-keeps (read_comparison d) (comparison-takes d)) (comparison-gives d) w.comparisons ts f e) gives
 
 -- conditions, or none, before a token of a class that ends them
-optional_when-gives : (d : ℕ) (w : Option WhenTree) (t : Token) (ts : List Token) → ends_term (class t) ≡ true → are_same c.Comma (class t) ≡ false → are_same c.When (class t) ≡ false
+optional_when-gives : (d : ℕ) (w : Option WhenTree) (t : Token) (ts : List Token)
+    → ends_term (class t) ≡ true → are_same c.Comma (class t) ≡ false
+    → are_same c.When (class t) ≡ false
     → Gives w (t ∷ ts) (read_optional_when d (spell_option spell_when w (t ∷ ts)))
 optional_when-gives d w t ts e f g = optional-gives spell_when (are_same c.When) (read_when d) w (t ∷ ts) g (λ y. refl) (λ y. when-gives d y (t ∷ ts) e f)
 
-when-ends : (w : Option WhenTree) (t : Token) (ts : List Token) → ends_term (class t) ≡ true → ends_term (ahead (spell_option spell_when w (t ∷ ts))) ≡ true
+when-ends : (w : Option WhenTree) (t : Token) (ts : List Token) → ends_term (class t) ≡ true
+    → ends_term (ahead (spell_option spell_when w (t ∷ ts))) ≡ true
 when-ends None t ts e = e
 when-ends (Some w) t ts e = refl
 
@@ -235,7 +245,8 @@ case-gives d x ts =
     (yields _ (optional_when-gives d x.when colon rest refl refl refl)
     (yields _ (assertion-gives d x.assertion end refl refl) gives))
 
-action-gives : (d : ℕ) (x : ActionTree) (ts : List Token) → Gives x ts (read_action d (spell_action x ts))
+action-gives : (d : ℕ) (x : ActionTree) (ts : List Token)
+    → Gives x ts (read_action d (spell_action x ts))
 action-gives d x ts =
     let end = symbol (codes ";") x.semicolon in
     let target = spell_term x.target (spell_option spell_when x.when (end ∷ ts)) in
@@ -245,25 +256,30 @@ action-gives d x ts =
     (yields _ (term-gives d x.target (spell_option spell_when x.when (end ∷ ts)) (when-ends x.when end ts refl))
     (yields _ (optional_when-gives d x.when end ts refl refl refl) gives)))
 
-term-in-braces : (k : Class) → begins_term k ≡ true → (not (are_same c.CloseBrace k) ≡ true) × (true ≡ true) × (are_same c.End k ≡ false)
+term-in-braces : (k : Class) → begins_term k ≡ true
+    → (not (are_same c.CloseBrace k) ≡ true) × (true ≡ true) × (are_same c.End k ≡ false)
 term-in-braces c.CloseBrace e = cc
 term-in-braces c.End e = cc
 term-in-braces k e = (refl, refl, refl)
 
-guard-in-braces : (k : Class) → begins_guard k ≡ true → (not (are_same c.CloseBrace k) ≡ true) × (true ≡ true) × (are_same c.End k ≡ false)
+guard-in-braces : (k : Class) → begins_guard k ≡ true
+    → (not (are_same c.CloseBrace k) ≡ true) × (true ≡ true) × (are_same c.End k ≡ false)
 guard-in-braces c.CloseBrace e = cc
 guard-in-braces c.End e = cc
 guard-in-braces k e = (refl, refl, refl)
 
-case-begins : (x : CaseTree) (ts : List Token) → Begins (λ j. not (are_same c.CloseBrace j)) (λ j. true) (spell_case x ts)
+case-begins : (x : CaseTree) (ts : List Token)
+    → Begins (λ j. not (are_same c.CloseBrace j)) (λ j. true) (spell_case x ts)
 case-begins x ts = let l = spell_case x ts in term-in-braces (ahead l) (term-begins x.state (spell_option spell_when x.when (symbol (codes ":") x.colon ∷ spell_assertion x.assertion (symbol (codes ";") x.semicolon ∷ ts))))
 
-action-begins : (x : ActionTree) (ts : List Token) → Begins (λ j. not (are_same c.CloseBrace j)) (λ j. true) (spell_action x ts)
+action-begins : (x : ActionTree) (ts : List Token)
+    → Begins (λ j. not (are_same c.CloseBrace j)) (λ j. true) (spell_action x ts)
 action-begins x ts =
     let l = spell_action x ts in
     guard-in-braces (ahead l) (guard-begins x.guards.first (spell_more (codes "*") spell_guard x.guards.more (symbol (codes ":") x.colon ∷ spell_term x.source (symbol (codes "~>") x.arrow ∷ spell_term x.target (spell_option spell_when x.when (symbol (codes ";") x.semicolon ∷ ts))))))
 
-region-gives : (d : ℕ) (x : RegionTree) (ts : List Token) → Gives x ts (read_region d (spell_region x ts))
+region-gives : (d : ℕ) (x : RegionTree) (ts : List Token)
+    → Gives x ts (read_region d (spell_region x ts))
 region-gives d x ts =
     let end = symbol (codes "}") x.end ∷ ts in
     let acts = spell_group (codes "actions") spell_action x.actions end in
@@ -271,19 +287,21 @@ region-gives d x ts =
     let body = keyword (codes "guards") x.guards ∷ spell_algebra x.algebra (symbol (codes ";") x.semicolon ∷ cs) in
     let rest = symbol (codes ")") x.behind ∷ symbol (codes "{") x.brace ∷ body in
     yields _ (
-      opens-then _ c.Open d (symbol (codes "(") x.before) (spell_several (codes ",") spell_name x.parameters rest) refl (λ n.
-      yields _ (several-gives spell_name (λ k. true) c.Comma (codes ",") read_name (λ p. refl) refl refl (takes-keeps read_name name-takes) (λ a us f. gives) x.parameters rest refl refl) gives))
+    opens-then _ c.Open d (symbol (codes "(") x.before) (spell_several (codes ",") spell_name x.parameters rest) refl (λ n.
+    yields _ (several-gives spell_name (λ k. true) c.Comma (codes ",") read_name (λ p. refl) refl refl (takes-keeps read_name name-takes) (λ a us f. gives) x.parameters rest refl refl) gives))
     (opens-then _ c.OpenBrace d (symbol (codes "{") x.brace) body refl (λ n.
     yields _ (algebra-gives-with n (grouped-gives n) x.algebra (symbol (codes ";") x.semicolon ∷ cs) refl refl)
     (yields _ (group-gives spell_case c.Interpretation (codes "interpretation") read_case (λ p. refl) case-takes case-begins case-gives n x.cases acts)
     (yields _ (group-gives spell_action c.Actions (codes "actions") read_action (λ p. refl) action-takes action-begins action-gives n x.actions end) gives))))
 
-no-clause : (j : Class) (x : Option ClauseTree) (b : BlockTree) (ts : List Token) → are_same j c.Ensures ≡ false → are_same j c.OpenBrace ≡ false
+no-clause : (j : Class) (x : Option ClauseTree) (b : BlockTree) (ts : List Token)
+    → are_same j c.Ensures ≡ false → are_same j c.OpenBrace ≡ false
     → are_same j (ahead (spell_option (spell_clause (codes "ensures")) x (spell_block b ts))) ≡ false
 no-clause j None b ts e f = ap (are_same j) (block-begins b ts) ∙ f
 no-clause j (Some x) b ts e f = e
 
-function-gives : (d : ℕ) (x : FunctionTree) (ts : List Token) → Gives x ts (read_function d (spell_function x ts))
+function-gives : (d : ℕ) (x : FunctionTree) (ts : List Token)
+    → Gives x ts (read_function d (spell_function x ts))
 function-gives d x ts =
     let body = spell_block x.body ts in
     let post = spell_option (spell_clause (codes "ensures")) x.postcondition body in
@@ -293,11 +311,13 @@ function-gives d x ts =
     (yields _ (optional-gives (spell_clause (codes "ensures")) (are_same c.Ensures) (read_clause d c.Ensures) x.postcondition body (ap (are_same c.Ensures) (block-begins x.body ts)) (λ y. refl) (λ y. clause-gives d c.Ensures (codes "ensures") y body (λ p. refl)))
     (yields _ (block-gives d x.body ts) gives)))
 
-declaration-gives : (d : ℕ) (x : DeclarationTree) (ts : List Token) → Gives x ts (read_declaration d (spell_declaration x ts))
+declaration-gives : (d : ℕ) (x : DeclarationTree) (ts : List Token)
+    → Gives x ts (read_declaration d (spell_declaration x ts))
 declaration-gives d (region r) ts = yields _ (region-gives d r ts) gives
 declaration-gives d (function f) ts = yields _ (function-gives d f ts) gives
 
-declaration-begins : (x : DeclarationTree) (ts : List Token) → Begins (λ j. not (are_same c.End j)) (λ j. true) (spell_declaration x ts)
+declaration-begins : (x : DeclarationTree) (ts : List Token)
+    → Begins (λ j. not (are_same c.End j)) (λ j. true) (spell_declaration x ts)
 declaration-begins (region r) ts = (refl, refl, refl)
 declaration-begins (function f) ts = (refl, refl, refl)
 

@@ -1,15 +1,13 @@
 -- Every stack on which the automaton comes can be completed.
-use Rattle.std.proofs.Common.{◌≡◌, ℕ, zero, suc, not, ◌&&◌, cond, ◌≤◌, Bool, true, false, List, [], ◌∷◌, ◌++◌, map, length, Option, Some, None, IsSome, codes, refl, sym, ap, ◌∙◌, subst, arith, append_assoc}
-use Rattle.cap_syntax.specs.declared.place.Place.{Place}
+use Rattle.std.proofs.Common.{◌≡◌, not, ◌&&◌, cond, Bool, true, false, List, [], ◌∷◌, ◌++◌, map, refl, sym, ap, ◌∙◌}
 use Rattle.cap_syntax.specs.declared.token.Token.{Token}
 use Rattle.cap_syntax.specs.declared.token.TokenKind.TheVariants as kind
-use Rattle.cap_tree.specs.Nesting.{opens, closes, one_fewer, room_behind, onwards, room_left}
 use Rattle.cap_grammar.specs.declared.class.Class.{Class}
 use Rattle.cap_grammar.specs.declared.class.Class.TheVariants as c
 use Rattle.cap_grammar.specs.Classes.{class, are_same}
 use Rattle.cap_grammar.specs.Readers.{ahead}
-use Rattle.cap_grammar.proofs.Shapes.{same_is_equal, same-self, shaped, is_known, known}
-use Rattle.cap_grammar.proofs.Automaton.{Ending, a_colon, a_semicolon, end_class, Symbol, fixed, rule, Rule, may_minus, a_factor, more_factors, a_sign, more_products, a_relation, a_slot, a_guard, may_amount, more_guards, a_held, an_item, named_item, item_rest, may_choose, more_items, slots, a_value, named_value, terms, more_terms, a_statement, named_statement, may_else, may_invariant, returned, statements, a_declared, more_declared, more_joints, may_when, more_comparisons, cases, actions, names, more_names, may_requires, may_ensures, a_declaration, declarations, Move, on, stop, done, Answer, whole, wrong, deep, Stack, the_rest_of_a_term, a_product, a_term, a_comparison, some_guards, an_assertion, a_side, a_clause, a_block, a_joint, an_algebra, a_case, the_rest_of_an_action, Steps, behind, factor_steps, term_steps, rest_steps, relation_steps, counted_guard, guard_steps, item_rest_steps, statement_steps, the_rest_of_a_region, the_rest_of_a_function, declaration_steps, steps, may_be_empty, found, next, ended, goes, within, run, walk, start}
+use Rattle.cap_grammar.proofs.Shapes.{same_is_equal, same-self, shaped, is_known}
+use Rattle.cap_grammar.proofs.Automaton.{a_colon, a_semicolon, end_class, fixed, rule, Rule, may_minus, a_factor, more_factors, a_sign, more_products, a_relation, a_slot, a_guard, may_amount, more_guards, a_held, an_item, named_item, item_rest, may_choose, more_items, slots, a_value, named_value, terms, more_terms, a_statement, named_statement, may_else, may_invariant, returned, statements, a_declared, more_declared, more_joints, may_when, more_comparisons, cases, actions, names, more_names, may_requires, may_ensures, a_declaration, declarations, Move, on, stop, done, whole, wrong, Stack, Steps, steps, may_be_empty, found, next, ended, goes, walk}
 
 pub blank : Token
 blank = record { kind = kind.Name; text = []; value = 0; place = record { line = 1; column = 1 } }
@@ -85,13 +83,13 @@ is_led b (fixed k ∷ s) = leads k
 is_led b (rule r ∷ s) = lead_of (word r) (is_led b s)
 
 -- no part stands before a lead that it would take for its own
-abbrev pub is_sound : Bool → Stack → Bool
-is_sound b [] = true
-is_sound b (fixed k ∷ s) = is_known k && is_sound b s
-is_sound b (rule r ∷ s) = not (is_led b s) && is_sound b s
+abbrev pub is_completable : Bool → Stack → Bool
+is_completable b [] = true
+is_completable b (fixed k ∷ s) = is_known k && is_completable b s
+is_completable b (rule r ∷ s) = not (is_led b s) && is_completable b s
 
-abbrev pub IsSound : Stack → Type 0
-IsSound s = is_sound false s ≡ true
+abbrev pub IsCompletable : Stack → Type 0
+IsCompletable s = is_completable false s ≡ true
 
 both : (a b : Bool) → (a && b) ≡ true → (a ≡ true) × (b ≡ true)
 both true true e = (refl, refl)
@@ -115,57 +113,61 @@ and-assoc : (x y z : Bool) → (x && (y && z)) ≡ ((x && y) && z)
 and-assoc true y z = refl
 and-assoc false y z = refl
 
-sound-append : (b : Bool) (w s : Stack) → is_sound b (w ++ s) ≡ (is_sound (is_led b s) w && is_sound b s)
-sound-append b [] s = refl
-sound-append b (fixed k ∷ w) s = ap (λ x. is_known k && x) (sound-append b w s) ∙ and-assoc (is_known k) (is_sound (is_led b s) w) (is_sound b s)
-sound-append b (rule r ∷ w) s =
-    ap (λ x. not (is_led b (w ++ s)) && x) (sound-append b w s)
-    ∙ and-assoc (not (is_led b (w ++ s))) (is_sound (is_led b s) w) (is_sound b s)
-    ∙ ap (λ x. (not x && is_sound (is_led b s) w) && is_sound b s) (led-append b w s)
+completable-append : (b : Bool) (w s : Stack)
+    → is_completable b (w ++ s) ≡ (is_completable (is_led b s) w && is_completable b s)
+completable-append b [] s = refl
+completable-append b (fixed k ∷ w) s = ap (λ x. is_known k && x) (completable-append b w s) ∙ and-assoc (is_known k) (is_completable (is_led b s) w) (is_completable b s)
+completable-append b (rule r ∷ w) s =
+    ap (λ x. not (is_led b (w ++ s)) && x) (completable-append b w s)
+    ∙ and-assoc (not (is_led b (w ++ s))) (is_completable (is_led b s) w) (is_completable b s)
+    ∙ ap (λ x. (not x && is_completable (is_led b s) w) && is_completable b s) (led-append b w s)
 
-abbrev all_sound : Steps → Bool
-all_sound [] = true
-all_sound (step ∷ more) = is_sound false step.1 && all_sound more
+abbrev all_completable : Steps → Bool
+all_completable [] = true
+all_completable (step ∷ more) = is_completable false step.1 && all_completable more
 
-steps-sound : (r : Rule) → all_sound (steps r) ≡ true
-steps-sound (may_when a_colon) = refl
-steps-sound (may_when a_semicolon) = refl
-steps-sound (more_comparisons a_colon) = refl
-steps-sound (more_comparisons a_semicolon) = refl
-steps-sound r = refl
+steps-completable : (r : Rule) → all_completable (steps r) ≡ true
+steps-completable (may_when a_colon) = refl
+steps-completable (may_when a_semicolon) = refl
+steps-completable (more_comparisons a_colon) = refl
+steps-completable (more_comparisons a_semicolon) = refl
+steps-completable r = refl
 
 on-same : (s t : Stack) → on s ≡ on t → s ≡ t
 on-same s t e = cc
 
-found-sound : (st : Steps) (k : Class) (s : Stack) (m : Move) (s2 : Stack) → all_sound st ≡ true → is_led false s ≡ false → IsSound s → (m ≡ on s2 → IsSound s2)
-    → found st k s m ≡ on s2 → IsSound s2
-found-sound [] k s m s2 a l h other e = other e
-found-sound (step ∷ more) k s m s2 a l h other e =
-    by (both (is_sound false step.1) (all_sound more) a) (λ t f. found-sound more k s m s2 t l h other f) (are_same step.0 k) e
+found-completable : (st : Steps) (k : Class) (s : Stack) (m : Move) (s2 : Stack)
+    → all_completable st ≡ true → is_led false s ≡ false → IsCompletable s
+    → (m ≡ on s2 → IsCompletable s2)
+    → found st k s m ≡ on s2 → IsCompletable s2
+found-completable [] k s m s2 a l h other e = other e
+found-completable (step ∷ more) k s m s2 a l h other e =
+    by (both (is_completable false step.1) (all_completable more) a) (λ t f. found-completable more k s m s2 t l h other f) (are_same step.0 k) e
   where
-    by : (is_sound false step.1 ≡ true) × (all_sound more ≡ true) → (all_sound more ≡ true → found more k s m ≡ on s2 → IsSound s2)
-        → (o : Bool) → cond o (on (step.1 ++ s)) (found more k s m) ≡ on s2 → IsSound s2
+    by : (is_completable false step.1 ≡ true) × (all_completable more ≡ true) → (all_completable more ≡ true → found more k s m ≡ on s2 → IsCompletable s2)
+        → (o : Bool) → cond o (on (step.1 ++ s)) (found more k s m) ≡ on s2 → IsCompletable s2
     by p later true f =
-        ap (is_sound false) (sym (on-same (step.1 ++ s) s2 f)) ∙ sound-append false step.1 s
-        ∙ and-true (is_sound (is_led false s) step.1) (is_sound false s) (ap (λ x. is_sound x step.1) l ∙ p.0) h
+        ap (is_completable false) (sym (on-same (step.1 ++ s) s2 f)) ∙ completable-append false step.1 s
+        ∙ and-true (is_completable (is_led false s) step.1) (is_completable false s) (ap (λ x. is_completable x step.1) l ∙ p.0) h
     by p later false f = later p.1 f
 
-pub next-sound : (s : Stack) (k : Class) (s2 : Stack) → IsSound s → next s k ≡ on s2 → IsSound s2
-next-sound [] k s2 h e = by (are_same c.End k) e
+pub next-completable : (s : Stack) (k : Class) (s2 : Stack) → IsCompletable s → next s k ≡ on s2
+    → IsCompletable s2
+next-completable [] k s2 h e = by (are_same c.End k) e
   where
-    by : (b : Bool) → cond b done stop ≡ on s2 → IsSound s2
+    by : (b : Bool) → cond b done stop ≡ on s2 → IsCompletable s2
     by true f = cc
     by false f = cc
-next-sound (fixed j ∷ s) k s2 h e = by (are_same j k) e
+next-completable (fixed j ∷ s) k s2 h e = by (are_same j k) e
   where
-    by : (b : Bool) → cond b (on s) stop ≡ on s2 → IsSound s2
-    by true f = ap (is_sound false) (sym (on-same s s2 f)) ∙ (both (is_known j) (is_sound false s) h).1
+    by : (b : Bool) → cond b (on s) stop ≡ on s2 → IsCompletable s2
+    by true f = ap (is_completable false) (sym (on-same s s2 f)) ∙ (both (is_known j) (is_completable false s) h).1
     by false f = cc
-next-sound (rule r ∷ s) k s2 h e =
-    let p = both (not (is_led false s)) (is_sound false s) h in
-    found-sound (steps r) k s (cond (may_be_empty r) (next s k) stop) s2 (steps-sound r) (not-true (is_led false s) p.0) p.1 (by (λ f. next-sound s k s2 p.1 f) (may_be_empty r)) e
+next-completable (rule r ∷ s) k s2 h e =
+    let p = both (not (is_led false s)) (is_completable false s) h in
+    found-completable (steps r) k s (cond (may_be_empty r) (next s k) stop) s2 (steps-completable r) (not-true (is_led false s) p.0) p.1 (by (λ f. next-completable s k s2 p.1 f) (may_be_empty r)) e
   where
-    by : (next s k ≡ on s2 → IsSound s2) → (b : Bool) → cond b (next s k) stop ≡ on s2 → IsSound s2
+    by : (next s k ≡ on s2 → IsCompletable s2) → (b : Bool) → cond b (next s k) stop ≡ on s2 → IsCompletable s2
     by again true f = again f
     by again false f = cc
 
@@ -173,35 +175,37 @@ abbrev all_lead : Steps → Bool
 all_lead [] = true
 all_lead (step ∷ more) = leads step.0 && all_lead more
 
-optional-leads : (r : Rule) → may_be_empty r ≡ true → all_lead (steps r) ≡ true
-optional-leads a_factor e = cc
-optional-leads a_sign e = cc
-optional-leads a_relation e = cc
-optional-leads a_slot e = cc
-optional-leads a_guard e = cc
-optional-leads a_held e = cc
-optional-leads an_item e = cc
-optional-leads named_item e = cc
-optional-leads item_rest e = cc
-optional-leads slots e = cc
-optional-leads a_value e = cc
-optional-leads terms e = cc
-optional-leads more_terms e = cc
-optional-leads a_statement e = cc
-optional-leads named_statement e = cc
-optional-leads returned e = cc
-optional-leads statements e = cc
-optional-leads a_declared e = cc
-optional-leads (may_when end) e = cc
-optional-leads (more_comparisons end) e = cc
-optional-leads cases e = cc
-optional-leads actions e = cc
-optional-leads names e = cc
-optional-leads more_names e = cc
-optional-leads a_declaration e = cc
-optional-leads r e = refl
+-- a part that may be empty has no word, and begins by leads
+optional-part : (r : Rule) → may_be_empty r ≡ true → (all_lead (steps r) ≡ true) × (word r ≡ [])
+optional-part a_factor e = cc
+optional-part a_sign e = cc
+optional-part a_relation e = cc
+optional-part a_slot e = cc
+optional-part a_guard e = cc
+optional-part a_held e = cc
+optional-part an_item e = cc
+optional-part named_item e = cc
+optional-part item_rest e = cc
+optional-part slots e = cc
+optional-part a_value e = cc
+optional-part terms e = cc
+optional-part more_terms e = cc
+optional-part a_statement e = cc
+optional-part named_statement e = cc
+optional-part returned e = cc
+optional-part statements e = cc
+optional-part a_declared e = cc
+optional-part (may_when end) e = cc
+optional-part (more_comparisons end) e = cc
+optional-part cases e = cc
+optional-part actions e = cc
+optional-part names e = cc
+optional-part more_names e = cc
+optional-part a_declaration e = cc
+optional-part r e = (refl, refl)
 
-found-none : (st : Steps) (k : Class) (s : Stack) (m : Move) → all_lead st ≡ true → leads k ≡ false → found st k s m ≡ m
+found-none : (st : Steps) (k : Class) (s : Stack) (m : Move) → all_lead st ≡ true → leads k ≡ false
+    → found st k s m ≡ m
 found-none [] k s m a l = refl
 found-none (step ∷ more) k s m a l = by (both (leads step.0) (all_lead more) a) (λ f. found-none more k s m f l) (are_same step.0 k) refl
   where
@@ -210,14 +214,16 @@ found-none (step ∷ more) k s m a l = by (both (leads step.0) (all_lead more) a
     by p later false f = later p.1
 
 -- a part that may be empty is, before no lead
-skipped : (r : Rule) (s : Stack) (ts : List Token) → may_be_empty r ≡ true → leads (ahead ts) ≡ false → walk (rule r ∷ s) ts ≡ walk s ts
-skipped r s [] e l = ap ended (found-none (steps r) c.End s (cond (may_be_empty r) (next s c.End) stop) (optional-leads r e) l ∙ ap (λ b. cond b (next s c.End) stop) e)
+skipped : (r : Rule) (s : Stack) (ts : List Token) → may_be_empty r ≡ true
+    → leads (ahead ts) ≡ false → walk (rule r ∷ s) ts ≡ walk s ts
+skipped r s [] e l = ap ended (found-none (steps r) c.End s (cond (may_be_empty r) (next s c.End) stop) (optional-part r e).0 l ∙ ap (λ b. cond b (next s c.End) stop) e)
 skipped r s (t ∷ ts) e l =
     ap (λ m. goes m (λ s2. walk s2 ts) (wrong (t ∷ ts)))
-    (found-none (steps r) (class t) s (cond (may_be_empty r) (next s (class t)) stop) (optional-leads r e) l ∙ ap (λ b. cond b (next s (class t)) stop) e)
+    (found-none (steps r) (class t) s (cond (may_be_empty r) (next s (class t)) stop) (optional-part r e).0 l ∙ ap (λ b. cond b (next s (class t)) stop) e)
 
 -- whatever comes, a part's word is walked over
-word-walked : (r : Rule) (s : Stack) (ts : List Token) → may_be_empty r ≡ false → walk (rule r ∷ s) (map a_token (word r) ++ ts) ≡ walk s ts
+word-walked : (r : Rule) (s : Stack) (ts : List Token) → may_be_empty r ≡ false
+    → walk (rule r ∷ s) (map a_token (word r) ++ ts) ≡ walk s ts
 word-walked may_minus s ts e = cc
 word-walked more_factors s ts e = cc
 word-walked more_products s ts e = cc
@@ -239,57 +245,30 @@ word-walked (more_comparisons a_colon) s ts e = refl
 word-walked (more_comparisons a_semicolon) s ts e = refl
 word-walked r s ts e = refl
 
-word-empty : (r : Rule) → may_be_empty r ≡ true → word r ≡ []
-word-empty a_factor e = cc
-word-empty a_sign e = cc
-word-empty a_relation e = cc
-word-empty a_slot e = cc
-word-empty a_guard e = cc
-word-empty a_held e = cc
-word-empty an_item e = cc
-word-empty named_item e = cc
-word-empty item_rest e = cc
-word-empty slots e = cc
-word-empty a_value e = cc
-word-empty terms e = cc
-word-empty more_terms e = cc
-word-empty a_statement e = cc
-word-empty named_statement e = cc
-word-empty returned e = cc
-word-empty statements e = cc
-word-empty a_declared e = cc
-word-empty (may_when end) e = cc
-word-empty (more_comparisons end) e = cc
-word-empty cases e = cc
-word-empty actions e = cc
-word-empty names e = cc
-word-empty more_names e = cc
-word-empty a_declaration e = cc
-word-empty r e = refl
-
-word-lead : (r : Rule) (ts : List Token) → leads (ahead (map a_token (word r) ++ ts)) ≡ lead_of (word r) (leads (ahead ts))
+word-lead : (r : Rule) (ts : List Token)
+    → leads (ahead (map a_token (word r) ++ ts)) ≡ lead_of (word r) (leads (ahead ts))
 word-lead (may_when a_colon) ts = refl
 word-lead (may_when a_semicolon) ts = refl
 word-lead (more_comparisons a_colon) ts = refl
 word-lead (more_comparisons a_semicolon) ts = refl
 word-lead r ts = refl
 
-completion-lead : (s : Stack) → IsSound s → leads (ahead (completion s)) ≡ is_led false s
+completion-lead : (s : Stack) → IsCompletable s → leads (ahead (completion s)) ≡ is_led false s
 completion-lead [] h = refl
-completion-lead (fixed k ∷ s) h = ap leads (token-class k (both (is_known k) (is_sound false s) h).0)
+completion-lead (fixed k ∷ s) h = ap leads (token-class k (both (is_known k) (is_completable false s) h).0)
 completion-lead (rule r ∷ s) h =
-    word-lead r (completion s) ∙ ap (lead_of (word r)) (completion-lead s (both (not (is_led false s)) (is_sound false s) h).1)
+    word-lead r (completion s) ∙ ap (lead_of (word r)) (completion-lead s (both (not (is_led false s)) (is_completable false s) h).1)
 
-pub completed : (s : Stack) → IsSound s → walk s (completion s) ≡ whole
+pub completed : (s : Stack) → IsCompletable s → walk s (completion s) ≡ whole
 completed [] h = refl
 completed (fixed k ∷ s) h =
-    let p = both (is_known k) (is_sound false s) h in
+    let p = both (is_known k) (is_completable false s) h in
     ap (λ b. goes (cond b (on s) stop) (λ s2. walk s2 (completion s)) (wrong (a_token k ∷ completion s))) (ap (are_same k) (token-class k p.0) ∙ same-self k)
     ∙ completed s p.1
-completed (rule r ∷ s) h = let p = both (not (is_led false s)) (is_sound false s) h in by p (completed s p.1) (may_be_empty r) refl
+completed (rule r ∷ s) h = let p = both (not (is_led false s)) (is_completable false s) h in by p (completed s p.1) (may_be_empty r) refl
   where
-    by : (not (is_led false s) ≡ true) × IsSound s → walk s (completion s) ≡ whole → (b : Bool) → may_be_empty r ≡ b → walk (rule r ∷ s) (map a_token (word r) ++ completion s) ≡ whole
+    by : (not (is_led false s) ≡ true) × IsCompletable s → walk s (completion s) ≡ whole → (b : Bool) → may_be_empty r ≡ b → walk (rule r ∷ s) (map a_token (word r) ++ completion s) ≡ whole
     by p again false e = word-walked r s (completion s) e ∙ again
     by p again true e =
-        ap (λ w. walk (rule r ∷ s) (map a_token w ++ completion s)) (word-empty r e)
+        ap (λ w. walk (rule r ∷ s) (map a_token w ++ completion s)) (optional-part r e).1
         ∙ skipped r s (completion s) e (completion-lead s p.1 ∙ not-true (is_led false s) p.0) ∙ again

@@ -1,17 +1,17 @@
 -- Reading, spelling, and the places where a text goes wrong.
-use Rattle.std.proofs.Common.{◌≡◌, ℕ, ◌≤◌, ◌⊎◌, inl, inr, Bool, true, false, List, [], ◌∷◌, ◌++◌, length, Option, Some, None, IsSome, is_some, Result, Ok, Err, refl, sym, ap, ◌∙◌, subst, arith, append_assoc, append-nil}
+use Rattle.std.proofs.Common.{◌≡◌, ℕ, ◌⊎◌, inl, inr, true, List, [], ◌∷◌, ◌++◌, length, Option, Some, None, IsSome, Result, Ok, Err, refl, sym, ap, ◌∙◌, subst, arith, append_assoc, append-nil}
 use Rattle.cap_syntax.specs.declared.token.Token.{Token}
 use Rattle.cap_tree.specs.Tree.{ProgramTree}
 use Rattle.cap_tree.specs.Spelling.{spelling}
-use Rattle.cap_tree.specs.Nesting.{max_nesting, opens, one_fewer, room_behind, room_left, Nests}
+use Rattle.cap_tree.specs.Nesting.{max_nesting, opens, room_behind, room_left, Nests}
 use Rattle.cap_tree.specs.Texts.{BeginsText, IsUnexpectedAt, IsTooDeepAt}
 use Rattle.cap_grammar.specs.declared.class.Class.TheVariants as c
 use Rattle.cap_grammar.specs.Classes.{class}
 use Rattle.cap_grammar.specs.Readers.{Fault, unexpected, too_deep}
 use Rattle.cap_grammar.specs.Grammar.{read_program}
-use Rattle.cap_grammar.proofs.Automaton.{Stack, Move, on, stop, done, Answer, whole, wrong, deep, next, ended, goes, within, run, walk, start}
-use Rattle.cap_grammar.proofs.Completion.{IsSound, next-sound, completed, completion}
-use Rattle.cap_grammar.proofs.Stops.{StopsWrong, StopsDeep, step-walk, stops-wrong, stops-deep, Comes, comes, run-whole, large}
+use Rattle.cap_grammar.proofs.Automaton.{Stack, Move, on, stop, done, whole, wrong, deep, next, ended, goes, within, run, walk, start}
+use Rattle.cap_grammar.proofs.Completion.{IsCompletable, next-completable, completed, completion}
+use Rattle.cap_grammar.proofs.Stops.{step-walk, stops-wrong, stops-deep, Comes, comes, run-whole, large}
 use Rattle.cap_grammar.proofs.MeetsTexts.{Agrees, program-agrees}
 use Rattle.cap_grammar.proofs.CompleteTexts.{IsReadUnlessDeep, program-gives}
 
@@ -31,7 +31,8 @@ walk-not-deep s (t ∷ ts) rest e = by (λ s2. walk-not-deep s2 ts rest) (next s
 
 -- what the automaton answers says what is read
 
-pub whole-read : (d : ℕ) (ts : List Token) → run start d ts ≡ whole → (t : ProgramTree) × (read_program d ts ≡ Ok t)
+pub whole-read : (d : ℕ) (ts : List Token) → run start d ts ≡ whole
+    → (t : ProgramTree) × (read_program d ts ≡ Ok t)
 whole-read d ts e = by (read_program d ts) refl (program-agrees d ts)
   where
     by : (r : Result ProgramTree Fault) → read_program d ts ≡ r → Agrees ts (run start d ts) r → (t : ProgramTree) × (read_program d ts ≡ Ok t)
@@ -39,7 +40,8 @@ whole-read d ts e = by (read_program d ts) refl (program-agrees d ts)
     by (Err (unexpected rest)) f a = let g : wrong rest ≡ whole = sym a ∙ e in absurd cc
     by (Err (too_deep rest)) f a = let g : deep rest ≡ whole = sym a ∙ e in absurd cc
 
-wrong-read : (d : ℕ) (ts rest : List Token) → run start d ts ≡ wrong rest → read_program d ts ≡ Err (unexpected rest)
+wrong-read : (d : ℕ) (ts rest : List Token) → run start d ts ≡ wrong rest
+    → read_program d ts ≡ Err (unexpected rest)
 wrong-read d ts rest e = by (read_program d ts) refl (program-agrees d ts)
   where
     by : (r : Result ProgramTree Fault) → read_program d ts ≡ r → Agrees ts (run start d ts) r → read_program d ts ≡ Err (unexpected rest)
@@ -47,7 +49,8 @@ wrong-read d ts rest e = by (read_program d ts) refl (program-agrees d ts)
     by (Err (unexpected other)) f a = let g : wrong other ≡ wrong rest = sym a ∙ e in let same : other ≡ rest = cc in f ∙ ap (λ l. Err (unexpected l)) same
     by (Err (too_deep other)) f a = let g : wrong rest ≡ deep other = sym e ∙ a in absurd cc
 
-deep-read : (d : ℕ) (ts rest : List Token) → run start d ts ≡ deep rest → read_program d ts ≡ Err (too_deep rest)
+deep-read : (d : ℕ) (ts rest : List Token) → run start d ts ≡ deep rest
+    → read_program d ts ≡ Err (too_deep rest)
 deep-read d ts rest e = by (read_program d ts) refl (program-agrees d ts)
   where
     by : (r : Result ProgramTree Fault) → read_program d ts ≡ r → Agrees ts (run start d ts) r → read_program d ts ≡ Err (too_deep rest)
@@ -62,8 +65,10 @@ spelled-is-read-largely t = by (read_program n ts) refl (program-gives n t) (pro
   where
     ts : List Token
     ts = spelling t
+
     n : ℕ
     n = length (spelling t)
+
     by : (r : Result ProgramTree Fault) → read_program (length (spelling t)) (spelling t) ≡ r → IsReadUnlessDeep t r → Agrees (spelling t) (run start (length (spelling t)) (spelling t)) r
         → read_program (length (spelling t)) (spelling t) ≡ Ok t
     by (Ok u) f g a = f ∙ ap Ok g
@@ -94,7 +99,8 @@ begins-text : (front more : List Token) → walk start (front ++ more) ≡ whole
 begins-text front more w = let x = text-of (front ++ more) w in record { tree = x.0; others = more; spelled = x.1 }
 
 -- what is read is spelled, and nests
-pub read-is-spelled : (d : ℕ) (ts : List Token) (t : ProgramTree) → read_program d ts ≡ Ok t → (ts ≡ spelling t) × IsSome (room_left d (spelling t))
+pub read-is-spelled : (d : ℕ) (ts : List Token) (t : ProgramTree) → read_program d ts ≡ Ok t
+    → (ts ≡ spelling t) × IsSome (room_left d (spelling t))
 read-is-spelled d ts t e =
     let a = subst (Agrees ts (run start d ts)) e (program-agrees d ts) in
     (a.0, subst (λ l. IsSome (room_left d l)) a.0 (run-whole start d ts a.1).1)
@@ -104,26 +110,31 @@ the-room None h = absurd cc
 the-room (Some d) h = (d, refl)
 
 -- a text that nests is run to its end
-runs-whole : (d : ℕ) (ts : List Token) → walk start ts ≡ whole → IsSome (room_left d ts) → run start d ts ≡ whole
+runs-whole : (d : ℕ) (ts : List Token) → walk start ts ≡ whole → IsSome (room_left d ts)
+    → run start d ts ≡ whole
 runs-whole d ts w h =
     let r = the-room (room_left d ts) h in
     let x = comes ts start d r.0 [] refl (ap (walk start) (append-nil ts) ∙ w) r.1 in
     ap (run start d) (sym (append-nil ts)) ∙ x.runs [] ∙ sym (x.walks []) ∙ ap (walk start) (append-nil ts) ∙ w
 
 -- what is spelled and nests is read
-pub spelled-is-read : (d : ℕ) (t : ProgramTree) → IsSome (room_left d (spelling t)) → read_program d (spelling t) ≡ Ok t
+pub spelled-is-read : (d : ℕ) (t : ProgramTree) → IsSome (room_left d (spelling t))
+    → read_program d (spelling t) ≡ Ok t
 spelled-is-read d t h =
     let r = whole-read d (spelling t) (runs-whole d (spelling t) (text-walks t) h) in
     r.1 ∙ ap Ok (spelled-once r.0 t (sym (read-is-spelled d (spelling t) r.0 r.1).0))
 
-behind-one : (front : List Token) (t : Token) (b : BeginsText (front ++ t ∷ [])) → walk start (front ++ t ∷ b.others) ≡ whole
+behind-one : (front : List Token) (t : Token) (b : BeginsText (front ++ t ∷ []))
+    → walk start (front ++ t ∷ b.others) ≡ whole
 behind-one front t b = ap (walk start) (sym (append_assoc front (t ∷ []) b.others) ∙ sym b.spelled) ∙ text-walks b.tree
 
-begins-behind : (front : List Token) (t : Token) (more : List Token) → walk start (front ++ t ∷ more) ≡ whole → BeginsText (front ++ t ∷ [])
+begins-behind : (front : List Token) (t : Token) (more : List Token)
+    → walk start (front ++ t ∷ more) ≡ whole → BeginsText (front ++ t ∷ [])
 begins-behind front t more w =
     let x = text-of (front ++ t ∷ more) w in record { tree = x.0; others = more; spelled = x.1 ∙ sym (append_assoc front (t ∷ []) more) }
 
-pub unexpected-is : (ts rest : List Token) → read_program max_nesting ts ≡ Err (unexpected rest) → IsUnexpectedAt ts rest
+pub unexpected-is : (ts rest : List Token) → read_program max_nesting ts ≡ Err (unexpected rest)
+    → IsUnexpectedAt ts rest
 unexpected-is ts rest e =
     let x = stops-wrong start max_nesting ts rest refl (subst (Agrees ts (run start max_nesting ts)) e (program-agrees max_nesting ts)) in record {
       front = x.front;
@@ -134,7 +145,8 @@ unexpected-is ts rest e =
       ended = λ f tree g. x.short f (ap (walk start) (sym g) ∙ text-walks tree);
     }
 
-pub too-deep-is : (ts rest : List Token) → read_program max_nesting ts ≡ Err (too_deep rest) → IsTooDeepAt ts rest
+pub too-deep-is : (ts rest : List Token) → read_program max_nesting ts ≡ Err (too_deep rest)
+    → IsTooDeepAt ts rest
 too-deep-is ts rest e =
     let x = stops-deep start max_nesting ts rest refl (subst (Agrees ts (run start max_nesting ts)) e (program-agrees max_nesting ts)) in record {
       front = x.front;
@@ -157,17 +169,20 @@ wrong-at-the-end s h = by (next s c.End) refl
     by stop n = refl
     by done n = absurd (h (ap ended n))
 
-wrong-here : (s : Stack) (d : ℕ) (t : Token) (others : List Token) → IsSound s → ((more : List Token) → walk s (t ∷ more) ≡ whole → ⊥) → run s d (t ∷ others) ≡ wrong (t ∷ others)
+wrong-here : (s : Stack) (d : ℕ) (t : Token) (others : List Token) → IsCompletable s
+    → ((more : List Token) → walk s (t ∷ more) ≡ whole → ⊥)
+    → run s d (t ∷ others) ≡ wrong (t ∷ others)
 wrong-here s d t others h never = by (next s (class t)) refl
   where
     by : (m : Move) → next s (class t) ≡ m → goes m (λ s2. within (room_behind d t) (λ left. run s2 left others) (deep (t ∷ others))) (wrong (t ∷ others)) ≡ wrong (t ∷ others)
-    by (on s2) n = absurd (never (completion s2) (step-walk s s2 t (completion s2) n ∙ completed s2 (next-sound s (class t) s2 h n)))
+    by (on s2) n = absurd (never (completion s2) (step-walk s s2 t (completion s2) n ∙ completed s2 (next-completable s (class t) s2 h n)))
     by stop n = refl
     by done n = refl
 
 runs-wrong : (front rest : List Token) (d d2 : ℕ) (x : Comes front start d d2)
     → ((t : Token) (others : List Token) → rest ≡ t ∷ others → BeginsText (front ++ t ∷ []) → ⊥)
-    → (rest ≡ [] → (tree : ProgramTree) → spelling tree ≡ front → ⊥) → run start d (front ++ rest) ≡ wrong rest
+    → (rest ≡ [] → (tree : ProgramTree) → spelling tree ≡ front → ⊥)
+    → run start d (front ++ rest) ≡ wrong rest
 runs-wrong front [] d d2 x never short =
     x.runs [] ∙ wrong-at-the-end x.to (λ w.
     let y = text-of (front ++ []) (x.walks [] ∙ w) in short refl y.0 (y.1 ∙ append-nil front))
@@ -177,7 +192,8 @@ runs-wrong front (t ∷ others) d d2 x never short =
 begun-walks : (front : List Token) (b : BeginsText front) → walk start (front ++ b.others) ≡ whole
 begun-walks front b = ap (walk start) (sym b.spelled) ∙ text-walks b.tree
 
-pub is-unexpected : (ts rest : List Token) → IsUnexpectedAt ts rest → read_program max_nesting ts ≡ Err (unexpected rest)
+pub is-unexpected : (ts rest : List Token) → IsUnexpectedAt ts rest
+    → read_program max_nesting ts ≡ Err (unexpected rest)
 is-unexpected ts rest u =
     let r = the-room (room_left max_nesting u.front) u.nested in
     let x = comes u.front start max_nesting r.0 u.begun.others refl (begun-walks u.front u.begun) r.1 in
@@ -187,7 +203,8 @@ is-unexpected ts rest u =
 no-room-behind : (t : Token) → opens t ≡ true → room_behind 0 t ≡ None
 no-room-behind t e = rw e refl
 
-deep-here : (s : Stack) (t : Token) (others more : List Token) → opens t ≡ true → walk s (t ∷ more) ≡ whole → run s 0 (t ∷ others) ≡ deep (t ∷ others)
+deep-here : (s : Stack) (t : Token) (others more : List Token) → opens t ≡ true
+    → walk s (t ∷ more) ≡ whole → run s 0 (t ∷ others) ≡ deep (t ∷ others)
 deep-here s t others more o w = by (next s (class t)) refl w
   where
     by : (m : Move) → next s (class t) ≡ m → goes m (λ s2. walk s2 more) (wrong (t ∷ more)) ≡ whole
@@ -196,7 +213,8 @@ deep-here s t others more o w = by (next s (class t)) refl w
     by stop n f = absurd cc
     by done n f = absurd cc
 
-pub is-too-deep : (ts rest : List Token) → IsTooDeepAt ts rest → read_program max_nesting ts ≡ Err (too_deep rest)
+pub is-too-deep : (ts rest : List Token) → IsTooDeepAt ts rest
+    → read_program max_nesting ts ≡ Err (too_deep rest)
 is-too-deep ts rest u =
     let w = behind-one u.front u.bracket u.begun in
     let x = comes u.front start max_nesting 0 (u.bracket ∷ u.begun.others) refl w u.full in
@@ -206,7 +224,8 @@ is-too-deep ts rest u =
     ∙ ap deep (sym u.first))
 
 -- each list is a text, or goes wrong at one place for one cause
-pub one-of-three : (ts : List Token) → ((t : ProgramTree) × (ts ≡ spelling t) × Nests t) ⊎ (((rest : List Token) × IsUnexpectedAt ts rest) ⊎ ((rest : List Token) × IsTooDeepAt ts rest))
+pub one-of-three : (ts : List Token)
+    → ((t : ProgramTree) × (ts ≡ spelling t) × Nests t) ⊎ (((rest : List Token) × IsUnexpectedAt ts rest) ⊎ ((rest : List Token) × IsTooDeepAt ts rest))
 one-of-three ts = by (read_program max_nesting ts) refl
   where
     by : (r : Result ProgramTree Fault) → read_program max_nesting ts ≡ r
@@ -215,5 +234,6 @@ one-of-three ts = by (read_program max_nesting ts) refl
     by (Err (unexpected rest)) e = inr (inl (rest, unexpected-is ts rest e))
     by (Err (too_deep rest)) e = inr (inr (rest, too-deep-is ts rest e))
 
-pub nests-runs : (d : ℕ) (t : ProgramTree) → IsSome (room_left d (spelling t)) → run start d (spelling t) ≡ whole
+pub nests-runs : (d : ℕ) (t : ProgramTree) → IsSome (room_left d (spelling t))
+    → run start d (spelling t) ≡ whole
 nests-runs d t h = runs-whole d (spelling t) (text-walks t) h

@@ -1,26 +1,16 @@
 -- What is spelled is read, unless a bracket opens too deep.
-use Rattle.std.proofs.Common.{◌≡◌, ℕ, zero, suc, not, cond, ◌<◌, ◌≤◌, ◌⊎◌, inl, inr, Bool, true, false, List, [], ◌∷◌, ◌++◌, length, Option, Some, None, Result, Ok, Err, refl, sym, ap, ◌∙◌, subst, arith, codes}
+use Rattle.std.proofs.Common.{◌≡◌, ℕ, zero, suc, cond, ◌≤◌, Bool, true, false, List, [], ◌∷◌, length, Option, Some, None, Ok, Err, refl, sym, ap, ◌∙◌, subst, arith}
 use Rattle.cap_syntax.specs.declared.place.Place.{Place}
 use Rattle.cap_syntax.specs.declared.token.Token.{Token}
-use Rattle.cap_tree.specs.declared.word.Word.{Word}
-use Rattle.cap_tree.specs.declared.word.Literal.{Literal}
-use Rattle.cap_tree.specs.declared.term.Sign.{Sign}
-use Rattle.cap_tree.specs.declared.term.Sign.TheVariants.{Plus, Minus}
-use Rattle.cap_tree.specs.declared.term.Relation.{Relation}
-use Rattle.cap_tree.specs.declared.term.Relation.TheVariants.{Equal, Unequal, Less, AtMost, Greater, AtLeast}
-use Rattle.cap_tree.specs.declared.assertion.Counted.{Counted}
-use Rattle.cap_tree.specs.declared.assertion.Counted.TheVariants.{Source, Tokens}
-use Rattle.cap_tree.specs.Tree.{any, is, alone, amount, count, bare, in_parentheses, value, load, alloc, cas, result_of, region, function, FactorTree, ProductTree, FactorTrees, TermTree, ProductTrees, SlotTree, GuardTree, HeldTree, ItemTree, ItemTrees, AssertionTree, SideTree, ValueTree, StatementTree, ElseTree, StatementTrees, BlockTree, DeclaredTree, DeclaredTrees, JointTree, JointTrees, AlgebraTree, DeclarationTree, Several, InParentheses, InBraces, ComparisonTree, ClauseTree, WhenTree, CaseTree, ActionTree, RegionTree, FunctionTree, ProgramTree, GuardsTree, literal, whole_share, named, bracketed, product, no_factor, times, term, no_product, signed, holds, fails, fact, guards, cell, compare, choose, no_item, and_item, assertion, side, assign, store, call, fork, branch, loop, check, give_back, no_else, else_block, no_statement, then_statement, block, unique, divisible, counting, grouped, no_declared, and_declared, joint, no_joint, or_joint, algebra}
-use Rattle.cap_tree.specs.Tokens.{name, number, share, wildcard, keyword, symbol}
-use Rattle.cap_tree.specs.Spelling.{Spells, spell_all, spell_behind, spell_more, spell_several, spell_option, spell_listed, spell_group, spell_name, sign_text, spell_minus, spell_factor, spell_product, spell_factors, spell_term, spell_products, relation_text, spell_comparison, spell_slot, counted_text, spell_guard, spell_guards, spell_held, spell_item, spell_items, spell_assertion, spell_side, spell_clause, spell_terms, spell_value, spell_statement, spell_else, spell_statements, spell_block, spell_declared, spell_declareds, spell_joint, spell_joints, spell_algebra, spell_when, spell_case, spell_action, spell_region, spell_function, spell_declaration, spelling}
-use Rattle.cap_tree.specs.Views.{TimesTree, AddendTree, factors_of, products_of, AndTree, items_of, statements_of, else_of, BothTree, EitherTree, declareds_of, joints_of}
+use Rattle.cap_tree.specs.Tree.{Several}
+use Rattle.cap_tree.specs.Tokens.{symbol}
+use Rattle.cap_tree.specs.Spelling.{Spells, spell_all, spell_behind, spell_more, spell_several, spell_option}
 use Rattle.cap_grammar.specs.declared.class.Class.{Class}
 use Rattle.cap_grammar.specs.declared.class.Class.TheVariants as c
 use Rattle.cap_grammar.specs.Classes.{class, are_same}
-use Rattle.cap_grammar.specs.Readers.{Fault, unexpected, too_deep, Outcome, Reader, ◌>>=◌, ahead, next_token, next_place, next_word, next_literal, expect, read_name, read_number, no_room, read_opening, read_optional, read_at_most, read_while, read_until, read_behind, read_more, read_several, read_listed, read_group}
-use Rattle.cap_grammar.specs.Grammar.{factor_by, read_factor, read_product_from, read_product, is_sign, sign_by, read_sign, read_addend, read_term_from, read_term_with, read_bracketed, bracketed_at, read_term, relation_by, read_relation, read_comparison_from, read_comparison, slot_by, read_slot, amount_by, read_amount, read_counted, guard_by, read_guard, read_guards, held_by, read_held, choice_by, read_choice, item_from_by, read_item_from, read_fact, named_item_by, read_named_item, item_by, read_item, read_assertion_with, read_side, side_at, read_assertion, read_clause, read_terms, read_load, read_alloc, read_cas, named_value_by, read_named_value, value_by, read_value, named_statement_by, read_named_statement, read_store, read_fork, read_else, read_branch, read_loop, read_check, read_give_back, statement_by, read_statement, read_block_with, block_at, declared_by, read_declared, read_joint, read_algebra_with, read_grouped, grouped_at, read_algebra, read_when, read_optional_when, read_case, read_action, read_head, read_region_body, read_region, read_function, declaration_by, read_declaration, read_program, HeadTree}
-use Rattle.cap_grammar.specs.Laws.Taking.{at_most-stops, and_more, Takes, Keeps, takes-keeps, expect-takes, name-takes, at_most-keeps, behind-takes, factor-takes, addend-takes, term-takes, comparison-takes, slot-takes, guard-takes, side-takes, item-takes, block-takes, statement-takes, declared-takes, joint-takes, case-takes, action-takes, declaration-takes, statement-ends, case-ends, action-ends, enough-serves, while-begins, while-stops, while-taken, while-refused, while-done}
-use Rattle.cap_grammar.proofs.Shapes.{same_is_equal, same-self, shaped, plain, is_known, is_plain, plain-known, plain-shaped, room_after, shaped-room, known, not-end}
+use Rattle.cap_grammar.specs.Readers.{unexpected, too_deep, Outcome, Reader, ◌>>=◌, ahead, read_opening, read_optional, read_at_most, read_while, read_behind, read_more, read_several}
+use Rattle.cap_grammar.specs.Laws.Taking.{at_most-stops, Takes, Keeps, behind-takes}
+use Rattle.cap_grammar.proofs.Shapes.{same-self, is_known, is_plain, plain-known}
 
 -- what is expected and what follows it is read, unless a bracket opens too deep
 abbrev GivesBy : {A : Type 0} → A → List Token → Outcome A → Type 0
@@ -37,23 +27,24 @@ gives = record { held = refl }
 pub not-here : {A : Type 0} {a : A} {ts rest : List Token} → Gives a ts (Err (too_deep rest))
 not-here = record { held = tt }
 
--- one reader, then the next
-pub yields : {A B : Type 0} {a : A} {ts us : List Token} {b : B} {r : Outcome A} (k : A × List Token → Outcome B) → Gives a ts r → Gives b us (k (a, ts)) → Gives b us (r >>= k)
-yields {us = us} {b = b} {r = Ok x} k h g = subst (λ y. Gives b us (k y)) (sym h.held) g
-yields {r = Err (unexpected rest)} k h g = absurd h.held
-yields {r = Err (too_deep rest)} k h g = not-here
-
--- the same, where it counts what was read
-pub known-yields : {A B : Type 0} {a : A} {ts us : List Token} {b : B} {r : Outcome A} (k : A × List Token → Outcome B) → Gives a ts r → (r ≡ Ok (a, ts) → Gives b us (k (a, ts))) → Gives b us (r >>= k)
+-- one reader, then the next, which may go by what was read
+pub known-yields : {A B : Type 0} {a : A} {ts us : List Token} {b : B} {r : Outcome A} (k : A × List Token → Outcome B)
+    → Gives a ts r → (r ≡ Ok (a, ts) → Gives b us (k (a, ts))) → Gives b us (r >>= k)
 known-yields {us = us} {b = b} {r = Ok x} k h g = subst (λ y. Gives b us (k y)) (sym h.held) (g (ap Ok h.held))
 known-yields {r = Err (unexpected rest)} k h g = absurd h.held
 known-yields {r = Err (too_deep rest)} k h g = not-here
 
-pub where-true : {A : Type 0} {a : A} {ts : List Token} {r : Outcome A} (b : Bool) (t : Outcome A) → b ≡ true → Gives a ts r → Gives a ts (cond b r t)
+pub yields : {A B : Type 0} {a : A} {ts us : List Token} {b : B} {r : Outcome A} (k : A × List Token → Outcome B)
+    → Gives a ts r → Gives b us (k (a, ts)) → Gives b us (r >>= k)
+yields k h g = known-yields k h (λ e. g)
+
+pub where-true : {A : Type 0} {a : A} {ts : List Token} {r : Outcome A} (b : Bool) (t : Outcome A)
+    → b ≡ true → Gives a ts r → Gives a ts (cond b r t)
 where-true true t e h = h
 where-true false t e h = absurd cc
 
-pub where-false : {A : Type 0} {a : A} {ts : List Token} {r : Outcome A} (b : Bool) (t : Outcome A) → b ≡ false → Gives a ts r → Gives a ts (cond b t r)
+pub where-false : {A : Type 0} {a : A} {ts : List Token} {r : Outcome A} (b : Bool) (t : Outcome A)
+    → b ≡ false → Gives a ts r → Gives a ts (cond b t r)
 where-false false t e h = h
 where-false true t e h = absurd cc
 
@@ -64,15 +55,19 @@ abbrev with_room : ℕ → Outcome Place → Outcome (ℕ × Place)
 with_room d r = r >>= λ p. Ok ((d, p.0), p.1)
 
 -- a bracket, and what is in it
-pub opens-then : {B : Type 0} {b : B} {us : List Token} (next_reader : (ℕ × Place) × List Token → Outcome B) (k : Class) (room : ℕ) (t : Token) (ts : List Token) → class t ≡ k
-    → ((d : ℕ) → Gives b us (next_reader ((d, t.place), ts))) → Gives b us (read_opening room k (t ∷ ts) >>= next_reader)
+pub opens-then : {B : Type 0} {b : B} {us : List Token} (next_reader : (ℕ × Place) × List Token → Outcome B) (k : Class) (room : ℕ) (t : Token) (ts : List Token)
+    → class t ≡ k
+    → ((d : ℕ) → Gives b us (next_reader ((d, t.place), ts)))
+    → Gives b us (read_opening room k (t ∷ ts) >>= next_reader)
 opens-then {b = b} {us = us} reader k zero t ts e h =
     subst (λ o. Gives b us (cond {A = Outcome (ℕ × Place)} o (Err (too_deep (t ∷ ts))) (Err (unexpected (t ∷ ts))) >>= reader)) (sym (is-same k t e)) not-here
 opens-then {b = b} {us = us} reader k (suc d) t ts e h =
     subst (λ o. Gives b us (with_room d (cond o (Ok (t.place, ts)) (Err (unexpected (t ∷ ts)))) >>= reader)) (sym (is-same k t e)) (h d)
 
-pub optional-gives : {A : Type 0} (spell : Spells A) (begins : Class → Bool) (one : Reader A) (o : Option A) (ts : List Token) → begins (ahead ts) ≡ false
-    → ((a : A) → begins (ahead (spell a ts)) ≡ true) → ((a : A) → Gives a ts (one (spell a ts))) → Gives o ts (read_optional begins one (spell_option spell o ts))
+pub optional-gives : {A : Type 0} (spell : Spells A) (begins : Class → Bool) (one : Reader A) (o : Option A) (ts : List Token)
+    → begins (ahead ts) ≡ false
+    → ((a : A) → begins (ahead (spell a ts)) ≡ true) → ((a : A) → Gives a ts (one (spell a ts)))
+    → Gives o ts (read_optional begins one (spell_option spell o ts))
 optional-gives spell begins one None ts n y h = where-false (begins (ahead ts)) _ n gives
 optional-gives spell begins one (Some a) ts n y h = where-true (begins (ahead (spell a ts))) _ (y a) (yields _ (h a) gives)
 
@@ -85,14 +80,18 @@ begun-long [] e l = cc
 begun-long (t ∷ ts) e l = omega (arith, l)
 
 -- parts one behind another, none of which the reader of one takes too far
-pub parts-follow : {A : Type 0} (spell : Spells A) (begins follows : Class → Bool) → ((a : A) (ts : List Token) → Begins begins follows (spell a ts))
-    → (parts : List A) (ts : List Token) → follows (ahead ts) ≡ true → follows (ahead (spell_all spell parts ts)) ≡ true
+pub parts-follow : {A : Type 0} (spell : Spells A) (begins follows : Class → Bool)
+    → ((a : A) (ts : List Token) → Begins begins follows (spell a ts))
+    → (parts : List A) (ts : List Token) → follows (ahead ts) ≡ true
+    → follows (ahead (spell_all spell parts ts)) ≡ true
 parts-follow spell begins follows first [] ts f = f
 parts-follow spell begins follows first (a ∷ more) ts f = (first a (spell_all spell more ts)).1
 
-at_most-gives : {A : Type 0} (spell : Spells A) (begins follows : Class → Bool) (one : Reader A) → Takes one → ((a : A) (ts : List Token) → Begins begins follows (spell a ts))
+at_most-gives : {A : Type 0} (spell : Spells A) (begins follows : Class → Bool) (one : Reader A)
+    → Takes one → ((a : A) (ts : List Token) → Begins begins follows (spell a ts))
     → ((a : A) (ts : List Token) → follows (ahead ts) ≡ true → Gives a ts (one (spell a ts)))
-    → (n : ℕ) (parts : List A) (ts : List Token) → begins (ahead ts) ≡ false → follows (ahead ts) ≡ true → length (spell_all spell parts ts) ≤ n
+    → (n : ℕ) (parts : List A) (ts : List Token) → begins (ahead ts) ≡ false
+    → follows (ahead ts) ≡ true → length (spell_all spell parts ts) ≤ n
     → Gives parts ts (read_at_most begins one n (spell_all spell parts ts))
 at_most-gives spell begins follows one takes first each n [] ts e f l = subst (Gives [] ts) (sym (at_most-stops begins one n ts e)) gives
 at_most-gives spell begins follows one takes first each zero (a ∷ more) ts e f l = absurd (begun-long (spell a (spell_all spell more ts)) (first a (spell_all spell more ts)).2 l)
@@ -102,16 +101,19 @@ at_most-gives spell begins follows one takes first each (suc n) (a ∷ more) ts 
     (known-yields _ (each a rest (parts-follow spell begins follows first more ts f)) (λ r.
     yields _ (at_most-gives spell begins follows one takes first each n more ts e f (omega (arith, l, (takes (spell a rest)).fewer a rest r))) gives))
 
-pub while-gives : {A : Type 0} (spell : Spells A) (begins follows : Class → Bool) (one : Reader A) → Takes one → ((a : A) (ts : List Token) → Begins begins follows (spell a ts))
+pub while-gives : {A : Type 0} (spell : Spells A) (begins follows : Class → Bool) (one : Reader A)
+    → Takes one → ((a : A) (ts : List Token) → Begins begins follows (spell a ts))
     → ((a : A) (ts : List Token) → follows (ahead ts) ≡ true → Gives a ts (one (spell a ts)))
     → (parts : List A) (ts : List Token) → begins (ahead ts) ≡ false → follows (ahead ts) ≡ true
     → Gives parts ts (read_while begins one (spell_all spell parts ts))
 while-gives spell begins follows one takes first each parts ts e f = at_most-gives spell begins follows one takes first each (length (spell_all spell parts ts)) parts ts e f (omega arith)
 
 -- parts behind a separator k, which may follow a part
-pub more-gives : {A : Type 0} (spell : Spells A) (follows : Class → Bool) (k : Class) (text : List ℕ) (one : Reader A) → ((p : Place) → class (symbol text p) ≡ k) → is_plain k ≡ true → follows k ≡ true → Keeps one
+pub more-gives : {A : Type 0} (spell : Spells A) (follows : Class → Bool) (k : Class) (text : List ℕ) (one : Reader A)
+    → ((p : Place) → class (symbol text p) ≡ k) → is_plain k ≡ true → follows k ≡ true → Keeps one
     → ((a : A) (ts : List Token) → follows (ahead ts) ≡ true → Gives a ts (one (spell a ts)))
-    → (parts : List (Place × A)) (ts : List Token) → are_same k (ahead ts) ≡ false → follows (ahead ts) ≡ true
+    → (parts : List (Place × A)) (ts : List Token) → are_same k (ahead ts) ≡ false
+    → follows (ahead ts) ≡ true
     → Gives parts ts (read_more k one (spell_more text spell parts ts))
 more-gives {A = A} spell follows k text one it plain_k f keeps each parts ts e g =
     while-gives (spell_behind text spell) (are_same k) follows (read_behind k one) (behind-takes k one keeps)
@@ -121,14 +123,17 @@ more-gives {A = A} spell follows k text one it plain_k f keeps each parts ts e g
     not-the-end : (j : Class) → is_known j ≡ true → are_same c.End j ≡ false
     not-the-end c.End x = cc
     not-the-end j x = refl
+
     where-known : (a : Place × A) (us : List Token) → Gives a.1 us (one (spell a.1 us)) → Gives a us (read_behind k one (spell_behind text spell a us))
     where-known a us h =
         subst (λ o. Gives a us (cond {A = Outcome Place} o (Ok (a.0, spell a.1 us)) (Err (unexpected (symbol text a.0 ∷ spell a.1 us))) >>= λ p. one p.1 >>= λ x. Ok ((p.0, x.0), x.1))) (sym (is-same k (symbol text a.0) (it a.0)))
         (yields _ h gives)
 
-pub several-gives : {A : Type 0} (spell : Spells A) (follows : Class → Bool) (k : Class) (text : List ℕ) (one : Reader A) → ((p : Place) → class (symbol text p) ≡ k) → is_plain k ≡ true → follows k ≡ true → Keeps one
+pub several-gives : {A : Type 0} (spell : Spells A) (follows : Class → Bool) (k : Class) (text : List ℕ) (one : Reader A)
+    → ((p : Place) → class (symbol text p) ≡ k) → is_plain k ≡ true → follows k ≡ true → Keeps one
     → ((a : A) (ts : List Token) → follows (ahead ts) ≡ true → Gives a ts (one (spell a ts)))
-    → (parts : Several A) (ts : List Token) → are_same k (ahead ts) ≡ false → follows (ahead ts) ≡ true
+    → (parts : Several A) (ts : List Token) → are_same k (ahead ts) ≡ false
+    → follows (ahead ts) ≡ true
     → Gives parts ts (read_several k one (spell_several text spell parts ts))
 several-gives {A = A} spell follows k text one it plain_k f keeps each parts ts e g =
     yields _ (each parts.first (spell_more text spell parts.more ts) (then_follows parts.more))

@@ -1,37 +1,30 @@
 -- The automaton goes along with the readers of region types, functions and the whole text.
-use Rattle.std.proofs.Common.{◌≡◌, ℕ, zero, suc, not, cond, ◌<◌, ◌≤◌, ◌⊎◌, inl, inr, Bool, true, false, List, [], ◌∷◌, ◌++◌, length, Option, Some, None, Result, Ok, Err, refl, sym, ap, ◌∙◌, subst, arith, codes}
+use Rattle.std.proofs.Common.{◌≡◌, ℕ, zero, suc, not, cond, Bool, true, false, List, [], ◌∷◌, ◌++◌, length, Some, Result, Ok, Err, refl, sym, ap, ◌∙◌, codes}
 use Rattle.cap_syntax.specs.declared.place.Place.{Place}
 use Rattle.cap_syntax.specs.declared.token.Token.{Token}
-use Rattle.cap_tree.specs.declared.word.Word.{Word}
-use Rattle.cap_tree.specs.declared.word.Literal.{Literal}
-use Rattle.cap_tree.specs.declared.term.Sign.{Sign}
-use Rattle.cap_tree.specs.declared.term.Sign.TheVariants.{Plus, Minus}
-use Rattle.cap_tree.specs.declared.term.Relation.{Relation}
-use Rattle.cap_tree.specs.declared.term.Relation.TheVariants.{Equal, Unequal, Less, AtMost, Greater, AtLeast}
-use Rattle.cap_tree.specs.declared.assertion.Counted.{Counted}
-use Rattle.cap_tree.specs.declared.assertion.Counted.TheVariants.{Source, Tokens}
-use Rattle.cap_tree.specs.Tree.{any, is, alone, amount, count, bare, in_parentheses, value, load, alloc, cas, result_of, region, function, FactorTree, ProductTree, FactorTrees, TermTree, ProductTrees, SlotTree, GuardTree, HeldTree, ItemTree, ItemTrees, AssertionTree, SideTree, ValueTree, StatementTree, ElseTree, StatementTrees, BlockTree, DeclaredTree, DeclaredTrees, JointTree, JointTrees, AlgebraTree, DeclarationTree, Several, InParentheses, InBraces, ComparisonTree, ClauseTree, WhenTree, CaseTree, ActionTree, RegionTree, FunctionTree, ProgramTree, GuardsTree, literal, whole_share, named, bracketed, product, no_factor, times, term, no_product, signed, holds, fails, fact, guards, cell, compare, choose, no_item, and_item, assertion, side, assign, store, call, fork, branch, loop, check, give_back, no_else, else_block, no_statement, then_statement, block, unique, divisible, counting, grouped, no_declared, and_declared, joint, no_joint, or_joint, algebra}
-use Rattle.cap_tree.specs.Tokens.{name, number, share, wildcard, keyword, symbol}
-use Rattle.cap_tree.specs.Spelling.{Spells, spell_all, spell_behind, spell_more, spell_several, spell_option, spell_listed, spell_group, spell_name, sign_text, spell_minus, spell_factor, spell_product, spell_factors, spell_term, spell_products, relation_text, spell_comparison, spell_slot, counted_text, spell_guard, spell_guards, spell_held, spell_item, spell_items, spell_assertion, spell_side, spell_clause, spell_terms, spell_value, spell_statement, spell_else, spell_statements, spell_block, spell_declared, spell_declareds, spell_joint, spell_joints, spell_algebra, spell_when, spell_case, spell_action, spell_region, spell_function, spell_declaration, spelling}
-use Rattle.cap_tree.specs.Views.{TimesTree, AddendTree, factors_of, products_of, AndTree, items_of, statements_of, else_of, BothTree, EitherTree, declareds_of, joints_of}
+use Rattle.cap_tree.specs.Tree.{DeclarationTree, ProgramTree}
+use Rattle.cap_tree.specs.Tokens.{name, keyword, symbol}
+use Rattle.cap_tree.specs.Spelling.{Spells, spell_all, spell_more, spell_several, spell_option, spell_name, spell_declared, spell_declareds, spell_joint, spell_joints, spell_algebra, spell_when, spell_case, spell_action, spell_region, spell_function, spell_declaration, spelling}
+use Rattle.cap_tree.specs.Views.{BothTree, EitherTree, declareds_of, joints_of}
 use Rattle.cap_grammar.specs.declared.class.Class.{Class}
 use Rattle.cap_grammar.specs.declared.class.Class.TheVariants as c
 use Rattle.cap_grammar.specs.Classes.{class, are_same}
-use Rattle.cap_grammar.specs.Readers.{Fault, unexpected, too_deep, Outcome, Reader, ◌>>=◌, ahead, next_token, next_place, next_word, next_literal, expect, read_name, read_number, no_room, read_opening, read_optional, read_at_most, read_while, read_until, read_behind, read_more, read_several, read_listed, read_group}
-use Rattle.cap_grammar.specs.Grammar.{factor_by, read_factor, read_product_from, read_product, is_sign, sign_by, read_sign, read_addend, read_term_from, read_term_with, read_bracketed, bracketed_at, read_term, relation_by, read_relation, read_comparison_from, read_comparison, slot_by, read_slot, amount_by, read_amount, read_counted, guard_by, read_guard, read_guards, held_by, read_held, choice_by, read_choice, item_from_by, read_item_from, read_fact, named_item_by, read_named_item, item_by, read_item, read_assertion_with, read_side, side_at, read_assertion, read_clause, read_terms, read_load, read_alloc, read_cas, named_value_by, read_named_value, value_by, read_value, named_statement_by, read_named_statement, read_store, read_fork, read_else, read_branch, read_loop, read_check, read_give_back, statement_by, read_statement, read_block_with, block_at, declared_by, read_declared, read_joint, read_algebra_with, read_grouped, grouped_at, read_algebra, read_when, read_optional_when, read_case, read_action, read_head, read_region_body, read_region, read_function, declaration_by, read_declaration, read_program, HeadTree}
-use Rattle.cap_grammar.specs.Laws.Taking.{and_more, Takes, Keeps, takes-keeps, expect-takes, name-takes, at_most-keeps, behind-takes, factor-takes, addend-takes, term-takes, comparison-takes, slot-takes, guard-takes, side-takes, item-takes, block-takes, statement-takes, declared-takes, joint-takes, case-takes, action-takes, declaration-takes, statement-ends, case-ends, action-ends, enough-serves, while-begins, while-stops, while-taken, while-refused, while-done}
-use Rattle.cap_grammar.proofs.Shapes.{same_is_equal, same-self, shaped, plain, is_known, is_plain, plain-known, plain-shaped, room_after, shaped-room, known, not-end}
-use Rattle.cap_grammar.proofs.Automaton.{Ending, a_colon, a_semicolon, end_class, Symbol, fixed, rule, Rule, may_minus, a_factor, more_factors, a_sign, more_products, a_relation, a_slot, a_guard, may_amount, more_guards, a_held, an_item, named_item, item_rest, may_choose, more_items, slots, a_value, named_value, terms, more_terms, a_statement, named_statement, may_else, may_invariant, returned, statements, a_declared, more_declared, more_joints, may_when, more_comparisons, cases, actions, names, more_names, may_requires, may_ensures, a_declaration, declarations, Move, on, stop, done, Answer, whole, wrong, deep, Stack, the_rest_of_a_term, a_product, a_term, a_comparison, some_guards, an_assertion, a_side, a_clause, a_block, a_joint, an_algebra, a_case, the_rest_of_an_action, Steps, behind, factor_steps, term_steps, rest_steps, relation_steps, counted_guard, guard_steps, item_rest_steps, statement_steps, the_rest_of_a_region, the_rest_of_a_function, declaration_steps, steps, may_be_empty, found, next, ended, goes, within, run, walk, start}
-use Rattle.cap_grammar.proofs.Meets.{Meets, IsChoice, so, chain, from, enter, refuse, either, this-token, place-meets, word-meets, literal-meets, expect-meets, name-meets, number-meets, no_room-meets, opened, opened-within, Read, IsRead, lead, until, optional-meets, while-meets, IsSeparator, behind-meets, more-meets, several-meets, comma, listed-meets, group-meets}
-use Rattle.cap_grammar.proofs.MeetsTerms.{star, factors-spelled, spell_addend, products-spelled, term_from-meets-with, term-meets, term_from-meets, comparison_from-meets, comparison-meets, slot-meets}
-use Rattle.cap_grammar.proofs.MeetsAssertions.{guards-meets, items-spelled, assertion-meets, clause-meets}
-use Rattle.cap_grammar.proofs.MeetsStatements.{statements-spelled, block-meets}
+use Rattle.cap_grammar.specs.Readers.{Fault, unexpected, too_deep, Outcome, Reader, ◌>>=◌, ahead, read_name, read_at_most, read_until}
+use Rattle.cap_grammar.specs.Grammar.{read_comparison, read_clause, declared_by, read_declared, read_joint, grouped_at, read_algebra, read_when, read_optional_when, read_case, read_action, read_head, read_region_body, read_region, read_function, declaration_by, read_declaration, read_program, HeadTree}
+use Rattle.cap_grammar.specs.Laws.Taking.{and_more, takes-keeps, name-takes, comparison-takes, declared-takes, joint-takes, case-takes, action-takes, declaration-takes}
+use Rattle.cap_grammar.proofs.Shapes.{same_is_equal, not-end}
+use Rattle.cap_grammar.proofs.Automaton.{Ending, a_colon, a_semicolon, end_class, fixed, rule, a_guard, a_declared, more_declared, more_joints, may_when, more_comparisons, cases, actions, names, more_names, may_requires, may_ensures, a_declaration, Answer, whole, wrong, deep, Stack, a_term, a_comparison, an_assertion, a_clause, a_block, a_joint, an_algebra, a_case, the_rest_of_an_action, the_rest_of_a_region, the_rest_of_a_function, next, run, start}
+use Rattle.cap_grammar.proofs.Meets.{Meets, IsChoice, so, chain, enter, refuse, place-meets, word-meets, expect-meets, name-meets, no_room-meets, opened, opened-within, Read, IsMet, lead, until, optional-meets, while-meets, more-meets, several-meets, comma, listed-meets, group-meets}
+use Rattle.cap_grammar.proofs.MeetsTerms.{star, term-meets, comparison-meets}
+use Rattle.cap_grammar.proofs.MeetsAssertions.{guards-meets, assertion-meets, clause-meets}
+use Rattle.cap_grammar.proofs.MeetsStatements.{block-meets}
 
 -- a bracket with an algebra in it
 abbrev GroupedMeets : ℕ → Type 0
 GroupedMeets d = (ts : List Token) (s : Stack) → Meets (Read spell_declared ts) (run (fixed c.Open ∷ an_algebra ++ fixed c.Close ∷ s) d ts) s d (grouped_at d ts)
 
-declared_by-meets : (d : ℕ) → GroupedMeets d → (k : Class) (ts : List Token) (s : Stack) → ahead ts ≡ k
+declared_by-meets : (d : ℕ) → GroupedMeets d → (k : Class) (ts : List Token) (s : Stack)
+    → ahead ts ≡ k
     → Meets (Read spell_declared ts) (run (rule a_declared ∷ s) d ts) s d (declared_by (grouped_at d) k ts)
 declared_by-meets d h c.Name ts s e = enter _ (fixed c.Name ∷ s) d ts c.Name e refl (chain (word-meets d ts s e) (λ w f. so f))
 declared_by-meets d h c.Percent ts s e =
@@ -44,28 +37,31 @@ declared_by-meets d h c.Bar ts s e =
     chain (expect-meets c.Bar d d w.1 s refl refl) (λ q i. so (rw (f, g, i))))))
 declared_by-meets d h k ts s e = enter _ (fixed c.Open ∷ an_algebra ++ fixed c.Close ∷ s) d ts k e refl (h ts s)
 
-pub declareds-spelled : (ds : List BothTree) (ts : List Token) → spell_more (codes "*") spell_declared ds ts ≡ spell_declareds (declareds_of ds) ts
+pub declareds-spelled : (ds : List BothTree) (ts : List Token)
+    → spell_more (codes "*") spell_declared ds ts ≡ spell_declareds (declareds_of ds) ts
 declareds-spelled [] ts = refl
 declareds-spelled (d ∷ ds) ts = ap (λ l. symbol (codes "*") d.0 ∷ spell_declared d.1 l) (declareds-spelled ds ts)
 
-pub joints-spelled : (js : List EitherTree) (ts : List Token) → spell_more (codes "+") spell_joint js ts ≡ spell_joints (joints_of js) ts
+pub joints-spelled : (js : List EitherTree) (ts : List Token)
+    → spell_more (codes "+") spell_joint js ts ≡ spell_joints (joints_of js) ts
 joints-spelled [] ts = refl
 joints-spelled (j ∷ js) ts = ap (λ l. symbol (codes "+") j.0 ∷ spell_joint j.1 l) (joints-spelled js ts)
 
-joint-meets : (d : ℕ) → GroupedMeets d → (ts : List Token) (s : Stack) → Meets (Read spell_joint ts) (run (a_joint ++ s) d ts) s d (read_joint (grouped_at d) ts)
+joint-meets : (d : ℕ) → GroupedMeets d → (ts : List Token) (s : Stack)
+    → Meets (Read spell_joint ts) (run (a_joint ++ s) d ts) s d (read_joint (grouped_at d) ts)
 joint-meets d h ts s =
     chain (declared_by-meets d h (ahead ts) ts (rule more_declared ∷ s) refl) (λ x f.
     chain (more-meets c.Star (codes "*") d x.1 star
-      (lead (rule more_declared ∷ s) (fixed c.Star ∷ a_joint ++ s) s (a_joint ++ s) c.Star (λ k. refl) (λ k. refl))
-      (takes-keeps (read_declared (grouped_at d)) (declared-takes d)) (λ us. declared_by-meets d h (ahead us) us (rule more_declared ∷ s) refl)) (λ more g.
+    (lead (rule more_declared ∷ s) (fixed c.Star ∷ a_joint ++ s) s (a_joint ++ s) c.Star (λ k. refl) (λ k. refl))
+    (takes-keeps (read_declared (grouped_at d)) (declared-takes d)) (λ us. declared_by-meets d h (ahead us) us (rule more_declared ∷ s) refl)) (λ more g.
     so (f ∙ ap (spell_declared x.0) (g ∙ declareds-spelled more.0 more.1))))
 
-algebra-meets-with : (d : ℕ) → GroupedMeets d → IsRead an_algebra spell_algebra d (read_algebra d)
+algebra-meets-with : (d : ℕ) → GroupedMeets d → IsMet an_algebra spell_algebra d (read_algebra d)
 algebra-meets-with d h ts s =
     chain (joint-meets d h ts (rule more_joints ∷ s)) (λ j f.
     chain (more-meets c.Plus (codes "+") d j.1 (refl, λ d. refl, λ p. refl)
-      (lead (rule more_joints ∷ s) (fixed c.Plus ∷ an_algebra ++ s) s (an_algebra ++ s) c.Plus (λ k. refl) (λ k. refl))
-      (takes-keeps (read_joint (grouped_at d)) (joint-takes d)) (λ us. joint-meets d h us (rule more_joints ∷ s))) (λ more g.
+    (lead (rule more_joints ∷ s) (fixed c.Plus ∷ an_algebra ++ s) s (an_algebra ++ s) c.Plus (λ k. refl) (λ k. refl))
+    (takes-keeps (read_joint (grouped_at d)) (joint-takes d)) (λ us. joint-meets d h us (rule more_joints ∷ s))) (λ more g.
     so (f ∙ ap (spell_joint j.0) (g ∙ joints-spelled more.0 more.1))))
 
 grouped-meets : (d : ℕ) → GroupedMeets d
@@ -75,7 +71,7 @@ grouped-meets (suc d) ts s =
     chain (algebra-meets-with d (grouped-meets d) p.1 (fixed c.Close ∷ s)) (λ a g.
     chain (expect-meets c.Close d (suc d) a.1 s refl refl) (λ q i. so (rw (f, g, i)))))
 
-algebra-meets : (d : ℕ) → IsRead an_algebra spell_algebra d (read_algebra d)
+algebra-meets : (d : ℕ) → IsMet an_algebra spell_algebra d (read_algebra d)
 algebra-meets d = algebra-meets-with d (grouped-meets d)
 
 -- the conditions of a state or an action, before the token that ends them
@@ -86,11 +82,11 @@ optional_when-meets d end ts s =
     (lead (rule (may_when end) ∷ s) (fixed c.When ∷ a_comparison ++ rule (more_comparisons end) ∷ s) (fixed (end_class end) ∷ s) (a_comparison ++ rule (more_comparisons end) ∷ s) c.When (λ k. refl) (λ k. refl)) (λ y.
     chain (expect-meets c.When d d ts (a_comparison ++ rule (more_comparisons end) ∷ s) refl refl) (λ p f.
     chain (several-meets c.Comma (codes ",") d p.1 comma
-      (lead (rule (more_comparisons end) ∷ s) (fixed c.Comma ∷ a_comparison ++ rule (more_comparisons end) ∷ s) (fixed (end_class end) ∷ s) (a_comparison ++ rule (more_comparisons end) ∷ s) c.Comma (λ k. refl) (λ k. refl))
-      (takes-keeps (read_comparison d) (comparison-takes d)) (λ us. comparison-meets d us (rule (more_comparisons end) ∷ s))) (λ ks g.
+    (lead (rule (more_comparisons end) ∷ s) (fixed c.Comma ∷ a_comparison ++ rule (more_comparisons end) ∷ s) (fixed (end_class end) ∷ s) (a_comparison ++ rule (more_comparisons end) ∷ s) c.Comma (λ k. refl) (λ k. refl))
+    (takes-keeps (read_comparison d) (comparison-takes d)) (λ us. comparison-meets d us (rule (more_comparisons end) ∷ s))) (λ ks g.
     so (rw (f, g)))))
 
-case-meets : (d : ℕ) → IsRead a_case spell_case d (read_case d)
+case-meets : (d : ℕ) → IsMet a_case spell_case d (read_case d)
 case-meets d ts s =
     chain (term-meets d ts (rule (may_when a_colon) ∷ an_assertion ++ fixed c.Semicolon ∷ s)) (λ t f1.
     chain (optional_when-meets d a_colon t.1 (an_assertion ++ fixed c.Semicolon ∷ s)) (λ w f2.
@@ -98,7 +94,7 @@ case-meets d ts s =
     chain (assertion-meets d p.1 (fixed c.Semicolon ∷ s)) (λ a f4.
     chain (expect-meets c.Semicolon d d a.1 s refl refl) (λ e f5. so (rw (f1, f2, f3, f4, f5)))))))
 
-action-meets : (d : ℕ) → IsRead (rule a_guard ∷ the_rest_of_an_action) spell_action d (read_action d)
+action-meets : (d : ℕ) → IsMet (rule a_guard ∷ the_rest_of_an_action) spell_action d (read_action d)
 action-meets d ts s =
     chain (guards-meets d ts (fixed c.Colon ∷ a_term ++ fixed c.LeadsTo ∷ a_term ++ rule (may_when a_semicolon) ∷ s)) (λ g f1.
     chain (expect-meets c.Colon d d g.1 (a_term ++ fixed c.LeadsTo ∷ a_term ++ rule (may_when a_semicolon) ∷ s) refl refl) (λ p f2.
@@ -109,14 +105,16 @@ action-meets d ts s =
     chain (expect-meets c.Semicolon d d w.1 s refl refl) (λ e f7. so (rw (f1, f2, f3, f4, f5, f6, f7)))))))))
 
 -- one more name, behind a comma
-more-names : (s : Stack) → IsChoice (rule more_names ∷ s) (fixed c.Comma ∷ fixed c.Name ∷ rule more_names ∷ s) (fixed c.Close ∷ s) (are_same c.Comma)
+more-names : (s : Stack)
+    → IsChoice (rule more_names ∷ s) (fixed c.Comma ∷ fixed c.Name ∷ rule more_names ∷ s) (fixed c.Close ∷ s) (are_same c.Comma)
 more-names s = lead (rule more_names ∷ s) (fixed c.Comma ∷ fixed c.Name ∷ rule more_names ∷ s) (fixed c.Close ∷ s) (fixed c.Name ∷ rule more_names ∷ s) c.Comma (λ k. refl) (λ k. refl)
 
 -- the tokens of a region type's head
 spell_head : Spells HeadTree
 spell_head h ts = name h.name ∷ symbol (codes "(") h.before ∷ spell_several (codes ",") spell_name h.parameters (symbol (codes ")") h.behind ∷ ts)
 
-head-meets : (d : ℕ) → IsRead (fixed c.Name ∷ fixed c.Open ∷ fixed c.Name ∷ rule more_names ∷ []) spell_head d (read_head d)
+head-meets : (d : ℕ)
+    → IsMet (fixed c.Name ∷ fixed c.Open ∷ fixed c.Name ∷ rule more_names ∷ []) spell_head d (read_head d)
 unfolding spell_head
 head-meets d ts s =
     chain (name-meets d ts (fixed c.Open ∷ fixed c.Name ∷ rule more_names ∷ s)) (λ w f1.
@@ -130,13 +128,16 @@ region_inside =
     ∷ fixed c.Interpretation ∷ fixed c.OpenBrace ∷ rule cases
     ∷ fixed c.Actions ∷ fixed c.OpenBrace ∷ rule actions ∷ fixed c.CloseBrace ∷ []
 
-some-cases : (s : Stack) → IsChoice (rule cases ∷ s) (a_case ++ rule cases ∷ s) (fixed c.CloseBrace ∷ s) (λ k. not (are_same c.CloseBrace k))
+some-cases : (s : Stack)
+    → IsChoice (rule cases ∷ s) (a_case ++ rule cases ∷ s) (fixed c.CloseBrace ∷ s) (λ k. not (are_same c.CloseBrace k))
 some-cases s = until (rule cases ∷ s) (a_case ++ rule cases ∷ s) s c.CloseBrace (λ k. refl)
 
-some-actions : (s : Stack) → IsChoice (rule actions ∷ s) ((rule a_guard ∷ the_rest_of_an_action) ++ rule actions ∷ s) (fixed c.CloseBrace ∷ s) (λ k. not (are_same c.CloseBrace k))
+some-actions : (s : Stack)
+    → IsChoice (rule actions ∷ s) ((rule a_guard ∷ the_rest_of_an_action) ++ rule actions ∷ s) (fixed c.CloseBrace ∷ s) (λ k. not (are_same c.CloseBrace k))
 some-actions s = until (rule actions ∷ s) ((rule a_guard ∷ the_rest_of_an_action) ++ rule actions ∷ s) s c.CloseBrace (λ k. refl)
 
-region_body-meets : (d n : ℕ) (key : Place) (head : HeadTree) (brace : Place) (ts : List Token) (s : Stack) (all : List Token) → suc d ≡ n
+region_body-meets : (d n : ℕ) (key : Place) (head : HeadTree) (brace : Place) (ts : List Token) (s : Stack) (all : List Token)
+    → suc d ≡ n
     → all ≡ keyword (codes "region") key ∷ spell_head head (symbol (codes "{") brace ∷ ts)
     → Meets (Read spell_region all) (run (region_inside ++ s) d ts) s n (read_region_body d key head brace ts)
 unfolding spell_head
@@ -157,13 +158,16 @@ region-meets d ts s e =
     opened-within c.OpenBrace d head.1 (region_inside ++ s) refl (λ n. refl) (λ o n f3.
     region_body-meets o.0.0 d key.0 head.0 o.0.1 o.1 s ts n (rw (f1, f2, f3)))))
 
-some-names : (s : Stack) → IsChoice (rule names ∷ s) (fixed c.Name ∷ rule more_names ∷ s) (fixed c.Close ∷ s) (λ k. not (are_same c.Close k))
+some-names : (s : Stack)
+    → IsChoice (rule names ∷ s) (fixed c.Name ∷ rule more_names ∷ s) (fixed c.Close ∷ s) (λ k. not (are_same c.Close k))
 some-names s = until (rule names ∷ s) (fixed c.Name ∷ rule more_names ∷ s) s c.Close (λ k. refl)
 
-may-requires : (s : Stack) → IsChoice (rule may_requires ∷ s) (a_clause c.Requires ++ s) s (are_same c.Requires)
+may-requires : (s : Stack)
+    → IsChoice (rule may_requires ∷ s) (a_clause c.Requires ++ s) s (are_same c.Requires)
 may-requires s = lead (rule may_requires ∷ s) (a_clause c.Requires ++ s) s (an_assertion ++ fixed c.Semicolon ∷ s) c.Requires (λ k. refl) (λ k. refl)
 
-may-ensures : (s : Stack) → IsChoice (rule may_ensures ∷ s) (a_clause c.Ensures ++ s) s (are_same c.Ensures)
+may-ensures : (s : Stack)
+    → IsChoice (rule may_ensures ∷ s) (a_clause c.Ensures ++ s) s (are_same c.Ensures)
 may-ensures s = lead (rule may_ensures ∷ s) (a_clause c.Ensures ++ s) s (an_assertion ++ fixed c.Semicolon ∷ s) c.Ensures (λ k. refl) (λ k. refl)
 
 function-meets : (d : ℕ) (ts : List Token) (s : Stack) → ahead ts ≡ c.Function
@@ -172,7 +176,7 @@ function-meets d ts s e =
     chain (place-meets c.Function d d ts (the_rest_of_a_function ++ s) refl refl e) (λ key f1.
     chain (name-meets d key.1 (fixed c.Open ∷ rule names ∷ rule may_requires ∷ rule may_ensures ∷ a_block ++ s)) (λ w f2.
     chain (listed-meets {spell = spell_name} {one = λ n. read_name} (rule names) (rule more_names) (fixed c.Name ∷ []) d w.1 (rule may_requires ∷ rule may_ensures ∷ a_block ++ s)
-      (some-names (rule may_requires ∷ rule may_ensures ∷ a_block ++ s)) (more-names (rule may_requires ∷ rule may_ensures ∷ a_block ++ s)) (λ n. takes-keeps read_name name-takes) (λ n us u. name-meets n us u)) (λ ps f3.
+    (some-names (rule may_requires ∷ rule may_ensures ∷ a_block ++ s)) (more-names (rule may_requires ∷ rule may_ensures ∷ a_block ++ s)) (λ n. takes-keeps read_name name-takes) (λ n us u. name-meets n us u)) (λ ps f3.
     chain (optional-meets (read_clause d c.Requires) d ps.1 (may-requires (rule may_ensures ∷ a_block ++ s)) (λ y. clause-meets d c.Requires (codes "requires") ps.1 (rule may_ensures ∷ a_block ++ s) refl refl (λ q. refl))) (λ pre f4.
     chain (optional-meets (read_clause d c.Ensures) d pre.1 (may-ensures (a_block ++ s)) (λ y. clause-meets d c.Ensures (codes "ensures") pre.1 (a_block ++ s) refl refl (λ q. refl))) (λ post f5.
     chain (block-meets d post.1 s) (λ b f6. so (rw (f1, f2, f3, f4, f5, f6))))))))
@@ -187,7 +191,8 @@ declaration_by-meets d k ts s e = refuse (rule a_declaration ∷ s) d ts (ap (ne
 
 -- the whole text
 
-text-enters : (k : Class) → not (are_same c.End k) ≡ true → next start k ≡ next (rule a_declaration ∷ start) k
+text-enters : (k : Class) → not (are_same c.End k) ≡ true
+    → next start k ≡ next (rule a_declaration ∷ start) k
 text-enters c.End b = absurd cc
 text-enters k b = refl
 
@@ -195,7 +200,8 @@ text-leaves : (k : Class) → not (are_same c.End k) ≡ false → next start k 
 text-leaves c.End b = refl
 text-leaves k b = absurd cc
 
-declarations-meet : (d : ℕ) (ts : List Token) → Meets (Read (spell_all spell_declaration) ts) (run start d ts) [] d (read_until c.End (read_declaration d) ts)
+declarations-meet : (d : ℕ) (ts : List Token)
+    → Meets (Read (spell_all spell_declaration) ts) (run start d ts) [] d (read_until c.End (read_declaration d) ts)
 declarations-meet d ts =
     while-meets d ts (record { enters = text-enters; leaves = text-leaves }) (declaration-takes d) (λ b. absurd cc)
     (λ us. declaration_by-meets d (ahead us) us start refl)
@@ -210,7 +216,8 @@ left-of : {A : Type 0} → Outcome A → List Token
 left-of (Ok x) = x.1
 left-of (Err f) = []
 
-left-same : {A : Type 0} (a b : A) (ts us : List Token) (r : Outcome A) → r ≡ Ok (a, ts) → r ≡ Ok (b, us) → ts ≡ us
+left-same : {A : Type 0} (a b : A) (ts us : List Token) (r : Outcome A) → r ≡ Ok (a, ts)
+    → r ≡ Ok (b, us) → ts ≡ us
 unfolding left-of
 left-same {A = A} a b ts us r f e = sym (ap (left-of {A = A}) f) ∙ ap (left-of {A = A}) e
 
@@ -227,6 +234,7 @@ at-the-end {A = A} begins one (suc n) ts parts rest e = by (at-the-end begins on
         → (a : A) (r : Outcome (List A)) (us : List Token) → read_at_most begins one n us ≡ r → and_more a r ≡ Ok (parts, rest) → begins (ahead rest) ≡ false
     by_more again a (Ok x) us f g = let same : x.1 ≡ rest = left-same _ _ x.1 rest _ refl g in ap (λ l. begins (ahead l)) (sym same) ∙ again us x.0 x.1 f
     by_more again a (Err o) us f g = cc
+
     by : ((us : List Token) (bs : List A) (left : List Token) → read_at_most begins one n us ≡ Ok (bs, left) → begins (ahead left) ≡ false)
         → (r : Outcome A) (b : Bool) → begins (ahead ts) ≡ b → cond {A = Outcome (List A)} b (r >>= λ a. and_more a.0 (read_at_most begins one n a.1)) (Ok ([], ts)) ≡ Ok (parts, rest)
         → begins (ahead rest) ≡ false

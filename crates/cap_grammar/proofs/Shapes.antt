@@ -1,5 +1,5 @@
 -- What a token of each class is.
-use Rattle.std.proofs.Common.{◌≡◌, ◌==◌, ◌⊎◌, inl, inr, ℕ, zero, suc, Bool, true, false, cond, List, [], ◌∷◌, Option, Some, None, codes, refl, sym, ap, ◌∙◌, subst, arith, nat_eq}
+use Rattle.std.proofs.Common.{◌≡◌, ◌==◌, ◌⊎◌, inl, inr, ℕ, suc, Bool, true, false, cond, List, [], ◌∷◌, Option, Some, codes, refl, sym, ap, ◌∙◌, arith, nat_eq}
 use Rattle.std.proofs.lemmas.Bool.Decides.{nat_tests}
 use Rattle.std.proofs.lemmas.Slice.Eq.{bytes_eq-Decides}
 use Rattle.std.specs.Str.{bytes_eq}
@@ -26,6 +26,7 @@ decode n =
     cond (nat_eq n 40) AtLeast (cond (nat_eq n 41) Plus (cond (nat_eq n 42) Minus (cond (nat_eq n 43) Star (cond (nat_eq n 44) Percent (
     cond (nat_eq n 45) At (cond (nat_eq n 46) Question (cond (nat_eq n 47) Bar (cond (nat_eq n 48) PointsTo (cond (nat_eq n 49) And (
     cond (nat_eq n 50) LeadsTo (cond (nat_eq n 51) Other (End))))))))))))))))))))))))))))))))))))))))))))))))))))
+
 decode-number : (k : Class) → decode (class_number k) ≡ k
 unfolding decode
 decode-number Name = refl
@@ -240,7 +241,8 @@ Matches of_kind [] = Unit {0}
 Matches of_kind (entry ∷ more) =
     ((text : List ℕ) (value : ℕ) → (is_known entry.1 ≡ true) × (of_kind ≡ kind_of entry.1) × (entry.0 ≡ text_in entry.1 text) × (0 ≡ value_in entry.1 value)) × Matches of_kind more
 
-seen-in : (of_kind : TokenKind) (table : List (List ℕ × Class)) → Matches of_kind table → (text : List ℕ) (value : ℕ) → value ≡ 0
+seen-in : (of_kind : TokenKind) (table : List (List ℕ × Class)) → Matches of_kind table
+    → (text : List ℕ) (value : ℕ) → value ≡ 0
     → Seen of_kind text value (class_in table text)
 seen-in of_kind [] m text value v = inl refl
 seen-in of_kind (entry ∷ more) m text value v = by (seen-in of_kind more m.1 text value v) (bytes_eq text entry.0) refl
@@ -252,7 +254,8 @@ seen-in of_kind (entry ∷ more) m text value v = by (seen-in of_kind more m.1 t
         inr (record { known = f.0; kind_is = f.1; text_is = same ∙ f.2; value_is = v ∙ f.3 })
     by later false e = later
 
-seen-text : (of_kind : TokenKind) (k : Class) (it text : List ℕ) (value : ℕ) → is_known k ≡ true → of_kind ≡ kind_of k → it ≡ text_in k text → 0 ≡ value_in k value → value ≡ 0
+seen-text : (of_kind : TokenKind) (k : Class) (it text : List ℕ) (value : ℕ) → is_known k ≡ true
+    → of_kind ≡ kind_of k → it ≡ text_in k text → 0 ≡ value_in k value → value ≡ 0
     → Seen of_kind text value (cond (bytes_eq text it) k Other)
 seen-text of_kind k it text value n f g h v = by (bytes_eq text it) refl
   where
@@ -260,7 +263,8 @@ seen-text of_kind k it text value n f g h v = by (bytes_eq text it) refl
     by true e = let same : text ≡ it = (bytes_eq-Decides text it).0 e in inr (record { known = n; kind_is = f; text_is = same ∙ g; value_is = v ∙ h })
     by false e = inl refl
 
-seen-by : (of_kind : TokenKind) (text : List ℕ) (value : ℕ) → value ≡ 0 → (of_kind ≡ kind.Number → ⊥) → Seen of_kind text value (class_by of_kind text)
+seen-by : (of_kind : TokenKind) (text : List ℕ) (value : ℕ) → value ≡ 0
+    → (of_kind ≡ kind.Number → ⊥) → Seen of_kind text value (class_by of_kind text)
 seen-by kind.Name text value v n = inr (record { known = refl; kind_is = refl; text_is = refl; value_is = v })
 seen-by kind.Keyword text value v n = seen-in kind.Keyword keyword_table (λ x v. (refl, refl, refl, refl), (λ x v. (refl, refl, refl, refl), (λ x v. (refl, refl, refl, refl), (λ x v. (refl, refl, refl, refl), (λ x v. (refl, refl, refl, refl), (λ x v. (refl, refl, refl, refl), (λ x v. (refl, refl, refl, refl), (λ x v. (refl, refl, refl, refl), (λ x v. (refl, refl, refl, refl), (λ x v. (refl, refl, refl, refl), (λ x v. (refl, refl, refl, refl), (λ x v. (refl, refl, refl, refl), (λ x v. (refl, refl, refl, refl), (λ x v. (refl, refl, refl, refl), (λ x v. (refl, refl, refl, refl), (λ x v. (refl, refl, refl, refl), (λ x v. (refl, refl, refl, refl), (λ x v. (refl, refl, refl, refl), (λ x v. (refl, refl, refl, refl), (λ x v. (refl, refl, refl, refl), (λ x v. (refl, refl, refl, refl), tt))))))))))))))))))))) text value v
 seen-by kind.Number text value v n = absurd (n refl)
@@ -269,14 +273,16 @@ seen-by kind.Wildcard text value v n = seen-text kind.Wildcard Wildcard (codes "
 seen-by kind.Symbol text value v n = seen-in kind.Symbol symbol_table (λ x v. (refl, refl, refl, refl), (λ x v. (refl, refl, refl, refl), (λ x v. (refl, refl, refl, refl), (λ x v. (refl, refl, refl, refl), (λ x v. (refl, refl, refl, refl), (λ x v. (refl, refl, refl, refl), (λ x v. (refl, refl, refl, refl), (λ x v. (refl, refl, refl, refl), (λ x v. (refl, refl, refl, refl), (λ x v. (refl, refl, refl, refl), (λ x v. (refl, refl, refl, refl), (λ x v. (refl, refl, refl, refl), (λ x v. (refl, refl, refl, refl), (λ x v. (refl, refl, refl, refl), (λ x v. (refl, refl, refl, refl), (λ x v. (refl, refl, refl, refl), (λ x v. (refl, refl, refl, refl), (λ x v. (refl, refl, refl, refl), (λ x v. (refl, refl, refl, refl), (λ x v. (refl, refl, refl, refl), (λ x v. (refl, refl, refl, refl), (λ x v. (refl, refl, refl, refl), (λ x v. (refl, refl, refl, refl), (λ x v. (refl, refl, refl, refl), (λ x v. (refl, refl, refl, refl), (λ x v. (refl, refl, refl, refl), tt)))))))))))))))))))))))))) text value v
 seen-by kind.End text value v n = inl refl
 
-seen-zero : (of_kind : TokenKind) (text : List ℕ) (value : ℕ) → (of_kind ≡ kind.Number → ⊥) → Seen of_kind text value (cond (value == 0) (class_by of_kind text) Other)
+seen-zero : (of_kind : TokenKind) (text : List ℕ) (value : ℕ) → (of_kind ≡ kind.Number → ⊥)
+    → Seen of_kind text value (cond (value == 0) (class_by of_kind text) Other)
 seen-zero of_kind text value n = by (value == 0) refl
   where
     by : (b : Bool) → (value == 0) ≡ b → Seen of_kind text value (cond b (class_by of_kind text) Other)
     by true e = seen-by of_kind text value (grind (arith, nat_tests, e)) n
     by false e = inl refl
 
-seen : (of_kind : TokenKind) (text : List ℕ) (value : ℕ) → Seen of_kind text value (class_with of_kind text value)
+seen : (of_kind : TokenKind) (text : List ℕ) (value : ℕ)
+    → Seen of_kind text value (class_with of_kind text value)
 seen kind.Number text value = inr (record { known = refl; kind_is = refl; text_is = refl; value_is = refl })
 seen kind.Name text value = seen-zero kind.Name text value (λ e. cc)
 seen kind.Keyword text value = seen-zero kind.Keyword text value (λ e. cc)

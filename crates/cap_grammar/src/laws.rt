@@ -31,7 +31,8 @@ pub fn texts_go_wrong_at_one_token()
         (read_program max_nesting ts ≡ Err (too_deep rest)) ↔ IsTooDeepAt ts rest }
     ensures one_of_three { (ts : List Token) →
         ((t : ProgramTree) × (ts ≡ spelling t) × Nests t)
-        ⊎ (((rest : List Token) × IsUnexpectedAt ts rest) ⊎ ((rest : List Token) × IsTooDeepAt ts rest)) }
+        ⊎ ((rest : List Token) × IsUnexpectedAt ts rest)
+        ⊎ ((rest : List Token) × IsTooDeepAt ts rest) }
 {}
 
 /// A law: the canonical text of a tree is read again as that tree, apart from the places. It holds of

@@ -3,3 +3,4 @@ pub mod Parts
 pub mod Scopes
 pub mod WellFormed
 pub mod Views
+pub mod Empty

@@ -53,7 +53,7 @@ impl Program {
         ensures regions { result.now ≡ self.now.regions }
         ensures well_formed { IsWellFormed (program_view self.now) }
     {
-        &self.regions
+        self.regions.as_slice()
     }
 
     /// The functions.
@@ -61,7 +61,7 @@ impl Program {
         ensures functions { result.now ≡ self.now.functions }
         ensures well_formed { IsWellFormed (program_view self.now) }
     {
-        &self.functions
+        self.functions.as_slice()
     }
 
     /// The number of the function `main`.

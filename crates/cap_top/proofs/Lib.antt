@@ -10,6 +10,7 @@ pub mod NameLemmas
 pub mod StepsLeft
 pub mod WellFormed
 pub mod TextLaws
+pub mod ShowingLaws
 pub mod Counts
 pub mod FindingLaws
 pub mod Promises

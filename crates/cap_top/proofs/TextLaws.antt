@@ -8,7 +8,7 @@ use Rattle.cap_syntax.specs.Place.{place_of}
 use Rattle.cap_syntax.specs.Refusal.{UnlessMemory as unless_memory, FailsExactly}
 use Rattle.cap_top.specs.declared.lexeme.Lexeme.{Lexeme}
 use Rattle.cap_top.specs.declared.refusal.Refusal.{Refusal}
-use Rattle.cap_top.specs.declared.refusal.Refusal.TheVariants.{BadByte, LongLiteral, TextTooLong, Unexpected, Unknown, OutOfMemory}
+use Rattle.cap_top.specs.declared.refusal.Refusal.TheVariants.{BadByte, LongLiteral, TextTooLong, Unexpected, TooDeep, Unknown, OutOfMemory}
 use Rattle.cap_machine.specs.declared.program.Program.{Program}
 use Rattle.cap_top.specs.Tree.{PlainTree}
 use Rattle.cap_top.specs.Names.{unknown}
@@ -39,6 +39,7 @@ no_refusal bytes x c (BadByte p) h = (c.0 p).0 h
 no_refusal bytes x c (LongLiteral p) h = (c.1 p).0 h
 no_refusal bytes x c TextTooLong h = c.2.0 h
 no_refusal bytes x c (Unexpected p) h = h
+no_refusal bytes x c (TooDeep p) h = h
 no_refusal bytes x c (Unknown n p) h = h
 no_refusal bytes x c OutOfMemory h = h
 
@@ -47,6 +48,7 @@ the_refusal bytes d x e c (BadByte p) h = unless d (token.BadByte p) x (BadByte 
 the_refusal bytes d x e c (LongLiteral p) h = unless d (token.LongLiteral p) x (LongLiteral p) e refl ((c.1 p).0 h)
 the_refusal bytes d x e c TextTooLong h = unless d token.TextTooLong x TextTooLong e refl (c.2.0 h)
 the_refusal bytes d x e c (Unexpected p) h = absurd h
+the_refusal bytes d x e c (TooDeep p) h = absurd h
 the_refusal bytes d x e c (Unknown n p) h = absurd h
 the_refusal bytes d x e c OutOfMemory h = absurd h
 
@@ -113,6 +115,7 @@ read_text bytes ls end s (Ok p) h = record {
     by (Unknown x q) u =
         let e = ap (λ (v : PlainTree). unknown v.statements) (same_tree ls u.tree h.0 (the_tree bytes ls end u.tree s u.spelled) h.1) in
         let f = sym u.first ∙ e ∙ h.2 in cc
+    by (TooDeep q) u = u
     by (BadByte q) u = s.none (BadByte q) u
     by (LongLiteral q) u = s.none (LongLiteral q) u
     by TextTooLong u = s.none TextTooLong u
@@ -129,6 +132,7 @@ read_text bytes ls end s (Err (Unexpected p)) h = record {
         let same = wrong_once ls h.0 u.rest (goes_wrong ls h.0 h.1) (subst (λ ks. GoesWrongAt ks u.rest) (sym (s.only u.lexemes u.tokens)) u.wrong) in
         ap Unexpected (h.2 ∙ ap (λ rest. first_place rest end) same ∙ ap (first_place u.rest) s.at ∙ sym u.at)
     by (Unknown x q) u = absurd (no_tree ls u.tree h.0 (the_tree bytes ls end u.tree s u.spelled) h.1)
+    by (TooDeep q) u = absurd u
     by (BadByte q) u = absurd (s.none (BadByte q) u)
     by (LongLiteral q) u = absurd (s.none (LongLiteral q) u)
     by TextTooLong u = absurd (s.none TextTooLong u)
@@ -147,6 +151,7 @@ read_text bytes ls end s (Err (Unknown x p)) h = record {
     by (Unknown y q) u =
         let same = the_mention h.0 u.tree (x, p) (y, q) (same_tree ls h.0 u.tree h.1 (the_tree bytes ls end u.tree s u.spelled)) h.2 u.first in
         ap (λ (m : List ℕ × Place). Unknown m.0 m.1) same
+    by (TooDeep q) u = absurd u
     by (BadByte q) u = absurd (s.none (BadByte q) u)
     by (LongLiteral q) u = absurd (s.none (LongLiteral q) u)
     by TextTooLong u = absurd (s.none TextTooLong u)
@@ -155,6 +160,7 @@ read_text bytes ls end s (Err OutOfMemory) h = record { text = tt; refused = tt;
 read_text bytes ls end s (Err (BadByte p)) h = absurd h
 read_text bytes ls end s (Err (LongLiteral p)) h = absurd h
 read_text bytes ls end s (Err TextTooLong) h = absurd h
+read_text bytes ls end s (Err (TooDeep p)) h = absurd h
 
 -- the bytes have no tokens
 pub record Unseen (bytes : List ℕ) (e : Refusal) : Type 0 where
@@ -167,10 +173,11 @@ refused_of bytes (BadByte p) h = h
 refused_of bytes (LongLiteral p) h = h
 refused_of bytes TextTooLong h = h
 refused_of bytes (Unexpected p) h = absurd h
+refused_of bytes (TooDeep p) h = absurd h
 refused_of bytes (Unknown x p) h = absurd h
 refused_of bytes OutOfMemory h = tt
 
-memory_is : (e r : Refusal) → e ≡ OutOfMemory → UnlessMemory e (e ≡ r)
+pub memory_is : (e r : Refusal) → e ≡ OutOfMemory → UnlessMemory e (e ≡ r)
 memory_is e r h = subst (λ x. UnlessMemory x (x ≡ r)) (sym h) tt
 
 pub read_none : (bytes : List ℕ) (e : Refusal) → Unseen bytes e → IsAnswer bytes (Err e)
@@ -179,6 +186,7 @@ read_none bytes e u = record { text = tt; refused = refused_of bytes e u.err; on
     by : (r : Refusal) → IsRefused bytes r → UnlessMemory e (e ≡ r)
     by (Unexpected q) h = memory_is e (Unexpected q) (u.only h.lexemes h.tokens)
     by (Unknown x q) h = memory_is e (Unknown x q) (u.only (spell h.tree) h.spelled)
+    by (TooDeep q) h = absurd h
     by (BadByte q) h = u.exact (BadByte q) h
     by (LongLiteral q) h = u.exact (LongLiteral q) h
     by TextTooLong h = u.exact TextTooLong h

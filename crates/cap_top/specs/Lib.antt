@@ -13,6 +13,8 @@ pub mod Lexing
 pub mod Judging
 pub mod Text
 pub mod TokenRefusals
+pub mod Task
+pub mod Showing
 pub mod Output
 pub mod Finding
 pub mod Status

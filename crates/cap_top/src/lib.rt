@@ -11,7 +11,9 @@ mod program;
 mod refusal;
 mod rendering;
 mod resolve;
+mod show;
 mod status;
+mod task;
 #[cfg(test)]
 mod tests;
 mod text;

@@ -1,17 +1,20 @@
-ghost use Rattle.std.specs.Prelude.{◌≡◌, [], IfOk, Some, None, option_map, map, string_bytes, MatchResult};
-ghost use Rattle.cap_top.specs.Output.{file_word, begins_option, status_of, refused};
-ghost use Rattle.cap_top.specs.Finding.{output_view, IsFound, IsSaidOf, IsSaid, IsOnly};
+ghost use Rattle.std.specs.Prelude.{◌≡◌, [], IfOk, Some, None, MatchResult};
+ghost use Rattle.cap_top.specs.Output.{status_of, refused};
+ghost use Rattle.cap_top.specs.Finding.{output_view, FindsVerdict, IsOnlyAnswer, IsSaid, IsOnly};
 ghost use Rattle.cap_top.specs.Resolving.{IsCause};
+ghost use Rattle.cap_top.specs.Task.{task_in};
 ghost use Rattle.cap_top.specs.declared.refusal.Refusal.TheVariants.{OutOfMemory};
 
 use crate::refusal::Refusal;
+use crate::show::canonical;
 use crate::status::Status;
+use crate::task::{Command, Task};
 use crate::text::read;
 use crate::verdict::{Verdict, judge};
 use cap_io::{FetchError, Shelf};
 use std::alloc::{AllocError, Global};
 
-/// What is said. A file that cannot be read is named.
+/// What is said. A file that cannot be read is named, and a text that is shown is canonical.
 #[derive(Debug, Drop)]
 pub(crate) enum Output<'a> {
     Usage,
@@ -19,11 +22,12 @@ pub(crate) enum Output<'a> {
     TooLong,
     Refused(Refusal),
     Judged(Verdict),
+    Shown(Vec<u8>),
 }
 
 /// What is found of the text that these bytes are.
 fn find(alloc: Global, bytes: &[u8]) -> Result<Verdict, Refusal>
-    ensures { IsFound bytes.now result }
+    ensures { FindsVerdict bytes.now result }
 {
     match read(alloc, bytes) {
         Ok(program) => Ok(judge(alloc, &program)?),
@@ -39,36 +43,16 @@ impl<'a> Output<'a> {
             Output::Usage => Status::Usage,
             Output::Unreadable(_) => Status::ReadFault,
             Output::TooLong | Output::Refused(_) => Status::Refused,
-            Output::Judged(Verdict::Proved) => Status::Good,
+            Output::Judged(Verdict::Proved) | Output::Shown(_) => Status::Good,
             Output::Judged(_) => Status::Bad,
         }
     }
 }
 
-/// The file that the words name.
-fn file_word(words: &[String]) -> Option<&str>
-    ensures { option_map (λ s. s.now) result ≡ file_word (map string_bytes words.now) }
-{
-    match words {
-        [command, file] if command.as_str() == "verify" && !begins_option(file.as_str()) => {
-            Some(file.as_str())
-        }
-        _ => None,
-    }
-}
-
-fn begins_option(word: &str) -> bool
-    ensures { result ≡ begins_option word.now }
-{
-    match word.as_bytes() {
-        [first, ..] => *first == b'-',
-        [] => false,
-    }
-}
-
 /// What is said of a text that is refused, unless for want of memory.
 fn refuse<'a>(cause: Refusal) -> Result<Output<'a>, AllocError>
-    ensures { MatchResult result (λ o. (output_view o ≡ refused cause) × IsCause cause) (λ _. cause ≡ OutOfMemory) }
+    ensures { MatchResult result (λ o. (output_view o ≡ refused cause) × IsCause cause)
+        (λ _. cause ≡ OutOfMemory) }
 {
     match cause {
         Refusal::OutOfMemory => Err(AllocError),
@@ -76,13 +60,33 @@ fn refuse<'a>(cause: Refusal) -> Result<Output<'a>, AllocError>
     }
 }
 
-/// What is said of a file of these bytes.
-fn answer<'a>(alloc: Global, bytes: &[u8]) -> Result<Output<'a>, AllocError>
-    ensures { IfOk result (λ o. IsSaidOf bytes.now (output_view o)) }
+/// What `verify` answers to a file of these bytes.
+fn verify<'a>(alloc: Global, bytes: &[u8]) -> Result<Output<'a>, AllocError>
+    ensures { IfOk result (λ o. IsOnlyAnswer Command.Verify bytes.now (output_view o)) }
 {
     match find(alloc, bytes) {
         Ok(verdict) => Ok(Output::Judged(verdict)),
         Err(refusal) => refuse(refusal),
+    }
+}
+
+/// What `show` answers to a file of these bytes.
+fn show<'a>(alloc: Global, bytes: &[u8]) -> Result<Output<'a>, AllocError>
+    ensures { IfOk result (λ o. IsOnlyAnswer Command.Show bytes.now (output_view o)) }
+{
+    match canonical(alloc, bytes) {
+        Ok(text) => Ok(Output::Shown(text)),
+        Err(refusal) => refuse(refusal),
+    }
+}
+
+/// What the command answers to a file of these bytes.
+fn answer<'a>(alloc: Global, command: Command, bytes: &[u8]) -> Result<Output<'a>, AllocError>
+    ensures { IfOk result (λ o. IsOnlyAnswer command bytes.now (output_view o)) }
+{
+    match command {
+        Command::Verify => verify(alloc, bytes),
+        Command::Show => show(alloc, bytes),
     }
 }
 
@@ -92,16 +96,18 @@ pub(crate) fn respond<'a, S: Shelf>(
     words: &'a [String],
     shelf: &mut S,
 ) -> Result<Output<'a>, AllocError>
-    ensures said { IfOk result (λ o. IsSaid (S.holds shelf.old) (file_word (map string_bytes words.now)) (S.faults shelf.old) (S.faults shelf.new) (S.blamed shelf.new) (output_view o)) }
-    ensures only { IfOk result (λ o. IsOnly (S.holds shelf.old) (file_word (map string_bytes words.now)) (S.faults shelf.old) (S.faults shelf.new) (output_view o)) }
+    ensures said { IfOk result (λ o. IsSaid (S.holds shelf.old) (task_in words.now)
+        (S.faults shelf.old) (S.faults shelf.new) (S.blamed shelf.new) (output_view o)) }
+    ensures only { IfOk result (λ o. IsOnly (S.holds shelf.old) (task_in words.now)
+        (S.faults shelf.old) (S.faults shelf.new) (output_view o)) }
 {
-    let Some(name) = file_word(words) else {
+    let Some(task) = Task::from_words(words) else {
         return Ok(Output::Usage);
     };
-    match shelf.fetch(name) {
-        Ok(bytes) => answer(alloc, bytes.as_slice()),
+    match shelf.fetch(task.file) {
+        Ok(bytes) => answer(alloc, task.command, bytes.as_slice()),
         Err(FetchError::TooLong(_)) => Ok(Output::TooLong),
         Err(FetchError::OutOfMemory) => Err(AllocError),
-        Err(FetchError::Failed | FetchError::Absent) => Ok(Output::Unreadable(name)),
+        Err(FetchError::Failed | FetchError::Absent) => Ok(Output::Unreadable(task.file)),
     }
 }

@@ -5,7 +5,7 @@ use cap_syntax::{Place, Text};
 use std::alloc::AllocError;
 use thiserror::Error;
 
-/// Why bytes are the text of no program, by the least place, and want of memory.
+/// Why bytes are the text of no program, or of no tree, by the least place, and want of memory.
 #[derive(Debug, Drop, Error)]
 pub(crate) enum Refusal {
     #[error("bad byte")]
@@ -16,6 +16,9 @@ pub(crate) enum Refusal {
     TextTooLong,
     #[error("unexpected token")]
     Unexpected(Place),
+    /// A bracket that opens while 64 are open.
+    #[error("nested too deep")]
+    TooDeep(Place),
     /// A name that is no destination in the body.
     #[error("unknown name")]
     Unknown(Text, Place),

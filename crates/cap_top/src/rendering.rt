@@ -46,6 +46,7 @@ fn refusal_text(alloc: Global, refusal: &Refusal) -> Result<Vec<u8>, AllocError>
         Refusal::LongLiteral(place) => format!(in alloc; "refused {place}: literal too long\n")?,
         Refusal::TextTooLong => String::from_str(alloc, "refused 1:1: text too long\n")?,
         Refusal::Unexpected(place) => format!(in alloc; "refused {place}: unexpected token\n")?,
+        Refusal::TooDeep(place) => format!(in alloc; "refused {place}: nested too deep\n")?,
         Refusal::Unknown(name, place) => {
             let mut text = format!(in alloc; "refused {place}: unknown name ")?.into_bytes();
             text.extend_from_slice(name.as_bytes())?;
@@ -57,15 +58,16 @@ fn refusal_text(alloc: Global, refusal: &Refusal) -> Result<Vec<u8>, AllocError>
     Ok(text.into_bytes())
 }
 
-/// The text that says it.
-pub(crate) fn text(alloc: Global, output: &Output<'_>) -> Result<Vec<u8>, AllocError>
-    ensures { IfOk result (λ text. text.items ≡ text_of (output_view output.now)) }
+/// The text that says it. A text that is shown is handed on as it is.
+pub(crate) fn text(alloc: Global, output: Output<'_>) -> Result<Vec<u8>, AllocError>
+    ensures { IfOk result (λ text. text.items ≡ text_of (output_view output.entry)) }
 {
     match output {
         Output::Usage => Ok(String::from_str(alloc, USAGE)?.into_bytes()),
         Output::Unreadable(name) => Ok(format!(in alloc; "cannot read {name}\n")?.into_bytes()),
         Output::TooLong => Ok(String::from_str(alloc, "refused: file too long\n")?.into_bytes()),
-        Output::Refused(refusal) => refusal_text(alloc, refusal),
-        Output::Judged(verdict) => Ok(verdict_text(alloc, *verdict)?.into_bytes()),
+        Output::Refused(refusal) => refusal_text(alloc, &refusal),
+        Output::Judged(verdict) => Ok(verdict_text(alloc, verdict)?.into_bytes()),
+        Output::Shown(text) => Ok(text),
     }
 }

@@ -4,7 +4,7 @@ ghost use Rattle.cap_top.specs.Status.{code_of};
 /// How a run of the program ended.
 #[derive(Clone, Copy, Debug, PartialEq, Eq)]
 pub enum Status {
-    /// All functions are proved.
+    /// All functions are proved, or the text is shown.
     Good,
     /// Some function is not proved.
     Bad,

@@ -45,7 +45,7 @@ fn ends<S: Shelf>(
     if let Some(count) = fails_after {
         failing.push((1, count))?;
     }
-    let mut sink = MemorySink::new(alloc, failing, 200)?;
+    let mut sink = MemorySink::new(alloc, failing, 500)?;
     let found = run(alloc, words.as_slice(), shelf, &mut sink);
     if found == Status::NoMemory {
         assert!(rt; sink.bytes().is_empty());
@@ -56,10 +56,11 @@ fn ends<S: Shelf>(
     Ok(())
 }
 
-/// Verifies a file of this text.
-fn verify(
+/// Runs this command on a file of this text.
+fn answers(
     rt: &impl Abort,
     alloc: Global,
+    command: &str,
     text: &str,
     status: Status,
     written: &str,
@@ -68,12 +69,34 @@ fn verify(
     ends(
         rt,
         alloc,
-        &["verify", "f"],
+        &[command, "f"],
         &mut shelf,
         None,
         status,
         written.as_bytes(),
     )
+}
+
+/// Verifies a file of this text.
+fn verify(
+    rt: &impl Abort,
+    alloc: Global,
+    text: &str,
+    status: Status,
+    written: &str,
+) -> Result<(), Fail> {
+    answers(rt, alloc, "verify", text, status, written)
+}
+
+/// Shows a file of this text.
+fn show(
+    rt: &impl Abort,
+    alloc: Global,
+    text: &str,
+    status: Status,
+    written: &str,
+) -> Result<(), Fail> {
+    answers(rt, alloc, "show", text, status, written)
 }
 
 #[test]
@@ -193,16 +216,94 @@ fn runs_of_a_thousand_steps(rt: HostRuntime) -> Result<(), Fail> {
     Ok(())
 }
 
+const REGION: &str =
+    "// A lock.\nregion Lock(r,x){guards %LOCK;interpretation{0:x|->0;}actions{LOCK[1p]:0~>1;}}\nfunction f(a)requires Lock(r,a;_);{return;}";
+
+const REGION_SHOWN: &str =
+    "region Lock ( r , x ) {\nguards % LOCK ;\ninterpretation {\n0 : x |-> 0 ;\n}\nactions {\nLOCK [ 1p ] : 0 ~> 1 ;\n}\n}\nfunction f ( a ) requires Lock ( r , a ; _ ) ;\n{\nreturn ;\n}\n";
+
+#[test]
+fn shown_texts(rt: HostRuntime) -> Result<(), Fail> {
+    let alloc = rt.alloc();
+    for (text, written) in [
+        ("", ""),
+        (
+            "function main(){x:=1;}",
+            "function main ( ) {\nx := 1 ;\n}\n",
+        ),
+        (REGION, REGION_SHOWN),
+        (REGION_SHOWN, REGION_SHOWN),
+    ] {
+        show(&rt, alloc, text, Status::Good, written)?;
+    }
+    for (text, written) in [
+        ("function main ( { }", "refused 1:17: unexpected token\n"),
+        ("function main()", "refused 1:16: unexpected token\n"),
+        (
+            "function main() { x := 1 # 2; }",
+            "refused 1:26: bad byte\n",
+        ),
+    ] {
+        show(&rt, alloc, text, Status::Refused, written)?;
+    }
+    Ok(())
+}
+
+/// A text in which a term in so many parentheses stands between these two.
+fn nested(alloc: Global, front: &str, count: usize, back: &str) -> Result<String, AllocError> {
+    let mut text = String::from_str(alloc, front)?;
+    text.push_str("(".repeat(alloc, count)?.as_str())?;
+    text.push_str("1")?;
+    text.push_str(")".repeat(alloc, count)?.as_str())?;
+    text.push_str(back)?;
+    Ok(text)
+}
+
+#[test]
+fn brackets_that_nest(rt: HostRuntime) -> Result<(), Fail> {
+    let alloc = rt.alloc();
+    for (front, back, count, written) in [
+        // No bracket is open before the term, so the 65th parenthesis is one too many.
+        (
+            "function main() requires ",
+            " = 1; { }",
+            65,
+            "refused 1:90: nested too deep\n",
+        ),
+        // The brace of the body is open, so the 64th parenthesis is.
+        (
+            "function main() { x := ",
+            "; }",
+            64,
+            "refused 1:87: nested too deep\n",
+        ),
+    ] {
+        let deep = nested(alloc, front, count, back)?;
+        show(&rt, alloc, deep.as_str(), Status::Refused, written)?;
+    }
+    let most = nested(alloc, "function main() { x := ", 63, "; }")?;
+    let mut written = String::from_str(alloc, "function main ( ) {\nx := ")?;
+    written.push_str("( ".repeat(alloc, 63)?.as_str())?;
+    written.push_str("1 ")?;
+    written.push_str(") ".repeat(alloc, 63)?.as_str())?;
+    written.push_str(";\n}\n")?;
+    show(&rt, alloc, most.as_str(), Status::Good, written.as_str())
+}
+
 #[test]
 fn usage(rt: HostRuntime) -> Result<(), Fail> {
     let alloc = rt.alloc();
     let mut shelf = shelf(alloc, GOOD_TEXT, Vec::new(alloc))?;
-    let commands: [&[&str]; 5] = [
+    let commands: [&[&str]; 9] = [
         &[],
         &["check", "f"],
         &["verify"],
         &["verify", "-x"],
         &["verify", "f", "g"],
+        &["show"],
+        &["show", "-x"],
+        &["show", "f", "g"],
+        &["f", "show"],
     ];
     for words in commands {
         ends(

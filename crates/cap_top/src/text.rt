@@ -40,7 +40,7 @@ fn parse(alloc: Global, lexemes: &[Lexeme], end: Place) -> Result<Tree, Refusal>
 }
 
 /// The refusal for which a text has no tokens.
-fn refusal(error: TokenError) -> Refusal
+pub(crate) fn refusal(error: TokenError) -> Refusal
     ensures { result ≡ refusal_of error }
 {
     match error {

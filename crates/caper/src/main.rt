@@ -1,4 +1,4 @@
-//! Verifies a program: `caper verify FILE`.
+//! Verifies a program, `caper verify FILE`, or shows its canonical text, `caper show FILE`.
 #![tactic(auto)]
 
 use cap_io::{FileShelf, StdSink};

@@ -52,7 +52,8 @@ literal-takes : Takes next_literal
 literal-takes [] = fails
 literal-takes (t ∷ ts) = leaves (omega arith)
 
-either : {A : Type 0} {n : ℕ} (b : Bool) {r s : Outcome A} → Leaves n r → Leaves n s → Leaves n (cond b r s)
+either : {A : Type 0} {n : ℕ} (b : Bool) {r s : Outcome A} → Leaves n r → Leaves n s
+    → Leaves n (cond b r s)
 either true h k = h
 either false h k = k
 
@@ -72,15 +73,18 @@ opening-takes : (room : ℕ) (k : Class) → Takes (read_opening room k)
 opening-takes zero k ts = no_room-takes k ts
 opening-takes (suc room) k ts = then (expect-takes k ts) (λ p h. leaves h)
 
-optional-keeps : {A : Type 0} (begins : Class → Bool) (one : Reader A) → Keeps one → Keeps (read_optional begins one)
+optional-keeps : {A : Type 0} (begins : Class → Bool) (one : Reader A) → Keeps one
+    → Keeps (read_optional begins one)
 optional-keeps begins one h ts = either (begins (ahead ts)) (then (h ts) (λ a i. leaves i)) (leaves (omega arith))
 
-pub at_most-keeps : {A : Type 0} (begins : Class → Bool) (one : Reader A) → Keeps one → (n : ℕ) → Keeps (read_at_most begins one n)
+pub at_most-keeps : {A : Type 0} (begins : Class → Bool) (one : Reader A) → Keeps one → (n : ℕ)
+    → Keeps (read_at_most begins one n)
 at_most-keeps begins one h zero ts = either (begins (ahead ts)) fails (leaves (omega arith))
 at_most-keeps begins one h (suc n) ts =
     either (begins (ahead ts)) (then (h ts) (λ a i. then (at_most-keeps begins one h n a.1) (λ more j. leaves (omega (arith, i, j))))) (leaves (omega arith))
 
-while-keeps : {A : Type 0} (begins : Class → Bool) (one : Reader A) → Keeps one → Keeps (read_while begins one)
+while-keeps : {A : Type 0} (begins : Class → Bool) (one : Reader A) → Keeps one
+    → Keeps (read_while begins one)
 while-keeps begins one h ts = at_most-keeps begins one h (length ts) ts
 
 pub behind-takes : {A : Type 0} (k : Class) (one : Reader A) → Keeps one → Takes (read_behind k one)
@@ -93,13 +97,15 @@ several-takes : {A : Type 0} (k : Class) (one : Reader A) → Takes one → Take
 several-takes k one h ts =
     then (h ts) (λ a i. then (more-keeps k one (takes-keeps one h) a.1) (λ more j. leaves (omega (arith, i, j))))
 
-listed-takes : {A : Type 0} (room : ℕ) (one : ℕ → Reader A) → ((d : ℕ) → Takes (one d)) → Takes (read_listed room one)
+listed-takes : {A : Type 0} (room : ℕ) (one : ℕ → Reader A) → ((d : ℕ) → Takes (one d))
+    → Takes (read_listed room one)
 listed-takes room one h ts =
     then (opening-takes room c.Open ts) (λ o i.
     then (optional-keeps (λ a. not (are_same c.Close a)) (read_several c.Comma (one o.0.0)) (takes-keeps (read_several c.Comma (one o.0.0)) (several-takes c.Comma (one o.0.0) (h o.0.0))) o.1) (λ parts j.
     then (expect-takes c.Close parts.1) (λ q l. leaves (omega (arith, i, j, l)))))
 
-group-takes : {A : Type 0} (room : ℕ) (k : Class) (one : ℕ → Reader A) → ((d : ℕ) → Keeps (one d)) → Takes (read_group room k one)
+group-takes : {A : Type 0} (room : ℕ) (k : Class) (one : ℕ → Reader A) → ((d : ℕ) → Keeps (one d))
+    → Takes (read_group room k one)
 group-takes room k one h ts =
     then (expect-takes k ts) (λ key i.
     then (opening-takes room c.OpenBrace key.1) (λ o j.
@@ -108,7 +114,8 @@ group-takes room k one h ts =
 
 -- terms
 
-factor_by-takes : (bracket : Reader FactorTree) → Takes bracket → (k : Class) → Takes (factor_by bracket k)
+factor_by-takes : (bracket : Reader FactorTree) → Takes bracket → (k : Class)
+    → Takes (factor_by bracket k)
 factor_by-takes bracket h c.Number ts = then (literal-takes ts) (λ n i. leaves i)
 factor_by-takes bracket h c.Share ts = then (place-takes ts) (λ p i. leaves i)
 factor_by-takes bracket h c.Name ts = then (word-takes ts) (λ w i. leaves i)
@@ -117,7 +124,8 @@ factor_by-takes bracket h k ts = h ts
 factor-takes-with : (bracket : Reader FactorTree) → Takes bracket → Takes (read_factor bracket)
 factor-takes-with bracket h ts = factor_by-takes bracket h (ahead ts) ts
 
-product_from-keeps : (bracket : Reader FactorTree) → Takes bracket → (f : FactorTree) → Keeps (read_product_from bracket f)
+product_from-keeps : (bracket : Reader FactorTree) → Takes bracket → (f : FactorTree)
+    → Keeps (read_product_from bracket f)
 product_from-keeps bracket h f ts =
     then (more-keeps c.Star (read_factor bracket) (takes-keeps (read_factor bracket) (factor-takes-with bracket h)) ts) (λ fs i. leaves i)
 
@@ -134,7 +142,8 @@ addend-takes-with : (bracket : Reader FactorTree) → Takes bracket → Takes (r
 addend-takes-with bracket h ts =
     then (sign_by-takes (ahead ts) ts) (λ s i. then (product-takes bracket h s.1) (λ m j. leaves (omega (arith, i, j))))
 
-term_from-keeps : (bracket : Reader FactorTree) → Takes bracket → (minus : _) (f : FactorTree) → Keeps (read_term_from bracket minus f)
+term_from-keeps : (bracket : Reader FactorTree) → Takes bracket → (minus : _) (f : FactorTree)
+    → Keeps (read_term_from bracket minus f)
 term_from-keeps bracket h minus f ts =
     then (product_from-keeps bracket h f ts) (λ m i.
     then (while-keeps is_sign (read_addend bracket) (takes-keeps (read_addend bracket) (addend-takes-with bracket h)) m.1) (λ more j.
@@ -226,7 +235,8 @@ held_by-takes d c.Open ts =
     then (expect-takes c.Close g.1) (λ q l. leaves (omega (arith, i, j, l)))))
 held_by-takes d k ts = then (guards-takes d ts) (λ g i. leaves i)
 
-choice_by-keeps : (sides : Reader SideTree) → Takes sides → (x : _) (k : Class) → Keeps (choice_by sides x k)
+choice_by-keeps : (sides : Reader SideTree) → Takes sides → (x : _) (k : Class)
+    → Keeps (choice_by sides x k)
 choice_by-keeps sides h x c.Question ts =
     then (place-takes ts) (λ p i.
     then (h p.1) (λ a j.
@@ -234,7 +244,8 @@ choice_by-keeps sides h x c.Question ts =
     then (h q.1) (λ b m. leaves (omega (arith, i, j, l, m))))))
 choice_by-keeps sides h x k ts = leaves (omega arith)
 
-item_from_by-takes : (sides : Reader SideTree) → Takes sides → (d : ℕ) (t : TermTree) (k : Class) → Takes (item_from_by sides d t k)
+item_from_by-takes : (sides : Reader SideTree) → Takes sides → (d : ℕ) (t : TermTree) (k : Class)
+    → Takes (item_from_by sides d t k)
 item_from_by-takes sides h d t c.PointsTo ts =
     then (place-takes ts) (λ p i. then (slot-takes d p.1) (λ s j. leaves (omega (arith, i, j))))
 item_from_by-takes sides h d t k ts =
@@ -249,7 +260,8 @@ fact-takes d w ts =
     then (slot-takes o.0.0 q.1) (λ s n.
     then (expect-takes c.Close s.1) (λ e x. leaves (omega (arith, i, j, l, m, n, x))))))))
 
-named_item_by-keeps : (sides : Reader SideTree) → Takes sides → (d : ℕ) (w : Word) (k : Class) → Keeps (named_item_by sides d w k)
+named_item_by-keeps : (sides : Reader SideTree) → Takes sides → (d : ℕ) (w : Word) (k : Class)
+    → Keeps (named_item_by sides d w k)
 named_item_by-keeps sides h d w c.Open ts = weaker (omega arith) (fact-takes d w ts)
 named_item_by-keeps sides h d w c.At ts =
     then (place-takes ts) (λ p i. then (held_by-takes d (ahead p.1) p.1) (λ g j. leaves (omega (arith, i, j))))
@@ -257,7 +269,8 @@ named_item_by-keeps sides h d w k ts =
     then (term_from-keeps (bracketed_at d) (bracketed-takes d) None _ ts) (λ t i.
     weaker (omega (arith, i)) (item_from_by-takes sides h d t.0 (ahead t.1) t.1))
 
-item_by-takes : (sides : Reader SideTree) → Takes sides → (d : ℕ) (k : Class) → Takes (item_by sides d k)
+item_by-takes : (sides : Reader SideTree) → Takes sides → (d : ℕ) (k : Class)
+    → Takes (item_by sides d k)
 item_by-takes sides h d c.True ts = then (place-takes ts) (λ p i. leaves i)
 item_by-takes sides h d c.False ts = then (place-takes ts) (λ p i. leaves i)
 item_by-takes sides h d c.Name ts =
@@ -268,7 +281,8 @@ item_by-takes sides h d k ts =
 item-takes-with : (sides : Reader SideTree) → Takes sides → (d : ℕ) → Takes (read_item sides d)
 item-takes-with sides h d ts = item_by-takes sides h d (ahead ts) ts
 
-assertion_with-takes : (sides : Reader SideTree) → Takes sides → (d : ℕ) → Takes (read_assertion_with sides d)
+assertion_with-takes : (sides : Reader SideTree) → Takes sides → (d : ℕ)
+    → Takes (read_assertion_with sides d)
 assertion_with-takes sides h d ts =
     then (item-takes-with sides h d ts) (λ x i.
     then (more-keeps c.And (read_item sides d) (takes-keeps (read_item sides d) (item-takes-with sides h d)) x.1) (λ more j.
@@ -396,7 +410,8 @@ give_back-takes d ts =
     then (optional-keeps (λ a. not (are_same c.Semicolon a)) (read_term d) (term-keeps d) p.1) (λ t j.
     then (expect-takes c.Semicolon t.1) (λ e l. leaves (omega (arith, i, j, l)))))
 
-statement_by-takes : (blocks : Reader BlockTree) → Takes blocks → (d : ℕ) (k : Class) → Takes (statement_by blocks d k)
+statement_by-takes : (blocks : Reader BlockTree) → Takes blocks → (d : ℕ) (k : Class)
+    → Takes (statement_by blocks d k)
 statement_by-takes blocks h d c.Name ts =
     then (word-takes ts) (λ w i. weaker (omega (arith, i)) (named_statement_by-takes d w.0 (ahead w.1) w.1))
 statement_by-takes blocks h d c.OpenBracket ts = store-takes d ts
@@ -407,7 +422,8 @@ statement_by-takes blocks h d c.Assert ts = check-takes d ts
 statement_by-takes blocks h d c.Return ts = give_back-takes d ts
 statement_by-takes blocks h d k ts = fails
 
-statement-takes-with : (blocks : Reader BlockTree) → Takes blocks → (d : ℕ) → Takes (read_statement blocks d)
+statement-takes-with : (blocks : Reader BlockTree) → Takes blocks → (d : ℕ)
+    → Takes (read_statement blocks d)
 statement-takes-with blocks h d ts = statement_by-takes blocks h d (ahead ts) ts
 
 block_with-takes : (one : Reader StatementTree) → Takes one → Takes (read_block_with one)
@@ -426,7 +442,8 @@ statement-takes d = statement-takes-with (block_at d) (block-takes d) d
 
 -- region types
 
-declared_by-takes : (bracket : Reader DeclaredTree) → Takes bracket → (k : Class) → Takes (declared_by bracket k)
+declared_by-takes : (bracket : Reader DeclaredTree) → Takes bracket → (k : Class)
+    → Takes (declared_by bracket k)
 declared_by-takes bracket h c.Name ts = then (word-takes ts) (λ w i. leaves i)
 declared_by-takes bracket h c.Percent ts =
     then (place-takes ts) (λ p i. then (name-takes p.1) (λ w j. leaves (omega (arith, i, j))))
@@ -436,7 +453,8 @@ declared_by-takes bracket h c.Bar ts =
     then (expect-takes c.Bar w.1) (λ q l. leaves (omega (arith, i, j, l)))))
 declared_by-takes bracket h k ts = h ts
 
-declared-takes-with : (bracket : Reader DeclaredTree) → Takes bracket → Takes (read_declared bracket)
+declared-takes-with : (bracket : Reader DeclaredTree) → Takes bracket
+    → Takes (read_declared bracket)
 declared-takes-with bracket h ts = declared_by-takes bracket h (ahead ts) ts
 
 joint-takes-with : (bracket : Reader DeclaredTree) → Takes bracket → Takes (read_joint bracket)
@@ -445,7 +463,8 @@ joint-takes-with bracket h ts =
     then (more-keeps c.Star (read_declared bracket) (takes-keeps (read_declared bracket) (declared-takes-with bracket h)) d.1) (λ more j.
     leaves (omega (arith, i, j))))
 
-algebra_with-takes : (bracket : Reader DeclaredTree) → Takes bracket → Takes (read_algebra_with bracket)
+algebra_with-takes : (bracket : Reader DeclaredTree) → Takes bracket
+    → Takes (read_algebra_with bracket)
 algebra_with-takes bracket h ts =
     then (joint-takes-with bracket h ts) (λ x i.
     then (more-keeps c.Plus (read_joint bracket) (takes-keeps (read_joint bracket) (joint-takes-with bracket h)) x.1) (λ more j.
@@ -500,7 +519,8 @@ head-takes d ts =
     then (several-takes c.Comma read_name name-takes o.1) (λ ps l.
     then (expect-takes c.Close ps.1) (λ q m. leaves (omega (arith, i, j, l, m))))))
 
-region_body-takes : (d : ℕ) (key : _) (head : _) (brace : _) → Takes (read_region_body d key head brace)
+region_body-takes : (d : ℕ) (key : _) (head : _) (brace : _)
+    → Takes (read_region_body d key head brace)
 region_body-takes d key head brace ts =
     then (expect-takes c.Guards ts) (λ g i1.
     then (algebra-takes d g.1) (λ a i2.
@@ -549,7 +569,8 @@ case-ends (suc d) begins e = refl
 pub action-ends : (d : ℕ) (begins : Class → Bool) → Ends begins (read_action d)
 action-ends d begins e = refl
 
-bind_same : {A B : Type 0} (r : Outcome A) (k l : A × List Token → Outcome B) → ((x : A × List Token) → r ≡ Ok x → k x ≡ l x) → (r >>= k) ≡ (r >>= l)
+bind_same : {A B : Type 0} (r : Outcome A) (k l : A × List Token → Outcome B)
+    → ((x : A × List Token) → r ≡ Ok x → k x ≡ l x) → (r >>= k) ≡ (r >>= l)
 bind_same (Ok x) k l h = h x refl
 bind_same (Err f) k l h = refl
 
@@ -557,7 +578,8 @@ bind_same (Err f) k l h = refl
 abbrev pub and_more : {A : Type 0} → A → Outcome (List A) → Outcome (List A)
 and_more a r = r >>= λ more. Ok (a ∷ more.0, more.1)
 
-either_same : {A : Type 0} (b : Bool) (r s t : Outcome A) → (b ≡ true → r ≡ s) → cond b r t ≡ cond b s t
+either_same : {A : Type 0} (b : Bool) (r s t : Outcome A) → (b ≡ true → r ≡ s)
+    → cond b r t ≡ cond b s t
 either_same true r s t h = h refl
 either_same false r s t h = refl
 
@@ -568,7 +590,8 @@ at_the_end begins one z (suc n) =
     either_same (begins c.End) _ _ _ (λ b. ap (λ r. r >>= λ a. and_more a.0 (read_at_most begins one n a.1)) (z b))
 
 -- any number that is at least the list's length serves
-pub enough-serves : {A : Type 0} (begins : Class → Bool) (one : Reader A) → Takes one → Ends begins one → (n m : ℕ) (ts : List Token)
+pub enough-serves : {A : Type 0} (begins : Class → Bool) (one : Reader A) → Takes one
+    → Ends begins one → (n m : ℕ) (ts : List Token)
     → length ts ≤ n → length ts ≤ m → read_at_most begins one n ts ≡ read_at_most begins one m ts
 enough-serves begins one h z n m [] l k = at_the_end begins one z n ∙ sym (at_the_end begins one z m)
 enough-serves begins one h z zero m (t ∷ ts) l k = absurd (omega (arith, l))
@@ -580,8 +603,10 @@ enough-serves begins one h z (suc n) (suc m) (t ∷ ts) l k =
     ap (and_more a.0) (enough-serves begins one h z n m a.1 (omega (arith, l, less)) (omega (arith, k, less)))))
 
 -- a part where one begins, and then the others
-pub while-begins : {A : Type 0} (begins : Class → Bool) (one : Reader A) → Takes one → Ends begins one → (ts : List Token)
-    → begins (ahead ts) ≡ true → read_while begins one ts ≡ (one ts >>= λ a. and_more a.0 (read_while begins one a.1))
+pub while-begins : {A : Type 0} (begins : Class → Bool) (one : Reader A) → Takes one
+    → Ends begins one → (ts : List Token)
+    → begins (ahead ts) ≡ true
+    → read_while begins one ts ≡ (one ts >>= λ a. and_more a.0 (read_while begins one a.1))
 while-begins begins one h z ts b =
     enough-serves begins one h z (length ts) (suc (length ts)) ts (omega arith) (omega arith)
     ∙ ap (λ o. cond o (one ts >>= λ a. and_more a.0 (read_at_most begins one (length ts) a.1)) (Ok ([], ts))) b
@@ -604,21 +629,26 @@ abbrev pub with_front : {A : Type 0} → List A → Outcome (List A) → Outcome
 with_front front (Ok x) = Ok (front ++ x.0, x.1)
 with_front front (Err f) = Err f
 
-snoc-front : {A : Type 0} (front : List A) (a : A) (r : Outcome (List A)) → with_front (front ++ a ∷ []) r ≡ with_front front (and_more a r)
+snoc-front : {A : Type 0} (front : List A) (a : A) (r : Outcome (List A))
+    → with_front (front ++ a ∷ []) r ≡ with_front front (and_more a r)
 snoc-front front a (Ok x) = ap (λ l. Ok (l, x.1)) (append_assoc front (a ∷ []) x.0)
 snoc-front front a (Err f) = refl
 
 -- a loop that pushes each part that it reads: a part was read
-pub while-taken : {A : Type 0} (begins : Class → Bool) (one : Reader A) → Takes one → Ends begins one
-    → (front : List A) (all : List Token) (a : A) (rest : List Token) → begins (ahead all) ≡ true → one all ≡ Ok (a, rest)
+pub while-taken : {A : Type 0} (begins : Class → Bool) (one : Reader A) → Takes one
+    → Ends begins one
+    → (front : List A) (all : List Token) (a : A) (rest : List Token) → begins (ahead all) ≡ true
+    → one all ≡ Ok (a, rest)
     → with_front (front ++ a ∷ []) (read_while begins one rest) ≡ with_front front (read_while begins one all)
 while-taken begins one h z front all a rest b e =
     snoc-front front a (read_while begins one rest)
     ∙ ap (with_front front) (sym (while-begins begins one h z all b ∙ ap (λ r. r >>= λ x. and_more x.0 (read_while begins one x.1)) e))
 
 -- one was refused
-pub while-refused : {A : Type 0} (begins : Class → Bool) (one : Reader A) → Takes one → Ends begins one
-    → (all : List Token) (f : Fault) → begins (ahead all) ≡ true → one all ≡ Err f → read_while begins one all ≡ Err f
+pub while-refused : {A : Type 0} (begins : Class → Bool) (one : Reader A) → Takes one
+    → Ends begins one
+    → (all : List Token) (f : Fault) → begins (ahead all) ≡ true → one all ≡ Err f
+    → read_while begins one all ≡ Err f
 while-refused begins one h z all f b e =
     while-begins begins one h z all b ∙ ap (λ r. r >>= λ x. and_more x.0 (read_while begins one x.1)) e
 

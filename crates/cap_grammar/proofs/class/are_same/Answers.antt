@@ -1,4 +1,4 @@
-use Rattle.std.proofs.Common.{◌≡◌, nat_eq, ap, ◌∙◌}
+use Rattle.std.proofs.Common.{nat_eq, ap, ◌∙◌}
 use denote.Enum.Declared.{tag_of}
 use Rattle.cap_grammar.specs.Classes.{class_number}
 use Rattle.cap_grammar.specs.contracts.class.Class.{the_type}

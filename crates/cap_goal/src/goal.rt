@@ -1,0 +1,9 @@
+use crate::state::State;
+use crate::task::Task;
+
+/// A state, and the tasks that are to be done from it. The last one is its head.
+#[derive(Drop)]
+pub struct Goal<'a> {
+    pub state: State,
+    pub tasks: Vec<Task<'a>>,
+}

@@ -1,0 +1,20 @@
+//! States and goals of derivations, the choices that may be made at them, and the goals from which
+//! the trees of a unit grow.
+#![tactic(auto)]
+
+mod choice;
+mod fact;
+mod goal;
+mod member;
+mod shared;
+mod state;
+mod task;
+
+pub use choice::{Bundle, Choice, Node, Unit};
+pub use fact::{Env, Fact, copy_terms};
+pub use goal::Goal;
+pub use state::State;
+pub use task::{Home, Items, Point, Task, is_heap};
+
+#[cfg(test)]
+mod tests;

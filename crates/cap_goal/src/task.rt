@@ -1,0 +1,99 @@
+ghost use Rattle.std.specs.Prelude.{◌≡◌};
+ghost use Rattle.cap_prog.specs.Program.{none};
+ghost use Rattle.cap_prog.specs.Views.{statement_view};
+ghost use Rattle.cap_goal.specs.Views.{items_in, task_view, has_no_items, is_done, is_heap_act};
+
+use cap_lin::Term;
+use cap_prog::{Act, Item, Statement};
+
+/// A tree's function, and its first variable of a fixed name.
+#[derive(Clone, Copy, Debug)]
+pub struct Home {
+    pub function: u32,
+    pub fixed: u32,
+}
+
+/// Items that are to be assumed or given up: the lists in which they stand. The last list comes
+/// first.
+#[derive(Debug, Drop)]
+pub struct Items<'a> {
+    pub lists: Vec<&'a [Item]>,
+}
+
+/// Statements that are to be run: the lists in which they stand. The last list comes first, and a
+/// loop stands first in the list that its body returns to.
+#[derive(Debug, Drop)]
+pub struct Point<'a> {
+    pub lists: Vec<&'a [Statement]>,
+}
+
+/// What is to be done at a goal. Environments, opened regions, region types and cases are named by
+/// number, from 0. The last number of each but the first two is that of the statement at which the
+/// task arose, 0 outside a body.
+#[derive(Debug, Drop)]
+pub enum Task<'a> {
+    /// Run the statements.
+    Run(Home, Point<'a>),
+    /// At the loop that comes first, its invariant given.
+    Turn(Home, Point<'a>),
+    /// Assume the items in an environment.
+    Give(Items<'a>, u32, u32),
+    /// Give the items up in an environment; so many creations are allowed.
+    Take(Items<'a>, u32, u32, u32),
+    /// State a created region: its type, case, environment and term.
+    Made(u32, u32, u32, Term, u32),
+    /// Close an opened region, by any move or only as it was.
+    Close(bool, u32),
+    /// Check a move: the opened region, its case, the move, and the environment.
+    Shift(u32, u32, u32, u32, u32),
+    /// Settle the facts from a number on.
+    Rest(u32, u32),
+}
+
+impl Items<'_> {
+    /// Whether there is no item. It takes no memory.
+    pub fn is_empty(&self) -> bool
+        ensures { result ≡ has_no_items (items_in self.now.lists.items none) }
+    {
+        for list in &self.lists {
+            if !list.is_empty() {
+                return false;
+            }
+        }
+        true
+    }
+}
+
+impl Task<'_> {
+    /// Whether there is nothing to be done, where there are so many facts. It takes no memory.
+    pub fn is_done(&self, facts: usize) -> bool
+        ensures { result ≡ is_done facts (task_view self.now) }
+    {
+        match self {
+            Task::Give(items, _, _) | Task::Take(items, _, _, _) => items.is_empty(),
+            Task::Rest(from, _) => *from as usize == facts,
+            Task::Run(_, _)
+            | Task::Turn(_, _)
+            | Task::Made(_, _, _, _, _)
+            | Task::Close(_, _)
+            | Task::Shift(_, _, _, _, _) => false,
+        }
+    }
+}
+
+/// Whether the statement is a read, a write or a compare-and-swap. It takes no memory.
+pub fn is_heap(statement: &Statement) -> bool
+    ensures { result ≡ is_heap_act (statement_view statement.now).act }
+{
+    match &statement.act {
+        Act::Read(_, _) | Act::Write(_, _) | Act::Cas(_, _, _, _) => true,
+        Act::Set(_, _)
+        | Act::Alloc(_, _)
+        | Act::Call(_, _, _)
+        | Act::Fork(_, _)
+        | Act::If(_, _, _)
+        | Act::While(_, _, _)
+        | Act::Assert(_)
+        | Act::Return(_) => false,
+    }
+}

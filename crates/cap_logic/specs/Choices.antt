@@ -1,0 +1,66 @@
+-- Which rule is taken at a goal, and trees of choices.
+use Rattle.std.specs.Prelude.{ℕ, List, [], ◌∷◌, ◌++◌, Option, Some, None}
+use Rattle.cap_farkas.specs.declared.cert.Cert.{Cert}
+
+-- numbers are of cells, facts, pieces, opened regions, cases, sums and candidates from 0, and of
+-- moves: 0 for none, else an action from 1
+pub data PlainChoice : Type 0 where
+  by_absurd : Cert → PlainChoice
+  by_clash : ℕ → ℕ → List Cert → PlainChoice
+  by_set : PlainChoice
+  by_alloc : PlainChoice
+  by_assert : List Cert → PlainChoice
+  by_if : PlainChoice
+  by_loop : PlainChoice
+  by_turn : PlainChoice
+  by_call : PlainChoice
+  by_fork : PlainChoice
+  by_return : PlainChoice
+  by_enter : ℕ → List Cert → PlainChoice
+  by_act : ℕ → List Cert → List (Option Cert) → PlainChoice
+  by_pick : ℕ → ℕ → ℕ → PlainChoice
+  by_shift : List Cert → PlainChoice
+  by_settle : List ℕ → List Cert → PlainChoice
+  by_keep : List Cert → PlainChoice
+  by_give : PlainChoice
+  by_fact : List Cert → PlainChoice
+  by_cases : PlainChoice
+  by_cell : ℕ → List Cert → PlainChoice
+  by_region : ℕ → List Cert → PlainChoice
+  by_guard : ℕ → ℕ → List Cert → PlainChoice
+  by_convert : ℕ → ℕ → List Cert → PlainChoice
+  by_create : ℕ → PlainChoice
+  by_made : List Cert → PlainChoice
+
+-- the marks that are certificates
+abbrev pub given_marks : List (Option Cert) → List Cert
+given_marks [] = []
+given_marks (None ∷ ms) = given_marks ms
+given_marks (Some c ∷ ms) = c ∷ given_marks ms
+
+-- the certificates, and after them the marks that are certificates
+abbrev pub certs_of : PlainChoice → List Cert
+certs_of (by_absurd c) = c ∷ []
+certs_of (by_clash i j cs) = cs
+certs_of (by_assert cs) = cs
+certs_of (by_enter i cs) = cs
+certs_of (by_act j cs ms) = cs ++ given_marks ms
+certs_of (by_shift cs) = cs
+certs_of (by_settle list cs) = cs
+certs_of (by_keep cs) = cs
+certs_of (by_fact cs) = cs
+certs_of (by_cell j cs) = cs
+certs_of (by_region j cs) = cs
+certs_of (by_guard j way cs) = cs
+certs_of (by_convert n side cs) = cs
+certs_of (by_made cs) = cs
+certs_of _ = []
+
+-- a choice, and a tree for each of its subgoals
+mutual
+  pub data PlainTree : Type 0 where
+    node : PlainChoice → PlainTrees → PlainTree
+
+  pub data PlainTrees : Type 0 where
+    no_trees : PlainTrees
+    tree : PlainTree → PlainTrees → PlainTrees

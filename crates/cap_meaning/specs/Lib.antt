@@ -1,0 +1,7 @@
+pub mod Parts
+pub mod Assertions
+pub mod Accounts
+pub mod Following
+pub mod Safety
+pub mod Example
+pub mod Expected

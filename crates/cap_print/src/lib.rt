@@ -1,0 +1,15 @@
+//! The canonical text of a tree.
+#![tactic(auto)]
+
+mod assertion;
+mod list;
+mod program;
+mod region;
+mod statement;
+mod tail;
+mod term;
+#[cfg(test)]
+mod tests;
+mod text;
+
+pub use program::print;

@@ -1,0 +1,12 @@
+pub mod Attempts
+pub mod Making
+pub mod Giving
+pub mod Taking
+pub mod Closing
+pub mod Resting
+pub mod Rules
+pub mod Answers
+pub mod Valid
+pub mod Laws
+pub mod Example
+pub mod Expected

@@ -1,0 +1,13 @@
+pub mod Lists
+pub mod Keeping
+pub mod Faults
+pub mod Enabled
+pub mod HeapLemmas
+pub mod PlaceLemmas
+pub mod FrameLemmas
+pub mod ValueLemmas
+pub mod ThreadLemmas
+pub mod MachineLemmas
+pub mod StartLemmas
+pub mod ActLemmas
+pub mod StepLemmas

@@ -1,0 +1,10 @@
+pub mod Machine
+pub mod Results
+pub mod Fits
+pub mod Laws
+pub mod Cells
+pub mod Places
+pub mod View
+pub mod Changes
+pub mod Errors
+pub mod Ready

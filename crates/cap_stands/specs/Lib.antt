@@ -1,0 +1,12 @@
+pub mod Finding
+pub mod Parts
+pub mod Names
+pub mod Linear
+pub mod Terms
+pub mod Items
+pub mod Regions
+pub mod Functions
+pub mod Program
+pub mod Stands
+pub mod Refusal
+pub mod Meaning

@@ -1,0 +1,13 @@
+mod Classes
+mod Numbers
+mod Built
+mod Leaf
+mod Settling
+mod Option
+mod Chain
+mod Subcommands
+mod Parse
+mod Tables
+mod Exact
+mod Writings
+mod Commands

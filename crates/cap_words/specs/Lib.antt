@@ -1,0 +1,5 @@
+pub mod Number
+pub mod Meaning
+pub mod Views
+pub mod Writing
+pub mod Parser

@@ -1,0 +1,19 @@
+/// A command, with the words and numbers that it was given.
+///
+/// A budget bounds the cost of the search for each unit's proof: it is from 1 to 1,000,000,000, and
+/// 200,000 where the words give none.
+#[derive(Debug, Clone, Copy, PartialEq, Eq)]
+pub enum Command<'a> {
+    /// Verifies the program in a file.
+    Verify { file: &'a str, budget: u64 },
+    /// Verifies the program in a file, and writes its derivation where all of it is proved.
+    Derive { file: &'a str, budget: u64 },
+    /// Judges the derivation in a file for the program in another.
+    Check { file: &'a str, derivation: &'a str },
+    /// Runs the program in a file along the schedule in another.
+    Replay { file: &'a str, schedule: &'a str },
+    /// Writes the program in a file in its canonical layout.
+    Show { file: &'a str },
+    /// Verifies a large program that is made from the number, which is from 1 to 50.
+    Trial { number: u32 },
+}

@@ -1,0 +1,157 @@
+use crate::{Command, read_command};
+use std::test::Fail;
+
+// The words of a line, cut at its blanks.
+fn words_of(rt: &HostRuntime, line: &str) -> Result<Vec<String>, Fail> {
+    let mut words = Vec::new(rt.alloc());
+    for word in line.split(' ') {
+        words.push(String::from_str(rt.alloc(), word)?)?;
+    }
+    Ok(words)
+}
+
+fn is_command(rt: &HostRuntime, line: &str, want: Command<'_>) -> Result<bool, Fail> {
+    let words = words_of(rt, line)?;
+    Ok(read_command(rt.alloc(), &words)? == Some(want))
+}
+
+#[test]
+fn words_that_are_commands(rt: HostRuntime) -> Result<(), Fail> {
+    for (line, file, budget) in [
+        ("verify a", "a", 200_000),
+        ("verify -- -a", "-a", 200_000),
+        ("verify a --", "a", 200_000),
+        ("verify -- --", "--", 200_000),
+        ("verify ", "", 200_000),
+        ("verify --budget 7 a", "a", 7),
+        ("verify --budget=7 -- a", "a", 7),
+        ("verify a --budget 1", "a", 1),
+        ("verify a --budget=1000000000 --", "a", 1_000_000_000),
+    ] {
+        assert!(rt;
+            is_command(&rt, line, Command::Verify { file, budget })?,
+            "{line}"
+        );
+    }
+    assert!(rt;
+        is_command(
+            &rt,
+            "derive d --budget=10",
+            Command::Derive {
+                file: "d",
+                budget: 10
+            }
+        )?
+    );
+    assert!(rt;
+        is_command(
+            &rt,
+            "check a b",
+            Command::Check {
+                file: "a",
+                derivation: "b"
+            }
+        )?
+    );
+    assert!(rt;
+        is_command(
+            &rt,
+            "check a -- --",
+            Command::Check {
+                file: "a",
+                derivation: "--"
+            }
+        )?
+    );
+    assert!(rt;
+        is_command(
+            &rt,
+            "replay a b --",
+            Command::Replay {
+                file: "a",
+                schedule: "b"
+            }
+        )?
+    );
+    assert!(rt;
+        is_command(
+            &rt,
+            "replay -- -a -b",
+            Command::Replay {
+                file: "-a",
+                schedule: "-b"
+            }
+        )?
+    );
+    assert!(rt; is_command(&rt, "show -- -", Command::Show { file: "-" })?);
+    assert!(rt; is_command(&rt, "show show", Command::Show { file: "show" })?);
+    assert!(rt; is_command(&rt, "trial 1", Command::Trial { number: 1 })?);
+    assert!(rt; is_command(&rt, "trial -- 50", Command::Trial { number: 50 })?);
+    Ok(())
+}
+
+#[test]
+fn words_that_are_none(rt: HostRuntime) -> Result<(), Fail> {
+    for line in [
+        "",
+        "a",
+        "verif a",
+        "verify",
+        "verify --",
+        "verify a b",
+        "verify a -- b",
+        "verify verify a",
+        "verify -a",
+        "verify -",
+        "verify - -- a",
+        "verify a -",
+        "verify a -b 1",
+        "verify a --budge 1",
+        "verify a --budget",
+        "verify a --budget=",
+        "verify a --budget -- 1",
+        "verify a --budget -1",
+        "verify a --budget 0",
+        "verify a --budget 00",
+        "verify a --budget 01",
+        "verify a --budget +1",
+        "verify a --budget 1x",
+        "verify a --budget 1000000001",
+        "verify a --budget=18446744073709551617",
+        "verify a --budget 1 --budget 2",
+        "verify --budget=1 a --budget=2",
+        "verify --budget --budget=1 a",
+        "derive",
+        "check a",
+        "check a b c",
+        "check a b --budget 1",
+        "check a -- b c",
+        "replay a",
+        "replay --budget=1 a b",
+        "show",
+        "show a b",
+        "show a --budget=1",
+        "trial",
+        "trial 0",
+        "trial 01",
+        "trial 51",
+        "trial -1",
+        "trial 1 2",
+        "--",
+        "-- verify a",
+        "--budget 1 verify a",
+        "- verify a",
+        "help",
+        "help verify",
+        "verify --help",
+        "verify -h",
+        "--help",
+        "-V",
+        "--version",
+    ] {
+        let words = words_of(&rt, line)?;
+        assert!(rt; read_command(rt.alloc(), &words)? == None, "{line}");
+    }
+    assert!(rt; read_command(rt.alloc(), &[])? == None);
+    Ok(())
+}
