@@ -3,7 +3,8 @@
 //! they should, and refuse what is broken; each law is the contract of a function that does nothing.
 #![tactic(auto)]
 
-ghost use Rattle.cap_meaning.specs.Expected.{AcceptedStep, BrokenAccounts, BrokenSteps, ThirdRegion, NothingHandedOver};
+ghost use Rattle.cap_meaning.specs.Expected.{AcceptedStep, BrokenAccounts, BrokenSteps};
+ghost use Rattle.cap_meaning.specs.Expected.{ThirdRegion, NothingHandedOver};
 
 /// A valid account, and one that follows it by a step that acts on a region.
 pub fn a_step_is_accepted()

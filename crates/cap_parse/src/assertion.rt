@@ -1,8 +1,13 @@
 // Guards and assertions. `room` is how many more brackets may open.
 
 ghost use Rattle.std.specs.Prelude.{◌≡◌, Ok, map};
-ghost use Rattle.cap_tree.specs.Views.{term_view, comparison_view, slot_view, guard_view, held_view, several_view, behind_view, item_view, and_view, assertion_view, side_view, clause_view};
-ghost use Rattle.cap_grammar.specs.Grammar.{read_slot, read_amount, read_counted, read_guard, read_guards, read_held, read_choice, read_item_from, read_fact, read_named_item, read_item, read_assertion, read_assertion_with, read_side, side_at, read_clause};
+ghost use Rattle.cap_tree.specs.Views.{term_view, comparison_view, slot_view, guard_view};
+ghost use Rattle.cap_tree.specs.Views.{held_view, several_view, behind_view, item_view, and_view};
+ghost use Rattle.cap_tree.specs.Views.{assertion_view, side_view, clause_view};
+ghost use Rattle.cap_grammar.specs.Grammar.{read_slot, read_amount, read_counted, read_guard};
+ghost use Rattle.cap_grammar.specs.Grammar.{read_guards, read_held, read_choice, read_item_from};
+ghost use Rattle.cap_grammar.specs.Grammar.{read_fact, read_named_item, read_item, read_assertion};
+ghost use Rattle.cap_grammar.specs.Grammar.{read_assertion_with, read_side, side_at, read_clause};
 ghost use Rattle.cap_grammar.specs.Readers.{read_more};
 ghost use Rattle.cap_grammar.specs.declared.class.Class.TheVariants.{Star, Comma, And as Joins};
 ghost use Rattle.cap_parse.specs.Reads.{IsRead};

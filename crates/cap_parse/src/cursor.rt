@@ -2,7 +2,8 @@
 
 ghost use Rattle.std.specs.Prelude.{◌≡◌, Ok};
 ghost use Rattle.cap_grammar.specs.Classes.{are_same};
-ghost use Rattle.cap_grammar.specs.Readers.{ahead, next_token, next_place, next_word, next_literal, expect, read_name, read_number, read_opening};
+ghost use Rattle.cap_grammar.specs.Readers.{ahead, next_token, next_place, next_word, next_literal};
+ghost use Rattle.cap_grammar.specs.Readers.{expect, read_name, read_number, read_opening};
 ghost use Rattle.cap_parse.specs.Reads.{IsRead};
 ghost use Rattle.cap_parse.specs.declared.cursor.Stop.TheVariants.{OutOfMemory};
 

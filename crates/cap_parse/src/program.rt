@@ -1,12 +1,16 @@
 // Functions and whole texts. `room` is how many more brackets may open.
 
 ghost use Rattle.std.specs.Prelude.{◌≡◌, Ok, map, not, option_map};
-ghost use Rattle.cap_tree.specs.Views.{several_view, listed_view, word_view, clause_view, block_view, function_view, declaration_view, tree_view};
+ghost use Rattle.cap_tree.specs.Views.{several_view, listed_view, word_view, clause_view};
+ghost use Rattle.cap_tree.specs.Views.{block_view, function_view, declaration_view, tree_view};
 ghost use Rattle.cap_grammar.specs.Classes.{are_same};
 ghost use Rattle.cap_grammar.specs.Grammar.{read_function, read_declaration};
-ghost use Rattle.cap_grammar.specs.Readers.{read_name, read_several, read_optional, read_until, read_listed};
+ghost use Rattle.cap_grammar.specs.Readers.{read_name, read_several, read_optional, read_until};
+ghost use Rattle.cap_grammar.specs.Readers.{read_listed};
 ghost use Rattle.cap_grammar.specs.declared.class.Class.TheVariants.{Comma, Close, End};
-ghost use Rattle.cap_parse.specs.Heads.{function_head_view, read_whole_clause, read_whole_block, read_function_head, read_function_body, read_postcondition, read_function_from};
+ghost use Rattle.cap_parse.specs.Heads.{function_head_view, read_whole_clause, read_whole_block};
+ghost use Rattle.cap_parse.specs.Heads.{read_function_head, read_function_body, read_postcondition};
+ghost use Rattle.cap_parse.specs.Heads.{read_function_from};
 ghost use Rattle.cap_parse.specs.Reads.{IsRead};
 
 use crate::cursor::{Cursor, Stop};

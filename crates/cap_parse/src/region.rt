@@ -1,11 +1,20 @@
 // Region types. `room` is how many more brackets may open.
 
 ghost use Rattle.std.specs.Prelude.{◌≡◌, Ok, map, option_map};
-ghost use Rattle.cap_tree.specs.Views.{comparison_view, several_view, group_view, behind_view, word_view, declared_view, both_view, joint_view, either_view, algebra_view, when_view, case_view, action_view, region_view};
+ghost use Rattle.cap_tree.specs.Views.{comparison_view, several_view, group_view, behind_view};
+ghost use Rattle.cap_tree.specs.Views.{word_view, declared_view, both_view, joint_view};
+ghost use Rattle.cap_tree.specs.Views.{either_view, algebra_view, when_view, case_view};
+ghost use Rattle.cap_tree.specs.Views.{action_view, region_view};
 ghost use Rattle.cap_grammar.specs.Classes.{are_same};
-ghost use Rattle.cap_grammar.specs.Grammar.{read_comparison, read_declared, read_joint, read_grouped, grouped_at, read_algebra, read_when, read_optional_when, read_case, read_action, read_head, read_region_body, read_region};
-ghost use Rattle.cap_grammar.specs.Readers.{read_name, read_more, read_several, read_optional, read_until, read_group};
-ghost use Rattle.cap_grammar.specs.declared.class.Class.TheVariants.{Comma, Star, Plus, When as Under, CloseBrace, Interpretation, Actions};
+ghost use Rattle.cap_grammar.specs.Grammar.{read_comparison, read_declared, read_joint};
+ghost use Rattle.cap_grammar.specs.Grammar.{read_grouped, grouped_at, read_algebra, read_when};
+ghost use Rattle.cap_grammar.specs.Grammar.{read_optional_when, read_case, read_action, read_head};
+ghost use Rattle.cap_grammar.specs.Grammar.{read_region_body, read_region};
+ghost use Rattle.cap_grammar.specs.Readers.{read_name, read_more, read_several, read_optional};
+ghost use Rattle.cap_grammar.specs.Readers.{read_until, read_group};
+ghost use Rattle.cap_grammar.specs.declared.class.Class.TheVariants.{Comma, Star, Plus};
+ghost use Rattle.cap_grammar.specs.declared.class.Class.TheVariants.{When as Under, CloseBrace};
+ghost use Rattle.cap_grammar.specs.declared.class.Class.TheVariants.{Interpretation, Actions};
 ghost use Rattle.cap_parse.specs.Reads.{IsRead};
 ghost use Rattle.cap_parse.specs.Heads.{head_view};
 

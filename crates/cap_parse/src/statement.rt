@@ -1,11 +1,19 @@
 // Statements. `room` is how many more brackets may open.
 
 ghost use Rattle.std.specs.Prelude.{◌≡◌, Ok, map, not, option_map};
-ghost use Rattle.cap_tree.specs.Views.{term_view, comparison_view, several_view, listed_view, behind_view, clause_view, value_view, statement_view, block_view, else_view};
+ghost use Rattle.cap_tree.specs.Views.{term_view, comparison_view, several_view, listed_view};
+ghost use Rattle.cap_tree.specs.Views.{behind_view, clause_view, value_view, statement_view};
+ghost use Rattle.cap_tree.specs.Views.{block_view, else_view};
 ghost use Rattle.cap_grammar.specs.Classes.{are_same};
-ghost use Rattle.cap_grammar.specs.Grammar.{read_term, read_terms, read_load, read_alloc, read_cas, read_named_value, read_value, read_named_statement, read_store, read_fork, read_else, read_branch, read_loop, read_check, read_give_back, read_statement, read_block_with, block_at, read_clause};
+ghost use Rattle.cap_grammar.specs.Grammar.{read_term, read_terms, read_load, read_alloc, read_cas};
+ghost use Rattle.cap_grammar.specs.Grammar.{read_named_value, read_value, read_named_statement};
+ghost use Rattle.cap_grammar.specs.Grammar.{read_store, read_fork, read_else, read_branch};
+ghost use Rattle.cap_grammar.specs.Grammar.{read_loop, read_check, read_give_back, read_statement};
+ghost use Rattle.cap_grammar.specs.Grammar.{read_block_with, block_at, read_clause};
 ghost use Rattle.cap_grammar.specs.Readers.{read_more, read_several, read_optional, read_until};
-ghost use Rattle.cap_grammar.specs.declared.class.Class.TheVariants.{Comma, Close, Semicolon, Invariant, Else as Otherwise, CloseBrace};
+ghost use Rattle.cap_grammar.specs.declared.class.Class.TheVariants.{Comma, Close, Semicolon};
+ghost use Rattle.cap_grammar.specs.declared.class.Class.TheVariants.{Invariant, Else as Otherwise};
+ghost use Rattle.cap_grammar.specs.declared.class.Class.TheVariants.{CloseBrace};
 ghost use Rattle.cap_parse.specs.Reads.{IsRead};
 
 use crate::cursor::{Cursor, Stop};

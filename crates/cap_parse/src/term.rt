@@ -2,10 +2,16 @@
 
 ghost use Rattle.std.specs.Prelude.{◌≡◌, Ok, None, map};
 ghost use Rattle.cap_tree.specs.Tree.{named};
-ghost use Rattle.cap_tree.specs.Views.{factor_view, times_view, product_view, addend_view, term_view, comparison_view, slot_view};
-ghost use Rattle.cap_grammar.specs.Grammar.{read_factor, bracketed_at, read_bracketed, read_product, read_product_from, read_addend, read_term, read_term_from, read_sign, read_relation, read_comparison, read_comparison_from, read_slot, is_sign};
+ghost use Rattle.cap_tree.specs.Views.{factor_view, times_view, product_view, addend_view};
+ghost use Rattle.cap_tree.specs.Views.{term_view, comparison_view, slot_view};
+ghost use Rattle.cap_grammar.specs.Grammar.{read_factor, bracketed_at, read_bracketed};
+ghost use Rattle.cap_grammar.specs.Grammar.{read_product, read_product_from, read_addend};
+ghost use Rattle.cap_grammar.specs.Grammar.{read_term, read_term_from, read_sign, read_relation};
+ghost use Rattle.cap_grammar.specs.Grammar.{read_comparison, read_comparison_from, read_slot};
+ghost use Rattle.cap_grammar.specs.Grammar.{is_sign};
 ghost use Rattle.cap_grammar.specs.Classes.{are_same};
-ghost use Rattle.cap_grammar.specs.Readers.{ahead, next_place, read_more, read_optional, read_while, read_behind};
+ghost use Rattle.cap_grammar.specs.Readers.{ahead, next_place, read_more, read_optional};
+ghost use Rattle.cap_grammar.specs.Readers.{read_while, read_behind};
 ghost use Rattle.cap_grammar.specs.declared.class.Class.TheVariants.{Star, Minus};
 ghost use Rattle.cap_parse.specs.Reads.{IsRead};
 
@@ -17,7 +23,8 @@ use cap_tree::{Addend, Comparison, Factor, Product, Relation, Sign, Slot, Term, 
 impl<'a> Cursor<'a> {
     #[cycle(terms)]
     fn factor(&mut self, room: u32) -> Result<Factor, Stop>
-        ensures { IsRead factor_view result self.new.rest.now (read_factor (bracketed_at room) self.old.rest.now) }
+        ensures { IsRead factor_view result self.new.rest.now
+            (read_factor (bracketed_at room) self.old.rest.now) }
     {
         match self.ahead() {
             Class::Number => Ok(Factor::Number(self.next_literal()?)),
@@ -77,7 +84,8 @@ impl<'a> Cursor<'a> {
 
     #[cycle(terms)]
     fn addend(&mut self, room: u32) -> Result<Addend, Stop>
-        ensures { IsRead addend_view result self.new.rest.now (read_addend (bracketed_at room) self.old.rest.now) }
+        ensures { IsRead addend_view result self.new.rest.now
+            (read_addend (bracketed_at room) self.old.rest.now) }
     {
         let (sign, place) = self.sign()?;
         let factor = self.factor(room)?;
@@ -192,7 +200,8 @@ impl<'a> Cursor<'a> {
     }
 
     pub(crate) fn comparison(&mut self, room: u32) -> Result<Comparison, Stop>
-        ensures { IsRead comparison_view result self.new.rest.now (read_comparison room self.old.rest.now) }
+        ensures { IsRead comparison_view result self.new.rest.now
+            (read_comparison room self.old.rest.now) }
     {
         let left = self.term(room)?;
         self.comparison_from(room, left)

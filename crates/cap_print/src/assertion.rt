@@ -2,8 +2,11 @@
 
 ghost use Rattle.std.specs.Prelude.{◌≡◌, IfOk, map, option_map};
 ghost use Rattle.cap_tree.specs.Tree.{GuardTree};
-ghost use Rattle.cap_tree.specs.Spelling.{spell_guard, spell_guards, spell_held, spell_item, spell_items, spell_assertion, spell_side, spell_clause, spell_option, counted_text as text_of_counted};
-ghost use Rattle.cap_tree.specs.Views.{guard_view, held_view, several_view, item_view, and_view, items_of, assertion_view, side_view, clause_view};
+ghost use Rattle.cap_tree.specs.Spelling.{spell_guard, spell_guards, spell_held, spell_item};
+ghost use Rattle.cap_tree.specs.Spelling.{spell_items, spell_assertion, spell_side, spell_clause};
+ghost use Rattle.cap_tree.specs.Spelling.{spell_option, counted_text as text_of_counted};
+ghost use Rattle.cap_tree.specs.Views.{guard_view, held_view, several_view, item_view, and_view};
+ghost use Rattle.cap_tree.specs.Views.{items_of, assertion_view, side_view, clause_view};
 
 use crate::list::Part;
 use crate::tail::Tail;

@@ -3,8 +3,10 @@
 ghost use Rattle.std.specs.Prelude.{◌≡◌, IfOk, List, map, option_map};
 ghost use Rattle.cap_syntax.specs.declared.token.Token.{Token};
 ghost use Rattle.cap_tree.specs.declared.word.Word.{Word};
-ghost use Rattle.cap_tree.specs.Spelling.{spell_all, spell_more, spell_several, spell_option, spell_listed, spell_group, spell_name};
-ghost use Rattle.cap_tree.specs.Views.{behind_view, several_view, listed_view, group_view, word_view};
+ghost use Rattle.cap_tree.specs.Spelling.{spell_all, spell_more, spell_several, spell_option};
+ghost use Rattle.cap_tree.specs.Spelling.{spell_listed, spell_group, spell_name};
+ghost use Rattle.cap_tree.specs.Views.{behind_view, several_view, listed_view, group_view};
+ghost use Rattle.cap_tree.specs.Views.{word_view};
 
 use crate::tail::Tail;
 use cap_syntax::Place;

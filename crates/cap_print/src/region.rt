@@ -2,8 +2,12 @@
 
 ghost use Rattle.std.specs.Prelude.{◌≡◌, IfOk, map};
 ghost use Rattle.cap_tree.specs.Tree.{WhenTree, CaseTree, ActionTree};
-ghost use Rattle.cap_tree.specs.Spelling.{spell_declared, spell_declareds, spell_joint, spell_joints, spell_algebra, spell_when, spell_case, spell_action, spell_region};
-ghost use Rattle.cap_tree.specs.Views.{declared_view, both_view, joint_view, either_view, algebra_view, declareds_of, joints_of, when_view, case_view, action_view, region_view};
+ghost use Rattle.cap_tree.specs.Spelling.{spell_declared, spell_declareds, spell_joint};
+ghost use Rattle.cap_tree.specs.Spelling.{spell_joints, spell_algebra, spell_when, spell_case};
+ghost use Rattle.cap_tree.specs.Spelling.{spell_action, spell_region};
+ghost use Rattle.cap_tree.specs.Views.{declared_view, both_view, joint_view, either_view};
+ghost use Rattle.cap_tree.specs.Views.{algebra_view, declareds_of, joints_of, when_view, case_view};
+ghost use Rattle.cap_tree.specs.Views.{action_view, region_view};
 
 use crate::list::Part;
 use crate::tail::Tail;

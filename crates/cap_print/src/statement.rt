@@ -1,8 +1,10 @@
 // Statements, each put in front of the tail from its last token to its first.
 
 ghost use Rattle.std.specs.Prelude.{◌≡◌, IfOk, map};
-ghost use Rattle.cap_tree.specs.Spelling.{spell_value, spell_statement, spell_statements, spell_block, spell_else};
-ghost use Rattle.cap_tree.specs.Views.{value_view, statement_view, statements_of, block_view, else_view};
+ghost use Rattle.cap_tree.specs.Spelling.{spell_value, spell_statement, spell_statements};
+ghost use Rattle.cap_tree.specs.Spelling.{spell_block, spell_else};
+ghost use Rattle.cap_tree.specs.Views.{value_view, statement_view, statements_of, block_view};
+ghost use Rattle.cap_tree.specs.Views.{else_view};
 
 use crate::tail::Tail;
 use cap_tree::{Block, Else, Statement, Value};

@@ -1,7 +1,8 @@
 // The tail of a text, which grows to the front.
 
 ghost use Rattle.std.specs.Prelude.{◌≡◌, ◌∷◌, [], IfOk};
-ghost use Rattle.cap_tree.specs.Tokens.{plain_token, name, number, share, wildcard, keyword, symbol};
+ghost use Rattle.cap_tree.specs.Tokens.{plain_token, name, number, share, wildcard, keyword};
+ghost use Rattle.cap_tree.specs.Tokens.{symbol};
 ghost use Rattle.cap_print.specs.Pieces.{piece_view, tokens_of};
 
 use cap_syntax::{Place, TokenKind};

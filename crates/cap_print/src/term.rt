@@ -2,8 +2,13 @@
 
 ghost use Rattle.std.specs.Prelude.{◌≡◌, IfOk, map};
 ghost use Rattle.cap_tree.specs.Tree.{TermTree, ComparisonTree, SlotTree};
-ghost use Rattle.cap_tree.specs.Spelling.{spell_factor, spell_factors, spell_product, spell_products, spell_term, spell_comparison, spell_slot, relation_text as text_of_relation, sign_text as text_of_sign};
-ghost use Rattle.cap_tree.specs.Views.{factor_view, times_view, product_view, addend_view, term_view, comparison_view, slot_view, factors_of, products_of};
+ghost use Rattle.cap_tree.specs.Spelling.{spell_factor, spell_factors, spell_product};
+ghost use Rattle.cap_tree.specs.Spelling.{spell_products, spell_term, spell_comparison, spell_slot};
+ghost use Rattle.cap_tree.specs.Spelling.{relation_text as text_of_relation};
+ghost use Rattle.cap_tree.specs.Spelling.{sign_text as text_of_sign};
+ghost use Rattle.cap_tree.specs.Views.{factor_view, times_view, product_view, addend_view};
+ghost use Rattle.cap_tree.specs.Views.{term_view, comparison_view, slot_view, factors_of};
+ghost use Rattle.cap_tree.specs.Views.{products_of};
 
 use crate::list::Part;
 use crate::tail::Tail;

@@ -2,7 +2,8 @@
 
 ghost use Rattle.std.specs.Prelude.{◌≡◌, ◌∷◌, [], ◌+◌, ◌^◌, ◌<◌, IfOk};
 ghost use Rattle.std.specs.Option.{option_to_list};
-ghost use Rattle.cap_tree.specs.Canonical.{is_the_symbol, may_end_line, parentheses_behind, gap_behind, canonical_from};
+ghost use Rattle.cap_tree.specs.Canonical.{is_the_symbol, may_end_line, parentheses_behind};
+ghost use Rattle.cap_tree.specs.Canonical.{gap_behind, canonical_from};
 ghost use Rattle.cap_tree.specs.Nesting.{is_symbol as is_a_symbol};
 ghost use Rattle.cap_print.specs.Pieces.{piece_view, tokens_of};
 

@@ -28,10 +28,18 @@ impl Model for Program {
 
     ghost coded = { Prim.hlevel (codes, algebra.the_row.coded, item.the_row.coded, assertion.the_row.coded, statement.the_row.coded) };
 
-    ghost view = { λ p. record { regions = p.regions.items; functions = p.functions.items; main = p.main } };
+    ghost view = { λ p. record {
+      regions = p.regions.items;
+      functions = p.functions.items;
+      main = p.main;
+    } };
 
     ghost invariant = { λ p. IsWellFormed
-        (program_view (record { regions = p.regions.items; functions = p.functions.items; main = p.main })) };
+        (program_view (record {
+          regions = p.regions.items;
+          functions = p.functions.items;
+          main = p.main;
+        })) };
 }
 
 impl Program {

@@ -1,5 +1,6 @@
 //! The frames of a thread.
-ghost use Rattle.std.specs.Prelude.{◌≡◌, ◌<◌, ◌∷◌, length, IfOk, OnOk, OnErr, slice_get, option_map, option_copied, Some};
+ghost use Rattle.std.specs.Prelude.{◌≡◌, ◌<◌, ◌∷◌, length, IfOk, OnOk, OnErr, slice_get};
+ghost use Rattle.std.specs.Prelude.{option_map, option_copied, Some};
 ghost use Rattle.std.specs.Vec.{vec_len};
 ghost use Rattle.cap_prog.specs.Program.{PlainProgram, PlainFunction};
 ghost use Rattle.cap_prog.specs.Views.{program_view, statement_view};
@@ -35,8 +36,10 @@ impl Frame {
         destination: Option<u32>,
     ) -> Result<Frame, AllocError>
         requires { function < length (program_view program.now).functions }
-        ensures begins { (g : PlainFunction) → slice_get (program_view program.now).functions function ≡ Some g →
-            IfOk result (λ f. frame_view (program_view program.now) f ≡ new_frame function g arguments.items destination) }
+        ensures begins { (g : PlainFunction) →
+            slice_get (program_view program.now).functions function ≡ Some g →
+            IfOk result (λ f. frame_view (program_view program.now) f
+            ≡ new_frame function g arguments.items destination) }
         ensures placed { IfOk result (λ f. IsPlaced (program_view program.now) f) }
     {
         let locals = program.function(function).locals;

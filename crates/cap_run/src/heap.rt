@@ -1,5 +1,6 @@
 //! The heap.
-ghost use Rattle.std.specs.Prelude.{◌≡◌, ◌-◌, ◌<◌, pos, ◌+ℤ◌, true, is_none, IfOk, IsSome, OnOk, OnErr};
+ghost use Rattle.std.specs.Prelude.{◌≡◌, ◌-◌, ◌<◌, pos, ◌+ℤ◌, true, is_none, IfOk, IsSome, OnOk};
+ghost use Rattle.std.specs.Prelude.{OnErr};
 ghost use Rattle.std.specs.FinMap as map;
 ghost use Rattle.std.specs.FinMap.{get, insert, from_entries};
 ghost use Rattle.cap_lin.specs.Steps.{fits};

@@ -1,11 +1,13 @@
-ghost use Rattle.std.specs.Prelude.{◌≡◌, ◌<◌, ◌∷◌, pos, false, length, List, IfOk, OnOk, OnErr, slice_get, IsSomeAnd, Some};
+ghost use Rattle.std.specs.Prelude.{◌≡◌, ◌<◌, ◌∷◌, pos, false, length, List, IfOk, OnOk, OnErr};
+ghost use Rattle.std.specs.Prelude.{slice_get, IsSomeAnd, Some};
 ghost use Rattle.std.specs.FinMap.{from_entries};
 ghost use Rattle.cap_prog.specs.Program.{PlainProgram};
 ghost use Rattle.cap_prog.specs.Views.{program_view};
 ghost use Rattle.cap_prog.specs.WellFormed.{IsWellFormed};
 ghost use Rattle.cap_run.specs.Machine as plain;
 ghost use Rattle.cap_run.specs.Cells.{AscendsFrom};
-ghost use Rattle.cap_run.specs.View.{configuration, is_stopped, frame_view, IsPlaced, AllArePlaced, Fits};
+ghost use Rattle.cap_run.specs.View.{configuration, is_stopped, frame_view, IsPlaced, AllArePlaced};
+ghost use Rattle.cap_run.specs.View.{Fits};
 ghost use Rattle.cap_run.specs.Ready.{HasTop, CanChange, HasChanged, HasThread, IsKept};
 ghost use Rattle.cap_run.specs.Changes.{passed, entered, with_top, returned, return_event};
 
@@ -60,7 +62,8 @@ impl Machine {
     pub(crate) fn store(&self, thread: u32) -> &[i128]
         requires { HasTop self.now thread }
         ensures { (p : PlainProgram) (f : plain.Frame) (fs : List plain.Frame) →
-            slice_get (configuration p self.now).threads thread ≡ Some (f ∷ fs) → result.now ≡ f.store }
+            slice_get (configuration p self.now).threads thread ≡ Some (f ∷ fs)
+            → result.now ≡ f.store }
     {
         let frames = &self.threads[thread as usize];
         &frames[frames.len() - 1].store

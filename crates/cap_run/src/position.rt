@@ -1,9 +1,11 @@
 //! Places in the bodies of functions: no step copies a block.
-ghost use Rattle.std.specs.Prelude.{◌≡◌, suc, ◌^◌, ◌<◌, ◌∷◌, [], ◌++◌, IfOk, IfSome, OnErr, slice_get, option_map, option_copied};
+ghost use Rattle.std.specs.Prelude.{◌≡◌, suc, ◌^◌, ◌<◌, ◌∷◌, [], ◌++◌, IfOk, IfSome, OnErr};
+ghost use Rattle.std.specs.Prelude.{slice_get, option_map, option_copied};
 ghost use Rattle.std.specs.Vec.{vec_len};
 ghost use Rattle.cap_prog.specs.Program.{append};
 ghost use Rattle.cap_prog.specs.Views.{act_view, block_view, statement_view};
-ghost use Rattle.cap_run.specs.Places.{skip, side_of as the_side_of, is_loop as is_a_loop, inside, after, past, block_at, rest_at, here, IsSettled};
+ghost use Rattle.cap_run.specs.Places.{skip, side_of as the_side_of, is_loop as is_a_loop, inside};
+ghost use Rattle.cap_run.specs.Places.{after, past, block_at, rest_at, here, IsSettled};
 
 use cap_prog::{Act, Statement};
 use std::alloc::AllocError;

@@ -10,7 +10,8 @@ ghost use Rattle.cap_stands.specs.Functions.{function_named};
 ghost use Rattle.cap_stands.specs.Program.{type_number, function_number};
 ghost use Rattle.cap_stands.specs.Stands.{refusal, Stands};
 ghost use Rattle.cap_stands.specs.Refusal.{IsRefusal, IsRight};
-ghost use Rattle.cap_stands.specs.Meaning.{HasNoProducts, HasValue, IsFirstNamed, IsKnownAs, IsRegionNamed, IsFunctionNamed};
+ghost use Rattle.cap_stands.specs.Meaning.{HasNoProducts, HasValue, IsFirstNamed, IsKnownAs};
+ghost use Rattle.cap_stands.specs.Meaning.{IsRegionNamed, IsFunctionNamed};
 
 /// A law: what is refused is a finding with the least place and, at one place, the least number, or
 /// the want of a `main` where nothing else is wrong. Nothing is refused exactly where nothing is

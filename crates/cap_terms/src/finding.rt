@@ -1,5 +1,7 @@
 ghost use Rattle.std.specs.Prelude.{◌≡◌, fold};
-ghost use Rattle.cap_stands.specs.Finding.{cause_number as number_of, is_earlier as earlier, is_same_place as same_place, is_before as before, note as noted, found_if};
+ghost use Rattle.cap_stands.specs.Finding.{cause_number as number_of, is_earlier as earlier};
+ghost use Rattle.cap_stands.specs.Finding.{is_same_place as same_place, is_before as before};
+ghost use Rattle.cap_stands.specs.Finding.{note as noted, found_if};
 ghost use Rattle.cap_terms.specs.Views.{cause_view, finding_view, noted_view};
 
 use cap_syntax::Place;

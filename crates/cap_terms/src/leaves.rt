@@ -2,7 +2,9 @@ ghost use Rattle.std.specs.Prelude.{◌≡◌, fold};
 ghost use Rattle.std.specs.List.{list_any, list_all};
 ghost use Rattle.cap_tree.specs.Views.{factor_view, product_view, term_view};
 ghost use Rattle.cap_stands.specs.Finding.{note};
-ghost use Rattle.cap_stands.specs.Parts.{is_multiplier as multiplies, holds_name as names_in, is_name, is_number, product_leaves, term_leaves, factor_place as place_of};
+ghost use Rattle.cap_stands.specs.Parts.{is_multiplier as multiplies, holds_name as names_in};
+ghost use Rattle.cap_stands.specs.Parts.{is_name, is_number, product_leaves, term_leaves};
+ghost use Rattle.cap_stands.specs.Parts.{factor_place as place_of};
 ghost use Rattle.cap_stands.specs.Terms.{names_multiplied};
 ghost use Rattle.cap_terms.specs.Views.{noted_view};
 

@@ -1,4 +1,5 @@
-ghost use Rattle.std.specs.Prelude.{◌≡◌, ◌+◌, ◌<◌, ◌^◌, [], ◌∷◌, ◌++◌, length, OnOk, MatchOption, option_map, None};
+ghost use Rattle.std.specs.Prelude.{◌≡◌, ◌+◌, ◌<◌, ◌^◌, [], ◌∷◌, ◌++◌, length, OnOk, MatchOption};
+ghost use Rattle.std.specs.Prelude.{option_map, None};
 ghost use Rattle.cap_stands.specs.Names.{sort_of, variable_of, knows};
 ghost use Rattle.cap_terms.specs.Views.{known_view};
 

@@ -1,8 +1,12 @@
 ghost use Rattle.std.specs.Prelude.{◌≡◌, fold, flat_map, get_or};
 ghost use Rattle.cap_tree.specs.Views.{factor_view, product_view, term_view};
 ghost use Rattle.cap_stands.specs.Finding.{note};
-ghost use Rattle.cap_stands.specs.Parts.{factor_place as place_of, first_factor as first_of, factor_brackets, product_brackets, term_brackets};
-ghost use Rattle.cap_stands.specs.Terms.{factor_sort as sort_of_factor, product_sort as sort_of_mono, term_sort as sort_of_term, clash as clashes, main_factors, wrong_product, wrong_second, product_findings, products_findings};
+ghost use Rattle.cap_stands.specs.Parts.{factor_place as place_of, first_factor as first_of};
+ghost use Rattle.cap_stands.specs.Parts.{factor_brackets, product_brackets, term_brackets};
+ghost use Rattle.cap_stands.specs.Terms.{factor_sort as sort_of_factor};
+ghost use Rattle.cap_stands.specs.Terms.{product_sort as sort_of_mono, term_sort as sort_of_term};
+ghost use Rattle.cap_stands.specs.Terms.{clash as clashes, main_factors, wrong_product};
+ghost use Rattle.cap_stands.specs.Terms.{wrong_second, product_findings, products_findings};
 ghost use Rattle.cap_terms.specs.Views.{noted_view};
 ghost use Rattle.cap_terms.specs.Brackets.{brackets_findings};
 

@@ -2,7 +2,8 @@ ghost use Rattle.std.specs.Prelude.{◌≡◌, ◌≢◌, ◌⊎◌, ℕ, List, 
 ghost use Rattle.cap_io.specs.Outside.{Rose};
 ghost use Rattle.cap_top.specs.Finding.{IsRun};
 ghost use Rattle.cap_top.specs.Task.{task_in, IsTask};
-ghost use Rattle.cap_top.specs.Promise.{IsGood, HasCanonicalText, ShowsFile, Ends, Answers, Refuses, ReadFails, SaysAll, SaysFirst};
+ghost use Rattle.cap_top.specs.Promise.{IsGood, HasCanonicalText, ShowsFile, Ends, Answers};
+ghost use Rattle.cap_top.specs.Promise.{Refuses, ReadFails, SaysAll, SaysFirst};
 
 use crate::output::respond;
 use crate::rendering::text;

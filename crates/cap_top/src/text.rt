@@ -1,4 +1,5 @@
-ghost use Rattle.std.specs.Prelude.{vec_len, ◌++◌, ◌∷◌, ◌≡◌, List, [], MatchResult, IfOk, IfErr, ◌<◌, ◌^◌, length, map};
+ghost use Rattle.std.specs.Prelude.{vec_len, ◌++◌, ◌∷◌, ◌≡◌, List, [], MatchResult, IfOk, IfErr};
+ghost use Rattle.std.specs.Prelude.{◌<◌, ◌^◌, length, map};
 ghost use Rattle.cap_syntax.specs.Place.{place_of};
 ghost use Rattle.cap_syntax.specs.declared.token.Token.{Token};
 ghost use Rattle.cap_top.specs.Lexing.{lexeme_of};
