@@ -77,7 +77,7 @@ pub ok_fault : (p : PlainProgram) (m after : Machine) (e : Entry) (s : PlainStat
 ok_fault p m after e s r event n o c t =
     (r.runs, ap are_narrow (results_are p m e s r) ∙ n, subst (Leaves p m after event) (sym (step_is p m e s r ∙ o)) (refl, c, t))
 
-enabled_now : (p : PlainProgram) (m : Machine) (e : Entry) (s : PlainStatement) (r : IsReady p m e s) → BaseFits (configuration p m).heap s.act e.base → is_enabled p m e ≡ true
+pub enabled_now : (p : PlainProgram) (m : Machine) (e : Entry) (s : PlainStatement) (r : IsReady p m e s) → BaseFits (configuration p m).heap s.act e.base → is_enabled p m e ≡ true
 enabled_now p m e s r b =
     let q : Runs p r.frame s.label s.act = record { function = r.function; is = r.is; act = r.act } in
     let i = (statement-iff p (spot p m e s r) e.base s.label s.act r.rest q).1 b in

@@ -11,3 +11,5 @@ pub mod MachineLemmas
 pub mod StartLemmas
 pub mod ActLemmas
 pub mod StepLemmas
+pub mod ReadyLemmas
+pub mod ExampleLemmas

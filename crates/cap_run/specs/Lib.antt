@@ -8,3 +8,4 @@ pub mod View
 pub mod Changes
 pub mod Errors
 pub mod Ready
+pub mod Example

@@ -3,25 +3,27 @@ use Rattle.std.specs.Prelude.{◌≡◌, ℕ, zero, suc, ◌<◌, true, false, L
 use Rattle.std.specs.Global.{Vec}
 use Rattle.cap_prog.specs.Program.{Label, PlainAct, alloc, Block, first, PlainStatement, PlainFunction, PlainProgram}
 use Rattle.cap_prog.specs.Scopes.{fixed_start}
-use Rattle.cap_prog.specs.WellFormed.{ActFits}
+use Rattle.cap_prog.specs.WellFormed.{ActFits, IsWellFormed}
 use Rattle.cap_run.specs.declared.event.Entry.{Entry}
 use Rattle.cap_run.specs.declared.event.Ahead.{Ahead}
 use Rattle.cap_run.specs.declared.frame.Frame as code
 use Rattle.cap_run.specs.declared.machine.Machine.{Machine}
 use Rattle.cap_run.specs.Machine.{Frame, Thread, Configuration, takes_base}
-use Rattle.cap_run.specs.Laws.{first_statement, running}
+use Rattle.cap_run.specs.Laws.{first_statement, running, BaseFits}
 use Rattle.cap_run.specs.View.{configuration, is_stopped, AllArePlaced}
 
--- the statement is the next one of the entry's thread, and takes its base
+-- the program is well-formed, the statement is the next one of the entry's thread, and the base is as it takes it
 pub record IsReady (p : PlainProgram) (m : Machine) (e : Entry) (s : PlainStatement) : Type 0 where
   pub function : PlainFunction
   pub frame : Frame
   pub below : List Frame
   pub rest : Block
+  pub program : IsWellFormed p
   pub runs : is_stopped m ≡ false
   pub there : slice_get (configuration p m).threads e.thread ≡ Some (frame ∷ below)
   pub next : frame.rest ≡ first s.label s.act rest
   pub base : takes_base s.act e.base ≡ true
+  pub suits : BaseFits (configuration p m).heap s.act e.base
   pub is : slice_get p.functions frame.function ≡ Some function
   pub act : ActFits p function s.act
   pub store : length frame.store ≡ fixed_start function

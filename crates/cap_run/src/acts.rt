@@ -23,7 +23,8 @@ impl Machine {
         variable: u32,
         term: &Term,
     ) -> Result<Event, StepError>
-        requires { IsReadyTo (program_view program.now) self.old entry.now (plain.set variable term.now) }
+        requires { IsReadyTo (program_view program.now) self.old entry.now
+            (plain.set variable term.now) }
         ensures steps { Steps (program_view program.now) entry.now self.old self.new result }
         ensures places { AllArePlaced (program_view program.now) self.new }
     {
@@ -40,7 +41,8 @@ impl Machine {
         variable: u32,
         address: &Term,
     ) -> Result<Event, StepError>
-        requires { IsReadyTo (program_view program.now) self.old entry.now (plain.read variable address.now) }
+        requires { IsReadyTo (program_view program.now) self.old entry.now
+            (plain.read variable address.now) }
         ensures steps { Steps (program_view program.now) entry.now self.old self.new result }
         ensures places { AllArePlaced (program_view program.now) self.new }
     {
@@ -65,7 +67,8 @@ impl Machine {
         address: &Term,
         term: &Term,
     ) -> Result<Event, StepError>
-        requires { IsReadyTo (program_view program.now) self.old entry.now (plain.write address.now term.now) }
+        requires { IsReadyTo (program_view program.now) self.old entry.now
+            (plain.write address.now term.now) }
         ensures steps { Steps (program_view program.now) entry.now self.old self.new result }
         ensures places { AllArePlaced (program_view program.now) self.new }
     {
@@ -122,6 +125,30 @@ impl Machine {
         }
     }
 
+    // An allocation, at the entry's base.
+    pub(crate) fn allocate(
+        &mut self,
+        program: &Program,
+        entry: &Entry,
+        variable: u32,
+        count: u32,
+    ) -> Result<Event, StepError>
+        requires { IsReadyTo (program_view program.now) self.old entry.now
+            (plain.alloc variable count) }
+        ensures steps { Steps (program_view program.now) entry.now self.old self.new result }
+        ensures places { AllArePlaced (program_view program.now) self.new }
+    {
+        let Some(base) = entry.base else {
+            return Err(StepError::NotEnabled);
+        };
+        if base.checked_add(i128::from(count - 1)).is_none() {
+            return Err(StepError::Wide);
+        }
+        self.heap.allocate(base, count)?;
+        self.assign(program, entry.thread, variable, base);
+        Ok(Event::Alloc(base))
+    }
+
     // A call.
     pub(crate) fn call(
         &mut self,
@@ -154,7 +181,8 @@ impl Machine {
     ) -> Result<Event, StepError>
         requires ready { IsReadyTo (program_view program.now) self.old entry.now
             (plain.fork function args.now) }
-        requires room { length (configuration (program_view program.now) self.old).threads < 2 ^ 32 - 1 }
+        requires room { let p = program_view program.now in
+            length (configuration p self.old).threads < 2 ^ 32 - 1 }
         ensures steps { Steps (program_view program.now) entry.now self.old self.new result }
         ensures places { AllArePlaced (program_view program.now) self.new }
     {
@@ -174,7 +202,8 @@ impl Machine {
         comparison: &Comp,
     ) -> Result<Event, StepError>
         requires { (a : plain.Block) × (b : plain.Block)
-            × IsReadyTo (program_view program.now) self.old entry.now (plain.branch comparison.now a b) }
+            × IsReadyTo (program_view program.now) self.old entry.now
+            (plain.branch comparison.now a b) }
         ensures steps { Steps (program_view program.now) entry.now self.old self.new result }
         ensures places { AllArePlaced (program_view program.now) self.new }
     {
@@ -191,7 +220,8 @@ impl Machine {
         comparison: &Comp,
     ) -> Result<Event, StepError>
         requires { (i : plain.PlainAssertion) × (a : plain.Block)
-            × IsReadyTo (program_view program.now) self.old entry.now (plain.loop comparison.now i a) }
+            × IsReadyTo (program_view program.now) self.old entry.now
+            (plain.loop comparison.now i a) }
         ensures steps { Steps (program_view program.now) entry.now self.old self.new result }
         ensures places { AllArePlaced (program_view program.now) self.new }
     {
@@ -212,7 +242,8 @@ impl Machine {
         comparison: &Comp,
         place: Place,
     ) -> Result<Event, StepError>
-        requires { (r : IsReadyTo (program_view program.now) self.old entry.now (plain.check comparison.now))
+        requires { (r : IsReadyTo (program_view program.now) self.old entry.now
+            (plain.check comparison.now))
             × (r.0.place ≡ place) }
         ensures steps { Steps (program_view program.now) entry.now self.old self.new result }
         ensures places { AllArePlaced (program_view program.now) self.new }
@@ -233,7 +264,8 @@ impl Machine {
         entry: &Entry,
         term: &Term,
     ) -> Result<Event, StepError>
-        requires { IsReadyTo (program_view program.now) self.old entry.now (plain.give_back term.now) }
+        requires { IsReadyTo (program_view program.now) self.old entry.now
+            (plain.give_back term.now) }
         ensures steps { Steps (program_view program.now) entry.now self.old self.new result }
         ensures places { AllArePlaced (program_view program.now) self.new }
     {

@@ -14,7 +14,8 @@ use std::alloc::Global;
 /// The term's value.
 pub(crate) fn evaluate(term: &Term, store: &[i128]) -> Result<i128, StepError>
     requires { IsBelow (length store.now) term.now }
-    ensures { Evaluates result (λ v. v) (term_steps store.now term.now) (value_in store.now term.now) }
+    ensures { Evaluates result (λ v. v)
+        (term_steps store.now term.now) (value_in store.now term.now) }
 {
     Ok(term.value(store)?)
 }

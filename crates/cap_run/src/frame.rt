@@ -3,10 +3,11 @@ ghost use Rattle.std.specs.Prelude.{◌≡◌, ◌<◌, ◌∷◌, length, IfOk,
 ghost use Rattle.std.specs.Prelude.{option_map, option_copied, Some};
 ghost use Rattle.std.specs.Vec.{vec_len};
 ghost use Rattle.cap_prog.specs.Program.{PlainProgram, PlainFunction};
-ghost use Rattle.cap_prog.specs.Views.{program_view, statement_view};
+ghost use Rattle.cap_prog.specs.Views.{program_view, statement_view, block_view};
+ghost use Rattle.cap_prog.specs.WellFormed.{IsWellFormed};
 ghost use Rattle.cap_run.specs.Machine.{with_value, new_frame};
 ghost use Rattle.cap_run.specs.Places.{here};
-ghost use Rattle.cap_run.specs.View.{frame_view, thread_view, IsPlaced, ArePlaced};
+ghost use Rattle.cap_run.specs.View.{frame_view, thread_view, body_in, IsPlaced, ArePlaced};
 ghost use Rattle.cap_run.specs.Changes.{tail_of, passed, entered, with_top, returned, return_event};
 
 use crate::event::Event;
@@ -56,17 +57,23 @@ impl Frame {
         })
     }
 
+    // The body of the frame's function.
+    fn body<'a>(&self, program: &'a Program) -> &'a [Statement]
+        requires { self.now.function < length (program_view program.now).functions }
+        ensures body { block_view result.now ≡ body_in (program_view program.now) self.now }
+        ensures well_formed { IsWellFormed (program_view program.now) }
+    {
+        &program.functions()[self.function as usize].body
+    }
+
     /// The frame's next statement.
     pub(crate) fn ahead<'a>(&self, program: &'a Program) -> Option<&'a Statement>
         requires { IsPlaced (program_view program.now) self.now }
-        ensures { let f = frame_view (program_view program.now) self.now in
+        ensures next { let f = frame_view (program_view program.now) self.now in
             f.rest ≡ here (option_map statement_view (option_copied result)) (tail_of f.rest) }
+        ensures well_formed { IsWellFormed (program_view program.now) }
     {
-        ahead(
-            &program.function(self.function).body,
-            &self.levels,
-            self.next,
-        )
+        ahead(self.body(program), &self.levels, self.next)
     }
 
     // Passes the next statement.

@@ -1,12 +1,16 @@
 //! The heap.
-ghost use Rattle.std.specs.Prelude.{◌≡◌, ◌-◌, ◌<◌, pos, ◌+ℤ◌, true, is_none, IfOk, IsSome, OnOk};
-ghost use Rattle.std.specs.Prelude.{OnErr};
+ghost use Rattle.std.specs.Prelude.{◌≡◌, ◌↔◌, ◌-◌, ◌<◌, pos, ◌+ℤ◌, true, is_none, IfOk, IsSome};
+ghost use Rattle.std.specs.Prelude.{OnOk, OnErr, IsTrue, ℕ};
 ghost use Rattle.std.specs.FinMap as map;
 ghost use Rattle.std.specs.FinMap.{get, insert, from_entries};
 ghost use Rattle.cap_lin.specs.Steps.{fits};
+ghost use Rattle.cap_prog.specs.Program.{alloc};
+ghost use Rattle.cap_prog.specs.Views.{act_view};
 ghost use Rattle.cap_run.specs.Machine.{are_free, with_cells};
 ghost use Rattle.cap_run.specs.Cells.{AscendsFrom, IsTop};
+ghost use Rattle.cap_run.specs.Laws.{BaseFits};
 
+use cap_prog::Act;
 use std::alloc::{AllocError, Global};
 use std::collections::BTreeMap;
 use std::marker::Model;
@@ -79,8 +83,8 @@ impl Heap {
         self.cells.remove(&address);
     }
 
-    /// Whether no cell is at the addresses from a base on, as many as `count` says. No cell is at an
-    /// address past 128 bits.
+    /// Whether no cell is at the addresses from a base on, as many as `count` says. No cell is at
+    /// an address past 128 bits.
     pub(crate) fn is_free(&self, base: i128, count: u32) -> bool
         ensures { result ≡ are_free self.now base count }
     {
@@ -101,8 +105,38 @@ impl Heap {
         }
     }
 
-    /// Adds new cells, which hold 0, at the addresses from a base on. Where memory runs out the heap
-    /// is as it was.
+    /// Whether a base is as a statement takes it: an allocation takes one that is at least 1, from
+    /// which on no cell is at the addresses of its cells, and no other statement takes a base.
+    pub(crate) fn suits(&self, act: &Act, base: Option<i128>) -> bool
+        ensures { IsTrue result ↔ BaseFits self.now (act_view act.now) base }
+    {
+        match act {
+            Act::Alloc(_, count) => self.may_be_at(base, *count),
+            Act::Set(_, _)
+            | Act::Read(_, _)
+            | Act::Write(_, _)
+            | Act::Cas(_, _, _, _)
+            | Act::Call(_, _, _)
+            | Act::Fork(_, _)
+            | Act::If(_, _, _)
+            | Act::While(_, _, _)
+            | Act::Assert(_)
+            | Act::Return(_) => base.is_none(),
+        }
+    }
+
+    // Whether new cells may be at a base.
+    fn may_be_at(&self, base: Option<i128>, count: u32) -> bool
+        ensures { (x : ℕ) → IsTrue result ↔ BaseFits self.now (alloc x count) base }
+    {
+        match base {
+            None => false,
+            Some(base) => base >= 1 && self.is_free(base, count),
+        }
+    }
+
+    /// Adds new cells, which hold 0, at the addresses from a base on. Where memory runs out the
+    /// heap is as it was.
     pub(crate) fn allocate(&mut self, base: i128, count: u32) -> Result<(), AllocError>
         requires free { are_free self.old base count ≡ true }
         requires narrow { 0 < count → fits (base +ℤ pos (count - 1)) ≡ true }

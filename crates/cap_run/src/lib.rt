@@ -9,6 +9,9 @@ mod heap;
 mod laws;
 mod machine;
 mod position;
+mod step;
+#[cfg(test)]
+mod tests;
 mod thread;
 
 pub use event::{Ahead, Entry, Event, StepError};

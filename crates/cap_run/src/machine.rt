@@ -94,8 +94,8 @@ impl Machine {
         side: bool,
     ) -> Result<(), AllocError>
         requires { CanChange (program_view program.now) self.old thread }
-        ensures entered { OnOk result
-            (HasChanged (program_view program.now) (with_top (entered side)) thread self.old self.new) }
+        ensures entered { OnOk result (HasChanged (program_view program.now)
+            (with_top (entered side)) thread self.old self.new) }
         ensures kept { OnErr result (IsKept (program_view program.now) self.old self.new) }
     {
         thread::enter(program, &mut self.threads[thread as usize], side)
@@ -110,8 +110,8 @@ impl Machine {
     ) -> Result<(), AllocError>
         requires can { CanChange (program_view program.now) self.old thread }
         requires callee { IsPlaced (program_view program.now) callee }
-        ensures pushed { let p = program_view program.now in OnOk result
-            (HasChanged p (λ fs. frame_view p callee ∷ with_top passed fs) thread self.old self.new) }
+        ensures pushed { let p = program_view program.now in OnOk result (HasChanged p
+            (λ fs. frame_view p callee ∷ with_top passed fs) thread self.old self.new) }
         ensures kept { OnErr result (IsKept (program_view program.now) self.old self.new) }
     {
         thread::call(program, &mut self.threads[thread as usize], callee)
@@ -120,10 +120,11 @@ impl Machine {
     // It ends, and its caller gets the value.
     pub(crate) fn pop(&mut self, _program: &Program, thread: u32, value: i128) -> Event
         requires { CanChange (program_view _program.now) self.old thread }
-        ensures popped { HasChanged (program_view _program.now) (returned value) thread self.old self.new }
+        ensures popped { HasChanged (program_view _program.now)
+            (returned value) thread self.old self.new }
         ensures event { (fs : plain.Thread) →
-            slice_get (configuration (program_view _program.now) self.old).threads thread ≡ Some fs →
-            result ≡ return_event value fs }
+            slice_get (configuration (program_view _program.now) self.old).threads thread
+            ≡ Some fs → result ≡ return_event value fs }
     {
         thread::give_back(&mut self.threads[thread as usize], value)
     }

@@ -28,7 +28,8 @@ fn get(block: &[Statement], index: usize) -> Option<&Statement>
 // The statement at an index.
 fn statement_at(block: &[Statement], index: usize) -> Option<&Statement>
     ensures is { skip index (block_view block.now)
-        ≡ here (option_map statement_view (option_copied result)) (skip (suc index) (block_view block.now)) }
+        ≡ here (option_map statement_view (option_copied result))
+        (skip (suc index) (block_view block.now)) }
     ensures within { IfSome result (λ _. index < 2 ^ 63) }
 {
     get(block, index)
@@ -62,7 +63,8 @@ fn side_of(act: &Act, side: bool) -> &[Statement]
     }
 }
 
-// The index behind the block that the statement at an index leads into: a loop stands there once more.
+// The index behind the block that the statement at an index leads into: a loop stands there once
+// more.
 fn after(block: &[Statement], index: usize) -> usize
     ensures { result ≡ after (skip index (block_view block.now)) index }
 {

@@ -1,8 +1,9 @@
 //! The frames of a thread, with the top one last.
-ghost use Rattle.std.specs.Prelude.{◌≡◌, ◌<◌, ◌∷◌, length, OnOk, OnErr};
+ghost use Rattle.std.specs.Prelude.{◌≡◌, ◌<◌, ◌∷◌, length, OnOk, OnErr, Some, IfSome};
+ghost use Rattle.std.specs.Prelude.{option_map, option_copied};
 ghost use Rattle.cap_prog.specs.Program.{PlainProgram};
 ghost use Rattle.cap_prog.specs.Views.{program_view};
-ghost use Rattle.cap_run.specs.Machine.{with_value};
+ghost use Rattle.cap_run.specs.Machine.{with_value, top_frame};
 ghost use Rattle.cap_run.specs.View.{frame_view, thread_view, IsPlaced, ArePlaced};
 ghost use Rattle.cap_run.specs.Changes.{passed, entered, with_top, returned, return_event};
 
@@ -10,6 +11,17 @@ use crate::event::Event;
 use crate::frame::Frame;
 use cap_prog::Program;
 use std::alloc::AllocError;
+
+/// The top frame, if there is one.
+pub(crate) fn top(frames: &[Frame]) -> Option<&Frame>
+    ensures shows { (p : PlainProgram) →
+        option_map (frame_view p) (option_copied result)
+        ≡ top_frame (Some (thread_view p frames.now)) }
+    ensures placed { (p : PlainProgram) →
+        ArePlaced p frames.now → IfSome result (λ f. IsPlaced p f.now) }
+{
+    frames.last()
+}
 
 /// The top frame passes its next statement.
 pub(crate) fn pass(program: &Program, frames: &mut Vec<Frame>)
@@ -46,7 +58,8 @@ pub(crate) fn enter(
     requires some { 0 < length frames.old.items }
     requires placed { ArePlaced (program_view program.now) frames.old.items }
     ensures entered { let p = program_view program.now in
-        OnOk result (thread_view p frames.new.items ≡ with_top (entered side) (thread_view p frames.old.items)) }
+        OnOk result (thread_view p frames.new.items
+        ≡ with_top (entered side) (thread_view p frames.old.items)) }
     ensures same { let p = program_view program.now in
         OnErr result (thread_view p frames.new.items ≡ thread_view p frames.old.items) }
     ensures placed { ArePlaced (program_view program.now) frames.new.items }
@@ -83,7 +96,8 @@ pub(crate) fn give_back(frames: &mut Vec<Frame>, value: i128) -> Event
         thread_view p frames.new.items ≡ returned value (thread_view p frames.old.items) }
     ensures event { (p : PlainProgram) →
         result ≡ return_event value (thread_view p frames.old.items) }
-    ensures placed { (p : PlainProgram) → ArePlaced p frames.old.items → ArePlaced p frames.new.items }
+    ensures placed { (p : PlainProgram) →
+        ArePlaced p frames.old.items → ArePlaced p frames.new.items }
 {
     let Some(done) = frames.pop() else {
         unreachable!()

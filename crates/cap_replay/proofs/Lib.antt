@@ -1,0 +1,5 @@
+pub mod RunLemmas
+pub mod PieceLemmas
+pub mod NumberLemmas
+pub mod ReadLemmas
+pub mod Ascending

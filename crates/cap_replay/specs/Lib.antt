@@ -1,0 +1,5 @@
+pub mod RunText
+pub mod Advancing
+pub mod Pieces
+pub mod Numbers
+pub mod Reading
