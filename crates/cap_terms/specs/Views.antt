@@ -1,8 +1,7 @@
 -- What is seen of the code's findings and scopes.
-use Rattle.std.specs.Prelude.{◌≡◌, ℕ, List, map, Option, Some, None, option_map, bytes_eq, if◌then◌else◌}
+use Rattle.std.specs.Prelude.{◌≡◌, ℕ, List, Bool, Option, Some, None, option_map, bytes_eq, if◌then◌else◌}
 use Rattle.std.specs.Borrow.{Bor}
 use Rattle.std.specs.Map.{lookup}
-use Rattle.cap_lin.specs.declared.row.Sort.{Sort}
 use Rattle.cap_stands.specs.Finding as plain
 use Rattle.cap_stands.specs.Names.{KnownName, NameScope, knows, variable_of}
 use Rattle.cap_terms.specs.declared.finding.Limit.{Limit}
@@ -51,6 +50,11 @@ number_in entries x = lookup (λ (k : Bor (List ℕ)). bytes_eq x k.now) entries
 
 abbrev pub number_of : NameScope → List ℕ → Option ℕ
 number_of scope x = if knows scope x then Some (variable_of scope x) else None
+
+-- the number that a name had, else the new one where it is the name that is put
+abbrev pub first_number : Option ℕ → Bool → ℕ → Option ℕ
+first_number (Some n) same number = Some n
+first_number None same number = if same then Some number else None
 
 abbrev pub Numbers : List (Bor (List ℕ) × ℕ) → NameScope → Type 0
 Numbers entries scope = (x : List ℕ) → number_in entries x ≡ number_of scope x

@@ -1,7 +1,8 @@
-ghost use Rattle.std.specs.Prelude.{◌≡◌, ◌+◌, ◌<◌, ◌^◌, [], ◌∷◌, ◌++◌, length, OnOk, MatchOption};
-ghost use Rattle.std.specs.Prelude.{option_map, None};
-ghost use Rattle.cap_stands.specs.Names.{sort_of, variable_of, knows};
-ghost use Rattle.cap_terms.specs.Views.{known_view};
+ghost use Rattle.std.specs.Prelude.{◌≡◌, ◌+◌, ◌<◌, ◌^◌, [], ◌∷◌, ◌++◌, length, OnOk, IfOk};
+ghost use Rattle.std.specs.Prelude.{MatchOption};
+ghost use Rattle.std.specs.Prelude.{ℕ, List, option_map, None, OnErr, bytes_eq};
+ghost use Rattle.cap_stands.specs.Names.{sort_of, has_name, variable_of, knows as knows_name};
+ghost use Rattle.cap_terms.specs.Views.{entry_view, number_in, first_number};
 
 use cap_lin::Sort;
 use indexmap::IndexMap;
@@ -47,6 +48,48 @@ impl<'a> Scope<'a> {
         }
     }
 
+    /// Appends a variable: a known name and its sort, or none where its name is not known. A name
+    /// that an earlier variable has still stands for that one. There is an error where memory runs
+    /// out or the variables number 2^32 - 1, and then the scope is as it was.
+    pub fn push(&mut self, known: Option<Known<'a>>) -> Result<(), AllocError>
+        ensures pushed { OnOk result (self.new ≡ self.old ++ (entry_view known.entry ∷ [])) }
+        ensures failed { OnErr result (self.new ≡ self.old) }
+    {
+        let number = self.entries.as_slice().len();
+        if number >= u32::MAX as usize {
+            return Err(AllocError);
+        }
+        self.entries.reserve(1)?;
+        put_known(&mut self.numbers, known, number as u32)?;
+        self.entries.push_reserved(known);
+        Ok(())
+    }
+
+    /// The same scope once more.
+    pub fn copy(&self, alloc: Global) -> Result<Scope<'a>, AllocError>
+        ensures { IfOk result (λ copy. copy ≡ self.now) }
+    {
+        let mut copy = Scope::new(alloc);
+        for known in &self.entries {
+            copy.push(*known)?;
+        }
+        Ok(copy)
+    }
+
+    /// The number of variables.
+    pub fn len(&self) -> u32
+        ensures { result ≡ length self.now }
+    {
+        self.entries.as_slice().len() as u32
+    }
+
+    /// Whether a name is known.
+    pub fn knows(&self, name: &[u8]) -> bool
+        ensures { result ≡ knows_name self.now name.now }
+    {
+        self.numbers.contains_key(name)
+    }
+
     /// The number of the variable that a name stands for, or the number of variables where it is
     /// not known.
     pub fn number(&self, name: &[u8]) -> u32
@@ -73,4 +116,38 @@ impl<'a> Scope<'a> {
             None => None,
         }
     }
+}
+
+/// Gives a known name its number, unless it has one.
+fn put_known<'a>(
+    numbers: &mut IndexMap<&'a [u8], u32>,
+    known: Option<Known<'a>>,
+    number: u32,
+) -> Result<(), AllocError>
+    ensures put { OnOk result ((x : List ℕ) → number_in numbers.new.entries x ≡ first_number
+        (number_in numbers.old.entries x) (has_name x (entry_view known.entry)) number) }
+    ensures failed { OnErr result
+        ((x : List ℕ) → number_in numbers.new.entries x ≡ number_in numbers.old.entries x) }
+{
+    match known {
+        Some(known) => put_number(numbers, known.name, number),
+        None => Ok(()),
+    }
+}
+
+/// Gives a name its number, unless it has one.
+fn put_number<'a>(
+    numbers: &mut IndexMap<&'a [u8], u32>,
+    name: &'a [u8],
+    number: u32,
+) -> Result<(), AllocError>
+    ensures put { OnOk result ((x : List ℕ) → number_in numbers.new.entries x
+        ≡ first_number (number_in numbers.old.entries x) (bytes_eq x name.now) number) }
+    ensures failed { OnErr result
+        ((x : List ℕ) → number_in numbers.new.entries x ≡ number_in numbers.old.entries x) }
+{
+    if !numbers.contains_key(name) {
+        numbers.insert(name, number)?;
+    }
+    Ok(())
 }
