@@ -1,0 +1,12 @@
+//! The linear forms of terms, and the terms whose numbers leave 128 bits.
+#![tactic(auto)]
+
+mod forms;
+mod names;
+#[cfg(test)]
+mod tests;
+mod widths;
+
+pub use forms::form;
+pub use names::Names;
+pub use widths::{is_wide, linear, note_term, note_width};
