@@ -1,0 +1,5 @@
+mod Repeats
+mod Walks
+mod Trees
+mod Goals
+mod Narrow
