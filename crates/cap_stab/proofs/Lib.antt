@@ -1,0 +1,11 @@
+mod Repeats
+mod Bounds
+mod Found
+mod Asked
+mod Collecting
+mod Collected
+mod Systems
+mod Claiming
+mod Named
+mod Settled
+mod Headed

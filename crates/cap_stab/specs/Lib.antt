@@ -1,0 +1,5 @@
+pub mod Views
+pub mod Finding
+pub mod Asking
+pub mod Proving
+pub mod Heads

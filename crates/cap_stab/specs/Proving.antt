@@ -1,0 +1,37 @@
+-- What is proved of candidates, for one of them or for one action.
+use Rattle.std.specs.Prelude.{ℕ, nat_le, List, [], ◌∷◌, length, slice_get}
+use Rattle.cap_lin.specs.Linear.{Linear, replaced}
+use Rattle.cap_lin.specs.Steps.{replaced_steps}
+use Rattle.cap_lin.specs.declared.row.Row.{Row}
+use Rattle.cap_prog.specs.Program.{PlainAction, PlainRegionType}
+use Rattle.cap_logic.specs.States.{PlainFact, PlainState}
+use Rattle.cap_rules.specs.Attempts.{Attempt, ◌>>=◌, computed, found, need, prove}
+use Rattle.cap_logic.specs.Candidates.{MadeRow}
+use Rattle.cap_rules.specs.Resting.{action_names, system, prove_closed, prove_same}
+
+-- the rows prove the candidate, with this term for the later state
+abbrev pub proved_one : PlainState → List Row → Linear → Row → Attempt (Unit {0})
+proved_one s rows t r = do
+  u ← computed (replaced (length s.sorts) t r.term) (replaced_steps (length s.sorts) t r.term)
+  prove rows (record r { term = u })
+
+-- the candidates hold after the action
+abbrev pub stable_for :
+    PlainRegionType → PlainState → PlainFact → List Row → PlainAction → Attempt (Unit {0})
+stable_for k s f named a = do
+  rows ← system k s f named a (action_names k s f a)
+  prove_closed s named a (action_names k s f a) rows
+
+-- the state is the same after the action
+abbrev pub kept_for :
+    PlainRegionType → PlainState → PlainFact → Row → PlainAction → Attempt (Unit {0})
+kept_for k s f same a = do
+  rows ← system k s f (same ∷ []) a (action_names k s f a)
+  prove_same f a (action_names k s f a) rows
+
+-- the row of a candidate by its number, which is at least `low`
+abbrev pub named_row : List MadeRow → ℕ → ℕ → Attempt Row
+named_row all low i = do
+  _ ← need (nat_le low i)
+  m ← found (slice_get all i)
+  computed m.row m.steps

@@ -1,0 +1,222 @@
+ghost use Rattle.std.specs.Prelude.{◌≡◌, ◌≤◌, [], ◌∷◌, length};
+ghost use Rattle.cap_prog.specs.Views.{action_view, region_view};
+ghost use Rattle.cap_logic.specs.States.{longest_list};
+ghost use Rattle.cap_logic.specs.Candidates.{later_state as later_of};
+ghost use Rattle.cap_rules.specs.Resting.{prove_at as proved_at, prove_closed as proved_closed};
+ghost use Rattle.cap_rules.specs.Resting.{prove_stable as proved_stable, action_names as names_of};
+ghost use Rattle.cap_rules.specs.Resting.{prove_same as proved_same, prove_kept as proved_kept};
+ghost use Rattle.cap_steps.specs.Walks.{Claims, giving};
+ghost use Rattle.cap_stab.specs.Asking.{rows_seen};
+ghost use Rattle.cap_stab.specs.Proving.{proved_one, stable_for, kept_for};
+
+use crate::naming::action_names;
+use crate::system::system;
+use cap_goal::{Fact, State};
+use cap_lin::{Op, Row, Sort, Term};
+use cap_prog::{Action, RegionType};
+use cap_steps::{Ledger, RuleError, prove, prove_that, value_over};
+use std::alloc::Global;
+
+// Claims that the rows prove a candidate, with this term for the later state.
+#[tactic(auto, using(cap_steps::proofs::Walking::claiming))]
+fn prove_one(
+    alloc: Global,
+    ledger: &mut Ledger,
+    state: &State,
+    rows: &[Row],
+    term: &Term,
+    candidate: &Row,
+) -> Result<(), RuleError>
+    requires { length state.now.sorts ≤ longest_list }
+    ensures { Claims (giving result tt) ledger.old ledger.new
+        (proved_one state.now rows.now term.now candidate.now) }
+{
+    let later = state.sorts().len() as u32;
+    let replaced = candidate.term.subst(alloc, later, term)?;
+    let row = Row {
+        term: replaced,
+        kind: candidate.kind,
+        sort: candidate.sort,
+    };
+    prove(alloc, ledger, rows, &row)
+}
+
+// Claims that the rows prove each candidate, with this term for the later state.
+pub(crate) fn prove_at(
+    alloc: Global,
+    ledger: &mut Ledger,
+    state: &State,
+    rows: &[Row],
+    term: &Term,
+    named: &[Row],
+) -> Result<(), RuleError>
+    requires { length state.now.sorts ≤ longest_list }
+    ensures { Claims (giving result tt) ledger.old ledger.new
+        (proved_at state.now rows.now term.now named.now) }
+{
+    for candidate in named {
+        prove_one(alloc, ledger, state, rows, term, candidate)?;
+    }
+    Ok(())
+}
+
+// Claims that the candidates hold after an action from a system; its target is made only where
+// there is a candidate.
+#[tactic(auto, using(cap_steps::proofs::Walking::claiming))]
+fn prove_closed(
+    alloc: Global,
+    ledger: &mut Ledger,
+    state: &State,
+    named: &[Row],
+    action: &Action,
+    names: &[Term],
+    rows: &Option<Vec<Row>>,
+) -> Result<(), RuleError>
+    requires { length state.now.sorts ≤ longest_list }
+    ensures { Claims (giving result tt) ledger.old ledger.new (proved_closed state.now named.now
+        (action_view action.now) names.now (rows_seen rows.now)) }
+{
+    match named {
+        [] => Ok(()),
+        [_, ..] => match rows {
+            None => Ok(()),
+            Some(rows) => {
+                let target = value_over(alloc, names, &action.target)?;
+                prove_at(alloc, ledger, state, rows, &target, named)
+            }
+        },
+    }
+}
+
+// Claims that the candidates hold after an action.
+fn prove_stable_for(
+    alloc: Global,
+    ledger: &mut Ledger,
+    region: &RegionType,
+    state: &State,
+    fact: &Fact,
+    later: &Term,
+    named: &[Row],
+    action: &Action,
+) -> Result<(), RuleError>
+    requires room { length state.now.sorts ≤ longest_list }
+    requires later { later.now ≡ later_of state.now }
+    ensures { Claims (giving result tt) ledger.old ledger.new (stable_for (region_view region.now)
+        state.now fact.now named.now (action_view action.now)) }
+{
+    let names = action_names(alloc, region, state, fact, action)?;
+    let rows = system(
+        alloc,
+        region,
+        state,
+        fact,
+        later,
+        named,
+        action,
+        &names.terms,
+        &names.starts,
+    )?;
+    prove_closed(alloc, ledger, state, named, action, &names.terms, &rows)
+}
+
+// Claims that the candidates hold after each action.
+pub(crate) fn prove_stable(
+    alloc: Global,
+    ledger: &mut Ledger,
+    region: &RegionType,
+    state: &State,
+    fact: &Fact,
+    later: &Term,
+    named: &[Row],
+) -> Result<(), RuleError>
+    requires room { length state.now.sorts ≤ longest_list }
+    requires later { later.now ≡ later_of state.now }
+    ensures { Claims (giving result tt) ledger.old ledger.new (proved_stable
+        (region_view region.now) state.now fact.now named.now (region_view region.now).actions) }
+{
+    for action in &region.actions {
+        prove_stable_for(alloc, ledger, region, state, fact, later, named, action)?;
+    }
+    Ok(())
+}
+
+// Claims that the state is the same after an action from a system.
+#[tactic(auto, using(cap_steps::proofs::Walking::claiming))]
+fn prove_same(
+    alloc: Global,
+    ledger: &mut Ledger,
+    fact: &Fact,
+    action: &Action,
+    names: &[Term],
+    rows: &Option<Vec<Row>>,
+) -> Result<(), RuleError>
+    ensures { Claims (giving result tt) ledger.old ledger.new
+        (proved_same fact.now (action_view action.now) names.now (rows_seen rows.now)) }
+{
+    match rows {
+        None => Ok(()),
+        Some(rows) => {
+            let target = value_over(alloc, names, &action.target)?;
+            prove_that(alloc, ledger, rows, &target, Op::Eq, &fact.state, Sort::Int)
+        }
+    }
+}
+
+// Claims that the state is the same after an action.
+fn prove_kept_for(
+    alloc: Global,
+    ledger: &mut Ledger,
+    region: &RegionType,
+    state: &State,
+    fact: &Fact,
+    later: &Term,
+    same: &Row,
+    known: &[Row],
+    action: &Action,
+) -> Result<(), RuleError>
+    requires room { length state.now.sorts ≤ longest_list }
+    requires later { later.now ≡ later_of state.now }
+    requires known { known.now ≡ same.now ∷ [] }
+    ensures { Claims (giving result tt) ledger.old ledger.new (kept_for (region_view region.now)
+        state.now fact.now same.now (action_view action.now)) }
+{
+    let names = action_names(alloc, region, state, fact, action)?;
+    let rows = system(
+        alloc,
+        region,
+        state,
+        fact,
+        later,
+        known,
+        action,
+        &names.terms,
+        &names.starts,
+    )?;
+    prove_same(alloc, ledger, fact, action, &names.terms, &rows)
+}
+
+// Claims that the state is the same after each action; what is known of the later state is that it
+// is the same.
+pub(crate) fn prove_kept(
+    alloc: Global,
+    ledger: &mut Ledger,
+    region: &RegionType,
+    state: &State,
+    fact: &Fact,
+    later: &Term,
+    same: &Row,
+    known: &[Row],
+) -> Result<(), RuleError>
+    requires room { length state.now.sorts ≤ longest_list }
+    requires later { later.now ≡ later_of state.now }
+    requires known { known.now ≡ same.now ∷ [] }
+    ensures { Claims (giving result tt) ledger.old ledger.new (proved_kept
+        (region_view region.now) state.now fact.now same.now (region_view region.now).actions) }
+{
+    for action in &region.actions {
+        prove_kept_for(
+            alloc, ledger, region, state, fact, later, same, known, action,
+        )?;
+    }
+    Ok(())
+}

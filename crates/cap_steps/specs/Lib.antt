@@ -1,0 +1,5 @@
+pub mod Errors
+pub mod Goals
+pub mod Judging
+pub mod Places
+pub mod Walks

@@ -1,0 +1,3 @@
+mod Remains
+mod Matches
+mod Slotting

@@ -1,0 +1,41 @@
+use Rattle.std.proofs.Common.{refl, ap, ◌∙◌}
+use Rattle.std.proofs.lemmas.Result.{err_from_is_err_and}
+use Rattle.cap_logic.specs.States.{goals_of}
+use Rattle.cap_take.specs.Views.{remaining_view, tasks_ahead}
+use Rattle.cap_steps.proofs.Walking.{made_claims, unmade_claims, claims_then, claims_fail, claims_value, claims_no_value, no_memory_claims, weaker, done_as}
+use Rattle.cap_take.proofs.cells.cell.Goals as goal
+
+pub returns-in_err-there : goal.returns-in_err-there
+returns-in_err-there c =
+    let p = err_from_is_err_and c.from_residual.result c.from_residual.ensures.1 in
+    rw (p.1, p.2) (unmade_claims _ _ _ _ c.in_err-there.ensures)
+
+pub returns-in_err-value : goal.returns-in_err-value
+returns-in_err-value c =
+    let p = err_from_is_err_and c.from_residual-in_err-value.result c.from_residual-in_err-value.ensures.1 in
+    rw (p.1, p.2) (made_claims _ _ _ _ _ _ c.in_ok-there.ensures (unmade_claims _ _ _ _ c.in_err-value.ensures))
+
+pub returns-in_err-prove_equal : goal.returns-in_err-prove_equal
+returns-in_err-prove_equal c =
+    let p = err_from_is_err_and c.from_residual-in_err-prove_equal.result c.from_residual-in_err-prove_equal.ensures.1 in
+    rw (p.1, p.2) (made_claims _ _ _ _ _ _ c.in_ok-there.ensures (made_claims _ _ _ _ _ _ c.in_ok-value.ensures (claims_no_value _ _ _ _ _ _ refl c.in_err-prove_equal.ensures)))
+
+pub returns-in_err-names : goal.returns-in_err-names
+returns-in_err-names c =
+    let p = err_from_is_err_and c.from_residual-in_err-names.result c.from_residual-in_err-names.ensures.1 in
+    rw (p.1, p.2) (made_claims _ _ _ _ _ _ c.in_ok-there.ensures (made_claims _ _ _ _ _ _ c.in_ok-value.ensures (claims_value _ _ _ _ _ _ _ c.in_ok-prove_equal.ensures (claims_fail _ _ _ _ _ c.in_err-names.ensures))))
+
+pub returns-in_err-next : goal.returns-in_err-next
+returns-in_err-next c =
+    let p = err_from_is_err_and c.from_residual-in_err-next.result c.from_residual-in_err-next.ensures.1 in
+    rw (p.1, p.2) (no_memory_claims _ _ _)
+
+pub returns-in_err-goes : goal.returns-in_err-goes
+returns-in_err-goes c =
+    let p = err_from_is_err_and c.from_residual-in_err-goes.result c.from_residual-in_err-goes.ensures.1 in
+    rw (p.1, p.2) (no_memory_claims _ _ _)
+
+pub returns : goal.returns
+returns c =
+    let e = c.in_ok-goes.ensures ∙ ap (λ s. goals_of s (tasks_ahead (remaining_view c.args.rest.now))) c.in_ok-next.ensures in
+    made_claims _ _ _ _ _ _ c.in_ok-there.ensures (made_claims _ _ _ _ _ _ c.in_ok-value.ensures (claims_value _ _ _ _ _ _ _ c.in_ok-prove_equal.ensures (claims_then _ _ _ _ _ _ _ c.in_ok-names.ensures (weaker _ _ _ (done_as _ _ e)))))

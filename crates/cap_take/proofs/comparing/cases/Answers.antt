@@ -1,0 +1,30 @@
+use Rattle.std.proofs.lemmas.Result.{err_from_is_err_and}
+use Rattle.cap_steps.proofs.Walking.{then_made, unmade, done_as}
+use Rattle.cap_take.proofs.comparing.cases.Goals as goal
+
+pub returns-in_err-row : goal.returns-in_err-row
+returns-in_err-row c =
+    let p = err_from_is_err_and c.from_residual.result c.from_residual.ensures.1 in
+    rw (p.1, p.2) (unmade _ _ _ c.in_err-row.ensures)
+
+pub returns-in_err-first : goal.returns-in_err-first
+returns-in_err-first c =
+    let p = err_from_is_err_and c.from_residual-in_err-first.result c.from_residual-in_err-first.ensures.1 in
+    rw (p.1, p.2) (then_made _ _ _ _ c.in_ok-row.ensures (unmade _ _ _ c.in_err-first.ensures))
+
+pub returns-in_err-row-2 : goal.returns-in_err-row-2
+returns-in_err-row-2 c =
+    let p = err_from_is_err_and c.from_residual-in_err-row-2.result c.from_residual-in_err-row-2.ensures.1 in
+    let h = rw c.opposite.ensures at c.in_err-row-2.ensures in
+    rw (p.1, p.2) (then_made _ _ _ _ c.in_ok-row.ensures (then_made _ _ _ _ c.in_ok-first.ensures (unmade _ _ _ h)))
+
+pub returns-in_err-second : goal.returns-in_err-second
+returns-in_err-second c =
+    let p = err_from_is_err_and c.from_residual-in_err-second.result c.from_residual-in_err-second.ensures.1 in
+    let h = rw c.opposite.ensures at c.in_ok-row-2.ensures in
+    rw (p.1, p.2) (then_made _ _ _ _ c.in_ok-row.ensures (then_made _ _ _ _ c.in_ok-first.ensures (then_made _ _ _ _ h (unmade _ _ _ c.in_err-second.ensures))))
+
+pub returns : goal.returns
+returns c =
+    let h = rw c.opposite.ensures at c.in_ok-row-2.ensures in
+    then_made _ _ _ _ c.in_ok-row.ensures (then_made _ _ _ _ c.in_ok-first.ensures (then_made _ _ _ _ h (then_made _ _ _ _ c.in_ok-second.ensures (done_as _ _ c.in_ok-sides.ensures))))
