@@ -1,0 +1,10 @@
+pub mod Lists
+pub mod Terms
+pub mod Safe
+pub mod Makings
+pub mod Givings
+pub mod Takings
+pub mod Closings
+pub mod Restings
+pub mod Rules
+pub mod Roots

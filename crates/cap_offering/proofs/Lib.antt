@@ -1,0 +1,5 @@
+pub mod Quiet
+pub mod Trying
+pub mod Same
+pub mod Acting
+pub mod Applying
