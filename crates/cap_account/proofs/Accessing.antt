@@ -1,0 +1,232 @@
+-- Heap statements, where no region is open.
+use Rattle.std.proofs.Common.{◌≡◌, ℕ, zero, suc, ◌+◌, ◌<◌, ◌≤◌, ℤ, List, [], ◌∷◌, length, map, arith, sym, ap, ◌∙◌, subst, Some, Bool}
+use Rattle.std.specs.Prelude.{slice_get, slice_set, nat_lt, is_some, flat_map}
+use Rattle.std.specs.List.{AllByRecursion}
+use Rattle.std.specs.FinMap.{get}
+use Rattle.std.proofs.lemmas.Bool.Decides.{nat_tests}
+use Rattle.cap_lin.specs.Linear.{Linear}
+use Rattle.cap_lin.specs.Values.{Valuation, value}
+use Rattle.cap_lin.specs.Rows.{row_of}
+use Rattle.cap_lin.specs.Solves.{Proves}
+use Rattle.cap_lin.specs.declared.row.Sort.TheVariants.{Int}
+use Rattle.cap_lin.specs.declared.row.Op.TheVariants.{Eq as Equal}
+use Rattle.cap_lin.proofs.Rows.{row_of-means}
+use Rattle.cap_prog.specs.Program.{Label, PlainAct, set, read, write, cas, alloc, call, fork, branch, loop, check, give_back, Block, first, PlainFunction}
+use Rattle.cap_logic.specs.States.{PlainState, Home, PlainTask, to_rest, goals_of}
+use Rattle.cap_logic.specs.Choices.{node, by_absurd, by_clash, by_enter, by_act, PlainTree, PlainTrees}
+use Rattle.cap_rules.specs.Attempts.{Attempt, ◌>>=◌, unit}
+use Rattle.cap_rules.specs.Making.{prove_equal}
+use Rattle.cap_rules.specs.Closing.{address_of, Rival, rivals, rivals_from, with_marks, acted, closing}
+use Rattle.cap_rules.specs.Rules.{at_act, at_clash, at_enter}
+use Rattle.cap_run.specs.Machine.{Heap, Frame}
+use Rattle.cap_meaning.specs.Assertions.{NameValue}
+use Rattle.cap_account.specs.Nodes.{Comes, Children}
+use Rattle.cap_account.specs.Parts.{one_cell, cells_of, Hold}
+use Rattle.cap_account.proofs.Lists.{some-same, none-some, all-at}
+use Rattle.cap_account.proofs.Terms.{Over, row-over}
+use Rattle.cap_account.proofs.Attempts.{comes-bind, comes-more, after-found, after-need, after-here, after-proved}
+use Rattle.cap_account.proofs.Meets.{Usable, CellOver, Meets, need, solves, proved-holds}
+use Rattle.cap_account.proofs.Checked.{Checked}
+use Rattle.cap_account.proofs.Standing.{Node, running, here, here-over}
+use Rattle.cap_account.proofs.Heaps.{one-itself, count-at-most, there-in}
+
+abbrev Cell : Type 0
+Cell = Linear × Linear
+
+-- ---- cells of a list
+
+pub all-set :
+    {X : Type 0} (P : X → Type 0) (xs : List X) (i : ℕ) (y : X) → AllByRecursion P xs → P y →
+    AllByRecursion P (slice_set xs i y)
+all-set P [] i y h k = tt
+all-set P (z ∷ xs) zero y h k = (k, h.1)
+all-set P (z ∷ xs) (suc i) y h k = (h.0, all-set P xs i y h.1 k)
+
+abbrev pub cell_here : Valuation → Cell → ℤ → ℤ → ℕ
+cell_here v c a z = one_cell (value v.whole c.0) (value v.whole c.1) a z
+
+pub need-one :
+    (v : Valuation) (cs : List Cell) (j : ℕ) (c : Cell) (a z : ℤ) → slice_get cs j ≡ Some c →
+    cell_here v c a z ≤ need v cs a z
+need-one v [] j c a z e = absurd (none-some e)
+need-one v (x ∷ cs) zero c a z e =
+    let r = ap (λ y. cell_here v y a z) (some-same x c e) in omega (arith, r)
+need-one v (x ∷ cs) (suc j) c a z e = let q = need-one v cs j c a z e in omega (arith, q)
+
+-- two cells of a list are both needed
+need-two :
+    (v : Valuation) (cs : List Cell) (i j : ℕ) (c d : Cell) (a z : ℤ) → i < j →
+    slice_get cs i ≡ Some c → slice_get cs j ≡ Some d →
+    cell_here v c a z + cell_here v d a z ≤ need v cs a z
+need-two v [] i j c d a z l e k = absurd (none-some e)
+need-two v (x ∷ cs) zero zero c d a z l e k = absurd (omega (arith, l))
+need-two v (x ∷ cs) zero (suc j) c d a z l e k =
+    let q = need-one v cs j d a z k in
+    let r = ap (λ y. cell_here v y a z) (some-same x c e) in
+    omega (arith, q, r)
+need-two v (x ∷ cs) (suc i) zero c d a z l e k = absurd (omega (arith, l))
+need-two v (x ∷ cs) (suc i) (suc j) c d a z l e k =
+    let q = need-two v cs i j c d a z (omega (arith, l)) e k in
+    omega (arith, q)
+
+pub need-set :
+    (v : Valuation) (cs : List Cell) (j : ℕ) (c d : Cell) (a z : ℤ) → slice_get cs j ≡ Some c →
+    need v (slice_set cs j d) a z + cell_here v c a z ≡ need v cs a z + cell_here v d a z
+need-set v [] j c d a z e = absurd (none-some e)
+need-set v (x ∷ cs) zero c d a z e =
+    let r = ap (λ y. cell_here v y a z) (some-same x c e) in
+    omega (arith, r)
+need-set v (x ∷ cs) (suc j) c d a z e =
+    let q = need-set v cs j c d a z e in
+    omega (arith, q)
+
+-- ---- the cell at the statement's address, and the states after it
+
+pub record Access (p : Checked) (v : Valuation) (s : PlainState) (h : Home) (n : ℕ) (a : PlainAct)
+    (x : Linear) (b : Block) : Type 0 where
+  pub j : ℕ
+  pub c : Cell
+  pub is : slice_get s.cells j ≡ Some c
+  pub same : value v.whole c.0 ≡ value v.whole (here s x)
+  pub kids : PlainTrees
+  pub goals :
+      Comes (acted s j c a)
+      (λ states. Children p.N kids (flat_map (λ t. goals_of t (to_rest 0 n ∷ running b h)) states))
+
+-- what is proved equal has one value
+equal-here :
+    (v : Valuation) (s : PlainState) (l r : Linear) → Meets [] v s →
+    Proves s.rows (row_of l Equal r Int) → Over (Usable [] s.sorts Int) l →
+    Over (Usable [] s.sorts Int) r → value v.whole l ≡ value v.whole r
+equal-here v s l r m pr ol or' =
+    (row_of-means v l Equal r Int).0
+    (proved-holds [] [] v s (row_of l Equal r Int) m pr
+    (row-over (Usable [] s.sorts) l Equal r Int ol or'))
+
+no-rivals : (s : PlainState) → s.opened ≡ [] → rivals s ≡ []
+no-rivals s e = ap (λ os. flat_map (λ o. rivals_from o 0 s.facts) os) e
+
+module _ (p : Checked) (part : Hold) (fn : PlainFunction) (fixed : List NameValue) where
+  -- without regions there is nothing to mark
+  unmarked :
+      {B : Type 0} (s : PlainState) (rs : List Rival) (ms : List Bool) (f : PlainState → Attempt B)
+      (P : B → Type 0) → rs ≡ [] → Comes (with_marks s rs ms >>= f) P → Comes (f s) P
+  unmarked s [] [] f P e h = h
+  unmarked s [] (m ∷ ms) f P e h = absurd h.1
+  unmarked s (r ∷ rs) ms f P e h = absurd (cons-nil e)
+    where
+      cons-nil : r ∷ rs ≡ [] → ⊥
+      cons-nil e = cc
+
+  act-case :
+      (s : PlainState) (v : Valuation) (h : Home) (l : Label) (a : PlainAct) (x : Linear)
+      (b : Block)
+      (j : ℕ) (ms : List Bool) (ks : PlainTrees) → address_of a ≡ Some x → s.opened ≡ [] →
+      Meets [] v s → Comes (at_act s j ms l a (running b h)) (Children p.N ks) →
+      Access p v s h l.number a x b
+  act-case s v h l a x b j ms ks ea o m hd =
+      let N = Children p.N ks in
+      let q = after-found (address_of a) _ N hd in
+      let r = after-found (slice_get s.cells j) _ N q.2 in
+      let c = r.0 in
+      let ends = λ (states : List PlainState). unit
+      (flat_map (λ t. goals_of t (closing s.opened l.number (running b h))) states) in
+      let acts = λ (s' : PlainState). acted s' j c a >>= ends in
+      let marks = λ (_ : Unit {0}). with_marks s (rivals s) ms >>= acts in
+      let u = after-here s q.0 (λ t. prove_equal s c.0 t >>= marks) N r.2 in
+      let w = after-proved s.rows c.0 Equal (here s q.0) Int marks N u in
+      let y = unmarked s (rivals s) ms acts N (no-rivals s o) w.1 in
+      let z = comes-bind (acted s j c a) ends N y in
+      let co = all-at (CellOver (Usable [] s.sorts)) s.cells j c m.cells_over r.1 in
+      let e : q.0 ≡ x = some-same q.0 x (sym q.1 ∙ ea) in
+      record {
+        j = j;
+        c = c;
+        is = r.1;
+        same =
+            equal-here v s c.0 (here s q.0) m w.0 co.0 (here-over [] v s q.0 m) ∙ ap
+            (λ t. value v.whole (here s t)) e;
+        kids = ks;
+        goals = comes-more (acted s j c a) (λ states. Comes (ends states) N)
+            (λ states. Children p.N ks
+            (flat_map (λ t. goals_of t (to_rest 0 l.number ∷ running b h)) states))
+            (λ states k. subst
+            (λ os. Children p.N ks
+            (flat_map (λ t. goals_of t (closing os l.number (running b h))) states)) o k.1)
+            z;
+      }
+
+  -- two cells at one address are not both in a heap
+  clash-case :
+      (heap : Heap) (s : PlainState) (v : Valuation) (i j : ℕ) (a : PlainAct) (ks : PlainTrees) →
+      ((y z : ℤ) → need v s.cells y z ≤ cells_of heap y z) → Meets [] v s →
+      Comes (at_clash s i j a) (Children p.N ks) → ⊥
+  clash-case heap s v i j a ks le m hd =
+      let N = Children p.N ks in
+      let o = after-found (address_of a) _ N hd in
+      let t = after-need (nat_lt i j) _ N o.2 in
+      let q = after-found (slice_get s.cells i) _ N t.1 in
+      let r = after-found (slice_get s.cells j) _ N q.2 in
+      let c = q.0 in
+      let d = r.0 in
+      let w = after-proved s.rows c.0 Equal d.0 Int (λ _. unit []) N r.2 in
+      let test = t.0 in
+      let l : i < j = grind (arith, nat_tests) in
+      let co = all-at (CellOver (Usable [] s.sorts)) s.cells i c m.cells_over q.1 in
+      let do' = all-at (CellOver (Usable [] s.sorts)) s.cells j d m.cells_over r.1 in
+      let eq = equal-here v s c.0 d.0 m w.0 co.0 do'.0 in
+      let x = value v.whole d.0 in
+      let y = value v.whole d.1 in
+      let h1 = there-in heap (value v.whole c.0) (value v.whole c.1)
+      (λ y z. let u = need-one v s.cells i c y z q.1 in let k = le y z in omega
+      (arith, u, k)) in
+      let h2 = there-in heap x y
+      (λ y z. let u = need-one v s.cells j d y z r.1 in let k = le y z in omega
+      (arith, u, k)) in
+      let same : value v.whole c.1 ≡ y =
+      some-same (value v.whole c.1) y (sym h1 ∙ (ap (get heap) eq ∙ h2)) in
+      let two = need-two v s.cells i j c d x y l q.1 r.1 in
+      let k = le x y in
+      let one1 = one-itself x y in
+      let one2 : cell_here v c x y ≡ 1 =
+      ap (λ a. one_cell a (value v.whole c.1) x y) eq
+      ∙ (ap (λ z. one_cell x z x y) same ∙ one1) in
+      let most = count-at-most (get heap x) y in
+      omega (arith, two, k, one1, one2, most)
+
+  enter-case :
+      (s : PlainState) (i : ℕ) (l : Label) (a : PlainAct) (ts : List PlainTask) (ks : PlainTrees) →
+      s.facts ≡ [] → Comes (at_enter p.program s i l a ts) (Children p.N ks) → ⊥
+  enter-case s i l a ts ks e hd =
+      let N = Children p.N ks in
+      let o = after-found (address_of a) _ N hd in
+      let t = after-need (nat_lt (length s.opened) 2) _ N o.2 in
+      let q = after-found (slice_get s.facts i) _ N t.1 in
+      none-some (ap (λ fs. slice_get fs i) (sym e) ∙ q.1)
+
+  pub access :
+      (heap : Heap) → ((y z : ℤ) → part.cells y z ≤ cells_of heap y z) → (a : PlainAct)
+      (x : Linear) → address_of a ≡ Some x → (l : Label) (b : Block) (f : Frame) (d : PlainTree) →
+      (n : Node p part fn fixed f (running (first l a b)) d) →
+      Access p n.v n.state n.home l.number a x b
+  access heap le a x ea l b f (node (by_absurd u) ks) n =
+      absurd ((p.step n.valid).0.0 n.v (solves [] n.v n.state n.meets))
+  access heap le a x ea l b f (node (by_clash i j cs) ks) n =
+      absurd (clash-case heap n.state n.v i j a ks
+      (λ y z. let i = n.have y z in let j = le y z in omega (arith, i, j)) n.meets (p.step n.valid))
+  access heap le a x ea l b f (node (by_enter i cs) ks) n =
+      absurd (enter-case n.state i l a (running (first l a b) n.home) ks n.meets.no_facts
+      (p.step n.valid))
+  access heap le a x ea l b f (node (by_act j cs ms) ks) n =
+      act-case n.state n.v n.home l a x b j (map is_some ms) ks ea n.opened n.meets (p.step n.valid)
+  access heap le (read y u) x ea l b f d n = absurd (p.step n.valid).1
+  access heap le (write y u) x ea l b f d n = absurd (p.step n.valid).1
+  access heap le (cas y u e g) x ea l b f d n = absurd (p.step n.valid).1
+  access heap le (set y u) x ea l b f d n = absurd (none-some ea)
+  access heap le (alloc y m) x ea l b f d n = absurd (none-some ea)
+  access heap le (call y m us) x ea l b f d n = absurd (none-some ea)
+  access heap le (fork m us) x ea l b f d n = absurd (none-some ea)
+  access heap le (branch c y z) x ea l b f d n = absurd (none-some ea)
+  access heap le (loop c i y) x ea l b f d n = absurd (none-some ea)
+  access heap le (check c) x ea l b f d n = absurd (none-some ea)
+  access heap le (give_back u) x ea l b f d n = absurd (none-some ea)

@@ -1,0 +1,85 @@
+-- The trees of a bundle, by the roots of a function.
+use Rattle.std.proofs.Common.{◌≡◌, ℕ, zero, suc, ◌+◌, ◌<◌, List, [], ◌∷◌, length, map, arith, refl, sym, ap, subst, Option, Some, None, inl, inr}
+use Rattle.std.specs.Prelude.{slice_get, flat_map, option_to_list}
+use Rattle.std.specs.List.{AllZip, range_with_len}
+use Rattle.cap_prog.specs.Program.{done, PlainFunction, PlainProgram}
+use Rattle.cap_prog.specs.WellFormed.{IsWellFormed}
+use Rattle.cap_logic.specs.States.{PlainGoal, to_run, to_turn}
+use Rattle.cap_logic.specs.Choices.{PlainTree, PlainTrees, no_trees, tree}
+use Rattle.cap_logic.specs.Roots.{region_unit, function_unit, loops_in, loop_roots, function_roots, optional_roots, roots, units, all_roots, at_entry, at_loop, home_of, from_given}
+use Rattle.cap_rules.specs.Valid.{RootDerives, Valid}
+use Rattle.cap_account.specs.Nodes.{Children, Deriving}
+use Rattle.cap_account.proofs.Lists.{within}
+use Rattle.cap_account.proofs.Checked.{derivations}
+use Rattle.cap_account.proofs.Points.{Among, among-left, among-right}
+use Rattle.cap_account.proofs.Entering.{AllChecked}
+
+zip-at :
+    {X Y : Type 0} (R : X → Y → Type 0) (xs : List X) (ys : List Y) (y : Y) → AllZip R xs ys →
+    Among y ys → (x : X) × R x y
+zip-at R [] [] y h k = absurd k
+zip-at R [] (z ∷ ys) y h k = absurd h
+zip-at R (x ∷ xs) [] y h k = absurd h
+zip-at R (x ∷ xs) (z ∷ ys) y h (inl e) = (x, subst (R x) e h.0)
+zip-at R (x ∷ xs) (z ∷ ys) y h (inr m) = zip-at R xs ys y h.1 m
+
+among-flat :
+    {X Y : Type 0} (f : X → List Y) (xs : List X) (x : X) (y : Y) → Among x xs → Among y (f x) →
+    Among y (flat_map f xs)
+among-flat f [] x y h k = absurd h
+among-flat f (z ∷ xs) x y (inl e) k =
+    among-left y (f z) (flat_map f xs) (subst (λ w. Among y (f w)) (sym e) k)
+among-flat f (z ∷ xs) x y (inr m) k = among-right y (f z) (flat_map f xs) (among-flat f xs x y m k)
+
+among-function :
+    (a n k : ℕ) → k < n → Among (function_unit (a + k)) (map function_unit (range_with_len a n))
+among-function a zero k l = absurd (omega (arith, l))
+among-function a (suc n) zero l = let q : a ≡ a + 0 = omega arith in inl (ap function_unit q)
+among-function a (suc n) (suc k) l =
+    let q : a + 1 + k ≡ a + suc k = omega arith in
+    inr (subst (λ m. Among (function_unit m) (map function_unit (range_with_len (a + 1) n))) q
+    (among-function (a + 1) n k (omega (arith, l))))
+
+root-trees :
+    (p : PlainProgram) (t : Option PlainTree) (g : Option PlainGoal) → RootDerives p t g →
+    (ks : PlainTrees) × Children (Deriving p) ks (option_to_list g)
+root-trees p None None h = (no_trees, tt)
+root-trees p None (Some g) h = absurd h
+root-trees p (Some t) None h = absurd h
+root-trees p (Some t) (Some g) h = (tree t no_trees, ((1, h), tt))
+
+pub function-root :
+    (p : PlainProgram) (trees : List (Option PlainTree)) → Valid p trees → (n : ℕ)
+    (f : PlainFunction) → slice_get p.functions n ≡ Some f → (g : Option PlainGoal) →
+    Among g (function_roots f n) → (ks : PlainTrees) × Children (Deriving p) ks (option_to_list g)
+function-root p trees valid n f e g k =
+    let q : 0 + n ≡ n = omega arith in
+    let among = among-function 0 (length p.functions) n (within p.functions n f e) in
+    let u : Among (function_unit n) (units p) = among-right (function_unit n)
+    (map region_unit (range_with_len 0 (length p.regions)))
+    (map function_unit (range_with_len 0 (length p.functions)))
+    (subst (λ m. Among (function_unit m)
+    (map function_unit (range_with_len 0 (length p.functions)))) q among) in
+    let r : Among g (roots p (function_unit n)) = subst (λ o. Among g (optional_roots o n))
+    (sym e) k in
+    let z = zip-at (RootDerives p) trees (all_roots p) g valid.derivations
+    (among-flat (roots p) (units p) (function_unit n) g u r) in
+    root-trees p z.0 g z.1
+
+pub all-checked :
+    (p : PlainProgram) (trees : List (Option PlainTree)) → IsWellFormed p → p.regions ≡ [] →
+    Valid p trees → AllChecked (derivations p)
+all-checked p trees program bare valid = record {
+  program = program;
+  bare = bare;
+  bodies =
+      λ n f e. function-root p trees valid n f e
+      (from_given at_entry f n 0 f.requires (to_run (home_of at_entry f n) f.body))
+      (inr (inr (inl refl)));
+  loops = λ n f e w k.
+      let g = from_given at_loop f n (length w.invariant.names) w.invariant.items
+      (to_turn (home_of at_loop f n) w.block) in
+      function-root p trees valid n f e g
+      (inr (inr
+      (inr (among-flat (loop_roots f n) (loops_in f.body done) w g k (inr (inl refl))))));
+}

@@ -1,0 +1,280 @@
+-- A function's body and a loop, from what they are given.
+use Rattle.std.proofs.Common.{◌≡◌, ℕ, zero, suc, ◌+◌, ◌<◌, ◌≤◌, ℤ, pos, List, [], ◌∷◌, ◌++◌, length, map, take, replicate, arith, refl, sym, ap, ◌∙◌, Option, Some, None, Bool, true, false}
+use Rattle.std.specs.Prelude.{slice_get, unwrap_or, option_to_list, if◌then◌else◌}
+use Rattle.cap_lin.specs.Linear.{Linear, variable}
+use Rattle.cap_lin.specs.Values.{Valuation, value}
+use Rattle.cap_lin.specs.declared.row.Sort.{Sort}
+use Rattle.cap_lin.specs.declared.row.Sort.TheVariants.{Int}
+use Rattle.cap_prog.specs.declared.assertion.Comp.{Comp}
+use Rattle.cap_prog.specs.Program.{PlainAssertion, Label, loop, Block, done, first, append, PlainFunction}
+use Rattle.cap_prog.specs.Scopes.{requires_scope, invariant_scope}
+use Rattle.cap_prog.specs.WellFormed.{IsWellFormed}
+use Rattle.cap_run.specs.Machine.{Frame, holds, with_rest, new_frame}
+use Rattle.cap_meaning.specs.Assertions.{NameValue, ValuesFit}
+use Rattle.cap_logic.specs.Terms.{variables_from}
+use Rattle.cap_logic.specs.States.{to_run, to_turn}
+use Rattle.cap_logic.specs.Environments.{zero_value, bound, unbound}
+use Rattle.cap_logic.specs.Choices.{PlainTrees}
+use Rattle.cap_logic.specs.Roots.{LoopPoint, loops_in, at_entry, at_loop, home_of, root_state, root_env, from_given}
+use Rattle.cap_account.specs.Nodes.{Children}
+use Rattle.cap_account.specs.Parts.{Hold, Table}
+use Rattle.cap_account.specs.Meeting.{HasRequires, HasInvariant}
+use Rattle.cap_account.proofs.Lists.{some-same, none-some, within, map-length, get-first, map-join, all-both}
+use Rattle.cap_account.proofs.Terms.{Over}
+use Rattle.cap_account.proofs.Meets.{Usable}
+use Rattle.cap_account.proofs.Checked.{Checked, one-child}
+use Rattle.cap_account.proofs.Items.{items_size}
+use Rattle.cap_account.proofs.Giving.{given}
+use Rattle.cap_account.proofs.Points.{Among, Point, FrameOk, loop_point, point-next, point-again, point-loop, point-act}
+use Rattle.cap_account.proofs.Standing.{Store, Sits, Stands, store-same, turn-sits}
+use Rattle.cap_account.proofs.Values.{like-same, normal, spends-like}
+use Rattle.cap_account.proofs.Scopes.{requires-early, early-position, invariant-at, param-requires, fixed-requires, store-invariant, fixed-invariant, variables-length, variables-at, unbound-none, rep-length, rep-in, length-join}
+use Rattle.cap_account.proofs.Roots.{values-length, function-fits, flat-bound, renamed, sorts_of, Root, fixed-usable, root-ready, root-fixed, root-whole, variables-values, map-zero, variables-join, variables-over, zeros-over, no-sort, no-term}
+
+-- all roots that bodies and loops need
+pub record AllChecked (p : Checked) : Type 0 where
+  pub program : IsWellFormed p.program
+  pub bare : p.program.regions ≡ []
+  pub bodies :
+      (n : ℕ) (f : PlainFunction) → slice_get p.program.functions n ≡ Some f →
+      (ks : PlainTrees) × Children p.N ks
+      (option_to_list
+      (from_given at_entry f n 0 f.requires (to_run (home_of at_entry f n) f.body)))
+  pub loops :
+      (n : ℕ) (f : PlainFunction) → slice_get p.program.functions n ≡ Some f →
+      (w : LoopPoint) → Among w (loops_in f.body done) →
+      (ks : PlainTrees) × Children p.N ks
+      (option_to_list
+      (from_given at_loop f n (length w.invariant.names) w.invariant.items
+      (to_turn (home_of at_loop f n) w.block)))
+
+take-all : {X : Type 0} (xs ys : List X) (n : ℕ) → length xs ≡ n → take n (xs ++ ys) ≡ xs
+take-all [] [] zero e = refl
+take-all [] (y ∷ ys) zero e = refl
+take-all [] ys (suc n) e = absurd (omega (arith, e))
+take-all (x ∷ xs) ys zero e = absurd (omega (arith, e))
+take-all (x ∷ xs) ys (suc n) e = ap (λ zs. x ∷ zs) (take-all xs ys n (omega (arith, e)))
+
+-- the root at which a function's `requires` is given
+abbrev pub entry_root : PlainFunction → ℕ → Valuation → Root
+entry_root f n a = record {
+  f = f;
+  n = n;
+  l = 0;
+  gap = f.locals;
+  hgap = omega arith;
+  new = [];
+  sc = requires_scope f;
+  at_position = λ x o i. early-position f [] x o (requires-early f x o i);
+  low_in = λ x q. param-requires f x (omega (arith, q));
+  fixed_in = fixed-requires f;
+  ls = unbound f.locals;
+  hls = rep-length f.locals None;
+  locals_are = λ i t q. absurd (none-some (sym (unbound-none f.locals i) ∙ q));
+  rs = [];
+  rs_in = λ j e. absurd (no-sort j e);
+  r = None;
+  r_is = λ t e. absurd (no-term t e);
+  a = a;
+}
+
+local-variable :
+    (f : PlainFunction) (i : ℕ) (t : Linear) →
+    unwrap_or (slice_get (bound (variables_from f.params f.locals)) i) None ≡ Some t →
+    (i < f.locals) × (variable (f.params + i) ≡ t)
+local-variable f i t q =
+    let r = sym (flat-bound (variables_from f.params f.locals) i) ∙ q in
+    let u = within (variables_from f.params f.locals) i t r in
+    let w = variables-length f.params f.locals in
+    let i_in : i < f.locals = omega (arith, u, w) in
+    (i_in, some-same (variable (f.params + i)) t (sym (variables-at f.params f.locals i i_in) ∙ r))
+
+-- the root at which an invariant is given
+abbrev loop_root : PlainFunction → ℕ → List Sort → Valuation → Root
+loop_root f n new a = record {
+  f = f;
+  n = n;
+  l = f.locals;
+  gap = 0;
+  hgap = omega arith;
+  new = new;
+  sc = invariant_scope f new;
+  at_position = invariant-at f new;
+  low_in = store-invariant f new;
+  fixed_in = fixed-invariant f new;
+  ls = bound (variables_from f.params f.locals);
+  hls = map-length Some (variables_from f.params f.locals) ∙ variables-length f.params f.locals;
+  locals_are = local-variable f;
+  rs = [];
+  rs_in = λ j e. absurd (no-sort j e);
+  r = None;
+  r_is = λ t e. absurd (no-term t e);
+  a = a;
+}
+
+pub low-variable :
+    (f : PlainFunction) (l i : ℕ) → i < f.params + l → Usable [] (sorts_of f l []) Int i
+low-variable f l i y = (
+  get-first (replicate (f.params + l) Int) (f.fixed ++ []) i Int
+      (rep-in (f.params + l) i Int y),
+  tt,
+)
+
+module _ (p : Checked) (all : AllChecked p) where
+  pub body-stands :
+      (n : ℕ) (f : PlainFunction) → slice_get p.program.functions n ≡ Some f → (T : Table)
+      (part : Hold) (args : List ℤ) (fx : List NameValue) (dest : Option ℕ) →
+      length args ≡ f.params → ValuesFit f.fixed fx → HasRequires T part f args fx →
+      Stands p part T fx (new_frame n f args dest)
+  body-stands n f ef T part args fx dest hargs fit me = record {
+    fn = f;
+    ok = record {
+      is_fn = ef;
+      size =
+          length-join args (replicate f.locals (pos 0)) ∙
+          (let c = rep-length f.locals (pos 0) in omega (arith, c, hargs));
+      args = take-all args (replicate f.locals (pos 0)) f.params hargs;
+      values = fit;
+      point = record {
+        fits = (function-fits p.program all.program n f ef).body.statements;
+        loops = λ w h. h;
+      };
+    };
+    all = λ U rely. sits U;
+  }
+    where
+      sits : (U : Table) → Sits p part U f fx (new_frame n f args dest)
+      sits U =
+          let a = me.values in
+          let fits = (function-fits p.program all.program n f ef).requires.items in
+          let ks = all.bodies n f ef in
+          let h0 = home_of at_entry f n in
+          let s0 = root_state at_entry f n (root_env at_entry f n 0 ∷ []) in
+          let v0 = renamed (f.params + 0) f.locals (normal (requires_scope f) a) in
+          let so = all-both (Over (Usable [] s0.sorts Int)) (variables_from 0 f.params)
+          (replicate f.locals zero_value)
+          (variables-over (Usable [] s0.sorts Int) 0 f.params
+          (λ i x y. low-variable f 0 i (omega (arith, y))))
+          (zeros-over (Usable [] s0.sorts Int) f.locals) in
+          let top : Root = entry_root f n a in
+          let ready = root-ready top s0 refl refl refl refl [] refl so in
+          let sat = spends-like p.program all.bare T U (requires_scope f) a a
+          (like-same (requires_scope f) a) f.requires part me.met.0 fits me.met.1 in
+          let gv = given p all.bare U (requires_scope f) 0 a part 0 (to_run h0 f.body ∷ [])
+          (items_size f.requires) f.requires
+          (omega arith) ks.0 v0 s0 part me.met.0 ks.1 ready fits sat (λ x z. omega arith) in
+          let child = one-child p.N gv.children gv.after (to_run h0 f.body ∷ []) gv.goes in
+          let len : length args ≤ f.params + 0 = omega (arith, hargs) in
+          let store0 : map (value v0.whole) s0.store ≡ args ++ replicate f.locals (pos 0) =
+          map-join (value v0.whole) (variables_from 0 f.params) (replicate f.locals zero_value)
+          ∙ ap (λ zs. zs ++ map (value v0.whole) (replicate f.locals zero_value))
+          (ap (λ k. map (value v0.whole) (variables_from 0 k)) (sym hargs)
+          ∙ variables-values v0 0 args (root-whole top args len me.args_are))
+          ∙ ap (λ zs. args ++ zs) (map-zero v0 f.locals) in
+          let st0 : Store v0 s0 h0 f fx (new_frame n f args dest) = record {
+            home = refl;
+            store = store0;
+            fixed_are = root-fixed top fx fit me.fixed_are;
+            fixed_known = fixed-usable top;
+          } in
+          record {
+            tree = child.0;
+            at_node = record {
+              state = gv.after;
+              v = gv.w;
+              home = h0;
+              valid = child.1;
+              opened = gv.same.opened;
+              meets = gv.meets;
+              have = gv.have;
+              store =
+                  store-same v0 gv.w s0 gv.after h0 f fx
+                  (new_frame n f args dest) ready.meets gv.agree gv.same.sorts gv.same.store
+                  (values-length f.fixed fx fit) st0;
+            };
+          }
+
+  pub loop-stands :
+      (fn : PlainFunction) (T : Table) (part : Hold) (fx : List NameValue) (f : Frame) (l : Label)
+      (c : Comp) (inv : PlainAssertion) (body b : Block) →
+      FrameOk p.program fn fx
+      (record f {
+        rest = first l
+            (loop c inv body) b;
+      }) → HasInvariant T part fn f.store fx inv →
+      Stands p part T fx
+      (with_rest f (if holds f.store c then append body (first l (loop c inv body) b) else b))
+  loop-stands fn T part fx f l c inv body b ok me = record {
+    fn = fn;
+    ok = record {
+      is_fn = ok.is_fn;
+      size = ok.size;
+      args = ok.args;
+      values = ok.values;
+      point = next (holds f.store c);
+    };
+    all = λ U rely. sits U;
+  }
+    where
+      next :
+          (t : Bool) →
+          Point p.program fn (if t then append body (first l (loop c inv body) b) else b)
+      next true = point-again p.program fn l c inv body b ok.point
+      next false = point-next p.program fn l (loop c inv body) b ok.point
+
+      sits :
+          (U : Table) →
+          Sits p part U fn fx
+          (with_rest f
+          (if holds f.store c then append body (first l (loop c inv body) b) else b))
+      sits U =
+          let a = me.values in
+          let n = f.function in
+          let sc = invariant_scope fn inv.names in
+          let act = point-act p.program fn l (loop c inv body) b ok.point in
+          let fits = act.1.items.items in
+          let ks = all.loops n fn ok.is_fn (loop_point l c inv body b)
+          (point-loop p.program fn l c inv body b ok.point) in
+          let s0 = root_state at_loop fn n (root_env at_loop fn n (length inv.names) ∷ []) in
+          let h0 = home_of at_loop fn n in
+          let v0 = renamed (fn.params + fn.locals) 0 (normal sc a) in
+          let so = all-both (Over (Usable [] s0.sorts Int)) (variables_from 0 fn.params)
+          (variables_from fn.params fn.locals)
+          (variables-over (Usable [] s0.sorts Int) 0 fn.params
+          (λ i x y. low-variable fn fn.locals i (omega (arith, y))))
+          (variables-over (Usable [] s0.sorts Int) fn.params fn.locals
+          (λ i x y. low-variable fn fn.locals i y)) in
+          let top : Root = loop_root fn n inv.names a in
+          let ready = root-ready top s0 refl refl refl refl [] refl so in
+          let sat = spends-like p.program all.bare T U sc a a
+          (like-same sc a) inv.items part me.met.0 fits me.met.1 in
+          let tasks = to_turn h0 (first l (loop c inv body) b) ∷ [] in
+          let gv = given p all.bare U sc 0 a part 0 tasks (items_size inv.items) inv.items
+          (omega arith) ks.0 v0 s0 part me.met.0 ks.1 ready fits sat (λ x z. omega arith) in
+          let child = one-child p.N gv.children gv.after tasks gv.goes in
+          let sz = ok.size in
+          let len : length f.store ≤ fn.params + fn.locals = omega (arith, sz) in
+          let store0 : map (value v0.whole) s0.store ≡ f.store =
+          ap (map (value v0.whole))
+          ((let z : fn.params ≡ 0 + fn.params = omega arith in ap
+          (λ k. variables_from 0 fn.params ++ variables_from k fn.locals) z)
+          ∙ variables-join 0 fn.params fn.locals ∙ ap (variables_from 0) (sym sz))
+          ∙ variables-values v0 0 f.store (root-whole top f.store len me.store_is) in
+          let st0 : Store v0 s0 h0 fn fx f = record {
+            home = refl;
+            store = store0;
+            fixed_are = root-fixed top fx ok.values me.fixed_are;
+            fixed_known = fixed-usable top;
+          } in
+          turn-sits p part fn fx f l c inv body b U child.0 act.0 (record {
+            state = gv.after;
+            v = gv.w;
+            home = h0;
+            valid = child.1;
+            opened = gv.same.opened;
+            meets = gv.meets;
+            have = gv.have;
+            store =
+                store-same v0 gv.w s0 gv.after h0 fn fx f ready.meets gv.agree gv.same.sorts
+                gv.same.store (values-length fn.fixed fx ok.values) st0;
+          })
