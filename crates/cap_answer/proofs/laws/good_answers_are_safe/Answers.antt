@@ -1,0 +1,5 @@
+use Rattle.cap_answer.proofs.Good.{good_answer}
+use Rattle.cap_answer.proofs.laws.good_answers_are_safe.Goals as goal
+
+pub returns : goal.returns
+returns c = good_answer c.proved_is_safe.ensures

@@ -1,0 +1,7 @@
+pub mod Task
+pub mod Status
+pub mod Report
+pub mod Output
+pub mod Answers
+pub mod Views
+pub mod Replaying

@@ -1,0 +1,55 @@
+ghost use Rattle.std.specs.Prelude.{◌≡◌, IfOk, MatchResult};
+ghost use Rattle.cap_reading.specs.declared.refusal.Refusal.TheVariants.{OutOfMemory};
+ghost use Rattle.cap_answer.specs.Answers.{IsVerified, IsShown, IsShownAs, IsOnly, IsGood};
+ghost use Rattle.cap_answer.specs.Output.{status_of, refused};
+ghost use Rattle.cap_answer.specs.Views.{output_view, IsCause};
+ghost use Rattle.cap_answer.specs.declared.status.Status.TheVariants.{Good};
+
+use crate::laws::good_answers_are_safe;
+use crate::output::Output;
+use crate::report::report_on;
+use cap_print::print;
+use cap_reading::{Refusal, read_program, read_tree};
+use std::alloc::{AllocError, Global};
+
+/// What is said of a text that is refused, unless for want of memory.
+pub(crate) fn refuse<'a>(cause: Refusal) -> Result<Output<'a>, AllocError>
+    ensures { MatchResult result (λ o. (output_view o ≡ refused cause) × IsCause cause)
+        (λ _. cause ≡ OutOfMemory) }
+{
+    match cause {
+        Refusal::OutOfMemory => Err(AllocError),
+        cause => Ok(Output::Refused(cause)),
+    }
+}
+
+/// What is said of a program's text.
+fn judge_text<'a>(alloc: Global, bytes: &[u8]) -> Result<Output<'a>, AllocError>
+    ensures { IfOk result (λ o. IsOnly (IsVerified bytes.now) (output_view o)) }
+{
+    match read_program(alloc, bytes) {
+        Ok(program) => Ok(Output::Reported(report_on(alloc, &program)?)),
+        Err(refusal) => refuse(refusal),
+    }
+}
+
+/// What `verify` answers to a file of these bytes. The only error is want of memory.
+pub fn verify<'a>(alloc: Global, bytes: &[u8]) -> Result<Output<'a>, AllocError>
+    ensures answers { IfOk result (λ o. IsOnly (IsVerified bytes.now) (output_view o)) }
+
+    // The headline, of the bytes: where the status is good, they are the text of a safe program.
+    ensures good { IfOk result (λ o. status_of (output_view o) ≡ Good → IsGood bytes.now) }
+{
+    good_answers_are_safe();
+    judge_text(alloc, bytes)
+}
+
+/// What `show` answers to a file of these bytes. The only error is want of memory.
+pub fn show<'a>(alloc: Global, bytes: &[u8]) -> Result<Output<'a>, AllocError>
+    ensures { IfOk result (λ o. IsOnly (IsShown bytes.now) (output_view o)) }
+{
+    match read_tree(alloc, bytes) {
+        Ok(tree) => Ok(Output::Shown(print(alloc, &tree)?)),
+        Err(refusal) => refuse(refusal),
+    }
+}

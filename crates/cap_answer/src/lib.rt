@@ -1,0 +1,18 @@
+//! What the tool answers to words and to the bytes of files.
+#![tactic(auto)]
+
+mod answer;
+mod laws;
+mod output;
+mod replaying;
+mod report;
+mod status;
+mod task;
+
+pub use answer::{show, verify};
+pub use laws::good_answers_are_safe;
+pub use output::Output;
+pub use replaying::{Begun, begin_replay, play};
+pub use report::Report;
+pub use status::Status;
+pub use task::Task;

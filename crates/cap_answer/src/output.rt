@@ -1,0 +1,86 @@
+ghost use Rattle.std.specs.Prelude.{◌≡◌, IfOk};
+ghost use Rattle.cap_answer.specs.Output.{status_of, text_of, end_status, schedule_line};
+ghost use Rattle.cap_answer.specs.Views.{output_view};
+
+use crate::report::Report;
+use crate::status::Status;
+use cap_reading::{Refusal, refusal_text};
+use cap_replay::{End, Played, ScheduleError};
+use std::alloc::{AllocError, Global};
+
+/// What is said. A file that cannot be read is named, and a text that is shown is canonical.
+#[derive(Debug, Drop)]
+pub enum Output<'a> {
+    Usage,
+    Unreadable(&'a str),
+    TooLong,
+    Refused(Refusal),
+    Reported(Report),
+    Shown(Vec<u8>),
+    BadSchedule(ScheduleError),
+    Played(Played),
+}
+
+/// The command line, for words that are none.
+const USAGE: &str =
+    "usage: caper verify FILE [--budget N] | derive FILE [--budget N] | check FILE DERIVATION | replay FILE SCHEDULE | show FILE | trial N\n";
+
+/// The status of a run that ends so.
+fn end_status(end: End) -> Status
+    ensures { result ≡ end_status end }
+{
+    match end {
+        End::Ended(_) => Status::Good,
+        End::Stopped(_) => Status::Bad,
+        End::NotEnabled(_) => Status::NotEnabled,
+        End::Wide(_) => Status::Wide,
+    }
+}
+
+/// The line for bytes that are no schedule.
+fn schedule_text(alloc: Global, error: ScheduleError) -> Result<Vec<u8>, AllocError>
+    ensures { IfOk result (λ text. text.items ≡ schedule_line error) }
+{
+    let text = match error {
+        ScheduleError::BadLine(line) => format!(in alloc; "refused schedule line {line}\n")?,
+        ScheduleError::TooMany => {
+            String::from_str(alloc, "refused schedule: more than 100000 entries\n")?
+        }
+        ScheduleError::OutOfMemory => String::new(alloc),
+    };
+    Ok(text.into_bytes())
+}
+
+impl<'a> Output<'a> {
+    /// The status with which it is said.
+    pub fn status(&self) -> Status
+        ensures { result ≡ status_of (output_view self.now) }
+    {
+        match self {
+            Output::Usage => Status::Usage,
+            Output::Unreadable(_) => Status::ReadFault,
+            Output::TooLong | Output::Refused(_) => Status::Refused,
+            Output::Reported(report) if report.proved => Status::Good,
+            Output::Reported(_) => Status::Bad,
+            Output::Shown(_) => Status::Good,
+            Output::BadSchedule(_) => Status::Refused,
+            Output::Played(played) => end_status(played.end),
+        }
+    }
+
+    /// The text that says it. The only error is want of memory.
+    pub fn into_text(self, alloc: Global) -> Result<Vec<u8>, AllocError>
+        ensures { IfOk result (λ text. text.items ≡ text_of (output_view self.entry)) }
+    {
+        match self {
+            Output::Usage => Ok(String::from_str(alloc, USAGE)?.into_bytes()),
+            Output::Unreadable(name) => Ok(format!(in alloc; "cannot read {name}\n")?.into_bytes()),
+            Output::TooLong => Ok(String::from_str(alloc, "refused: file too long\n")?.into_bytes()),
+            Output::Refused(refusal) => refusal_text(alloc, &refusal),
+            Output::Reported(report) => Ok(report.text),
+            Output::Shown(text) => Ok(text),
+            Output::BadSchedule(error) => schedule_text(alloc, error),
+            Output::Played(played) => Ok(played.text),
+        }
+    }
+}

@@ -1,0 +1,4 @@
+mod Safety
+mod Deciding
+mod StepsLeft
+mod Nothing

@@ -1,0 +1,4 @@
+mod Counts
+mod Causes
+mod Trees
+mod Programs
