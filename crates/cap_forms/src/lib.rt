@@ -3,8 +3,6 @@
 
 mod forms;
 mod names;
-#[cfg(test)]
-mod tests;
 mod widths;
 
 pub use forms::form;

@@ -1,0 +1,4 @@
+mod Reading
+mod Replays
+mod Saying
+mod Promises

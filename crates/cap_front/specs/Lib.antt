@@ -1,0 +1,4 @@
+pub mod Reads
+pub mod Views
+pub mod Run
+pub mod Promise

@@ -1,0 +1,99 @@
+ghost use Rattle.std.specs.Prelude.{◌≡◌, ◌≤◌, IfOk};
+ghost use Rattle.cap_prog.specs.Views.{program_view};
+ghost use Rattle.cap_answer.specs.Answers.{After, IsVerified, IsShown, IsPlayed, IsOnly};
+ghost use Rattle.cap_answer.specs.Views.{output_view};
+ghost use Rattle.cap_front.specs.Reads.{IsFetched};
+ghost use Rattle.cap_front.specs.Views.{fetched_view, BeginsAfter};
+
+use cap_answer::{Begun, Output, begin_replay, play, show, verify};
+use cap_io::{FetchError, Shelf};
+use cap_prog::Program;
+use std::alloc::{AllocError, Global};
+
+/// What a file gave: its bytes, nothing, or more bytes than a file may have.
+#[derive(Debug, Drop)]
+pub(crate) enum Fetched {
+    Held(Vec<u8>),
+    Unread,
+    Long,
+}
+
+/// Reads a file. The only error is want of memory.
+pub(crate) fn fetch<S: Shelf>(shelf: &mut S, name: &str) -> Result<Fetched, AllocError>
+    ensures kept { S.holds shelf.new ≡ S.holds shelf.old }
+    ensures later { S.faults shelf.old ≤ S.faults shelf.new }
+    ensures fetched { IfOk result (λ x. IsFetched (S.holds shelf.old)
+        (S.faults shelf.old) (S.faults shelf.new) (S.blamed shelf.new) name.now (fetched_view x)) }
+{
+    match shelf.fetch(name) {
+        Ok(bytes) => Ok(Fetched::Held(bytes)),
+        Err(FetchError::TooLong(_)) => Ok(Fetched::Long),
+        Err(FetchError::OutOfMemory) => Err(AllocError),
+        Err(FetchError::Failed | FetchError::Absent) => Ok(Fetched::Unread),
+    }
+}
+
+/// What `verify` says of a file that gave this.
+pub(crate) fn verify_file<'a>(
+    alloc: Global,
+    name: &'a str,
+    file: Fetched,
+) -> Result<Output<'a>, AllocError>
+    ensures { IfOk result (λ o. IsOnly (After name.now (fetched_view file) IsVerified)
+        (output_view o)) }
+{
+    match file {
+        Fetched::Held(bytes) => verify(alloc, bytes.as_slice()),
+        Fetched::Unread => Ok(Output::Unreadable(name)),
+        Fetched::Long => Ok(Output::TooLong),
+    }
+}
+
+/// What `show` says of a file that gave this.
+pub(crate) fn show_file<'a>(
+    alloc: Global,
+    name: &'a str,
+    file: Fetched,
+) -> Result<Output<'a>, AllocError>
+    ensures { IfOk result (λ o. IsOnly (After name.now (fetched_view file) IsShown)
+        (output_view o)) }
+{
+    match file {
+        Fetched::Held(bytes) => show(alloc, bytes.as_slice()),
+        Fetched::Unread => Ok(Output::Unreadable(name)),
+        Fetched::Long => Ok(Output::TooLong),
+    }
+}
+
+/// What is known once the file of a program to be replayed gave this.
+pub(crate) fn begin_file<'a>(
+    alloc: Global,
+    name: &'a str,
+    file: Fetched,
+) -> Result<Begun<'a>, AllocError>
+    ensures { IfOk result (BeginsAfter name.now (fetched_view file)) }
+{
+    match file {
+        Fetched::Held(bytes) => begin_replay(alloc, bytes.as_slice()),
+        Fetched::Unread => Ok(Begun::Said(Output::Unreadable(name))),
+        Fetched::Long => Ok(Begun::Said(Output::TooLong)),
+    }
+}
+
+/// What is said of a schedule's file that gave this.
+pub(crate) fn play_file<'a>(
+    alloc: Global,
+    program: &Program,
+    name: &'a str,
+    file: Fetched,
+) -> Result<Output<'a>, AllocError>
+    ensures { IfOk result (λ o.
+        IsOnly (After name.now (fetched_view file) (IsPlayed (program_view program.now)))
+        (output_view o)) }
+{
+    match file {
+        Fetched::Held(bytes) => play(alloc, program, bytes.as_slice()),
+        Fetched::Unread => Ok(Output::Unreadable(name)),
+        Fetched::Long => Ok(Output::TooLong),
+    }
+}

@@ -1,0 +1,8 @@
+//! The top call over the whole language, over any shelf and sink.
+#![tactic(auto)]
+
+mod fetching;
+mod program;
+
+pub use cap_answer::Status;
+pub use program::run;
