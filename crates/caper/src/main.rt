@@ -1,8 +1,9 @@
-//! Verifies a program, `caper verify FILE`, or shows its canonical text, `caper show FILE`.
+//! Verifies a program, `caper verify FILE`, shows its canonical text, `caper show FILE`, or runs it,
+//! `caper replay FILE SCHEDULE`.
 #![tactic(auto)]
 
 use cap_io::{FileShelf, StdSink};
-use cap_top::{Status, run};
+use cap_front::{Status, run};
 use std::alloc::AllocError;
 use std::env;
 use std::io::ErrorKind;
