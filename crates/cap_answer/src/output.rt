@@ -75,7 +75,10 @@ impl<'a> Output<'a> {
         match self {
             Output::Usage => Ok(String::from_str(alloc, USAGE)?.into_bytes()),
             Output::Unreadable(name) => Ok(format!(in alloc; "cannot read {name}\n")?.into_bytes()),
-            Output::TooLong => Ok(String::from_str(alloc, "refused: file too long\n")?.into_bytes()),
+            Output::TooLong => Ok(String::from_str(
+                alloc,
+                "refused: file too long\n",
+            )?.into_bytes()),
             Output::Refused(refusal) => refusal_text(alloc, &refusal),
             Output::Reported(report) => Ok(report.text),
             Output::Shown(text) => Ok(text),

@@ -31,11 +31,7 @@ pub fn begin_replay<'a>(alloc: Global, bytes: &[u8]) -> Result<Begun<'a>, AllocE
 
 /// What is said of a schedule of these bytes: what the run along it writes, or why it is none. The
 /// only error is want of memory.
-pub fn play<'a>(
-    alloc: Global,
-    program: &Program,
-    bytes: &[u8],
-) -> Result<Output<'a>, AllocError>
+pub fn play<'a>(alloc: Global, program: &Program, bytes: &[u8]) -> Result<Output<'a>, AllocError>
     ensures { IfOk result (λ o.
         IsOnly (IsPlayed (program_view program.now) bytes.now) (output_view o)) }
 {

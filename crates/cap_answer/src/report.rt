@@ -60,16 +60,18 @@ fn push_unit(
 }
 
 /// Writes the lines of region types.
-fn push_regions(
-    alloc: Global,
-    text: &mut Vec<u8>,
-    regions: &[RegionType],
-) -> Result<(), AllocError>
+fn push_regions(alloc: Global, text: &mut Vec<u8>, regions: &[RegionType]) -> Result<(), AllocError>
     ensures { OnOk result (text.new.items
         ≡ text.old.items ++ flat_map region_line (map region_view regions.now)) }
 {
     for region in regions {
-        push_unit(alloc, text, "region ", region.name.as_bytes(), Verdict::Later)?;
+        push_unit(
+            alloc,
+            text,
+            "region ",
+            region.name.as_bytes(),
+            Verdict::Later,
+        )?;
     }
     Ok(())
 }

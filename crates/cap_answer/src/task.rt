@@ -49,9 +49,7 @@ fn built<'a>(command: Command<'a>) -> Option<Task<'a>>
         Command::Verify { file, budget: _ } => Some(Task::Verify { file }),
         Command::Show { file } => Some(Task::Show { file }),
         Command::Replay { file, schedule } => Some(Task::Replay { file, schedule }),
-        Command::Derive { .. }
-        | Command::Check { .. }
-        | Command::Trial { .. } => None,
+        Command::Derive { .. } | Command::Check { .. } | Command::Trial { .. } => None,
     }
 }
 

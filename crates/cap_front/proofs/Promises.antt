@@ -503,7 +503,6 @@ module _ (files : Files) (task : Option Task) (reads reads_now : ℕ) (blamed wr
   refused_output (show file) name names bytes o f c n h =
       refused_given (show file) bytes o n (nat_lt longest (length bytes)) refl
       (subst (λ y. IsOutput (Some (show file)) (given_by y ∷ []) o) (ap (content files) (first_name file name [] names f) ∙ c) h)
-
   refused_output (replay file s) name names bytes o f c n h =
       replay_given file s bytes (given_by (content files s)) o n (nat_lt longest (length bytes)) refl
       (subst (λ y. IsOutput (Some (replay file s)) (given_by y ∷ (given_by (content files s) ∷ [])) o) (ap (content files) (first_name file name (s ∷ []) names f) ∙ c) h)

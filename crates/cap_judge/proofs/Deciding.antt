@@ -66,10 +66,13 @@ module _ (p : PlainProgram) where
             → LeavesPlain after stopped (before (check c)) event (cond b (next (alone heap f) Assert) (fault (Failed l.place)))
             → Decides p rest (before (check c)) after stopped (found (failed_act l.place (check c)) event)
         by true b h =
-            subst (λ v. Decides p rest (before (check c)) after stopped (found (failed_act l.place (check c)) v)) (sym h.0)
-            ((λ n. narrow_step (check c) n e
-            ∙ (ap (λ y. after_step (verdict_within p n) (Some (record { label = l; act = check c })) (cond y (next (alone heap f) Assert) (fault (Failed l.place)))) b
-            ∙ ap (verdict_within p n) (sym h.1))), h.2, at_end after heap f h.1 refl)
+            subst (λ v. Decides p rest (before (check c)) after stopped (found (failed_act l.place (check c)) v)) (sym h.0) (
+              (λ n. narrow_step (check c) n e
+                  ∙ (ap (λ y. after_step (verdict_within p n) (Some (record { label = l; act = check c })) (cond y (next (alone heap f) Assert) (fault (Failed l.place)))) b
+                  ∙ ap (verdict_within p n) (sym h.1))),
+              h.2,
+              at_end after heap f h.1 refl,
+            )
         by false b h =
             subst (λ v. Decides p rest (before (check c)) after stopped (found (failed_act l.place (check c)) v)) (sym h.0)
             (λ n. narrow_step (check c) n e

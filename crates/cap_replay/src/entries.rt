@@ -17,7 +17,7 @@ pub struct Schedule {
 pub fn fits(program: &Program, schedule: &Schedule) -> bool
     ensures { let p = program_view program.now in
         IsTrue result ↔ IsSomeAnd (slice_get p.functions p.main)
-            (λ f. length schedule.now.args.items ≡ f.params) }
+        (λ f. length schedule.now.args.items ≡ f.params) }
 {
     let main = program.function(program.main());
     schedule.args.len() == main.params as usize

@@ -2,8 +2,8 @@
 //! `caper replay FILE SCHEDULE`.
 #![tactic(auto)]
 
-use cap_io::{FileShelf, StdSink};
 use cap_front::{Status, run};
+use cap_io::{FileShelf, StdSink};
 use std::alloc::AllocError;
 use std::env;
 use std::io::ErrorKind;
