@@ -1,4 +1,5 @@
-ghost use Rattle.std.specs.Prelude.{◌≡◌, ◌++◌, ◌+◌, ◌<◌, ◌^◌, IfOk, OnOk, flat_map, length, map};
+ghost use Rattle.std.specs.Prelude.{◌≡◌, ◌++◌, ◌+◌, ◌<◌, ◌^◌};
+ghost use Rattle.std.specs.Prelude.{IfOk, OnOk, flat_map, length, map};
 ghost use Rattle.std.specs.Prelude.{string_bytes};
 ghost use Rattle.cap_syntax.specs.Place.{place_text};
 ghost use Rattle.cap_prog.specs.Views.{program_view, region_view};

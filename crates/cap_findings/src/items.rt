@@ -1,4 +1,5 @@
-ghost use Rattle.std.specs.Prelude.{◌≡◌, ◌++◌, ◌<◌, ◌^◌, fold, map, flat_map, IfOk, OnOk, option_map};
+ghost use Rattle.std.specs.Prelude.{◌≡◌, ◌++◌, ◌<◌, ◌^◌, fold};
+ghost use Rattle.std.specs.Prelude.{map, flat_map, IfOk, OnOk, option_map};
 ghost use Rattle.cap_galg.specs.Views.{atom_view};
 ghost use Rattle.cap_tree.specs.Views.{guard_view, held_view, item_view};
 ghost use Rattle.cap_stands.specs.Finding.{note};

@@ -1,4 +1,5 @@
-ghost use Rattle.std.specs.Prelude.{◌≡◌, ◌∷◌, ◌++◌, fold, map, flat_map, option_map, OnOk, Some};
+ghost use Rattle.std.specs.Prelude.{◌≡◌, ◌∷◌, ◌++◌, fold, map};
+ghost use Rattle.std.specs.Prelude.{flat_map, option_map, OnOk, Some};
 ghost use Rattle.cap_lin.specs.declared.row.Sort.TheVariants.{Int};
 ghost use Rattle.cap_galg.specs.Views.{atom_view};
 ghost use Rattle.cap_tree.specs.Views.{guard_view, item_view, slot_view, comparison_view};

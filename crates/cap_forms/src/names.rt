@@ -1,4 +1,5 @@
-ghost use Rattle.std.specs.Prelude.{◌≡◌, ◌+◌, ◌<◌, ◌^◌, [], ◌++◌, length, filter_map, OnOk, OnErr, IfOk};
+ghost use Rattle.std.specs.Prelude.{◌≡◌, ◌+◌, ◌<◌, ◌^◌, [], ◌++◌};
+ghost use Rattle.std.specs.Prelude.{length, filter_map, OnOk, OnErr, IfOk};
 ghost use Rattle.cap_tree.specs.Views.{factor_view, product_view, term_view};
 ghost use Rattle.cap_stands.specs.Names.{variable_of, whole_numbers};
 ghost use Rattle.cap_stands.specs.Parts.{named_word, factor_leaves, product_leaves, term_words};

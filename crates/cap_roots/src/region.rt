@@ -1,4 +1,5 @@
-ghost use Rattle.std.specs.Prelude.{◌≡◌, ◌+◌, ◌-◌, ◌<◌, ◌++◌, [], ◌∷◌, length, map, flat_map};
+ghost use Rattle.std.specs.Prelude.{◌≡◌, ◌+◌, ◌-◌, ◌<◌, ◌++◌};
+ghost use Rattle.std.specs.Prelude.{[], ◌∷◌, length, map, flat_map};
 ghost use Rattle.std.specs.Prelude.{IfOk, OnOk, false};
 ghost use Rattle.std.specs.List.{AllByRecursion};
 ghost use Rattle.cap_lin.specs.Exact.{IsExact, IsExactBy};

@@ -1,4 +1,5 @@
-ghost use Rattle.std.specs.Prelude.{◌≡◌, ◌+◌, ◌≤◌, ◌<◌, ◌^◌, ◌++◌, length, IfOk, flat_map, map};
+ghost use Rattle.std.specs.Prelude.{◌≡◌, ◌+◌, ◌≤◌, ◌<◌, ◌^◌};
+ghost use Rattle.std.specs.Prelude.{◌++◌, length, IfOk, flat_map, map};
 ghost use Rattle.cap_gsolve.specs.Made.{IsMade};
 ghost use Rattle.cap_logic.specs.States.{longest_list};
 ghost use Rattle.cap_logic.specs.Roots.{written_row, written_steps};

@@ -1,5 +1,6 @@
 //! The heap.
-ghost use Rattle.std.specs.Prelude.{◌≡◌, ◌↔◌, ◌-◌, ◌<◌, pos, ◌+ℤ◌, true, is_none, IfOk, IsSome};
+ghost use Rattle.std.specs.Prelude.{◌≡◌, ◌↔◌, ◌-◌, ◌<◌, pos};
+ghost use Rattle.std.specs.Prelude.{◌+ℤ◌, true, is_none, IfOk, IsSome};
 ghost use Rattle.std.specs.Prelude.{OnOk, OnErr, IsTrue, ℕ};
 ghost use Rattle.std.specs.FinMap as map;
 ghost use Rattle.std.specs.FinMap.{get, insert, from_entries};

@@ -1,5 +1,6 @@
 //! One step, and what there is to see before it.
-ghost use Rattle.std.specs.Prelude.{◌≡◌, ◌↔◌, ◌<◌, ◌≤◌, ◌-◌, ◌^◌, false, suc, length, slice_get};
+ghost use Rattle.std.specs.Prelude.{◌≡◌, ◌↔◌, ◌<◌, ◌≤◌, ◌-◌};
+ghost use Rattle.std.specs.Prelude.{◌^◌, false, suc, length, slice_get};
 ghost use Rattle.std.specs.Prelude.{None, Err, MatchOption, option_map, option_copied, IfSome};
 ghost use Rattle.cap_prog.specs.Program.{PlainProgram};
 ghost use Rattle.cap_prog.specs.Views.{program_view, statement_view, act_view};

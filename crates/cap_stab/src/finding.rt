@@ -1,4 +1,5 @@
-ghost use Rattle.std.specs.Prelude.{◌≡◌, ◌<◌, ◌≤◌, ◌∷◌, length, fold, map, flat_map, OnOk, IfOk};
+ghost use Rattle.std.specs.Prelude.{◌≡◌, ◌<◌, ◌≤◌, ◌∷◌, length};
+ghost use Rattle.std.specs.Prelude.{fold, map, flat_map, OnOk, IfOk};
 ghost use Rattle.cap_lin.specs.Linear.{variable};
 ghost use Rattle.cap_prog.specs.Views.{case_view, action_view, region_view, program_view};
 ghost use Rattle.cap_logic.specs.States.{longest_list};

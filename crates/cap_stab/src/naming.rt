@@ -1,4 +1,5 @@
-ghost use Rattle.std.specs.Prelude.{◌≡◌, ◌+◌, ◌≤◌, ◌++◌, ◌∷◌, [], length, OnOk, IfOk};
+ghost use Rattle.std.specs.Prelude.{◌≡◌, ◌+◌, ◌≤◌, ◌++◌, ◌∷◌};
+ghost use Rattle.std.specs.Prelude.{[], length, OnOk, IfOk};
 ghost use Rattle.cap_lin.specs.Linear.{variable as plain_variable};
 ghost use Rattle.cap_prog.specs.Views.{action_view, region_view};
 ghost use Rattle.cap_logic.specs.States.{longest_list};

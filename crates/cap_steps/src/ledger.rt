@@ -1,5 +1,6 @@
 //! What a rule claims: lists of rows, which certificates have to refute.
-ghost use Rattle.std.specs.Prelude.{◌≡◌, ◌<◌, ◌++◌, [], ◌∷◌, map, length, slice_get, Some, IfOk, OnOk};
+ghost use Rattle.std.specs.Prelude.{◌≡◌, ◌<◌, ◌++◌, [], ◌∷◌, map};
+ghost use Rattle.std.specs.Prelude.{length, slice_get, Some, IfOk, OnOk};
 ghost use Rattle.cap_rules.specs.Attempts.{prove, prove_that};
 ghost use Rattle.cap_rules.specs.Making.{prove_equal, prove_differ};
 ghost use Rattle.cap_steps.specs.Places.{ended_by};

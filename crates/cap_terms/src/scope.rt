@@ -1,4 +1,5 @@
-ghost use Rattle.std.specs.Prelude.{◌≡◌, ◌+◌, ◌<◌, ◌^◌, [], ◌∷◌, ◌++◌, length, OnOk, IfOk};
+ghost use Rattle.std.specs.Prelude.{◌≡◌, ◌+◌, ◌<◌, ◌^◌, []};
+ghost use Rattle.std.specs.Prelude.{◌∷◌, ◌++◌, length, OnOk, IfOk};
 ghost use Rattle.std.specs.Prelude.{MatchOption};
 ghost use Rattle.std.specs.Prelude.{ℕ, List, option_map, None, OnErr, bytes_eq};
 ghost use Rattle.cap_stands.specs.Names.{sort_of, has_name, variable_of, knows as knows_name};
