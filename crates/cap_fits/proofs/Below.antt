@@ -42,7 +42,7 @@ put-below n x k ps h q = by_test (is_zero k)
     by_test true = q
     by_test false = (h, q)
 
-sums-below : (n : ℕ) (js : List Coefficients) → PairsBelow n js → PartsBelow n (sums js)
+pub sums-below : (n : ℕ) (js : List Coefficients) → PairsBelow n js → PartsBelow n (sums js)
 unfolding sums
 sums-below n [] h = tt
 sums-below n (j ∷ js) h = put-below n j.variable _ (sums js) h.0 (sums-below n js h.1)
@@ -60,17 +60,17 @@ from-below n p rest (q ∷ qs) h f b = by_tests (nat_lt p.0 q.0) (nat_lt q.0 p.0
     by_tests false true r = (b.0, r)
     by_tests false false r = (h, f qs b.1)
 
-merged-below : (n : ℕ) (ps qs : List (ℕ × ℤ)) → PartsBelow n ps → PartsBelow n qs → PairsBelow n (merged ps qs)
+pub merged-below : (n : ℕ) (ps qs : List (ℕ × ℤ)) → PartsBelow n ps → PartsBelow n qs → PairsBelow n (merged ps qs)
 unfolding merged
 merged-below n [] qs h q = right-below n qs q
 merged-below n (p ∷ ps) qs h q = from-below n p (merged ps) qs h.0 (λ xs b. merged-below n ps xs h.1 b) q
 
-multiples-below : (n : ℕ) (k : ℤ) (ps : List (ℕ × ℤ)) → PartsBelow n ps → PartsBelow n (multiples k ps)
+pub multiples-below : (n : ℕ) (k : ℤ) (ps : List (ℕ × ℤ)) → PartsBelow n ps → PartsBelow n (multiples k ps)
 unfolding multiples
 multiples-below n k [] h = tt
 multiples-below n k (p ∷ ps) h = put-below n p.0 _ (multiples k ps) h.0 (multiples-below n k ps h.1)
 
-minus-below : (n : ℕ) (l r : Linear) → PartsBelow n l.parts → PartsBelow n r.parts → PartsBelow n (minus l r).parts
+pub minus-below : (n : ℕ) (l r : Linear) → PartsBelow n l.parts → PartsBelow n r.parts → PartsBelow n (minus l r).parts
 unfolding plus times
 minus-below n l r h k = sums-below n _ (merged-below n l.parts _ h (multiples-below n _ r.parts k))
 

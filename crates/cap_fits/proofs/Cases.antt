@@ -33,7 +33,7 @@ each-get P (y ∷ ys) (suc i) x h e = each-get P ys i x h.1 e
 sorts-length : (k : PlainRegionType) (names : List Sort) → length (region_sorts k names) ≡ k.params + length names
 sorts-length k names = length-append (replicate k.params Int) names ∙ ap (λ n. n + length names) (length-replicate k.params Int)
 
-scope-length : (k : PlainRegionType) (names : List Sort) → length (region_scope k names) ≡ k.params + length names
+pub scope-length : (k : PlainRegionType) (names : List Sort) → length (region_scope k names) ≡ k.params + length names
 scope-length k names =
     length-append (replicate k.params (Some Int)) (map Some names) ∙ (ap (λ n. n + length (map Some names)) (length-replicate k.params (Some Int)) ∙ ap (λ n. k.params + n) (length-map names Some))
 

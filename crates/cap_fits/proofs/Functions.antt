@@ -51,7 +51,7 @@ store-length b params locals =
     rest true = variables-length params locals
     rest false = length-replicate locals zero_value
 
-env-parts : (ps ls fs : List (Option Linear)) (r : Option Linear) (new : ℕ) → length (ps ++ (ls ++ (fs ++ r ∷ unbound new))) ≡ length ps + (length ls + (length fs + suc new))
+pub env-parts : (ps ls fs : List (Option Linear)) (r : Option Linear) (new : ℕ) → length (ps ++ (ls ++ (fs ++ r ∷ unbound new))) ≡ length ps + (length ls + (length fs + suc new))
 env-parts ps ls fs r new =
     length-append ps _ ∙ ap (λ n. length ps + n) (length-append ls _ ∙ ap (λ n. length ls + n) (length-append fs _ ∙ ap (λ n. length fs + suc n) (length-replicate new None)))
 
@@ -168,14 +168,14 @@ there p f n P e h = subst (λ (o : Option PlainFunction). IsSomeAnd o P) (sym e)
 
 -- ---- scopes
 
-requires-length : (f : PlainFunction) → length (requires_scope f) ≡ fixed_start f + length f.fixed
+pub requires-length : (f : PlainFunction) → length (requires_scope f) ≡ fixed_start f + length f.fixed
 requires-length f =
     let a : length (replicate f.params (Some Int)) ≡ f.params = length-replicate f.params (Some Int) in
     let b : length (replicate {A = Option Sort} f.locals None) ≡ f.locals = length-replicate f.locals None in
     let c : length (map Some f.fixed) ≡ length f.fixed = length-map f.fixed Some in
     omega (arith, length-append (replicate f.params (Some Int)) (replicate f.locals None ++ map Some f.fixed), length-append (replicate f.locals None) (map Some f.fixed))
 
-ensures-length : (f : PlainFunction) (names : List Sort) → length (ensures_scope f names) ≡ fixed_start f + (length f.fixed + suc (length names))
+pub ensures-length : (f : PlainFunction) (names : List Sort) → length (ensures_scope f names) ≡ fixed_start f + (length f.fixed + suc (length names))
 ensures-length f names =
     let a : length (replicate f.params (Some Int)) ≡ f.params = length-replicate f.params (Some Int) in
     let b : length (replicate {A = Option Sort} f.locals None) ≡ f.locals = length-replicate f.locals None in
@@ -183,7 +183,7 @@ ensures-length f names =
     let d : length (map Some names) ≡ length names = length-map names Some in
     omega (arith, length-append (replicate f.params (Some Int)) (replicate f.locals None ++ (map Some f.fixed ++ Some Int ∷ map Some names)), length-append (replicate f.locals None) (map Some f.fixed ++ Some Int ∷ map Some names), length-append (map Some f.fixed) (Some Int ∷ map Some names))
 
-invariant-length : (f : PlainFunction) (names : List Sort) → length (invariant_scope f names) ≡ fixed_start f + (length f.fixed + suc (length names))
+pub invariant-length : (f : PlainFunction) (names : List Sort) → length (invariant_scope f names) ≡ fixed_start f + (length f.fixed + suc (length names))
 invariant-length f names =
     let a : length (replicate (fixed_start f) (Some Int)) ≡ fixed_start f = length-replicate (fixed_start f) (Some Int) in
     let c : length (map Some f.fixed) ≡ length f.fixed = length-map f.fixed Some in

@@ -20,21 +20,21 @@ pub record LoopFits (p : PlainProgram) (f : PlainFunction) (w : LoopPoint) : Typ
 
 -- ---- the closing return
 
-ends-more : (l : Label) (s : PlainAct) (b : Block) → EndsInReturn b → EndsInReturn (first l s b)
+pub ends-more : (l : Label) (s : PlainAct) (b : Block) → EndsInReturn b → EndsInReturn (first l s b)
 ends-more l s done h = absurd h
 ends-more l s (first k t b) h = h
 
-ends-before : (a b : Block) → EndsInReturn b → EndsInReturn (append a b)
+pub ends-before : (a b : Block) → EndsInReturn b → EndsInReturn (append a b)
 ends-before done b h = h
 ends-before (first l s a) b h = ends-more l s (append a b) (ends-before a b h)
 
-ends-behind : (l : Label) (s : PlainAct) (b : Block) → (IsClosingReturn s → ⊥) → EndsInReturn (first l s b) → EndsInReturn b
+pub ends-behind : (l : Label) (s : PlainAct) (b : Block) → (IsClosingReturn s → ⊥) → EndsInReturn (first l s b) → EndsInReturn b
 ends-behind l s done n h = absurd (n h)
 ends-behind l s (first k t b) n h = h
 
 -- ---- statements that run one block after another
 
-fit-append : (p : PlainProgram) (f : PlainFunction) (a b : Block) → Fit p f (all_statements a) → Fit p f (all_statements b) → Fit p f (all_statements (append a b))
+pub fit-append : (p : PlainProgram) (f : PlainFunction) (a b : Block) → Fit p f (all_statements a) → Fit p f (all_statements b) → Fit p f (all_statements (append a b))
 fit-append p f done b h k = k
 fit-append p f (first l s a) b h k =
     (h.0, each-join _ (block_statements s) (all_statements (append a b)) (each-left _ (block_statements s) (all_statements a) h.1) (fit-append p f a b (each-right _ (block_statements s) (all_statements a) h.1) k))
