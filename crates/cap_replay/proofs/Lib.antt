@@ -3,3 +3,4 @@ pub mod PieceLemmas
 pub mod NumberLemmas
 pub mod ReadLemmas
 pub mod Ascending
+pub mod Written

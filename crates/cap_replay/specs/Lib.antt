@@ -3,3 +3,4 @@ pub mod Advancing
 pub mod Pieces
 pub mod Numbers
 pub mod Reading
+pub mod Writing

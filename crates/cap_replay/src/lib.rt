@@ -2,6 +2,7 @@
 #![tactic(auto)]
 
 mod entries;
+mod laws;
 mod numbers;
 mod playing;
 mod reading;
@@ -9,5 +10,6 @@ mod reading;
 mod tests;
 
 pub use entries::{Schedule, fits};
+pub use laws::written_schedules_are_read_back;
 pub use playing::{End, Played, replay};
 pub use reading::{ScheduleError, read_schedule};
