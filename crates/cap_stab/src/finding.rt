@@ -15,8 +15,8 @@ use cap_lin::Term;
 use cap_prog::{Action, Case, Program, RegionType};
 use std::alloc::{AllocError, Global};
 
-// The state's next fresh variable, which stands for the fact's later state.
-pub(crate) fn later_state(alloc: Global, state: &State) -> Result<Term, AllocError>
+/// The state's next fresh variable, which stands for the fact's later state.
+pub fn later_state(alloc: Global, state: &State) -> Result<Term, AllocError>
     requires { length state.now.sorts ≤ longest_list }
     ensures { IfOk result (λ t. t ≡ later_of state.now) }
 {
@@ -79,8 +79,8 @@ fn add_action_bounds(
     Ok(())
 }
 
-// The candidates of a fact of a region type.
-pub(crate) fn candidates_of(
+/// The candidates of a fact of a region type, by number from 0, as `candidates` gives them.
+pub fn candidates_of(
     alloc: Global,
     region: &RegionType,
     state: &State,

@@ -12,5 +12,8 @@ mod system;
 mod wanting;
 
 pub use candidate::Candidate;
-pub use finding::candidates;
+pub use finding::{candidates, candidates_of, later_state};
+pub use naming::{NamedTerms, action_names};
+pub use settling::{keep, settle};
 pub use stab::{stab_proofs, stab_subgoals};
+pub use system::system as action_system;

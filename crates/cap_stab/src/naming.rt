@@ -25,7 +25,7 @@ pub(crate) struct Names {
 
 /// The names of an action, and for each of its guards the next free variable when it came up.
 #[derive(Drop)]
-pub(crate) struct Named {
+pub struct NamedTerms {
     pub terms: Vec<Term>,
     pub starts: Vec<u32>,
 }
@@ -118,13 +118,13 @@ fn end_of(term: &Term) -> usize
 }
 
 /// The terms of the names of an action of others, at unknown values.
-pub(crate) fn action_names(
+pub fn action_names(
     alloc: Global,
     region: &RegionType,
     state: &State,
     fact: &Fact,
     action: &Action,
-) -> Result<Named, AllocError>
+) -> Result<NamedTerms, AllocError>
     requires { length state.now.sorts ≤ longest_list }
     ensures terms { IfOk result (λ n. n.terms.items
         ≡ names_of_action (region_view region.now) state.now fact.now (action_view action.now)) }
@@ -136,7 +136,7 @@ pub(crate) fn action_names(
     let mut names = Names { terms, next };
     let starts = names.ask_all(alloc, &action.guards)?;
     names.name_below(alloc, region.params as usize + action.names.len())?;
-    Ok(Named {
+    Ok(NamedTerms {
         terms: names.terms,
         starts,
     })

@@ -35,7 +35,7 @@ pub(crate) fn with_state(alloc: Global, fact: &Fact, state: &Term) -> Result<Fac
 }
 
 /// Keeps the state of a fact, by its number: it is claimed to be the same after each action.
-pub(crate) fn keep(
+pub fn keep(
     alloc: Global,
     ledger: &mut Ledger,
     region: &RegionType,
@@ -128,7 +128,7 @@ fn with_settled(
 }
 
 /// Settles a fact, by its number, by the candidates of these numbers.
-pub(crate) fn settle(
+pub fn settle(
     alloc: Global,
     ledger: &mut Ledger,
     region: &RegionType,

@@ -52,7 +52,7 @@ fn joined(
 /// What holds where others take the action at the later state, of which these rows hold, by terms
 /// for the action's names and variables for its wildcards; none where nobody else can hold its
 /// guards.
-pub(crate) fn system(
+pub fn system(
     alloc: Global,
     region: &RegionType,
     state: &State,

@@ -1,0 +1,7 @@
+use Rattle.std.proofs.Common.{◌≡◌, ◌++◌, drop}
+use Rattle.cap_offering.specs.Closures.{numbers_of}
+use Rattle.cap_closure.specs.Views.{list_view}
+use Rattle.cap_closure.proofs.closing.numbers_of.Given as goal
+
+abbrev pub invariant-loop-listed : goal.invariant-loop-listed
+invariant-loop-listed l = l.numbers.items ++ numbers_of (list_view (drop l.listed-index l.list)) ≡ numbers_of (list_view l.list)

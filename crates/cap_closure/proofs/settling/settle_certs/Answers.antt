@@ -1,0 +1,15 @@
+use Rattle.cap_prog.specs.Views.{region_view}
+use Rattle.cap_rules.specs.Resting.{settle}
+use Rattle.cap_offering.specs.Deciding.{certified}
+use Rattle.cap_decide.specs.Noting.{certs_seen}
+use Rattle.cap_closure.specs.Tested.{without_value}
+use Rattle.cap_closure.proofs.Attempts.{without-certified}
+use Rattle.cap_closure.proofs.Starts.{adds-as}
+use Rattle.cap_closure.proofs.settling.settle_certs.Goals as goal
+
+pub returns : goal.returns
+returns c =
+    let a = c.args in
+    let o = settle (region_view a.region.now) a.state.now a.number a.fact.now a.list.now in
+    let h = rw c.new-ledger.ensures at c.claim_settled-outcome.ensures in
+    adds-as certs_seen c.certified.result a.notes.now _ (certified (without_value o)) (certified o) (without-certified o a.notes.now) (c.certified.ensures (without_value o) h)

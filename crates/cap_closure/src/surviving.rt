@@ -1,0 +1,140 @@
+//! Rounds, in which the candidates leave that are not proved after each action of others.
+ghost use Rattle.std.specs.Prelude.{◌≡◌, ◌≤◌, length, map, IfOk};
+ghost use Rattle.cap_prog.specs.Views.{action_view, region_view};
+ghost use Rattle.cap_logic.specs.States.{longest_list};
+ghost use Rattle.cap_logic.specs.Candidates.{later_state as later_of};
+ghost use Rattle.cap_offering.specs.Closures.{rows_of as rows_in, survives as survival};
+ghost use Rattle.cap_offering.specs.Closures.{surviving as survivors, rounds as rounds_of};
+ghost use Rattle.cap_decide.specs.Noting.{Adds};
+ghost use Rattle.cap_closure.specs.Views.{list_view};
+
+use crate::starting::Listed;
+use crate::testing::keeps_after;
+use cap_decide::Notes;
+use cap_goal::{Fact, State};
+use cap_lin::{Row, Term};
+use cap_prog::{Action, RegionType};
+use std::alloc::{AllocError, Global};
+
+fn rows_of(alloc: Global, list: &[Listed]) -> Result<Vec<Row>, AllocError>
+    ensures { IfOk result (λ rows. rows.items ≡ rows_in (list_view list.now)) }
+{
+    let mut rows = Vec::with_capacity(alloc, list.len())?;
+    for listed in list {
+        rows.push(listed.row.copy(alloc)?)?;
+    }
+    Ok(rows)
+}
+
+// Whether a candidate's row is proved after each of these actions, where these rows are known before
+// it; up to the first after which it isn't.
+#[tactic(auto, unfolding(cap_offering::specs::Closures::survives))]
+fn survives(
+    alloc: Global,
+    region: &RegionType,
+    state: &State,
+    fact: &Fact,
+    later: &Term,
+    known: &[Row],
+    actions: &[Action],
+    row: &Row,
+    notes: &mut Notes,
+) -> Result<bool, AllocError>
+    requires room { length state.now.sorts ≤ longest_list }
+    requires later { later.now ≡ later_of state.now }
+    ensures { IfOk result (λ yes. Adds notes.old notes.new yes (survival (region_view region.now)
+        state.now fact.now known.now row.now (map action_view actions.now))) }
+{
+    for action in actions {
+        if !keeps_after(alloc, region, state, fact, later, known, action, row, notes)? {
+            return Ok(false);
+        }
+    }
+    Ok(true)
+}
+
+// The candidates that survive, where these rows are known before each action.
+#[tactic(auto, unfolding(cap_offering::specs::Closures::surviving))]
+fn surviving(
+    alloc: Global,
+    region: &RegionType,
+    state: &State,
+    fact: &Fact,
+    later: &Term,
+    known: &[Row],
+    list: Vec<Listed>,
+    notes: &mut Notes,
+) -> Result<Vec<Listed>, AllocError>
+    requires room { length state.now.sorts ≤ longest_list }
+    requires later { later.now ≡ later_of state.now }
+    ensures { IfOk result (λ rest. Adds notes.old notes.new (list_view rest.items) (survivors
+        (region_view region.now) state.now fact.now known.now (list_view list.items))) }
+{
+    let mut rest = Vec::new(alloc);
+    for listed in list {
+        if survives(
+            alloc,
+            region,
+            state,
+            fact,
+            later,
+            known,
+            &region.actions,
+            &listed.row,
+            notes,
+        )? {
+            rest.push(listed)?;
+        } else {
+            drop(listed);
+        }
+    }
+    Ok(rest)
+}
+
+// One round: those that survive by the rows of the whole list.
+fn round(
+    alloc: Global,
+    region: &RegionType,
+    state: &State,
+    fact: &Fact,
+    later: &Term,
+    list: Vec<Listed>,
+    notes: &mut Notes,
+) -> Result<Vec<Listed>, AllocError>
+    requires room { length state.now.sorts ≤ longest_list }
+    requires later { later.now ≡ later_of state.now }
+    ensures { IfOk result (λ rest. Adds notes.old notes.new (list_view rest.items) (survivors
+        (region_view region.now) state.now fact.now (rows_in (list_view list.items))
+        (list_view list.items))) }
+{
+    let known = rows_of(alloc, &list)?;
+    surviving(alloc, region, state, fact, later, &known, list, notes)
+}
+
+/// The candidates that the rounds leave. There are no more rounds than candidates, since each but the
+/// last takes one out.
+#[tactic(auto, unfolding(cap_offering::specs::Closures::rounds))]
+pub fn rounds(
+    alloc: Global,
+    region: &RegionType,
+    state: &State,
+    fact: &Fact,
+    later: &Term,
+    list: Vec<Listed>,
+    notes: &mut Notes,
+) -> Result<Vec<Listed>, AllocError>
+    requires room { length state.now.sorts ≤ longest_list }
+    requires later { later.now ≡ later_of state.now }
+    ensures { IfOk result (λ rest. Adds notes.old notes.new (list_view rest.items) (rounds_of
+        (region_view region.now) state.now fact.now (length list.items) (list_view list.items))) }
+{
+    let mut list = list;
+    for _turn in 0..list.len() {
+        let before = list.len();
+        list = round(alloc, region, state, fact, later, list, notes)?;
+        if list.len() == before {
+            return Ok(list);
+        }
+    }
+    Ok(list)
+}

@@ -1,0 +1,9 @@
+pub mod Fewer
+pub mod Meeting
+pub mod Systems
+pub mod Tests
+pub mod Filters
+pub mod Rounds
+pub mod Named
+pub mod Ordered
+pub mod Largest
