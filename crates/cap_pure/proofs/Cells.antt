@@ -1,17 +1,19 @@
 -- New cells, one after the other.
-use Rattle.std.proofs.Common.{◌≡◌, ℕ, zero, suc, ◌+◌, ◌-◌, ◌<◌, ◌≤◌, pos, List, ◌++◌, map, Option, Some, None, add-one, subst, sym, refl, arith}
+use Rattle.std.proofs.Common.{◌≡◌, ℕ, suc, ◌+◌, ◌-◌, ◌<◌, ◌≤◌, pos, List, ◌++◌, map, Option, Some, None, add-one, subst, sym, arith, ap, ◌∙◌, length, get_or}
 use Rattle.std.proofs.lemmas.List.{append_assoc}
-use Rattle.std.specs.Prelude.{Result, Ok, Err}
+use Rattle.std.proofs.lemmas.Option.{slice_get_past, slice_get-get_or}
+use Rattle.std.specs.Prelude.{Result, Ok, Err, slice_get}
 use Rattle.cap_lin.specs.Linear.{Linear, number, plus}
 use Rattle.cap_lin.specs.Steps.{plus_steps}
 use Rattle.cap_logic.specs.States.{PlainState}
 use Rattle.cap_logic.specs.Environments.{zero_value}
-use Rattle.cap_rules.specs.Attempts.{Attempt, Event, makes, go_on, behind}
+use Rattle.cap_rules.specs.Attempts.{Attempt, Event, makes, go_on, behind, found}
 use Rattle.cap_rules.specs.Making.{with_cell}
 use Rattle.cap_rules.specs.Rules.{with_new_cells}
 use Rattle.cap_steps.specs.Walks.{Makes}
 use Rattle.cap_steps.specs.declared.error.RuleError.{RuleError}
-use Rattle.cap_steps.proofs.Walking.{Leads, then_made, unmade, done}
+use Rattle.cap_steps.specs.declared.error.RuleError.TheVariants.{NotApplicable}
+use Rattle.cap_steps.proofs.Walking.{Leads, then_made, unmade, done, there, lacking}
 use Rattle.cap_pure.specs.Statements.{with_new_cell}
 
 left : (n i : ℕ) → i < n → n - i ≡ suc (n - (i + 1))
@@ -40,3 +42,11 @@ cells-fail b n i s whole e h m l =
 
 pub cells-end : (b : Linear) (n i : ℕ) (s : PlainState) (whole : Attempt PlainState) → n ≤ i → Leads (with_new_cells s b i (n - i)) whole → Makes (Ok s) whole
 cells-end b n i s whole h l = l.leads (Ok s) (rw (none-left n i h) (done s))
+
+-- ---- a member of a list, by its number
+
+pub member-there : {X : Type 0} (xs : List X) (i : ℕ) (x : X) → i < length xs → x ≡ get_or xs i x → Makes (Ok x) (found (slice_get xs i))
+member-there xs i x h e = there (slice_get xs i) x (slice_get-get_or xs i x h ∙ ap Some (sym e))
+
+pub member-lacking : {X : Type 0} (xs : List X) (i : ℕ) → length xs ≤ i → Makes {A = X} (Err NotApplicable) (found (slice_get xs i))
+member-lacking xs i h = lacking (slice_get xs i) (slice_get_past xs i h)

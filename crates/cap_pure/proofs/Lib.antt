@@ -1,2 +1,4 @@
 pub mod Cells
 pub mod Calling
+pub mod Headed
+pub mod Others

@@ -1,12 +1,13 @@
 -- What the rules make of statements, each by itself.
-use Rattle.std.specs.Prelude.{ℕ, pos, Option, Some, None, List, [], ◌∷◌, drop, length, slice_get}
+use Rattle.std.specs.Prelude.{ℕ, nat_lt, pos, Option, Some, None, List, [], ◌∷◌, drop, length, slice_get}
+use Rattle.std.specs.Borrow.{Bor}
 use Rattle.cap_lin.specs.Linear.{Linear, number}
 use Rattle.cap_prog.specs.declared.assertion.Comp.{Comp}
 use Rattle.cap_prog.specs.Program.{PlainProgram, PlainAssertion}
 use Rattle.cap_logic.specs.States.{PlainState, Home, PlainTask, to_take, to_rest, to_give, PlainGoal}
 use Rattle.cap_logic.specs.Environments.{zero_value, bound, unbound, own_env}
-use Rattle.cap_rules.specs.Attempts.{Attempt, ◌>>=◌, found, prove}
-use Rattle.cap_rules.specs.Making.{sum, value_here, row_here, with_local, with_cell, with_env}
+use Rattle.cap_rules.specs.Attempts.{Attempt, unit, ◌>>=◌, found, need, prove}
+use Rattle.cap_rules.specs.Making.{sum, value_here, row_here, prove_equal, with_local, with_cell, with_env}
 use Rattle.cap_rules.specs.Rules.{leaves, called, own_params}
 
 -- a local becomes a term's value
@@ -66,3 +67,16 @@ abbrev pub with_new_cell : Linear → ℕ → PlainState → Attempt PlainState
 with_new_cell b i s = do
   a ← sum b (number (pos i))
   with_cell s a zero_value
+
+-- two cells are proved to be at one address; the first has the lower number
+abbrev pub two_cells : PlainState → ℕ → ℕ → Attempt (List PlainGoal)
+two_cells s i j = do
+  _ ← need (nat_lt i j)
+  c ← found (slice_get s.cells i)
+  d ← found (slice_get s.cells j)
+  _ ← prove_equal s c.0 d.0
+  unit []
+
+-- a cell that is lent
+abbrev pub cell_view : Bor (Linear × Linear) → Linear × Linear
+cell_view c = c.now

@@ -48,8 +48,8 @@ fn called(
     Ok(with_env(state, env)?)
 }
 
-// The environment of a function at home, with its parameters from the store.
-fn at_home(
+/// The environment of a function at home, with its parameters from the store.
+pub(crate) fn at_home(
     alloc: Global,
     state: &mut State,
     function: &Function,
@@ -164,8 +164,8 @@ pub(crate) fn fork<'a>(
     Ok(leaves(alloc, next, tasks)?)
 }
 
-// The one task of giving an assertion up.
-fn take_task<'a>(
+/// The one task of giving an assertion up.
+pub(crate) fn take_task<'a>(
     alloc: Global,
     assertion: &'a Assertion,
     env: u32,

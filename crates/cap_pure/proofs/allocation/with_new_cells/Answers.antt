@@ -1,6 +1,5 @@
 use Rattle.std.proofs.Common.{arith}
 use Rattle.std.proofs.lemmas.Result.{err_from_is_err_and}
-use Rattle.cap_steps.proofs.Walking.{starts}
 use Rattle.cap_pure.proofs.Cells.{cells-next, cells-fail, cells-end}
 use Rattle.cap_pure.proofs.allocation.with_new_cells.Goals as goal
 

@@ -1,4 +1,4 @@
-use Rattle.std.proofs.Common.{rules, refl}
+use Rattle.std.proofs.Common.{rules}
 use Rattle.cap_pure.proofs.Calling.{one-list}
 use Rattle.cap_pure.proofs.calls.items_of.Goals as goal
 
