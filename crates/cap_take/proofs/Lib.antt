@@ -1,3 +1,6 @@
 mod Remains
-mod Matches
-mod Slotting
+mod Members
+mod Ahead
+mod Slots
+mod Others
+mod Ruled

@@ -15,7 +15,7 @@ use Rattle.cap_goal.specs.Views.{items_in, task_view, tasks_view, goal_view}
 items-seen : (a : Assertion) → items_view a ≡ items_of (map item_view a.items.items)
 items-seen a = search (rules, the_lemmas)
 
-last-first : (lists : List (Bor (List Item))) (l : Bor (List Item)) (after : Items) → items_in (lists ++ l ∷ []) after ≡ append_items (items_of (map item_view l.now)) (items_in lists after)
+pub last-first : (lists : List (Bor (List Item))) (l : Bor (List Item)) (after : Items) → items_in (lists ++ l ∷ []) after ≡ append_items (items_of (map item_view l.now)) (items_in lists after)
 last-first [] l after = refl
 last-first (m ∷ lists) l after = last-first lists l (append_items (items_of (map item_view m.now)) after)
 

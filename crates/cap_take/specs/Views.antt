@@ -1,10 +1,12 @@
 -- What contracts see of what is left of an assertion.
-use Rattle.std.specs.Prelude.{List, ◌∷◌, map}
+use Rattle.std.specs.Prelude.{List, ◌∷◌, Option, Some, None}
 use Rattle.std.specs.Borrow.{Bor}
 use Rattle.cap_lin.specs.Linear.{Linear}
-use Rattle.cap_prog.specs.declared.assertion.Slot.{Slot}
-use Rattle.cap_prog.specs.Program.{Items, none, append_items}
+use Rattle.cap_prog.specs.declared.assertion.Item.{Item}
+use Rattle.cap_prog.specs.Program.{Items, none, item, append_items}
+use Rattle.cap_prog.specs.Views.{item_view}
 use Rattle.cap_logic.specs.States.{PlainTask, to_take}
+use Rattle.cap_goal.specs.declared.task.Items as code_items
 use Rattle.cap_goal.specs.Views.{items_in, tasks_view}
 use Rattle.cap_rules.specs.Rules.{Remaining}
 use Rattle.cap_take.specs.declared.remaining.Remaining as code
@@ -34,9 +36,7 @@ side_tasks is r = tasks_ahead (with_items (append_items is r.items) r)
 abbrev pub cell_view : Bor (Linear × Linear) → Linear × Linear
 cell_view c = c.now
 
--- slots and terms that are lent
-abbrev pub slots_view : List (Bor Slot) → List Slot
-slots_view xs = map (λ x. x.now) xs
-
-abbrev pub lent_terms : List (Bor Linear) → List Linear
-lent_terms ts = map (λ t. t.now) ts
+-- the item that comes first, and those behind it
+abbrev pub items_ahead : Option (Bor Item × code_items.Items) → Items
+items_ahead None = none
+items_ahead (Some x) = item (item_view x.0.now) (items_in x.1.lists.items none)

@@ -7,9 +7,9 @@ ghost use Rattle.cap_steps.specs.Goals.{goals_view};
 ghost use Rattle.cap_steps.specs.Walks.{Makes, Claims, seen};
 ghost use Rattle.cap_take.specs.Views.{remaining_view, cell_view};
 
-use crate::matching::match_slot;
-use crate::remaining::{Remaining, copy_env, determined_at, goes};
+use crate::remaining::{Remaining, goes};
 use cap_goal::{Env, Goal, State};
+use cap_holdings::{copy_env, determined_at, match_slot};
 use cap_lin::Term;
 use cap_prog::Slot;
 use cap_steps::{Ledger, RuleError, prove_equal, with_env_at};

@@ -4,5 +4,10 @@
 
 mod cells;
 mod comparing;
-mod matching;
+mod giving;
+mod heads;
+mod items;
 mod remaining;
+mod take;
+
+pub use take::{take_proofs, take_subgoals};

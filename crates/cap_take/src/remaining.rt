@@ -4,14 +4,11 @@ ghost use Rattle.cap_prog.specs.Program.{none, append_items};
 ghost use Rattle.cap_prog.specs.Views.{items_view};
 ghost use Rattle.cap_goal.specs.Views.{items_in, goal_view, tasks_view};
 ghost use Rattle.cap_logic.specs.States.{goals_of};
-ghost use Rattle.cap_rules.specs.Making.{env_at, row_by, determined};
-ghost use Rattle.cap_steps.specs.Walks.{Makes};
 ghost use Rattle.cap_take.specs.Views.{remaining_view, with_items, tasks_ahead, side_tasks};
 
-use cap_goal::{Env, Goal, Items, State, Task};
-use cap_lin::{Op, Row, Term};
-use cap_prog::{Assertion, Comp};
-use cap_steps::{RuleError, copy_tasks, determined, leaves, row_by};
+use cap_goal::{Goal, Items, State, Task};
+use cap_prog::Assertion;
+use cap_steps::{copy_tasks, leaves};
 use std::alloc::{AllocError, Global};
 
 /// What is left of an assertion behind the item that is given up: its items, the number of their
@@ -23,60 +20,6 @@ pub(crate) struct Remaining<'t, 'a> {
     pub(crate) creations: u32,
     pub(crate) at: u32,
     pub(crate) tasks: &'t [Task<'a>],
-}
-
-// The environment of a number, or none of its names past the end.
-fn env_at<'a>(state: &'a State, number: u32, none: &'a Env) -> &'a Env
-    requires { none.now ≡ [] }
-    ensures { result.now ≡ env_at state.now number }
-{
-    let number = number as usize;
-    if number < state.envs().len() {
-        &state.envs()[number]
-    } else {
-        none
-    }
-}
-
-/// What a term stands for, where the environment of a number binds each of its names.
-pub(crate) fn determined_at(
-    alloc: Global,
-    state: &State,
-    env: u32,
-    term: &Term,
-) -> Result<Term, RuleError>
-    ensures { Makes result (determined (env_at state.now env) term.now) }
-{
-    let none = Env {
-        terms: Vec::new(alloc),
-    };
-    determined(alloc, env_at(state, env, &none), term)
-}
-
-/// The environment of a number, once more.
-pub(crate) fn copy_env(alloc: Global, state: &State, env: u32) -> Result<Env, AllocError>
-    ensures { IfOk result (λ e. e ≡ env_at state.now env) }
-{
-    let none = Env {
-        terms: Vec::new(alloc),
-    };
-    env_at(state, env, &none).copy(alloc)
-}
-
-/// The row of a comparison, by the environment of a number, with this operator.
-pub(crate) fn row_at(
-    alloc: Global,
-    state: &State,
-    env: u32,
-    op: Op,
-    comparison: &Comp,
-) -> Result<Row, RuleError>
-    ensures { Makes result (row_by (env_at state.now env) op comparison.now) }
-{
-    let none = Env {
-        terms: Vec::new(alloc),
-    };
-    row_by(alloc, env_at(state, env, &none), op, comparison)
 }
 
 // The items that are left, once more.

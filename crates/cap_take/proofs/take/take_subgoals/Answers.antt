@@ -1,0 +1,33 @@
+use Rattle.std.proofs.Common.{List, Option, subst}
+use Rattle.cap_lin.specs.declared.row.Row.{Row}
+use Rattle.cap_farkas.specs.declared.cert.Cert.{Cert}
+use Rattle.std.specs.Borrow.{Bor}
+use Rattle.cap_prog.specs.Views.{program_view}
+use Rattle.cap_logic.specs.States.{PlainGoal}
+use Rattle.cap_goal.specs.declared.task.Task.{Task}
+use Rattle.cap_goal.specs.Views.{tasks_view, goal_view, choice_view}
+use Rattle.cap_rules.specs.Answers.{marks_of}
+use Rattle.cap_rules.specs.Attempts.{Attempt}
+use Rattle.cap_rules.specs.Rules.{rule}
+use Rattle.cap_steps.specs.Goals.{goals_view}
+use Rattle.cap_steps.specs.Judging.{Answered, certs_in}
+use Rattle.cap_steps.specs.Walks.{Claims, seen}
+use Rattle.cap_take.specs.declared.heads.Taking.{Taking}
+use Rattle.cap_take.specs.Heads.{taken_by}
+use Rattle.cap_take.proofs.Ruled.{by_rule}
+use Rattle.cap_take.proofs.take.take_subgoals.Goals as goal
+
+pub returns : goal.returns
+returns c =
+    let p = program_view c.args.program.now in
+    let g = goal_view c.args.goal.now in
+    let x = choice_view c.args.choice.now in
+    let after = c.take_tasks-outcome.new.ledger in
+    let outcome = seen goals_view c.take_tasks-outcome.result in
+    let first = subst (λ (ts : List Task). Claims outcome c.new-ledger.result after (taken_by p g.state c.rule_of.result (tasks_view ts))) c.deref.ensures.value c.take_tasks-outcome.ensures in
+    let named = subst (λ (t : Option Taking). Claims outcome c.new-ledger.result after (taken_by p g.state t g.tasks)) c.rule_of.ensures first in
+    let ruled = subst (λ (o : Attempt (List PlainGoal)). Claims outcome c.new-ledger.result after o) (by_rule p g x (marks_of x) c.requires.taking) named in
+    let begun = subst (λ (ls : List (List Row)). Claims outcome ls after (rule p g x (marks_of x))) c.new-ledger.ensures ruled in
+    let judged = c.judged.ensures (rule p g x (marks_of x)) begun in
+    let given = subst (λ (cs : List (Bor Cert)). Answered (seen goals_view c.judged.result) (rule p g x (marks_of x)) (certs_in cs)) c.deref-2.ensures.value judged in
+    subst (λ (cs : List Cert). Answered (seen goals_view c.judged.result) (rule p g x (marks_of x)) cs) c.in_ok-certs.ensures given
