@@ -1,0 +1,6 @@
+mod Stepping
+mod Members
+mod Regions
+mod Tasks
+mod Effects
+mod Cases
