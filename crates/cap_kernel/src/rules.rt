@@ -1,0 +1,102 @@
+//! The rules, by their choices: what each leaves of a goal, and what its certificates have to refute.
+ghost use Rattle.cap_prog.specs.Views.{program_view};
+ghost use Rattle.cap_logic.specs.Choices.{certs_of as certs_in};
+ghost use Rattle.cap_logic.specs.Fits.{HasRoom};
+ghost use Rattle.cap_rules.specs.Answers.{marks_of, proofs as owed_proofs};
+ghost use Rattle.cap_rules.specs.Rules.{rule};
+ghost use Rattle.cap_goal.specs.Views.{goal_view, choice_view};
+ghost use Rattle.cap_steps.specs.Goals.{goals_view};
+ghost use Rattle.cap_steps.specs.Judging.{Answered, IsTold, lists_view};
+ghost use Rattle.cap_steps.specs.Walks.{seen};
+
+use cap_goal::{Choice, Goal};
+use cap_lin::Row;
+use cap_open::{open_proofs, open_subgoals};
+use cap_prog::Program;
+use cap_pure::{pure_proofs, pure_subgoals};
+use cap_stab::{stab_proofs, stab_subgoals};
+use cap_steps::RuleError;
+use cap_take::{take_proofs, take_subgoals};
+use std::alloc::Global;
+
+/// The subgoals that a choice leaves of a goal, in the order of the rule. `NotApplicable` comes
+/// where the rule doesn't fit the goal's head, where a number names nothing, where a condition of
+/// the rule fails, where a list of the state is full, and where the choice's certificates, and
+/// after them its marks, don't refute the rule's lists, one each; `Wide` where a result leaves 128
+/// bits before that. A choice of a rule that is not joined yet answers want of memory.
+pub fn subgoals<'a>(
+    alloc: Global,
+    program: &'a Program,
+    goal: &Goal<'a>,
+    choice: &Choice,
+) -> Result<Vec<Goal<'a>>, RuleError>
+    requires { HasRoom goal.now.state }
+    ensures { Answered (seen goals_view result) (rule (program_view program.now)
+        (goal_view goal.now) (choice_view choice.now) (marks_of (choice_view choice.now)))
+        (certs_in (choice_view choice.now)) }
+{
+    match choice {
+        Choice::Absurd(_)
+        | Choice::Clash(_, _, _)
+        | Choice::Set
+        | Choice::Alloc
+        | Choice::Assert(_)
+        | Choice::If
+        | Choice::Loop
+        | Choice::Turn
+        | Choice::Call
+        | Choice::Fork
+        | Choice::Return => pure_subgoals(alloc, program, goal, choice),
+        Choice::Settle(_, _) | Choice::Keep(_) => stab_subgoals(alloc, program, goal, choice),
+        Choice::Enter(_, _) | Choice::Act(_, _, _) | Choice::Pick(_, _, _) | Choice::Shift(_) =>
+            open_subgoals(alloc, program, goal, choice),
+        Choice::Give
+        | Choice::Fact(_)
+        | Choice::Cases
+        | Choice::Cell(_, _)
+        | Choice::Region(_, _)
+        | Choice::Guard(_, _, _)
+        | Choice::Convert(_, _, _)
+        | Choice::Create(_)
+        | Choice::Made(_) => take_subgoals(alloc, program, goal, choice),
+    }
+}
+
+/// The lists of rows that the choice's certificates, and after them its marks, have to refute,
+/// whatever it holds, or the first failure that is none of theirs.
+pub fn proofs<'a>(
+    alloc: Global,
+    program: &'a Program,
+    goal: &Goal<'a>,
+    choice: &Choice,
+) -> Result<Vec<Vec<Row>>, RuleError>
+    requires { HasRoom goal.now.state }
+    ensures { IsTold (seen lists_view result)
+        (owed_proofs (program_view program.now) (goal_view goal.now) (choice_view choice.now)) }
+{
+    match choice {
+        Choice::Absurd(_)
+        | Choice::Clash(_, _, _)
+        | Choice::Set
+        | Choice::Alloc
+        | Choice::Assert(_)
+        | Choice::If
+        | Choice::Loop
+        | Choice::Turn
+        | Choice::Call
+        | Choice::Fork
+        | Choice::Return => pure_proofs(alloc, program, goal, choice),
+        Choice::Settle(_, _) | Choice::Keep(_) => stab_proofs(alloc, program, goal, choice),
+        Choice::Enter(_, _) | Choice::Act(_, _, _) | Choice::Pick(_, _, _) | Choice::Shift(_) =>
+            open_proofs(alloc, program, goal, choice),
+        Choice::Give
+        | Choice::Fact(_)
+        | Choice::Cases
+        | Choice::Cell(_, _)
+        | Choice::Region(_, _)
+        | Choice::Guard(_, _, _)
+        | Choice::Convert(_, _, _)
+        | Choice::Create(_)
+        | Choice::Made(_) => take_proofs(alloc, program, goal, choice),
+    }
+}
