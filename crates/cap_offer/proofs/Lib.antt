@@ -1,0 +1,6 @@
+pub mod Numbers
+pub mod Trials
+pub mod Listed
+pub mod Placed
+pub mod Headed
+pub mod Noted

@@ -1,0 +1,5 @@
+pub mod Sums
+pub mod Claiming
+pub mod Seeking
+pub mod Heads
+pub mod Views
