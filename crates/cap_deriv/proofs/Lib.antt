@@ -1,0 +1,4 @@
+pub mod Cut
+pub mod Texts
+pub mod Numerals
+pub mod Whole

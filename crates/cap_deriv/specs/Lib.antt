@@ -1,0 +1,5 @@
+pub mod Reading
+pub mod Told
+pub mod Views
+pub mod Telling
+pub mod Whole

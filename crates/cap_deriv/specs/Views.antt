@@ -1,0 +1,18 @@
+-- What contracts see of the code's answers.
+use Rattle.std.specs.Prelude.{◌≡◌, Option, Some, None, Result, Ok, Err, ⊤}
+use Rattle.cap_goal.specs.Views.{choice_view}
+use Rattle.cap_deriv.specs.Told.{PlainLine, choice_line, end_line}
+use Rattle.cap_deriv.specs.declared.found.Found.{Found}
+use Rattle.cap_deriv.specs.declared.found.Found.TheVariants.{Node, End}
+use Rattle.cap_deriv.specs.declared.values.Fault.{Fault}
+use Rattle.cap_deriv.specs.declared.values.Fault.TheVariants.{Form, OutOfMemory}
+
+-- the answer is what the definition gives, unless memory ran out
+abbrev pub Extracts : {A B : Type 0} → (A → B) → Result A Fault → Option B → Type 0
+Extracts f (Ok x) o = Some (f x) ≡ o
+Extracts f (Err Form) o = None ≡ o
+Extracts f (Err OutOfMemory) o = ⊤
+
+abbrev pub found_view : Found → PlainLine
+found_view (Node c) = choice_line (choice_view c)
+found_view (End n) = end_line n

@@ -1,0 +1,16 @@
+//! Derivations as lines of JSON: read line by line.
+#![tactic(auto)]
+
+mod certs;
+mod choices;
+mod cursor;
+mod entire;
+mod first;
+mod found;
+mod values;
+
+pub use cursor::{Cursor, DerivError};
+pub use entire::{Lines, read};
+
+#[cfg(test)]
+mod tests;

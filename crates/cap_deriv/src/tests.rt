@@ -1,0 +1,125 @@
+use super::*;
+use std::alloc::{AllocError, Global};
+use std::test::Fail;
+
+fn outcome(alloc: Global, bytes: &[u8]) -> Result<usize, DerivError> {
+    let lines = read(alloc, bytes)?;
+    Ok(lines.choices.len())
+}
+
+#[test]
+fn first_and_last_lines(rt: HostRuntime) -> Result<(), Fail> {
+    let alloc = rt.alloc();
+    assert_eq!(rt; outcome(alloc, b""), Err(DerivError::Unended));
+    assert_eq!(rt; outcome(alloc, b"\n"), Err(DerivError::BadLine(1)));
+    assert_eq!(rt;
+        outcome(alloc, b"[\"caper\",2,3]"),
+        Err(DerivError::BadLine(1))
+    );
+    assert_eq!(rt;
+        outcome(alloc, b"[\"caper\",1,3]"),
+        Err(DerivError::Unended)
+    );
+    assert_eq!(rt; outcome(alloc, b"[\"caper\",1,3]\n[\"end\",0]"), Ok(0));
+    assert_eq!(rt;
+        outcome(alloc, b"[\"caper\",1,3]\n[\"end\",1]\n"),
+        Err(DerivError::BadLine(2))
+    );
+    assert_eq!(rt;
+        outcome(alloc, b"[\"caper\",1,3]\n[\"end\",0]\n\n"),
+        Err(DerivError::BadLine(3))
+    );
+    Ok(())
+}
+
+// What the one line of a node is read as.
+fn of_line(alloc: Global, line: &[u8]) -> Result<Result<usize, DerivError>, AllocError> {
+    let mut bytes = Vec::from_slice(alloc, b"[\"caper\",1,3]\n")?;
+    bytes.extend_from_slice(line)?;
+    bytes.extend_from_slice(b"\n[\"end\",1]")?;
+    Ok(outcome(alloc, bytes.as_slice()))
+}
+
+#[test]
+fn good_lines(rt: HostRuntime) -> Result<(), Fail> {
+    let alloc = rt.alloc();
+    for line in [
+        b" [ \"set\" ]\t\r".as_slice(),
+        b"[\"s\\u0065t\"]".as_slice(),
+        b"[\"pick\",0,4294967295,0]".as_slice(),
+        b"[\"absurd\",[\"leaf\",[[0,\"170141183460469231731687303715884105727\"],[1,\"-170141183460469231731687303715884105728\"]]]]".as_slice(),
+        b"[\"settle\",[3,3,1],[]]".as_slice(),
+        b"[\"act\",0,[[\"split\",1,[],[]]],[0,[\"leaf\",[]]]]".as_slice(),
+    ] {
+        assert_eq!(rt; of_line(alloc, line)?, Ok(1));
+    }
+    Ok(())
+}
+
+#[test]
+fn bad_lines(rt: HostRuntime) -> Result<(), Fail> {
+    let alloc = rt.alloc();
+    for line in [
+        b"".as_slice(),
+        b"[\"set\",1]".as_slice(),
+        b"[\"set\"] x".as_slice(),
+        b"[\"set\",0.5]".as_slice(),
+        b"[\"return\",1]".as_slice(),
+        b"[\"pick\",0,4294967296,0]".as_slice(),
+        b"[\"pick\",0,-0,0]".as_slice(),
+        b"[\"pick\",0,1.0,0]".as_slice(),
+        b"[\"pick\",0,1e0,0]".as_slice(),
+        b"[\"pick\",0,18446744073709551616,0]".as_slice(),
+        b"[\"pick\",0,01,0]".as_slice(),
+        b"[\"absurd\",[\"leaf\",[[0,\"0\"]]]]".as_slice(),
+        b"[\"absurd\",[\"leaf\",[[0,\"+1\"]]]]".as_slice(),
+        b"[\"absurd\",[\"leaf\",[[0,\"-01\"]]]]".as_slice(),
+        b"[\"absurd\",[\"leaf\",[[0,\"-\"]]]]".as_slice(),
+        b"[\"absurd\",[\"leaf\",[[0,1]]]]".as_slice(),
+        b"[\"absurd\",[\"leaf\",[[0,\"170141183460469231731687303715884105728\"]]]]".as_slice(),
+        b"[\"act\",0,[],[1]]".as_slice(),
+        b"[\"act\",0,[],[null]]".as_slice(),
+        b"{\"set\":1,\"set\":1}".as_slice(),
+        b"[\"\xff\"]".as_slice(),
+    ] {
+        assert_eq!(rt; of_line(alloc, line)?, Err(DerivError::BadLine(2)));
+    }
+    Ok(())
+}
+
+#[test]
+fn all_choices_are_read(rt: HostRuntime) -> Result<(), Fail> {
+    let alloc = rt.alloc();
+    let text = b"[\"caper\",1,27]
+[\"absurd\",[\"split\",1,[[2,\"-3\"]],[]]]
+[\"clash\",0,1,[[\"leaf\",[[0,\"1\"]]]]]
+[\"set\"]
+[\"alloc\"]
+[\"assert\",[[\"leaf\",[[0,\"1\"]]]]]
+[\"if\"]
+[\"loop\"]
+[\"turn\"]
+[\"call\"]
+[\"fork\"]
+[\"return\"]
+[\"enter\",4,[[\"leaf\",[]]]]
+[\"act\",7,[],[0,[\"leaf\",[[4,\"5\"]]]]]
+[\"pick\",1,2,3]
+[\"shift\",[]]
+[\"settle\",[1,2],[[\"leaf\",[]]]]
+[\"keep\",[]]
+[\"give\"]
+[\"fact\",[]]
+[\"cases\"]
+[\"cell\",0,[]]
+[\"region\",1,[]]
+[\"guard\",2,1,[]]
+[\"convert\",3,0,[]]
+[\"create\",5]
+[\"made\",[]]
+[\"end\",26]
+"
+        .as_slice();
+    assert_eq!(rt; outcome(alloc, text), Ok(26));
+    Ok(())
+}
