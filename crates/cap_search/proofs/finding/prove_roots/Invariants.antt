@@ -1,0 +1,16 @@
+use Rattle.std.proofs.Common.{◌≡◌, drop}
+use Rattle.cap_prog.specs.Views.{program_view}
+use Rattle.cap_roots.specs.Views.{roots_view}
+use Rattle.cap_seek.specs.Seeking.{unit_trees}
+use Rattle.cap_seek.specs.Walks.{unit_walked}
+use Rattle.cap_search.specs.Searching.{behind}
+use Rattle.cap_search.specs.Views.{trees_seen, walk_view}
+use Rattle.cap_search.proofs.finding.prove_roots.Given as goal
+
+abbrev pub invariant-loop-number : goal.invariant-loop-number
+invariant-loop-number l =
+    let p = program_view l.program in
+    let whole = roots_view l.roots in
+    let rest = roots_view (drop l.number l.roots) in
+    (unit_trees p whole ≡ behind (trees_seen l.trees) (unit_trees p rest))
+    × (unit_walked p 0 (walk_view l.fn.walk) whole ≡ unit_walked p l.number (walk_view l.walk) rest)

@@ -1,0 +1,5 @@
+pub mod Heads
+pub mod Places
+pub mod Searching
+pub mod Starts
+pub mod Views
