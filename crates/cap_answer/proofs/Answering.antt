@@ -12,11 +12,12 @@ use Rattle.cap_reading.specs.declared.refusal.Refusal.{Refusal}
 use Rattle.cap_reading.specs.declared.refusal.Refusal.TheVariants.{BadByte, LongLiteral, TextTooLong, Unexpected, TooDeep, Unresolved, OutOfMemory}
 use Rattle.cap_reading.specs.Reading.{UnlessMemory, FindsTree, FindsProgram}
 use Rattle.cap_answer.specs.declared.output.Output as code
-use Rattle.cap_answer.specs.declared.report.Report.{Report}
-use Rattle.cap_answer.specs.Report.{report_text, is_all_proved}
+use Rattle.cap_report.specs.declared.report.Report.{Report}
+use Rattle.cap_report.specs.Report.{report_text, is_good}
+use Rattle.cap_report.specs.Views.{IsReportOf}
 use Rattle.cap_answer.specs.Output.{Output, usage, unreadable, too_long, refused, reported, shown, bad_schedule, played}
 use Rattle.cap_answer.specs.Answers.{IsVerified, IsReported, IsShown, IsShownAs, IsOnly}
-use Rattle.cap_answer.specs.Views.{output_view, IsReportOf, IsCause}
+use Rattle.cap_answer.specs.Views.{output_view, IsCause}
 
 -- what holds unless memory ran out holds for a cause that lies in the text
 pub holds_for : (P : Type 0) (e : Refusal) → IsCause e → UnlessMemory e P → P
@@ -38,27 +39,27 @@ AnswersRefusal e r =
 
 -- ---- verify
 
-pub verify_reports : (bytes : List ℕ) (program : Program) (r : Report) → FindsProgram bytes (Ok program)
-    → IsReportOf (program_view program) r → IsOnly (IsVerified bytes) (reported r.proved r.text.items)
-verify_reports bytes program r f h = record { said = said; only = by }
+pub verify_reports : (budget : ℕ) (bytes : List ℕ) (program : Program) (r : Report) → FindsProgram bytes (Ok program)
+    → IsReportOf (program_view program) budget r → IsOnly (IsVerified budget bytes) (reported r.good r.text.items)
+verify_reports budget bytes program r f h = record { said = said; only = by }
   where
-    said : IsReported bytes r.text.items r.proved
+    said : IsReported budget bytes r.text.items r.good
     said = record {
       program = program_view program;
       text_of_it = f.found;
       whole = h.text;
-      all = h.proved;
+      found = h.good;
     }
 
-    same : (text : List ℕ) (proved : Bool) → IsReported bytes text proved
-        → reported r.proved r.text.items ≡ reported proved text
-    same text proved s =
+    same : (text : List ℕ) (good : Bool) → IsReported budget bytes text good
+        → reported r.good r.text.items ≡ reported good text
+    same text good s =
         let e = f.only_found s.program s.text_of_it in
-        ap (λ b. reported b r.text.items) (h.proved ∙ ap is_all_proved e ∙ sym s.all)
-        ∙ ap (reported proved) (h.text ∙ ap report_text e ∙ sym s.whole)
+        ap (λ b. reported b r.text.items) (h.good ∙ ap (λ p. is_good p budget) e ∙ sym s.found)
+        ∙ ap (reported good) (h.text ∙ ap (λ p. report_text p budget) e ∙ sym s.whole)
 
-    by : (p : Output) → IsVerified bytes p → reported r.proved r.text.items ≡ p
-    by (reported proved text) s = same text proved s
+    by : (p : Output) → IsVerified budget bytes p → reported r.good r.text.items ≡ p
+    by (reported good text) s = same text good s
     by (refused q) s = absurd (f.only_caused q s)
     by (shown text) s = absurd s
     by usage s = absurd s
@@ -67,13 +68,13 @@ verify_reports bytes program r f h = record { said = said; only = by }
     by (bad_schedule x) s = absurd s
     by (played text end) s = absurd s
 
-verify_refuses : (bytes : List ℕ) (e : Refusal) → IsCause e → FindsProgram bytes (Err e)
-    → IsOnly (IsVerified bytes) (refused e)
-verify_refuses bytes e c f = record { said = holds_for _ e c f.not_found; only = by }
+verify_refuses : (budget : ℕ) (bytes : List ℕ) (e : Refusal) → IsCause e → FindsProgram bytes (Err e)
+    → IsOnly (IsVerified budget bytes) (refused e)
+verify_refuses budget bytes e c f = record { said = holds_for _ e c f.not_found; only = by }
   where
-    by : (p : Output) → IsVerified bytes p → refused e ≡ p
+    by : (p : Output) → IsVerified budget bytes p → refused e ≡ p
     by (refused q) s = ap refused (holds_for _ e c (f.only_caused q s))
-    by (reported proved text) s = absurd (no_cause e c (f.only_found s.program s.text_of_it))
+    by (reported good text) s = absurd (no_cause e c (f.only_found s.program s.text_of_it))
     by (shown text) s = absurd s
     by usage s = absurd s
     by (unreadable name) s = absurd s
@@ -81,12 +82,12 @@ verify_refuses bytes e c f = record { said = holds_for _ e c f.not_found; only =
     by (bad_schedule x) s = absurd s
     by (played text end) s = absurd s
 
-pub verify_answers : (bytes : List ℕ) (e : Refusal) (r : Result code.Output AllocError)
+pub verify_answers : (budget : ℕ) (bytes : List ℕ) (e : Refusal) (r : Result code.Output AllocError)
     → FindsProgram bytes (Err e) → AnswersRefusal e r
-    → IfOk r (λ o. IsOnly (IsVerified bytes) (output_view o))
-verify_answers bytes e (Ok o) f h =
-    subst (IsOnly (IsVerified bytes)) (sym h.0) (verify_refuses bytes e h.1 f)
-verify_answers bytes e (Err a) f h = tt
+    → IfOk r (λ o. IsOnly (IsVerified budget bytes) (output_view o))
+verify_answers budget bytes e (Ok o) f h =
+    subst (IsOnly (IsVerified budget bytes)) (sym h.0) (verify_refuses budget bytes e h.1 f)
+verify_answers budget bytes e (Err a) f h = tt
 
 -- ---- show
 

@@ -4,11 +4,11 @@ use Rattle.cap_prog.specs.Program.{PlainProgram}
 use Rattle.cap_tree.specs.Tree.{ProgramTree}
 use Rattle.cap_tree.specs.Canonical.{canonical_text}
 use Rattle.cap_tree.specs.Texts.{Spells}
-use Rattle.cap_judge.specs.Verdict.{IsSafe}
+use Rattle.cap_meaning.specs.Safety.{Safe}
 use Rattle.cap_stands.specs.Stands.{Stands}
 use Rattle.cap_reading.specs.declared.refusal.Refusal.{Refusal}
 use Rattle.cap_reading.specs.Refused.{SpellNone, IsRefused, IsTextOf}
-use Rattle.cap_answer.specs.Report.{report_text, is_all_proved}
+use Rattle.cap_report.specs.Report.{report_text, is_good}
 use Rattle.cap_answer.specs.Task.{Task, verify, show, replay}
 use Rattle.cap_answer.specs.Output.{Output, usage, unreadable, too_long, refused, reported, shown, bad_schedule, played, status_of}
 use Rattle.std.specs.Prelude.{◌⊎◌, length, slice_get, IsSomeAnd, Ok, Err}
@@ -29,17 +29,17 @@ pub data Fetched : Type 0 where
 
 -- ---- by the bytes
 
--- the bytes are a program's text, of which this is the report
-pub record IsReported (bytes text : List ℕ) (proved : Bool) : Type 0 where
+-- the bytes are a program's text, of which this is the report, within a budget
+pub record IsReported (budget : ℕ) (bytes text : List ℕ) (good : Bool) : Type 0 where
   pub program : PlainProgram
   pub text_of_it : IsTextOf bytes program
-  pub whole : text ≡ report_text program
-  pub all : proved ≡ is_all_proved program
+  pub whole : text ≡ report_text program budget
+  pub found : good ≡ is_good program budget
 
-abbrev pub IsVerified : List ℕ → Output → Type 0
-IsVerified bytes (refused r) = IsRefused bytes r
-IsVerified bytes (reported proved text) = IsReported bytes text proved
-IsVerified bytes _ = ⊥
+abbrev pub IsVerified : ℕ → List ℕ → Output → Type 0
+IsVerified budget bytes (refused r) = IsRefused bytes r
+IsVerified budget bytes (reported good text) = IsReported budget bytes text good
+IsVerified budget bytes _ = ⊥
 
 -- the bytes spell a tree, of which this is the canonical text
 pub record IsShownAs (bytes text : List ℕ) : Type 0 where
@@ -100,7 +100,7 @@ IsReplayed name x bytes o = (p : PlainProgram) × IsTextOf bytes p × After name
 -- the output, where the task's files gave these, in the order of the words
 abbrev pub IsOutput : Option Task → List Fetched → Output → Type 0
 IsOutput None [] o = o ≡ usage
-IsOutput (Some (verify file)) (x ∷ []) o = After file x IsVerified o
+IsOutput (Some (verify file budget)) (x ∷ []) o = After file x (IsVerified budget) o
 IsOutput (Some (show file)) (x ∷ []) o = After file x IsShown o
 IsOutput (Some (replay file schedule)) (x ∷ (y ∷ [])) o = After file x (IsReplayed schedule y) o
 IsOutput task _ o = ⊥
@@ -118,18 +118,19 @@ pub record IsOnlyTextOf (bytes : List ℕ) (p : PlainProgram) : Type 0 where
 
 -- ---- what a good answer means
 
--- The bytes spell a tree that stands for a program, all of which is proved, and every run of it, of
--- every length, along every schedule and from every heap, makes no memory fault and fails no
--- assertion.
-pub record IsGood (bytes : List ℕ) : Type 0 where
+-- The bytes spell a tree that stands for a program, all of which is proved within a budget, and every
+-- run of it, of every length and along every schedule, from every state that meets the precondition
+-- of `main`, makes no memory fault, fails no assertion and keeps the contracts of its functions.
+pub record IsGood (budget : ℕ) (bytes : List ℕ) : Type 0 where
   pub tree : ProgramTree
   pub spelled : Spells bytes tree
   pub program : PlainProgram
   pub stands : Stands tree program
-  pub proved : is_all_proved program ≡ true
-  pub safe : IsSafe program
+  pub proved : is_good program budget ≡ true
+  pub safe : Safe program
 
 -- what `verify` says with a good status is said of the text of a safe program
 abbrev pub GoodAnswersAreSafe : Type 0
 GoodAnswersAreSafe =
-    (bytes : List ℕ) (o : Output) → IsVerified bytes o → status_of o ≡ Good → IsGood bytes
+    (budget : ℕ) (bytes : List ℕ) (o : Output) →
+    IsVerified budget bytes o → status_of o ≡ Good → IsGood budget bytes

@@ -1,6 +1,5 @@
 pub mod Task
 pub mod Status
-pub mod Report
 pub mod Output
 pub mod Answers
 pub mod Views

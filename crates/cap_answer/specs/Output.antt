@@ -11,7 +11,7 @@ use Rattle.cap_answer.specs.declared.status.Status.{Status}
 use Rattle.cap_answer.specs.declared.status.Status.TheVariants.{Good, Bad, Refused, Usage, ReadFault}
 use Rattle.cap_answer.specs.declared.status.Status.TheVariants.{NotEnabled as not_enabled, Wide as wide}
 
--- a report on a program says whether all of it is proved
+-- a report on a program says whether it is good: all of it proved, and its `main` can begin
 pub data Output : Type 0 where
   usage : Output
   unreadable : List ℕ → Output
@@ -23,7 +23,7 @@ pub data Output : Type 0 where
   played : List ℕ → End → Output
 
 abbrev pub report_status : Bool → Status
-report_status proved = if proved then Good else Bad
+report_status good = if good then Good else Bad
 
 abbrev pub end_status : End → Status
 end_status (Ended k) = Good
@@ -36,7 +36,7 @@ status_of usage = Usage
 status_of (unreadable name) = ReadFault
 status_of too_long = Refused
 status_of (refused r) = Refused
-status_of (reported proved text) = report_status proved
+status_of (reported good text) = report_status good
 status_of (shown text) = Good
 status_of (bad_schedule e) = Refused
 status_of (played text end) = end_status end
@@ -59,7 +59,7 @@ text_of usage = usage_line
 text_of (unreadable name) = unreadable_line name
 text_of too_long = codes "refused: file too long\n"
 text_of (refused r) = refusal_line r
-text_of (reported proved text) = text
+text_of (reported good text) = text
 text_of (shown text) = text
 text_of (bad_schedule e) = schedule_line e
 text_of (played text end) = text

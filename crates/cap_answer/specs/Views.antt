@@ -1,12 +1,8 @@
--- What is seen of outputs and reports.
-use Rattle.std.specs.Prelude.{◌≡◌, ℕ, List, Result}
-use Rattle.cap_prog.specs.Program.{PlainProgram}
+-- What is seen of outputs.
 use Rattle.cap_reading.specs.declared.refusal.Refusal.{Refusal}
 use Rattle.cap_reading.specs.declared.refusal.Refusal.TheVariants.{OutOfMemory}
 use Rattle.cap_answer.specs.declared.output.Output as code
 use Rattle.cap_answer.specs.declared.output.Output.TheVariants.{Usage, Unreadable, TooLong, Refused, Reported, Shown, BadSchedule, Played}
-use Rattle.cap_answer.specs.declared.report.Report.{Report}
-use Rattle.cap_answer.specs.Report.{report_text, is_all_proved}
 use Rattle.cap_answer.specs.Output.{Output, usage, unreadable, too_long, refused, reported, shown, bad_schedule, played}
 
 abbrev pub output_view : code.Output → Output
@@ -14,15 +10,10 @@ output_view Usage = usage
 output_view (Unreadable name) = unreadable name.now
 output_view TooLong = too_long
 output_view (Refused r) = refused r
-output_view (Reported r) = reported r.proved r.text.items
+output_view (Reported r) = reported r.good r.text.items
 output_view (Shown text) = shown text.items
 output_view (BadSchedule e) = bad_schedule e
 output_view (Played p) = played p.text.items p.end
-
--- the report is that of the program
-pub record IsReportOf (p : PlainProgram) (r : Report) : Type 0 where
-  pub text : r.text.items ≡ report_text p
-  pub proved : r.proved ≡ is_all_proved p
 
 -- a cause that lies in the text
 abbrev pub IsCause : Refusal → Type 0

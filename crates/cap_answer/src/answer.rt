@@ -7,9 +7,9 @@ ghost use Rattle.cap_answer.specs.declared.status.Status.TheVariants.{Good};
 
 use crate::laws::good_answers_are_safe;
 use crate::output::Output;
-use crate::report::report_on;
 use cap_print::print;
 use cap_reading::{Refusal, read_program, read_tree};
+use cap_report::report_on;
 use std::alloc::{AllocError, Global};
 
 /// What is said of a text that is refused, unless for want of memory.
@@ -24,24 +24,25 @@ pub(crate) fn refuse<'a>(cause: Refusal) -> Result<Output<'a>, AllocError>
 }
 
 /// What is said of a program's text.
-fn judge_text<'a>(alloc: Global, bytes: &[u8]) -> Result<Output<'a>, AllocError>
-    ensures { IfOk result (λ o. IsOnly (IsVerified bytes.now) (output_view o)) }
+fn judge_text<'a>(alloc: Global, bytes: &[u8], budget: u64) -> Result<Output<'a>, AllocError>
+    ensures { IfOk result (λ o. IsOnly (IsVerified budget bytes.now) (output_view o)) }
 {
     match read_program(alloc, bytes) {
-        Ok(program) => Ok(Output::Reported(report_on(alloc, &program)?)),
+        Ok(program) => Ok(Output::Reported(report_on(alloc, &program, budget)?)),
         Err(refusal) => refuse(refusal),
     }
 }
 
-/// What `verify` answers to a file of these bytes. The only error is want of memory.
-pub fn verify<'a>(alloc: Global, bytes: &[u8]) -> Result<Output<'a>, AllocError>
-    ensures answers { IfOk result (λ o. IsOnly (IsVerified bytes.now) (output_view o)) }
+/// What `verify` answers to a file of these bytes, each unit searched within a budget of visits. The
+/// only error is want of memory.
+pub fn verify<'a>(alloc: Global, bytes: &[u8], budget: u64) -> Result<Output<'a>, AllocError>
+    ensures answers { IfOk result (λ o. IsOnly (IsVerified budget bytes.now) (output_view o)) }
 
     // The headline, of the bytes: where the status is good, they are the text of a safe program.
-    ensures good { IfOk result (λ o. status_of (output_view o) ≡ Good → IsGood bytes.now) }
+    ensures good { IfOk result (λ o. status_of (output_view o) ≡ Good → IsGood budget bytes.now) }
 {
     good_answers_are_safe();
-    judge_text(alloc, bytes)
+    judge_text(alloc, bytes, budget)
 }
 
 /// What `show` answers to a file of these bytes. The only error is want of memory.

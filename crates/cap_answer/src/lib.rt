@@ -5,7 +5,6 @@ mod answer;
 mod laws;
 mod output;
 mod replaying;
-mod report;
 mod status;
 mod task;
 
@@ -13,6 +12,5 @@ pub use answer::{show, verify};
 pub use laws::good_answers_are_safe;
 pub use output::Output;
 pub use replaying::{Begun, begin_replay, play};
-pub use report::Report;
 pub use status::Status;
 pub use task::Task;

@@ -2,10 +2,10 @@ ghost use Rattle.std.specs.Prelude.{◌≡◌, IfOk};
 ghost use Rattle.cap_answer.specs.Output.{status_of, text_of, end_status, schedule_line};
 ghost use Rattle.cap_answer.specs.Views.{output_view};
 
-use crate::report::Report;
 use crate::status::Status;
 use cap_reading::{Refusal, refusal_text};
 use cap_replay::{End, Played, ScheduleError};
+use cap_report::Report;
 use std::alloc::{AllocError, Global};
 
 /// What is said. A file that cannot be read is named, and a text that is shown is canonical.
@@ -60,7 +60,7 @@ impl<'a> Output<'a> {
             Output::Usage => Status::Usage,
             Output::Unreadable(_) => Status::ReadFault,
             Output::TooLong | Output::Refused(_) => Status::Refused,
-            Output::Reported(report) if report.proved => Status::Good,
+            Output::Reported(report) if report.good => Status::Good,
             Output::Reported(_) => Status::Bad,
             Output::Shown(_) => Status::Good,
             Output::BadSchedule(_) => Status::Refused,

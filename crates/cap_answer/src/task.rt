@@ -1,7 +1,6 @@
 ghost use Rattle.std.specs.Prelude.{◌≡◌, IfOk, map, option_map, string_bytes};
 ghost use Rattle.cap_words.specs.Views.{command_view};
-ghost use Rattle.cap_words.specs.Meaning.{begins_option};
-ghost use Rattle.cap_answer.specs.Task.{task_view, task_by, task_in, gives_option};
+ghost use Rattle.cap_answer.specs.Task.{task_view, task_by, task_in};
 
 use cap_words::{Command, read_command};
 use std::alloc::{AllocError, Global};
@@ -9,36 +8,12 @@ use std::alloc::{AllocError, Global};
 /// What the words ask for: a command that is built, and its files.
 #[derive(Clone, Copy, Debug)]
 pub enum Task<'a> {
-    /// Verifies the program in a file.
-    Verify { file: &'a str },
+    /// Verifies the program in a file, searching each unit within a budget of visits.
+    Verify { file: &'a str, budget: u64 },
     /// Writes the program in a file in its canonical layout.
     Show { file: &'a str },
     /// Runs the program in a file along the schedule in another.
     Replay { file: &'a str, schedule: &'a str },
-}
-
-fn begins_option(word: &str) -> bool
-    ensures { result ≡ begins_option word.now }
-{
-    match word.as_bytes() {
-        [first, ..] => *first == b'-',
-        [] => false,
-    }
-}
-
-/// Whether a word before the first `--` is an option.
-fn gives_option(words: &[String]) -> bool
-    ensures { result ≡ gives_option (map string_bytes words.now) }
-{
-    for word in words {
-        if word.as_str() == "--" {
-            return false;
-        }
-        if begins_option(word.as_str()) {
-            return true;
-        }
-    }
-    false
 }
 
 /// The task of a command, if it is built.
@@ -46,7 +21,7 @@ fn built<'a>(command: Command<'a>) -> Option<Task<'a>>
     ensures { option_map task_view result ≡ task_by (command_view command.entry) }
 {
     match command {
-        Command::Verify { file, budget: _ } => Some(Task::Verify { file }),
+        Command::Verify { file, budget } => Some(Task::Verify { file, budget }),
         Command::Show { file } => Some(Task::Show { file }),
         Command::Replay { file, schedule } => Some(Task::Replay { file, schedule }),
         Command::Derive { .. } | Command::Check { .. } | Command::Trial { .. } => None,
@@ -54,14 +29,11 @@ fn built<'a>(command: Command<'a>) -> Option<Task<'a>>
 }
 
 impl<'a> Task<'a> {
-    /// The task of these words, and `None` where they are no command, or one that is not built, or
-    /// give an option, as none means anything yet. The only error is want of memory.
+    /// The task of these words, and `None` where they are no command, or one that is not built. The
+    /// only error is want of memory.
     pub fn from_words(alloc: Global, words: &'a [String]) -> Result<Option<Task<'a>>, AllocError>
         ensures { IfOk result (λ t. option_map task_view t ≡ task_in words.entry.now) }
     {
-        if gives_option(words) {
-            return Ok(None);
-        }
         match read_command(alloc, words)? {
             Some(command) => Ok(built(command)),
             None => Ok(None),

@@ -13,7 +13,7 @@ use Rattle.cap_replay.specs.declared.playing.End.{End}
 use Rattle.cap_replay.specs.declared.playing.End.TheVariants as ends
 use Rattle.cap_replay.specs.declared.reading.ScheduleError.{ScheduleError}
 use Rattle.cap_answer.specs.Answers.{Fetched, held, unread, long, After, IsVerified, IsReported, IsShown, IsShownAs, IsPlayed, IsPlayedAs, IsReplayed, IsOutput, IsOnly, IsGood, GoodAnswersAreSafe}
-use Rattle.cap_answer.specs.Report.{report_text}
+use Rattle.cap_report.specs.Report.{report_text}
 use Rattle.cap_answer.specs.Task.{Task, verify, show, replay, files_of}
 use Rattle.cap_answer.specs.Output.{Output, usage, unreadable, too_long, refused, reported, shown, bad_schedule, played, report_status, end_status, status_of, text_of}
 use Rattle.cap_front.specs.Reads.{IsFetched, AreFetched, given_by, given}
@@ -91,13 +91,13 @@ output_memory (played text end) e = end_memory end e
 -- ---- what is said of one file
 
 module _ (told : Option Files) (reads reads_now : ℕ) (blamed : Option (List ℕ)) (name : List ℕ) (o : Output) where
-  good_by : GoodAnswersAreSafe → (got : List Fetched) → AreFetched told reads reads_now blamed (name ∷ []) got
-      → IsOutput (Some (verify name)) got o → status_of o ≡ Good → VerifiesFile told name
-  good_by safe (held bytes ∷ []) f h e = record { bytes = bytes; held = f.0.1; good = safe bytes o h e }
-  good_by safe (unread ∷ []) f h e = let g : ReadFault ≡ Good = sym (ap status_of h) ∙ e in absurd cc
-  good_by safe (long ∷ []) f h e = let g : Refused ≡ Good = sym (ap status_of h) ∙ e in absurd cc
-  good_by safe [] f h e = absurd h
-  good_by safe (x ∷ (y ∷ ys)) f h e = absurd h
+  good_by : GoodAnswersAreSafe → (budget : ℕ) (got : List Fetched) → AreFetched told reads reads_now blamed (name ∷ []) got
+      → IsOutput (Some (verify name budget)) got o → status_of o ≡ Good → VerifiesFile told budget name
+  good_by safe budget (held bytes ∷ []) f h e = record { bytes = bytes; held = f.0.1; good = safe budget bytes o h e }
+  good_by safe budget (unread ∷ []) f h e = let g : ReadFault ≡ Good = sym (ap status_of h) ∙ e in absurd cc
+  good_by safe budget (long ∷ []) f h e = let g : Refused ≡ Good = sym (ap status_of h) ∙ e in absurd cc
+  good_by safe budget [] f h e = absurd h
+  good_by safe budget (x ∷ (y ∷ ys)) f h e = absurd h
 
   shown_bytes : (bytes : List ℕ) → IsShown bytes o → status_of o ≡ Good → IsShownAs bytes (text_of o)
   shown_bytes bytes = by o
@@ -125,15 +125,15 @@ module _ (told : Option Files) (reads reads_now : ℕ) (blamed : Option (List �
 
 -- ---- usage, and faults of reading
 
-verified_usage : (bytes : List ℕ) (o : Output) → IsVerified bytes o → status_of o ≢ Usage
-verified_usage bytes (refused r) h e = absurd cc
-verified_usage bytes (reported b text) h e = report_usage b e
-verified_usage bytes usage h e = h
-verified_usage bytes (unreadable name) h e = h
-verified_usage bytes too_long h e = h
-verified_usage bytes (shown text) h e = h
-verified_usage bytes (bad_schedule x) h e = h
-verified_usage bytes (played text end) h e = h
+verified_usage : (budget : ℕ) (bytes : List ℕ) (o : Output) → IsVerified budget bytes o → status_of o ≢ Usage
+verified_usage budget bytes (refused r) h e = absurd cc
+verified_usage budget bytes (reported b text) h e = report_usage b e
+verified_usage budget bytes usage h e = h
+verified_usage budget bytes (unreadable name) h e = h
+verified_usage budget bytes too_long h e = h
+verified_usage budget bytes (shown text) h e = h
+verified_usage budget bytes (bad_schedule x) h e = h
+verified_usage budget bytes (played text end) h e = h
 
 shown_usage : (bytes : List ℕ) (o : Output) → IsShown bytes o → status_of o ≢ Usage
 shown_usage bytes (refused r) h e = absurd cc
@@ -145,15 +145,15 @@ shown_usage bytes (reported b text) h e = h
 shown_usage bytes (bad_schedule x) h e = h
 shown_usage bytes (played text end) h e = h
 
-verified_read : (bytes : List ℕ) (o : Output) → IsVerified bytes o → status_of o ≢ ReadFault
-verified_read bytes (refused r) h e = absurd cc
-verified_read bytes (reported b text) h e = report_read b e
-verified_read bytes usage h e = h
-verified_read bytes (unreadable name) h e = h
-verified_read bytes too_long h e = h
-verified_read bytes (shown text) h e = h
-verified_read bytes (bad_schedule x) h e = h
-verified_read bytes (played text end) h e = h
+verified_read : (budget : ℕ) (bytes : List ℕ) (o : Output) → IsVerified budget bytes o → status_of o ≢ ReadFault
+verified_read budget bytes (refused r) h e = absurd cc
+verified_read budget bytes (reported b text) h e = report_read b e
+verified_read budget bytes usage h e = h
+verified_read budget bytes (unreadable name) h e = h
+verified_read budget bytes too_long h e = h
+verified_read budget bytes (shown text) h e = h
+verified_read budget bytes (bad_schedule x) h e = h
+verified_read budget bytes (played text end) h e = h
 
 shown_read : (bytes : List ℕ) (o : Output) → IsShown bytes o → status_of o ≢ ReadFault
 shown_read bytes (refused r) h e = absurd cc
@@ -206,11 +206,11 @@ replayed_read name y bytes o h = replayed_by {T = λ q. status_of q ≡ ReadFaul
 
 usage_by : (task : Option Task) (got : List Fetched) (o : Output) → IsOutput task got o → status_of o ≡ Usage → task ≡ None
 usage_by None got o h e = refl
-usage_by (Some (verify name)) (held bytes ∷ []) o h e = absurd (verified_usage bytes o h e)
-usage_by (Some (verify name)) (unread ∷ []) o h e = let g : ReadFault ≡ Usage = sym (ap status_of h) ∙ e in absurd cc
-usage_by (Some (verify name)) (long ∷ []) o h e = let g : Refused ≡ Usage = sym (ap status_of h) ∙ e in absurd cc
-usage_by (Some (verify name)) [] o h e = absurd h
-usage_by (Some (verify name)) (x ∷ (y ∷ ys)) o h e = absurd h
+usage_by (Some (verify name budget)) (held bytes ∷ []) o h e = absurd (verified_usage budget bytes o h e)
+usage_by (Some (verify name budget)) (unread ∷ []) o h e = let g : ReadFault ≡ Usage = sym (ap status_of h) ∙ e in absurd cc
+usage_by (Some (verify name budget)) (long ∷ []) o h e = let g : Refused ≡ Usage = sym (ap status_of h) ∙ e in absurd cc
+usage_by (Some (verify name budget)) [] o h e = absurd h
+usage_by (Some (verify name budget)) (x ∷ (y ∷ ys)) o h e = absurd h
 usage_by (Some (show name)) (held bytes ∷ []) o h e = absurd (shown_usage bytes o h e)
 usage_by (Some (show name)) (unread ∷ []) o h e = let g : ReadFault ≡ Usage = sym (ap status_of h) ∙ e in absurd cc
 usage_by (Some (show name)) (long ∷ []) o h e = let g : Refused ≡ Usage = sym (ap status_of h) ∙ e in absurd cc
@@ -233,11 +233,11 @@ module _ (told : Option Files) (reads reads_now : ℕ) (blamed : Option (List �
       → IsOutput task got o → status_of o ≡ ReadFault → ReadFails told task reads reads_now blamed
   read_by None [] o f h e = let g : Usage ≡ ReadFault = sym (ap status_of h) ∙ e in absurd cc
   read_by None (x ∷ xs) o f h e = absurd h
-  read_by (Some (verify name)) (held bytes ∷ []) o f h e = absurd (verified_read bytes o h e)
-  read_by (Some (verify name)) (unread ∷ []) o f h e = (name, inl refl, f.0)
-  read_by (Some (verify name)) (long ∷ []) o f h e = let g : Refused ≡ ReadFault = sym (ap status_of h) ∙ e in absurd cc
-  read_by (Some (verify name)) [] o f h e = absurd h
-  read_by (Some (verify name)) (x ∷ (y ∷ ys)) o f h e = absurd h
+  read_by (Some (verify name budget)) (held bytes ∷ []) o f h e = absurd (verified_read budget bytes o h e)
+  read_by (Some (verify name budget)) (unread ∷ []) o f h e = (name, inl refl, f.0)
+  read_by (Some (verify name budget)) (long ∷ []) o f h e = let g : Refused ≡ ReadFault = sym (ap status_of h) ∙ e in absurd cc
+  read_by (Some (verify name budget)) [] o f h e = absurd h
+  read_by (Some (verify name budget)) (x ∷ (y ∷ ys)) o f h e = absurd h
   read_by (Some (show name)) (held bytes ∷ []) o f h e = absurd (shown_read bytes o h e)
   read_by (Some (show name)) (unread ∷ []) o f h e = (name, inl refl, f.0)
   read_by (Some (show name)) (long ∷ []) o f h e = let g : Refused ≡ ReadFault = sym (ap status_of h) ∙ e in absurd cc
@@ -308,13 +308,13 @@ module _ (told : Option Files) (reads reads_now : ℕ) (blamed written gained : 
 module _ (told : Option Files) (task : Option Task) (reads reads_now : ℕ) (blamed written gained : Option (List ℕ))
     (writes writes_now : ℕ) (status : Status)
     (run : IsRun told task reads reads_now blamed written gained writes writes_now status) where
-  pub good_run : GoodAnswersAreSafe → (name : List ℕ) → task ≡ Some (verify name) → status ≡ Good → VerifiesFile told name
-  good_run safe name t e = by run
+  pub good_run : GoodAnswersAreSafe → (name : List ℕ) (budget : ℕ) → task ≡ Some (verify name budget) → status ≡ Good → VerifiesFile told budget name
+  good_run safe name budget t e = by run
     where
-      by : IsRun told task reads reads_now blamed written gained writes writes_now status → VerifiesFile told name
+      by : IsRun told task reads reads_now blamed written gained writes writes_now status → VerifiesFile told budget name
       by (inr m) = let f : NoMemory ≡ Good = sym m.0 ∙ e in absurd cc
       by (inl (o, said, inl p)) =
-          good_by told reads reads_now blamed name o safe said.got
+          good_by told reads reads_now blamed name o safe budget said.got
           (subst (λ x. AreFetched told reads reads_now blamed (files_of x) said.got) t said.fetched)
           (subst (λ x. IsOutput x said.got o) t said.output.said) (sym p.0 ∙ e)
       by (inl (o, said, inr p)) = let f : WriteFault ≡ Good = sym p.0 ∙ e in absurd cc
@@ -422,17 +422,17 @@ module _ (files : Files) (task : Option Task) (reads reads_now : ℕ) (blamed wr
   good_status o e (inl s) = inl (s.0 ∙ e)
   good_status o e (inr m) = inr m
 
-  proved_told : (name : List ℕ) → task ≡ Some (verify name) → HoldsGood name files → (status ≡ Good) ⊎ (status ≡ NoMemory)
-  proved_told name t h =
-      let o : Output = reported true (report_text h.good.program) in
-      let is : IsVerified h.bytes o = record {
+  proved_told : (name : List ℕ) (budget : ℕ) → task ≡ Some (verify name budget) → HoldsGood budget name files → (status ≡ Good) ⊎ (status ≡ NoMemory)
+  proved_told name budget t h =
+      let o : Output = reported true (report_text h.good.program budget) in
+      let is : IsVerified budget h.bytes o = record {
         program = h.good.program;
         text_of_it = record { tree = h.good.tree; spelled = h.good.spelled; stands = h.good.stands };
         whole = refl;
-        all = sym h.good.proved;
+        found = sym h.good.proved;
       } in
-      let here : IsOutput (Some (verify name)) (given files (Some (verify name))) o =
-      subst (λ xs. IsOutput (Some (verify name)) xs o)
+      let here : IsOutput (Some (verify name budget)) (given files (Some (verify name budget))) o =
+      subst (λ xs. IsOutput (Some (verify name budget)) xs o)
       (sym (fits-task name h.bytes h.held (short h.bytes h.good.tree h.good.spelled))) is in
       good_status o refl (answers_told o (subst (λ x. IsOutput x (given files x) o) (sym t) here))
 
@@ -447,20 +447,20 @@ module _ (files : Files) (task : Option Task) (reads reads_now : ℕ) (blamed wr
   -- what is said of bytes that are no text for the task
   refused_bytes : (x : Task) (bytes : List ℕ) (o : Output) → (IsTextFor x bytes → ⊥)
       → IsOutput (Some x) (held bytes ∷ []) o → status_of o ≡ Refused
-  refused_bytes (verify name) bytes (refused r) n h = refl
-  refused_bytes (verify name) bytes (reported b text) n h = absurd (n (h.program, h.text_of_it))
-  refused_bytes (verify name) bytes (shown text) n h = absurd h
-  refused_bytes (verify name) bytes usage n h = absurd h
-  refused_bytes (verify name) bytes (unreadable other) n h = absurd h
-  refused_bytes (verify name) bytes too_long n h = absurd h
+  refused_bytes (verify name budget) bytes (refused r) n h = refl
+  refused_bytes (verify name budget) bytes (reported b text) n h = absurd (n (h.program, h.text_of_it))
+  refused_bytes (verify name budget) bytes (shown text) n h = absurd h
+  refused_bytes (verify name budget) bytes usage n h = absurd h
+  refused_bytes (verify name budget) bytes (unreadable other) n h = absurd h
+  refused_bytes (verify name budget) bytes too_long n h = absurd h
   refused_bytes (show name) bytes (refused r) n h = refl
   refused_bytes (show name) bytes (shown text) n h = absurd (n (h.tree, h.spelled))
   refused_bytes (show name) bytes (reported b text) n h = absurd h
   refused_bytes (show name) bytes usage n h = absurd h
   refused_bytes (show name) bytes (unreadable other) n h = absurd h
   refused_bytes (show name) bytes too_long n h = absurd h
-  refused_bytes (verify name) bytes (bad_schedule y) n h = absurd h
-  refused_bytes (verify name) bytes (played text end) n h = absurd h
+  refused_bytes (verify name budget) bytes (bad_schedule y) n h = absurd h
+  refused_bytes (verify name budget) bytes (played text end) n h = absurd h
   refused_bytes (show name) bytes (bad_schedule y) n h = absurd h
   refused_bytes (show name) bytes (played text end) n h = absurd h
   refused_bytes (replay name s) bytes o n h = absurd h
@@ -477,8 +477,8 @@ module _ (files : Files) (task : Option Task) (reads reads_now : ℕ) (blamed wr
   refused_given x bytes o n false e h =
       refused_bytes x bytes o n
       (subst (λ y. IsOutput (Some x) (y ∷ []) o) (ap (λ c. if c then long else held bytes) e) h)
-  refused_given (verify name) bytes o n true e h =
-      ap status_of (subst (λ y. IsOutput (Some (verify name)) (y ∷ []) o) (ap (λ c. if c then long else held bytes) e) h)
+  refused_given (verify name budget) bytes o n true e h =
+      ap status_of (subst (λ y. IsOutput (Some (verify name budget)) (y ∷ []) o) (ap (λ c. if c then long else held bytes) e) h)
   refused_given (show name) bytes o n true e h =
       ap status_of (subst (λ y. IsOutput (Some (show name)) (y ∷ []) o) (ap (λ c. if c then long else held bytes) e) h)
 
@@ -497,9 +497,9 @@ module _ (files : Files) (task : Option Task) (reads reads_now : ℕ) (blamed wr
   refused_output : (x : Task) (name : List ℕ) (names : List (List ℕ)) (bytes : List ℕ) (o : Output)
       → files_of (Some x) ≡ name ∷ names → content files name ≡ Some bytes → (IsTextFor x bytes → ⊥)
       → IsOutput (Some x) (given files (Some x)) o → status_of o ≡ Refused
-  refused_output (verify file) name names bytes o f c n h =
-      refused_given (verify file) bytes o n (nat_lt longest (length bytes)) refl
-      (subst (λ y. IsOutput (Some (verify file)) (given_by y ∷ []) o) (ap (content files) (first_name file name [] names f) ∙ c) h)
+  refused_output (verify file budget) name names bytes o f c n h =
+      refused_given (verify file budget) bytes o n (nat_lt longest (length bytes)) refl
+      (subst (λ y. IsOutput (Some (verify file budget)) (given_by y ∷ []) o) (ap (content files) (first_name file name [] names f) ∙ c) h)
   refused_output (show file) name names bytes o f c n h =
       refused_given (show file) bytes o n (nat_lt longest (length bytes)) refl
       (subst (λ y. IsOutput (Some (show file)) (given_by y ∷ []) o) (ap (content files) (first_name file name [] names f) ∙ c) h)
@@ -532,12 +532,12 @@ module _ (told : Option Files) (task : Option Task) (reads reads_now : ℕ) (bla
       by (Some files) h = λ r w. answers_told files task reads reads_now blamed written gained writes writes_now status h r w
 
   pub proved_run : IfSome told (λ files. ¬ Rose reads reads_now → ¬ Rose writes writes_now
-      → (name : List ℕ) → task ≡ Some (verify name) → HoldsGood name files → (status ≡ Good) ⊎ (status ≡ NoMemory))
+      → (name : List ℕ) (budget : ℕ) → task ≡ Some (verify name budget) → HoldsGood budget name files → (status ≡ Good) ⊎ (status ≡ NoMemory))
   proved_run = by told run
     where
       by : (x : Option Files) → IsRun x task reads reads_now blamed written gained writes writes_now status
           → IfSome x (λ files. ¬ Rose reads reads_now → ¬ Rose writes writes_now
-          → (name : List ℕ) → task ≡ Some (verify name) → HoldsGood name files → (status ≡ Good) ⊎ (status ≡ NoMemory))
+          → (name : List ℕ) (budget : ℕ) → task ≡ Some (verify name budget) → HoldsGood budget name files → (status ≡ Good) ⊎ (status ≡ NoMemory))
       by None h = tt
       by (Some files) h = λ r w. proved_told files task reads reads_now blamed written gained writes writes_now status h r w
 

@@ -20,11 +20,11 @@ module _ (told : Option Files) (before now : ℕ) (blames : Option (List ℕ)) (
     output = h;
   })
 
-  pub verify_said : (task : Option Task) (r : Result code.Output AllocError) → task ≡ Some (verify name)
-      → IfOk r (λ o. IsOnly (After name x IsVerified) (output_view o))
+  pub verify_said : (budget : ℕ) (task : Option Task) (r : Result code.Output AllocError) → task ≡ Some (verify name budget)
+      → IfOk r (λ o. IsOnly (After name x (IsVerified budget)) (output_view o))
       → IfOk r (λ o. IsSaid told task before now blames (output_view o))
-  verify_said task (Ok o) e h = by_task task (verify name) (output_view o) e refl (record { said = h.said; only = h.only })
-  verify_said task (Err a) e h = tt
+  verify_said budget task (Ok o) e h = by_task task (verify name budget) (output_view o) e refl (record { said = h.said; only = h.only })
+  verify_said budget task (Err a) e h = tt
 
   pub show_said : (task : Option Task) (r : Result code.Output AllocError) → task ≡ Some (show name)
       → IfOk r (λ o. IsOnly (After name x IsShown) (output_view o))

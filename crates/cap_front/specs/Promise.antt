@@ -16,10 +16,10 @@ use Rattle.cap_front.specs.Run.{IsPut, IsNothing}
 
 -- The bytes that were read of the file of this name, which are those that it holds where the shelf
 -- tells its files, are the text of a safe program.
-pub record VerifiesFile (told : Option Files) (name : List ℕ) : Type 0 where
+pub record VerifiesFile (told : Option Files) (budget : ℕ) (name : List ℕ) : Type 0 where
   pub bytes : List ℕ
   pub held : IfSome told (λ files. content files name ≡ Some bytes)
-  pub good : IsGood bytes
+  pub good : IsGood budget bytes
 
 -- The sink has gained the canonical text of the tree that those bytes spell.
 pub record ShowsFile (told : Option Files) (name : List ℕ) (written gained : Option (List ℕ))
@@ -75,11 +75,11 @@ Answers task files written gained status =
     (o : Output) → IsOutput task (given files task) o
     → Says written gained status o ⊎ (status ≡ NoMemory)
 
--- the file holds the text of a safe program
-pub record HoldsGood (name : List ℕ) (files : Files) : Type 0 where
+-- the file holds the text of a safe program, all of which is proved within the budget
+pub record HoldsGood (budget : ℕ) (name : List ℕ) (files : Files) : Type 0 where
   pub bytes : List ℕ
   pub held : content files name ≡ Some bytes
-  pub good : IsGood bytes
+  pub good : IsGood budget bytes
 
 -- the file holds the text of a tree, of which this is the canonical text
 pub record HoldsTree (name text : List ℕ) (files : Files) : Type 0 where
@@ -89,7 +89,7 @@ pub record HoldsTree (name text : List ℕ) (files : Files) : Type 0 where
 
 -- the bytes are a text that the task can take
 abbrev pub IsTextFor : Task → List ℕ → Type 0
-IsTextFor (verify name) bytes = (p : PlainProgram) × IsTextOf bytes p
+IsTextFor (verify name budget) bytes = (p : PlainProgram) × IsTextOf bytes p
 IsTextFor (show name) bytes = (t : ProgramTree) × Spells bytes t
 IsTextFor (replay name schedule) bytes = (p : PlainProgram) × IsTextOf bytes p
 

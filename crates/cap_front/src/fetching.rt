@@ -33,17 +33,18 @@ pub(crate) fn fetch<S: Shelf>(shelf: &mut S, name: &str) -> Result<Fetched, Allo
     }
 }
 
-/// What `verify` says of a file that gave this.
+/// What `verify` says of a file that gave this, within a budget of visits.
 pub(crate) fn verify_file<'a>(
     alloc: Global,
     name: &'a str,
     file: Fetched,
+    budget: u64,
 ) -> Result<Output<'a>, AllocError>
-    ensures { IfOk result (λ o. IsOnly (After name.now (fetched_view file) IsVerified)
+    ensures { IfOk result (λ o. IsOnly (After name.now (fetched_view file) (IsVerified budget))
         (output_view o)) }
 {
     match file {
-        Fetched::Held(bytes) => verify(alloc, bytes.as_slice()),
+        Fetched::Held(bytes) => verify(alloc, bytes.as_slice(), budget),
         Fetched::Unread => Ok(Output::Unreadable(name)),
         Fetched::Long => Ok(Output::TooLong),
     }

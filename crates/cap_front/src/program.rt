@@ -43,9 +43,9 @@ fn respond<'a, S: Shelf>(
         (S.faults shelf.old) (S.faults shelf.new) (S.blamed shelf.new) (output_view o)) }
 {
     match Task::from_words(alloc, words)? {
-        Some(Task::Verify { file }) => {
+        Some(Task::Verify { file, budget }) => {
             let fetched = fetch(shelf, file)?;
-            verify_file(alloc, file, fetched)
+            verify_file(alloc, file, fetched, budget)
         }
         Some(Task::Show { file }) => {
             let fetched = fetch(shelf, file)?;
@@ -93,8 +93,8 @@ pub fn run<S: Shelf, K: Sink>(
     sink: &mut K,
 ) -> Status
     // Where `verify` ends well, the program that was read is safe.
-    ensures good { (name : List ℕ) → task_in words.now ≡ Some (verify name)
-        → result ≡ Good → VerifiesFile (S.holds shelf.old) name }
+    ensures good { (name : List ℕ) (budget : ℕ) → task_in words.now ≡ Some (verify name budget)
+        → result ≡ Good → VerifiesFile (S.holds shelf.old) budget name }
 
     // Where `show` ends well, the text that was read is shown: the canonical one of its tree.
     ensures shown { (name : List ℕ) → task_in words.now ≡ Some (show name)
@@ -120,8 +120,8 @@ pub fn run<S: Shelf, K: Sink>(
     ensures proved { IfSome (S.holds shelf.old) (λ files.
         ¬ Rose (S.faults shelf.old) (S.faults shelf.new)
         → ¬ Rose (K.faults sink.old) (K.faults sink.new)
-        → (name : List ℕ) → task_in words.now ≡ Some (verify name)
-        → HoldsGood name files → (result ≡ Good) ⊎ (result ≡ NoMemory)) }
+        → (name : List ℕ) (budget : ℕ) → task_in words.now ≡ Some (verify name budget)
+        → HoldsGood budget name files → (result ≡ Good) ⊎ (result ≡ NoMemory)) }
     ensures shows { IfSome (S.holds shelf.old) (λ files.
         ¬ Rose (S.faults shelf.old) (S.faults shelf.new)
         → ¬ Rose (K.faults sink.old) (K.faults sink.new)

@@ -3,9 +3,9 @@ use Rattle.cap_answer.proofs.answer.judge_text.Goals as goal
 
 pub returns-in_ok-report_on-in-Ok : goal.returns-in_ok-report_on-in-Ok
 returns-in_ok-report_on-in-Ok c =
-    verify_reports c.args.bytes.now c.in-Ok.program c.in_ok-report_on-in-Ok.field-0
+    verify_reports c.args.budget c.args.bytes.now c.in-Ok.program c.in_ok-report_on-in-Ok.field-0
     c.in-Ok.ensures c.in_ok-report_on-in-Ok.ensures
 
 pub returns-in-Err : goal.returns-in-Err
 returns-in-Err c =
-    verify_answers c.args.bytes.now c.in-Err.refusal c.refuse.result c.in-Err.ensures c.refuse.ensures
+    verify_answers c.args.budget c.args.bytes.now c.in-Err.refusal c.refuse.result c.in-Err.ensures c.refuse.ensures

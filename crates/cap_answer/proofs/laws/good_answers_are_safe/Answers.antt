@@ -2,4 +2,6 @@ use Rattle.cap_answer.proofs.Good.{good_answer}
 use Rattle.cap_answer.proofs.laws.good_answers_are_safe.Goals as goal
 
 pub returns : goal.returns
-returns c = good_answer c.proved_is_safe.ensures
+returns c =
+    good_answer c.proved_units_are_valid.ensures c.derivations_are_sound.ensures
+    c.programs_of_texts_are_well_formed.ensures

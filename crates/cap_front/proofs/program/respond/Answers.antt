@@ -6,11 +6,11 @@ use Rattle.cap_front.proofs.program.respond.Goals as goal
 
 pub returns-in_ok-fetched-in-Some-Verify : goal.returns-in_ok-fetched-in-Some-Verify
 returns-in_ok-fetched-in-Some-Verify g c =
-    let t : task_in c.args.words.now ≡ Some (verify c.in-Some-Verify.file.now) =
+    let t : task_in c.args.words.now ≡ Some (verify c.in-Some-Verify.file.now c.in-Some-Verify.budget) =
     sym c.in_ok-file.ensures ∙ ap (option_map task_view) c.in-Some-Verify.is
     ∙ ap (λ x. Some (task_view x)) c.in-Some-Verify.field-0-is in
     verify_said _ _ _ _ c.in-Some-Verify.file.now (fetched_view c.in_ok-fetched-in-Some-Verify.fetched)
-    c.in_ok-fetched-in-Some-Verify.ensures.fetched _ c.verify_file.result t c.verify_file.ensures
+    c.in_ok-fetched-in-Some-Verify.ensures.fetched c.in-Some-Verify.budget _ c.verify_file.result t c.verify_file.ensures
 
 pub returns-in_ok-fetched-in-Some-Show : goal.returns-in_ok-fetched-in-Some-Show
 returns-in_ok-fetched-in-Some-Show g c =

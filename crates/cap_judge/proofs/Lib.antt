@@ -1,4 +1,0 @@
-mod Safety
-mod Deciding
-mod StepsLeft
-mod Nothing

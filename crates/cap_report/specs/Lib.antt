@@ -1,0 +1,4 @@
+pub mod Units
+pub mod Texts
+pub mod Report
+pub mod Views
