@@ -1,0 +1,5 @@
+pub mod Keeping
+pub mod Ways
+pub mod Places
+pub mod Walks
+pub mod Full

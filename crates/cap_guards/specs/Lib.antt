@@ -1,0 +1,4 @@
+pub mod Views
+pub mod Cuts
+pub mod Sums
+pub mod Full
