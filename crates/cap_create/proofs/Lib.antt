@@ -1,0 +1,6 @@
+mod Grouping
+mod Apart
+mod Cases
+mod Tasks
+mod Lists
+mod Beginning
