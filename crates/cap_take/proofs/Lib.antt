@@ -1,6 +1,2 @@
-mod Remains
-mod Members
-mod Ahead
-mod Slots
 mod Others
 mod Ruled

@@ -5,7 +5,8 @@ use Rattle.cap_lin.specs.Linear.{Linear}
 use Rattle.cap_lin.specs.declared.row.Row.{Row}
 use Rattle.cap_prog.specs.declared.assertion.Comp.{Comp}
 use Rattle.cap_prog.specs.declared.assertion.Slot.{Slot}
-use Rattle.cap_prog.specs.Program.{Items, none, PlainProgram}
+use Rattle.cap_prog.specs.declared.assertion.Asked.{Asked}
+use Rattle.cap_prog.specs.Program.{PlainItem, Items, none, PlainProgram}
 use Rattle.cap_logic.specs.States.{PlainState, PlainTask}
 use Rattle.cap_goal.specs.declared.task.Task.{Task}
 use Rattle.cap_goal.specs.declared.task.Task.TheVariants as task
@@ -17,7 +18,7 @@ use Rattle.cap_steps.specs.declared.error.RuleError.TheVariants.{NotApplicable}
 use Rattle.cap_steps.proofs.Walking.{inapplicable, weaker}
 use Rattle.cap_take.specs.declared.heads.Taking.{Taking}
 use Rattle.cap_take.specs.declared.heads.Taking.TheVariants as rule
-use Rattle.cap_take.specs.Heads.{comparison_taken, conditional_taken, cell_taken, items_taken, head_taken, tasks_taken, taken_by}
+use Rattle.cap_take.specs.Heads.{comparison_taken, conditional_taken, cell_taken, fact_taken, atom_taken, items_taken, items_given, region_stated, head_taken, tasks_taken, taken_by}
 
 pub no-comparison : (s : PlainState) (t : Taking) (c : Comp) (r : Remaining) (ls : List (List Row)) → (t ≡ rule.Fact → ⊥) → Claims (Err NotApplicable) ls ls (comparison_taken s t c r)
 no-comparison s rule.Fact c r ls h = absurd (h refl)
@@ -30,6 +31,24 @@ no-conditional s t c a b r h = inapplicable
 pub no-cell : (s : PlainState) (t : Taking) (a : Linear) (x : Slot) (r : Remaining) (ls : List (List Row)) → ((j : ℕ) → t ≡ rule.Cell j → ⊥) → Claims (Err NotApplicable) ls ls (cell_taken s t a x r)
 no-cell s (rule.Cell j) a x r ls h = absurd (h j refl)
 no-cell s t a x r ls h = weaker _ _ ls inapplicable
+
+pub no-fact : (p : PlainProgram) (s : PlainState) (t : Taking) (i : PlainItem) (n k : ℕ) (args : List Slot) (x : Slot) (r : Remaining) (ls : List (List Row)) → ((j : ℕ) → t ≡ rule.Region j → ⊥) → ((c : ℕ) → t ≡ rule.Create c → ⊥) → Claims (Err NotApplicable) ls ls (fact_taken p s t i n k args x r)
+no-fact p s (rule.Region j) i n k args x r ls f g = absurd (f j refl)
+no-fact p s (rule.Create c) i n k args x r ls f g = absurd (g c refl)
+no-fact p s t i n k args x r ls f g = weaker _ _ ls inapplicable
+
+pub no-atom : (p : PlainProgram) (s : PlainState) (t : Taking) (it : PlainItem) (n k i : ℕ) (asked : Asked) (r : Remaining) (ls : List (List Row)) → ((j way : ℕ) → t ≡ rule.Guard j way → ⊥) → ((m side : ℕ) → t ≡ rule.Convert m side → ⊥) → Claims (Err NotApplicable) ls ls (atom_taken p s t it n k i asked r)
+no-atom p s (rule.Guard j way) it n k i asked r ls f g = absurd (f j way refl)
+no-atom p s (rule.Convert m side) it n k i asked r ls f g = absurd (g m side refl)
+no-atom p s t it n k i asked r ls f g = weaker _ _ ls inapplicable
+
+pub not-stated : (p : PlainProgram) (s : PlainState) (t : Taking) (k c e : ℕ) (m : Linear) (ts : List PlainTask) (ls : List (List Row)) → (t ≡ rule.Made → ⊥) → Claims (Err NotApplicable) ls ls (region_stated p s t k c e m ts)
+not-stated p s rule.Made k c e m ts ls h = absurd (h refl)
+not-stated p s t k c e m ts ls h = weaker _ _ ls inapplicable
+
+pub no-give : (p : PlainProgram) (s : PlainState) (t : Taking) (is : Items) (e n : ℕ) (ts : List PlainTask) → (t ≡ rule.Give → ⊥) → Makes (Err NotApplicable) (items_given p s t is e n ts)
+no-give p s rule.Give is e n ts h = absurd (h refl)
+no-give p s t is e n ts h = inapplicable
 
 pub no-items : (p : PlainProgram) (s : PlainState) (t : Taking) (is : Items) (e left n : ℕ) (ts : List PlainTask) (ls : List (List Row)) → is ≡ none → Claims (Err NotApplicable) ls ls (items_taken p s t is e left n ts)
 no-items p s t is e left n ts ls h =

@@ -5,11 +5,12 @@ ghost use Rattle.cap_rules.specs.Making.{env_at, match_slot, with_env_at};
 ghost use Rattle.cap_rules.specs.Rules.{at_cell};
 ghost use Rattle.cap_steps.specs.Goals.{goals_view};
 ghost use Rattle.cap_steps.specs.Walks.{Makes, Claims, seen};
-ghost use Rattle.cap_take.specs.Views.{remaining_view, cell_view};
+ghost use Rattle.cap_items.specs.Views.{remaining_view};
+ghost use Rattle.cap_take.specs.Views.{cell_view};
 
-use crate::remaining::{Remaining, goes};
 use cap_goal::{Env, Goal, State};
 use cap_holdings::{copy_env, determined_at, match_slot};
+use cap_items::{Remaining, goes};
 use cap_lin::Term;
 use cap_prog::Slot;
 use cap_steps::{Ledger, RuleError, prove_equal, with_env_at};

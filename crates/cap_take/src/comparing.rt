@@ -6,11 +6,11 @@ ghost use Rattle.cap_logic.specs.States.{goals_of};
 ghost use Rattle.cap_rules.specs.Rules.{at_fact, at_cases};
 ghost use Rattle.cap_steps.specs.Goals.{goals_view};
 ghost use Rattle.cap_steps.specs.Walks.{Makes, Claims, seen};
-ghost use Rattle.cap_take.specs.Views.{remaining_view, side_tasks};
+ghost use Rattle.cap_items.specs.Views.{remaining_view, side_tasks};
 
-use crate::remaining::{Remaining, goes, tasks_after};
 use cap_goal::{Goal, State};
 use cap_holdings::row_at;
+use cap_items::{Remaining, goes, tasks_after};
 use cap_prog::{Assertion, Comp};
 use cap_steps::{Ledger, RuleError, add_goal, copy_with_row, opposite, prove};
 use std::alloc::{AllocError, Global};

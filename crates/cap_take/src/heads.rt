@@ -5,18 +5,21 @@ ghost use Rattle.cap_prog.specs.Views.{item_view, items_view, program_view};
 ghost use Rattle.cap_goal.specs.Views.{items_in, task_view, tasks_view, choice_view};
 ghost use Rattle.cap_steps.specs.Goals.{goals_view};
 ghost use Rattle.cap_steps.specs.Walks.{Makes, Claims, seen};
-ghost use Rattle.cap_take.specs.Views.{remaining_view};
+ghost use Rattle.cap_items.specs.Views.{remaining_view};
 ghost use Rattle.cap_take.specs.Heads.{taking_of, comparison_taken, conditional_taken};
-ghost use Rattle.cap_take.specs.Heads.{cell_taken, item_taken, items_taken, head_taken};
-ghost use Rattle.cap_take.specs.Heads.{tasks_taken};
+ghost use Rattle.cap_take.specs.Heads.{cell_taken, item_taken, items_taken, items_given};
+ghost use Rattle.cap_take.specs.Heads.{fact_taken, atom_taken, region_stated};
+ghost use Rattle.cap_take.specs.Heads.{head_taken, tasks_taken};
 
 use crate::cells::cell;
 use crate::comparing::{cases, fact};
-use crate::items::next_item;
-use crate::remaining::Remaining;
+use cap_create::{create, made, region as match_region};
+use cap_give::give;
 use cap_goal::{Choice, Goal, Items, State, Task};
+use cap_guards::{convert, guard};
+use cap_items::{Remaining, next_item};
 use cap_lin::Term;
-use cap_prog::{Assertion, Comp, Item, Program, Slot};
+use cap_prog::{Asked, Assertion, Comp, Item, Program, Slot};
 use cap_steps::{Ledger, RuleError};
 use std::alloc::Global;
 
@@ -126,7 +129,65 @@ fn take_cell<'t, 'a>(
     }
 }
 
-// An item that is given up. Region facts and guards are not there yet.
+// A region fact.
+fn take_fact<'t, 'a>(
+    alloc: Global,
+    ledger: &mut Ledger,
+    program: &'a Program,
+    state: &State,
+    taking: Taking,
+    item: &'a Item,
+    region: u32,
+    kind: u32,
+    args: &[Slot],
+    slot: &Slot,
+    rest: &Remaining<'t, 'a>,
+) -> Result<Vec<Goal<'a>>, RuleError>
+    ensures { Claims (seen goals_view result) ledger.old ledger.new (fact_taken
+        (program_view program.now) state.now taking (item_view item.now) region kind args.now
+        slot.now (remaining_view rest.now)) }
+{
+    match taking {
+        Taking::Region(number) => {
+            match_region(alloc, ledger, state, number, region, kind, args, slot, rest)
+        }
+        Taking::Create(case) => create(
+            alloc, program, state, case, region, kind, args, slot, item, rest,
+        ),
+        _ => Err(RuleError::NotApplicable),
+    }
+}
+
+// A guard.
+fn take_atom<'t, 'a>(
+    alloc: Global,
+    ledger: &mut Ledger,
+    program: &'a Program,
+    state: &State,
+    taking: Taking,
+    item: &'a Item,
+    region: u32,
+    kind: u32,
+    atom: u32,
+    asked: &Asked,
+    rest: &Remaining<'t, 'a>,
+) -> Result<Vec<Goal<'a>>, RuleError>
+    ensures { Claims (seen goals_view result) ledger.old ledger.new (atom_taken
+        (program_view program.now) state.now taking (item_view item.now) region kind atom asked.now
+        (remaining_view rest.now)) }
+{
+    match taking {
+        Taking::Guard(number, way) => guard(
+            alloc, ledger, state, number, way, region, kind, atom, asked, rest,
+        ),
+        Taking::Convert(sum, side) => convert(
+            alloc, ledger, program, state, sum, side, region, kind, item, rest,
+        ),
+        _ => Err(RuleError::NotApplicable),
+    }
+}
+
+// An item that is given up.
 fn take_item<'t, 'a>(
     alloc: Global,
     ledger: &mut Ledger,
@@ -150,7 +211,12 @@ fn take_item<'t, 'a>(
         Item::Cell(_, address, content) => {
             take_cell(alloc, ledger, state, taking, address, content, rest)
         }
-        Item::Fact(_, _, _, _, _) | Item::Atom(_, _, _, _, _) => Err(RuleError::OutOfMemory),
+        Item::Fact(_, region, kind, args, slot) => take_fact(
+            alloc, ledger, program, state, taking, item, *region, *kind, args, slot, rest,
+        ),
+        Item::Atom(_, region, kind, atom, asked) => take_atom(
+            alloc, ledger, program, state, taking, item, *region, *kind, *atom, asked, rest,
+        ),
     }
 }
 
@@ -188,8 +254,52 @@ fn take_at<'a>(
     }
 }
 
-// What is left of a task. Assertions that are given, and created regions that are stated, are not
-// there yet.
+// An assertion that is given.
+fn take_given<'a>(
+    alloc: Global,
+    program: &'a Program,
+    state: &State,
+    taking: Taking,
+    items: &Items<'a>,
+    env: u32,
+    at: u32,
+    behind: &[Task<'a>],
+) -> Result<Vec<Goal<'a>>, RuleError>
+    ensures { Makes (seen goals_view result) (items_given (program_view program.now) state.now
+        taking (items_in items.now.lists.items none) env at (tasks_view behind.now)) }
+{
+    match taking {
+        Taking::Give => give(alloc, program, state, items, env, at, behind),
+        _ => Err(RuleError::NotApplicable),
+    }
+}
+
+// A created region is stated.
+fn take_made<'a>(
+    alloc: Global,
+    ledger: &mut Ledger,
+    program: &'a Program,
+    state: &State,
+    taking: Taking,
+    kind: u32,
+    case: u32,
+    env: u32,
+    created: &Term,
+    behind: &[Task<'a>],
+) -> Result<Vec<Goal<'a>>, RuleError>
+    ensures { Claims (seen goals_view result) ledger.old ledger.new (region_stated
+        (program_view program.now) state.now taking kind case env created.now
+        (tasks_view behind.now)) }
+{
+    match taking {
+        Taking::Made => made(
+            alloc, ledger, program, state, kind, case, env, created, behind,
+        ),
+        _ => Err(RuleError::NotApplicable),
+    }
+}
+
+// What is left of a task.
 fn take_head<'a>(
     alloc: Global,
     ledger: &mut Ledger,
@@ -206,7 +316,12 @@ fn take_head<'a>(
         Task::Take(items, env, creations, at) => take_at(
             alloc, ledger, program, state, taking, items, *env, *creations, *at, behind,
         ),
-        Task::Give(_, _, _) | Task::Made(_, _, _, _, _) => Err(RuleError::OutOfMemory),
+        Task::Give(items, env, at) => {
+            take_given(alloc, program, state, taking, items, *env, *at, behind)
+        }
+        Task::Made(kind, case, env, created, _) => take_made(
+            alloc, ledger, program, state, taking, *kind, *case, *env, created, behind,
+        ),
         _ => Err(RuleError::NotApplicable),
     }
 }

@@ -4,10 +4,7 @@
 
 mod cells;
 mod comparing;
-mod giving;
 mod heads;
-mod items;
-mod remaining;
 mod take;
 
 pub use take::{take_proofs, take_subgoals};

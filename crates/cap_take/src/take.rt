@@ -33,15 +33,16 @@ fn take_tasks<'a>(
     }
 }
 
-/// The subgoals that a choice on an assertion leaves of a goal. Where one is to be given up, its
-/// first item is: a comparison is claimed, a conditional splits the goal, and a cell goes out of
-/// what is held. `NotApplicable` comes at any other goal, where there is no cell of the choice's
-/// number, where a name that is needed is unbound, where a list of the state is full, and where the
-/// choice's certificates don't refute the rule's lists, one each; `Wide` where a result leaves 128
-/// bits before that. Not there yet are the rules that give an assertion, that give up a region fact
-/// or a guard, and those that convert the guards of a sum, create a region and state a created one:
-/// `OutOfMemory` comes wherever an assertion is to be given or a created region to be stated, and
-/// wherever the item that is to be given up is a region fact or a guard.
+/// The subgoals that a choice on an assertion leaves of a goal. Where one is to be given, its items
+/// up to the first conditional are assumed, and there the goal splits. Where one is to be given up,
+/// its first item is: a comparison is claimed, a conditional splits the goal, a cell goes out of
+/// what is held, a region fact is matched with one that is held or its region is created, and a
+/// guard is taken out of a piece that is held or the guards of a sum are converted. A created region
+/// is stated once its case has been given up. `NotApplicable` comes at any other goal, where there
+/// is no cell, fact, piece, sum or case of the choice's number, where a name that is needed is
+/// unbound or one that is created is bound, where no creation is left, where a list of the state is
+/// full, at a guard of a type that the program lacks, and where the choice's certificates don't
+/// refute the rule's lists, one each; `Wide` where a result leaves 128 bits before that.
 pub fn take_subgoals<'a>(
     alloc: Global,
     program: &'a Program,
