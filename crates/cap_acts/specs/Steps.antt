@@ -48,7 +48,8 @@ written s j c t = do
   u ← value_here s t
   unit (with_content s j c u)
 
--- cell c, number j, is compared with the value e, and where they are equal another one is swapped in
+-- cell c, number j, is compared with the value e, and where they are equal another one is swapped
+-- in
 abbrev pub swapped_by :
     PlainState → ℕ → Linear × Linear → ℕ → Linear → Linear → Attempt (List PlainState)
 swapped_by s j c x e new = do

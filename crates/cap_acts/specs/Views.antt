@@ -1,5 +1,5 @@
--- What contracts see of facts, cells and terms that are lent, of pairs of regions, and of the states
--- after a statement.
+-- What contracts see of facts, cells and terms that are lent, of pairs of regions, and of the
+-- states after a statement.
 use Rattle.std.specs.Prelude.{List, ◌∷◌, map, option_to_list}
 use Rattle.std.specs.Borrow.{Bor}
 use Rattle.cap_lin.specs.Linear.{Linear}

@@ -3,7 +3,8 @@ ghost use Rattle.std.specs.Prelude.{◌≡◌, ◌++◌, ◌≤◌, length, map,
 ghost use Rattle.std.specs.Prelude.{slice_set, replicate, flat_map};
 ghost use Rattle.cap_logic.specs.States.{longest_list};
 ghost use Rattle.cap_logic.specs.Fits.{HasRoom};
-ghost use Rattle.cap_rules.specs.Closing.{rivals_from, rivals as rivals_of, loosened as loosened_fact};
+ghost use Rattle.cap_rules.specs.Closing.{rivals_from, rivals as rivals_of};
+ghost use Rattle.cap_rules.specs.Closing.{loosened as loosened_fact};
 ghost use Rattle.cap_rules.specs.Closing.{with_mark as marked_state, with_marks as marked_states};
 ghost use Rattle.cap_steps.specs.Walks.{Makes, Claims, giving};
 ghost use Rattle.cap_acts.specs.Steps.{rival_of};

@@ -17,7 +17,7 @@ use Rattle.cap_rules.specs.Attempts.{not_applicable}
 use Rattle.cap_steps.specs.Walks.{Makes, Claims}
 use Rattle.cap_steps.specs.declared.error.RuleError.TheVariants.{NotApplicable}
 use Rattle.cap_steps.proofs.Walking.{inapplicable, weaker, done_as}
-use Rattle.cap_open.specs.Heads.{IsOpening, Ahead, statement_ahead, ahead_in, ahead_at, ahead_of, run_at, enter_first, act_first, pick_first, shift_first, Taken, rule_in, taken}
+use Rattle.cap_open.specs.Heads.{IsOpening, Ahead, statement_ahead, ahead_in, ahead_at, ahead_of, run_at, enter_first, act_first, closing_of, pick_first, shifting_of, shift_first, Taken, rule_in, taken}
 
 pub enters : (p : PlainProgram) (s : PlainState) (marks : List Bool) (i : ℕ) (cs : List Cert) (ts : List PlainTask) → enter_first p s i ts ≡ at_tasks p s marks (by_enter i cs) ts
 enters p s marks i cs [] = refl
@@ -98,6 +98,14 @@ no_run t e = inapplicable
 pub no_tasks : (ts : List Task) → length ts < 1 → Makes (Err NotApplicable) (ahead_of (tasks_view ts))
 no_tasks [] h = inapplicable
 no_tasks (t ∷ ts) h = absurd (omega arith)
+
+pub none_to_close : (ts : List Task) → length ts < 1 → Makes (Err NotApplicable) (closing_of (tasks_view ts))
+none_to_close [] h = inapplicable
+none_to_close (t ∷ ts) h = absurd (omega arith)
+
+pub none_to_shift : (ts : List Task) → length ts < 1 → Makes (Err NotApplicable) (shifting_of (tasks_view ts))
+none_to_shift [] h = inapplicable
+none_to_shift (t ∷ ts) h = absurd (omega arith)
 
 pub untaken : (p : PlainProgram) (s : PlainState) (marks : List Bool) (ts : List PlainTask) (x : Option Taken) (ls : List (List Row)) → None ≡ x → Claims (Err NotApplicable) ls ls (taken p s marks ts x)
 untaken p s marks ts x ls e = subst (λ y. Claims (Err NotApplicable) ls ls (taken p s marks ts y)) e (weaker (Err NotApplicable) not_applicable ls inapplicable)

@@ -1,4 +1,5 @@
--- What a choice that opens a region, acts on a cell or closes a region makes of a goal, by its head.
+-- What a choice that opens a region, acts on a cell or closes a region makes of a goal, by its
+-- head.
 use Rattle.std.specs.Prelude.{ℕ, Bool, List, [], ◌∷◌, drop, Option, Some, None, option_map}
 use Rattle.std.specs.Borrow.{Bor}
 use Rattle.cap_farkas.specs.declared.cert.Cert.{Cert}
@@ -16,6 +17,8 @@ use Rattle.cap_steps.specs.Goals.{point_view}
 use Rattle.cap_open.specs.declared.opening.Rule.{Rule}
 use Rattle.cap_open.specs.declared.opening.Rule.TheVariants.{Enter, Act, Pick, Shift}
 use Rattle.cap_open.specs.declared.heads.Ahead as code
+use Rattle.cap_open.specs.declared.heads.Closing as code_closing
+use Rattle.cap_open.specs.declared.heads.Shifting as code_shifting
 use Rattle.cap_acts.specs.Steps.{enter_at, act_at}
 
 -- to open a region, to act on a cell, to choose how a region is closed, or to check that
@@ -99,6 +102,9 @@ pub record Closing : Type 0 where
   pub any : Bool
   pub number : ℕ
 
+abbrev pub closing_view : code_closing.Closing → Closing
+closing_view x = record { any = x.any; number = x.number }
+
 abbrev pub closing_at : PlainTask → Attempt Closing
 closing_at (to_close any n) = unit (record { any = any; number = n })
 closing_at t = not_applicable
@@ -121,6 +127,9 @@ pub record Shifting : Type 0 where
   pub case : ℕ
   pub move : ℕ
   pub env : ℕ
+
+abbrev pub shifting_view : code_shifting.Shifting → Shifting
+shifting_view x = record { opened = x.opened; case = x.case; move = x.action; env = x.env }
 
 abbrev pub shifting_at : PlainTask → Attempt Shifting
 shifting_at (to_shift o c m e n) = unit (record { opened = o; case = c; move = m; env = e })

@@ -1,4 +1,4 @@
-//! The heads of goals at which a region is opened or a statement acts on a cell.
+//! The heads of goals at which a region is opened or closed, or a statement acts on a cell.
 ghost use Rattle.std.specs.Prelude.{◌≡◌, ◌∷◌, drop, IfOk, option_map};
 ghost use Rattle.cap_goal.specs.Views.{home_view, task_view, tasks_view};
 ghost use Rattle.cap_logic.specs.States.{to_run};
@@ -6,6 +6,8 @@ ghost use Rattle.cap_steps.specs.Goals.{point_view};
 ghost use Rattle.cap_steps.specs.Walks.{Makes, seen};
 ghost use Rattle.cap_open.specs.Heads.{ahead_view, ahead_in, ahead_at, ahead_of};
 ghost use Rattle.cap_open.specs.Heads.{run_at, run_view, statement_ahead};
+ghost use Rattle.cap_open.specs.Heads.{closing_view, closing_at as closing_in, closing_of};
+ghost use Rattle.cap_open.specs.Heads.{shifting_view, shifting_at as shifting_in, shifting_of};
 
 use cap_goal::{Home, Point, Task};
 use cap_prog::{Act, Statement};
@@ -105,4 +107,82 @@ pub(crate) fn with_run<'a>(
     let point = copy_point(alloc, rest)?;
     tasks.push(Task::Run(home, point))?;
     Ok(tasks)
+}
+
+/// How an opened region may be closed, by any move or only as it was, and the number of the
+/// statement at which it was opened.
+#[derive(Clone, Copy)]
+pub(crate) struct Closing {
+    pub(crate) any: bool,
+    pub(crate) number: u32,
+}
+
+// How a region may be closed, where that is the task.
+fn closing_at(task: &Task<'_>) -> Result<Closing, RuleError>
+    ensures { Makes (seen closing_view result) (closing_in (task_view task.now)) }
+{
+    match task {
+        Task::Close(any, number) => Ok(Closing {
+            any: *any,
+            number: *number,
+        }),
+        Task::Run(_, _) => Err(RuleError::NotApplicable),
+        Task::Turn(_, _) => Err(RuleError::NotApplicable),
+        Task::Give(_, _, _) => Err(RuleError::NotApplicable),
+        Task::Take(_, _, _, _) => Err(RuleError::NotApplicable),
+        Task::Made(_, _, _, _, _) => Err(RuleError::NotApplicable),
+        Task::Shift(_, _, _, _, _) => Err(RuleError::NotApplicable),
+        Task::Rest(_, _) => Err(RuleError::NotApplicable),
+    }
+}
+
+/// How a region may be closed, where that is the first of the tasks.
+pub(crate) fn closing_of(tasks: &[Task<'_>]) -> Result<Closing, RuleError>
+    ensures { Makes (seen closing_view result) (closing_of (tasks_view tasks.now)) }
+{
+    match tasks {
+        [] => Err(RuleError::NotApplicable),
+        [.., head] => closing_at(head),
+    }
+}
+
+/// A move that is to be checked: the opened region, its case, the move, and the environment, by
+/// their numbers.
+#[derive(Clone, Copy)]
+pub(crate) struct Shifting {
+    pub(crate) opened: u32,
+    pub(crate) case: u32,
+    pub(crate) action: u32,
+    pub(crate) env: u32,
+}
+
+// The move that is to be checked, where that is the task.
+fn shifting_at(task: &Task<'_>) -> Result<Shifting, RuleError>
+    ensures { Makes (seen shifting_view result) (shifting_in (task_view task.now)) }
+{
+    match task {
+        Task::Shift(opened, case, action, env, _) => Ok(Shifting {
+            opened: *opened,
+            case: *case,
+            action: *action,
+            env: *env,
+        }),
+        Task::Run(_, _) => Err(RuleError::NotApplicable),
+        Task::Turn(_, _) => Err(RuleError::NotApplicable),
+        Task::Give(_, _, _) => Err(RuleError::NotApplicable),
+        Task::Take(_, _, _, _) => Err(RuleError::NotApplicable),
+        Task::Made(_, _, _, _, _) => Err(RuleError::NotApplicable),
+        Task::Close(_, _) => Err(RuleError::NotApplicable),
+        Task::Rest(_, _) => Err(RuleError::NotApplicable),
+    }
+}
+
+/// The move that is to be checked, where that is the first of the tasks.
+pub(crate) fn shifting_of(tasks: &[Task<'_>]) -> Result<Shifting, RuleError>
+    ensures { Makes (seen shifting_view result) (shifting_of (tasks_view tasks.now)) }
+{
+    match tasks {
+        [] => Err(RuleError::NotApplicable),
+        [.., head] => shifting_at(head),
+    }
 }

@@ -1,5 +1,5 @@
-//! The rules of derivations by which regions are opened and statements act on cells: what a choice
-//! leaves of a goal. Closing a region isn't checked yet: memory is wanting there.
+//! The rules of derivations by which regions are opened and closed and statements act on cells:
+//! what a choice leaves of a goal.
 #![tactic(auto)]
 
 mod heads;

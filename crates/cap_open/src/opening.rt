@@ -1,5 +1,4 @@
-//! What a choice that opens a region or acts on a cell leaves of a goal. One that closes a region
-//! isn't checked yet.
+//! What a choice that opens a region, acts on a cell or closes a region leaves of a goal.
 ghost use Rattle.std.specs.Prelude.{◌≡◌, IfOk, is_some, map, option_map};
 ghost use Rattle.cap_prog.specs.Views.{program_view};
 ghost use Rattle.cap_goal.specs.Views.{choice_view, goal_view, tasks_view};
@@ -10,16 +9,18 @@ ghost use Rattle.cap_rules.specs.Answers.{full_marks as all_marks};
 ghost use Rattle.cap_rules.specs.Rules.{rule};
 ghost use Rattle.cap_steps.specs.Goals.{goals_view};
 ghost use Rattle.cap_steps.specs.Judging.{Answered, IsTold, lists_view};
-ghost use Rattle.cap_steps.specs.Walks.{Claims, seen};
+ghost use Rattle.cap_steps.specs.Walks.{Makes, Claims, seen};
 ghost use Rattle.cap_open.specs.Heads.{IsOpening, enter_first, act_first, marks_seen};
+ghost use Rattle.cap_open.specs.Heads.{pick_first, shift_first};
 ghost use Rattle.cap_open.specs.Heads.{marks_in as marks_there, rule_view, rule_in};
 ghost use Rattle.cap_open.specs.Heads.{taken_by, taken};
 
-use crate::heads::{ahead_of, behind, with_run};
+use crate::heads::{ahead_of, behind, closing_of, shifting_of, with_run};
 use cap_acts::{act, enter, full_marks};
 use cap_farkas::Cert;
 use cap_goal::{Choice, Goal, State, Task};
 use cap_lin::Row;
+use cap_moves::{pick, shift};
 use cap_prog::Program;
 use cap_steps::{Ledger, RuleError, certs_of, judged, told};
 use std::alloc::{AllocError, Global};
@@ -87,7 +88,59 @@ fn act_head<'a>(
     )
 }
 
-// What a rule leaves of these tasks, with these marks. The two that close a region have no code yet.
+// A case and a move are chosen, by which an opened region is closed.
+fn pick_head<'a>(
+    alloc: Global,
+    program: &'a Program,
+    state: &State,
+    opened: u32,
+    case: u32,
+    action: u32,
+    tasks: &[Task<'a>],
+) -> Result<Vec<Goal<'a>>, RuleError>
+    ensures { Makes (seen goals_view result) (pick_first (program_view program.now) state.now
+        opened case action (tasks_view tasks.now)) }
+{
+    let closing = closing_of(tasks)?;
+    pick(
+        alloc,
+        program,
+        state,
+        opened,
+        case,
+        action,
+        closing.any,
+        closing.number,
+        behind(tasks),
+    )
+}
+
+// The move by which an opened region is closed is checked.
+fn shift_head<'a>(
+    alloc: Global,
+    ledger: &mut Ledger,
+    program: &'a Program,
+    state: &State,
+    tasks: &[Task<'a>],
+) -> Result<Vec<Goal<'a>>, RuleError>
+    ensures { Claims (seen goals_view result) ledger.old ledger.new
+        (shift_first (program_view program.now) state.now (tasks_view tasks.now)) }
+{
+    let shifting = shifting_of(tasks)?;
+    shift(
+        alloc,
+        ledger,
+        program,
+        state,
+        shifting.opened,
+        shifting.case,
+        shifting.action,
+        shifting.env,
+        behind(tasks),
+    )
+}
+
+// What a rule leaves of these tasks, with these marks.
 fn followed<'a>(
     alloc: Global,
     ledger: &mut Ledger,
@@ -104,7 +157,10 @@ fn followed<'a>(
     match rule {
         Rule::Enter(fact) => enter_head(alloc, ledger, program, state, fact, tasks),
         Rule::Act(cell) => act_head(alloc, ledger, state, cell, marks, tasks),
-        Rule::Pick(_, _, _) | Rule::Shift => Err(RuleError::OutOfMemory),
+        Rule::Pick(opened, case, action) => {
+            pick_head(alloc, program, state, opened, case, action, tasks)
+        }
+        Rule::Shift => shift_head(alloc, ledger, program, state, tasks),
     }
 }
 
@@ -229,16 +285,16 @@ fn needed_marks(alloc: Global, state: &State, choice: &Choice) -> Result<Vec<boo
     }
 }
 
-/// The subgoals that a choice leaves of a goal, where the choice is to open the region of a fact, to
-/// act on a cell, to choose how an opened region is closed, or to check that move. Opening gives a
-/// subgoal for each case of the region's type, and a compare-and-swap one each for success and
-/// failure; a read and a write give one, or none where nothing is to be done any more. How a region
-/// is closed isn't checked yet: for the last two choices `OutOfMemory` comes always.
-/// `NotApplicable` comes at a goal with another head, where what the choice names is not there,
-/// where two regions are opened already, where there are not as many marks as pairs of an opened
-/// region and a fact of its type, where a list of the state is full, and where the choice's
-/// certificates don't refute the rule's lists, one each; `Wide` where a result leaves 128 bits
-/// before that.
+/// The subgoals that a choice leaves of a goal, where the choice is to open the region of a fact,
+/// to act on a cell, to choose how an opened region is closed, or to check that move. Opening gives
+/// a subgoal for each case of the region's type, and a compare-and-swap one each for success and
+/// failure; the others give one, or none where nothing is to be done any more. `NotApplicable`
+/// comes at a goal with another head, where what the choice names is not there, where two regions
+/// are opened already, where there are not as many marks as pairs of an opened region and a fact of
+/// its type, where a move is chosen that would change what has to stay as it was, where a guard of
+/// an action was not held before the step, where a name that is needed is unbound, where a list of
+/// the state is full, and where the choice's certificates don't refute the rule's lists, one each;
+/// `Wide` where a result leaves 128 bits before that.
 pub fn open_subgoals<'a>(
     alloc: Global,
     program: &'a Program,
@@ -268,7 +324,7 @@ pub fn open_subgoals<'a>(
 
 /// The lists of rows that the certificates of such a choice, and after them its marks, have to
 /// refute, whatever it holds, or the first failure that is none of theirs. Each mark counts as a
-/// certificate here. For a choice that closes a region `OutOfMemory` comes always, as above.
+/// certificate here.
 pub fn open_proofs(
     alloc: Global,
     program: &Program,

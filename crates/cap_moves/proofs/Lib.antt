@@ -1,0 +1,3 @@
+mod Members
+mod Picks
+mod Matches

@@ -1,0 +1,11 @@
+//! Closed regions: which case and move is chosen, and that the move is allowed.
+#![tactic(auto)]
+
+mod lookup;
+mod matching;
+mod moving;
+mod picking;
+mod shifting;
+
+pub use picking::pick;
+pub use shifting::shift;
