@@ -1,0 +1,16 @@
+//! The judge of derivations: whether trees of choices are valid derivations of all units of a
+//! program, and otherwise where they fail first.
+#![tactic(auto)]
+
+mod bundle;
+mod error;
+mod gather;
+mod laws;
+mod left;
+mod start;
+mod tree;
+mod walk;
+
+pub use bundle::check;
+pub use error::CheckError;
+pub use laws::{faulty_are_invalid, judged_are_valid, walks_tell};
