@@ -39,15 +39,20 @@ or_end_line (Some x) more = Some x
 or_end_line None more = more
 
 abbrev pub line_of_json : Data → Option PlainLine
-line_of_json d = or_end_line (option_map choice_line (choice_of_json d)) (option_map end_line (closing_of_json d))
+line_of_json d =
+    or_end_line
+    (option_map choice_line (choice_of_json d))
+    (option_map end_line (closing_of_json d))
 
 abbrev pub line_of_bytes : List ℕ → Option PlainLine
 line_of_bytes l = option_and_then line_of_json (json_of_bytes l)
 
 abbrev pub told_at_line : Option PlainLine → ℕ → List (List ℕ) → Told → Told
 told_at_line None k ls more = bad_told (k + 2)
-told_at_line (Some (choice_line c)) k ls more = if nat_lt k most_nodes then choice_told c more else too_many_told
-told_at_line (Some (end_line n)) k ls more = if n == k then behind_end k ls else bad_told (k + 2)
+told_at_line (Some (choice_line c)) k ls more =
+    if nat_lt k most_nodes then choice_told c more else too_many_told
+told_at_line (Some (end_line n)) k ls more =
+    if n == k then behind_end k ls else bad_told (k + 2)
 
 -- after k nodes, so that the line at hand is that of number k + 2
 abbrev pub told_by : ℕ → List (List ℕ) → Told

@@ -20,7 +20,8 @@ end_of_opening bad_opening = bad_told 1
 end_of_opening (opening_told trees t) = told_at_last t
 
 abbrev pub ReadsWhole : Result Lines DerivError → Opening → Type 0
-ReadsWhole (Ok l) o = o ≡ opening_told l.trees (choices_told (map choice_view l.choices.items) all_told)
+ReadsWhole (Ok l) o =
+    o ≡ opening_told l.trees (choices_told (map choice_view l.choices.items) all_told)
 ReadsWhole (Err (BadLine n)) o = end_of_opening o ≡ bad_told n
 ReadsWhole (Err Unended) o = end_of_opening o ≡ unended_told
 ReadsWhole (Err TooMany) o = end_of_opening o ≡ too_many_told

@@ -1,0 +1,11 @@
+pub mod Floats
+pub mod Options
+pub mod Wide
+pub mod Parts
+pub mod CertForms
+pub mod Rows
+pub mod ChoiceForms
+pub mod LinesTold
+pub mod Visible
+pub mod LinesShown
+pub mod NoZeros
