@@ -1,4 +1,4 @@
-//! Which units of a program state something in assertions: these are not searched yet.
+//! Which units of a program use regions: these are not searched yet.
 #![tactic(auto)]
 
 mod later;
