@@ -103,8 +103,8 @@ fn settled(
 ///
 /// The candidates, but for candidate 0, are tested with the present state, and then in rounds after
 /// each action of the others, by what is known of the whole list; those that fail a round leave at
-/// its end. A decision or a term that passes a limit is noted, the first of each kind, and counts as
-/// not proved.
+/// its end. A decision or a term that passes a limit is noted, the first of each kind, and counts
+/// as not proved.
 #[tactic(auto, unfolding(cap_offering::specs::Closures::closure))]
 pub fn closure_of(
     alloc: Global,
@@ -125,7 +125,8 @@ pub fn closure_of(
     }
 }
 
-/// The closure of a fact of a state of a program, by its number, and what was noted on the way to it.
+/// The closure of a fact of a state of a program, by its number, and what was noted on the way to
+/// it.
 pub fn closure_at(
     alloc: Global,
     program: &Program,

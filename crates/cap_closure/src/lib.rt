@@ -1,5 +1,5 @@
-//! The closure of a fact: what may be known of its state after steps of others, and the certificates
-//! with which it is settled.
+//! The closure of a fact: what may be known of its state after steps of others, and the
+//! certificates with which it is settled.
 #![tactic(auto)]
 
 mod closing;
@@ -9,3 +9,6 @@ mod surviving;
 mod testing;
 
 pub use closing::{Closed, Closure, closure_at, closure_of};
+
+#[cfg(test)]
+mod tests;

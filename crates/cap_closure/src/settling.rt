@@ -72,8 +72,8 @@ pub fn keep_certs(
     certified(alloc, outcome, ledger, notes)
 }
 
-/// The certificates with which the candidates of these numbers settle a fact, by its number, if there
-/// are any.
+/// The certificates with which the candidates of these numbers settle a fact, by its number, if
+/// there are any.
 pub fn settle_certs(
     alloc: Global,
     region: &RegionType,

@@ -26,8 +26,8 @@ fn rows_of(alloc: Global, list: &[Listed]) -> Result<Vec<Row>, AllocError>
     Ok(rows)
 }
 
-// Whether a candidate's row is proved after each of these actions, where these rows are known before
-// it; up to the first after which it isn't.
+// Whether a candidate's row is proved after each of these actions, where these rows are known
+// before it; up to the first after which it isn't.
 #[tactic(auto, unfolding(cap_offering::specs::Closures::survives))]
 fn survives(
     alloc: Global,
@@ -111,8 +111,8 @@ fn round(
     surviving(alloc, region, state, fact, later, &known, list, notes)
 }
 
-/// The candidates that the rounds leave. There are no more rounds than candidates, since each but the
-/// last takes one out.
+/// The candidates that the rounds leave. There are no more rounds than candidates, since each but
+/// the last takes one out.
 #[tactic(auto, unfolding(cap_offering::specs::Closures::rounds))]
 pub fn rounds(
     alloc: Global,

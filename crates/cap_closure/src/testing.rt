@@ -1,5 +1,5 @@
-//! Tests of a candidate: whether it is proved with the present state, and whether it is proved after
-//! an action of others.
+//! Tests of a candidate: whether it is proved with the present state, and whether it is proved
+//! after an action of others.
 ghost use Rattle.std.specs.Prelude.{◌≡◌, ◌≤◌, [], ◌∷◌, IfOk, MatchResult};
 ghost use Rattle.cap_lin.specs.Exact.{IsExact};
 ghost use Rattle.cap_lin.specs.Linear.{replaced as replaced_term};
@@ -82,8 +82,8 @@ fn proves_at_target(
     }
 }
 
-// Whether a candidate's row is proved after an action from its system, if there is one: where nobody
-// else can hold the action's guards there is nothing to prove.
+// Whether a candidate's row is proved after an action from its system, if there is one: where
+// nobody else can hold the action's guards there is nothing to prove.
 fn proves_closed(
     alloc: Global,
     state: &State,

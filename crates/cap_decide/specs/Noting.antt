@@ -10,7 +10,8 @@ use Rattle.cap_steps.specs.declared.error.RuleError.TheVariants.{NotApplicable, 
 use Rattle.cap_offering.specs.Deciding.{PlainNotes, with_note, Noted, done, ◌>>=◌, decided}
 use Rattle.cap_offering.specs.Closures.{and_also}
 
--- the value, and the notes after the call, are what is decided and noted from the notes before it on
+-- the value, and the notes after the call, are what is decided and noted from the notes before it
+-- on
 abbrev pub Adds : {A : Type 0} → PlainNotes → PlainNotes → A → Noted A → Type 0
 Adds before after x m = (x ≡ (m before).value) × (after ≡ (m before).notes)
 

@@ -33,7 +33,8 @@ with_merged s q = do
   guards ← guards_with s.guards q (place s.guards q)
   unit (record s { guards = guards })
 
--- names of the case with a binding position are unbound, and the others have this term, if there is one
+-- names of the case with a binding position are unbound, and the others have this term, if there
+-- is one
 abbrev pub names_given : PlainRegionType → PlainCase → Option Linear → PlainEnv
 names_given k c other =
     map (λ x. if is_bound_by x c.items then None else other)

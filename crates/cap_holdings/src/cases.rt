@@ -167,8 +167,8 @@ fn names_of(
     Ok(names)
 }
 
-/// The environment of a case of a fact's region. Its names with a binding position outside the sides
-/// of conditionals are unbound; the others have this term, if there is one.
+/// The environment of a case of a fact's region. Its names with a binding position outside the
+/// sides of conditionals are unbound; the others have this term, if there is one.
 pub fn case_env(
     alloc: Global,
     region: &RegionType,

@@ -132,7 +132,8 @@ fn contradict(alloc: Global, state: &mut State, clash: bool) -> Result<(), RuleE
 // Removes the fact of a place, if there is one. A place past 32 bits counts as want of memory.
 fn remove_fact(state: &mut State, place: Option<usize>) -> Result<(), AllocError>
     requires { IfSome place (λ i. i < length state.old.facts) }
-    ensures { IfOk result (λ _. state.new ≡ record state.old { facts = without_place place state.old.facts }) }
+    ensures { IfOk result
+        (λ _. state.new ≡ record state.old { facts = without_place place state.old.facts }) }
 {
     match place {
         None => Ok(()),

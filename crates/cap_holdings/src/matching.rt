@@ -128,8 +128,8 @@ fn match_reading(
     }
 }
 
-/// A term that stands as a slot, against a term: what it stands for is claimed to equal the term, or
-/// the name that it is gets bound.
+/// A term that stands as a slot, against a term: what it stands for is claimed to equal the term,
+/// or the name that it is gets bound.
 pub fn match_term(
     alloc: Global,
     ledger: &mut Ledger,

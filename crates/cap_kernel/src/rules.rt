@@ -1,4 +1,5 @@
-//! The rules, by their choices: what each leaves of a goal, and what its certificates have to refute.
+//! The rules, by their choices: what each leaves of a goal, and what its certificates have to
+//! refute.
 ghost use Rattle.cap_prog.specs.Views.{program_view};
 ghost use Rattle.cap_logic.specs.Choices.{certs_of as certs_in};
 ghost use Rattle.cap_logic.specs.Fits.{HasRoom};
@@ -23,7 +24,7 @@ use std::alloc::Global;
 /// where the rule doesn't fit the goal's head, where a number names nothing, where a condition of
 /// the rule fails, where a list of the state is full, and where the choice's certificates, and
 /// after them its marks, don't refute the rule's lists, one each; `Wide` where a result leaves 128
-/// bits before that. A choice of a rule that is not joined yet answers want of memory.
+/// bits before that.
 pub fn subgoals<'a>(
     alloc: Global,
     program: &'a Program,

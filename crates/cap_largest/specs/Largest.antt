@@ -1,4 +1,5 @@
--- What is said of closures: the candidates that they leave are the largest list that settles a fact.
+-- What is said of closures: the candidates that they leave are the largest list that settles a
+-- fact.
 use Rattle.std.specs.Prelude.{◌≡◌, ℕ, zero, suc, ◌+◌, ◌<◌, ◌≤◌, ◌==◌, Bool, true, false, List, [], ◌∷◌, length, drop, Option, None}
 use Rattle.std.specs.List.{AllByRecursion}
 use Rattle.cap_lin.specs.Steps.{first_wide}
@@ -80,7 +81,8 @@ RoundsWithin k s f (suc n) xs =
 abbrev pub first_list : PlainRegionType → PlainState → PlainFact → List Listed
 first_list k s f = (started s f 1 (drop 1 (candidates k s f)) clean).value
 
--- no decision on the way to the closure of a fact, and no term of an action's system, goes_through a limit
+-- no decision on the way to the closure of a fact, and no term of an action's system, passes a
+-- limit
 pub record StaysWithin (k : PlainRegionType) (s : PlainState) (f : PlainFact) : Type 0 where
   pub starts :
       AllByRecursion (λ (m : MadeRow). StartsWithin s f (candidate_of m)) (drop 1 (candidates k s f))

@@ -3,9 +3,9 @@
 
 ghost use Rattle.cap_largest.specs.Largest.{ClosuresAreLargest};
 
-/// The candidates that a closure leaves settle the fact, and are the largest list of candidates that
-/// does: where no decision on the way and no term of an action's system passes a limit, and the
-/// state's lists have room for what is added to them.
+/// The candidates that a closure leaves settle the fact, and are the largest list of candidates
+/// that does: where no decision on the way and no term of an action's system passes a limit, and
+/// the state's lists have room for what is added to them.
 pub fn closures_are_largest()
     ensures { ClosuresAreLargest }
 {}

@@ -41,7 +41,8 @@ rule_of (check c) = Some (by_assert [])
 rule_of (give_back t) = Some by_return
 rule_of _ = None
 
-abbrev pub by_rule : PlainProgram → PlainGoal → PlainAct → Option PlainChoice → Noted (List PlainChoice)
+abbrev pub by_rule :
+    PlainProgram → PlainGoal → PlainAct → Option PlainChoice → Noted (List PlainChoice)
 by_rule p g a (Some c) = tried_all p g (c ∷ [])
 by_rule p g a None = at_heap p g a
 

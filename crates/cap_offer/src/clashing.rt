@@ -39,8 +39,8 @@ fn first_clash_with(
     Ok(None)
 }
 
-/// The first pair of cells that clashes: the first cell with each later one, then the second, and so
-/// on.
+/// The first pair of cells that clashes: the first cell with each later one, then the second, and
+/// so on.
 pub(crate) fn first_clash(
     alloc: Global,
     program: &Program,

@@ -1,5 +1,5 @@
-//! The choices that a search may try at a goal: which rules apply there, each with the certificates of
-//! its proofs, and which limits were passed while they were decided.
+//! The choices that a search may try at a goal: which rules apply there, each with the certificates
+//! of its proofs, and which limits were passed while they were decided.
 #![tactic(auto)]
 
 mod claims;
@@ -15,3 +15,6 @@ mod sums;
 mod trying;
 
 pub use offers::{Offers, offered};
+
+#[cfg(test)]
+mod tests;

@@ -20,8 +20,9 @@ pub struct Offers {
 }
 
 /// The choices that are offered at a goal. Those alone are offered whose terms stay within 128 bits
-/// and of which elimination refutes each list that is owed, within its limits; marks that it doesn't
-/// refute are left without a certificate. A contradiction among the goal's rows is offered alone.
+/// and of which elimination refutes each list that is owed, within its limits; marks that it
+/// doesn't refute are left without a certificate. A contradiction among the goal's rows is offered
+/// alone.
 #[tactic(auto, unfolding(cap_offering::specs::Offering::offered, cap_offering::specs::Offering::offering))]
 #[inline(never)]
 pub fn offered(alloc: Global, program: &Program, goal: &Goal<'_>) -> Result<Offers, AllocError>

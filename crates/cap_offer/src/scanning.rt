@@ -6,7 +6,8 @@ ghost use Rattle.cap_goal.specs.Views.{goal_view, choice_view};
 ghost use Rattle.cap_rules.specs.Answers.{proofs as proofs_of_choice};
 ghost use Rattle.cap_steps.specs.Judging.{IsTold, lists_view};
 ghost use Rattle.cap_steps.specs.Walks.{seen};
-ghost use Rattle.cap_offering.specs.Scanning.{finished_cell, finished_act, has_room_for as room_for};
+ghost use Rattle.cap_offering.specs.Scanning.{finished_cell, finished_act};
+ghost use Rattle.cap_offering.specs.Scanning.{has_room_for as room_for};
 ghost use Rattle.cap_offering.specs.Scanning.{at_address as address_scan, choice_if};
 ghost use Rattle.cap_offering.specs.Scanning.{ends_if as over_if, found_or_ends, parted};
 ghost use Rattle.cap_decide.specs.Noting.{Adds, certs_seen};
@@ -29,8 +30,8 @@ use std::alloc::{AllocError, Global};
 // The most members of a list of a state.
 const LONGEST: usize = 100_000_000;
 
-/// Which cell is sought: the one on which a heap statement acts, or that of an item, by the number of
-/// its environment and its address.
+/// Which cell is sought: the one on which a heap statement acts, or that of an item, by the number
+/// of its environment and its address.
 #[derive(Clone, Copy)]
 pub(crate) enum Sought<'a> {
     Act(&'a Act),

@@ -24,8 +24,8 @@ fn behind(algebra: &Algebra, first: u64) -> Result<u64, AllocError>
     }
 }
 
-// Adds the choice to convert to the atom by a sum, where one of the sum's sides has it: the atoms of
-// the left side are from `first` on, those of the right side from `second` on and before `end`.
+// Adds the choice to convert to the atom by a sum, where one of the sum's sides has it: the atoms
+// of the left side are from `first` on, those of the right side from `second` on and before `end`.
 fn add_conversion(
     alloc: Global,
     atom: u64,

@@ -7,3 +7,6 @@ mod report;
 mod units;
 
 pub use report::{Report, report_on};
+
+#[cfg(test)]
+mod tests;

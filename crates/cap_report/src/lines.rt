@@ -25,7 +25,7 @@ pub(crate) enum Judgement {
     Searched(Verdict),
 }
 
-/// Searches a unit, within a budget of visits, unless it speaks of regions.
+/// Searches a unit, within a budget of visits, unless it is not searched yet.
 pub(crate) fn judge(
     alloc: Global,
     program: &Program,

@@ -119,10 +119,10 @@ fn judge<'a>(
     }
 }
 
-/// The verdict on a unit, which exists, with a budget of visits: the search visits a goal, tries its
-/// offered choices in order, and for each the subgoals in order until one fails. The first choice all
-/// of whose subgoals have trees gives the tree; a goal deeper than a thousand has none. It ends at
-/// the first visit that passes the budget. The only error is want of memory.
+/// The verdict on a unit, which exists, with a budget of visits: the search visits a goal, tries
+/// its offered choices in order, and for each the subgoals in order until one fails. The first
+/// choice all of whose subgoals have trees gives the tree; a goal deeper than a thousand has none.
+/// It ends at the first visit that passes the budget. The only error is want of memory.
 #[tactic(auto, unfolding(cap_seek::specs::Verdicts::verdict))]
 pub fn search(
     alloc: Global,

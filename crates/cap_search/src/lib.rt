@@ -15,3 +15,6 @@ pub use finding::search;
 pub use obligation::{Need, Obligation};
 pub use start::empty_start;
 pub use verdict::Verdict;
+
+#[cfg(test)]
+mod tests;

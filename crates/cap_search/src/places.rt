@@ -6,8 +6,10 @@ ghost use Rattle.cap_prog.specs.Views.{program_view, region_view, statement_view
 ghost use Rattle.cap_goal.specs.Views.{unit_view};
 ghost use Rattle.cap_seek.specs.Leaves.{first_place as first_item_place, nowhere};
 ghost use Rattle.cap_seek.specs.Leaves.{obligation_of as obligation_at_leaf};
-ghost use Rattle.cap_seek.specs.Leaves.{place_of_item as item_place, root_places as places_of_roots};
-ghost use Rattle.cap_seek.specs.Leaves.{function_places as places_of_function, statement_place as place_at};
+ghost use Rattle.cap_seek.specs.Leaves.{place_of_item as item_place};
+ghost use Rattle.cap_seek.specs.Leaves.{root_places as places_of_roots};
+ghost use Rattle.cap_seek.specs.Leaves.{function_places as places_of_function};
+ghost use Rattle.cap_seek.specs.Leaves.{statement_place as place_at};
 ghost use Rattle.cap_seek.specs.Leaves.{region_places as places_of_region, statements_of};
 ghost use Rattle.cap_search.specs.Places.{act_places, block_places, numbered, numbered_within};
 ghost use Rattle.cap_search.specs.Views.{leaf_view, obligation_view};

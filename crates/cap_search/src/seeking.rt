@@ -69,9 +69,9 @@ fn left_by<'a>(
     }
 }
 
-/// Searches for a tree of a goal, below which there is room for so many levels: the first choice all
-/// of whose subgoals have trees is taken at each node. The record goes on over the goals that are
-/// visited. Spent comes at the first visit for which nothing is left of the budget.
+/// Searches for a tree of a goal, below which there is room for so many levels: the first choice
+/// all of whose subgoals have trees is taken at each node. The record goes on over the goals that
+/// are visited. Spent comes at the first visit for which nothing is left of the budget.
 #[cycle(walk)]
 #[tactic(auto, unfolding(cap_seek::specs::Seeking::tree_within, cap_seek::specs::Walks::walked_within))]
 pub(crate) fn prove<'a>(

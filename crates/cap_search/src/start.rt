@@ -170,8 +170,9 @@ fn is_empty_before(alloc: Global, function: &Function) -> Result<bool, AllocErro
 }
 
 /// Whether nothing meets the precondition of `main`, as far as its comparisons and cells say:
-/// elimination refutes the rows of its comparisons, that each address is at least 1, and that no two
-/// are one, and neither they nor the elimination pass a limit. The only error is want of memory.
+/// elimination refutes the rows of its comparisons, that each address is at least 1, and that no
+/// two are one, and neither they nor the elimination pass a limit. The only error is want of
+/// memory.
 #[tactic(auto, unfolding(cap_seek::specs::Starts::empty_start))]
 pub fn empty_start(alloc: Global, program: &Program) -> Result<bool, AllocError>
     ensures { IfOk result (λ yes. yes ≡ is_empty_start (program_view program.now)) }

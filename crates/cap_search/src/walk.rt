@@ -39,8 +39,8 @@ impl<T: Drop> From<AllocFailed<T>> for Stop {
     }
 }
 
-/// What is left of the budget, whether a visit was too deep, what was noted, the number of the root,
-/// and the leaf of its tree that is to be printed.
+/// What is left of the budget, whether a visit was too deep, what was noted, the number of the
+/// root, and the leaf of its tree that is to be printed.
 #[derive(Clone, Copy, Debug)]
 pub(crate) struct Walk {
     pub left: u64,
