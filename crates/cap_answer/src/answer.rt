@@ -33,8 +33,8 @@ fn judge_text<'a>(alloc: Global, bytes: &[u8], budget: u64) -> Result<Output<'a>
     }
 }
 
-/// What `verify` answers to a file of these bytes, each unit searched within a budget of visits. The
-/// only error is want of memory.
+/// What `verify` answers to a file of these bytes, each unit searched within a budget of visits.
+/// The only error is want of memory.
 pub fn verify<'a>(alloc: Global, bytes: &[u8], budget: u64) -> Result<Output<'a>, AllocError>
     ensures answers { IfOk result (λ o. IsOnly (IsVerified budget bytes.now) (output_view o)) }
 

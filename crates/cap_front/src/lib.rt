@@ -3,6 +3,8 @@
 
 mod fetching;
 mod program;
+#[cfg(test)]
+mod tests;
 
 pub use cap_answer::Status;
 pub use program::run;

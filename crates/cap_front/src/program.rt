@@ -111,8 +111,9 @@ pub fn run<S: Shelf, K: Sink>(
         (S.faults shelf.old) (S.faults shelf.new) (S.blamed shelf.new)
         (K.written sink.old) (K.written sink.new) (K.faults sink.old) (K.faults sink.new) result }
 
-    // Where no fault comes the output is the one that the files give, unless memory runs out: the
-    // program that is safe is proved, the text of a tree is shown, and what is no text is refused.
+    // Where no fault comes the output is the one that the files give, unless memory runs out: a
+    // program all of which is proved is told so, the text of a tree is shown, and what is no text
+    // is refused.
     ensures answers { IfSome (S.holds shelf.old) (λ files.
         ¬ Rose (S.faults shelf.old) (S.faults shelf.new)
         → ¬ Rose (K.faults sink.old) (K.faults sink.new)

@@ -1,0 +1,1137 @@
+use crate::{Status, run};
+use cap_io::{FetchError, MemoryShelf, MemorySink, Shelf};
+use std::alloc::{AllocError, Global};
+use std::process::Abort;
+use std::test::Fail;
+
+const USAGE: &str =
+    "usage: caper verify FILE [--budget N] | derive FILE [--budget N] | check FILE DERIVATION | replay FILE SCHEDULE | show FILE | trial N\n";
+
+const PROVED: &str = "function main: proved\nproved 1 of 1\n";
+
+const LOCK: &str = "region SLock(r, x) {
+  guards %LOCK * UNLOCK;
+  interpretation {
+    0 : x |-> 0 &*& r@UNLOCK;
+    1 : x |-> 1;
+  }
+  actions {
+    LOCK[_] : 0 ~> 1;
+    UNLOCK : 1 ~> 0;
+  }
+}
+function makeLock()
+  ensures SLock(r, ret; 0) &*& r@LOCK[1p];
+{ v := alloc(1); [v] := 0; return v; }
+function lock(x)
+  requires SLock(r, x; _) &*& r@LOCK[p];
+  ensures SLock(r, x; 1) &*& r@(LOCK[p] * UNLOCK);
+{
+  b := CAS(x, 0, 1);
+  if (b = 0) { lock(x); }
+}
+function unlock(x)
+  requires SLock(r, x; 1) &*& r@UNLOCK;
+  ensures SLock(r, x; _);
+{ [x] := 0; }
+function worker(x)
+  requires SLock(r, x; _) &*& r@LOCK[p];
+{ lock(x); unlock(x); }
+function main() {
+  x := makeLock();
+  fork worker(x);
+  lock(x);
+  unlock(x);
+}
+";
+
+// The worker tries while `main` has the lock, and again once it is free.
+const LOCK_SCHEDULE: &str = "start
+step 0
+step 0 10
+step 0
+step 0
+step 0
+step 0
+step 0
+step 1
+step 1
+step 1
+step 0
+step 0
+step 0
+step 0
+step 1
+step 1
+step 1
+step 1
+step 1
+step 1
+step 1
+step 0
+step 0
+step 1
+step 1
+end
+";
+
+const LOCK_RUN: &str = "1 0 30:3 call
+2 0 14:3 alloc 10
+3 0 14:18 write 10 0
+4 0 14:28 return 10
+5 0 31:3 fork 1
+6 0 32:3 call
+7 0 19:3 cas 10 1
+8 1 28:3 call
+9 1 19:3 cas 10 0
+10 1 20:3 branch 1
+11 0 20:3 branch 0
+12 0 21:1 return 0
+13 0 33:3 call
+14 0 25:3 write 10 0
+15 1 20:16 call
+16 1 19:3 cas 10 1
+17 1 20:3 branch 0
+18 1 21:1 return 0
+19 1 21:1 return 0
+20 1 28:12 call
+21 1 25:3 write 10 0
+22 0 25:13 return 0
+23 0 34:1 end 0
+24 1 25:13 return 0
+25 1 28:23 end 0
+ended 25
+";
+
+const COUNTER: &str = "region Counter(r, x) {
+  guards %INC;
+  interpretation { n : x |-> n; }
+  actions { INC[_] : n ~> n + 1; }
+}
+function make()
+  ensures Counter(r, ret; 0) &*& r@INC[1p];
+{ x := alloc(1); return x; }
+function inc(x)
+  requires Counter(r, x; _) &*& r@INC[p];
+  ensures Counter(r, x; _) &*& r@INC[p];
+{
+  v := [x];
+  b := CAS(x, v, v + 1);
+  if (b = 0) { inc(x); }
+}
+function main() {
+  x := make();
+  fork inc(x);
+  v := [x];
+  w := [x];
+  assert v = w;
+}
+";
+
+const COUNTER_SCHEDULE: &str = "start
+step 0
+step 0 10
+step 0
+step 0
+step 0
+step 1
+step 1
+step 0
+step 0
+end
+";
+
+const COUNTER_RUN: &str = "1 0 18:3 call
+2 0 8:3 alloc 10
+3 0 8:18 return 10
+4 0 19:3 fork 1
+5 0 20:3 read 10 0
+6 1 13:3 read 10 0
+7 1 14:3 cas 10 1
+8 0 21:3 read 10 1
+9 0 22:3 failed
+stopped 9
+";
+
+// The thread's two steps come last.
+const LATE_SCHEDULE: &str = "start
+step 0
+step 0 10
+step 0
+step 0
+step 0
+step 0
+step 0
+step 1
+step 1
+end
+";
+
+const LATE_RUN: &str = "1 0 18:3 call
+2 0 8:3 alloc 10
+3 0 8:18 return 10
+4 0 19:3 fork 1
+5 0 20:3 read 10 0
+6 0 21:3 read 10 0
+7 0 22:3 assert
+8 1 13:3 read 10 0
+9 1 14:3 cas 10 1
+ended 9
+";
+
+// A shelf of the files `f` and `s` of these texts, whose fetches of these numbers fail.
+fn shelf(
+    alloc: Global,
+    text: &str,
+    schedule: &str,
+    failing: Vec<u64>,
+) -> Result<MemoryShelf, AllocError> {
+    let mut files = Vec::new(alloc);
+    for (name, text) in [("f", text), ("s", schedule)] {
+        let bytes = Vec::from_slice(alloc, text.as_bytes())?;
+        files.push((String::from_str(alloc, name)?, bytes))?;
+    }
+    Ok(MemoryShelf::new(files, failing))
+}
+
+// The words of a line, cut at its blanks; none where it is empty.
+fn words_of(alloc: Global, line: &str) -> Result<Vec<String>, AllocError> {
+    let mut words = Vec::new(alloc);
+    if !line.is_empty() {
+        for word in line.split(' ') {
+            words.push(String::from_str(alloc, word)?)?;
+        }
+    }
+    Ok(words)
+}
+
+// Runs the words of a line over a sink whose first put fails after so many bytes, if after any, and
+// compares the status and all that is written. Want of memory is handed on, and then nothing may be
+// written.
+fn ends<S: Shelf>(
+    rt: &impl Abort,
+    alloc: Global,
+    line: &str,
+    shelf: &mut S,
+    fails_after: Option<u64>,
+    status: Status,
+    written: &[u8],
+) -> Result<(), Fail> {
+    let words = words_of(alloc, line)?;
+    let mut failing = Vec::new(alloc);
+    if let Some(count) = fails_after {
+        failing.push((1, count))?;
+    }
+    let mut sink = MemorySink::new(alloc, failing, 1000)?;
+    let found = run(alloc, words.as_slice(), shelf, &mut sink);
+    if found == Status::NoMemory {
+        assert!(rt; sink.bytes().is_empty());
+        return Err(Fail::from(AllocError));
+    }
+    assert_eq!(rt; found, status, "at {line}, where {written:?} is wanted");
+    assert_eq!(rt; sink.bytes(), written, "at {line}");
+    Ok(())
+}
+
+// Runs the words of a line over a shelf of the files `f` and `s`.
+fn says(
+    rt: &impl Abort,
+    alloc: Global,
+    line: &str,
+    text: &str,
+    schedule: &str,
+    status: Status,
+    written: &str,
+) -> Result<(), Fail> {
+    let mut shelf = shelf(alloc, text, schedule, Vec::new(alloc))?;
+    ends(
+        rt,
+        alloc,
+        line,
+        &mut shelf,
+        None,
+        status,
+        written.as_bytes(),
+    )
+}
+
+// Verifies a text.
+fn verifies(
+    rt: &impl Abort,
+    alloc: Global,
+    text: &str,
+    status: Status,
+    written: &str,
+) -> Result<(), Fail> {
+    says(rt, alloc, "verify f", text, "", status, written)
+}
+
+// Replays a text along a schedule.
+fn replays(
+    rt: &impl Abort,
+    alloc: Global,
+    text: &str,
+    schedule: &str,
+    status: Status,
+    written: &str,
+) -> Result<(), Fail> {
+    says(rt, alloc, "replay f s", text, schedule, status, written)
+}
+
+// A text stands for a program whose `main` has no parameters.
+fn stands(rt: &impl Abort, alloc: Global, text: &str) -> Result<(), Fail> {
+    replays(rt, alloc, text, "start\nend\n", Status::Good, "ended 0\n")
+}
+
+#[test]
+fn names_that_are_refused(rt: HostRuntime) -> Result<(), Fail> {
+    let alloc = rt.alloc();
+    for (text, written) in [
+        ("", "refused 1:1: no main\n"),
+        ("function Main() { }\n", "refused 1:1: no main\n"),
+        (
+            "function main() { x := y; }\n",
+            "refused 1:24: unknown name y\n",
+        ),
+        (
+            "function main() { x := FAA(1, 1); }\n",
+            "refused 1:24: unknown name FAA\n",
+        ),
+        (
+            "function main(a) requires b = 1; { b := 1; }\n",
+            "refused 1:27: unknown name b\n",
+        ),
+        (
+            "function main(a) requires a |-> b; { x := b; }\n",
+            "refused 1:43: unknown name b\n",
+        ),
+        (
+            "function main(a, b, a) { }\n",
+            "refused 1:21: name a twice\n",
+        ),
+        (
+            "function main() { } function f() { } function main() { }\n",
+            "refused 1:47: name main twice\n",
+        ),
+        (
+            "function main(a) { a := 1; }\n",
+            "refused 1:20: name a twice\n",
+        ),
+        (
+            "function main() { ret := 1; }\n",
+            "refused 1:19: name ret twice\n",
+        ),
+        (
+            "function f(a) { } function main() { f(); }\n",
+            "refused 1:37: wrong number of arguments\n",
+        ),
+        (
+            "function f(a) { } function main() { fork f(1, 2); }\n",
+            "refused 1:42: wrong number of arguments\n",
+        ),
+        (
+            "function main() { x := 1p; }\n",
+            "refused 1:24: wrong sort\n",
+        ),
+        (
+            "function main() { assert 1p = 1; }\n",
+            "refused 1:31: wrong sort\n",
+        ),
+        (
+            "function main(a, b) { x := a * b; }\n",
+            "refused 1:30: product of two names\n",
+        ),
+        (
+            "region R(r) { guards G; interpretation { } actions { } } function main(q) requires q = 1 &*& R(q; 0); { }\n",
+            "refused 1:94: main asks for more than cells\n",
+        ),
+        (
+            "region R(r) { guards G; interpretation { 0 : R(r; 0); } actions { } } function main() requires true; { }\n",
+            "refused 1:46: region states itself\n",
+        ),
+    ] {
+        verifies(&rt, alloc, text, Status::Refused, written)?;
+    }
+    Ok(())
+}
+
+#[test]
+fn least_places(rt: HostRuntime) -> Result<(), Fail> {
+    let alloc = rt.alloc();
+    for (text, written) in [
+        // Tokens come before the grammar, and that before names.
+        (
+            "function main() { x := y; y := ; # }\n",
+            "refused 1:34: bad byte\n",
+        ),
+        (
+            "function main() { x := y; y := ; }\n",
+            "refused 1:32: unexpected token\n",
+        ),
+        (
+            "function main() { x := 9223372036854775808; }\n",
+            "refused 1:24: literal too long\n",
+        ),
+        ("caper 2;\n", "refused 1:1: unexpected token\n"),
+        // Names and sorts are found at their places, whatever the cause.
+        (
+            "function main() { x := 1p; y := z; }\n",
+            "refused 1:24: wrong sort\n",
+        ),
+        (
+            "function main() { y := z; x := 1p; }\n",
+            "refused 1:24: unknown name z\n",
+        ),
+        // At one place the sort comes before the item of `main`.
+        (
+            "region R(r) { guards G; interpretation { } actions { } } function main(q) requires q@G; { }\n",
+            "refused 1:84: wrong sort\n",
+        ),
+        // Without `main` each other cause comes first.
+        (
+            "function f() { x := y; }\n",
+            "refused 1:21: unknown name y\n",
+        ),
+    ] {
+        verifies(&rt, alloc, text, Status::Refused, written)?;
+    }
+    Ok(())
+}
+
+// A text in which so many numbered items stand between these two.
+fn numbered(
+    alloc: Global,
+    front: &str,
+    item: &str,
+    item_end: &str,
+    count: u32,
+    back: &str,
+) -> Result<String, AllocError> {
+    let mut text = String::from_str(alloc, front)?;
+    for number in 0..count {
+        text.push_str("\n")?;
+        text.push_str(item)?;
+        text.push_str(format!(in alloc; "{number}")?.as_str())?;
+        text.push_str(item_end)?;
+    }
+    text.push_str(back)?;
+    Ok(text)
+}
+
+// A text with so many items stands for a program, and with one more it is refused.
+fn most(
+    rt: &impl Abort,
+    alloc: Global,
+    (front, item, item_end, back): (&str, &str, &str, &str),
+    count: u32,
+    written: &str,
+) -> Result<(), Fail> {
+    let edge = numbered(alloc, front, item, item_end, count, back)?;
+    stands(rt, alloc, edge.as_str())?;
+    let past = numbered(alloc, front, item, item_end, count.saturating_add(1), back)?;
+    verifies(rt, alloc, past.as_str(), Status::Refused, written)
+}
+
+#[test]
+fn most_declarations(rt: HostRuntime) -> Result<(), Fail> {
+    let alloc = rt.alloc();
+    for (text, count, written) in [
+        (
+            ("function main() { }", "function f", "() { }", "\n"),
+            255,
+            "refused 257:10: limit functions\n",
+        ),
+        (
+            (
+                "function main() { }",
+                "region R",
+                "(r) { guards G; interpretation { } actions { } }",
+                "\n",
+            ),
+            64,
+            "refused 66:8: limit regions\n",
+        ),
+        (
+            ("function f(a", ", a", "", ") { } function main() { }\n"),
+            15,
+            "refused 17:3: limit parameters\n",
+        ),
+        (
+            (
+                "region R(r",
+                ", a",
+                "",
+                ") { guards G; interpretation { } actions { } } function main() { }\n",
+            ),
+            15,
+            "refused 17:3: limit parameters\n",
+        ),
+        (
+            (
+                "region R(r) { guards G",
+                "+ G",
+                "",
+                "; interpretation { } actions { } } function main() { }\n",
+            ),
+            15,
+            "refused 17:3: limit guards\n",
+        ),
+    ] {
+        most(&rt, alloc, text, count, written)?;
+    }
+    Ok(())
+}
+
+// No action comes to 65 names: it has at most 16 parameters, a source, a target, and an amount for
+// each of 16 guards.
+#[test]
+fn most_variables(rt: HostRuntime) -> Result<(), Fail> {
+    let alloc = rt.alloc();
+    for (text, count, written) in [
+        (
+            ("function main() {", "x", " := 0;", " }\n"),
+            64,
+            "refused 66:1: limit variables\n",
+        ),
+        (
+            (
+                "function f(a) requires true",
+                "&*& a |-> k",
+                "",
+                "; { } function main() { }\n",
+            ),
+            63,
+            "refused 65:11: limit variables\n",
+        ),
+        (
+            (
+                "function f(a) ensures true",
+                "&*& a |-> k",
+                "",
+                "; { } function main() { }\n",
+            ),
+            63,
+            "refused 65:11: limit variables\n",
+        ),
+        (
+            (
+                "function f(a) { while (a = 0) invariant true",
+                "&*& a |-> k",
+                "",
+                "; { } } function main() { }\n",
+            ),
+            63,
+            "refused 65:11: limit variables\n",
+        ),
+        (
+            (
+                "region R(r, x) { guards G; interpretation { 0 : true",
+                "&*& x |-> k",
+                "",
+                "; } actions { } } function main() { }\n",
+            ),
+            62,
+            "refused 64:11: limit variables\n",
+        ),
+    ] {
+        most(&rt, alloc, text, count, written)?;
+    }
+    Ok(())
+}
+
+#[test]
+fn numbers_at_their_limits(rt: HostRuntime) -> Result<(), Fail> {
+    let alloc = rt.alloc();
+    for text in [
+        "function main() { x := alloc(1); y := alloc(64); }\n",
+        // 2^127 - 1, as a constant and as a coefficient, and - 2^127.
+        "function main() { x := 9223372036854775807 * 9223372036854775807 * 2 + 9223372036854775807 * 4 + 1; }\n",
+        "function main() { x := y * 9223372036854775807 * 9223372036854775807 * 2 + y * 9223372036854775807 * 4 + y; y := 0; }\n",
+        "function main() { x := - 9223372036854775807 * 9223372036854775807 * 2 - 9223372036854775807 * 4 - 2; }\n",
+    ] {
+        stands(&rt, alloc, text)?;
+    }
+    for (text, written) in [
+        (
+            "function main() { x := alloc(0); }\n",
+            "refused 1:30: limit alloc\n",
+        ),
+        (
+            "function main() { x := alloc(65); }\n",
+            "refused 1:30: limit alloc\n",
+        ),
+        (
+            "function main() { x := 9223372036854775807 * 9223372036854775807 * 2 + 9223372036854775807 * 4 + 2; }\n",
+            "refused 1:24: limit width\n",
+        ),
+        (
+            "function main() { x := y * 9223372036854775807 * 9223372036854775807 * 2 + y * 9223372036854775807 * 4 + 2 * y; y := 0; }\n",
+            "refused 1:24: limit width\n",
+        ),
+        (
+            "function main() { x := - 9223372036854775807 * 9223372036854775807 * 2 - 9223372036854775807 * 4 - 3; }\n",
+            "refused 1:24: limit width\n",
+        ),
+    ] {
+        verifies(&rt, alloc, text, Status::Refused, written)?;
+    }
+    Ok(())
+}
+
+#[test]
+fn replays_of_the_lock_and_the_counter(rt: HostRuntime) -> Result<(), Fail> {
+    let alloc = rt.alloc();
+    for (text, schedule, status, written) in [
+        (LOCK, LOCK_SCHEDULE, Status::Good, LOCK_RUN),
+        (COUNTER, COUNTER_SCHEDULE, Status::Bad, COUNTER_RUN),
+        (COUNTER, LATE_SCHEDULE, Status::Good, LATE_RUN),
+    ] {
+        replays(&rt, alloc, text, schedule, status, written)?;
+    }
+    Ok(())
+}
+
+#[test]
+fn replays_of_one_line(rt: HostRuntime) -> Result<(), Fail> {
+    let alloc = rt.alloc();
+    for (text, schedule, status, written) in [
+        (
+            "function main() { x := alloc(1); y := alloc(1); }\n",
+            "start\nstep 0 5\nstep 0 5\nend\n",
+            Status::NotEnabled,
+            "1 0 1:19 alloc 5\nnot enabled 2\n",
+        ),
+        (
+            "function main() { }\n",
+            "start\nstep 0\nstep 0\nend\n",
+            Status::NotEnabled,
+            "1 0 1:19 end 0\nnot enabled 2\n",
+        ),
+        (
+            "function main() { x := [0]; }\n",
+            "start\nstep 0\nend\n",
+            Status::Bad,
+            "1 0 1:19 fault 0\nstopped 1\n",
+        ),
+        (
+            "function main(n) { x := alloc(2); [x + 1] := n; }\n",
+            "start 7\nstep 0 4\nstep 0\nstep 0\nend\n",
+            Status::Good,
+            "1 0 1:20 alloc 4\n2 0 1:35 write 5 7\n3 0 1:49 end 0\nended 3\n",
+        ),
+        (
+            "function main(n) { x := alloc(2); [x + 1] := n; }\n",
+            "start\nstep 0 4\nstep 0\nstep 0\nend\n",
+            Status::Refused,
+            "refused schedule line 1\n",
+        ),
+        (
+            "function main(n) { x := n + n; }\n",
+            "start 170141183460469231731687303715884105727\nstep 0\nend\n",
+            Status::Wide,
+            "wide 1\n",
+        ),
+        // Cells of the start are read and written, and what follows a fault is not looked at.
+        (
+            "function main(a) { x := [a]; [a + 1] := x; y := [a + 2]; }\n",
+            "start 3\ncell 3 -8\ncell 4 0\nstep 0\nstep 0\nstep 0\nstep 9 9\nend\n",
+            Status::Bad,
+            "1 0 1:20 read 3 -8\n2 0 1:30 write 4 -8\n3 0 1:44 fault 5\nstopped 3\n",
+        ),
+    ] {
+        replays(&rt, alloc, text, schedule, status, written)?;
+    }
+    Ok(())
+}
+
+#[test]
+fn schedules_that_are_refused(rt: HostRuntime) -> Result<(), Fail> {
+    let alloc = rt.alloc();
+    let text = "function main(n) { }\n";
+    for (schedule, written) in [
+        ("", "refused schedule line 1\n"),
+        ("start 1\n", "refused schedule line 2\n"),
+        ("start 1\nend\n\n", "refused schedule line 3\n"),
+        ("start 1 2\nend\n", "refused schedule line 1\n"),
+        ("start -0\nend\n", "refused schedule line 1\n"),
+        ("start 01\nend\n", "refused schedule line 1\n"),
+        ("start 1\nstep 00\nend\n", "refused schedule line 2\n"),
+        (
+            "start 1\nstep 0\ncell 1 1\nend\n",
+            "refused schedule line 3\n",
+        ),
+        (
+            "start 1\ncell 2 1\ncell 2 1\nend\n",
+            "refused schedule line 3\n",
+        ),
+        // The arguments are counted once all lines are read.
+        ("start\nstep x\nend\n", "refused schedule line 2\n"),
+    ] {
+        replays(&rt, alloc, text, schedule, Status::Refused, written)?;
+    }
+    // The text is refused before the schedule is looked at.
+    replays(
+        &rt,
+        alloc,
+        "function main() { x := y; }\n",
+        "stop\n",
+        Status::Refused,
+        "refused 1:24: unknown name y\n",
+    )
+}
+
+// A schedule of so many entries of thread 0.
+fn entries(alloc: Global, count: usize) -> Result<String, AllocError> {
+    let mut schedule = String::from_str(alloc, "start\n")?;
+    schedule.push_str("step 0\n".repeat(alloc, count)?.as_str())?;
+    schedule.push_str("end\n")?;
+    Ok(schedule)
+}
+
+#[test]
+fn most_entries(rt: HostRuntime) -> Result<(), Fail> {
+    let alloc = rt.alloc();
+    for (count, status, written) in [
+        (
+            100_000,
+            Status::NotEnabled,
+            "1 0 1:19 end 0\nnot enabled 2\n",
+        ),
+        (
+            100_001,
+            Status::Refused,
+            "refused schedule: more than 100000 entries\n",
+        ),
+    ] {
+        let schedule = entries(alloc, count)?;
+        replays(
+            &rt,
+            alloc,
+            "function main() { }\n",
+            schedule.as_str(),
+            status,
+            written,
+        )?;
+    }
+    Ok(())
+}
+
+#[test]
+fn verdicts(rt: HostRuntime) -> Result<(), Fail> {
+    let alloc = rt.alloc();
+    for (text, status, written) in [
+        ("function main() requires true; { }\n", Status::Good, PROVED),
+        (
+            "function main() { x := 9223372036854775807; }\n",
+            Status::Good,
+            PROVED,
+        ),
+        (
+            "function main(n) requires n >= 0; ensures ret >= 2; { return n + 1; }\n",
+            Status::Bad,
+            "function main: open 1:55 needs fact 1:43\nproved 0 of 1\n",
+        ),
+        (
+            "function main(n) requires n >= 0; ensures ret >= 1; { return n + 1; }\n",
+            Status::Good,
+            PROVED,
+        ),
+        (
+            "function main(n) requires n >= 0; ensures ret = n; { i := 0; while (i < n) invariant i <= n; { i := i + 1; } return i; }\n",
+            Status::Good,
+            PROVED,
+        ),
+        (
+            "function main(n) requires n >= 1 &*& n <= 0; { }\n",
+            Status::Bad,
+            "function main: proved\nmain: precondition empty\nproved 1 of 1\n",
+        ),
+        (
+            "function main(a, b) requires 9223372036854775807 * 9223372036854775807 * a <= b &*& 1 <= 9223372036854775807 * 9223372036854775807 * a; { }\n",
+            Status::Bad,
+            "function main: wide 85070591730234615847396907784232501249 85070591730234615847396907784232501249\nproved 0 of 1\n",
+        ),
+        (
+            "function main() { x := [0]; }\n",
+            Status::Bad,
+            "function main: open 1:19 needs cell 1:19\nproved 0 of 1\n",
+        ),
+        (
+            "// 1 is not 2\n  function main(){assert 1=2;}\n",
+            Status::Bad,
+            "function main: open 2:19 needs fact 2:26\nproved 0 of 1\n",
+        ),
+        (
+            "function b() { assert 0 = 1; } function a() { } function main() { a(); b(); }\n",
+            Status::Bad,
+            "function b: open 1:16 needs fact 1:23\nfunction a: proved\nfunction main: proved\nproved 2 of 3\n",
+        ),
+        (
+            "function main() { x := 9223372036854775807 * 9223372036854775807 * 2; y := x + x; }\n",
+            Status::Bad,
+            "function main: wide 2 170141183460469231694793815568465002498\nproved 0 of 1\n",
+        ),
+    ] {
+        verifies(&rt, alloc, text, status, written)?;
+    }
+    Ok(())
+}
+
+#[test]
+fn units_that_come_later(rt: HostRuntime) -> Result<(), Fail> {
+    let alloc = rt.alloc();
+    verifies(
+        &rt,
+        alloc,
+        LOCK,
+        Status::Bad,
+        "region SLock: later\nfunction makeLock: later\nfunction lock: later\nfunction unlock: later\nfunction worker: later\nfunction main: later\nproved 0 of 6\n",
+    )
+}
+
+#[test]
+fn budgets(rt: HostRuntime) -> Result<(), Fail> {
+    let alloc = rt.alloc();
+    let proved =
+        "function main(n) { if (n = 1) { } else { } if (n = 2) { } else { } if (n = 3) { } else { } assert n = n; }\n";
+    let open = "function main(n) { if (n = 1) { } if (n = 2) { } assert n = 5; }\n";
+    for (line, text, status, written) in [
+        ("verify f --budget 17", proved, Status::Good, PROVED),
+        (
+            "verify --budget=16 f",
+            proved,
+            Status::Bad,
+            "function main: spent 16\nproved 0 of 1\n",
+        ),
+        (
+            "verify --budget 4 f",
+            open,
+            Status::Bad,
+            "function main: open 1:50 needs fact 1:57\nproved 0 of 1\n",
+        ),
+        (
+            "verify f --budget=3",
+            open,
+            Status::Bad,
+            "function main: spent 3\nproved 0 of 1\n",
+        ),
+        ("verify f --budget 0", open, Status::Usage, USAGE),
+    ] {
+        says(&rt, alloc, line, text, "", status, written)?;
+    }
+    Ok(())
+}
+
+// A `main` that adds 1 so often.
+fn additions(alloc: Global, count: usize) -> Result<String, AllocError> {
+    let mut text = String::from_str(alloc, "function main() { ")?;
+    text.push_str("x := x + 1; ".repeat(alloc, count)?.as_str())?;
+    text.push_str("}\n")?;
+    Ok(text)
+}
+
+#[test]
+fn deepest_proofs(rt: HostRuntime) -> Result<(), Fail> {
+    let alloc = rt.alloc();
+    // A proof has a node for each statement and one for the end of the body.
+    for (count, status, written) in [
+        (999, Status::Good, PROVED),
+        (
+            1000,
+            Status::Bad,
+            "function main: deep 1000\nproved 0 of 1\n",
+        ),
+    ] {
+        let text = additions(alloc, count)?;
+        verifies(&rt, alloc, text.as_str(), status, written)?;
+    }
+    Ok(())
+}
+
+const REGION: &str =
+    "// A lock.\nregion Lock(r,x){guards %LOCK;interpretation{0:x|->0;}actions{LOCK[1p]:0~>1;}}\nfunction f(a)requires Lock(r,a;_);{return;}";
+
+const REGION_SHOWN: &str =
+    "region Lock ( r , x ) {\nguards % LOCK ;\ninterpretation {\n0 : x |-> 0 ;\n}\nactions {\nLOCK [ 1p ] : 0 ~> 1 ;\n}\n}\nfunction f ( a ) requires Lock ( r , a ; _ ) ;\n{\nreturn ;\n}\n";
+
+#[test]
+fn shown_texts(rt: HostRuntime) -> Result<(), Fail> {
+    let alloc = rt.alloc();
+    for (text, status, written) in [
+        ("", Status::Good, ""),
+        (
+            "function main(){x:=1;}\n",
+            Status::Good,
+            "function main ( ) {\nx := 1 ;\n}\n",
+        ),
+        // Names are not looked at.
+        (
+            "function f(){x:=y;}\n",
+            Status::Good,
+            "function f ( ) {\nx := y ;\n}\n",
+        ),
+        (REGION, Status::Good, REGION_SHOWN),
+        (REGION_SHOWN, Status::Good, REGION_SHOWN),
+        (
+            "function main ( { }",
+            Status::Refused,
+            "refused 1:17: unexpected token\n",
+        ),
+        (
+            "function main()",
+            Status::Refused,
+            "refused 1:16: unexpected token\n",
+        ),
+        (
+            "function main() { x := 1 # 2; }",
+            Status::Refused,
+            "refused 1:26: bad byte\n",
+        ),
+    ] {
+        says(&rt, alloc, "show f", text, "", status, written)?;
+    }
+    Ok(())
+}
+
+// A body with a term in so many parentheses.
+fn nested(alloc: Global, count: usize) -> Result<String, AllocError> {
+    let mut text = String::from_str(alloc, "function main() { x := ")?;
+    text.push_str("(".repeat(alloc, count)?.as_str())?;
+    text.push_str("1")?;
+    text.push_str(")".repeat(alloc, count)?.as_str())?;
+    text.push_str("; }\n")?;
+    Ok(text)
+}
+
+#[test]
+fn brackets_that_nest(rt: HostRuntime) -> Result<(), Fail> {
+    let alloc = rt.alloc();
+    // The brace of the body is open, so the 64th parenthesis is one too many.
+    for (count, status, written) in [
+        (63, Status::Good, PROVED),
+        (64, Status::Refused, "refused 1:87: nested too deep\n"),
+    ] {
+        let text = nested(alloc, count)?;
+        verifies(&rt, alloc, text.as_str(), status, written)?;
+    }
+    Ok(())
+}
+
+#[test]
+fn texts_at_the_limit(rt: HostRuntime) -> Result<(), Fail> {
+    let alloc = rt.alloc();
+    for (blanks, status, written) in [
+        (1_048_576 - 19, Status::Good, PROVED),
+        (
+            1_048_576 - 18,
+            Status::Refused,
+            "refused 1:1: text too long\n",
+        ),
+    ] {
+        let mut text = " ".repeat(alloc, blanks)?;
+        text.push_str("function main() { }")?;
+        verifies(&rt, alloc, text.as_str(), status, written)?;
+    }
+    Ok(())
+}
+
+#[test]
+fn words_that_are_no_command(rt: HostRuntime) -> Result<(), Fail> {
+    let alloc = rt.alloc();
+    let mut shelf = shelf(
+        alloc,
+        "function main() { }\n",
+        "start\nend\n",
+        Vec::new(alloc),
+    )?;
+    for line in [
+        "",
+        "f",
+        "help",
+        "verify",
+        "verify --help",
+        "verify -",
+        "verify -f",
+        "verify f s",
+        "verify f --budget",
+        "verify f --budget 01",
+        "verify f --budget 1 --budget 2",
+        "verify f --budget 1000000001",
+        "show",
+        "show f s",
+        "show f --budget 1",
+        "replay f",
+        "replay f s s",
+        "replay f -s",
+        "-- verify f",
+        // These commands are to come.
+        "derive f",
+        "check f s",
+        "trial 1",
+    ] {
+        ends(
+            &rt,
+            alloc,
+            line,
+            &mut shelf,
+            None,
+            Status::Usage,
+            USAGE.as_bytes(),
+        )?;
+    }
+    Ok(())
+}
+
+#[test]
+fn words_that_are_commands(rt: HostRuntime) -> Result<(), Fail> {
+    let alloc = rt.alloc();
+    let mut shelf = shelf(
+        alloc,
+        "function main() { }\n",
+        "start\nend\n",
+        Vec::new(alloc),
+    )?;
+    for (line, status, written) in [
+        ("verify -- f", Status::Good, PROVED),
+        ("verify f --", Status::Good, PROVED),
+        ("verify --budget=1000000000 -- f", Status::Good, PROVED),
+        ("show -- f", Status::Good, "function main ( ) {\n}\n"),
+        ("replay f -- s", Status::Good, "ended 0\n"),
+        ("verify -- -f", Status::ReadFault, "cannot read -f\n"),
+    ] {
+        ends(
+            &rt,
+            alloc,
+            line,
+            &mut shelf,
+            None,
+            status,
+            written.as_bytes(),
+        )?;
+    }
+    Ok(())
+}
+
+// A shelf whose every file has one byte too many.
+#[derive(Drop)]
+struct LongFiles;
+
+impl Shelf for LongFiles {
+    ghost use Rattle.std.specs.Prelude.{None};
+
+    ghost holds = { λ _. None };
+
+    ghost faults = { λ _. 0 };
+
+    ghost blamed = { λ _. None };
+
+    fn fetch(&mut self, _name: &str) -> Result<Vec<u8>, FetchError> {
+        Err(FetchError::TooLong(67_108_865))
+    }
+}
+
+#[test]
+fn files_that_are_too_long(rt: HostRuntime) -> Result<(), Fail> {
+    let alloc = rt.alloc();
+    for line in ["verify f", "show f", "replay f s"] {
+        ends(
+            &rt,
+            alloc,
+            line,
+            &mut LongFiles,
+            None,
+            Status::Refused,
+            b"refused: file too long\n",
+        )?;
+    }
+    Ok(())
+}
+
+#[test]
+fn files_that_are_absent(rt: HostRuntime) -> Result<(), Fail> {
+    let alloc = rt.alloc();
+    for (line, text, status, written) in [
+        ("verify g", "", Status::ReadFault, "cannot read g\n"),
+        ("show g", "", Status::ReadFault, "cannot read g\n"),
+        ("replay g h", "", Status::ReadFault, "cannot read g\n"),
+        (
+            "replay f h",
+            "function main() { }\n",
+            Status::ReadFault,
+            "cannot read h\n",
+        ),
+        // The text of the first file is refused before the second file is read.
+        ("replay f h", "", Status::Refused, "refused 1:1: no main\n"),
+    ] {
+        says(&rt, alloc, line, text, "", status, written)?;
+    }
+    Ok(())
+}
+
+#[test]
+fn reads_that_fail(rt: HostRuntime) -> Result<(), Fail> {
+    let alloc = rt.alloc();
+    for (failing, line, status, written) in [
+        (1, "verify f", Status::ReadFault, "cannot read f\n"),
+        (2, "verify f", Status::Good, PROVED),
+        (1, "show f", Status::ReadFault, "cannot read f\n"),
+        (1, "replay f s", Status::ReadFault, "cannot read f\n"),
+        (2, "replay f s", Status::ReadFault, "cannot read s\n"),
+        (3, "replay f s", Status::Good, "ended 0\n"),
+    ] {
+        let failing = vec![in alloc; failing]?;
+        let mut shelf = shelf(alloc, "function main() { }\n", "start\nend\n", failing)?;
+        ends(
+            &rt,
+            alloc,
+            line,
+            &mut shelf,
+            None,
+            status,
+            written.as_bytes(),
+        )?;
+    }
+    Ok(())
+}
+
+#[test]
+fn writes_that_break_off(rt: HostRuntime) -> Result<(), Fail> {
+    let alloc = rt.alloc();
+    let mut shelf = shelf(
+        alloc,
+        "function main() requires true; { }\n",
+        "",
+        Vec::new(alloc),
+    )?;
+    let whole = PROVED.as_bytes();
+    for count in 0..=whole.len() {
+        let fails_after = Some(count as u64);
+        ends(
+            &rt,
+            alloc,
+            "verify f",
+            &mut shelf,
+            fails_after,
+            Status::WriteFault,
+            &whole[..count],
+        )?;
+    }
+    Ok(())
+}
+
+#[test]
+fn exit_codes(rt: HostRuntime) {
+    for (status, code) in [
+        (Status::Good, 0),
+        (Status::Bad, 1),
+        (Status::Refused, 2),
+        (Status::Usage, 3),
+        (Status::ReadFault, 4),
+        (Status::WriteFault, 5),
+        (Status::NoMemory, 6),
+        (Status::NotEnabled, 7),
+        (Status::Wide, 8),
+    ] {
+        assert_eq!(rt; status.code(), code, "of {status:?}");
+    }
+}
