@@ -1,4 +1,6 @@
 pub mod Units
 pub mod Texts
 pub mod Report
+pub mod Found
 pub mod Views
+pub mod Laws

@@ -1,11 +1,15 @@
 //! What is said of the units of a program: a line for each with its verdict, and how many are
-//! proved.
+//! proved; and the trees by which all of them are.
 #![tactic(auto)]
 
+mod derive;
+mod laws;
 mod lines;
 mod report;
 mod units;
 
+pub use derive::{Conclusion, derive_on};
+pub use laws::{found_trees_are_valid, good_programs_have_no_regions};
 pub use report::{Report, report_on};
 
 #[cfg(test)]

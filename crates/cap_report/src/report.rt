@@ -1,4 +1,4 @@
-ghost use Rattle.std.specs.Prelude.{◌≡◌, ◌++◌, ◌+◌, IfOk, OnOk, string_bytes};
+ghost use Rattle.std.specs.Prelude.{◌≡◌, ◌++◌, ◌+◌, ◌==◌, ◌&&◌, not, IfOk, OnOk, string_bytes};
 ghost use Rattle.std.specs.Prelude.{length, map, flat_map};
 ghost use Rattle.std.specs.List.{AllByRecursion};
 ghost use Rattle.cap_prog.specs.Views.{program_view};
@@ -6,7 +6,8 @@ ghost use Rattle.cap_goal.specs.Views.{unit_view};
 ghost use Rattle.cap_logic.specs.Roots.{units as units_of};
 ghost use Rattle.cap_roots.specs.Units.{HasUnit};
 ghost use Rattle.cap_seek.specs.Starts.{empty_start as is_empty_start};
-ghost use Rattle.cap_report.specs.Report.{unit_line, count_proved, count_line as line_of_counts};
+ghost use Rattle.cap_report.specs.Report.{unit_line, count_proved, start_line};
+ghost use Rattle.cap_report.specs.Report.{count_line as line_of_counts};
 ghost use Rattle.cap_report.specs.Views.{IsReportOf};
 
 use crate::lines::{judge, once_proved, push_line};
@@ -54,6 +55,30 @@ fn count_line(alloc: Global, proved: usize, all: usize) -> Result<String, AllocE
     format!(in alloc; "proved {proved} of {all}\n")
 }
 
+/// Ends a report that has the lines of the units, of which so many are proved.
+pub(crate) fn finish(
+    alloc: Global,
+    program: &Program,
+    mut text: Vec<u8>,
+    proved: usize,
+    all: usize,
+) -> Result<Report, AllocError>
+    ensures text { IfOk result (λ r. r.text.items ≡ text.items
+        ++ (start_line (is_empty_start (program_view program.now)) ++ line_of_counts proved all)) }
+    ensures good { IfOk result (λ r. r.good
+        ≡ (proved == all) && not (is_empty_start (program_view program.now))) }
+{
+    let empty = empty_start(alloc, program)?;
+    if empty {
+        text.extend_from_slice(b"main: precondition empty\n")?;
+    }
+    text.extend_from_slice(count_line(alloc, proved, all)?.as_bytes())?;
+    Ok(Report {
+        good: proved == all && !empty,
+        text,
+    })
+}
+
 /// The report on a program, each unit searched within a budget of visits. The only error is want of
 /// memory.
 pub fn report_on(alloc: Global, program: &Program, budget: u64) -> Result<Report, AllocError>
@@ -62,13 +87,5 @@ pub fn report_on(alloc: Global, program: &Program, budget: u64) -> Result<Report
     let units = units(alloc, program)?;
     let mut text = Vec::new(alloc);
     let proved = push_units(alloc, &mut text, program, &units, budget)?;
-    let empty = empty_start(alloc, program)?;
-    if empty {
-        text.extend_from_slice(b"main: precondition empty\n")?;
-    }
-    text.extend_from_slice(count_line(alloc, proved, units.len())?.as_bytes())?;
-    Ok(Report {
-        good: proved == units.len() && !empty,
-        text,
-    })
+    finish(alloc, program, text, proved, units.len())
 }
