@@ -1,11 +1,13 @@
 -- What faults say of trees, and what a walk over them tells.
-use Rattle.std.specs.Prelude.{◌≡◌, ℕ, List, length, Option}
+use Rattle.std.specs.Prelude.{◌≡◌, ℕ, List, length, Option, Result}
 use Rattle.cap_prog.specs.Program.{PlainProgram}
 use Rattle.cap_logic.specs.Choices.{PlainChoice, PlainTree}
 use Rattle.cap_logic.specs.Roots.{all_roots}
 use Rattle.cap_rules.specs.Valid.{Valid}
 use Rattle.cap_check.specs.Starts.{starts}
 use Rattle.cap_check.specs.Owed.{preorder, JudgedOk, JudgedNode, JudgedShape}
+use Rattle.cap_check.specs.declared.error.CheckError.{CheckError}
+use Rattle.cap_check.specs.Judges.{Judged}
 use Rattle.cap_check.specs.Faults.{TellsNode, TellsShape}
 use Rattle.cap_check.specs.Walks.{Outcome, goes_on, at_node, at_shape, passed, After, ended, VisitsStarts}
 
@@ -48,3 +50,9 @@ pub record JudgedAreValid : Type 0 where
   pub shape :
       (p : PlainProgram) (trees k : ℕ) (cs : List PlainChoice) →
       JudgedShape p trees cs k → ¬ HasTrees p trees cs
+
+-- choices are judged in one way
+abbrev pub JudgementsAreOne : Type 0
+JudgementsAreOne =
+    (p : PlainProgram) (trees : ℕ) (cs : List PlainChoice) (a b : Result ℕ CheckError) →
+    Judged p trees cs a → Judged p trees cs b → a ≡ b

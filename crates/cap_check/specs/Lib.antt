@@ -5,3 +5,6 @@ pub mod Laws
 pub mod Views
 pub mod Checks
 pub mod Owed
+pub mod Judges
+pub mod Debts
+pub mod JudgeViews

@@ -1,5 +1,6 @@
 //! Laws of faults, walks and what is owed, each the contract of a function that does nothing.
-ghost use Rattle.cap_check.specs.Laws.{FaultyAreInvalid, JudgedAreValid, WalksTell};
+ghost use Rattle.cap_check.specs.Laws.{FaultyAreInvalid, JudgedAreValid};
+ghost use Rattle.cap_check.specs.Laws.{JudgementsAreOne, WalksTell};
 
 /// Trees at which a node or a shape is told are not valid.
 pub fn faulty_are_invalid()
@@ -16,4 +17,10 @@ pub fn walks_tell()
 /// trees are such; where one fails before, or is left over or missing, there are no such trees.
 pub fn judged_are_valid()
     ensures { JudgedAreValid }
+{}
+
+/// Choices in preorder are judged in one way: with one number where they are those of valid trees,
+/// and otherwise by one node, or by the shape at one.
+pub fn judgements_are_one()
+    ensures { JudgementsAreOne }
 {}

@@ -3,14 +3,18 @@
 #![tactic(auto)]
 
 mod bundle;
+mod debt;
 mod error;
 mod gather;
+mod judge;
 mod laws;
 mod left;
+mod owing;
 mod start;
 mod tree;
 mod walk;
 
 pub use bundle::check;
 pub use error::CheckError;
-pub use laws::{faulty_are_invalid, judged_are_valid, walks_tell};
+pub use judge::Judge;
+pub use laws::{faulty_are_invalid, judged_are_valid, judgements_are_one, walks_tell};
