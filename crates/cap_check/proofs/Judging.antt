@@ -117,7 +117,7 @@ pays-one : (p : PlainProgram) (n : ℕ) (o : Option PlainGoal) (c : PlainChoice)
 pays-one p n None c gs hs x y = absurd x
 pays-one p n (Some g) c gs hs (l, x) (m, y) = subgoals-one p g c gs hs x y
 
-replaces-one : (p : PlainProgram) (c : PlainChoice) (ds a b : List PlainDebt) → Replaces p c ds a → Replaces p c ds b → a ≡ b
+pub replaces-one : (p : PlainProgram) (c : PlainChoice) (ds a b : List PlainDebt) → Replaces p c ds a → Replaces p c ds b → a ≡ b
 replaces-one p c [] a b x y = absurd x
 replaces-one p c (d ∷ ds) a b (gs, x, e) (hs, y, f) =
     e ∙ (ap (λ ks. map (owes (suc d.above)) ks ++ ds) (pays-one p d.above d.goal c gs hs x y) ∙ sym f)

@@ -6,3 +6,5 @@ pub mod Walking
 pub mod Judging
 pub mod Starting
 pub mod Checking
+pub mod Agreeing
+pub mod Judgements

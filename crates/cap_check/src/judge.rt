@@ -112,7 +112,7 @@ impl<'a> Judge<'a> {
 
     // What the choice leaves is owed in place of what was owed first.
     fn pay(&mut self, left: Vec<Debt<'a>>) -> Result<(), AllocError>
-        requires { DebtsAreKept (program_view self.old.program.now) (owed_view left.entry.items) }
+        requires { DebtsAreKept (program_view self.old.program.now) (owed_view left.items) }
         ensures paid { IfOk result (λ _. judge_view self.new
             ≡ paid (judge_view self.old) (owed_view left.entry.items)) }
         ensures unchanged { OnErr result (judge_view self.new ≡ judge_view self.old) }
