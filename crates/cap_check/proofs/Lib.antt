@@ -8,3 +8,5 @@ pub mod Starting
 pub mod Checking
 pub mod Agreeing
 pub mod Judgements
+pub mod Stacks
+pub mod Rooms

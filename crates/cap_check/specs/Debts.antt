@@ -5,6 +5,7 @@ use Rattle.std.specs.Global.{Vec}
 use Rattle.cap_prog.specs.Program.{PlainProgram}
 use Rattle.cap_logic.specs.States.{PlainGoal}
 use Rattle.cap_logic.specs.Choices.{PlainChoice}
+use Rattle.cap_logic.specs.Fits.{HasRoom}
 use Rattle.cap_goal.specs.Views.{goal_view}
 use Rattle.cap_fits.specs.Kept.{IsKept, RootIsKept}
 use Rattle.cap_check.specs.declared.debt.Debt.{Debt}
@@ -25,6 +26,10 @@ DebtIsKept p d = RootIsKept p d.goal
 
 abbrev pub DebtsAreKept : PlainProgram → List PlainDebt → Type 0
 DebtsAreKept p ds = AllByRecursion (DebtIsKept p) ds
+
+abbrev pub GoalHasRoom : Option PlainGoal → Type 0
+GoalHasRoom None = Unit {0}
+GoalHasRoom (Some g) = HasRoom g.state
 
 -- what the choice leaves is owed, one node deeper, or it never applies
 abbrev pub LeavesOwed :

@@ -6,7 +6,7 @@ ghost use Rattle.cap_check.specs.Debts.{DebtsAreKept, owed_view};
 use crate::debt::Debt;
 use crate::error::CheckError;
 use crate::gather::starts;
-use crate::owing::{debts_left, owed_at, replace_first};
+use crate::owing::{debts_left, first_owed, owed_at, replace_first};
 use cap_goal::Choice;
 use cap_prog::Program;
 use std::alloc::{AllocError, Global};
@@ -83,7 +83,7 @@ impl<'a> Judge<'a> {
         ensures unchanged { OnErr result (judge_view self.new ≡ judge_view self.old) }
     {
         let alloc = *self.owed.allocator();
-        let left = match self.owed.last() {
+        let left = match first_owed(&self.owed) {
             None => {
                 self.fail(CheckError::Shape(self.next));
                 return Ok(());
@@ -104,7 +104,7 @@ impl<'a> Judge<'a> {
         ensures above { result ≡ above_first (judge_view self.now).owed }
         ensures shallow { result ≤ deepest }
     {
-        match self.owed.last() {
+        match first_owed(&self.owed) {
             None => 0,
             Some(debt) => debt.above,
         }
@@ -112,7 +112,7 @@ impl<'a> Judge<'a> {
 
     // What the choice leaves is owed in place of what was owed first.
     fn pay(&mut self, left: Vec<Debt<'a>>) -> Result<(), AllocError>
-        requires { DebtsAreKept (program_view self.old.program.now) (owed_view left.items) }
+        requires { ∥ DebtsAreKept (program_view self.old.program.now) (owed_view left.items) ∥₁ }
         ensures paid { IfOk result (λ _. judge_view self.new
             ≡ paid (judge_view self.old) (owed_view left.entry.items)) }
         ensures unchanged { OnErr result (judge_view self.new ≡ judge_view self.old) }
@@ -138,6 +138,20 @@ impl<'a> Judge<'a> {
         }
     }
 
+    // How the choices are judged, where none has failed.
+    fn outcome(&self) -> Result<u64, CheckError>
+        requires { self.now.fault ≡ None }
+        ensures { AnswersFor (judge_view self.now) result }
+    {
+        match first_owed(&self.owed) {
+            None => Ok(self.next - 1),
+            Some(debt) => match &debt.goal {
+                None => Err(CheckError::Node(self.next)),
+                Some(_) => Err(CheckError::Shape(self.next)),
+            },
+        }
+    }
+
     /// How the choices are judged: `Ok` with their number where they are those of valid trees, of
     /// which there are as many as roots. `Shape(1)` comes where there are more trees or fewer, and
     /// otherwise `Node` or `Shape` by the first node that is wrong: `Node` where its choice does not
@@ -146,15 +160,9 @@ impl<'a> Judge<'a> {
     pub fn finish(self) -> Result<u64, CheckError>
         ensures { AnswersFor (judge_view self.entry) result }
     {
-        if let Some(fault) = self.fault {
-            return Err(fault);
-        }
-        match self.owed.last() {
-            None => Ok(self.next - 1),
-            Some(debt) => match debt.goal {
-                None => Err(CheckError::Node(self.next)),
-                Some(_) => Err(CheckError::Shape(self.next)),
-            },
+        match self.fault {
+            Some(fault) => Err(fault),
+            None => self.outcome(),
         }
     }
 }

@@ -1,8 +1,9 @@
-//! What a choice leaves of a goal that is kept.
+//! What a choice leaves of a goal.
 ghost use Rattle.std.specs.Prelude.{◌≡◌, ◌≢◌, IfOk, None, option_map};
 ghost use Rattle.std.specs.Prelude.{[], length};
 ghost use Rattle.cap_prog.specs.Views.{program_view};
 ghost use Rattle.cap_prog.specs.WellFormed.{IsWellFormed};
+ghost use Rattle.cap_logic.specs.Fits.{HasRoom};
 ghost use Rattle.cap_goal.specs.Views.{goal_view, choice_view};
 ghost use Rattle.cap_steps.specs.Goals.{goals_view};
 ghost use Rattle.cap_steps.specs.declared.error.RuleError.TheVariants.{OutOfMemory};
@@ -34,7 +35,7 @@ fn well_formed(program: &Program)
     let _regions = program.regions();
 }
 
-/// What a choice leaves of a goal that is kept, which is kept too; none where it doesn't apply.
+/// What a choice leaves of a goal, which is kept where the goal is; none where it doesn't apply.
 #[inline(never)]
 pub(crate) fn goals_left<'a>(
     alloc: Global,
@@ -42,10 +43,11 @@ pub(crate) fn goals_left<'a>(
     goal: &Goal<'a>,
     choice: &Choice,
 ) -> Result<Option<Vec<Goal<'a>>>, AllocError>
-    requires { IsKept (program_view program.now) (goal_view goal.now) }
+    requires { HasRoom goal.now.state }
     ensures left { IfOk result (λ o. Leaves (program_view program.now) (goal_view goal.now)
         (choice_view choice.now) (option_map goals_view o)) }
-    ensures kept { IfOk result (λ o. AreKept (program_view program.now) (option_map goals_view o)) }
+    ensures kept { IsKept (program_view program.now) (goal_view goal.now)
+        → IfOk result (λ o. AreKept (program_view program.now) (option_map goals_view o)) }
 {
     well_formed(program);
     subgoals_are_kept();

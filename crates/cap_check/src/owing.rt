@@ -1,12 +1,14 @@
 //! What is owed at the roots, and what a choice leaves of what is owed.
 ghost use Rattle.std.specs.Prelude.{◌≡◌, ◌≤◌, ◌++◌, [], ◌∷◌, drop, map, option_map};
-ghost use Rattle.std.specs.Prelude.{IfOk, OnErr, OnOk};
+ghost use Rattle.std.specs.Prelude.{IfOk, MatchOption, OnErr, OnOk};
 ghost use Rattle.cap_prog.specs.Views.{program_view};
+ghost use Rattle.cap_logic.specs.Fits.{HasRoom};
 ghost use Rattle.cap_rules.specs.Valid.{deepest};
 ghost use Rattle.cap_goal.specs.Views.{choice_view, goal_view};
 ghost use Rattle.cap_steps.specs.Goals.{goals_view};
 ghost use Rattle.cap_fits.specs.Kept.{IsKept};
-ghost use Rattle.cap_check.specs.Debts.{DebtIsKept, LeavesOwed, LeftIsKept, debt_view, left_view};
+ghost use Rattle.cap_check.specs.Debts.{DebtIsKept, GoalHasRoom, LeavesOwed, LeftIsKept};
+ghost use Rattle.cap_check.specs.Debts.{debt_view, left_view};
 ghost use Rattle.cap_check.specs.Debts.{owed_view};
 ghost use Rattle.cap_check.specs.Owed.{debts_of, owes};
 ghost use Rattle.cap_check.specs.Views.{start_view, starts_view};
@@ -88,10 +90,11 @@ fn left_below<'a>(
     choice: &Choice,
 ) -> Result<Option<Vec<Debt<'a>>>, AllocError>
     requires shallow { above ≤ deepest }
-    requires kept { IsKept (program_view program.now) (goal_view goal.now) }
+    requires room { HasRoom goal.now.state }
     ensures left { IfOk result (λ o. LeavesOwed (program_view program.now)
         (owes above (goal_view goal.now)) (choice_view choice.now) (left_view o)) }
-    ensures kept { IfOk result (λ o. LeftIsKept (program_view program.now) (left_view o)) }
+    ensures kept { IsKept (program_view program.now) (goal_view goal.now)
+        → IfOk result (λ o. LeftIsKept (program_view program.now) (left_view o)) }
 {
     if above == DEEPEST {
         return Ok(None);
@@ -102,22 +105,32 @@ fn left_below<'a>(
     }
 }
 
-/// What a choice leaves of what is owed, which is owed then; none where it doesn't apply.
+/// What a choice leaves of what is owed, which is owed then, and kept where the goal is; none where
+/// it doesn't apply.
 pub(crate) fn debts_left<'a>(
     alloc: Global,
     program: &'a Program,
     debt: &Debt<'a>,
     choice: &Choice,
 ) -> Result<Option<Vec<Debt<'a>>>, AllocError>
-    requires { DebtIsKept (program_view program.now) (debt_view debt.now) }
+    requires { GoalHasRoom (debt_view debt.now).goal }
     ensures left { IfOk result (λ o. LeavesOwed (program_view program.now) (debt_view debt.now)
         (choice_view choice.now) (left_view o)) }
-    ensures kept { IfOk result (λ o. LeftIsKept (program_view program.now) (left_view o)) }
+    ensures kept { DebtIsKept (program_view program.now) (debt_view debt.now)
+        → IfOk result (λ o. LeftIsKept (program_view program.now) (left_view o)) }
 {
     match &debt.goal {
         None => Ok(None),
         Some(goal) => left_below(alloc, program, debt.above, goal, choice),
     }
+}
+
+/// What is owed first.
+pub(crate) fn first_owed<'b, 'a>(owed: &'b [Debt<'a>]) -> Option<&'b Debt<'a>>
+    ensures { MatchOption result (owed_view owed.now ≡ [])
+        (λ d. owed_view owed.now ≡ debt_view d.now ∷ drop 1 (owed_view owed.now)) }
+{
+    owed.last()
 }
 
 /// Replaces what is owed first by what a choice leaves of it.

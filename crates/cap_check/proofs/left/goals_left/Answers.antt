@@ -5,8 +5,8 @@ use Rattle.cap_check.proofs.Leaving.{refused-leaves}
 use Rattle.cap_check.proofs.left.goals_left.Goals as goal
 
 pub returns-in-Ok-clause-kept : goal.returns-in-Ok-clause-kept
-returns-in-Ok-clause-kept c =
-    c.subgoals_are_kept.ensures (program_view c.args.program.now) (goal_view c.args.goal.now) (choice_view c.args.choice.now) (goals_view c.in-Ok.goals) c.well_formed-2.ensures c.requires c.in-Ok.ensures
+returns-in-Ok-clause-kept c = λ k.
+    c.subgoals_are_kept.ensures (program_view c.args.program.now) (goal_view c.args.goal.now) (choice_view c.args.choice.now) (goals_view c.in-Ok.goals) c.well_formed-2.ensures k c.in-Ok.ensures
 
 pub returns-in-Err-clause-left : goal.returns-in-Err-clause-left
 returns-in-Err-clause-left c =

@@ -1,0 +1,21 @@
+-- Goals that are kept have room.
+use Rattle.std.proofs.Common.{◌≡◌, List, ◌∷◌, Option, Some, None, subst}
+use Rattle.std.proofs.Math.Logic.{∥∥₁_elim}
+use Rattle.std.proofs.Props.{props}
+use Rattle.cap_prog.specs.Program.{PlainProgram}
+use Rattle.cap_logic.specs.States.{PlainGoal}
+use Rattle.cap_fits.specs.Kept.{RootIsKept}
+use Rattle.cap_check.specs.Owed.{PlainDebt}
+use Rattle.cap_check.specs.Debts.{DebtsAreKept, GoalHasRoom}
+
+room-prop : (o : Option PlainGoal) → IsProp (GoalHasRoom o)
+room-prop None = Prim.hlevel props
+room-prop (Some g) = Prim.hlevel props
+
+kept-room : (p : PlainProgram) (o : Option PlainGoal) → RootIsKept p o → GoalHasRoom o
+kept-room p None h = tt
+kept-room p (Some g) h = h.fits.state.room
+
+pub first-has-room : (p : PlainProgram) (d : PlainDebt) (ds owed : List PlainDebt) → owed ≡ d ∷ ds → ∥ DebtsAreKept p owed ∥₁ → GoalHasRoom d.goal
+first-has-room p d ds owed e k =
+    ∥∥₁_elim k (room-prop d.goal) (λ h. let t : DebtsAreKept p (d ∷ ds) = subst (DebtsAreKept p) e h in kept-room p d.goal t.0)
