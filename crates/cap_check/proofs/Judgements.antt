@@ -1,6 +1,6 @@
 -- How a judge stands behind one more choice, and at the end.
 use Rattle.std.proofs.Common.{◌≡◌, ◌≢◌, inl, inr, ℕ, suc, ◌+◌, arith, List, [], ◌∷◌, ◌++◌, length, drop, map, reverse, Option, Some, None, refl, sym, ap, subst, ◌∙◌, append_assoc}
-use Rattle.std.specs.Prelude.{Err}
+use Rattle.std.specs.Prelude.{Result, Ok, Err, IfOk}
 use Rattle.std.specs.List.{AllByRecursion}
 use Rattle.std.proofs.lemmas.List.{append-nil, length-append}
 use Rattle.cap_prog.specs.Program.{PlainProgram}
@@ -95,6 +95,10 @@ next-pays j new c d ds left f o (gs, pays, l) e p trees cs h =
       follows = owed-then p cs (c ∷ []) (debts_of (starts p)) (d ∷ ds) (left ++ drop 1 j.owed) (subst (Owed p cs) o a.follows) t;
     } in
     subst (Judges p trees (cs ++ c ∷ [])) (sym e) (record { program = h.program; stands = subst (StandsBy p trees (cs ++ c ∷ []) (paid j left)) (sym f) b })
+
+pub ok-pays : {T E : Type 0} (j new : PlainJudge) (c : PlainChoice) (d : PlainDebt) (ds left : List PlainDebt) (r : Result T E) → j.fault ≡ None → j.owed ≡ d ∷ ds → LeavesOwed j.program d c (Some left) → IfOk r (λ x. new ≡ paid j left) → IfOk r (λ x. JudgesNext j c new)
+ok-pays j new c d ds left (Ok x) f o l e = next-pays j new c d ds left f o l e
+ok-pays j new c d ds left (Err x) f o l e = e
 
 -- ---- at the end
 
