@@ -8,9 +8,8 @@ use Rattle.cap_check.proofs.judge.Judge.start.Goals as goal
 pub returns-then-len-trees : goal.returns-then-len-trees
 returns-then-len-trees c =
     let h1 = c.len.ensures in let h2 = c.if-len-trees.true in
-    let ss = starts_view c.in_ok-starts.starts.items in
-    let other : length ss ≢ c.args.trees = search rules in
-    begins-miscounted (program_view c.args.program.now) c.args.trees ss (owed_view c.new.result.items) c.in_ok-starts.ensures.all other
+    let other : length c.in_ok-starts.starts.items ≢ c.args.trees = search rules in
+    begins-miscounted (program_view c.args.program.now) c.args.trees c.in_ok-starts.starts.items (owed_view c.new.result.items) c.in_ok-starts.ensures.all other
 
 pub invariant_of-result-2-clause-kept : goal.invariant_of-result-2-clause-kept
 invariant_of-result-2-clause-kept c =
@@ -20,6 +19,5 @@ invariant_of-result-2-clause-kept c =
 pub returns : goal.returns
 returns c =
     let h1 = c.len.ensures in let h2 = c.if-len-trees.false in
-    let ss = starts_view c.in_ok-starts.starts.items in
-    let same : length ss ≡ c.args.trees = search rules in
-    begins (program_view c.args.program.now) c.args.trees ss (owed_view c.in_ok-owed_at.field-0.items) c.in_ok-starts.ensures.all same c.in_ok-owed_at.ensures
+    let same : length c.in_ok-starts.starts.items ≡ c.args.trees = search rules in
+    begins (program_view c.args.program.now) c.args.trees c.in_ok-starts.starts.items (owed_view c.in_ok-owed_at.field-0.items) c.in_ok-starts.ensures.all same c.in_ok-owed_at.ensures
