@@ -1,14 +1,12 @@
 -- Choices are judged in one way.
 use Rattle.std.proofs.Common.{◌≡◌, inl, inr, ℕ, suc, List, [], ◌∷◌, ◌++◌, length, refl, sym, ap, subst, ◌∙◌}
-use Rattle.std.specs.Prelude.{Result, Ok, Err}
+use Rattle.std.specs.Prelude.{Ok, Err}
 use Rattle.std.proofs.lemmas.List.{append-nil}
 use Rattle.cap_prog.specs.Program.{PlainProgram}
 use Rattle.cap_logic.specs.Choices.{PlainChoice}
-use Rattle.cap_check.specs.declared.error.CheckError.{CheckError}
 use Rattle.cap_check.specs.declared.error.CheckError.TheVariants.{Node, Shape, OutOfMemory}
 use Rattle.cap_check.specs.Starts.{starts}
 use Rattle.cap_check.specs.Owed.{PlainDebt, debts_of, Replaces, OwedFrom, FailsNext, MisfitsNext, StopsAt, JudgedOk}
-use Rattle.cap_check.specs.Judges.{Judged}
 use Rattle.cap_check.specs.Laws.{JudgementsAreOne}
 use Rattle.cap_check.proofs.Judging.{replaces-one}
 

@@ -1,5 +1,5 @@
 -- What contracts see of what is owed.
-use Rattle.std.specs.Prelude.{◌≡◌, ℕ, suc, List, map, reverse, option_map, ◌++◌, Option, Some, None}
+use Rattle.std.specs.Prelude.{◌≡◌, suc, List, map, reverse, option_map, Option, Some, None}
 use Rattle.std.specs.List.{AllByRecursion}
 use Rattle.std.specs.Global.{Vec}
 use Rattle.cap_prog.specs.Program.{PlainProgram}
@@ -7,7 +7,7 @@ use Rattle.cap_logic.specs.States.{PlainGoal}
 use Rattle.cap_logic.specs.Choices.{PlainChoice}
 use Rattle.cap_logic.specs.Fits.{HasRoom}
 use Rattle.cap_goal.specs.Views.{goal_view}
-use Rattle.cap_fits.specs.Kept.{IsKept, RootIsKept}
+use Rattle.cap_fits.specs.Kept.{RootIsKept}
 use Rattle.cap_check.specs.declared.debt.Debt.{Debt}
 use Rattle.cap_check.specs.Owed.{PlainDebt, owes, Pays}
 

@@ -1,6 +1,5 @@
 use Rattle.std.proofs.Common.{◌≡◌, ◌∷◌, drop, None, Some, subst}
 use Rattle.std.proofs.Math.Logic.{∥∥₁_map}
-use Rattle.cap_prog.specs.Views.{program_view}
 use Rattle.cap_goal.specs.Views.{choice_view}
 use Rattle.cap_check.specs.Debts.{debt_view, owed_view, left_view, DebtsAreKept, LeavesOwed, LeftIsKept}
 use Rattle.cap_check.specs.JudgeViews.{judge_view}

@@ -1,6 +1,6 @@
-use Rattle.std.proofs.Common.{◌≡◌, ◌∷◌, None, Some, ap, drop, option_map}
+use Rattle.std.proofs.Common.{ap, drop, option_map}
 use Rattle.cap_goal.specs.Views.{goal_view}
-use Rattle.cap_check.specs.Debts.{debt_view, owed_view}
+use Rattle.cap_check.specs.Debts.{debt_view}
 use Rattle.cap_check.specs.JudgeViews.{judge_view}
 use Rattle.cap_check.proofs.Judgements.{ends-barred, ends-missing}
 use Rattle.cap_check.proofs.judge.Judge.outcome.Goals as goal
