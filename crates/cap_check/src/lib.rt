@@ -11,6 +11,8 @@ mod laws;
 mod left;
 mod owing;
 mod start;
+#[cfg(test)]
+mod tests;
 mod tree;
 mod walk;
 
