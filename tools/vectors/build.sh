@@ -1,6 +1,6 @@
 # What the comparisons with vectors share. A program in crates/ would be proved and run by the gate, so
-# theirs is written into a copy of the repository, and built, proved and run there. The first build
-# takes long.
+# theirs is written into a copy of the repository, and built, proved and run there, over the libraries
+# that the checkout has built; those that it lacks are proved first, which takes long.
 #
 # `compare NAME VECTORS USES MODULE..` runs the program of the main module vectors/NAME.txt and these
 # modules, over the crates USES, on a file of vectors, and ends with its status.
@@ -12,11 +12,7 @@ compare() {
     copy=$(mktemp -d)
     trap "rm -rf '$copy'" EXIT
 
-    # every crate, with what its checks have kept
-    mkdir "$copy/crates"
-    cp -r "$top/crates/." "$copy/crates/"
-    cp "$top/HANDLES" "$copy/"
-    cp "$top/crates.txt" "$copy/crates.txt"
+    copy_crates "$top" "$copy"
     echo "compare_$name: $uses" >>"$copy/crates.txt"
     mkdir -p "$copy/crates/compare_$name/src" "$copy/crates/compare_$name/proofs"
     cp "$top/tools/vectors/$name.txt" "$copy/crates/compare_$name/src/main.rt"
@@ -32,4 +28,21 @@ compare() {
         grep -q ' agree$' "$copy/printed" || cat "$copy/log" >&2
         return 1
     fi
+}
+
+# Copies every crate, and links the libraries that are built, where both folders are on one disk. What
+# checks have kept besides is large, and serves none of this.
+copy_crates() {
+    local top=$1 copy=$2 built crate
+    mkdir "$copy/crates"
+    cp "$top/HANDLES" "$top/crates.txt" "$copy/"
+    tar -C "$top/crates" --no-wildcards-match-slash --exclude='./*/out' -cf - . | tar -C "$copy/crates" -xf -
+    for built in "$top"/crates/*/out/rlib; do
+        if [ -d "$built" ]; then
+            crate=$(basename "${built%/out/rlib}")
+            mkdir -p "$copy/crates/$crate/out"
+            cp -rl "$built" "$copy/crates/$crate/out/rlib" 2>/dev/null ||
+                { rm -rf "$copy/crates/$crate/out/rlib" && cp -r "$built" "$copy/crates/$crate/out/rlib"; }
+        fi
+    done
 }
