@@ -3,7 +3,7 @@ use Rattle.std.proofs.Common.{arith, ◌≡◌, ◌≢◌, ℕ, ◌+◌, ◌≤�
 use Rattle.std.specs.Global.{Global}
 use Rattle.cap_io.specs.declared.shelf.FetchError.{FetchError}
 use Rattle.cap_io.specs.declared.shelf.FetchError.TheVariants.{Failed, Absent, TooLong, OutOfMemory}
-use Rattle.cap_io.specs.Outside.{Unfaulted, Faulted, Blames, Measures, content, found, plain_answer}
+use Rattle.cap_io.specs.Outside.{Unfaulted, Faulted, Blames, Counts, Measures, content, found, plain_answer}
 use Rattle.cap_io.specs.Memory.{ShelfState, failed_fetches, fails_next, fetched, after_fetch}
 use Rattle.cap_io.proofs.Listed.{listed_hit, listed_miss}
 
@@ -95,6 +95,15 @@ measures_next s name t (Err Failed) next = tt
 measures_next s name t (Err Absent) next = tt
 measures_next s name t (Err (TooLong n)) next = (passes_next s name t (Err (TooLong n)) next (answered_too_long n) (passed_too_long n)).0
 measures_next s name t (Err OutOfMemory) next = tt
+
+-- the fetch is counted, unless memory is short
+pub counts_next : (s : ShelfState) (name : List ℕ) (t : ShelfState) (r : Result (Vec ℕ Global) FetchError) → IsNext s name t r
+    → Counts (Some s.fetches) (Some t.fetches) r
+counts_next s name t (Ok bytes) next = rw (next.after (answered_ok bytes)) refl
+counts_next s name t (Err Failed) next = rw (next.after answered_failed) refl
+counts_next s name t (Err Absent) next = rw (next.after answered_absent) refl
+counts_next s name t (Err (TooLong n)) next = rw (next.after (answered_too_long n)) refl
+counts_next s name t (Err OutOfMemory) next = rw (next.out_of_memory refl) refl
 
 -- a fetch leaves the shelf as it was, or moves it on
 moves : (s : ShelfState) (name : List ℕ) (t : ShelfState) (r : Result (Vec ℕ Global) FetchError) → IsNext s name t r → (t ≡ s) ⊎ (t ≡ after_fetch s name)

@@ -79,6 +79,18 @@ AnswersAreExact = (files : Files) (name : List ℕ) (before now : ℕ) (blamed b
     → Answers (Some files) name r → Blames name before now blamed blames r → ¬ Rose before now → r ≢ Err OutOfMemory
     → plain_answer r ≡ found (content files name)
 
+-- one fetch more is counted, over a shelf that counts them
+abbrev pub IsCounted : Option ℕ → Option ℕ → Type 0
+IsCounted before now = IfSome before (λ n. now ≡ Some (counted n))
+
+-- what a fetch does to the count of fetches: one is counted unless memory is short
+abbrev pub Counts : Option ℕ → Option ℕ → Result (Vec ℕ Global) FetchError → Type 0
+Counts before now (Ok _) = IsCounted before now
+Counts before now (Err Failed) = IsCounted before now
+Counts before now (Err Absent) = IsCounted before now
+Counts before now (Err (TooLong _)) = IsCounted before now
+Counts before now (Err OutOfMemory) = now ≡ before
+
 -- all of these bytes were appended to what was written
 abbrev pub Gains : Option (List ℕ) → Option (List ℕ) → List ℕ → Type 0
 Gains old new bytes = IfSome old (λ held. new ≡ Some (held ++ bytes))

@@ -1,7 +1,7 @@
 ghost use Rattle.std.specs.Map.{lookup};
 ghost use Rattle.std.specs.Prelude.{◌≡◌, ◌≢◌, ◌≤◌, ◌==◌, ◌↔◌, ◌++◌, [], take, Err, Some, None, IsOk, IfOk, OnOk, OnErr, option_map};
 ghost use Rattle.cap_io.specs.declared.shelf.FetchError.TheVariants.{Failed, OutOfMemory};
-ghost use Rattle.cap_io.specs.Outside.{content, counted, found, plain_answer, Blames, Measures};
+ghost use Rattle.cap_io.specs.Outside.{content, counted, found, plain_answer, Blames, Counts, Measures};
 ghost use Rattle.cap_io.specs.Memory.{files_of, failed_fetches, fails_next, fetched, after_fetch, Fits, taken, fails_after};
 
 use crate::shelf::LONGEST;
@@ -116,6 +116,8 @@ impl Shelf for MemoryShelf {
 
     ghost blamed = { λ s. s.blamed };
 
+    ghost fetches = { λ s. Some s.fetches };
+
     ghost never_fails = { λ s. s.failing ≡ [] };
 
     fn fetch(&mut self, name: &str) -> Result<Vec<u8>, FetchError>
@@ -126,6 +128,7 @@ impl Shelf for MemoryShelf {
         // What every shelf ensures, at this one.
         ensures later { failed_fetches self.old ≤ failed_fetches self.new }
         ensures blame { Blames name.now (failed_fetches self.old) (failed_fetches self.new) self.old.blamed self.new.blamed result }
+        ensures counts { Counts (Some self.old.fetches) (Some self.new.fetches) result }
         ensures measure { Measures (Some self.old.files) (failed_fetches self.old) (failed_fetches self.new) result }
         ensures sure { self.old.failing ≡ [] → (self.new.failing ≡ []) × (failed_fetches self.new ≡ failed_fetches self.old) × (result ≢ Err Failed) }
     {

@@ -1,6 +1,6 @@
-ghost use Rattle.std.specs.Prelude.{◌≡◌, ◌≢◌, ◌≤◌, List, ℕ, Option, Err, IsOk, OnOk, OnErr};
+ghost use Rattle.std.specs.Prelude.{◌≡◌, ◌≢◌, ◌≤◌, List, ℕ, Option, None, Err, IsOk, OnOk, OnErr};
 ghost use Rattle.cap_io.specs.declared.shelf.FetchError.TheVariants.{Failed, OutOfMemory};
-ghost use Rattle.cap_io.specs.Outside.{Files, Answers, AnswersAreExact, Blames, Measures, Gains, GainsPrefix, Rose};
+ghost use Rattle.cap_io.specs.Outside.{Files, Answers, AnswersAreExact, Blames, Counts, Measures, Gains, GainsPrefix, Rose};
 
 use std::alloc::{AllocError, AllocFailed};
 use thiserror::Error;
@@ -56,6 +56,10 @@ pub trait Shelf {
     /// The name whose fetch met the last fault.
     ghost blamed: { Self → Option (List ℕ) };
 
+    /// How many fetches were answered so far, want of memory aside: a count that stands still at
+    /// 2^64 - 1. A shelf that does not count them leaves this out.
+    ghost fetches: { Self → Option ℕ } = { λ _. None };
+
     /// No fetch meets a fault, from here on. A shelf that cannot know leaves this out.
     ghost never_fails: { Self → Type 0 } = { λ _. ⊥ };
 
@@ -70,6 +74,7 @@ pub trait Shelf {
         ensures answer { Answers (holds self.old) name.now result }
         ensures later { faults self.old ≤ faults self.new }
         ensures blame { Blames name.now (faults self.old) (faults self.new) (blamed self.old) (blamed self.new) result }
+        ensures counts { Counts (fetches self.old) (fetches self.new) result }
         ensures measure { Measures (holds self.old) (faults self.old) (faults self.new) result }
         ensures sure { never_fails self.old → never_fails self.new × (faults self.new ≡ faults self.old) × (result ≢ Err Failed) };
 }

@@ -1,5 +1,5 @@
 -- The next fetch is what every shelf ensures.
-use Rattle.cap_io.proofs.ShelfLemmas.{blames_next, measures_next, later_next, unlisted_next}
+use Rattle.cap_io.proofs.ShelfLemmas.{blames_next, counts_next, measures_next, later_next, unlisted_next}
 use Rattle.cap_io.proofs.memory.MemoryShelfShelf.fetch.Goals as goal
 
 pub returns-clause-later : goal.returns-clause-later
@@ -7,6 +7,9 @@ returns-clause-later c = later_next _ _ _ _ (record { answer = c.next_fetch.ensu
 
 pub returns-clause-blame : goal.returns-clause-blame
 returns-clause-blame c = blames_next _ _ _ _ (record { answer = c.next_fetch.ensures.answer; after = c.next_fetch.ensures.after; out_of_memory = c.next_fetch.ensures.out_of_memory })
+
+pub returns-clause-counts : goal.returns-clause-counts
+returns-clause-counts c = counts_next _ _ _ _ (record { answer = c.next_fetch.ensures.answer; after = c.next_fetch.ensures.after; out_of_memory = c.next_fetch.ensures.out_of_memory })
 
 pub returns-clause-measure : goal.returns-clause-measure
 returns-clause-measure c = measures_next _ _ _ _ (record { answer = c.next_fetch.ensures.answer; after = c.next_fetch.ensures.after; out_of_memory = c.next_fetch.ensures.out_of_memory })
