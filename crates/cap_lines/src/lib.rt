@@ -10,6 +10,7 @@ mod values;
 mod writing;
 
 pub use laws::{lines_are_forms, readings_are_lines, writings_are_lines, writings_are_read_back};
+pub use preorder::node_count;
 pub use writing::write;
 
 #[cfg(test)]

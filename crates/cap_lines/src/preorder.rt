@@ -1,5 +1,5 @@
 //! The choices of trees in preorder.
-ghost use Rattle.std.specs.Prelude.{◌≡◌, ◌++◌, IfOk, OnOk};
+ghost use Rattle.std.specs.Prelude.{◌≡◌, ◌++◌, IfOk, OnOk, length};
 ghost use Rattle.cap_goal.specs.Trees.{node_view, bundle_view};
 ghost use Rattle.cap_lines.specs.Preorder.{choices_of_tree, choices_of_roots};
 ghost use Rattle.cap_lines.specs.Seen.{choices_seen};
@@ -33,4 +33,12 @@ pub(crate) fn preorder<'a>(alloc: Global, bundle: &'a Bundle) -> Result<Vec<&'a 
         }
     }
     Ok(list)
+}
+
+/// How many nodes a bundle's trees have. The only error is want of memory.
+pub fn node_count(alloc: Global, bundle: &Bundle) -> Result<usize, AllocError>
+    ensures { IfOk result (λ n. n ≡ length (choices_of_roots (bundle_view bundle.now))) }
+{
+    let choices = preorder(alloc, bundle)?;
+    Ok(choices.len())
 }
