@@ -1,3 +1,6 @@
 mod Answering
 mod Replays
 mod Good
+mod Following
+mod Deriving
+mod Accepting

@@ -1,6 +1,9 @@
 pub mod Task
 pub mod Status
 pub mod Output
+pub mod Report
+pub mod Derivations
+pub mod Deriving
 pub mod Answers
 pub mod Views
 pub mod Replaying

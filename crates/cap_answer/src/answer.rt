@@ -1,7 +1,7 @@
 ghost use Rattle.std.specs.Prelude.{◌≡◌, IfOk, MatchResult};
 ghost use Rattle.cap_reading.specs.declared.refusal.Refusal.TheVariants.{OutOfMemory};
-ghost use Rattle.cap_answer.specs.Answers.{IsVerified, IsShown, IsShownAs, IsOnly, IsGood};
-ghost use Rattle.cap_answer.specs.Output.{status_of, refused};
+ghost use Rattle.cap_answer.specs.Answers.{IsVerified, IsShown, IsOnly, IsGood};
+ghost use Rattle.cap_answer.specs.Output.{refusal_output};
 ghost use Rattle.cap_answer.specs.Views.{output_view, IsCause};
 ghost use Rattle.cap_answer.specs.declared.status.Status.TheVariants.{Good};
 
@@ -14,7 +14,8 @@ use std::alloc::{AllocError, Global};
 
 /// What is said of a text that is refused, unless for want of memory.
 pub(crate) fn refuse<'a>(cause: Refusal) -> Result<Output<'a>, AllocError>
-    ensures { MatchResult result (λ o. (output_view o ≡ refused cause) × IsCause cause)
+    ensures { MatchResult result
+        (λ o. (output_view o ≡ refusal_output cause) × IsCause cause)
         (λ _. cause ≡ OutOfMemory) }
 {
     match cause {
@@ -39,7 +40,7 @@ pub fn verify<'a>(alloc: Global, bytes: &[u8], budget: u64) -> Result<Output<'a>
     ensures answers { IfOk result (λ o. IsOnly (IsVerified budget bytes.now) (output_view o)) }
 
     // The headline, of the bytes: where the status is good, they are the text of a safe program.
-    ensures good { IfOk result (λ o. status_of (output_view o) ≡ Good → IsGood budget bytes.now) }
+    ensures good { IfOk result (λ o. (output_view o).status ≡ Good → IsGood budget bytes.now) }
 {
     good_answers_are_safe();
     judge_text(alloc, bytes, budget)

@@ -1,8 +1,10 @@
-ghost use Rattle.cap_answer.specs.Answers.{GoodAnswersAreSafe};
+ghost use Rattle.cap_answer.specs.Answers.{AcceptedAreSafe, DerivedAreAccepted, GoodAnswersAreSafe};
 
 use cap_account::derivations_are_sound;
+use cap_check::{judged_are_valid, judgements_are_one};
+use cap_lines::readings_are_lines;
 use cap_reading::programs_of_texts_are_well_formed;
-use cap_seek::proved_units_are_valid;
+use cap_report::{found_trees_are_valid, good_programs_have_no_regions};
 
 /// A law: what `verify` says with a good status is said of the text of a program that is safe. (A
 /// region type and what uses one is not judged yet, so that such a program is never good.)
@@ -10,6 +12,29 @@ pub fn good_answers_are_safe()
     ensures { GoodAnswersAreSafe }
 {
     derivations_are_sound();
-    proved_units_are_valid();
+    found_trees_are_valid();
+    good_programs_have_no_regions();
     programs_of_texts_are_well_formed();
+}
+
+/// A law: what `check` says with a good status is said of a valid derivation of a program that is
+/// safe.
+pub fn accepted_are_safe()
+    ensures { AcceptedAreSafe }
+{
+    derivations_are_sound();
+    judged_are_valid();
+    readings_are_lines();
+    programs_of_texts_are_well_formed();
+}
+
+/// A law: what `derive` says with a good status is accepted by `check` of the same program.
+pub fn derived_are_accepted()
+    ensures { DerivedAreAccepted }
+{
+    found_trees_are_valid();
+    good_programs_have_no_regions();
+    judged_are_valid();
+    judgements_are_one();
+    readings_are_lines();
 }

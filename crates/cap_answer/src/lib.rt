@@ -2,6 +2,8 @@
 #![tactic(auto)]
 
 mod answer;
+mod checking;
+mod derivation;
 mod laws;
 mod output;
 mod replaying;
@@ -9,7 +11,9 @@ mod status;
 mod task;
 
 pub use answer::{show, verify};
-pub use laws::good_answers_are_safe;
+pub use checking::{begin_check, check};
+pub use derivation::derive;
+pub use laws::{accepted_are_safe, derived_are_accepted, good_answers_are_safe};
 pub use output::Output;
 pub use replaying::{Begun, begin_replay, play};
 pub use status::Status;

@@ -1,7 +1,7 @@
 ghost use Rattle.std.specs.Prelude.{IfOk, MatchResult, List, ℕ};
 ghost use Rattle.cap_prog.specs.Views.{program_view};
-ghost use Rattle.cap_answer.specs.Answers.{Fetched, IsReplayed, IsPlayed, IsOnly, IsOnlyTextOf};
-ghost use Rattle.cap_answer.specs.Replaying.{Begins};
+ghost use Rattle.cap_answer.specs.Answers.{IsPlayed, IsOnly};
+ghost use Rattle.cap_answer.specs.Replaying.{BeginsReplay};
 ghost use Rattle.cap_answer.specs.Views.{output_view};
 
 use crate::answer::refuse;
@@ -11,8 +11,8 @@ use cap_reading::read_program;
 use cap_replay::{ScheduleError, fits, read_schedule, replay as run_along};
 use std::alloc::{AllocError, Global};
 
-/// What is known once a program's file was read: the program, whose schedule is read next, or what
-/// is said without one.
+/// What is known once a program's file was read: the program, whose second file is read next, or
+/// what is said without one.
 #[derive(Drop)]
 pub enum Begun<'a> {
     Program(Program),
@@ -21,7 +21,7 @@ pub enum Begun<'a> {
 
 /// Reads the program whose run is replayed. The only error is want of memory.
 pub fn begin_replay<'a>(alloc: Global, bytes: &[u8]) -> Result<Begun<'a>, AllocError>
-    ensures { IfOk result (Begins bytes.now) }
+    ensures { IfOk result (BeginsReplay bytes.now) }
 {
     match read_program(alloc, bytes) {
         Ok(program) => Ok(Begun::Program(program)),

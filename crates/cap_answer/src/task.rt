@@ -10,6 +10,10 @@ use std::alloc::{AllocError, Global};
 pub enum Task<'a> {
     /// Verifies the program in a file, searching each unit within a budget of visits.
     Verify { file: &'a str, budget: u64 },
+    /// Writes the derivation of the program in a file, which is searched for as `verify` does.
+    Derive { file: &'a str, budget: u64 },
+    /// Judges the derivation in a file, of the program in another.
+    Check { file: &'a str, derivation: &'a str },
     /// Writes the program in a file in its canonical layout.
     Show { file: &'a str },
     /// Runs the program in a file along the schedule in another.
@@ -24,7 +28,9 @@ fn built<'a>(command: Command<'a>) -> Option<Task<'a>>
         Command::Verify { file, budget } => Some(Task::Verify { file, budget }),
         Command::Show { file } => Some(Task::Show { file }),
         Command::Replay { file, schedule } => Some(Task::Replay { file, schedule }),
-        Command::Derive { .. } | Command::Check { .. } | Command::Trial { .. } => None,
+        Command::Derive { file, budget } => Some(Task::Derive { file, budget }),
+        Command::Check { file, derivation } => Some(Task::Check { file, derivation }),
+        Command::Trial { .. } => None,
     }
 }
 

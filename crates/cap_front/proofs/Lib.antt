@@ -1,4 +1,4 @@
 mod Reading
-mod Replays
 mod Saying
+mod Two
 mod Promises

@@ -1,10 +1,11 @@
 -- What the files of a task gave where no fault came is what they hold.
-use Rattle.std.proofs.Common.{◌≡◌, ℕ, ◌<◌, ◌≤◌, ◌⊎◌, inl, inr, nat_lt, Bool, true, false, if◌then◌else◌, List, [], ◌∷◌, length, map, Option, Some, None, IfSome, refl, sym, ap, ◌∙◌, subst, arith}
+use Rattle.std.proofs.Common.{◌≡◌, ℕ, ◌<◌, ◌≤◌, inl, inr, nat_lt, Bool, true, false, if◌then◌else◌, List, [], ◌∷◌, length, Option, Some, None, refl, sym, ap, ◌∙◌, arith}
 use Rattle.std.proofs.lemmas.Bool.Decides.{nat_tests}
 use Rattle.std.specs.Prelude.{IsSomeAnd}
 use Rattle.cap_io.specs.Outside.{Files, content, longest, Rose}
 use Rattle.cap_answer.specs.Answers.{Fetched, held, unread, long}
-use Rattle.cap_front.specs.Reads.{IsFetched, AreFetched, given_by}
+use Rattle.cap_answer.specs.Answers.{Agree}
+use Rattle.cap_front.specs.Reads.{IsFetched, AreFetched, given_by, AreGiven}
 
 short-given : (bytes : List ℕ) → length bytes ≤ longest → given_by (Some bytes) ≡ held bytes
 short-given bytes l =
@@ -31,11 +32,30 @@ module _ (files : Files) (before now : ℕ) (blames : Option (List ℕ)) (calm :
   one-given name unread (inr h) = ap given_by h
   one-given name long h = some-long (content files name) h
 
-  pub all-given : (names : List (List ℕ)) (xs : List Fetched) → AreFetched (Some files) before now blames names xs
-      → map (λ name. given_by (content files name)) names ≡ xs
-  all-given [] [] h = refl
-  all-given [] (x ∷ xs) h = absurd h
-  all-given (name ∷ names) [] h = absurd h
-  all-given (name ∷ names) (x ∷ xs) h =
-      ap (λ y. y ∷ map (λ n. given_by (content files n)) names) (one-given name x h.0)
-      ∙ ap (λ ys. x ∷ ys) (all-given names xs h.1)
+  -- whatever else is given, what was read is the same
+  pub agree-given : (names : List (List ℕ)) (xs ys : List Fetched) → AreFetched (Some files) before now blames names xs
+      → AreGiven files names ys → Agree xs ys
+  agree-given names [] ys h g = tt
+  agree-given [] (x ∷ xs) ys h g = absurd h
+  agree-given (name ∷ names) (x ∷ xs) [] h g = tt
+  agree-given (name ∷ names) (x ∷ xs) (y ∷ ys) h g =
+      (sym (one-given name x h.0) ∙ g.0, agree-given names xs ys h.1 g.1)
+
+  pub first-given : (name : List ℕ) (names : List (List ℕ)) (x : Fetched) (xs : List Fetched)
+      → AreFetched (Some files) before now blames (name ∷ names) (x ∷ xs) → given_by (content files name) ≡ x
+  first-given name names x xs h = one-given name x h.0
+
+-- what a file that is there gives is not that it can't be read, and where it gives bytes it gives its own
+pub given-held : (bytes other : List ℕ) → given_by (Some bytes) ≡ held other → bytes ≡ other
+given-held bytes other e = by (nat_lt longest (length bytes)) refl
+  where
+    by : (b : Bool) → nat_lt longest (length bytes) ≡ b → bytes ≡ other
+    by false f = let g : held bytes ≡ held other = sym (ap (λ c. if c then long else held bytes) f) ∙ e in cc
+    by true f = let g : long ≡ held other = sym (ap (λ c. if c then long else held bytes) f) ∙ e in absurd cc
+
+pub given-unread : (bytes : List ℕ) → given_by (Some bytes) ≡ unread → ⊥
+given-unread bytes e = by (nat_lt longest (length bytes)) refl
+  where
+    by : (b : Bool) → nat_lt longest (length bytes) ≡ b → ⊥
+    by false f = let g : held bytes ≡ unread = sym (ap (λ c. if c then long else held bytes) f) ∙ e in cc
+    by true f = let g : long ≡ unread = sym (ap (λ c. if c then long else held bytes) f) ∙ e in cc

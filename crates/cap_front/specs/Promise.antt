@@ -1,6 +1,6 @@
 -- What a run of the whole program promises.
-use Rattle.std.specs.Prelude.{◌≡◌, ℕ, ◌⊎◌, List, [], ◌∷◌, Option, Some, None, IfSome, IsSomeAnd}
-use Rattle.cap_io.specs.Outside.{Files, content, Rose, Gains}
+use Rattle.std.specs.Prelude.{◌≡◌, ℕ, ◌⊎◌, ◌≤◌, true, List, [], ◌∷◌, length, Option, Some, None, IfSome, IsSomeAnd}
+use Rattle.cap_io.specs.Outside.{Files, content, longest, Rose, Gains}
 use Rattle.cap_prog.specs.Program.{PlainProgram}
 use Rattle.cap_tree.specs.Tree.{ProgramTree}
 use Rattle.cap_tree.specs.Texts.{Spells}
@@ -8,10 +8,14 @@ use Rattle.cap_reading.specs.Refused.{IsTextOf}
 use Rattle.cap_answer.specs.declared.status.Status.{Status}
 use Rattle.cap_answer.specs.declared.status.Status.TheVariants.{Good, Bad, Refused, NoMemory, NotEnabled, Wide}
 use Rattle.cap_replay.specs.declared.playing.End.{End}
-use Rattle.cap_answer.specs.Answers.{Fetched, IsShownAs, IsPlayedAs, IsOutput, IsGood}
-use Rattle.cap_answer.specs.Task.{Task, verify, show, replay, files_of}
-use Rattle.cap_answer.specs.Output.{Output, status_of, end_status, text_of}
-use Rattle.cap_front.specs.Reads.{AreFetched, given}
+use Rattle.cap_report.specs.Report.{is_good}
+use Rattle.cap_report.specs.Found.{found_trees}
+use Rattle.cap_lines.specs.Written.{derivation_text}
+use Rattle.cap_tree.specs.Canonical.{canonical_text}
+use Rattle.cap_answer.specs.Answers.{Fetched, IsPlayedAs, IsOutput, IsGood, IsAccepted, AreAccepted}
+use Rattle.cap_answer.specs.Task.{Task, verify, derive, check, show, replay, files_of}
+use Rattle.cap_answer.specs.Output.{Output, end_status}
+use Rattle.cap_front.specs.Reads.{AreFetched, AreCounted, AreGiven}
 use Rattle.cap_front.specs.Run.{IsPut, IsNothing}
 
 -- The bytes that were read of the file of this name, which are those that it holds where the shelf
@@ -20,6 +24,35 @@ pub record VerifiesFile (told : Option Files) (budget : ℕ) (name : List ℕ) :
   pub bytes : List ℕ
   pub held : IfSome told (λ files. content files name ≡ Some bytes)
   pub good : IsGood budget bytes
+
+-- The bytes that were read of the file of this name are the text of a program, and the sink has gained
+-- the lines of a valid derivation of all its units, which `check` accepts.
+pub record DerivesFile (told : Option Files) (budget : ℕ) (name : List ℕ)
+    (written gained : Option (List ℕ)) : Type 0 where
+  pub bytes : List ℕ
+  pub held : IfSome told (λ files. content files name ≡ Some bytes)
+  pub program : PlainProgram
+  pub text_of_it : IsTextOf bytes program
+  pub proved : is_good program budget ≡ true
+  pub lines : List ℕ
+  pub whole : lines ≡ derivation_text (found_trees program budget)
+  pub accepted : AreAccepted program lines
+  pub gains : Gains written gained lines
+
+-- The bytes that were read of the first file are the text of a safe program, those of the second the
+-- lines of a valid derivation of it.
+pub record ChecksFiles (told : Option Files) (file derivation : List ℕ) : Type 0 where
+  pub bytes : List ℕ
+  pub held : IfSome told (λ files. content files file ≡ Some bytes)
+  pub lines : List ℕ
+  pub lines_held : IfSome told (λ files. content files derivation ≡ Some lines)
+  pub accepted : IsAccepted bytes lines
+
+-- the bytes spell a tree, of which this is the canonical text
+pub record IsShownAs (bytes text : List ℕ) : Type 0 where
+  pub tree : ProgramTree
+  pub spelled : Spells bytes tree
+  pub canonical : text ≡ canonical_text tree
 
 -- The sink has gained the canonical text of the tree that those bytes spell.
 pub record ShowsFile (told : Option Files) (name : List ℕ) (written gained : Option (List ℕ))
@@ -56,23 +89,24 @@ pub record ReplaysFiles (told : Option Files) (file schedule : List ℕ)
   pub ended : status ≡ end_status end
   pub gains : Gains written gained text
 
--- The ways to end: an output by what the files gave, whole or, where the put failed, the first of
--- it; or no memory, with nothing.
-abbrev pub Ends : Option Files → Option Task → ℕ → ℕ → Option (List ℕ) → Option (List ℕ)
-    → Option (List ℕ) → ℕ → ℕ → Status → Type 0
-Ends told task reads reads_now blamed written gained writes writes_now status =
+-- The ways to end: an output by what the files that were read gave, whole or, where the put failed,
+-- the first of it; or no memory, with nothing. No file is read but those.
+abbrev pub Ends : Option Files → Option Task → ℕ → ℕ → Option (List ℕ) → Option ℕ → Option ℕ
+    → Option (List ℕ) → Option (List ℕ) → ℕ → ℕ → Status → Type 0
+Ends told task reads reads_now blamed fetches fetches_now written gained writes writes_now status =
     ((got : List Fetched) × AreFetched told reads reads_now blamed (files_of task) got
+    × AreCounted fetches fetches_now got
     × ((o : Output) × IsOutput task got o × IsPut written gained writes writes_now status o))
     ⊎ IsNothing written gained status
 
 -- the sink has gained this output's text, and the status is its
 abbrev pub Says : Option (List ℕ) → Option (List ℕ) → Status → Output → Type 0
-Says written gained status o = (status ≡ status_of o) × Gains written gained (text_of o)
+Says written gained status o = (status ≡ o.status) × Gains written gained o.text
 
 -- each output over these files is the one that is said, unless memory ran out
 abbrev pub Answers : Option Task → Files → Option (List ℕ) → Option (List ℕ) → Status → Type 0
 Answers task files written gained status =
-    (o : Output) → IsOutput task (given files task) o
+    (got : List Fetched) (o : Output) → AreGiven files (files_of task) got → IsOutput task got o
     → Says written gained status o ⊎ (status ≡ NoMemory)
 
 -- the file holds the text of a safe program, all of which is proved within the budget
@@ -80,6 +114,17 @@ pub record HoldsGood (budget : ℕ) (name : List ℕ) (files : Files) : Type 0 w
   pub bytes : List ℕ
   pub held : content files name ≡ Some bytes
   pub good : IsGood budget bytes
+
+-- the first file holds the text of a program, the second lines that are accepted of it
+pub record HoldAccepted (file derivation : List ℕ) (files : Files) : Type 0 where
+  pub bytes : List ℕ
+  pub held : content files file ≡ Some bytes
+  pub program : PlainProgram
+  pub text_of_it : IsTextOf bytes program
+  pub lines : List ℕ
+  pub lines_held : content files derivation ≡ Some lines
+  pub short : length lines ≤ longest
+  pub accepted : AreAccepted program lines
 
 -- the file holds the text of a tree, of which this is the canonical text
 pub record HoldsTree (name text : List ℕ) (files : Files) : Type 0 where
@@ -90,6 +135,8 @@ pub record HoldsTree (name text : List ℕ) (files : Files) : Type 0 where
 -- the bytes are a text that the task can take
 abbrev pub IsTextFor : Task → List ℕ → Type 0
 IsTextFor (verify name budget) bytes = (p : PlainProgram) × IsTextOf bytes p
+IsTextFor (derive name budget) bytes = (p : PlainProgram) × IsTextOf bytes p
+IsTextFor (check name derivation) bytes = (p : PlainProgram) × IsTextOf bytes p
 IsTextFor (show name) bytes = (t : ProgramTree) × Spells bytes t
 IsTextFor (replay name schedule) bytes = (p : PlainProgram) × IsTextOf bytes p
 

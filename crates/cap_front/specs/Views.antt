@@ -1,9 +1,13 @@
 -- What is seen of what a file gave.
 use Rattle.std.specs.Prelude.{◌≡◌, ℕ, List}
+use Rattle.cap_prog.specs.Program.{PlainProgram}
 use Rattle.cap_prog.specs.Views.{program_view}
+use Rattle.cap_reading.specs.Refused.{IsTextOf}
 use Rattle.cap_answer.specs.declared.replaying.Begun.{Begun}
 use Rattle.cap_answer.specs.declared.replaying.Begun.TheVariants.{Program, Said}
-use Rattle.cap_answer.specs.Answers.{Fetched, held, unread, long, After, IsReplayed, IsOnly, IsOnlyTextOf}
+use Rattle.cap_answer.specs.Answers.{Fetched, held, unread, long, After, IsOnly}
+use Rattle.cap_answer.specs.Replaying.{IsOnlyText}
+use Rattle.cap_answer.specs.Output.{Output}
 use Rattle.cap_answer.specs.Views.{output_view}
 use Rattle.cap_front.specs.declared.fetching.Fetched as code
 use Rattle.cap_front.specs.declared.fetching.Fetched.TheVariants.{Held, Unread, Long}
@@ -13,10 +17,15 @@ fetched_view (Held bytes) = held bytes.items
 fetched_view Unread = unread
 fetched_view Long = long
 
--- What is known once the file of a program to be replayed gave this: the program, where these were
--- the bytes of its text, or what is said whatever the schedule's file gives.
-abbrev pub BeginsAfter : List ℕ → Fetched → Begun → Type 0
-BeginsAfter name x (Program p) =
-    (bytes : List ℕ) × (x ≡ held bytes) × IsOnlyTextOf bytes (program_view p)
-BeginsAfter name x (Said o) =
-    (schedule : List ℕ) (y : Fetched) → IsOnly (After name x (IsReplayed schedule y)) (output_view o)
+-- this is said of the file of this name, which gave no text of a program of that kind
+pub record IsSaidEarly (IsEarly : List ℕ → Output → Type 0) (IsOfKind : PlainProgram → Type 0)
+    (name : List ℕ) (x : Fetched) (o : Output) : Type 0 where
+  pub output : IsOnly (After name x IsEarly) o
+  pub none : (bytes : List ℕ) (p : PlainProgram) → x ≡ held bytes → IsTextOf bytes p → IsOfKind p → ⊥
+
+-- What is known once the file of a program gave this: the program, where these were the bytes of its
+-- text, or what is said without a second file.
+abbrev pub BeginsAfter : (List ℕ → Output → Type 0) → (PlainProgram → Type 0) → List ℕ → Fetched → Begun → Type 0
+BeginsAfter IsEarly IsOfKind name x (Program p) =
+    (bytes : List ℕ) × (x ≡ held bytes) × IsOnlyText IsEarly IsOfKind bytes (program_view p)
+BeginsAfter IsEarly IsOfKind name x (Said o) = IsSaidEarly IsEarly IsOfKind name x (output_view o)

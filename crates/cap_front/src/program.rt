@@ -1,15 +1,21 @@
 ghost use Rattle.std.specs.Prelude.{◌≡◌, ◌⊎◌, ℕ, List, IfOk, IfSome, Some, None};
 ghost use Rattle.cap_io.specs.Outside.{Rose};
-ghost use Rattle.cap_answer.specs.Task.{task_in, verify, show, replay};
+ghost use Rattle.cap_answer.specs.Task.{task_in, verify, derive, check, show, replay};
 ghost use Rattle.cap_answer.specs.Views.{output_view};
 ghost use Rattle.cap_answer.specs.declared.status.Status.TheVariants.{Good, Usage, ReadFault};
 ghost use Rattle.cap_answer.specs.declared.status.Status.TheVariants.{WriteFault, NoMemory};
-ghost use Rattle.cap_front.specs.Promise.{VerifiesFile, ShowsFile, Ends, Answers, HoldsGood};
-ghost use Rattle.cap_front.specs.Promise.{HoldsTree, Refuses, ReadFails, EndsRun, ReplaysFiles};
+ghost use Rattle.cap_front.specs.Promise.{VerifiesFile, DerivesFile, ChecksFiles, ShowsFile};
+ghost use Rattle.cap_front.specs.Promise.{EndsRun, ReplaysFiles, Ends, Answers, HoldsGood};
+ghost use Rattle.cap_front.specs.Promise.{HoldAccepted, HoldsTree, Refuses, ReadFails};
 ghost use Rattle.cap_front.specs.Run.{IsSaid, IsRun};
 
-use crate::fetching::{begin_file, fetch, play_file, show_file, verify_file};
-use cap_answer::{Begun, Output, Status, Task, good_answers_are_safe};
+use crate::fetching::{
+    begin_checked_file, begin_file, check_file, derive_file, fetch, play_file, show_file,
+    verify_file,
+};
+use cap_answer::{
+    Begun, Output, Status, Task, accepted_are_safe, derived_are_accepted, good_answers_are_safe,
+};
 use cap_io::{Shelf, Sink};
 use std::alloc::{AllocError, Global};
 
@@ -21,7 +27,8 @@ fn replay_files<'a, S: Shelf>(
     schedule: &'a str,
 ) -> Result<Output<'a>, AllocError>
     ensures { IfOk result (λ o. IsSaid (S.holds shelf.old) (Some (replay file.now schedule.now))
-        (S.faults shelf.old) (S.faults shelf.new) (S.blamed shelf.new) (output_view o)) }
+        (S.faults shelf.old) (S.faults shelf.new) (S.blamed shelf.new)
+        (S.fetches shelf.old) (S.fetches shelf.new) (output_view o)) }
 {
     let fetched = fetch(shelf, file)?;
     match begin_file(alloc, file, fetched)? {
@@ -33,6 +40,28 @@ fn replay_files<'a, S: Shelf>(
     }
 }
 
+/// What is said of a derivation: the program is read first, and its derivation only where that is
+/// one that can be judged.
+fn check_files<'a, S: Shelf>(
+    alloc: Global,
+    shelf: &mut S,
+    file: &'a str,
+    derivation: &'a str,
+) -> Result<Output<'a>, AllocError>
+    ensures { IfOk result (λ o. IsSaid (S.holds shelf.old) (Some (check file.now derivation.now))
+        (S.faults shelf.old) (S.faults shelf.new) (S.blamed shelf.new)
+        (S.fetches shelf.old) (S.fetches shelf.new) (output_view o)) }
+{
+    let fetched = fetch(shelf, file)?;
+    match begin_checked_file(alloc, file, fetched)? {
+        Begun::Said(output) => Ok(output),
+        Begun::Program(program) => {
+            let fetched = fetch(shelf, derivation)?;
+            check_file(alloc, &program, derivation, fetched)
+        }
+    }
+}
+
 /// What is said for these words: each file is read in the order of the words.
 fn respond<'a, S: Shelf>(
     alloc: Global,
@@ -40,13 +69,19 @@ fn respond<'a, S: Shelf>(
     shelf: &mut S,
 ) -> Result<Output<'a>, AllocError>
     ensures { IfOk result (λ o. IsSaid (S.holds shelf.old) (task_in words.entry.now)
-        (S.faults shelf.old) (S.faults shelf.new) (S.blamed shelf.new) (output_view o)) }
+        (S.faults shelf.old) (S.faults shelf.new) (S.blamed shelf.new)
+        (S.fetches shelf.old) (S.fetches shelf.new) (output_view o)) }
 {
     match Task::from_words(alloc, words)? {
         Some(Task::Verify { file, budget }) => {
             let fetched = fetch(shelf, file)?;
             verify_file(alloc, file, fetched, budget)
         }
+        Some(Task::Derive { file, budget }) => {
+            let fetched = fetch(shelf, file)?;
+            derive_file(alloc, file, fetched, budget)
+        }
+        Some(Task::Check { file, derivation }) => check_files(alloc, shelf, file, derivation),
         Some(Task::Show { file }) => {
             let fetched = fetch(shelf, file)?;
             show_file(alloc, file, fetched)
@@ -65,6 +100,7 @@ fn perform<S: Shelf, K: Sink>(
 ) -> Status
     ensures { IsRun (S.holds shelf.old) (task_in words.now)
         (S.faults shelf.old) (S.faults shelf.new) (S.blamed shelf.new)
+        (S.fetches shelf.old) (S.fetches shelf.new)
         (K.written sink.old) (K.written sink.new) (K.faults sink.old) (K.faults sink.new) result }
 {
     let Ok(output) = respond(alloc, words, shelf) else {
@@ -96,6 +132,17 @@ pub fn run<S: Shelf, K: Sink>(
     ensures good { (name : List ℕ) (budget : ℕ) → task_in words.now ≡ Some (verify name budget)
         → result ≡ Good → VerifiesFile (S.holds shelf.old) budget name }
 
+    // Where `derive` ends well, the sink has gained a derivation of the program that was read, which
+    // `check` accepts.
+    ensures derived { (name : List ℕ) (budget : ℕ) → task_in words.now ≡ Some (derive name budget)
+        → result ≡ Good → DerivesFile (S.holds shelf.old) budget name
+        (K.written sink.old) (K.written sink.new) }
+
+    // Where `check` ends well, the derivation that was read is valid, and its program safe.
+    ensures accepted { (file derivation : List ℕ)
+        → task_in words.now ≡ Some (check file derivation)
+        → result ≡ Good → ChecksFiles (S.holds shelf.old) file derivation }
+
     // Where `show` ends well, the text that was read is shown: the canonical one of its tree.
     ensures shown { (name : List ℕ) → task_in words.now ≡ Some (show name)
         → result ≡ Good
@@ -106,9 +153,11 @@ pub fn run<S: Shelf, K: Sink>(
         → EndsRun result → ReplaysFiles (S.holds shelf.old) file schedule
         (K.written sink.old) (K.written sink.new) result }
 
-    // Whatever faults come, what is said is what follows from what the files gave.
+    // Whatever faults come, what is said is what follows from what the files gave that were read. A
+    // second file is read only where the first gave a program's text.
     ensures ends { Ends (S.holds shelf.old) (task_in words.now)
         (S.faults shelf.old) (S.faults shelf.new) (S.blamed shelf.new)
+        (S.fetches shelf.old) (S.fetches shelf.new)
         (K.written sink.old) (K.written sink.new) (K.faults sink.old) (K.faults sink.new) result }
 
     // Where no fault comes the output is the one that the files give, unless memory runs out: a
@@ -128,6 +177,11 @@ pub fn run<S: Shelf, K: Sink>(
         → ¬ Rose (K.faults sink.old) (K.faults sink.new)
         → (name text : List ℕ) → task_in words.now ≡ Some (show name)
         → HoldsTree name text files → (result ≡ Good) ⊎ (result ≡ NoMemory)) }
+    ensures accepts { IfSome (S.holds shelf.old) (λ files.
+        ¬ Rose (S.faults shelf.old) (S.faults shelf.new)
+        → ¬ Rose (K.faults sink.old) (K.faults sink.new)
+        → (file derivation : List ℕ) → task_in words.now ≡ Some (check file derivation)
+        → HoldAccepted file derivation files → (result ≡ Good) ⊎ (result ≡ NoMemory)) }
     ensures refuses { IfSome (S.holds shelf.old) (λ files.
         ¬ Rose (S.faults shelf.old) (S.faults shelf.new)
         → ¬ Rose (K.faults sink.old) (K.faults sink.new)
@@ -145,5 +199,7 @@ pub fn run<S: Shelf, K: Sink>(
     ensures no_memory { result ≡ NoMemory → K.written sink.new ≡ K.written sink.old }
 {
     good_answers_are_safe();
+    derived_are_accepted();
+    accepted_are_safe();
     perform(alloc, words, shelf, sink)
 }

@@ -9,6 +9,10 @@ const USAGE: &str =
 
 const PROVED: &str = "function main: proved\nproved 1 of 1\n";
 
+const ASSERTED: &str = "function main() { assert 0 <= 1; }\n";
+
+const EMPTY_DERIVATION: &str = "[\"caper\",1,3]\n[\"return\"]\n[\"end\",1]\n";
+
 const LOCK: &str = "region SLock(r, x) {
   guards %LOCK * UNLOCK;
   interpretation {
@@ -777,6 +781,131 @@ fn verdicts(rt: HostRuntime) -> Result<(), Fail> {
     Ok(())
 }
 
+// The derivation of an assertion whose proof is this certificate, with these lines behind its node.
+fn asserted(alloc: Global, multiplier: &str, last: &str) -> Result<String, AllocError> {
+    let mut text = String::from_str(alloc, "[\"caper\",1,3]\n[\"assert\",[[\"leaf\",[[0,\"")?;
+    text.push_str(multiplier)?;
+    text.push_str("\"]]]]]\n")?;
+    text.push_str(last)?;
+    Ok(text)
+}
+
+// What is derived of a text, and that it is accepted.
+fn derives(
+    rt: &impl Abort,
+    alloc: Global,
+    text: &str,
+    lines: &str,
+    accepted: &str,
+) -> Result<(), Fail> {
+    says(rt, alloc, "derive f", text, "", Status::Good, lines)?;
+    says(rt, alloc, "check f s", text, lines, Status::Good, accepted)
+}
+
+#[test]
+fn derivations_that_are_accepted(rt: HostRuntime) -> Result<(), Fail> {
+    let alloc = rt.alloc();
+    derives(
+        &rt,
+        alloc,
+        "function main() { }\n",
+        EMPTY_DERIVATION,
+        "accepted 1\n",
+    )?;
+    let lines = asserted(alloc, "1", "[\"return\"]\n[\"end\",2]\n")?;
+    derives(&rt, alloc, ASSERTED, lines.as_str(), "accepted 2\n")?;
+    // Other lines than those that are derived serve too, with free spaces.
+    let lines = asserted(alloc, "2", " [ \"return\" ]\n[\"end\",2]")?;
+    let status = Status::Good;
+    says(
+        &rt,
+        alloc,
+        "check f s",
+        ASSERTED,
+        lines.as_str(),
+        status,
+        "accepted 2\n",
+    )
+}
+
+#[test]
+fn derivations_that_are_rejected(rt: HostRuntime) -> Result<(), Fail> {
+    let alloc = rt.alloc();
+    for (multiplier, last, status, written) in [
+        (
+            "-1",
+            "[\"return\"]\n[\"end\",2]\n",
+            Status::Bad,
+            "rejected node 1\n",
+        ),
+        ("1", "[\"end\",1]\n", Status::Bad, "rejected shape 2\n"),
+        (
+            "1",
+            "[\"return\"]\n[\"return\"]\n[\"end\",3]\n",
+            Status::Bad,
+            "rejected shape 3\n",
+        ),
+        (
+            "1",
+            "[\"return\"]\n",
+            Status::Refused,
+            "refused derivation: no end\n",
+        ),
+        // A bad line is refused wherever a node failed.
+        (
+            "-1",
+            "[\"return\"]\n",
+            Status::Refused,
+            "refused derivation: no end\n",
+        ),
+        (
+            "-1",
+            "[\"retur\"]\n[\"end\",2]\n",
+            Status::Refused,
+            "refused derivation line 3\n",
+        ),
+        (
+            "0",
+            "[\"return\"]\n[\"end\",2]\n",
+            Status::Refused,
+            "refused derivation line 2\n",
+        ),
+        (
+            "1",
+            "[\"return\"]\n[\"end\",1]\n",
+            Status::Refused,
+            "refused derivation line 4\n",
+        ),
+    ] {
+        let lines = asserted(alloc, multiplier, last)?;
+        says(
+            &rt,
+            alloc,
+            "check f s",
+            ASSERTED,
+            lines.as_str(),
+            status,
+            written,
+        )?;
+    }
+    let text = "function main() { }\n";
+    let lines = "[\"caper\",1,2]\n[\"return\"]\n[\"end\",1]\n";
+    says(
+        &rt,
+        alloc,
+        "check f s",
+        text,
+        lines,
+        Status::Bad,
+        "rejected shape 1\n",
+    )?;
+    // Of a program that isn't proved the report is written, and one with a region type isn't judged.
+    let open = "function main() { assert 1 <= 0; }\n";
+    let report = "function main: open 1:19 needs fact 1:26\nproved 0 of 1\n";
+    says(&rt, alloc, "derive f", open, "", Status::Bad, report)?;
+    says(&rt, alloc, "check f s", LOCK, "", Status::Bad, "later\n")
+}
+
 #[test]
 fn units_that_come_later(rt: HostRuntime) -> Result<(), Fail> {
     let alloc = rt.alloc();
@@ -964,9 +1093,11 @@ fn words_that_are_no_command(rt: HostRuntime) -> Result<(), Fail> {
         "replay f s s",
         "replay f -s",
         "-- verify f",
-        // These commands are to come.
-        "derive f",
-        "check f s",
+        "derive",
+        "derive f s",
+        "check f",
+        "check f s --budget 1",
+        // This command is to come.
         "trial 1",
     ] {
         ends(
@@ -995,6 +1126,12 @@ fn words_that_are_commands(rt: HostRuntime) -> Result<(), Fail> {
         ("verify -- f", Status::Good, PROVED),
         ("verify f --", Status::Good, PROVED),
         ("verify --budget=1000000000 -- f", Status::Good, PROVED),
+        ("derive f --budget 1", Status::Good, EMPTY_DERIVATION),
+        (
+            "check f -- s",
+            Status::Refused,
+            "refused derivation line 1\n",
+        ),
         ("show -- f", Status::Good, "function main ( ) {\n}\n"),
         ("replay f -- s", Status::Good, "ended 0\n"),
         ("verify -- -f", Status::ReadFault, "cannot read -f\n"),
@@ -1033,7 +1170,7 @@ impl Shelf for LongFiles {
 #[test]
 fn files_that_are_too_long(rt: HostRuntime) -> Result<(), Fail> {
     let alloc = rt.alloc();
-    for line in ["verify f", "show f", "replay f s"] {
+    for line in ["verify f", "derive f", "check f s", "show f", "replay f s"] {
         ends(
             &rt,
             alloc,
@@ -1054,6 +1191,15 @@ fn files_that_are_absent(rt: HostRuntime) -> Result<(), Fail> {
         ("verify g", "", Status::ReadFault, "cannot read g\n"),
         ("show g", "", Status::ReadFault, "cannot read g\n"),
         ("replay g h", "", Status::ReadFault, "cannot read g\n"),
+        ("derive g", "", Status::ReadFault, "cannot read g\n"),
+        ("check g h", "", Status::ReadFault, "cannot read g\n"),
+        ("check f h", "", Status::Refused, "refused 1:1: no main\n"),
+        (
+            "check f h",
+            "function main() { }\n",
+            Status::ReadFault,
+            "cannot read h\n",
+        ),
         (
             "replay f h",
             "function main() { }\n",

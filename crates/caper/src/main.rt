@@ -1,4 +1,5 @@
-//! Verifies a program, `caper verify FILE`, shows its canonical text, `caper show FILE`, or runs it,
+//! Verifies a program, `caper verify FILE`, writes its proof, `caper derive FILE`, judges such a proof,
+//! `caper check FILE DERIVATION`, shows its canonical text, `caper show FILE`, or runs it,
 //! `caper replay FILE SCHEDULE`.
 #![tactic(auto)]
 
