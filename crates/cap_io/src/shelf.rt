@@ -1,6 +1,7 @@
 ghost use Rattle.std.specs.Prelude.{◌≡◌, ◌≢◌, ◌≤◌, List, ℕ, Option, None, Err, IsOk, OnOk, OnErr};
 ghost use Rattle.cap_io.specs.declared.shelf.FetchError.TheVariants.{Failed, OutOfMemory};
-ghost use Rattle.cap_io.specs.Outside.{Files, Answers, AnswersAreExact, Blames, Counts, Measures, Gains, GainsPrefix, Rose};
+ghost use Rattle.cap_io.specs.Outside.{Files, Answers, AnswersAreExact, Blames, Counts, Measures};
+ghost use Rattle.cap_io.specs.Outside.{Gains, GainsPrefix, Rose};
 
 use std::alloc::{AllocError, AllocFailed};
 use thiserror::Error;
