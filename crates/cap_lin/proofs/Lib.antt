@@ -1,4 +1,5 @@
 pub mod Results
+pub mod Short
 pub mod Merge
 pub mod Ascend
 pub mod Sums

@@ -1,5 +1,5 @@
 -- What a call of exact arithmetic answers.
-use Rattle.std.specs.Prelude.{◌≡◌, List, Some, None, Result, MatchResult}
+use Rattle.std.specs.Prelude.{◌≡◌, ◌-◌, ◌^◌, List, Some, None, Result, MatchResult, ℤ, pos, negsuc, ◌≤ℤ◌}
 use Rattle.cap_lin.specs.Steps.{Step, first_wide}
 use Rattle.cap_lin.specs.declared.error.LinError.{LinError}
 use Rattle.cap_lin.specs.declared.error.LinError.TheVariants.{Wide, OutOfMemory}
@@ -16,3 +16,7 @@ IsExactBy r view steps value = MatchResult r (λ x. (first_wide steps ≡ None) 
 
 abbrev pub IsExact : {T : Type 0} → Result T LinError → List Step → T → Type 0
 IsExact r steps value = MatchResult r (λ x. (first_wide steps ≡ None) × (x ≡ value)) (λ e. Explains e steps)
+
+-- from -2^63 to 2^63
+abbrev pub IsShort : ℤ → Type 0
+IsShort z = (negsuc (2 ^ 63 - 1) ≤ℤ z) × (z ≤ℤ pos (2 ^ 63))

@@ -1,13 +1,21 @@
 ghost use Rattle.std.specs.Prelude.{◌≡◌, ◌<◌, ℕ, ℤ, ◌+ℤ◌, ◌*ℤ◌, [], ◌∷◌, ◌++◌, length, OnOk, IfOk, IsTrue, ◌↔◌, MatchResult, IfErr, ◌≢◌, slice_get, pos};
 ghost use Rattle.cap_lin.specs.Linear.{AscendFrom, put_part, coefficient, number, variable, merged, parts_behind, sums, IsBelow, IsLeastFrom, IsPlaceFrom, plus, minus, negative, plus_one, multiples, times, combined_parts, combination, parts_without, without, replaced};
 ghost use Rattle.cap_lin.specs.Steps.{sum_of, product_of, sums_steps, plus_steps, minus_steps, negative_steps, multiples_steps, times_steps, part_steps, combined_parts_steps, combination_steps, replaced_steps, value_steps};
-ghost use Rattle.cap_lin.specs.Exact.{IsExact, IsExactBy};
+ghost use Rattle.cap_lin.specs.Exact.{IsExact, IsExactBy, IsShort};
 ghost use Rattle.cap_lin.specs.Values.{value, number_at, changed};
 
 use crate::error::LinError;
+use smallvec::SmallVec;
 use std::alloc::{AllocError, Global};
 use std::hash::{Hash, Hasher};
 use std::marker::Model;
+
+// How many parts a term has with no memory of its own: most terms have one or two.
+const INLINE: usize = 2;
+
+const SHORT: i128 = 1 << 63;
+
+type Parts = SmallVec<(u32, i128), 2>;
 
 /// A linear term: a constant, and pairs of a variable and its coefficient, in ascending order of
 /// variables and without coefficients of 0, so that a term has one form. Variables are numbers.
@@ -17,7 +25,7 @@ use std::marker::Model;
 #[derive(Debug, Drop)]
 pub struct Term {
     constant: i128,
-    parts: Vec<(u32, i128)>,
+    parts: Parts,
 }
 
 impl Model for Term {
@@ -81,7 +89,7 @@ impl Term {
     {
         Term {
             constant,
-            parts: Vec::new(alloc),
+            parts: SmallVec::new(alloc),
         }
     }
 
@@ -89,7 +97,7 @@ impl Term {
     pub fn var(alloc: Global, v: u32) -> Result<Term, LinError>
         ensures { MatchResult result (λ t. t ≡ variable v) (λ e. e ≡ LinError.OutOfMemory) }
     {
-        let mut parts = Vec::new(alloc);
+        let mut parts = SmallVec::new(alloc);
         parts.push((v, 1))?;
         Ok(Term { constant: 0, parts })
     }
@@ -147,7 +155,7 @@ impl Term {
     pub fn copy(&self, alloc: Global) -> Result<Term, AllocError>
         ensures { IfOk result (λ t. t ≡ self.now) }
     {
-        let parts = Vec::from_slice(alloc, &self.parts)?;
+        let parts = SmallVec::from_slice(alloc, &self.parts)?;
         Ok(Term {
             constant: self.constant,
             parts,
@@ -268,8 +276,9 @@ impl Term {
             (value (number_at values.now) self.now) }
         ensures no_memory { IfErr result (λ e. e ≢ LinError.OutOfMemory) }
     {
+        let parts = self.parts.as_slice();
         let mut total = self.constant;
-        for part in &self.parts {
+        for part in parts {
             let (variable, coefficient) = *part;
             let product = product(coefficient, values[variable as usize])?;
             total = sum(total, product)?;
@@ -278,11 +287,7 @@ impl Term {
     }
 }
 
-fn parts_without(
-    alloc: Global,
-    parts: &[(u32, i128)],
-    v: u32,
-) -> Result<Vec<(u32, i128)>, AllocError>
+fn parts_without(alloc: Global, parts: &[(u32, i128)], v: u32) -> Result<Parts, AllocError>
     ensures { IfOk result (λ rest. rest.items ≡ parts_without v parts.now) }
 {
     parts
@@ -324,14 +329,36 @@ fn product(a: i128, b: i128) -> Result<i128, LinError>
     ensures exact { IsExact result (product_of a b ∷ []) (a *ℤ b) }
     ensures wide { IfErr result (λ e. e ≡ LinError.Wide a b) }
 {
+    if is_short(a) && is_short(b) {
+        return Ok(a * b);
+    }
     match a.checked_mul(b) {
         Some(product) => Ok(product),
         None => Err(LinError::Wide(a, b)),
     }
 }
 
+// Whether a number is from -2^63 to 2^63, so that a product of two such numbers is within 128 bits and
+// needs no test.
+fn is_short(number: i128) -> bool
+    ensures { IsTrue result → IsShort number }
+{
+    -SHORT <= number && number <= SHORT
+}
+
+// An empty list for the parts that two lists of so many make.
+fn room_for(alloc: Global, left: usize, right: usize) -> Result<Parts, AllocError>
+    ensures { IfOk result (λ parts. parts.items ≡ []) }
+{
+    if left.max(right) <= INLINE {
+        Ok(SmallVec::new(alloc))
+    } else {
+        SmallVec::with_capacity(alloc, left.saturating_add(right))
+    }
+}
+
 // Appends a part, unless its coefficient is 0.
-fn put(parts: &mut Vec<(u32, i128)>, variable: u32, coefficient: i128) -> Result<(), AllocError>
+fn put(parts: &mut Parts, variable: u32, coefficient: i128) -> Result<(), AllocError>
     ensures { OnOk result (parts.new.items ≡ parts.old.items ++ put_part variable coefficient []) }
 {
     if coefficient != 0 {
@@ -384,15 +411,11 @@ fn least(left: &[(u32, i128)], right: &[(u32, i128)]) -> Option<Pair>
     }
 }
 
-fn add_parts(
-    alloc: Global,
-    left: &[(u32, i128)],
-    right: &[(u32, i128)],
-) -> Result<Vec<(u32, i128)>, LinError>
+fn add_parts(alloc: Global, left: &[(u32, i128)], right: &[(u32, i128)]) -> Result<Parts, LinError>
     ensures { IsExactBy result (λ parts. parts.items)
         (sums_steps (merged left.now right.now)) (sums (merged left.now right.now)) }
 {
-    let mut parts = Vec::new(alloc);
+    let mut parts = room_for(alloc, left.len(), right.len())?;
     let mut left = left;
     let mut right = right;
     while let Some(pair) = least(left, right) {
@@ -404,11 +427,11 @@ fn add_parts(
     Ok(parts)
 }
 
-fn scale_parts(alloc: Global, k: i128, parts: &[(u32, i128)]) -> Result<Vec<(u32, i128)>, LinError>
+fn scale_parts(alloc: Global, k: i128, parts: &[(u32, i128)]) -> Result<Parts, LinError>
     ensures { IsExactBy result (λ scaled. scaled.items)
         (multiples_steps k parts.now) (multiples k parts.now) }
 {
-    let mut scaled = Vec::new(alloc);
+    let mut scaled = room_for(alloc, parts.len(), 0)?;
     for part in parts {
         let (variable, coefficient) = *part;
         let coefficient = product(k, coefficient)?;
@@ -432,12 +455,12 @@ fn combine_parts(
     left: &[(u32, i128)],
     b: i128,
     right: &[(u32, i128)],
-) -> Result<Vec<(u32, i128)>, LinError>
+) -> Result<Parts, LinError>
     ensures { IsExactBy result (λ parts. parts.items)
         (combined_parts_steps a b (merged left.now right.now))
         (combined_parts a b (merged left.now right.now)) }
 {
-    let mut parts = Vec::new(alloc);
+    let mut parts = room_for(alloc, left.len(), right.len())?;
     let mut left = left;
     let mut right = right;
     while let Some(pair) = least(left, right) {

@@ -14,7 +14,7 @@ returns-in_err-coefficient c =
     let s : slice_get (merged c.loop-pair.left.now c.loop-pair.right.now) 0 ≡ Some c.in-Some.pair = sym c.in-Some.ensures in
     let f : SFits w128 c.in-Some.pair.left = search rules in
     let g : SFits w128 c.in-Some.pair.right = search rules in
-    let p = err_from_is_err_and c.from_residual.result c.from_residual.ensures.1 in
+    let p = err_from_is_err_and c.from_residual-in_err-coefficient.result c.from_residual-in_err-coefficient.ensures.1 in
     rw (p.1, p.2) (stops _ _ _ _ _ _ _ s (to_z-of_z _ _ f) (to_z-of_z _ _ g) c.in_err-coefficient.ensures.exact c.loop-pair.invariant.steps)
 
 pub loop-pair-smaller : goal.loop-pair-smaller

@@ -16,7 +16,7 @@ returns-in_err-coefficient c =
     let g : SFits w128 c.in-Some.pair.right = search rules in
     let x = to_z-of_z _ _ c.ranges.a in
     let y = to_z-of_z _ _ c.ranges.b in
-    let p = err_from_is_err_and c.from_residual.result c.from_residual.ensures.1 in
+    let p = err_from_is_err_and c.from_residual-in_err-coefficient.result c.from_residual-in_err-coefficient.ensures.1 in
     rw (p.1, p.2) (stops _ _ _ _ _ _ _ _ _ _ _ s x (to_z-of_z _ _ f) y (to_z-of_z _ _ g) c.in_err-coefficient.ensures (rw (x, y) at c.loop-pair.invariant.steps))
 
 pub loop-pair-smaller : goal.loop-pair-smaller

@@ -12,7 +12,7 @@ returns-in_err-coefficient c =
     let h : c.loop-part.part-index < length c.args.parts.now = omega arith in
     let g : SFits w128 (get_or c.args.parts.now c.loop-part.part-index no_part).1 = search rules in
     let e = to_z-of_z _ _ c.ranges.k in
-    let p = err_from_is_err_and c.from_residual.result c.from_residual.ensures.1 in
+    let p = err_from_is_err_and c.from_residual-in_err-coefficient.result c.from_residual-in_err-coefficient.ensures.1 in
     rw (p.1, p.2) (stops _ _ _ _ _ _ _ h e (to_z-of_z _ _ g) c.in_err-coefficient.ensures.exact (rw e at c.loop-part.invariant.steps))
 
 pub loop-part-preserved : goal.loop-part-preserved

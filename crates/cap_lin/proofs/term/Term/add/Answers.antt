@@ -25,15 +25,15 @@ returns-in_err-parts-clause-exact c =
     let g : SFits w128 c.other.inside.constant = search rules in
     let e = to_z-of_z _ _ f ∙ ap (λ (l : Linear). l.constant) c.self.view_is in
     let d = to_z-of_z _ _ g ∙ ap (λ (l : Linear). l.constant) c.other.view_is in
-    let x = c.deref.ensures.value ∙ ap (λ (l : Linear). l.parts) c.self.view_is in
-    let y = c.deref-2.ensures.value ∙ ap (λ (l : Linear). l.parts) c.other.view_is in
+    let x = c.deref.ensures ∙ ap (λ (l : Linear). l.parts) c.self.view_is in
+    let y = c.deref-2.ensures ∙ ap (λ (l : Linear). l.parts) c.other.view_is in
     let p = err_from_is_err_and c.from_residual-in_err-parts.result c.from_residual-in_err-parts.ensures.1 in
     rw (p.1, p.2) (plus-later _ _ _ _ _ _ _ e d x y c.in_ok-constant.ensures.exact.0 c.in_err-parts.ensures)
 
 pub invariant_of-result : goal.invariant_of-result
 invariant_of-result c =
     let b = c.in_ok-parts.ensures in
-    rw (b.1, c.deref.ensures.value, c.deref-2.ensures.value) (sum-ascends _ _ _ c.self.invariant c.other.invariant)
+    rw (b.1, c.deref.ensures, c.deref-2.ensures) (sum-ascends _ _ _ c.self.invariant c.other.invariant)
 
 pub returns-clause-exact : goal.returns-clause-exact
 returns-clause-exact c =
@@ -42,8 +42,8 @@ returns-clause-exact c =
     let s : SFits w128 c.in_ok-constant.constant = search rules in
     let e = to_z-of_z _ _ f ∙ ap (λ (l : Linear). l.constant) c.self.view_is in
     let d = to_z-of_z _ _ g ∙ ap (λ (l : Linear). l.constant) c.other.view_is in
-    let x = c.deref.ensures.value ∙ ap (λ (l : Linear). l.parts) c.self.view_is in
-    let y = c.deref-2.ensures.value ∙ ap (λ (l : Linear). l.parts) c.other.view_is in
+    let x = c.deref.ensures ∙ ap (λ (l : Linear). l.parts) c.self.view_is in
+    let y = c.deref-2.ensures ∙ ap (λ (l : Linear). l.parts) c.other.view_is in
     let a = c.in_ok-constant.ensures.exact in
     let b = c.in_ok-parts.ensures in
     (plus-narrow _ _ _ _ _ _ e d x y a.0 b.0, plus-made _ _ _ _ _ _ _ _ e d x y (to_z-of_z _ _ s ∙ a.1) b.1)
@@ -55,6 +55,6 @@ returns-clause-means c =
     let s : SFits w128 c.in_ok-constant.constant = search rules in
     let e = to_z-of_z _ _ f ∙ ap (λ (l : Linear). l.constant) c.self.view_is in
     let d = to_z-of_z _ _ g ∙ ap (λ (l : Linear). l.constant) c.other.view_is in
-    let x = c.deref.ensures.value ∙ ap (λ (l : Linear). l.parts) c.self.view_is in
-    let y = c.deref-2.ensures.value ∙ ap (λ (l : Linear). l.parts) c.other.view_is in
+    let x = c.deref.ensures ∙ ap (λ (l : Linear). l.parts) c.self.view_is in
+    let y = c.deref-2.ensures ∙ ap (λ (l : Linear). l.parts) c.other.view_is in
     λ n. ap (value n) (plus-made _ _ _ _ _ _ _ _ e d x y (to_z-of_z _ _ s ∙ c.in_ok-constant.ensures.exact.1) c.in_ok-parts.ensures.1) ∙ value-plus n _ _

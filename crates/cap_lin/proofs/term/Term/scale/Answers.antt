@@ -21,14 +21,14 @@ pub returns-in_err-parts-clause-exact : goal.returns-in_err-parts-clause-exact
 returns-in_err-parts-clause-exact c =
     let f : SFits w128 c.self.inside.constant = search rules in
     let d = to_z-of_z _ _ f ∙ ap (λ (l : Linear). l.constant) c.self.view_is in
-    let x = c.deref.ensures.value ∙ ap (λ (l : Linear). l.parts) c.self.view_is in
+    let x = c.deref.ensures ∙ ap (λ (l : Linear). l.parts) c.self.view_is in
     let p = err_from_is_err_and c.from_residual-in_err-parts.result c.from_residual-in_err-parts.ensures.1 in
     rw (p.1, p.2) (times-later _ _ _ _ _ _ (to_z-of_z _ _ c.ranges.k) d x c.in_ok-constant.ensures.exact.0 c.in_err-parts.ensures)
 
 pub invariant_of-result : goal.invariant_of-result
 invariant_of-result c =
     let b = c.in_ok-parts.ensures in
-    rw (b.1, c.deref.ensures.value) (multiple-ascends _ _ _ c.self.invariant)
+    rw (b.1, c.deref.ensures) (multiple-ascends _ _ _ c.self.invariant)
 
 pub returns-clause-exact : goal.returns-clause-exact
 returns-clause-exact c =
@@ -36,7 +36,7 @@ returns-clause-exact c =
     let s : SFits w128 c.in_ok-constant.constant = search rules in
     let e = to_z-of_z _ _ c.ranges.k in
     let d = to_z-of_z _ _ f ∙ ap (λ (l : Linear). l.constant) c.self.view_is in
-    let x = c.deref.ensures.value ∙ ap (λ (l : Linear). l.parts) c.self.view_is in
+    let x = c.deref.ensures ∙ ap (λ (l : Linear). l.parts) c.self.view_is in
     let a = c.in_ok-constant.ensures.exact in
     let b = c.in_ok-parts.ensures in
     (times-narrow _ _ _ _ _ e d x a.0 b.0, times-made _ _ _ _ _ _ _ e d x (to_z-of_z _ _ s ∙ a.1) b.1)
@@ -47,5 +47,5 @@ returns-clause-means c =
     let s : SFits w128 c.in_ok-constant.constant = search rules in
     let e = to_z-of_z _ _ c.ranges.k in
     let d = to_z-of_z _ _ f ∙ ap (λ (l : Linear). l.constant) c.self.view_is in
-    let x = c.deref.ensures.value ∙ ap (λ (l : Linear). l.parts) c.self.view_is in
+    let x = c.deref.ensures ∙ ap (λ (l : Linear). l.parts) c.self.view_is in
     λ n. ap (value n) (times-made _ _ _ _ _ _ _ e d x (to_z-of_z _ _ s ∙ c.in_ok-constant.ensures.exact.1) c.in_ok-parts.ensures.1) ∙ value-times n _ _

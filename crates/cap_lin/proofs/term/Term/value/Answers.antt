@@ -13,22 +13,22 @@ pub loop-part-init : goal.loop-part-init
 loop-part-init c =
     let f : SFits w128 c.self.inside.constant = search rules in
     let e = to_z-of_z _ _ f ∙ ap (λ (l : Linear). l.constant) c.self.view_is in
-    let x = c.deref-part-items.ensures.value ∙ ap (λ (l : Linear). l.parts) c.self.view_is in
+    let x = c.as_slice-parts.ensures ∙ ap (λ (l : Linear). l.parts) c.self.view_is in
     record { steps = rw (x, e) refl; total = rw (x, e) (starts _ _) }
 
 pub returns-in_err-product-clause-exact : goal.returns-in_err-product-clause-exact
 returns-in_err-product-clause-exact c =
-    let h : c.loop-part.part-index < length c.deref-part-items.result.now = omega arith in
-    let f : SFits w128 (get_or c.deref-part-items.result.now c.loop-part.part-index no_part).1 = search rules in
-    let g : SFits w128 (get_or c.args.values.now (get_or c.deref-part-items.result.now c.loop-part.part-index no_part).0 (pos 0)) = search rules in
+    let h : c.loop-part.part-index < length c.as_slice-parts.result.now = omega arith in
+    let f : SFits w128 (get_or c.as_slice-parts.result.now c.loop-part.part-index no_part).1 = search rules in
+    let g : SFits w128 (get_or c.args.values.now (get_or c.as_slice-parts.result.now c.loop-part.part-index no_part).0 (pos 0)) = search rules in
     let p = err_from_is_err_and c.from_residual.result c.from_residual.ensures.1 in
     rw (p.1, p.2) (stops_at_product (number_at c.args.values.now) _ _ _ _ _ _ _ h (to_z-of_z _ _ f) (to_z-of_z _ _ g) c.in_err-product.ensures.exact c.loop-part.invariant.steps)
 
 pub returns-in_err-total-clause-exact : goal.returns-in_err-total-clause-exact
 returns-in_err-total-clause-exact c =
-    let h : c.loop-part.part-index < length c.deref-part-items.result.now = omega arith in
-    let f : SFits w128 (get_or c.deref-part-items.result.now c.loop-part.part-index no_part).1 = search rules in
-    let g : SFits w128 (get_or c.args.values.now (get_or c.deref-part-items.result.now c.loop-part.part-index no_part).0 (pos 0)) = search rules in
+    let h : c.loop-part.part-index < length c.as_slice-parts.result.now = omega arith in
+    let f : SFits w128 (get_or c.as_slice-parts.result.now c.loop-part.part-index no_part).1 = search rules in
+    let g : SFits w128 (get_or c.args.values.now (get_or c.as_slice-parts.result.now c.loop-part.part-index no_part).0 (pos 0)) = search rules in
     let u : SFits w128 c.in_ok-product.product = search rules in
     let a = c.in_ok-product.ensures.exact in
     let p = err_from_is_err_and c.from_residual-in_err-total.result c.from_residual-in_err-total.ensures.1 in
@@ -36,9 +36,9 @@ returns-in_err-total-clause-exact c =
 
 pub loop-part-preserved : goal.loop-part-preserved
 loop-part-preserved c =
-    let h : c.loop-part.part-index < length c.deref-part-items.result.now = omega arith in
-    let f : SFits w128 (get_or c.deref-part-items.result.now c.loop-part.part-index no_part).1 = search rules in
-    let g : SFits w128 (get_or c.args.values.now (get_or c.deref-part-items.result.now c.loop-part.part-index no_part).0 (pos 0)) = search rules in
+    let h : c.loop-part.part-index < length c.as_slice-parts.result.now = omega arith in
+    let f : SFits w128 (get_or c.as_slice-parts.result.now c.loop-part.part-index no_part).1 = search rules in
+    let g : SFits w128 (get_or c.args.values.now (get_or c.as_slice-parts.result.now c.loop-part.part-index no_part).0 (pos 0)) = search rules in
     let u : SFits w128 c.in_ok-product.product = search rules in
     let v : SFits w128 c.in_ok-total.total = search rules in
     let a = c.in_ok-product.ensures.exact in
@@ -54,5 +54,5 @@ loop-part-preserved c =
 
 pub returns-clause-exact : goal.returns-clause-exact
 returns-clause-exact c =
-    let h : length c.deref-part-items.result.now ≤ c.loop-part.part-index = omega arith in
+    let h : length c.as_slice-parts.result.now ≤ c.loop-part.part-index = omega arith in
     (narrow _ _ _ _ _ h c.loop-part.invariant.steps, done _ _ _ _ _ h c.loop-part.invariant.total)
