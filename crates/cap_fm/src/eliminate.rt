@@ -1,4 +1,4 @@
-ghost use Rattle.std.specs.Prelude.{◌≤◌, ◌<◌, ◌^◌, ◌++◌, [], ℕ, List, length};
+ghost use Rattle.std.specs.Prelude.{◌≤◌, ◌<◌, ◌+◌, ◌^◌, ◌++◌, [], ℕ, List, length};
 ghost use Rattle.cap_elim.specs.Elimination.{inputs as inputs_run, by_units as by_units_run, by_variable as by_variable_run, by_variables as by_variables_run, width, eliminated as eliminated_run};
 ghost use Rattle.cap_elim.specs.Solving.{RowsAscend, refuted as refuted_log};
 ghost use Rattle.cap_fm.specs.declared.entry.Entry.{Entry};
@@ -11,29 +11,37 @@ use crate::entry::{Arisen, Entry, Reached};
 use crate::equations::{by_equation, pivot_of, unit_pivot};
 use crate::error::SolveError;
 use crate::leaf::leaf;
+use crate::numbered::numbered_row;
 use crate::stage::Stage;
 use cap_farkas::Multipliers;
 use cap_lin::Row;
 use std::alloc::Global;
 
-/// Eliminates the variables of the rows that are not Ne: the leaf of a contradiction, if there is one.
-pub fn refuted(alloc: Global, rows: &[Row]) -> Result<Option<Multipliers>, SolveError>
-    requires { length rows.now ≤ 2 ^ 32 }
-    ensures { IsLogged result (refuted_log rows.now) }
+/// Eliminates the variables of the rows that are not Ne, of rows and more rows behind them: the leaf of
+/// a contradiction, if there is one.
+pub fn refuted(alloc: Global, rows: &[Row], more: &[Row]) -> Result<Option<Multipliers>, SolveError>
+    requires { length rows.now + length more.now ≤ 2 ^ 32 }
+    ensures { IsLogged result (refuted_log (rows.now ++ more.now)) }
 {
-    let mut stage = Stage::new(alloc);
-    match eliminated(alloc, &mut stage, rows)? {
+    let mut stage = Stage::with_room(alloc, rows.len() + more.len())?;
+    match eliminated(alloc, &mut stage, rows, more)? {
         Reached::Rows(_) => Ok(None),
-        Reached::Contradiction(row) => Ok(Some(leaf(alloc, rows, stage.history(), row)?)),
+        Reached::Contradiction(row) => Ok(Some(leaf(alloc, rows, more, stage.history(), row)?)),
     }
 }
 
-fn eliminated(alloc: Global, stage: &mut Stage, rows: &[Row]) -> Result<Reached, SolveError>
-    requires { length rows.now ≤ 2 ^ 32 }
-    ensures { Fits (length rows.now) stage.old [] → DoesReach (length rows.now) stage.new (eliminated_run rows.now (stage_view stage.old)) result }
+fn eliminated(
+    alloc: Global,
+    stage: &mut Stage,
+    rows: &[Row],
+    more: &[Row],
+) -> Result<Reached, SolveError>
+    requires { length rows.now + length more.now ≤ 2 ^ 32 }
+    ensures { Fits (length (rows.now ++ more.now)) stage.old [] → DoesReach (length (rows.now ++ more.now)) stage.new (eliminated_run (rows.now ++ more.now) (stage_view stage.old)) result }
 {
     terms_ascend(rows);
-    match inputs(alloc, stage, rows)? {
+    terms_ascend(more);
+    match inputs(alloc, stage, rows, more)? {
         Reached::Contradiction(row) => Ok(Reached::Contradiction(row)),
         Reached::Rows(rows) => match by_units(alloc, stage, rows)? {
             Reached::Contradiction(row) => Ok(Reached::Contradiction(row)),
@@ -53,13 +61,20 @@ pub fn terms_ascend(rows: &[Row])
 }
 
 // The input rows arise, one by one.
-fn inputs(alloc: Global, stage: &mut Stage, rows: &[Row]) -> Result<Reached, SolveError>
-    requires { length rows.now ≤ 2 ^ 32 }
-    ensures { Fits (length rows.now) stage.old [] → DoesReach (length rows.now) stage.new (inputs_run [] 0 rows.now (stage_view stage.old)) result }
+fn inputs(
+    alloc: Global,
+    stage: &mut Stage,
+    rows: &[Row],
+    more: &[Row],
+) -> Result<Reached, SolveError>
+    requires { length rows.now + length more.now ≤ 2 ^ 32 }
+    ensures { Fits (length (rows.now ++ more.now)) stage.old [] → DoesReach (length (rows.now ++ more.now)) stage.new (inputs_run [] 0 (rows.now ++ more.now) (stage_view stage.old)) result }
 {
-    let mut entries = Vec::new(alloc);
-    for i in 0..rows.len() {
-        match input(alloc, stage, &rows[i], i as u32)? {
+    let count = rows.len() + more.len();
+    let mut entries = Vec::with_capacity(alloc, count)?;
+    for i in 0..count {
+        let row = numbered_row(rows, more, i);
+        match input(alloc, stage, row, i as u32)? {
             Arisen::LeftOut => {}
             Arisen::Kept(row) => entries.push(row)?,
             Arisen::False(row) => return Ok(Reached::Contradiction(row)),

@@ -126,12 +126,14 @@ fn replace_all(
 ) -> Result<Reached, SolveError>
     ensures { (inputs : ℕ) → Fits inputs stage.old (lacking_rows variable rows.items) → AreNumbered stage.old rows.items → IsNumbered stage.old equation.now → DoesReach inputs stage.new (replace_all_run variable (entry_view equation.now) [] (entries_view rows.items) (stage_view stage.old)) result }
 {
-    let mut replaced = Vec::new(alloc);
+    let mut replaced = Vec::with_capacity(alloc, rows.len())?;
     for row in rows {
         if row.term.coefficient(variable) == 0 {
             replaced.push(row)?;
         } else {
-            match replace(alloc, stage, &row, equation, variable)? {
+            let arisen = replace(alloc, stage, &row, equation, variable)?;
+            drop(row);
+            match arisen {
                 Arisen::LeftOut => {}
                 Arisen::Kept(row) => replaced.push(row)?,
                 Arisen::False(row) => return Ok(Reached::Contradiction(row)),

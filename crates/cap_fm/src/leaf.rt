@@ -1,4 +1,4 @@
-ghost use Rattle.std.specs.Prelude.{◌≡◌, ◌==◌, ◌<◌, ◌+◌, map, length, MatchResult, IfOk, None, pos};
+ghost use Rattle.std.specs.Prelude.{◌≡◌, ◌==◌, ◌<◌, ◌+◌, ◌++◌, map, length, MatchResult, IfOk, None, pos};
 ghost use Rattle.cap_lin.specs.Linear.{number, IsBelow};
 ghost use Rattle.cap_lin.specs.Steps.{first_wide};
 ghost use Rattle.cap_elim.specs.Leaf.{leaf as leaf_of, leaf_steps, multipliers_of, multipliers as multipliers_at, own_steps, way_steps, is_turned, turned as turned_of, turned_steps, check_steps};
@@ -8,26 +8,28 @@ ghost use Rattle.cap_fm.specs.Way.{IsWay, AreEarlier, RowsBelow, with_rows, term
 
 use crate::entry::{FalseRow, Origin};
 use crate::error::SolveError;
+use crate::numbered::numbered_row;
 use cap_farkas::Multipliers;
 use cap_lin::{Kind, Row, Term};
 use std::alloc::{AllocError, Global};
 
-/// The leaf of a false row: its multiples of the input rows. Wide has the first result that leaves
+/// The leaf of a false row: its multiples of the input rows, which are rows and more behind them. Wide has the first result that leaves
 /// 128 bits: of the multipliers of the rows on the way, in the order in which these arose, of their
 /// negatives, and then of the sum by which the leaf is checked.
 pub fn leaf(
     alloc: Global,
     rows: &[Row],
+    more: &[Row],
     history: &[Origin],
     row: FalseRow,
 ) -> Result<Multipliers, SolveError>
-    requires history { IsHistory (length rows.now) history.now }
+    requires history { IsHistory (length (rows.now ++ more.now)) history.now }
     requires last { row.origin + 1 ≡ length history.now }
-    ensures { MatchResult result (λ m. (first_wide (leaf_steps rows.now (history_view history.now) (false_view row)) ≡ None) × (m ≡ (leaf_of (history_view history.now) (false_view row)).parts)) (λ e. ExplainsSteps e (leaf_steps rows.now (history_view history.now) (false_view row))) }
+    ensures { MatchResult result (λ m. (first_wide (leaf_steps (rows.now ++ more.now) (history_view history.now) (false_view row)) ≡ None) × (m ≡ (leaf_of (history_view history.now) (false_view row)).parts)) (λ e. ExplainsSteps e (leaf_steps (rows.now ++ more.now) (history_view history.now) (false_view row))) }
 {
     let multipliers = multipliers(alloc, history, row.origin)?;
     let multipliers = turned(alloc, row.kind, row.term.constant_part(), multipliers)?;
-    checked(alloc, rows, &multipliers)
+    checked(alloc, rows, more, &multipliers)
 }
 
 // Marks the rows of the history that are on the way to the one at a place. An input row's mark has no
@@ -37,7 +39,7 @@ fn way(alloc: Global, history: &[Origin], last: usize) -> Result<Vec<bool>, Allo
     requires last { last + 1 ≡ length history.now }
     ensures { IfOk result (λ way. IsWay (map origin_view history.now) last way.items) }
 {
-    let mut way = Vec::new(alloc);
+    let mut way = Vec::with_capacity(alloc, history.len())?;
     way.resize(history.len(), false)?;
     way[last] = true;
     for place in (0..history.len()).rev() {
@@ -71,7 +73,7 @@ fn multipliers(alloc: Global, history: &[Origin], last: usize) -> Result<Term, S
         (λ e. ExplainsSteps e (way_steps (history_view history.now) (λ i. i == last))) }
 {
     let way = way(alloc, history, last)?;
-    let mut terms = Vec::new(alloc);
+    let mut terms = Vec::with_capacity(alloc, history.len())?;
     for place in 0..history.len() {
         let term = if way[place] {
             own(alloc, history[place], &terms)?
@@ -117,17 +119,23 @@ fn turned(alloc: Global, kind: Kind, constant: i128, multipliers: Term) -> Resul
 }
 
 // The multipliers, where they can be checked by adding up the rows, row by row and part by part.
-fn checked(alloc: Global, rows: &[Row], multipliers: &Term) -> Result<Multipliers, SolveError>
-    requires { IsBelow (length rows.now) multipliers.now }
+fn checked(
+    alloc: Global,
+    rows: &[Row],
+    more: &[Row],
+    multipliers: &Term,
+) -> Result<Multipliers, SolveError>
+    requires { IsBelow (length (rows.now ++ more.now)) multipliers.now }
     ensures { MatchResult result
-        (λ m. (first_wide (check_steps rows.now (number (pos 0)) multipliers.now.parts) ≡ None) × (m ≡ multipliers.now.parts))
-        (λ e. ExplainsSteps e (check_steps rows.now (number (pos 0)) multipliers.now.parts)) }
+        (λ m. (first_wide (check_steps (rows.now ++ more.now) (number (pos 0)) multipliers.now.parts) ≡ None) × (m ≡ multipliers.now.parts))
+        (λ e. ExplainsSteps e (check_steps (rows.now ++ more.now) (number (pos 0)) multipliers.now.parts)) }
 {
     let parts = multipliers.parts();
     let mut sum = Term::constant(alloc, 0);
     for entry in parts {
         let (number, multiplier) = *entry;
-        sum = sum.combination(alloc, 1, &rows[number as usize].term, multiplier)?;
+        let row = numbered_row(rows, more, number as usize);
+        sum = sum.combination(alloc, 1, &row.term, multiplier)?;
     }
     Ok(Multipliers::new(Vec::from_slice(alloc, parts)?))
 }

@@ -8,6 +8,7 @@ mod entry;
 mod equations;
 mod error;
 mod leaf;
+mod numbered;
 mod solver;
 mod stage;
 #[cfg(test)]

@@ -7,7 +7,8 @@ use crate::eliminate::{refuted, terms_ascend};
 use crate::error::SolveError;
 use cap_farkas::{Cert, Multipliers};
 use cap_lin::{Kind, Row};
-use std::alloc::{AllocError, Global};
+use std::alloc::Global;
+use std::slice;
 
 /// What elimination finds of rows.
 #[derive(Debug, Drop)]
@@ -41,7 +42,7 @@ fn searched(alloc: Global, rows: &[Row]) -> Result<Answer, SolveError>
     requires { length rows.now < 2 ^ 32 - 1 }
     ensures { IsSolved result (solved_log rows.now) }
 {
-    if let Some(leaf) = refuted(alloc, rows)? {
+    if let Some(leaf) = refuted_alone(alloc, rows)? {
         return Ok(Answer::Empty(Cert::Leaf(leaf)));
     }
     for place in 0..rows.len() {
@@ -84,23 +85,17 @@ fn both_sides(alloc: Global, rows: &[Row], place: usize) -> Result<Option<Cert>,
     }
 }
 
+fn refuted_alone(alloc: Global, rows: &[Row]) -> Result<Option<Multipliers>, SolveError>
+    requires { length rows.now < 2 ^ 32 - 1 }
+    ensures { IsLogged result (refuted_log rows.now) }
+{
+    refuted(alloc, rows, &[])
+}
+
 // Eliminates the rows with a row behind them.
 fn refuted_with(alloc: Global, rows: &[Row], row: Row) -> Result<Option<Multipliers>, SolveError>
     requires { length rows.now < 2 ^ 32 - 1 }
     ensures { IsLogged result (refuted_log (rows.now ++ (row ∷ []))) }
 {
-    let all = with_row(alloc, rows, row)?;
-    refuted(alloc, &all)
-}
-
-fn with_row(alloc: Global, rows: &[Row], row: Row) -> Result<Vec<Row>, AllocError>
-    requires { length rows.now < 2 ^ 32 - 1 }
-    ensures { IfOk result (λ all. all.items ≡ rows.now ++ (row ∷ [])) }
-{
-    let mut all = Vec::new(alloc);
-    for place in 0..rows.len() {
-        all.push(rows[place].copy(alloc)?)?;
-    }
-    all.push(row)?;
-    Ok(all)
+    refuted(alloc, rows, slice::from_ref(&row))
 }

@@ -30,16 +30,19 @@ pub struct Stage {
 }
 
 impl Stage {
-    /// The stage before any row has arisen.
-    pub fn new(alloc: Global) -> Stage
-        ensures view { stage_view result ≡ at_first }
-        ensures fits { (inputs : ℕ) → Fits inputs result [] }
+    /// The stage before any row has arisen, with room for so many.
+    pub fn with_room(alloc: Global, rows: usize) -> Result<Stage, AllocError>
+        ensures view { IfOk result (λ stage. stage_view stage ≡ at_first) }
+        ensures fits { IfOk result (λ stage. (inputs : ℕ) → Fits inputs stage []) }
     {
-        Stage {
-            forms: IndexSet::new(alloc),
-            present: Vec::new(alloc),
-            history: Vec::new(alloc),
-        }
+        let forms = IndexSet::with_capacity(alloc, rows)?;
+        let present = Vec::with_capacity(alloc, rows)?;
+        let history = Vec::with_capacity(alloc, rows)?;
+        Ok(Stage {
+            forms,
+            present,
+            history,
+        })
     }
 
     /// Counts a row that arises, unless an equal one arose before, and gives its number. `Rows` comes

@@ -1,4 +1,4 @@
-use Rattle.std.proofs.Common.{◌≡◌, ◌<◌, length, [], ◌∷◌, ◌++◌, arith, sym, ap, ◌∙◌, subst}
+use Rattle.std.proofs.Common.{◌≡◌, ◌<◌, ◌≤◌, length, length-append, [], ◌∷◌, ◌++◌, arith, sym, ap, ◌∙◌, subst}
 use Rattle.std.proofs.lemmas.List.{append-nil}
 use Rattle.std.proofs.lemmas.Result.{err_from_is_err_and}
 use Rattle.cap_elim.specs.Elimination.{inputs}
@@ -10,32 +10,33 @@ use Rattle.cap_fm.proofs.eliminate.inputs.Goals.{in-LeftOut, in-Kept+in_ok-push-
 pub returns-in_err-input : goal.returns-in_err-input
 returns-in_err-input c = λ f.
     let i = c.loop-i.invariant f in
-    let l : c.loop-i.i < length c.args.rows.now = omega arith in
-    reach-err (length c.args.rows.now) c.input.new.stage (inputs [] 0 c.args.rows.now (stage_view c.args.stage.now)) c.from_residual.result c.in_err-input.field-0.0 (err_from_is_err_and c.from_residual.result c.from_residual.ensures.1) (inputs-fail _ _ c.loop-i.i c.index-rows-i.result c.args.rows.now _ _ l c.index-rows-i.is i.1 (c.in_err-input.ensures _ _ i.0 l))
+    let l : c.loop-i.i < length (c.args.rows.now ++ c.args.more.now) = rw (length-append c.args.rows.now c.args.more.now) (omega arith) in
+    reach-err (length (c.args.rows.now ++ c.args.more.now)) c.input.new.stage (inputs [] 0 (c.args.rows.now ++ c.args.more.now) (stage_view c.args.stage.now)) c.from_residual-in_err-input.result c.in_err-input.field-0.0 (err_from_is_err_and c.from_residual-in_err-input.result c.from_residual-in_err-input.ensures.1) (inputs-fail _ _ c.loop-i.i c.numbered_row-row.result.now (c.args.rows.now ++ c.args.more.now) _ _ l c.numbered_row-row.ensures i.1 (c.in_err-input.ensures _ _ i.0 l))
 
 pub returns-in-False : goal.returns-in-False
 returns-in-False c = λ f.
     let i = c.loop-i.invariant f in
-    let l : c.loop-i.i < length c.args.rows.now = omega arith in
+    let l : c.loop-i.i < length (c.args.rows.now ++ c.args.more.now) = rw (length-append c.args.rows.now c.args.more.now) (omega arith) in
     let a = rw c.in-False.is at (c.in_ok-input.ensures _ _ i.0 l) in
-    (inputs-contradict _ _ c.loop-i.i c.index-rows-i.result c.args.rows.now _ _ _ l c.index-rows-i.is i.1 a.0, a.1)
+    (inputs-contradict _ _ c.loop-i.i c.numbered_row-row.result.now (c.args.rows.now ++ c.args.more.now) _ _ _ l c.numbered_row-row.ensures i.1 a.0, a.1)
 
 pub loop-i-preserved : goal.loop-i-preserved
 loop-i-preserved c = λ f.
     let i = c.loop-i.invariant f in
-    let l : c.loop-i.i < length c.args.rows.now = omega arith in
-    elim c.match-branch-2.branch [
+    let l : c.loop-i.i < length (c.args.rows.now ++ c.args.more.now) = rw (length-append c.args.rows.now c.args.more.now) (omega arith) in
+    elim c.match-branch-3.branch [
       | in-LeftOut w ↦
           let a = rw w.in-LeftOut.is at (c.in_ok-input.ensures _ _ i.0 l) in
-          let e : c.match-branch-2.entries.items ≡ c.loop-i.entries.items = ap (λ v. v.items) w.entries-is in
-          (subst (Fits (length c.args.rows.now) c.input.new.stage) (sym e) a.1, inputs-go _ [] _ _ c.loop-i.i c.index-rows-i.result c.args.rows.now _ _ l c.index-rows-i.is (view-more c.loop-i.entries.items [] _ (e ∙ sym (append-nil c.loop-i.entries.items))) i.1 a.0)
+          let e : c.match-branch-3.entries.items ≡ c.loop-i.entries.items = ap (λ v. v.items) w.entries-is in
+          (subst (Fits (length (c.args.rows.now ++ c.args.more.now)) c.input.new.stage) (sym e) a.1, inputs-go _ [] _ _ c.loop-i.i c.numbered_row-row.result.now (c.args.rows.now ++ c.args.more.now) _ _ l c.numbered_row-row.ensures (view-more c.loop-i.entries.items [] _ (e ∙ sym (append-nil c.loop-i.entries.items))) i.1 a.0)
       | in-Kept+in_ok-push-in-Kept w ↦
           let a = rw w.in-Kept.is at (c.in_ok-input.ensures _ _ i.0 l) in
-          let e : c.match-branch-2.entries.items ≡ c.loop-i.entries.items ++ (w.in-Kept.row ∷ []) = ap (λ v. v.items) w.entries-is ∙ w.in_ok-push-in-Kept.ensures.items in
-          (subst (Fits (length c.args.rows.now) c.input.new.stage) (sym e) a.1, inputs-go _ (entry_view w.in-Kept.row ∷ []) _ _ c.loop-i.i c.index-rows-i.result c.args.rows.now _ _ l c.index-rows-i.is (view-more c.loop-i.entries.items (w.in-Kept.row ∷ []) _ e) i.1 a.0)
+          let e : c.match-branch-3.entries.items ≡ c.loop-i.entries.items ++ (w.in-Kept.row ∷ []) = ap (λ v. v.items) w.entries-is ∙ w.in_ok-push-in-Kept.ensures.items in
+          (subst (Fits (length (c.args.rows.now ++ c.args.more.now)) c.input.new.stage) (sym e) a.1, inputs-go _ (entry_view w.in-Kept.row ∷ []) _ _ c.loop-i.i c.numbered_row-row.result.now (c.args.rows.now ++ c.args.more.now) _ _ l c.numbered_row-row.ensures (view-more c.loop-i.entries.items (w.in-Kept.row ∷ []) _ e) i.1 a.0)
     ]
 
 pub returns : goal.returns
 returns c = λ f.
     let i = c.loop-i.invariant f in
-    (inputs-end _ _ c.loop-i.i c.args.rows.now _ (omega arith) i.1, i.0)
+    let l : length (c.args.rows.now ++ c.args.more.now) ≤ c.loop-i.i = rw (length-append c.args.rows.now c.args.more.now) (omega arith) in
+    (inputs-end _ _ c.loop-i.i (c.args.rows.now ++ c.args.more.now) _ l i.1, i.0)

@@ -1,3 +1,4 @@
+use Rattle.std.proofs.Common.{◌++◌}
 use Rattle.std.proofs.lemmas.Result.{err_from_is_err_and}
 use Rattle.cap_elim.specs.Solving.{refuted}
 use Rattle.cap_fm.specs.Views.{stage_view, false_view}
@@ -5,19 +6,19 @@ use Rattle.cap_fm.proofs.Wholes.{logged-err, code-explains, code-none, code-some
 use Rattle.cap_fm.proofs.eliminate.refuted.Goals as goal
 
 pub returns-in_err-eliminated : goal.returns-in_err-eliminated
-returns-in_err-eliminated c = logged-err c.from_residual.result (refuted c.args.rows.now) c.in_err-eliminated.field-0.0 (err_from_is_err_and c.from_residual.result c.from_residual.ensures.1) (code-explains c.args.rows.now (stage_view c.new-stage.result) c.in_err-eliminated.field-0.0 c.new-stage.ensures.view (c.in_err-eliminated.ensures (c.new-stage.ensures.fits _)))
+returns-in_err-eliminated c = logged-err c.from_residual-in_err-eliminated.result (refuted (c.args.rows.now ++ c.args.more.now)) c.in_err-eliminated.field-0.0 (err_from_is_err_and c.from_residual-in_err-eliminated.result c.from_residual-in_err-eliminated.ensures.1) (code-explains (c.args.rows.now ++ c.args.more.now) (stage_view c.in_ok-stage.stage) c.in_err-eliminated.field-0.0 c.in_ok-stage.ensures.view (c.in_err-eliminated.ensures (c.in_ok-stage.ensures.fits _)))
 
 pub returns-in-Rows : goal.returns-in-Rows
 returns-in-Rows c =
-    let a = rw c.in-Rows.is at (c.in_ok-eliminated.ensures (c.new-stage.ensures.fits _)) in
-    code-none c.args.rows.now (stage_view c.new-stage.result) _ _ c.new-stage.ensures.view a.0
+    let a = rw c.in-Rows.is at (c.in_ok-eliminated.ensures (c.in_ok-stage.ensures.fits _)) in
+    code-none (c.args.rows.now ++ c.args.more.now) (stage_view c.in_ok-stage.stage) _ _ c.in_ok-stage.ensures.view a.0
 
 pub returns-in_err-leaf-in-Contradiction : goal.returns-in_err-leaf-in-Contradiction
 returns-in_err-leaf-in-Contradiction c =
-    let a = rw c.in-Contradiction.is at (c.in_ok-eliminated.ensures (c.new-stage.ensures.fits _)) in
-    logged-err c.from_residual-in_err-leaf-in-Contradiction.result (refuted c.args.rows.now) c.in_err-leaf-in-Contradiction.field-0.0 (err_from_is_err_and c.from_residual-in_err-leaf-in-Contradiction.result c.from_residual-in_err-leaf-in-Contradiction.ensures.1) (code-wide c.args.rows.now (stage_view c.new-stage.result) (false_view c.in-Contradiction.row) c.eliminated.new.stage c.history.result.now c.in_err-leaf-in-Contradiction.field-0.0 c.new-stage.ensures.view c.history.ensures a.0 c.in_err-leaf-in-Contradiction.ensures)
+    let a = rw c.in-Contradiction.is at (c.in_ok-eliminated.ensures (c.in_ok-stage.ensures.fits _)) in
+    logged-err c.from_residual-in_err-leaf-in-Contradiction.result (refuted (c.args.rows.now ++ c.args.more.now)) c.in_err-leaf-in-Contradiction.field-0.0 (err_from_is_err_and c.from_residual-in_err-leaf-in-Contradiction.result c.from_residual-in_err-leaf-in-Contradiction.ensures.1) (code-wide (c.args.rows.now ++ c.args.more.now) (stage_view c.in_ok-stage.stage) (false_view c.in-Contradiction.row) c.eliminated.new.stage c.history.result.now c.in_err-leaf-in-Contradiction.field-0.0 c.in_ok-stage.ensures.view c.history.ensures a.0 c.in_err-leaf-in-Contradiction.ensures)
 
 pub returns : goal.returns
 returns c =
-    let a = rw c.in-Contradiction.is at (c.in_ok-eliminated.ensures (c.new-stage.ensures.fits _)) in
-    code-some c.args.rows.now (stage_view c.new-stage.result) (false_view c.in-Contradiction.row) c.eliminated.new.stage c.history.result.now c.in_ok-leaf-in-Contradiction.field-0 c.new-stage.ensures.view c.history.ensures a.0 c.in_ok-leaf-in-Contradiction.ensures
+    let a = rw c.in-Contradiction.is at (c.in_ok-eliminated.ensures (c.in_ok-stage.ensures.fits _)) in
+    code-some (c.args.rows.now ++ c.args.more.now) (stage_view c.in_ok-stage.stage) (false_view c.in-Contradiction.row) c.eliminated.new.stage c.history.result.now c.in_ok-leaf-in-Contradiction.field-0 c.in_ok-stage.ensures.view c.history.ensures a.0 c.in_ok-leaf-in-Contradiction.ensures

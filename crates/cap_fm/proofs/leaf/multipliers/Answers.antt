@@ -9,7 +9,7 @@ use Rattle.cap_fm.proofs.leaf.multipliers.Goals.{then-index+in_ok-term, else-ind
 use Rattle.cap_fm.proofs.leaf.multipliers.Goals as goal
 
 pub loop-place-init : goal.loop-place-init
-loop-place-init c = begun _ _ _ _ c.requires.history c.in_ok-way.ensures c.new-terms.ensures.items
+loop-place-init c = begun _ _ _ _ c.requires.history c.in_ok-way.ensures c.in_ok-terms.ensures.items
 
 pub own-requires : goal.own-requires
 own-requires c = rows-here _ _ _ _ _ _ _ c.loop-place.invariant c.loop-place-test.true c.deref.ensures.value

@@ -9,7 +9,7 @@ use Rattle.cap_fm.proofs.leaf.way.Goals as goal
 
 pub loop-place-init : goal.loop-place-init
 loop-place-init c =
-    let f = filled _ _ _ _ c.in_ok-resize.ensures.items c.new-way.ensures.items c.new-way.ensures.len in
+    let f = filled _ _ _ _ c.in_ok-resize.ensures.items c.in_ok-way.ensures.items c.in_ok-way.ensures.len in
     record {
       long = length-set c.resize.new.self.items c.args.last true ∙ ap length f ∙ length-replicate (length c.args.history.now) false;
       marks = begins _ _ _ f;
