@@ -325,6 +325,7 @@ fn sum(a: i128, b: i128) -> Result<i128, LinError>
     }
 }
 
+#[inline]
 fn product(a: i128, b: i128) -> Result<i128, LinError>
     ensures exact { IsExact result (product_of a b ∷ []) (a *ℤ b) }
     ensures wide { IfErr result (λ e. e ≡ LinError.Wide a b) }
@@ -332,6 +333,16 @@ fn product(a: i128, b: i128) -> Result<i128, LinError>
     if is_short(a) && is_short(b) {
         return Ok(a * b);
     }
+    long_product(a, b)
+}
+
+// A product, which may leave 128 bits.
+#[cold]
+#[inline(never)]
+fn long_product(a: i128, b: i128) -> Result<i128, LinError>
+    ensures exact { IsExact result (product_of a b ∷ []) (a *ℤ b) }
+    ensures wide { IfErr result (λ e. e ≡ LinError.Wide a b) }
+{
     match a.checked_mul(b) {
         Some(product) => Ok(product),
         None => Err(LinError::Wide(a, b)),
@@ -441,6 +452,7 @@ fn scale_parts(alloc: Global, k: i128, parts: &[(u32, i128)]) -> Result<Parts, L
 }
 
 // The sum of two products, which are made first.
+#[inline]
 fn combined(a: i128, left: i128, b: i128, right: i128) -> Result<i128, LinError>
     ensures { IsExact result (part_steps a left b right []) (a *ℤ left +ℤ b *ℤ right) }
 {
