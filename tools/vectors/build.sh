@@ -1,6 +1,6 @@
 # What the comparisons with vectors share. A program in crates/ would be proved and run by the gate, so
-# theirs is written into a copy of the repository, and built, proved and run there, over the libraries
-# that the checkout has built; those that it lacks are proved first, which takes long.
+# theirs is written into a copy of the repository and tried there, compiled with checks and without a
+# proof of its own, over the libraries that the checkout has built.
 #
 # `compare NAME VECTORS USES MODULE..` runs the program of the main module vectors/NAME.txt and these
 # modules, over the crates USES, on a file of vectors, and ends with its status.
@@ -21,7 +21,8 @@ compare() {
     done
 
     cd "$copy/crates/compare_$name"
-    if rt run -- "$vectors" >"$copy/printed" 2>"$copy/log" </dev/null; then
+    if rt try --seconds 3600 --data "vectors=$vectors" -- vectors \
+        >"$copy/printed" 2>"$copy/log" </dev/null; then
         cat "$copy/printed"
     else
         cat "$copy/printed"
