@@ -79,7 +79,8 @@ fn front(terms: &[Term], count: usize) -> &[Term]
     }
 }
 
-// What is to be done at a call before the tasks behind it.
+// What is to be done at a call before the tasks behind it: what a fork does, and then the
+// postcondition is assumed.
 fn call_tasks<'a>(
     alloc: Global,
     function: &'a Function,
@@ -96,10 +97,7 @@ fn call_tasks<'a>(
     let mut tasks = tasks;
     let after = items_of(alloc, &function.ensures_)?;
     tasks.push(Task::Give(after, env, at))?;
-    tasks.push(Task::Rest(0, at))?;
-    let before = items_of(alloc, &function.requires_)?;
-    tasks.push(Task::Take(before, env, 3, at))?;
-    Ok(tasks)
+    fork_tasks(alloc, function, env, at, tasks)
 }
 
 /// A call of a function: its precondition is given up, the facts are settled, and its postcondition

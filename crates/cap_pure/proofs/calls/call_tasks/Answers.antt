@@ -3,4 +3,4 @@ use Rattle.cap_pure.proofs.Calling.{pushed}
 use Rattle.cap_pure.proofs.calls.call_tasks.Goals as goal
 
 pub returns : goal.returns
-returns c = rw (c.in_ok-push-3.ensures.items, pushed, c.in_ok-push-2.ensures.items, pushed, c.in_ok-push.ensures.items, pushed, c.in_ok-before.ensures, c.in_ok-after.ensures) refl
+returns c = rw (c.in_ok-push.ensures.items, pushed, c.in_ok-after.ensures) at c.fork_tasks.ensures
