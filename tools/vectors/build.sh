@@ -1,26 +1,33 @@
-# What the comparisons with vectors share. A program in crates/ would be proved and run by the gate, so
-# theirs is written into a copy of the repository and tried there, compiled with checks and without a
-# proof of its own, over the libraries that the checkout has built.
-#
-# `compare NAME VECTORS USES MODULE..` runs the program of the main module vectors/NAME.txt and these
-# modules, over the crates USES, on a file of vectors, and ends with its status.
-compare() {
-    local name=$1 vectors uses=$3 top copy module
-    vectors=$(realpath "$2")
-    shift 3
+# What the programs over vectors share. A program in crates/ would be proved and run by the gate, so each of
+# these is written into a copy of the repository, over the libraries that the checkout has built.
+
+# `write_program NAME USES MODULE..` makes the copy, and in it the program of the main module
+# vectors/NAME.txt and these modules, over the crates USES. It goes into the program's folder; `copy` is the
+# copy's.
+write_program() {
+    local name=$1 uses=$2 top module
+    shift 2
     top=$(cd "$(dirname "${BASH_SOURCE[0]}")/../.." && pwd)
     copy=$(mktemp -d)
     trap "rm -rf '$copy'" EXIT
 
     copy_crates "$top" "$copy"
-    echo "compare_$name: $uses" >>"$copy/crates.txt"
-    mkdir -p "$copy/crates/compare_$name/src" "$copy/crates/compare_$name/proofs"
-    cp "$top/tools/vectors/$name.txt" "$copy/crates/compare_$name/src/main.rt"
+    echo "vectors_$name: $uses" >>"$copy/crates.txt"
+    mkdir -p "$copy/crates/vectors_$name/src" "$copy/crates/vectors_$name/proofs"
+    cp "$top/tools/vectors/$name.txt" "$copy/crates/vectors_$name/src/main.rt"
     for module in "$@"; do
-        cp "$top/tools/vectors/$module.txt" "$copy/crates/compare_$name/src/$module.rt"
+        cp "$top/tools/vectors/$module.txt" "$copy/crates/vectors_$name/src/$module.rt"
     done
+    cd "$copy/crates/vectors_$name"
+}
 
-    cd "$copy/crates/compare_$name"
+# `compare NAME VECTORS USES MODULE..` tries such a program on a file of vectors, compiled with checks and
+# without a proof of its own, and ends with its status.
+compare() {
+    local name=$1 vectors
+    vectors=$(realpath "$2")
+    shift 2
+    write_program "$name" "$@"
     if rt try --seconds 3600 --data "vectors=$vectors" -- vectors \
         >"$copy/printed" 2>"$copy/log" </dev/null; then
         cat "$copy/printed"
