@@ -1,6 +1,6 @@
 -- What a call of exact arithmetic answers.
-use Rattle.std.specs.Prelude.{◌≡◌, ◌-◌, ◌^◌, List, Some, None, Result, MatchResult, ℤ, pos, negsuc, ◌≤ℤ◌}
-use Rattle.cap_lin.specs.Steps.{Step, first_wide}
+use Rattle.std.specs.Prelude.{◌≡◌, ◌-◌, ◌^◌, List, [], Some, None, Result, MatchResult, ℤ, pos, negsuc, ◌+ℤ◌, ◌*ℤ◌, ◌≤ℤ◌}
+use Rattle.cap_lin.specs.Steps.{Step, first_wide, part_steps}
 use Rattle.cap_lin.specs.declared.error.LinError.{LinError}
 use Rattle.cap_lin.specs.declared.error.LinError.TheVariants.{Wide, OutOfMemory}
 
@@ -17,6 +17,10 @@ IsExactBy r view steps value = MatchResult r (λ x. (first_wide steps ≡ None) 
 abbrev pub IsExact : {T : Type 0} → Result T LinError → List Step → T → Type 0
 IsExact r steps value = MatchResult r (λ x. (first_wide steps ≡ None) × (x ≡ value)) (λ e. Explains e steps)
 
--- from -2^63 to 2^63
+-- from -2^62 to 2^62
 abbrev pub IsShort : ℤ → Type 0
-IsShort z = (negsuc (2 ^ 63 - 1) ≤ℤ z) × (z ≤ℤ pos (2 ^ 63))
+IsShort z = (negsuc (2 ^ 62 - 1) ≤ℤ z) × (z ≤ℤ pos (2 ^ 62))
+
+-- the sum of two products, where no result on the way leaves 128 bits
+abbrev pub IsCombined : ℤ → ℤ → ℤ → ℤ → ℤ → Type 0
+IsCombined a left b right sum = (first_wide (part_steps a left b right []) ≡ None) × (sum ≡ a *ℤ left +ℤ b *ℤ right)

@@ -1,7 +1,7 @@
-ghost use Rattle.std.specs.Prelude.{◌≡◌, ◌<◌, ℕ, ℤ, ◌+ℤ◌, ◌*ℤ◌, [], ◌∷◌, ◌++◌, length, OnOk, IfOk, IsTrue, ◌↔◌, MatchResult, IfErr, ◌≢◌, slice_get, pos};
+ghost use Rattle.std.specs.Prelude.{◌≡◌, ◌<◌, ℕ, ℤ, ◌+ℤ◌, ◌*ℤ◌, [], ◌∷◌, ◌++◌, length, OnOk, IfOk, IfSome, IsTrue, ◌↔◌, MatchResult, IfErr, ◌≢◌, slice_get, pos};
 ghost use Rattle.cap_lin.specs.Linear.{AscendFrom, put_part, coefficient, number, variable, merged, parts_behind, sums, IsBelow, IsLeastFrom, IsPlaceFrom, plus, minus, negative, plus_one, multiples, times, combined_parts, combination, parts_without, without, replaced};
 ghost use Rattle.cap_lin.specs.Steps.{sum_of, product_of, sums_steps, plus_steps, minus_steps, negative_steps, multiples_steps, times_steps, part_steps, combined_parts_steps, combination_steps, replaced_steps, value_steps};
-ghost use Rattle.cap_lin.specs.Exact.{IsExact, IsExactBy, IsShort};
+ghost use Rattle.cap_lin.specs.Exact.{IsExact, IsExactBy, IsShort, IsCombined};
 ghost use Rattle.cap_lin.specs.Values.{value, number_at, changed};
 
 use crate::error::LinError;
@@ -13,7 +13,7 @@ use std::marker::Model;
 // How many parts a term has with no memory of its own: most terms have one or two.
 const INLINE: usize = 2;
 
-const SHORT: i128 = 1 << 63;
+const SHORT: i128 = 1 << 62;
 
 type Parts = SmallVec<(u32, i128), 2>;
 
@@ -304,6 +304,10 @@ fn first_from(parts: &[(u32, i128)], low: u64) -> usize
 {
     let mut start = 0;
     let mut end = parts.len();
+    // An elimination takes variables in ascending order, so that it mostly asks for the first place.
+    if start < end && low <= parts[0].0 as u64 {
+        return 0;
+    }
     while start < end {
         let middle = start + (end - start) / 2;
         if (parts[middle].0 as u64) < low {
@@ -349,8 +353,9 @@ fn long_product(a: i128, b: i128) -> Result<i128, LinError>
     }
 }
 
-// Whether a number is from -2^63 to 2^63, so that a product of two such numbers is within 128 bits and
-// needs no test.
+// Whether a number is from -2^62 to 2^62, so that a product of two such numbers, and a sum of two such
+// products, is within 128 bits and needs no test.
+#[inline]
 fn is_short(number: i128) -> bool
     ensures { IsTrue result → IsShort number }
 {
@@ -364,11 +369,13 @@ fn room_for(alloc: Global, left: usize, right: usize) -> Result<Parts, AllocErro
     if left.max(right) <= INLINE {
         Ok(SmallVec::new(alloc))
     } else {
-        SmallVec::with_capacity(alloc, left.saturating_add(right))
+        let parts = Vec::with_capacity(alloc, left.saturating_add(right))?;
+        Ok(SmallVec::from_vec(parts))
     }
 }
 
 // Appends a part, unless its coefficient is 0.
+#[inline]
 fn put(parts: &mut Parts, variable: u32, coefficient: i128) -> Result<(), AllocError>
     ensures { OnOk result (parts.new.items ≡ parts.old.items ++ put_part variable coefficient []) }
 {
@@ -451,9 +458,35 @@ fn scale_parts(alloc: Global, k: i128, parts: &[(u32, i128)]) -> Result<Parts, L
     Ok(scaled)
 }
 
+// The sum of two products of short numbers, and None where a number is not short.
+#[inline]
+fn short_combined(a: i128, left: i128, b: i128, right: i128) -> Option<i128>
+    ensures { IfSome result (IsCombined a left b right) }
+{
+    if is_short(a) && is_short(b) && is_short(left) && is_short(right) {
+        let left = a * left;
+        let right = b * right;
+        Some(left + right)
+    } else {
+        None
+    }
+}
+
 // The sum of two products, which are made first.
 #[inline]
 fn combined(a: i128, left: i128, b: i128, right: i128) -> Result<i128, LinError>
+    ensures { IsExact result (part_steps a left b right []) (a *ℤ left +ℤ b *ℤ right) }
+{
+    match short_combined(a, left, b, right) {
+        Some(number) => Ok(number),
+        None => long_combined(a, left, b, right),
+    }
+}
+
+// The sum of two products, each of which may leave 128 bits.
+#[cold]
+#[inline(never)]
+fn long_combined(a: i128, left: i128, b: i128, right: i128) -> Result<i128, LinError>
     ensures { IsExact result (part_steps a left b right []) (a *ℤ left +ℤ b *ℤ right) }
 {
     let left = product(a, left)?;
@@ -476,7 +509,11 @@ fn combine_parts(
     let mut left = left;
     let mut right = right;
     while let Some(pair) = least(left, right) {
-        let coefficient = combined(a, pair.left, b, pair.right)?;
+        // As in `combined`, without its answer in memory: most of an elimination's time goes by here.
+        let coefficient = match short_combined(a, pair.left, b, pair.right) {
+            Some(coefficient) => coefficient,
+            None => long_combined(a, pair.left, b, pair.right)?,
+        };
         put(&mut parts, pair.variable, coefficient)?;
         left = behind(left, pair.variable);
         right = behind(right, pair.variable);

@@ -2,6 +2,13 @@ use Rattle.std.proofs.Common.{arith, ◌+◌, ◌-◌, ◌/◌}
 use Rattle.cap_lin.proofs.Places.{raised, lowered}
 use Rattle.cap_lin.proofs.term.first_from.Goals as goal
 
+pub returns-then-low-parts : goal.returns-then-low-parts
+returns-then-low-parts c = record {
+  bound = omega arith;
+  below = λ k h. absurd (omega arith);
+  above = lowered c.args.low c.args.parts.now 0 c.requires c.if-low-parts.true;
+}
+
 pub loop-start-preserved-then-parts-middle : goal.loop-start-preserved-then-parts-middle
 loop-start-preserved-then-parts-middle c = record {
   order = omega arith;
