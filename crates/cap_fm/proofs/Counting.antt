@@ -14,7 +14,7 @@ use Rattle.cap_elim.specs.Runs.{going, done}
 use Rattle.cap_elim.specs.Rows.{same_kind, same_row, has_arisen, count}
 use Rattle.cap_fm.specs.Views.{form_view, history_view, stage_view, number_of, Fits}
 use Rattle.cap_fm.specs.Answers.{Is, IsCounted}
-use Rattle.cap_fm.specs.declared.entry.Entry.{Entry}
+use Rattle.cap_fm.specs.Entries.{Entry}
 use Rattle.cap_fm.specs.declared.stage.Form.{Form}
 use Rattle.cap_fm.specs.declared.stage.Stage.{Stage}
 use Rattle.cap_fm.specs.contracts.stage.FormPartialEq.TheImpl.{eq-value}

@@ -6,8 +6,11 @@ use Rattle.std.proofs.lemmas.List.Elements.{filter-append}
 use Rattle.cap_lin.specs.Linear.{coefficient}
 use Rattle.cap_lin.proofs.Results.{is_zero-yes, is_zero-no}
 use Rattle.cap_elim.specs.Rows.{is_positive, is_negative}
-use Rattle.cap_fm.specs.Views.{lacking_rows, upper_rows, lower_rows}
-use Rattle.cap_fm.specs.declared.entry.Entry.{Entry}
+use Rattle.cap_fm.specs.Views.{entry_of, entries_of, lacking_rows, upper_rows, lower_rows}
+use Rattle.cap_fm.specs.Entries.{Entry}
+use Rattle.cap_fm.specs.declared.entry.Present.{Present}
+use Rattle.cap_fm.specs.declared.stage.Stage.{Stage}
+use Rattle.cap_fm.proofs.Terms.{entries-then}
 
 -- what a list of the elements that pass becomes, with one more element
 filter-yes : {X : Type 0} (test : X → Bool) (out new xs : List X) (x : X) → test x ≡ true → out ≡ filter test xs → new ≡ out ++ (x ∷ []) → new ≡ filter test (xs ++ (x ∷ []))
@@ -70,3 +73,10 @@ parted-below x rows without uppers lowers new d z e h n i =
 
 pub parted-all : (x : ℕ) (rows all without uppers lowers : List Entry) → rows ≡ all → IsParted x rows without uppers lowers → IsParted x all without uppers lowers
 parted-all x rows all without uppers lowers e i = subst (λ ds. IsParted x ds without uppers lowers) e i
+
+-- the same of the rows as the code has them
+abbrev pub AreParted : ℕ → Stage → List Present → List Present → List Present → List Present → Type 0
+AreParted x s rows without uppers lowers = IsParted x (entries_of s rows) (entries_of s without) (entries_of s uppers) (entries_of s lowers)
+
+pub are-parted : (x : ℕ) (s : Stage) (rows without uppers lowers : List Present) (d : Present) → IsParted x (entries_of s rows ++ (entry_of s d ∷ [])) (entries_of s without) (entries_of s uppers) (entries_of s lowers) → AreParted x s (rows ++ (d ∷ [])) without uppers lowers
+are-parted x s rows without uppers lowers d i = parted-all x _ _ _ _ _ (sym (entries-then s rows d)) i

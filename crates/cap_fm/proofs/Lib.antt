@@ -2,6 +2,7 @@ pub mod Runs
 pub mod Booleans
 pub mod Marks
 pub mod Stages
+pub mod Terms
 pub mod Counting
 pub mod NewRows
 pub mod Walks

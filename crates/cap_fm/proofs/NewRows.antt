@@ -4,7 +4,7 @@ use Rattle.std.specs.Prelude.{◌||◌, ◌≢◌, if◌then◌else◌, Result}
 use Rattle.std.specs.List.{AllByRecursion, list_any}
 use Rattle.std.proofs.lemmas.List.{map-append, length-map, length-reverse, reverse-append, length_push, length-set}
 use Rattle.std.proofs.lemmas.List.Folds.{list_any-append}
-use Rattle.cap_lin.specs.Linear.{Linear, combination}
+use Rattle.cap_lin.specs.Linear.{Linear, number, combination}
 use Rattle.cap_lin.specs.Steps.{first_wide, combination_steps}
 use Rattle.cap_lin.specs.Exact as lin
 use Rattle.cap_lin.specs.declared.row.Kind.{Kind}
@@ -12,11 +12,11 @@ use Rattle.cap_lin.specs.declared.error.LinError.{LinError}
 use Rattle.cap_elim.specs.Events.{first_limit}
 use Rattle.cap_elim.specs.Runs as plain
 use Rattle.cap_elim.specs.Runs.{Run, going, contradiction, done, results, Elimination, ◌>>=◌}
-use Rattle.cap_elim.specs.Rows.{same_row, has_arisen, is_present, is_false, has_parts, count, keep, fail, look, arise, arise_combined, combine}
+use Rattle.cap_elim.specs.Rows.{same_row, has_arisen, is_present, is_false, are_some, has_parts, count, keep, fail, look, arise, arise_combined, combine}
 use Rattle.cap_fm.specs.Errors.{solve_error}
 use Rattle.cap_fm.specs.Views.{origin_view, history_view, stage_view, entry_view, entries_view, false_view, arisen_view, number_of, IsNumbered, AreNumbered, IsMarked, IsOrigin, IsHistory, Fits, IsLast, Grows}
 use Rattle.cap_fm.specs.Answers.{Is, Same, IsCounted, DoesArise, Explains, ExplainsSteps}
-use Rattle.cap_fm.specs.declared.entry.Entry.{Entry}
+use Rattle.cap_fm.specs.Entries.{Entry}
 use Rattle.cap_fm.specs.declared.entry.FalseRow.{FalseRow}
 use Rattle.cap_fm.specs.declared.entry.Arisen.{Arisen}
 use Rattle.cap_fm.specs.declared.entry.Origin.{Origin}
@@ -181,6 +181,20 @@ then-combined inputs s z ds a b u v p q k t r x y e d =
 
 pub bare-combined : (inputs : ℕ) (s z : Stage) (ds : List Entry) (t : Linear) (k : Kind) (o : plain.Origin) (r : Result Arisen SolveError) → has_parts t ≡ false → DoesArise inputs s z ds (look t k o (stage_view s)) r → DoesArise inputs s z ds (arise_combined (entries_view ds) t k o (stage_view s)) r
 bare-combined inputs s z ds t k o r h d = does-by inputs s s z ds (arise_combined (entries_view ds) t k o (stage_view s)) (look t k o (stage_view s)) r (same-of (arise_combined (entries_view ds) t k o) (look t k o) (stage_view s) (combined-bare (entries_view ds) t k o h)) (λ d x. x) d
+
+-- a term without parts is a number
+no-parts : (ps : List (ℕ × ℤ)) → are_some ps ≡ false → ps ≡ []
+no-parts [] h = refl
+no-parts (p ∷ ps) h = cc
+
+linear-by : (c : ℤ) (ps qs : List (ℕ × ℤ)) → ps ≡ qs → ◌≡◌ {A = Linear} (record { constant = c; parts = ps }) (record { constant = c; parts = qs })
+linear-by c ps qs e = rw e refl
+
+pub number-is : (t : Linear) → has_parts t ≡ false → number t.constant ≡ t
+number-is t h = linear-by t.constant [] t.parts (sym (no-parts t.parts h))
+
+pub bare-number : (inputs : ℕ) (s z : Stage) (ds : List Entry) (t : Linear) (k : Kind) (o : plain.Origin) (c : ℤ) (r : Result Arisen SolveError) → has_parts t ≡ false → c ≡ t.constant → DoesArise inputs s z ds (look (number c) k o (stage_view s)) r → DoesArise inputs s z ds (look t k o (stage_view s)) r
+bare-number inputs s z ds t k o c r h e d = subst (λ u. DoesArise inputs s z ds (look u k o (stage_view s)) r) (ap number e ∙ number-is t h) d
 
 pub does-err : (inputs : ℕ) (s z : Stage) (ds : List Entry) (r : Run (List plain.Entry)) (a : Result Arisen SolveError) (e : LinError) → Rattle.std.specs.Prelude.IsErr a × Rattle.std.specs.Prelude.IsErrAnd a (λ x. x ≡ solve_error e) → ((x : SolveError) → x ≡ solve_error e → Explains x r.events) → DoesArise inputs s z ds r a
 does-err inputs s z ds r (Ok a) e h f = absurd h.1

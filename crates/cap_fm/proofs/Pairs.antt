@@ -7,13 +7,14 @@ use Rattle.cap_elim.specs.Runs as plain
 use Rattle.cap_elim.specs.Runs.{Run, Elimination, going, contradiction, done, ◌>>=◌}
 use Rattle.cap_elim.specs.Rows.{of_row, is_positive, is_negative}
 use Rattle.cap_elim.specs.Elimination.{combine_bounds, combine_each, combine_all, lacking, uppers, lowers}
-use Rattle.cap_fm.specs.declared.entry.Entry.{Entry}
+use Rattle.cap_fm.specs.Entries.{Entry}
+use Rattle.cap_fm.specs.declared.entry.Present.{Present}
 use Rattle.cap_fm.specs.declared.entry.FalseRow.{FalseRow}
 use Rattle.cap_fm.specs.declared.entry.Arisen.TheVariants.{LeftOut, Kept, False}
 use Rattle.cap_fm.specs.declared.stage.Stage.{Stage}
 use Rattle.cap_fm.specs.declared.error.SolveError.{SolveError}
-use Rattle.cap_fm.specs.Views.{upper_rows, lower_rows, stage_view, entry_view, entries_view, false_view, lacking_rows, Fits, IsLast, Grows, IsNumbered, AreNumbered}
-use Rattle.cap_fm.specs.Answers.{Explains, Is, Same, Arises, Leaves}
+use Rattle.cap_fm.specs.Views.{upper_rows, lower_rows, stage_view, entry_view, entries_view, entry_of, false_view, lacking_rows, Fits, IsLast, Grows, IsNumbered, AreNumbered}
+use Rattle.cap_fm.specs.Answers.{AllBounds, Explains, Is, Same, Arises, Leaves}
 use Rattle.cap_elim.proofs.Lists.{each-filter}
 use Rattle.cap_fm.proofs.Stages.{all-grow}
 use Rattle.cap_fm.proofs.Runs.{then-continues, then-stops, then-fails, same-is, same-explains, same-then, same-refl}
@@ -43,6 +44,13 @@ each-next inputs x upper old now kept held all i d l g h =
 step-same : (x : ℕ) (upper d : Entry) (held rest : List Entry) (s t : plain.Stage) (new : List plain.Entry) → Is (going new) t (combine_bounds x (entries_view held) (entry_view upper) (entry_view d) s) → Same (combine_each x (entries_view held) (entry_view upper) (entries_view (d ∷ rest)) s) (combine_each x (entries_view held ++ new) (entry_view upper) (entries_view rest) t)
 step-same x upper d held rest s t new i = rw (each-cons x (entries_view held) (entry_view upper) (entry_view d) (entries_view rest)) (then-continues (combine_bounds x (entries_view held) (entry_view upper) (entry_view d)) (λ more. combine_each x (entries_view held ++ more) (entry_view upper) (entries_view rest)) s t new i)
 
+-- the same runs, by rows that are equal to these
+pub pair-by : (x : ℕ) (held : List Entry) (p q e f : Entry) (s : plain.Stage) → e ≡ p → f ≡ q → combine_bounds x (entries_view held) (entry_view e) (entry_view f) s ≡ combine_bounds x (entries_view held) (entry_view p) (entry_view q) s
+pair-by x held p q e f s i j = ap (λ (d : Entry). combine_bounds x (entries_view held) (entry_view d) (entry_view f) s) i ∙ ap (λ (d : Entry). combine_bounds x (entries_view held) (entry_view p) (entry_view d) s) j
+
+pub each-by : (x : ℕ) (held : List Entry) (p e : Entry) (qs fs : List Entry) (s : plain.Stage) → e ≡ p → fs ≡ qs → combine_each x (entries_view held) (entry_view e) (entries_view fs) s ≡ combine_each x (entries_view held) (entry_view p) (entries_view qs) s
+each-by x held p e qs fs s i j = ap (λ (d : Entry). combine_each x (entries_view held) (entry_view d) (entries_view fs) s) i ∙ ap (λ ds. combine_each x (entries_view held) (entry_view p) (entries_view ds) s) j
+
 pub each-left_out : (inputs x : ℕ) (upper d : Entry) (old now new : Stage) (kept held all rest : List Entry) → EachGoes inputs x upper old now kept held all (d ∷ rest) → Arises inputs now new held (combine_bounds x (entries_view held) (entry_view upper) (entry_view d) (stage_view now)) LeftOut → EachGoes inputs x upper old new kept held all rest
 each-left_out inputs x upper d old now new kept held all rest h a = record {
   fits = a.1;
@@ -50,11 +58,11 @@ each-left_out inputs x upper d old now new kept held all rest h a = record {
   same = same-then _ _ _ h.same (subst (λ es. Same (combine_each x (entries_view held) (entry_view upper) (entries_view (d ∷ rest)) (stage_view now)) (combine_each x es (entry_view upper) (entries_view rest) (stage_view new))) (append-nil (entries_view held)) (step-same x upper d held rest (stage_view now) (stage_view new) [] a.0));
 }
 
-pub each-kept : (inputs x : ℕ) (upper d e : Entry) (old now new : Stage) (kept held more all rest : List Entry) → EachGoes inputs x upper old now kept held all (d ∷ rest) → Arises inputs now new held (combine_bounds x (entries_view held) (entry_view upper) (entry_view d) (stage_view now)) (Kept e) → more ≡ held ++ (e ∷ []) → EachGoes inputs x upper old new kept more all rest
+pub each-kept : (inputs x : ℕ) (upper d : Entry) (e : Present) (old now new : Stage) (kept held more all rest : List Entry) → EachGoes inputs x upper old now kept held all (d ∷ rest) → Arises inputs now new held (combine_bounds x (entries_view held) (entry_view upper) (entry_view d) (stage_view now)) (Kept e) → more ≡ held ++ (entry_of new e ∷ []) → EachGoes inputs x upper old new kept more all rest
 each-kept inputs x upper d e old now new kept held more all rest h a m = subst (λ es. EachGoes inputs x upper old new kept es all rest) (sym m) (record {
   fits = a.1;
   grows = λ f n. a.2 f (h.grows f n);
-  same = same-then _ _ _ h.same (subst (λ es. Same (combine_each x (entries_view held) (entry_view upper) (entries_view (d ∷ rest)) (stage_view now)) (combine_each x es (entry_view upper) (entries_view rest) (stage_view new))) (sym (map-append entry_view held (e ∷ []))) (step-same x upper d held rest (stage_view now) (stage_view new) (entry_view e ∷ []) a.0));
+  same = same-then _ _ _ h.same (subst (λ es. Same (combine_each x (entries_view held) (entry_view upper) (entries_view (d ∷ rest)) (stage_view now)) (combine_each x es (entry_view upper) (entries_view rest) (stage_view new))) (sym (map-append entry_view held (entry_of new e ∷ []))) (step-same x upper d held rest (stage_view now) (stage_view new) (entry_view (entry_of new e) ∷ []) a.0));
 })
 
 pub each-false : (inputs x : ℕ) (upper d : Entry) (e : FalseRow) (old now new : Stage) (kept held all rest : List Entry) → EachGoes inputs x upper old now kept held all (d ∷ rest) → Arises inputs now new held (combine_bounds x (entries_view held) (entry_view upper) (entry_view d) (stage_view now)) (False e) → Is (contradiction (false_view e)) (stage_view new) (combine_each x (entries_view kept) (entry_view upper) (entries_view all) (stage_view old)) × IsLast inputs new e × Grows old new
@@ -89,10 +97,6 @@ all-nil x present ns = refl
 all-cons : (x : ℕ) (present : List plain.Entry) (p : plain.Entry) (ps ns : List plain.Entry) → combine_all x present (p ∷ ps) ns ≡ (combine_each x present p ns >>= (λ more. combine_all x more ps ns))
 unfolding combine_all
 all-cons x present p ps ns = refl
-
--- the combinations of all bounds of a variable
-abbrev pub AllBounds : ℕ → List Entry → Stage → Run (List plain.Entry)
-AllBounds x rows s = combine_all x (lacking x (entries_view rows)) (uppers x (entries_view rows)) (lowers x (entries_view rows)) (stage_view s)
 
 -- the work that remains of them
 pub record BoundsGo (inputs x : ℕ) (old now : Stage) (rows held rest below : List Entry) : Type 0 where

@@ -12,7 +12,7 @@ use Rattle.cap_lin.proofs.Places.{coefficient-nil, coefficient-same, coefficient
 use Rattle.cap_elim.specs.Elimination.{chosen, occurring, is_unit, unit_variable, pivot, or_later, first_pivot}
 use Rattle.cap_fm.specs.Views.{entry_view, entries_view}
 use Rattle.cap_fm.specs.Answers.{IsPivotAt}
-use Rattle.cap_fm.specs.declared.entry.Entry.{Entry}
+use Rattle.cap_fm.specs.Entries.{Entry}
 use Rattle.cap_fm.proofs.Each.{each-more}
 
 none-some : (x : ℕ) → ◌≡◌ {A = Option ℕ} None (Some x) → ⊥
@@ -110,7 +110,6 @@ found choice rows i x d l g n e z =
       after = drop (i + 1) rows;
       rows_are = s;
       place = sym (length-take-le i rows (omega arith));
-      bound = l;
       has = z;
       is = ap (λ ds. first_pivot choice (entries_view ds)) s ∙ pivot-first choice (take i rows) d (drop (i + 1) rows) x n (sym e);
     }

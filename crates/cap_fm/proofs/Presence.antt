@@ -8,9 +8,9 @@ use Rattle.std.proofs.lemmas.List.Folds.{list_any_more}
 use Rattle.cap_lin.specs.Linear.{Linear, is_zero, coefficient}
 use Rattle.cap_lin.specs.declared.row.Kind.{Kind}
 use Rattle.cap_elim.specs.Rows.{same_row, has_arisen, is_present}
-use Rattle.cap_fm.specs.declared.entry.Entry.{Entry}
+use Rattle.cap_fm.specs.Entries.{Entry}
 use Rattle.cap_fm.specs.declared.stage.Stage.{Stage}
-use Rattle.cap_fm.specs.Views.{stage_view, form_view, entries_view, lacking_rows, number_of, Fits, IsNumbered, AreNumbered, Grows}
+use Rattle.cap_fm.specs.Views.{stage_view, form_view, entries_view, term_of, lacking_rows, number_of, Fits, IsNumbered, AreNumbered, Grows}
 use Rattle.cap_fm.specs.Answers.{Remarks, Leaves}
 use Rattle.cap_elim.proofs.Lists.{each-filter}
 use Rattle.cap_fm.proofs.Each.{each-at}
@@ -93,11 +93,12 @@ present-lacking x t k ds = elim (true_or_false (is_zero (coefficient x t.parts))
 pub record HasLeft (x : ℕ) (old new : Stage) (ds : List Entry) : Type 0 where
   pub forms : new.forms.keys ≡ old.forms.keys
   pub history : new.history.items ≡ old.history.items
+  pub zero : new.zero ≡ old.zero
   pub long : length new.present.items ≡ length old.present.items
   pub tell : (t : Linear) (k : Kind) → has_arisen t k (stage_view old).arisen ≡ true → get_or new.present.items (number_of t k (stage_view old).arisen) false ≡ (get_or old.present.items (number_of t k (stage_view old).arisen) false && not (is_left x t k ds))
 
 pub none-left : (x : ℕ) (s : Stage) → HasLeft x s s []
-none-left x s = record { forms = refl; history = refl; long = refl; tell = λ t k h. sym (and-true _) }
+none-left x s = record { forms = refl; history = refl; zero = refl; long = refl; tell = λ t k h. sym (and-true _) }
 
 -- one more row of those looked at
 left-more : (x : ℕ) (t : Linear) (k : Kind) (ds : List Entry) (i : ℕ) (d : Entry) → i < length ds → d ≡ get_or ds i d → is_left x t k (take (i + 1) ds) ≡ (is_left x t k (take i ds) || (has x d && same_row t k d.term d.kind))
@@ -127,6 +128,7 @@ pub passes-one : (x : ℕ) (old mid : Stage) (ds : List Entry) (i : ℕ) (d : En
 passes-one x old mid ds i d l g z h = record {
   forms = h.forms;
   history = h.history;
+  zero = h.zero;
   long = h.long;
   tell = λ t k a. h.tell t k a ∙ ap (λ b. get_or old.present.items (number_of t k (stage_view old).arisen) false && not b) (sym (left-more x t k ds i d l g ∙ or-zero _ (same_row t k d.term d.kind) (is_left x t k (take i ds)) z));
 }
@@ -150,6 +152,7 @@ pub leaves-one : (x : ℕ) (old mid new : Stage) (ds : List Entry) (i : ℕ) (d 
 leaves-one x old mid new ds i d n m l g z r h = record {
   forms = r.forms ∙ h.forms;
   history = r.history ∙ h.history;
+  zero = r.zero ∙ h.zero;
   long = ap length r.marks ∙ length-set mid.present.items d.number false ∙ h.long;
   tell = λ t k a. marks-one x old mid new ds i d t k (subst (IsNumbered old) (sym g) (each-at (IsNumbered old) ds i d l n)) m l g z r h a;
 }
@@ -171,7 +174,12 @@ all-left x inputs old new ds f h =
       };
       grows = grows;
       stage = rw (h.forms, h.history) refl;
+      same = λ d. rw (h.forms, h.zero) refl;
     }
+
+-- the term of a row is the same as before
+pub still-term : (x : ℕ) (old new : Stage) (ds : List Entry) (n : ℕ) → HasLeft x old new ds → term_of new n ≡ term_of old n
+still-term x old new ds n h = rw (h.forms, h.zero) refl
 
 pub all-looked : (x : ℕ) (old new : Stage) (ds : List Entry) (i : ℕ) → length ds ≤ i → HasLeft x old new (take i ds) → HasLeft x old new ds
 all-looked x old new ds i l h = subst (HasLeft x old new) (take_all i ds l) h

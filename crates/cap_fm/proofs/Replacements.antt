@@ -8,7 +8,7 @@ use Rattle.cap_elim.specs.Runs as plain
 use Rattle.cap_elim.specs.Runs.{Run, going, done, results}
 use Rattle.cap_elim.specs.Rows.{combine, of_row}
 use Rattle.cap_elim.specs.Elimination.{replacement, combine_bounds, strictest}
-use Rattle.cap_fm.specs.declared.entry.Entry.{Entry}
+use Rattle.cap_fm.specs.Entries.{Entry}
 use Rattle.cap_fm.specs.declared.entry.Arisen.{Arisen}
 use Rattle.cap_fm.specs.declared.stage.Stage.{Stage}
 use Rattle.cap_fm.specs.declared.error.SolveError.{SolveError}

@@ -14,13 +14,14 @@ use Rattle.cap_elim.specs.Runs as plain
 use Rattle.cap_elim.specs.Runs.{Run, Elimination, combined, going, contradiction, done, results, ◌>>=◌}
 use Rattle.cap_elim.specs.Rows.{same_row, is_present, has_parts, count, look, of_row}
 use Rattle.cap_elim.specs.Elimination.{replacement, replace, replace_all}
-use Rattle.cap_fm.specs.declared.entry.Entry.{Entry}
+use Rattle.cap_fm.specs.Entries.{Entry}
+use Rattle.cap_fm.specs.declared.entry.Present.{Present}
 use Rattle.cap_fm.specs.declared.entry.FalseRow.{FalseRow}
 use Rattle.cap_fm.specs.declared.entry.Arisen.TheVariants.{LeftOut, Kept, False}
 use Rattle.cap_fm.specs.declared.stage.Stage.{Stage}
 use Rattle.cap_fm.specs.declared.error.SolveError.{SolveError}
-use Rattle.cap_fm.specs.Views.{stage_view, entry_view, entries_view, false_view, lacking_rows, Fits, IsLast, IsNumbered, AreNumbered}
-use Rattle.cap_fm.specs.Answers.{Explains, Is, Same, Arises}
+use Rattle.cap_fm.specs.Views.{stage_view, entry_view, entries_view, entry_of, false_view, lacking_rows, Fits, IsLast, IsNumbered, AreNumbered}
+use Rattle.cap_fm.specs.Answers.{Replacement, Explains, Is, Same, Arises}
 use Rattle.cap_fm.proofs.Runs.{then-continues, then-stops, then-fails, same-is, same-explains, same-then, same-refl}
 use Rattle.cap_elim.proofs.Lists.{each-join, each-left, each-right}
 use Rattle.cap_fm.proofs.Stages.{all-grow}
@@ -136,7 +137,15 @@ pub fits-rest : (inputs x : ℕ) (s : Stage) (d : Entry) (held rest : List Entry
 fits-rest inputs x s d held rest z f = subst (Fits inputs s) (ap (λ b. held ++ cond b (d ∷ lacking_rows x rest) (lacking_rows x rest)) z) f
 
 abbrev RunOf : ℕ → Entry → Entry → Stage → List Entry → List Entry → Run (List plain.Entry)
-RunOf x equation d now held rest = replacement (entries_view (held ++ lacking_rows x rest)) (of_row x (entry_view equation)) (of_row x (entry_view d)) (entry_view equation) (entry_view d) (stage_view now)
+RunOf x equation d now held rest = Replacement x equation d (held ++ lacking_rows x rest) now
+
+-- the same run, by rows and coefficients that are equal to these
+pub run-by : (x : ℕ) (equation d e f : Entry) (present : List Entry) (now : Stage) (a q : ℤ) → e ≡ equation → f ≡ d → a ≡ of_row x (entry_view equation) → q ≡ of_row x (entry_view d) → replacement (entries_view present) a q (entry_view e) (entry_view f) (stage_view now) ≡ Replacement x equation d present now
+run-by x equation d e f present now a q i j g h =
+    ap (λ (u : Entry). replacement (entries_view present) a q (entry_view u) (entry_view f) (stage_view now)) i
+    ∙ ap (λ (u : Entry). replacement (entries_view present) a q (entry_view equation) (entry_view u) (stage_view now)) j
+    ∙ ap (λ b. replacement (entries_view present) b q (entry_view equation) (entry_view d) (stage_view now)) g
+    ∙ ap (λ b. replacement (entries_view present) (of_row x (entry_view equation)) b (entry_view equation) (entry_view d) (stage_view now)) h
 
 pub all-left_out : (inputs x : ℕ) (equation d : Entry) (old now new : Stage) (held all rest : List Entry) → is_zero (coefficient x d.term.parts) ≡ false → Arises inputs now new (held ++ lacking_rows x rest) (RunOf x equation d now held rest) LeftOut → AllGoes inputs x equation old now held all (d ∷ rest) → AllGoes inputs x equation old new held all rest
 all-left_out inputs x equation d old now new held all rest z a h = record {
@@ -146,12 +155,12 @@ all-left_out inputs x equation d old now new held all rest z a h = record {
   same = same-then _ _ _ h.same (step-same x equation d held held rest (stage_view now) (stage_view new) [] (subst (Is (going []) (stage_view new)) (sym (run-same x equation d held rest (stage_view now) z)) a.0) (append-nil (entries_view held)));
 }
 
-pub all-kept : (inputs x : ℕ) (equation d e : Entry) (old now new : Stage) (held more all rest : List Entry) → is_zero (coefficient x d.term.parts) ≡ false → more ≡ held ++ (e ∷ []) → Arises inputs now new (held ++ lacking_rows x rest) (RunOf x equation d now held rest) (Kept e) → AllGoes inputs x equation old now held all (d ∷ rest) → AllGoes inputs x equation old new more all rest
+pub all-kept : (inputs x : ℕ) (equation d : Entry) (e : Present) (old now new : Stage) (held more all rest : List Entry) → is_zero (coefficient x d.term.parts) ≡ false → more ≡ held ++ (entry_of new e ∷ []) → Arises inputs now new (held ++ lacking_rows x rest) (RunOf x equation d now held rest) (Kept e) → AllGoes inputs x equation old now held all (d ∷ rest) → AllGoes inputs x equation old new more all rest
 all-kept inputs x equation d e old now new held more all rest z m a h = subst (λ es. AllGoes inputs x equation old new es all rest) (sym m) (record {
-  fits = fits-moved inputs new held (lacking_rows x rest) (e ∷ []) a.1;
+  fits = fits-moved inputs new held (lacking_rows x rest) (entry_of new e ∷ []) a.1;
   numbered = all-grow now new rest a.2 h.numbered.1;
   equation_numbered = a.2 equation h.equation_numbered;
-  same = same-then _ _ _ h.same (step-same x equation d held (held ++ (e ∷ [])) rest (stage_view now) (stage_view new) (entry_view e ∷ []) (subst (Is (going (entry_view e ∷ [])) (stage_view new)) (sym (run-same x equation d held rest (stage_view now) z)) a.0) (sym (map-append entry_view held (e ∷ []))));
+  same = same-then _ _ _ h.same (step-same x equation d held (held ++ (entry_of new e ∷ [])) rest (stage_view now) (stage_view new) (entry_view (entry_of new e) ∷ []) (subst (Is (going (entry_view (entry_of new e) ∷ [])) (stage_view new)) (sym (run-same x equation d held rest (stage_view now) z)) a.0) (sym (map-append entry_view held (entry_of new e ∷ []))));
 })
 
 pub all-false : (inputs x : ℕ) (equation d : Entry) (e : FalseRow) (old now new : Stage) (held all rest : List Entry) → is_zero (coefficient x d.term.parts) ≡ false → Arises inputs now new (held ++ lacking_rows x rest) (RunOf x equation d now held rest) (False e) → AllGoes inputs x equation old now held all (d ∷ rest) → Is (contradiction (false_view e)) (stage_view new) (replace_all x (entry_view equation) [] (entries_view all) (stage_view old)) × IsLast inputs new e

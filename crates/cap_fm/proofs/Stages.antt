@@ -7,7 +7,7 @@ use Rattle.cap_lin.specs.Linear.{Linear}
 use Rattle.cap_lin.specs.declared.row.Kind.{Kind}
 use Rattle.cap_elim.specs.Rows.{same_row, has_arisen, is_present}
 use Rattle.cap_fm.specs.Views.{stage_view, entries_view, number_of, AreNumbered, IsMarked, IsOrigin, IsHistory, IsHistoryFrom, Fits, Grows}
-use Rattle.cap_fm.specs.declared.entry.Entry.{Entry}
+use Rattle.cap_fm.specs.Entries.{Entry}
 use Rattle.cap_fm.specs.declared.entry.Origin.{Origin}
 use Rattle.cap_fm.specs.declared.stage.Stage.{Stage}
 use Rattle.cap_fm.proofs.Marks.{row-is, number-below, arisen-kept, arisen-new, arisen-split}

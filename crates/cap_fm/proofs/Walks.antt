@@ -15,9 +15,9 @@ use Rattle.cap_elim.specs.Runs.{Stage, Run, Found, going, contradiction, done, E
 use Rattle.cap_elim.specs.Elimination.{Pivot, input, inputs, chosen, first_pivot, by_equation, unit_variable, while_some, by_units, lacking, uppers, lowers, combine_all, occurring, by_pivot, by_variable, by_variables, width}
 use Rattle.cap_elim.proofs.Variables.{AreSound, Combines, Ascends, variable-steps, absent-above}
 use Rattle.cap_lin.proofs.Combinations.{combination-coefficient}
-use Rattle.cap_fm.specs.Views.{entry_view, entries_view}
-use Rattle.cap_fm.specs.Answers.{Is, Same, Explains, DoesReach, AreRows, Lack, IsLeast}
-use Rattle.cap_fm.specs.declared.entry.Entry.{Entry}
+use Rattle.cap_fm.specs.Views.{stage_view, entry_view, entries_view, Fits}
+use Rattle.cap_fm.specs.Answers.{AllVariables, Is, Same, Explains, DoesReach, AreRows, Lack, IsLeast}
+use Rattle.cap_fm.specs.Entries.{Entry}
 use Rattle.cap_fm.specs.declared.entry.Reached.{Reached}
 use Rattle.cap_fm.specs.declared.error.SolveError.{SolveError}
 use Rattle.cap_fm.specs.declared.stage.Stage.{Stage as Kept}
@@ -212,6 +212,10 @@ still-under w x ds left s t a i = (variable-steps (Under w) (under-combine w) x 
 -- the least variable that is left is less than the width
 pub found-below : (w low y : ℕ) (ds : List Entry) → AreSound (Under w) (entries_view ds) → IsLeast low ds (Some y) → y < w
 found-below w low y ds a h = elim (cases_lt y w) [ inl l ↦ l | inr l ↦ absurd (h.1 (under-lacks w y ds a l)) ]
+
+-- the work that remains of the variables
+abbrev pub VariablesGo : ℕ → Kept → Kept → List Entry → List Entry → ℕ → Type 0
+VariablesGo inputs old now all rows low = Fits inputs now rows × AreSound (Under (width (entries_view all))) (entries_view rows) × ((n : ℕ) × (low + n ≡ width (entries_view all)) × Same (AllVariables all old) (by_variables low n (entries_view rows) (stage_view now)))
 
 -- up to the least variable nothing changes
 pub to-least : (w low n y : ℕ) (ds : List Entry) (s : Stage) (whole : Run (List plain.Entry)) → AreSound (Under w) (entries_view ds) → low + n ≡ w → IsLeast low ds (Some y) → Same whole (by_variables low n (entries_view ds) s) → (m : ℕ) × (y + 1 + m ≡ w) × Same whole (by_variables y (suc m) (entries_view ds) s)

@@ -15,7 +15,7 @@ use Rattle.cap_elim.proofs.Complete.{inputs-sound}
 use Rattle.cap_fm.specs.Views.{entry_view, entries_view, stage_view, history_view}
 use Rattle.cap_fm.specs.declared.entry.Origin.{Origin}
 use Rattle.cap_fm.specs.Answers.{Is, Same, Explains, ExplainsSteps, DoesReach, AreRows, IsLogged}
-use Rattle.cap_fm.specs.declared.entry.Entry.{Entry}
+use Rattle.cap_fm.specs.Entries.{Entry}
 use Rattle.cap_fm.specs.declared.entry.Reached.{Reached}
 use Rattle.cap_fm.specs.declared.error.SolveError.{SolveError}
 use Rattle.cap_fm.specs.declared.stage.Stage.{Stage as Kept}

@@ -8,12 +8,13 @@ use Rattle.cap_lin.specs.declared.row.Kind.TheVariants.{Ne}
 use Rattle.cap_elim.specs.Events.{Event, wide, many, first_limit}
 use Rattle.cap_elim.specs.Runs as plain
 use Rattle.cap_elim.specs.Runs.{Run, Found, going, contradiction}
-use Rattle.cap_elim.specs.Rows.{has_arisen, has_parts, count}
-use Rattle.cap_elim.specs.Elimination.{first_pivot, pivot}
+use Rattle.cap_elim.specs.Rows.{has_arisen, has_parts, count, of_row}
+use Rattle.cap_elim.specs.Elimination.{first_pivot, pivot, lacking, uppers, lowers, combine_all, replacement, by_units, by_variables, width}
 use Rattle.cap_elim.specs.Solving.{Logged}
 use Rattle.cap_fm.specs.declared.equations.Pivot.{Pivot}
-use Rattle.cap_fm.specs.Views.{stage_view, entry_view, entries_view, false_view, arisen_view, reached_view, Fits, IsLast, Grows, number_of}
-use Rattle.cap_fm.specs.declared.entry.Entry.{Entry}
+use Rattle.cap_fm.specs.Views.{stage_view, entry_view, entries_view, entry_of, entries_of, false_view, arisen_view, reached_view, Fits, IsLast, Grows, number_of}
+use Rattle.cap_fm.specs.Entries.{Entry}
+use Rattle.cap_fm.specs.declared.entry.Present.{Present}
 use Rattle.cap_fm.specs.declared.entry.Origin.{Origin}
 use Rattle.cap_fm.specs.declared.entry.Arisen.{Arisen}
 use Rattle.cap_fm.specs.declared.entry.Arisen.TheVariants.{LeftOut, Kept, False}
@@ -51,18 +52,18 @@ pub record Same {A : Type 0} (r s : Run A) : Type 0 where
 -- the rows that are present after a row arose
 abbrev pub FitsArisen : ℕ → Stage → List Entry → Arisen → Type 0
 FitsArisen inputs s present LeftOut = Fits inputs s present
-FitsArisen inputs s present (Kept d) = Fits inputs s (present ++ (d ∷ []))
+FitsArisen inputs s present (Kept d) = Fits inputs s (present ++ (entry_of s d ∷ []))
 FitsArisen inputs s present (False d) = IsLast inputs s d
 
 abbrev pub Arises : ℕ → Stage → Stage → List Entry → Run (List plain.Entry) → Arisen → Type 0
-Arises inputs old new present run a = Is (arisen_view a) (stage_view new) run × FitsArisen inputs new present a × Grows old new
+Arises inputs old new present run a = Is (arisen_view new a) (stage_view new) run × FitsArisen inputs new present a × Grows old new
 
 abbrev pub FitsReached : ℕ → Stage → Reached → Type 0
-FitsReached inputs s (Rows ds) = Fits inputs s ds.items
+FitsReached inputs s (Rows ds) = Fits inputs s (entries_of s ds.items)
 FitsReached inputs s (Contradiction d) = IsLast inputs s d
 
 abbrev pub Reaches : ℕ → Stage → Run (List plain.Entry) → Reached → Type 0
-Reaches inputs new run r = Is (reached_view r) (stage_view new) run × FitsReached inputs new r
+Reaches inputs new run r = Is (reached_view new r) (stage_view new) run × FitsReached inputs new r
 
 abbrev pub DoesArise : ℕ → Stage → Stage → List Entry → Run (List plain.Entry) → Result Arisen SolveError → Type 0
 DoesArise inputs old new present run r = MatchResult r (Arises inputs old new present run) (λ e. Explains e run.events)
@@ -87,6 +88,7 @@ pub record Remarks (old new : Stage) (number : ℕ) (mark : Bool) : Type 0 where
   pub forms : new.forms.keys ≡ old.forms.keys
   pub history : new.history.items ≡ old.history.items
   pub marks : new.present.items ≡ slice_set old.present.items number mark
+  pub zero : new.zero ≡ old.zero
 
 -- one more origin stands at a place of the history
 pub record Notes (old new : Stage) (origin : Origin) (at : ℕ) : Type 0 where
@@ -100,6 +102,7 @@ pub record Leaves (inputs : ℕ) (old new : Stage) (present : List Entry) : Type
   pub fits : Fits inputs new present
   pub grows : Grows old new
   pub stage : stage_view new ≡ stage_view old
+  pub same : (d : Present) → entry_of new d ≡ entry_of old d
 
 -- a pivot is the first, stands at its place among the rows, and has its variable
 pub record IsPivotAt (choice : List (ℕ × ℤ) → Option ℕ) (rows : List Entry) (p : Pivot) : Type 0 where
@@ -108,7 +111,6 @@ pub record IsPivotAt (choice : List (ℕ × ℤ) → Option ℕ) (rows : List En
   pub after : List Entry
   pub rows_are : rows ≡ before ++ (equation ∷ after)
   pub place : p.place ≡ length before
-  pub bound : p.place < length rows
   pub has : is_zero (coefficient p.variable equation.term.parts) ≡ false
   pub is : first_pivot choice (entries_view rows) ≡ Some (pivot (entry_view equation) (entries_view (before ++ after)) p.variable)
 
@@ -127,6 +129,22 @@ FitsEach inputs s kept (Some d) = IsLast inputs s d
 
 abbrev pub DoesEach : ℕ → Stage → Stage → List Entry → Run (List plain.Entry) → Result (Option FalseRow) SolveError → Type 0
 DoesEach inputs old new kept run r = MatchResult r (λ o. Is (each_view kept o) (stage_view new) run × FitsEach inputs new kept o × Grows old new) (λ e. Explains e run.events)
+
+-- the combinations of all bounds of a variable
+abbrev pub AllBounds : ℕ → List Entry → Stage → Run (List plain.Entry)
+AllBounds x rows s = combine_all x (lacking x (entries_view rows)) (uppers x (entries_view rows)) (lowers x (entries_view rows)) (stage_view s)
+
+-- the combination of a row that has a variable with an equation
+abbrev pub Replacement : ℕ → Entry → Entry → List Entry → Stage → Run (List plain.Entry)
+Replacement x equation row present s = replacement (entries_view present) (of_row x (entry_view equation)) (of_row x (entry_view row)) (entry_view equation) (entry_view row) (stage_view s)
+
+-- the elimination by the equations of rows that have a coefficient 1 or -1
+abbrev pub AllUnits : List Entry → Stage → Run (List plain.Entry)
+AllUnits rows s = by_units (length rows) (entries_view rows) (stage_view s)
+
+-- the elimination of the variables of rows, one after the other
+abbrev pub AllVariables : List Entry → Stage → Run (List plain.Entry)
+AllVariables rows s = by_variables 0 (width (entries_view rows)) (entries_view rows) (stage_view s)
 
 -- what is answered is the value, where no event passes a limit
 abbrev pub IsLogged : {A : Type 0} → Result A SolveError → Logged A → Type 0

@@ -1,4 +1,5 @@
 pub mod Errors
+pub mod Entries
 pub mod Views
 pub mod Answers
 pub mod Way

@@ -2,13 +2,15 @@
 use Rattle.std.specs.Prelude.{◌≡◌, ℕ, ◌+◌, ◌<◌, List, [], ◌∷◌, map, filter, reverse, length, get_or, true, false}
 use Rattle.std.specs.List.{AllByRecursion, position_or_len}
 use Rattle.cap_lin.specs.Linear.{Linear, is_zero, coefficient}
+use Rattle.cap_lin.specs.Linear as linear
 use Rattle.cap_lin.specs.declared.row.Kind.{Kind}
 use Rattle.cap_elim.specs.Runs as plain
 use Rattle.cap_elim.specs.Runs.{going, contradiction, Found}
 use Rattle.cap_elim.specs.Rows.{is_positive, is_negative, same_row, has_arisen, is_present}
 use Rattle.cap_fm.specs.declared.entry.Origin.{Origin}
 use Rattle.cap_fm.specs.declared.entry.Origin.TheVariants.{Given, Combined}
-use Rattle.cap_fm.specs.declared.entry.Entry.{Entry}
+use Rattle.cap_fm.specs.Entries.{Entry}
+use Rattle.cap_fm.specs.declared.entry.Present.{Present}
 use Rattle.cap_fm.specs.declared.entry.FalseRow.{FalseRow}
 use Rattle.cap_fm.specs.declared.entry.Arisen.{Arisen}
 use Rattle.cap_fm.specs.declared.entry.Arisen.TheVariants.{LeftOut, Kept, False}
@@ -32,16 +34,27 @@ abbrev pub entries_view : List Entry → List plain.Entry
 entries_view ds = map entry_view ds
 
 abbrev pub false_view : FalseRow → plain.Entry
-false_view d = plain.entry d.term d.kind d.origin
+false_view d = plain.entry (linear.number d.constant) d.kind d.origin
 
-abbrev pub arisen_view : Arisen → Found (List plain.Entry)
-arisen_view LeftOut = going []
-arisen_view (Kept d) = going (entry_view d ∷ [])
-arisen_view (False d) = contradiction (false_view d)
+-- the term of the row of a number among those that arose, and 0 for a number that no row has
+abbrev pub term_of : Stage → ℕ → Linear
+term_of s n = get_or (map (λ (f : Form). f.term) s.forms.keys) n s.zero
 
-abbrev pub reached_view : Reached → Found (List plain.Entry)
-reached_view (Rows ds) = going (entries_view ds.items)
-reached_view (Contradiction d) = contradiction (false_view d)
+-- a row that is present, with the term that the stage has of it
+abbrev pub entry_of : Stage → Present → Entry
+entry_of s d = record { term = term_of s d.number; kind = d.kind; origin = d.origin; number = d.number }
+
+abbrev pub entries_of : Stage → List Present → List Entry
+entries_of s ds = map (entry_of s) ds
+
+abbrev pub arisen_view : Stage → Arisen → Found (List plain.Entry)
+arisen_view s LeftOut = going []
+arisen_view s (Kept d) = going (entry_view (entry_of s d) ∷ [])
+arisen_view s (False d) = contradiction (false_view d)
+
+abbrev pub reached_view : Stage → Reached → Found (List plain.Entry)
+reached_view s (Rows ds) = going (entries_view (entries_of s ds.items))
+reached_view s (Contradiction d) = contradiction (false_view d)
 
 abbrev pub form_view : Form → Linear × Kind
 form_view f = (f.term, f.kind)

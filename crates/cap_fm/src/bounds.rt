@@ -1,10 +1,11 @@
 ghost use Rattle.std.specs.Prelude.{◌≡◌, ℕ, List, IfOk};
-ghost use Rattle.cap_elim.specs.Elimination.{lacking, uppers as uppers_of, lowers as lowers_of, combine_bounds as combine_bounds_run, combine_each as combine_each_run, combine_all as combine_all_run};
-ghost use Rattle.cap_fm.specs.Views.{stage_view, entry_view, entries_view, lacking_rows, upper_rows, lower_rows, Fits, AreNumbered, IsNumbered};
-ghost use Rattle.cap_fm.specs.Answers.{DoesArise, DoesReach, DoesEach};
+ghost use Rattle.cap_elim.specs.Elimination.{combine_bounds as combine_bounds_run, combine_each as combine_each_run};
+ghost use Rattle.cap_fm.specs.Entries.{Entry};
+ghost use Rattle.cap_fm.specs.Views.{stage_view, entry_view, entries_view, entry_of, entries_of, lacking_rows, upper_rows, lower_rows, Fits, AreNumbered, IsNumbered};
+ghost use Rattle.cap_fm.specs.Answers.{AllBounds, DoesArise, DoesReach, DoesEach};
 
 use crate::arising::combine;
-use crate::entry::{Arisen, Entry, FalseRow, Reached, strictest};
+use crate::entry::{Arisen, FalseRow, Present, Reached, strictest};
 use crate::equations::{leave_all, negated};
 use crate::error::SolveError;
 use crate::stage::Stage;
@@ -13,9 +14,9 @@ use std::alloc::{AllocError, Global};
 // The rows without a variable, those with a positive coefficient of it, and those with a negative one.
 #[derive(Drop)]
 struct Parted {
-    without: Vec<Entry>,
-    uppers: Vec<Entry>,
-    lowers: Vec<Entry>,
+    without: Vec<Present>,
+    uppers: Vec<Present>,
+    lowers: Vec<Present>,
 }
 
 /// Combines each row with a positive coefficient of the variable with each with a negative one, and
@@ -23,19 +24,22 @@ struct Parted {
 pub fn by_bounds(
     alloc: Global,
     stage: &mut Stage,
-    rows: Vec<Entry>,
+    rows: Vec<Present>,
     variable: u32,
 ) -> Result<Reached, SolveError>
-    ensures { (inputs : ℕ) → Fits inputs stage.old rows.items → DoesReach inputs stage.new (combine_all_run variable (lacking variable (entries_view rows.items)) (uppers_of variable (entries_view rows.items)) (lowers_of variable (entries_view rows.items)) (stage_view stage.old)) result }
+    ensures { (inputs : ℕ) → Fits inputs stage.old (entries_of stage.old rows.items) →
+        DoesReach inputs stage.new (AllBounds variable (entries_of stage.old rows.items) stage.old)
+        result }
 {
     leave_all(stage, &rows, variable);
     let Parted {
         without,
         uppers,
         lowers,
-    } = part(alloc, rows, variable)?;
+    } = part(alloc, stage, rows, variable)?;
     let mut kept = without;
     for upper in &uppers {
+        let upper = *upper;
         if let Some(row) = combine_each(alloc, stage, &mut kept, upper, &lowers, variable)? {
             return Ok(Reached::Contradiction(row));
         }
@@ -43,16 +47,24 @@ pub fn by_bounds(
     Ok(Reached::Rows(kept))
 }
 
-fn part(alloc: Global, rows: Vec<Entry>, variable: u32) -> Result<Parted, AllocError>
-    ensures without { IfOk result (λ p. p.without.items ≡ lacking_rows variable rows.items) }
-    ensures uppers { IfOk result (λ p. p.uppers.items ≡ upper_rows variable rows.items) }
-    ensures lowers { IfOk result (λ p. p.lowers.items ≡ lower_rows variable rows.items) }
+fn part(
+    alloc: Global,
+    stage: &Stage,
+    rows: Vec<Present>,
+    variable: u32,
+) -> Result<Parted, AllocError>
+    ensures without { IfOk result (λ p. entries_of stage.now p.without.items
+        ≡ lacking_rows variable (entries_of stage.now rows.items)) }
+    ensures uppers { IfOk result (λ p. entries_of stage.now p.uppers.items
+        ≡ upper_rows variable (entries_of stage.now rows.items)) }
+    ensures lowers { IfOk result (λ p. entries_of stage.now p.lowers.items
+        ≡ lower_rows variable (entries_of stage.now rows.items)) }
 {
     let mut without = Vec::new(alloc);
     let mut uppers = Vec::new(alloc);
     let mut lowers = Vec::new(alloc);
     for row in rows {
-        let coefficient = row.term.coefficient(variable);
+        let coefficient = stage.term(row.number).coefficient(variable);
         if coefficient == 0 {
             without.push(row)?;
         } else if coefficient > 0 {
@@ -72,15 +84,22 @@ fn part(alloc: Global, rows: Vec<Entry>, variable: u32) -> Result<Parted, AllocE
 fn combine_each(
     alloc: Global,
     stage: &mut Stage,
-    kept: &mut Vec<Entry>,
-    upper: &Entry,
-    lowers: &[Entry],
+    kept: &mut Vec<Present>,
+    upper: Present,
+    lowers: &[Present],
     variable: u32,
 ) -> Result<Option<FalseRow>, SolveError>
-    ensures { (inputs : ℕ) → Fits inputs stage.old kept.old.items → IsNumbered stage.old upper.now → AreNumbered stage.old lowers.now → DoesEach inputs stage.old stage.new kept.new.items (combine_each_run variable (entries_view kept.old.items) (entry_view upper.now) (entries_view lowers.now) (stage_view stage.old)) result }
+    ensures { (inputs : ℕ) → Fits inputs stage.old (entries_of stage.old kept.old.items) →
+        IsNumbered stage.old (entry_of stage.old upper) →
+        AreNumbered stage.old (entries_of stage.old lowers.now) →
+        DoesEach inputs stage.old stage.new (entries_of stage.new kept.new.items)
+        (combine_each_run variable (entries_view (entries_of stage.old kept.old.items))
+        (entry_view (entry_of stage.old upper))
+        (entries_view (entries_of stage.old lowers.now)) (stage_view stage.old))
+        result }
 {
     for lower in lowers {
-        match combine_bounds(alloc, stage, upper, lower, variable)? {
+        match combine_bounds(alloc, stage, upper, *lower, variable)? {
             Arisen::LeftOut => {}
             Arisen::Kept(row) => kept.push(row)?,
             Arisen::False(row) => return Ok(Some(row)),
@@ -92,14 +111,21 @@ fn combine_each(
 fn combine_bounds(
     alloc: Global,
     stage: &mut Stage,
-    upper: &Entry,
-    lower: &Entry,
+    upper: Present,
+    lower: Present,
     variable: u32,
 ) -> Result<Arisen, SolveError>
-    ensures { (inputs : ℕ) (present : List Entry) → Fits inputs stage.old present → IsNumbered stage.old upper.now → IsNumbered stage.old lower.now → DoesArise inputs stage.old stage.new present (combine_bounds_run variable (entries_view present) (entry_view upper.now) (entry_view lower.now) (stage_view stage.old)) result }
+    ensures { (inputs : ℕ) (present : List Entry) → Fits inputs stage.old present →
+        IsNumbered stage.old (entry_of stage.old upper) →
+        IsNumbered stage.old (entry_of stage.old lower) →
+        DoesArise inputs stage.old stage.new present
+        (combine_bounds_run variable (entries_view present)
+        (entry_view (entry_of stage.old upper)) (entry_view (entry_of stage.old lower))
+        (stage_view stage.old))
+        result }
 {
-    let size = negated(lower.term.coefficient(variable))?;
-    let positive = upper.term.coefficient(variable);
+    let size = negated(stage.term(lower.number).coefficient(variable))?;
+    let positive = stage.term(upper.number).coefficient(variable);
     let kind = strictest(upper.kind, lower.kind);
     combine(alloc, stage, size, upper, positive, lower, kind)
 }

@@ -1,13 +1,13 @@
 ghost use Rattle.std.specs.Prelude.{◌≤◌, ◌<◌, ◌+◌, ◌^◌, ◌++◌, [], ℕ, List, length};
-ghost use Rattle.cap_elim.specs.Elimination.{inputs as inputs_run, by_units as by_units_run, by_variable as by_variable_run, by_variables as by_variables_run, width, eliminated as eliminated_run};
+ghost use Rattle.cap_elim.specs.Elimination.{inputs as inputs_run, by_variable as by_variable_run, eliminated as eliminated_run};
 ghost use Rattle.cap_elim.specs.Solving.{RowsAscend, refuted as refuted_log};
-ghost use Rattle.cap_fm.specs.declared.entry.Entry.{Entry};
-ghost use Rattle.cap_fm.specs.Views.{stage_view, entries_view, Fits};
-ghost use Rattle.cap_fm.specs.Answers.{DoesReach, IsLogged, IsLeast, AreRows};
+ghost use Rattle.cap_fm.specs.Entries.{Entry};
+ghost use Rattle.cap_fm.specs.Views.{stage_view, entries_view, entries_of, Fits};
+ghost use Rattle.cap_fm.specs.Answers.{AllUnits, AllVariables, DoesReach, IsLogged, IsLeast, AreRows};
 
 use crate::arising::input;
 use crate::bounds::by_bounds;
-use crate::entry::{Arisen, Entry, Reached};
+use crate::entry::{Arisen, Present, Reached};
 use crate::equations::{by_equation, pivot_of, unit_pivot};
 use crate::error::SolveError;
 use crate::leaf::leaf;
@@ -37,7 +37,9 @@ fn eliminated(
     more: &[Row],
 ) -> Result<Reached, SolveError>
     requires { length rows.now + length more.now ≤ 2 ^ 32 }
-    ensures { Fits (length (rows.now ++ more.now)) stage.old [] → DoesReach (length (rows.now ++ more.now)) stage.new (eliminated_run (rows.now ++ more.now) (stage_view stage.old)) result }
+    ensures { Fits (length (rows.now ++ more.now)) stage.old [] →
+        DoesReach (length (rows.now ++ more.now)) stage.new
+        (eliminated_run (rows.now ++ more.now) (stage_view stage.old)) result }
 {
     terms_ascend(rows);
     terms_ascend(more);
@@ -68,7 +70,9 @@ fn inputs(
     more: &[Row],
 ) -> Result<Reached, SolveError>
     requires { length rows.now + length more.now ≤ 2 ^ 32 }
-    ensures { Fits (length (rows.now ++ more.now)) stage.old [] → DoesReach (length (rows.now ++ more.now)) stage.new (inputs_run [] 0 (rows.now ++ more.now) (stage_view stage.old)) result }
+    ensures { Fits (length (rows.now ++ more.now)) stage.old [] →
+        DoesReach (length (rows.now ++ more.now)) stage.new
+        (inputs_run [] 0 (rows.now ++ more.now) (stage_view stage.old)) result }
 {
     let count = rows.len() + more.len();
     let mut entries = Vec::with_capacity(alloc, count)?;
@@ -85,12 +89,13 @@ fn inputs(
 
 // While an equation has a variable with the coefficient 1 or -1, the variable is replaced by it.
 // Each turn takes out a row, so there are no more turns than rows.
-fn by_units(alloc: Global, stage: &mut Stage, rows: Vec<Entry>) -> Result<Reached, SolveError>
-    ensures { (inputs : ℕ) → Fits inputs stage.old rows.items → DoesReach inputs stage.new (by_units_run (length rows.items) (entries_view rows.items) (stage_view stage.old)) result }
+fn by_units(alloc: Global, stage: &mut Stage, rows: Vec<Present>) -> Result<Reached, SolveError>
+    ensures { (inputs : ℕ) → Fits inputs stage.old (entries_of stage.old rows.items) →
+        DoesReach inputs stage.new (AllUnits (entries_of stage.old rows.items) stage.old) result }
 {
     let mut rows = rows;
     for _turn in 0..rows.len() {
-        match unit_pivot(&rows) {
+        match unit_pivot(stage, &rows) {
             None => break,
             Some(pivot) => match by_equation(alloc, stage, rows, pivot)? {
                 Reached::Rows(others) => rows = others,
@@ -102,12 +107,14 @@ fn by_units(alloc: Global, stage: &mut Stage, rows: Vec<Entry>) -> Result<Reache
 }
 
 // Each variable that still occurs, in ascending order, is eliminated.
-fn by_variables(alloc: Global, stage: &mut Stage, rows: Vec<Entry>) -> Result<Reached, SolveError>
-    ensures { (inputs : ℕ) → Fits inputs stage.old rows.items → AreRows rows.items → DoesReach inputs stage.new (by_variables_run 0 (width (entries_view rows.items)) (entries_view rows.items) (stage_view stage.old)) result }
+fn by_variables(alloc: Global, stage: &mut Stage, rows: Vec<Present>) -> Result<Reached, SolveError>
+    ensures { (inputs : ℕ) → Fits inputs stage.old (entries_of stage.old rows.items) →
+        AreRows (entries_of stage.old rows.items) →
+        DoesReach inputs stage.new (AllVariables (entries_of stage.old rows.items) stage.old) result }
 {
     let mut rows = rows;
     let mut low: u64 = 0;
-    while let Some(variable) = least_variable(&rows, low) {
+    while let Some(variable) = least_variable(stage, &rows, low) {
         match by_variable(alloc, stage, rows, variable)? {
             Reached::Rows(others) => rows = others,
             Reached::Contradiction(row) => return Ok(Reached::Contradiction(row)),
@@ -118,18 +125,19 @@ fn by_variables(alloc: Global, stage: &mut Stage, rows: Vec<Entry>) -> Result<Re
 }
 
 // The least variable of the rows that is at least `low`.
-fn least_variable(rows: &[Entry], low: u64) -> Option<u32>
-    ensures { IsLeast low rows.now result }
+fn least_variable(stage: &Stage, rows: &[Present], low: u64) -> Option<u32>
+    ensures { IsLeast low (entries_of stage.now rows.now) result }
 {
     let mut least = None;
     for row in rows {
-        least = lesser(least, row.term.variable_from(low));
+        least = lesser(least, stage.term(row.number).variable_from(low));
     }
     least
 }
 
 fn lesser(a: Option<u32>, b: Option<u32>) -> Option<u32>
-    ensures { (low : ℕ) (rows more : List Entry) → IsLeast low rows a → IsLeast low more b → IsLeast low (rows ++ more) result }
+    ensures { (low : ℕ) (rows more : List Entry) →
+        IsLeast low rows a → IsLeast low more b → IsLeast low (rows ++ more) result }
 {
     match a {
         None => b,
@@ -143,12 +151,16 @@ fn lesser(a: Option<u32>, b: Option<u32>) -> Option<u32>
 fn by_variable(
     alloc: Global,
     stage: &mut Stage,
-    rows: Vec<Entry>,
+    rows: Vec<Present>,
     variable: u32,
 ) -> Result<Reached, SolveError>
-    ensures { (inputs : ℕ) → Fits inputs stage.old rows.items → DoesReach inputs stage.new (by_variable_run variable (entries_view rows.items) (stage_view stage.old)) result }
+    ensures { (inputs : ℕ) → Fits inputs stage.old (entries_of stage.old rows.items) →
+        DoesReach inputs stage.new
+        (by_variable_run variable (entries_view (entries_of stage.old rows.items))
+        (stage_view stage.old))
+        result }
 {
-    match pivot_of(&rows, variable) {
+    match pivot_of(stage, &rows, variable) {
         Some(pivot) => by_equation(alloc, stage, rows, pivot),
         None => by_bounds(alloc, stage, rows, variable),
     }

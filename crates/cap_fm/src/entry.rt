@@ -2,7 +2,7 @@ ghost use Rattle.std.specs.Prelude.{◌≡◌};
 ghost use Rattle.cap_elim.specs.Rows.{is_false as is_false_kind};
 ghost use Rattle.cap_elim.specs.Elimination.{strictest as strictest_kind};
 
-use cap_lin::{Kind, Term};
+use cap_lin::Kind;
 
 /// Where a row comes from.
 #[derive(Clone, Copy, Debug)]
@@ -13,10 +13,9 @@ pub enum Origin {
     Combined(i128, usize, i128, usize),
 }
 
-/// A row that is present in an elimination.
-#[derive(Debug, Drop)]
-pub struct Entry {
-    pub term: Term,
+/// A row that is present in an elimination. The stage has its term, by its number.
+#[derive(Clone, Copy, Debug)]
+pub struct Present {
     /// Never Ne.
     pub kind: Kind,
     /// Its place in the history.
@@ -26,21 +25,21 @@ pub struct Entry {
 }
 
 /// A row without variables that is false.
-#[derive(Debug, Drop)]
+#[derive(Clone, Copy, Debug)]
 pub struct FalseRow {
-    pub term: Term,
+    pub constant: i128,
     pub kind: Kind,
     /// Its place in the history, which is the last.
     pub origin: usize,
 }
 
 /// What becomes of a row that arises.
-#[derive(Debug, Drop)]
+#[derive(Clone, Copy, Debug)]
 pub enum Arisen {
     /// The row is true, or equal to one that is present.
     LeftOut,
     /// The row is present from now on.
-    Kept(Entry),
+    Kept(Present),
     /// The row has no variables and is false.
     False(FalseRow),
 }
@@ -49,7 +48,7 @@ pub enum Arisen {
 #[derive(Debug, Drop)]
 pub enum Reached {
     /// The rows that are present.
-    Rows(Vec<Entry>),
+    Rows(Vec<Present>),
     /// A false row, which ends the elimination.
     Contradiction(FalseRow),
 }

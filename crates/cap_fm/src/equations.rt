@@ -1,13 +1,13 @@
 ghost use Rattle.std.specs.Prelude.{◌≡◌, ◌<◌, ◌++◌, ◌∷◌, [], ℕ, ℤ, negsuc, ◌*ℤ◌, List, length, Some, None, false, IfSome, MatchResult};
 ghost use Rattle.cap_lin.specs.Linear.{is_zero, coefficient};
 ghost use Rattle.cap_lin.specs.Steps.{product_of, first_wide};
-ghost use Rattle.cap_elim.specs.Rows.{of_row};
 ghost use Rattle.cap_elim.specs.Elimination.{chosen, unit_variable as unit_variable_in, is_unit as is_unit_number, occurring, replacement, replace_all as replace_all_run};
-ghost use Rattle.cap_fm.specs.Views.{stage_view, entry_view, entries_view, lacking_rows, Fits, AreNumbered, IsNumbered};
+ghost use Rattle.cap_fm.specs.Entries.{Entry};
+ghost use Rattle.cap_fm.specs.Views.{stage_view, entry_view, entries_view, term_of, entry_of, entries_of, lacking_rows, Fits, AreNumbered, IsNumbered};
 ghost use Rattle.cap_fm.specs.Answers.{DoesArise, DoesReach, Leaves, IsPivot, ExplainsSteps};
 
 use crate::arising::combine;
-use crate::entry::{Arisen, Entry, Reached};
+use crate::entry::{Arisen, Present, Reached};
 use crate::error::SolveError;
 use crate::stage::Stage;
 use cap_lin::Kind;
@@ -21,23 +21,25 @@ pub struct Pivot {
 }
 
 /// The first equation with a coefficient 1 or -1, and its least such variable.
-pub fn unit_pivot(rows: &[Entry]) -> Option<Pivot>
-    ensures { IsPivot unit_variable_in rows.now result }
+pub fn unit_pivot(stage: &Stage, rows: &[Present]) -> Option<Pivot>
+    ensures first { IsPivot unit_variable_in (entries_of stage.now rows.now) result }
+    ensures bound { IfSome result (λ p. p.place < length rows.now) }
 {
     for place in 0..rows.len() {
-        if let Some(variable) = unit_variable_of(&rows[place]) {
+        if let Some(variable) = unit_variable_of(stage, rows[place]) {
             return Some(Pivot { place, variable });
         }
     }
     None
 }
 
-fn unit_variable_of(row: &Entry) -> Option<u32>
-    ensures choice { result ≡ chosen unit_variable_in row.now.kind row.now.term.parts }
-    ensures has { IfSome result (λ x. is_zero (coefficient x row.now.term.parts) ≡ false) }
+fn unit_variable_of(stage: &Stage, row: Present) -> Option<u32>
+    ensures choice { result ≡ chosen unit_variable_in row.kind (term_of stage.now row.number).parts }
+    ensures has { IfSome result
+        (λ x. is_zero (coefficient x (term_of stage.now row.number).parts) ≡ false) }
 {
     match row.kind {
-        Kind::Eq => unit_variable(row.term.parts()),
+        Kind::Eq => unit_variable(stage.term(row.number).parts()),
         _ => None,
     }
 }
@@ -62,11 +64,12 @@ fn is_unit(number: i128) -> bool
 }
 
 /// The first equation that has the variable.
-pub fn pivot_of(rows: &[Entry], variable: u32) -> Option<Pivot>
-    ensures { IsPivot (occurring variable) rows.now result }
+pub fn pivot_of(stage: &Stage, rows: &[Present], variable: u32) -> Option<Pivot>
+    ensures first { IsPivot (occurring variable) (entries_of stage.now rows.now) result }
+    ensures bound { IfSome result (λ p. p.place < length rows.now) }
 {
     for place in 0..rows.len() {
-        if let Some(variable) = variable_of(&rows[place], variable) {
+        if let Some(variable) = variable_of(stage, rows[place], variable) {
             return Some(Pivot { place, variable });
         }
     }
@@ -74,13 +77,15 @@ pub fn pivot_of(rows: &[Entry], variable: u32) -> Option<Pivot>
 }
 
 // The variable, if the row is an equation that has it.
-fn variable_of(row: &Entry, variable: u32) -> Option<u32>
-    ensures choice { result ≡ chosen (occurring variable) row.now.kind row.now.term.parts }
-    ensures has { IfSome result (λ x. is_zero (coefficient x row.now.term.parts) ≡ false) }
+fn variable_of(stage: &Stage, row: Present, variable: u32) -> Option<u32>
+    ensures choice { result
+        ≡ chosen (occurring variable) row.kind (term_of stage.now row.number).parts }
+    ensures has { IfSome result
+        (λ x. is_zero (coefficient x (term_of stage.now row.number).parts) ≡ false) }
 {
     match row.kind {
         Kind::Eq => {
-            if row.term.coefficient(variable) == 0 {
+            if stage.term(row.number).coefficient(variable) == 0 {
                 None
             } else {
                 Some(variable)
@@ -94,24 +99,33 @@ fn variable_of(row: &Entry, variable: u32) -> Option<u32>
 pub fn by_equation(
     alloc: Global,
     stage: &mut Stage,
-    rows: Vec<Entry>,
+    rows: Vec<Present>,
     pivot: Pivot,
 ) -> Result<Reached, SolveError>
     requires { pivot.place < length rows.items }
-    ensures { (inputs : ℕ) (before after : List Entry) (equation : Entry) → Fits inputs stage.old rows.items → rows.items ≡ before ++ (equation ∷ after) → pivot.place ≡ length before → is_zero (coefficient pivot.variable equation.term.parts) ≡ false → DoesReach inputs stage.new (replace_all_run pivot.variable (entry_view equation) [] (entries_view (before ++ after)) (stage_view stage.old)) result }
+    ensures { (inputs : ℕ) (before after : List Entry) (equation : Entry) →
+        Fits inputs stage.old (entries_of stage.old rows.items) →
+        entries_of stage.old rows.items ≡ before ++ (equation ∷ after) →
+        pivot.place ≡ length before →
+        is_zero (coefficient pivot.variable equation.term.parts) ≡ false →
+        DoesReach inputs stage.new
+        (replace_all_run pivot.variable (entry_view equation) []
+        (entries_view (before ++ after)) (stage_view stage.old))
+        result }
 {
     leave_all(stage, &rows, pivot.variable);
     let mut rows = rows;
     let equation = rows.remove(pivot.place);
-    replace_all(alloc, stage, rows, &equation, pivot.variable)
+    replace_all(alloc, stage, rows, equation, pivot.variable)
 }
 
 /// The rows that have a variable are no longer present.
-pub fn leave_all(stage: &mut Stage, rows: &[Entry], variable: u32)
-    ensures { (inputs : ℕ) → Fits inputs stage.old rows.now → Leaves inputs stage.old stage.new (lacking_rows variable rows.now) }
+pub fn leave_all(stage: &mut Stage, rows: &[Present], variable: u32)
+    ensures { (inputs : ℕ) → Fits inputs stage.old (entries_of stage.old rows.now) →
+        Leaves inputs stage.old stage.new (lacking_rows variable (entries_of stage.old rows.now)) }
 {
     for row in rows {
-        if row.term.coefficient(variable) != 0 {
+        if stage.term(row.number).coefficient(variable) != 0 {
             stage.leave(row.number);
         }
     }
@@ -120,20 +134,27 @@ pub fn leave_all(stage: &mut Stage, rows: &[Entry], variable: u32)
 fn replace_all(
     alloc: Global,
     stage: &mut Stage,
-    rows: Vec<Entry>,
-    equation: &Entry,
+    rows: Vec<Present>,
+    equation: Present,
     variable: u32,
 ) -> Result<Reached, SolveError>
-    ensures { (inputs : ℕ) → Fits inputs stage.old (lacking_rows variable rows.items) → AreNumbered stage.old rows.items → IsNumbered stage.old equation.now → DoesReach inputs stage.new (replace_all_run variable (entry_view equation.now) [] (entries_view rows.items) (stage_view stage.old)) result }
+    ensures { (inputs : ℕ) →
+        Fits inputs stage.old (lacking_rows variable (entries_of stage.old rows.items)) →
+        AreNumbered stage.old (entries_of stage.old rows.items) →
+        IsNumbered stage.old (entry_of stage.old equation) →
+        DoesReach inputs stage.new
+        (replace_all_run variable (entry_view (entry_of stage.old equation)) []
+        (entries_view (entries_of stage.old rows.items)) (stage_view stage.old))
+        result }
 {
+    let coefficient = stage.term(equation.number).coefficient(variable);
     let mut replaced = Vec::with_capacity(alloc, rows.len())?;
     for row in rows {
-        if row.term.coefficient(variable) == 0 {
+        let own = stage.term(row.number).coefficient(variable);
+        if own == 0 {
             replaced.push(row)?;
         } else {
-            let arisen = replace(alloc, stage, &row, equation, variable)?;
-            drop(row);
-            match arisen {
+            match replace(alloc, stage, row, own, equation, coefficient)? {
                 Arisen::LeftOut => {}
                 Arisen::Kept(row) => replaced.push(row)?,
                 Arisen::False(row) => return Ok(Reached::Contradiction(row)),
@@ -143,18 +164,24 @@ fn replace_all(
     Ok(Reached::Rows(replaced))
 }
 
-// The combination of a row that has the variable with the equation.
+// The combination of a row with the equation, by the coefficients that they have of the variable.
 fn replace(
     alloc: Global,
     stage: &mut Stage,
-    row: &Entry,
-    equation: &Entry,
-    variable: u32,
+    row: Present,
+    own: i128,
+    equation: Present,
+    coefficient: i128,
 ) -> Result<Arisen, SolveError>
-    ensures { (inputs : ℕ) (present : List Entry) → Fits inputs stage.old present → IsNumbered stage.old row.now → IsNumbered stage.old equation.now → DoesArise inputs stage.old stage.new present (replacement (entries_view present) (of_row variable (entry_view equation.now)) (of_row variable (entry_view row.now)) (entry_view equation.now) (entry_view row.now) (stage_view stage.old)) result }
+    ensures { (inputs : ℕ) (present : List Entry) → Fits inputs stage.old present →
+        IsNumbered stage.old (entry_of stage.old row) →
+        IsNumbered stage.old (entry_of stage.old equation) →
+        DoesArise inputs stage.old stage.new present
+        (replacement (entries_view present) coefficient own
+        (entry_view (entry_of stage.old equation)) (entry_view (entry_of stage.old row))
+        (stage_view stage.old))
+        result }
 {
-    let own = row.term.coefficient(variable);
-    let coefficient = equation.term.coefficient(variable);
     if coefficient >= 0 {
         let factor = negated(own)?;
         combine(alloc, stage, coefficient, row, factor, equation, row.kind)
@@ -166,7 +193,9 @@ fn replace(
 
 /// -1 times a number.
 pub fn negated(number: i128) -> Result<i128, SolveError>
-    ensures { MatchResult result (λ n. (first_wide (product_of (negsuc 0) number ∷ []) ≡ None) × (n ≡ negsuc 0 *ℤ number)) (λ e. ExplainsSteps e (product_of (negsuc 0) number ∷ [])) }
+    ensures { MatchResult result
+        (λ n. (first_wide (product_of (negsuc 0) number ∷ []) ≡ None) × (n ≡ negsuc 0 *ℤ number))
+        (λ e. ExplainsSteps e (product_of (negsuc 0) number ∷ [])) }
 {
     match (-1_i128).checked_mul(number) {
         Some(product) => Ok(product),

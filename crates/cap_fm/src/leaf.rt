@@ -28,7 +28,7 @@ pub fn leaf(
     ensures { MatchResult result (λ m. (first_wide (leaf_steps (rows.now ++ more.now) (history_view history.now) (false_view row)) ≡ None) × (m ≡ (leaf_of (history_view history.now) (false_view row)).parts)) (λ e. ExplainsSteps e (leaf_steps (rows.now ++ more.now) (history_view history.now) (false_view row))) }
 {
     let multipliers = multipliers(alloc, history, row.origin)?;
-    let multipliers = turned(alloc, row.kind, row.term.constant_part(), multipliers)?;
+    let multipliers = turned(alloc, row.kind, row.constant, multipliers)?;
     checked(alloc, rows, more, &multipliers)
 }
 

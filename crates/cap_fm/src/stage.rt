@@ -1,7 +1,7 @@
 ghost use Rattle.std.specs.Prelude.{◌≡◌, ◌<◌, [], ℕ, List, get_or, false, true, IfOk};
 ghost use Rattle.cap_elim.specs.Runs.{at_first};
-ghost use Rattle.cap_fm.specs.declared.entry.Entry.{Entry};
-ghost use Rattle.cap_fm.specs.Views.{stage_view, Fits};
+ghost use Rattle.cap_fm.specs.Entries.{Entry};
+ghost use Rattle.cap_fm.specs.Views.{stage_view, term_of, Fits};
 ghost use Rattle.cap_fm.specs.Answers.{DoesCount, Remarks, Notes};
 
 use crate::entry::Origin;
@@ -25,6 +25,8 @@ struct Form {
 #[derive(Drop)]
 pub struct Stage {
     forms: IndexSet<Form>,
+    // The term of a number that no row has.
+    zero: Term,
     present: Vec<bool>,
     history: Vec<Origin>,
 }
@@ -40,6 +42,7 @@ impl Stage {
         let history = Vec::with_capacity(alloc, rows)?;
         Ok(Stage {
             forms,
+            zero: Term::constant(alloc, 0),
             present,
             history,
         })
@@ -47,10 +50,10 @@ impl Stage {
 
     /// Counts a row that arises, unless an equal one arose before, and gives its number. `Rows` comes
     /// where it would be the 4,097th.
-    pub fn count(&mut self, alloc: Global, term: &Term, kind: Kind) -> Result<usize, SolveError>
-        ensures { (inputs : ℕ) (present : List Entry) → Fits inputs self.old present → DoesCount inputs self.old self.new present term.now kind result }
+    pub fn count(&mut self, term: Term, kind: Kind) -> Result<usize, SolveError>
+        ensures { (inputs : ℕ) (present : List Entry) → Fits inputs self.old present →
+            DoesCount inputs self.old self.new present term kind result }
     {
-        let term = term.copy(alloc)?;
         let (number, is_new) = self.forms.insert_full(Form { kind, term })?;
         if is_new {
             if number >= LIMIT {
@@ -59,6 +62,16 @@ impl Stage {
             self.present.push(false)?;
         }
         Ok(number)
+    }
+
+    /// The term of the row of a number; 0 for a number that no row has.
+    pub fn term(&self, number: usize) -> &Term
+        ensures { result.now ≡ term_of self.now number }
+    {
+        match self.forms.get_index(number) {
+            Some(form) => &form.term,
+            None => &self.zero,
+        }
     }
 
     /// Whether the row of a number is present; false for a number that no row has.

@@ -1,38 +1,103 @@
-use Rattle.std.proofs.Common.{subst, sym}
+use Rattle.std.proofs.Common.{List, ◌+◌, drop, get_or, subst, sym}
 use Rattle.std.proofs.lemmas.Result.{err_from_is_err_and}
-use Rattle.cap_fm.specs.Views.{IsNumbered}
+use Rattle.cap_elim.specs.Runs as plain
+use Rattle.cap_elim.specs.Runs.{Run}
+use Rattle.cap_fm.specs.Views.{stage_view, entry_of, entries_of, IsNumbered}
+use Rattle.cap_fm.specs.Answers.{Explains, Arises}
+use Rattle.cap_fm.specs.declared.entry.Arisen.TheVariants.{LeftOut, Kept, False}
 use Rattle.cap_fm.proofs.Each.{each-at}
-use Rattle.cap_fm.proofs.Pairs.{each-starts, each-next, each-left_out, each-kept, each-false, each-fails, each-ends}
+use Rattle.cap_fm.proofs.Terms.{no_row, entry-in, below-of, past-of, same-entry, numbered-now, grown-entries, entries-more}
+use Rattle.cap_fm.proofs.Pairs.{EachGoes, pair-by, each-starts, each-next, each-left_out, each-kept, each-false, each-fails, each-ends}
 use Rattle.cap_fm.proofs.bounds.combine_each.Goals as goal
 use Rattle.cap_fm.proofs.bounds.combine_each.Goals.{in-LeftOut, in-Kept+in_ok-push-in-Kept}
 
 pub loop-lower-init : goal.loop-lower-init
-loop-lower-init c = λ inputs f n m. each-starts inputs c.args.variable c.args.upper.now c.args.stage.now c.args.kept.now.items c.args.lowers.now f
+loop-lower-init c = λ inputs f n m.
+    let s = c.args.stage.now in
+    each-starts inputs c.args.variable (entry_of s c.args.upper) s (entries_of s c.args.kept.now.items) (entries_of s c.args.lowers.now) f
 
 pub returns-in_err-combine_bounds : goal.returns-in_err-combine_bounds
 returns-in_err-combine_bounds c = λ inputs f n m.
-    let h = each-next inputs c.args.variable c.args.upper.now c.args.stage.now c.loop-lower.stage c.args.kept.now.items c.loop-lower.kept.items c.args.lowers.now c.loop-lower.lower-index c.lower-item.result c.loop-lower-test.true c.lower-item.is (c.loop-lower.invariant inputs f n m) in
-    let o : IsNumbered c.args.stage.now c.lower-item.result = subst (IsNumbered c.args.stage.now) (sym c.lower-item.is) (each-at (IsNumbered c.args.stage.now) c.args.lowers.now c.loop-lower.lower-index c.lower-item.result c.loop-lower-test.true m) in
-    let d = c.in_err-combine_bounds.ensures inputs c.loop-lower.kept.items h.fits (h.grows _ n) (h.grows _ o) in
-    let p = err_from_is_err_and c.from_residual.result c.from_residual.ensures.1 in
-    rw (p.1, p.2) (each-fails inputs c.args.variable c.args.upper.now c.lower-item.result c.in_err-combine_bounds.field-0.0 c.args.stage.now c.loop-lower.stage c.args.kept.now.items c.loop-lower.kept.items c.args.lowers.now _ h d)
+    let x = c.args.variable in
+    let s = c.args.stage.now in
+    let now = c.loop-lower.stage in
+    let upper = entry_of s c.args.upper in
+    let kept = entries_of s c.args.kept.now.items in
+    let held = entries_of now c.loop-lower.kept.items in
+    let all = entries_of s c.args.lowers.now in
+    let i = c.loop-lower.lower-index in
+    let item = get_or c.args.lowers.now i no_row in
+    let lower = entry_of s item in
+    let b = below-of s c.args.lowers.now i c.loop-lower-test.true in
+    let a = entry-in s c.args.lowers.now i c.loop-lower-test.true in
+    let h = each-next inputs x upper s now kept held all i lower b a (c.loop-lower.invariant inputs f n m) in
+    let o : IsNumbered s lower = subst (IsNumbered s) (sym a) (each-at (IsNumbered s) all i lower b m) in
+    let u = same-entry s now c.args.upper (h.grows _ n) in
+    let v = same-entry s now item (h.grows _ o) in
+    let k = pair-by x held upper lower (entry_of now c.args.upper) (entry_of now item) (stage_view now) u v in
+    let p = numbered-now s now c.args.upper (h.grows _ n) in
+    let q = numbered-now s now item (h.grows _ o) in
+    let d = subst (λ (r : Run (List plain.Entry)). Explains c.in_err-combine_bounds.field-0.0 r.events) k (c.in_err-combine_bounds.ensures inputs held h.fits p q) in
+    let r = err_from_is_err_and c.from_residual.result c.from_residual.ensures.1 in
+    rw (r.1, r.2) (each-fails inputs x upper lower c.in_err-combine_bounds.field-0.0 s now kept held all _ h d)
 
 pub returns-in-False : goal.returns-in-False
 returns-in-False c = λ inputs f n m.
-    let h = each-next inputs c.args.variable c.args.upper.now c.args.stage.now c.loop-lower.stage c.args.kept.now.items c.loop-lower.kept.items c.args.lowers.now c.loop-lower.lower-index c.lower-item.result c.loop-lower-test.true c.lower-item.is (c.loop-lower.invariant inputs f n m) in
-    let o : IsNumbered c.args.stage.now c.lower-item.result = subst (IsNumbered c.args.stage.now) (sym c.lower-item.is) (each-at (IsNumbered c.args.stage.now) c.args.lowers.now c.loop-lower.lower-index c.lower-item.result c.loop-lower-test.true m) in
-    let d = rw c.in-False.is at c.in_ok-combine_bounds.ensures inputs c.loop-lower.kept.items h.fits (h.grows _ n) (h.grows _ o) in
-    each-false inputs c.args.variable c.args.upper.now c.lower-item.result c.in-False.row c.args.stage.now c.loop-lower.stage c.combine_bounds.new.stage c.args.kept.now.items c.loop-lower.kept.items c.args.lowers.now _ h d
+    let x = c.args.variable in
+    let s = c.args.stage.now in
+    let now = c.loop-lower.stage in
+    let upper = entry_of s c.args.upper in
+    let kept = entries_of s c.args.kept.now.items in
+    let held = entries_of now c.loop-lower.kept.items in
+    let all = entries_of s c.args.lowers.now in
+    let i = c.loop-lower.lower-index in
+    let item = get_or c.args.lowers.now i no_row in
+    let lower = entry_of s item in
+    let b = below-of s c.args.lowers.now i c.loop-lower-test.true in
+    let a = entry-in s c.args.lowers.now i c.loop-lower-test.true in
+    let h = each-next inputs x upper s now kept held all i lower b a (c.loop-lower.invariant inputs f n m) in
+    let o : IsNumbered s lower = subst (IsNumbered s) (sym a) (each-at (IsNumbered s) all i lower b m) in
+    let u = same-entry s now c.args.upper (h.grows _ n) in
+    let v = same-entry s now item (h.grows _ o) in
+    let k = pair-by x held upper lower (entry_of now c.args.upper) (entry_of now item) (stage_view now) u v in
+    let p = numbered-now s now c.args.upper (h.grows _ n) in
+    let q = numbered-now s now item (h.grows _ o) in
+    let d = subst (λ r. Arises inputs now c.combine_bounds.new.stage held r (False c.in-False.row)) k ((rw c.in-False.is at c.in_ok-combine_bounds.ensures) inputs held h.fits p q) in
+    each-false inputs x upper lower c.in-False.row s now c.combine_bounds.new.stage kept held all _ h d
 
 pub loop-lower-preserved : goal.loop-lower-preserved
 loop-lower-preserved c = λ inputs f n m.
-    let h = each-next inputs c.args.variable c.args.upper.now c.args.stage.now c.loop-lower.stage c.args.kept.now.items c.loop-lower.kept.items c.args.lowers.now c.loop-lower.lower-index c.lower-item.result c.loop-lower-test.true c.lower-item.is (c.loop-lower.invariant inputs f n m) in
-    let o : IsNumbered c.args.stage.now c.lower-item.result = subst (IsNumbered c.args.stage.now) (sym c.lower-item.is) (each-at (IsNumbered c.args.stage.now) c.args.lowers.now c.loop-lower.lower-index c.lower-item.result c.loop-lower-test.true m) in
-    let d = c.in_ok-combine_bounds.ensures inputs c.loop-lower.kept.items h.fits (h.grows _ n) (h.grows _ o) in
+    let x = c.args.variable in
+    let s = c.args.stage.now in
+    let now = c.loop-lower.stage in
+    let upper = entry_of s c.args.upper in
+    let kept = entries_of s c.args.kept.now.items in
+    let held = entries_of now c.loop-lower.kept.items in
+    let all = entries_of s c.args.lowers.now in
+    let i = c.loop-lower.lower-index in
+    let item = get_or c.args.lowers.now i no_row in
+    let lower = entry_of s item in
+    let b = below-of s c.args.lowers.now i c.loop-lower-test.true in
+    let a = entry-in s c.args.lowers.now i c.loop-lower-test.true in
+    let h = each-next inputs x upper s now kept held all i lower b a (c.loop-lower.invariant inputs f n m) in
+    let o : IsNumbered s lower = subst (IsNumbered s) (sym a) (each-at (IsNumbered s) all i lower b m) in
+    let u = same-entry s now c.args.upper (h.grows _ n) in
+    let v = same-entry s now item (h.grows _ o) in
+    let k = pair-by x held upper lower (entry_of now c.args.upper) (entry_of now item) (stage_view now) u v in
+    let p = numbered-now s now c.args.upper (h.grows _ n) in
+    let q = numbered-now s now item (h.grows _ o) in
+    let new = c.combine_bounds.new.stage in
+    let rest = drop (i + 1) all in
     elim c.match-branch-2.branch [
-      | in-LeftOut w ↦ rw w.kept-is (each-left_out inputs c.args.variable c.args.upper.now c.lower-item.result c.args.stage.now c.loop-lower.stage c.combine_bounds.new.stage c.args.kept.now.items c.loop-lower.kept.items c.args.lowers.now _ h (rw w.in-LeftOut.is at d))
-      | in-Kept+in_ok-push-in-Kept w ↦ rw w.kept-is (each-kept inputs c.args.variable c.args.upper.now c.lower-item.result w.in-Kept.row c.args.stage.now c.loop-lower.stage c.combine_bounds.new.stage c.args.kept.now.items c.loop-lower.kept.items w.push.new.self.items c.args.lowers.now _ h (rw w.in-Kept.is at d) w.in_ok-push-in-Kept.ensures.items)
+      | in-LeftOut w ↦
+          let d = subst (λ r. Arises inputs now new held r LeftOut) k ((rw w.in-LeftOut.is at c.in_ok-combine_bounds.ensures) inputs held h.fits p q) in
+          rw w.kept-is (subst (λ es. EachGoes inputs x upper s new kept es all rest) (sym (grown-entries now new c.loop-lower.kept.items d.2 h.fits.numbered)) (each-left_out inputs x upper lower s now new kept held all rest h d))
+      | in-Kept+in_ok-push-in-Kept w ↦
+          let d = subst (λ r. Arises inputs now new held r (Kept w.in-Kept.row)) k ((rw w.in-Kept.is at c.in_ok-combine_bounds.ensures) inputs held h.fits p q) in
+          rw w.kept-is (each-kept inputs x upper lower w.in-Kept.row s now new kept held (entries_of new w.push.new.self.items) all rest h d (entries-more now new c.loop-lower.kept.items w.push.new.self.items w.in-Kept.row w.in_ok-push-in-Kept.ensures.items d.2 h.fits.numbered))
     ]
 
 pub returns : goal.returns
-returns c = λ inputs f n m. each-ends inputs c.args.variable c.args.upper.now c.args.stage.now c.loop-lower.stage c.args.kept.now.items c.loop-lower.kept.items c.args.lowers.now c.loop-lower.lower-index c.loop-lower-test.false (c.loop-lower.invariant inputs f n m)
+returns c = λ inputs f n m.
+    let s = c.args.stage.now in
+    each-ends inputs c.args.variable (entry_of s c.args.upper) s c.loop-lower.stage (entries_of s c.args.kept.now.items) (entries_of c.loop-lower.stage c.loop-lower.kept.items) (entries_of s c.args.lowers.now) c.loop-lower.lower-index (past-of s c.args.lowers.now _ c.loop-lower-test.false) (c.loop-lower.invariant inputs f n m)

@@ -17,17 +17,17 @@ returns-in_err-multipliers c =
 
 pub returns-in_err-multipliers-2 : goal.returns-in_err-multipliers-2
 returns-in_err-multipliers-2 c =
-    let f : SFits w128 c.constant_part.result = search rules in
+    let f : SFits w128 c.args.row.constant = search rules in
     let m = c.in_ok-multipliers.ensures in
     let p = err_from_is_err_and c.from_residual-in_err-multipliers-2.result c.from_residual-in_err-multipliers-2.ensures.1 in
-    rw (p.1, p.2) (turn-fails (c.args.rows.now ++ c.args.more.now) (history_view c.args.history.now) (false_view c.args.row) _ _ _ m.0 (to_z-of_z _ _ f ∙ c.constant_part.ensures) m.1 c.in_err-multipliers-2.ensures)
+    rw (p.1, p.2) (turn-fails (c.args.rows.now ++ c.args.more.now) (history_view c.args.history.now) (false_view c.args.row) _ _ _ m.0 (to_z-of_z _ _ f) m.1 c.in_err-multipliers-2.ensures)
 
 pub checked-requires : goal.checked-requires
 checked-requires c =
-    let f : SFits w128 c.constant_part.result = search rules in
-    made-below _ _ (false_view c.args.row) _ _ _ c.requires.history (record { constant = to_z-of_z _ _ f ∙ c.constant_part.ensures; multipliers_are = c.in_ok-multipliers.ensures.1; turned_are = c.in_ok-multipliers-2.ensures.1 })
+    let f : SFits w128 c.args.row.constant = search rules in
+    made-below _ _ (false_view c.args.row) _ _ _ c.requires.history (record { constant = to_z-of_z _ _ f; multipliers_are = c.in_ok-multipliers.ensures.1; turned_are = c.in_ok-multipliers-2.ensures.1 })
 
 pub returns : goal.returns
 returns c =
-    let f : SFits w128 c.constant_part.result = search rules in
-    leaf-answers _ (λ m. m) (c.args.rows.now ++ c.args.more.now) (history_view c.args.history.now) (false_view c.args.row) _ _ _ c.in_ok-multipliers.ensures.0 c.in_ok-multipliers-2.ensures.0 (record { constant = to_z-of_z _ _ f ∙ c.constant_part.ensures; multipliers_are = c.in_ok-multipliers.ensures.1; turned_are = c.in_ok-multipliers-2.ensures.1 }) c.checked.ensures
+    let f : SFits w128 c.args.row.constant = search rules in
+    leaf-answers _ (λ m. m) (c.args.rows.now ++ c.args.more.now) (history_view c.args.history.now) (false_view c.args.row) _ _ _ c.in_ok-multipliers.ensures.0 c.in_ok-multipliers-2.ensures.0 (record { constant = to_z-of_z _ _ f; multipliers_are = c.in_ok-multipliers.ensures.1; turned_are = c.in_ok-multipliers-2.ensures.1 }) c.checked.ensures
