@@ -26,6 +26,11 @@ returns-in_err-with_new_cells c =
     let m = rw f at c.in_err-with_new_cells.ensures in
     rw (p.1, p.2) (then_made _ _ _ _ h (then_made _ _ _ _ k (unmade _ _ _ m)))
 
+pub returns-in_err-with_local : goal.returns-in_err-with_local
+returns-in_err-with_local c =
+    let p = err_from_is_err_and c.from_residual-in_err-with_local.result c.from_residual-in_err-with_local.ensures.1 in
+    rw (p.1, p.2) (record { ends = λ ls. tt })
+
 pub returns : goal.returns
 returns c =
     let h = rw c.in_ok-next.ensures at c.in_ok-base.ensures.makes in
