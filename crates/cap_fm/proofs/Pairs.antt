@@ -6,7 +6,7 @@ use Rattle.cap_lin.specs.Linear.{is_zero, coefficient}
 use Rattle.cap_elim.specs.Runs as plain
 use Rattle.cap_elim.specs.Runs.{Run, Elimination, going, contradiction, done, ◌>>=◌}
 use Rattle.cap_elim.specs.Rows.{of_row, is_positive, is_negative}
-use Rattle.cap_elim.specs.Elimination.{combine_bounds, combine_each, combine_all, lacking, uppers, lowers}
+use Rattle.cap_elim.specs.Elimination.{combine_bounds, combine_each, combine_all}
 use Rattle.cap_fm.specs.Entries.{Entry}
 use Rattle.cap_fm.specs.declared.entry.Present.{Present}
 use Rattle.cap_fm.specs.declared.entry.FalseRow.{FalseRow}

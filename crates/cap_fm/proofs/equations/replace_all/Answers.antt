@@ -1,4 +1,4 @@
-use Rattle.std.proofs.Common.{rules, ◌≡◌, ◌∙◌, ap, sym, pos, arith, subst, length, List, [], ◌∷◌, ◌++◌, to_z, of_z}
+use Rattle.std.proofs.Common.{rules, ◌≡◌, ◌∙◌, ap, sym, pos, arith, subst, length, List, [], ◌∷◌, ◌++◌}
 use Rattle.std.proofs.lemmas.Int.{ints, to_z-of_z}
 use Rattle.std.proofs.lemmas.Result.{err_from_is_err_and}
 use mir.Val.{SFits}
@@ -8,7 +8,7 @@ use Rattle.cap_lin.proofs.Results.{is_zero-yes, is_zero-no}
 use Rattle.cap_elim.specs.Runs as plain
 use Rattle.cap_elim.specs.Runs.{Run}
 use Rattle.cap_elim.proofs.Lists.{each-left}
-use Rattle.cap_fm.specs.Views.{stage_view, entry_of, entries_of, lacking_rows}
+use Rattle.cap_fm.specs.Views.{entry_of, entries_of, lacking_rows}
 use Rattle.cap_fm.specs.Answers.{Explains, Arises}
 use Rattle.cap_fm.specs.declared.entry.Arisen.TheVariants.{LeftOut, Kept, False}
 use Rattle.cap_fm.proofs.Terms.{same-entry, same-term, numbered-now, grown-entries, entries-then, entries-more}
