@@ -1,7 +1,8 @@
+ghost use Rattle.cap_lin.specs.Linear.{coefficient};
 ghost use Rattle.std.specs.Prelude.{◌≡◌, ℕ, List, IfOk};
 ghost use Rattle.cap_elim.specs.Elimination.{combine_bounds as combine_bounds_run, combine_each as combine_each_run};
 ghost use Rattle.cap_fm.specs.Entries.{Entry};
-ghost use Rattle.cap_fm.specs.Views.{stage_view, entry_view, entries_view, entry_of, entries_of, lacking_rows, upper_rows, lower_rows, Fits, AreNumbered, IsNumbered};
+ghost use Rattle.cap_fm.specs.Views.{stage_view, entry_view, entries_view, term_of, entry_of, entries_of, lacking_rows, upper_rows, lower_rows, Fits, AreNumbered, IsNumbered};
 ghost use Rattle.cap_fm.specs.Answers.{AllBounds, DoesArise, DoesReach, DoesEach};
 
 use crate::arising::combine;
@@ -98,8 +99,9 @@ fn combine_each(
         (entries_view (entries_of stage.old lowers.now)) (stage_view stage.old))
         result }
 {
+    let positive = stage.term(upper.number).coefficient(variable);
     for lower in lowers {
-        match combine_bounds(alloc, stage, upper, *lower, variable)? {
+        match combine_bounds(alloc, stage, upper, positive, *lower, variable)? {
             Arisen::LeftOut => {}
             Arisen::Kept(row) => kept.push(row)?,
             Arisen::False(row) => return Ok(Some(row)),
@@ -112,12 +114,14 @@ fn combine_bounds(
     alloc: Global,
     stage: &mut Stage,
     upper: Present,
+    positive: i128,
     lower: Present,
     variable: u32,
 ) -> Result<Arisen, SolveError>
     ensures { (inputs : ℕ) (present : List Entry) → Fits inputs stage.old present →
         IsNumbered stage.old (entry_of stage.old upper) →
         IsNumbered stage.old (entry_of stage.old lower) →
+        positive ≡ coefficient variable (term_of stage.old upper.number).parts →
         DoesArise inputs stage.old stage.new present
         (combine_bounds_run variable (entries_view present)
         (entry_view (entry_of stage.old upper)) (entry_view (entry_of stage.old lower))
@@ -125,7 +129,6 @@ fn combine_bounds(
         result }
 {
     let size = negated(stage.term(lower.number).coefficient(variable))?;
-    let positive = stage.term(upper.number).coefficient(variable);
     let kind = strictest(upper.kind, lower.kind);
     combine(alloc, stage, size, upper, positive, lower, kind)
 }

@@ -70,8 +70,16 @@ impl Stage {
     {
         match self.forms.get_index(number) {
             Some(form) => &form.term,
-            None => &self.zero,
+            None => self.no_term(),
         }
+    }
+
+    // It stands apart, so that `term` is a test and an address.
+    #[inline(never)]
+    fn no_term(&self) -> &Term
+        ensures { result.now ≡ self.now.zero }
+    {
+        &self.zero
     }
 
     /// Whether the row of a number is present; false for a number that no row has.

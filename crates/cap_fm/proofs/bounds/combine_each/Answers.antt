@@ -1,12 +1,16 @@
-use Rattle.std.proofs.Common.{List, ◌+◌, drop, get_or, subst, sym}
+use Rattle.std.proofs.Common.{rules, ◌∙◌, ap, List, ◌+◌, drop, get_or, subst, sym}
+use Rattle.std.proofs.lemmas.Int.{to_z-of_z}
 use Rattle.std.proofs.lemmas.Result.{err_from_is_err_and}
+use mir.Val.{SFits}
+use mir.Syntax.{w128}
+use Rattle.cap_lin.specs.Linear.{Linear, coefficient}
 use Rattle.cap_elim.specs.Runs as plain
 use Rattle.cap_elim.specs.Runs.{Run}
 use Rattle.cap_fm.specs.Views.{stage_view, entry_of, entries_of, IsNumbered}
 use Rattle.cap_fm.specs.Answers.{Explains, Arises}
 use Rattle.cap_fm.specs.declared.entry.Arisen.TheVariants.{LeftOut, Kept, False}
 use Rattle.cap_fm.proofs.Each.{each-at}
-use Rattle.cap_fm.proofs.Terms.{no_row, entry-in, below-of, past-of, same-entry, numbered-now, grown-entries, entries-more}
+use Rattle.cap_fm.proofs.Terms.{no_row, entry-in, below-of, past-of, same-entry, same-term, numbered-now, grown-entries, entries-more}
 use Rattle.cap_fm.proofs.Pairs.{EachGoes, pair-by, each-starts, each-next, each-left_out, each-kept, each-false, each-fails, each-ends}
 use Rattle.cap_fm.proofs.bounds.combine_each.Goals as goal
 use Rattle.cap_fm.proofs.bounds.combine_each.Goals.{in-LeftOut, in-Kept+in_ok-push-in-Kept}
@@ -35,9 +39,11 @@ returns-in_err-combine_bounds c = λ inputs f n m.
     let u = same-entry s now c.args.upper (h.grows _ n) in
     let v = same-entry s now item (h.grows _ o) in
     let k = pair-by x held upper lower (entry_of now c.args.upper) (entry_of now item) (stage_view now) u v in
+    let w : SFits w128 c.coefficient-positive.result = search rules in
+    let g = to_z-of_z _ _ w ∙ c.coefficient-positive.ensures.coefficient ∙ ap (λ (t : Linear). coefficient x t.parts) (c.term.ensures ∙ sym (same-term s now c.args.upper (h.grows _ n))) in
     let p = numbered-now s now c.args.upper (h.grows _ n) in
     let q = numbered-now s now item (h.grows _ o) in
-    let d = subst (λ (r : Run (List plain.Entry)). Explains c.in_err-combine_bounds.field-0.0 r.events) k (c.in_err-combine_bounds.ensures inputs held h.fits p q) in
+    let d = subst (λ (r : Run (List plain.Entry)). Explains c.in_err-combine_bounds.field-0.0 r.events) k (c.in_err-combine_bounds.ensures inputs held h.fits p q g) in
     let r = err_from_is_err_and c.from_residual.result c.from_residual.ensures.1 in
     rw (r.1, r.2) (each-fails inputs x upper lower c.in_err-combine_bounds.field-0.0 s now kept held all _ h d)
 
@@ -60,9 +66,11 @@ returns-in-False c = λ inputs f n m.
     let u = same-entry s now c.args.upper (h.grows _ n) in
     let v = same-entry s now item (h.grows _ o) in
     let k = pair-by x held upper lower (entry_of now c.args.upper) (entry_of now item) (stage_view now) u v in
+    let w : SFits w128 c.coefficient-positive.result = search rules in
+    let g = to_z-of_z _ _ w ∙ c.coefficient-positive.ensures.coefficient ∙ ap (λ (t : Linear). coefficient x t.parts) (c.term.ensures ∙ sym (same-term s now c.args.upper (h.grows _ n))) in
     let p = numbered-now s now c.args.upper (h.grows _ n) in
     let q = numbered-now s now item (h.grows _ o) in
-    let d = subst (λ r. Arises inputs now c.combine_bounds.new.stage held r (False c.in-False.row)) k ((rw c.in-False.is at c.in_ok-combine_bounds.ensures) inputs held h.fits p q) in
+    let d = subst (λ r. Arises inputs now c.combine_bounds.new.stage held r (False c.in-False.row)) k ((rw c.in-False.is at c.in_ok-combine_bounds.ensures) inputs held h.fits p q g) in
     each-false inputs x upper lower c.in-False.row s now c.combine_bounds.new.stage kept held all _ h d
 
 pub loop-lower-preserved : goal.loop-lower-preserved
@@ -84,16 +92,18 @@ loop-lower-preserved c = λ inputs f n m.
     let u = same-entry s now c.args.upper (h.grows _ n) in
     let v = same-entry s now item (h.grows _ o) in
     let k = pair-by x held upper lower (entry_of now c.args.upper) (entry_of now item) (stage_view now) u v in
+    let w : SFits w128 c.coefficient-positive.result = search rules in
+    let g = to_z-of_z _ _ w ∙ c.coefficient-positive.ensures.coefficient ∙ ap (λ (t : Linear). coefficient x t.parts) (c.term.ensures ∙ sym (same-term s now c.args.upper (h.grows _ n))) in
     let p = numbered-now s now c.args.upper (h.grows _ n) in
     let q = numbered-now s now item (h.grows _ o) in
     let new = c.combine_bounds.new.stage in
     let rest = drop (i + 1) all in
     elim c.match-branch-2.branch [
       | in-LeftOut w ↦
-          let d = subst (λ r. Arises inputs now new held r LeftOut) k ((rw w.in-LeftOut.is at c.in_ok-combine_bounds.ensures) inputs held h.fits p q) in
+          let d = subst (λ r. Arises inputs now new held r LeftOut) k ((rw w.in-LeftOut.is at c.in_ok-combine_bounds.ensures) inputs held h.fits p q g) in
           rw w.kept-is (subst (λ es. EachGoes inputs x upper s new kept es all rest) (sym (grown-entries now new c.loop-lower.kept.items d.2 h.fits.numbered)) (each-left_out inputs x upper lower s now new kept held all rest h d))
       | in-Kept+in_ok-push-in-Kept w ↦
-          let d = subst (λ r. Arises inputs now new held r (Kept w.in-Kept.row)) k ((rw w.in-Kept.is at c.in_ok-combine_bounds.ensures) inputs held h.fits p q) in
+          let d = subst (λ r. Arises inputs now new held r (Kept w.in-Kept.row)) k ((rw w.in-Kept.is at c.in_ok-combine_bounds.ensures) inputs held h.fits p q g) in
           rw w.kept-is (each-kept inputs x upper lower w.in-Kept.row s now new kept held (entries_of new w.push.new.self.items) all rest h d (entries-more now new c.loop-lower.kept.items w.push.new.self.items w.in-Kept.row w.in_ok-push-in-Kept.ensures.items d.2 h.fits.numbered))
     ]
 
