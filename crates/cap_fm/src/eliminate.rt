@@ -20,7 +20,8 @@ use std::alloc::Global;
 /// Eliminates the variables of the rows that are not Ne, of rows and more rows behind them: the leaf of
 /// a contradiction, if there is one.
 pub fn refuted(alloc: Global, rows: &[Row], more: &[Row]) -> Result<Option<Multipliers>, SolveError>
-    requires { length rows.now + length more.now ≤ 2 ^ 32 }
+    requires few { length rows.now + length more.now ≤ 2 ^ 32 }
+    requires ascend { RowsAscend rows.now }
     ensures { IsLogged result (refuted_log (rows.now ++ more.now)) }
 {
     let mut stage = Stage::with_room(alloc, rows.len() + more.len())?;
@@ -36,12 +37,12 @@ fn eliminated(
     rows: &[Row],
     more: &[Row],
 ) -> Result<Reached, SolveError>
-    requires { length rows.now + length more.now ≤ 2 ^ 32 }
+    requires few { length rows.now + length more.now ≤ 2 ^ 32 }
+    requires ascend { RowsAscend rows.now }
     ensures { Fits (length (rows.now ++ more.now)) stage.old [] →
         DoesReach (length (rows.now ++ more.now)) stage.new
         (eliminated_run (rows.now ++ more.now) (stage_view stage.old)) result }
 {
-    terms_ascend(rows);
     terms_ascend(more);
     match inputs(alloc, stage, rows, more)? {
         Reached::Contradiction(row) => Ok(Reached::Contradiction(row)),

@@ -1,5 +1,5 @@
 ghost use Rattle.std.specs.Prelude.{◌≡◌, ◌<◌, ◌-◌, ◌^◌, ◌++◌, ◌∷◌, [], IfOk, length, slice_get, Some};
-ghost use Rattle.cap_elim.specs.Solving.{solved as solved_log, split as split_log, refuted as refuted_log};
+ghost use Rattle.cap_elim.specs.Solving.{RowsAscend, solved as solved_log, split as split_log, refuted as refuted_log};
 ghost use Rattle.cap_fm.specs.Answers.{IsLogged};
 ghost use Rattle.cap_fm.specs.Solved.{IsSolved, IsCertified, IsTrueOf, HasSolution};
 
@@ -39,7 +39,8 @@ pub fn solve(alloc: Global, rows: &[Row]) -> Result<Answer, SolveError>
 }
 
 fn searched(alloc: Global, rows: &[Row]) -> Result<Answer, SolveError>
-    requires { length rows.now < 2 ^ 32 - 1 }
+    requires few { length rows.now < 2 ^ 32 - 1 }
+    requires ascend { RowsAscend rows.now }
     ensures { IsSolved result (solved_log rows.now) }
 {
     if let Some(leaf) = refuted_alone(alloc, rows)? {
@@ -57,6 +58,7 @@ fn searched(alloc: Global, rows: &[Row]) -> Result<Answer, SolveError>
 fn split(alloc: Global, rows: &[Row], place: usize) -> Result<Option<Cert>, SolveError>
     requires few { length rows.now < 2 ^ 32 - 1 }
     requires bound { place < length rows.now }
+    requires ascend { RowsAscend rows.now }
     ensures { (row : Row) → slice_get rows.now place ≡ Some row → IsLogged result (split_log rows.now place row.kind row.sort row.term) }
 {
     let row = &rows[place];
@@ -69,6 +71,7 @@ fn split(alloc: Global, rows: &[Row], place: usize) -> Result<Option<Cert>, Solv
 fn both_sides(alloc: Global, rows: &[Row], place: usize) -> Result<Option<Cert>, SolveError>
     requires few { length rows.now < 2 ^ 32 - 1 }
     requires bound { place < length rows.now }
+    requires ascend { RowsAscend rows.now }
     ensures { (row : Row) → slice_get rows.now place ≡ Some row → IsLogged result (split_log rows.now place Kind.Ne row.sort row.term) }
 {
     let row = &rows[place];
@@ -86,7 +89,8 @@ fn both_sides(alloc: Global, rows: &[Row], place: usize) -> Result<Option<Cert>,
 }
 
 fn refuted_alone(alloc: Global, rows: &[Row]) -> Result<Option<Multipliers>, SolveError>
-    requires { length rows.now < 2 ^ 32 - 1 }
+    requires few { length rows.now < 2 ^ 32 - 1 }
+    requires ascend { RowsAscend rows.now }
     ensures { IsLogged result (refuted_log rows.now) }
 {
     refuted(alloc, rows, &[])
@@ -94,7 +98,8 @@ fn refuted_alone(alloc: Global, rows: &[Row]) -> Result<Option<Multipliers>, Sol
 
 // Eliminates the rows with a row behind them.
 fn refuted_with(alloc: Global, rows: &[Row], row: Row) -> Result<Option<Multipliers>, SolveError>
-    requires { length rows.now < 2 ^ 32 - 1 }
+    requires few { length rows.now < 2 ^ 32 - 1 }
+    requires ascend { RowsAscend rows.now }
     ensures { IsLogged result (refuted_log (rows.now ++ (row ∷ []))) }
 {
     refuted(alloc, rows, slice::from_ref(&row))

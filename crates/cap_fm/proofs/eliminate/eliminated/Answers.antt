@@ -30,4 +30,4 @@ pub returns-in-Rows-2 : goal.returns-in-Rows-2
 returns-in-Rows-2 c = λ f.
     let a = rw c.in-Rows.is at (c.in_ok-row.ensures f) in
     let b = rw c.in-Rows-2.is at (c.in_ok-row-in-Rows.ensures _ a.1) in
-    variables-reach (length (c.args.rows.now ++ c.args.more.now)) c.by_variables.new.stage _ _ _ _ (entries_of c.inputs.new.stage c.in-Rows.rows.items) (entries_of c.by_units.new.stage c.in-Rows-2.rows.items) c.by_variables.result a.0 b.0 (c.by_variables.ensures _ b.1 (are-rows _ _ _ _ (entries_of c.inputs.new.stage c.in-Rows.rows.items) (entries_of c.by_units.new.stage c.in-Rows-2.rows.items) (each-join _ c.args.rows.now c.args.more.now c.terms_ascend.ensures c.terms_ascend-2.ensures) a.0 b.0))
+    variables-reach (length (c.args.rows.now ++ c.args.more.now)) c.by_variables.new.stage _ _ _ _ (entries_of c.inputs.new.stage c.in-Rows.rows.items) (entries_of c.by_units.new.stage c.in-Rows-2.rows.items) c.by_variables.result a.0 b.0 (c.by_variables.ensures _ b.1 (are-rows _ _ _ _ (entries_of c.inputs.new.stage c.in-Rows.rows.items) (entries_of c.by_units.new.stage c.in-Rows-2.rows.items) (each-join _ c.args.rows.now c.args.more.now c.requires.ascend c.terms_ascend.ensures) a.0 b.0))
