@@ -14,7 +14,8 @@ use std::alloc::Global;
 
 /// An input row arises, which has this number. A row Ne takes no part.
 pub fn input(alloc: Global, stage: &mut Stage, row: &Row, number: u32) -> Result<Arisen, SolveError>
-    ensures { (inputs : ℕ) (present : List Entry) → Fits inputs stage.old present → number < inputs →
+    ensures { (inputs : ℕ) (present : List Entry) →
+        Fits inputs stage.old present → number < inputs →
         DoesArise inputs stage.old stage.new present
         (input_row (entries_view present) number row.now.kind row.now.term (stage_view stage.old))
         result }
@@ -33,7 +34,8 @@ fn given(
     kind: Kind,
     number: u32,
 ) -> Result<Arisen, SolveError>
-    ensures { (inputs : ℕ) (present : List Entry) → Fits inputs stage.old present → number < inputs →
+    ensures { (inputs : ℕ) (present : List Entry) →
+        Fits inputs stage.old present → number < inputs →
         DoesArise inputs stage.old stage.new present
         (arise_given (entries_view present) term.now kind number (stage_view stage.old)) result }
 {

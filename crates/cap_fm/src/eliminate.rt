@@ -111,7 +111,8 @@ fn by_units(alloc: Global, stage: &mut Stage, rows: Vec<Present>) -> Result<Reac
 fn by_variables(alloc: Global, stage: &mut Stage, rows: Vec<Present>) -> Result<Reached, SolveError>
     ensures { (inputs : ℕ) → Fits inputs stage.old (entries_of stage.old rows.items) →
         AreRows (entries_of stage.old rows.items) →
-        DoesReach inputs stage.new (AllVariables (entries_of stage.old rows.items) stage.old) result }
+        DoesReach inputs stage.new (AllVariables (entries_of stage.old rows.items) stage.old)
+        result }
 {
     let mut rows = rows;
     let mut low: u64 = 0;

@@ -34,7 +34,8 @@ pub fn unit_pivot(stage: &Stage, rows: &[Present]) -> Option<Pivot>
 }
 
 fn unit_variable_of(stage: &Stage, row: Present) -> Option<u32>
-    ensures choice { result ≡ chosen unit_variable_in row.kind (term_of stage.now row.number).parts }
+    ensures choice { result
+        ≡ chosen unit_variable_in row.kind (term_of stage.now row.number).parts }
     ensures has { IfSome result
         (λ x. is_zero (coefficient x (term_of stage.now row.number).parts) ≡ false) }
 {
