@@ -2,3 +2,9 @@ pub mod Cut
 pub mod Texts
 pub mod Numerals
 pub mod Whole
+pub mod Plain
+pub mod Loops
+pub mod ReadAs
+pub mod Parts
+pub mod Words
+pub mod WholeLine

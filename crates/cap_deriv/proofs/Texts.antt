@@ -1,13 +1,11 @@
 -- A line's bytes, and an array's items.
-use Rattle.std.proofs.Common.{◌≡◌, ℕ, cond, Bool, true, false, List, [], ◌∷◌, map, Option, Some, None, option_map, refl, sym, ap, ◌∙◌}
+use Rattle.std.proofs.Common.{◌≡◌, ℕ, cond, Bool, true, false, List, [], ◌∷◌, Option, Some, None, refl, sym, ap}
 use Rattle.std.specs.Str.{IsUtf8, is_utf8}
 use Rattle.std.proofs.lemmas.Str.{IsUtf8-from_is_utf8, is_utf8-from_IsUtf8}
 use Rattle.serde_json.specs.Data.{Data}
 use Rattle.serde_json.specs.Read.{read}
-use Rattle.serde_json.specs.Find.{as_array}
-use Rattle.serde_json.specs.View.{view, items_of, items_view}
-use Rattle.serde_json.specs.declared.value.Value.{Value}
-use Rattle.cap_deriv.specs.Reading.{json_of_bytes, data_items, array_of_json}
+use Rattle.serde_json.specs.View.{items_of}
+use Rattle.cap_deriv.specs.Reading.{json_of_bytes, data_items}
 
 pub data_found : (b : List ℕ) (d : Data) → IsUtf8 b → read b ≡ Some d → Some d ≡ json_of_bytes b
 data_found b d u e = rw (is_utf8-from_IsUtf8 b u) (sym e)
@@ -22,6 +20,3 @@ data_refused b h = refused_at (is_utf8 b) (read b) (λ t. h (IsUtf8-from_is_utf8
 pub list_of-items_of : (ds : List Data) → data_items (items_of ds) ≡ ds
 list_of-items_of [] = refl
 list_of-items_of (d ∷ ds) = ap (λ xs. d ∷ xs) (list_of-items_of ds)
-
-pub array_is : (d : Data) (vs : List Value) → Some (items_view vs) ≡ as_array d → Some (map view vs) ≡ array_of_json d
-array_is d vs e = ap Some (sym (list_of-items_of (map view vs))) ∙ ap (option_map data_items) e

@@ -25,7 +25,7 @@ trees_of_cursor c = c.trees
 
 -- what a cursor has still to tell
 abbrev pub left_to_tell : Cursor → Told
-left_to_tell c = unless_ended c.ended (told_by c.nodes (ended_lines c.rest.now))
+left_to_tell c = unless_ended c.ended (told_by c.nodes (ended_lines c.rest))
 
 -- a cursor has ended, and answers the same from then on
 abbrev pub HasEnded : Cursor → Type 0

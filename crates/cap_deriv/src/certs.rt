@@ -1,15 +1,14 @@
-//! Certificates, from the JSON value of a line.
-ghost use Rattle.std.specs.Prelude.{◌≡◌, map};
-ghost use Rattle.serde_json.specs.View.{view};
-ghost use Rattle.cap_deriv.specs.Reading.{begins_with_sign, multiplier_of_json};
-ghost use Rattle.cap_deriv.specs.Reading.{pair_of_items, pair_of_json, pairs_of_json};
-ghost use Rattle.cap_deriv.specs.Reading.{leaf_of_items, split_of_items, cert_of_json};
-ghost use Rattle.cap_deriv.specs.Reading.{certs_of_json, mark_of_json, marks_of_json};
-ghost use Rattle.cap_deriv.specs.Views.{Extracts};
+//! Certificates, from the tokens of a line.
+ghost use Rattle.std.specs.Prelude.{◌≡◌, ◌<◌, length, OnOk};
+ghost use Rattle.cap_deriv.specs.Reading.{begins_with_sign, multiplier_text};
+ghost use Rattle.cap_deriv.specs.Taking.{take_multiplier, take_pair, take_pairs, take_leaf};
+ghost use Rattle.cap_deriv.specs.Taking.{take_split, take_opened_cert, take_cert, take_certs};
+ghost use Rattle.cap_deriv.specs.Taking.{take_mark, take_marks};
+ghost use Rattle.cap_deriv.specs.Views.{Extracts, Takes};
 
-use crate::values::{Fault, array, headed, number, text};
+use crate::values::{Fault, close, number, open, text, token, whole};
 use cap_farkas::{Cert, Multipliers};
-use serde_json::Value;
+use json::{Reader, Token};
 use std::alloc::Global;
 
 // Whether a digit other than 0 comes first, or behind a `-`.
@@ -24,10 +23,9 @@ fn has_no_leading_zero(text: &str) -> bool
 }
 
 // A number in decimal, other than 0 and within 128 bits.
-fn multiplier(value: &Value) -> Result<i128, Fault>
-    ensures { Extracts (λ z. z) result (multiplier_of_json (view value.now)) }
+fn multiplier_of(text: &str) -> Result<i128, Fault>
+    ensures { Extracts (λ z. z) result (multiplier_text text.now) }
 {
-    let text = text(value)?;
     if !has_no_leading_zero(text) {
         return Err(Fault::Form);
     }
@@ -37,103 +35,129 @@ fn multiplier(value: &Value) -> Result<i128, Fault>
     }
 }
 
-fn pair_items(items: &[Value]) -> Result<(u32, i128), Fault>
-    ensures { Extracts (λ p. p) result (pair_of_items (map view items.now)) }
+// A text that is such a number.
+fn multiplier(reader: &mut Reader<'_>) -> Result<i128, Fault>
+    ensures taken { Takes (λ z. z) result reader.new (take_multiplier reader.old) }
+    ensures shorter { OnOk result (length reader.new < length reader.old) }
 {
-    match items {
-        [row, factor] => Ok((number(row)?, multiplier(factor)?)),
-        [] | [_] | [_, _, _, ..] => Err(Fault::Form),
-    }
+    multiplier_of(text(reader)?)
 }
 
 // A row and its multiplier.
-fn pair(value: &Value) -> Result<(u32, i128), Fault>
-    ensures { Extracts (λ p. p) result (pair_of_json (view value.now)) }
+fn pair(reader: &mut Reader<'_>) -> Result<(u32, i128), Fault>
+    ensures taken { Takes (λ p. p) result reader.new (take_pair reader.old) }
+    ensures shorter { OnOk result (length reader.new < length reader.old) }
 {
-    pair_items(array(value)?)
+    open(reader)?;
+    let row = number(reader)?;
+    let factor = multiplier(reader)?;
+    close(reader)?;
+    Ok((row, factor))
 }
 
-fn pairs(alloc: Global, value: &Value) -> Result<Multipliers, Fault>
-    ensures { Extracts (λ m. m) result (pairs_of_json (view value.now)) }
+fn pairs(alloc: Global, reader: &mut Reader<'_>) -> Result<Multipliers, Fault>
+    ensures taken { Takes (λ m. m) result reader.new (take_pairs reader.old) }
+    ensures shorter { OnOk result (length reader.new < length reader.old) }
 {
-    let items = array(value)?;
+    open(reader)?;
     let mut found = Vec::new(alloc);
-    for item in items {
-        found.push(pair(item)?)?;
+    'items: while !reader.take_end_array() {
+        let item = pair(reader)?;
+        found.push(item)?;
     }
     Ok(Multipliers::new(found))
 }
 
-fn leaf(alloc: Global, items: &[Value]) -> Result<Cert, Fault>
-    ensures { Extracts (λ c. c) result (leaf_of_items (map view items.now)) }
+fn leaf(alloc: Global, reader: &mut Reader<'_>) -> Result<Cert, Fault>
+    ensures taken { Takes (λ c. c) result reader.new (take_leaf reader.old) }
+    ensures shorter { OnOk result (length reader.new < length reader.old) }
 {
-    match items {
-        [all] => Ok(Cert::Leaf(pairs(alloc, all)?)),
-        [] | [_, _, ..] => Err(Fault::Form),
-    }
+    let all = pairs(alloc, reader)?;
+    close(reader)?;
+    Ok(Cert::Leaf(all))
 }
 
-fn split(alloc: Global, items: &[Value]) -> Result<Cert, Fault>
-    ensures { Extracts (λ c. c) result (split_of_items (map view items.now)) }
+fn split(alloc: Global, reader: &mut Reader<'_>) -> Result<Cert, Fault>
+    ensures taken { Takes (λ c. c) result reader.new (take_split reader.old) }
+    ensures shorter { OnOk result (length reader.new < length reader.old) }
 {
-    match items {
-        [row, below, above] => Ok(Cert::Split(
-            number(row)?,
-            pairs(alloc, below)?,
-            pairs(alloc, above)?,
-        )),
-        [] | [_] | [_, _] | [_, _, _, _, ..] => Err(Fault::Form),
-    }
+    let row = number(reader)?;
+    let below = pairs(alloc, reader)?;
+    let above = pairs(alloc, reader)?;
+    close(reader)?;
+    Ok(Cert::Split(row, below, above))
 }
 
-/// A certificate: a leaf, or a split of a row.
-pub(crate) fn cert(alloc: Global, value: &Value) -> Result<Cert, Fault>
-    ensures { Extracts (λ c. c) result (cert_of_json (view value.now)) }
+// A certificate whose array is open.
+fn opened_cert(alloc: Global, reader: &mut Reader<'_>) -> Result<Cert, Fault>
+    ensures taken { Takes (λ c. c) result reader.new (take_opened_cert reader.old) }
+    ensures shorter { OnOk result (length reader.new < length reader.old) }
 {
-    let (word, rest) = headed(value)?;
-    match word {
-        "leaf" => leaf(alloc, rest),
-        "split" => split(alloc, rest),
+    match text(reader)? {
+        "leaf" => leaf(alloc, reader),
+        "split" => split(alloc, reader),
         _ => Err(Fault::Form),
     }
 }
 
-/// An array of certificates.
-pub(crate) fn certs(alloc: Global, value: &Value) -> Result<Vec<Cert>, Fault>
-    ensures { Extracts (λ v. v.items) result (certs_of_json (view value.now)) }
+/// A certificate: a leaf, or a split of a row.
+pub(crate) fn cert(alloc: Global, reader: &mut Reader<'_>) -> Result<Cert, Fault>
+    ensures taken { Takes (λ c. c) result reader.new (take_cert reader.old) }
+    ensures shorter { OnOk result (length reader.new < length reader.old) }
 {
-    let items = array(value)?;
+    open(reader)?;
+    opened_cert(alloc, reader)
+}
+
+/// An array of certificates.
+pub(crate) fn certs(alloc: Global, reader: &mut Reader<'_>) -> Result<Vec<Cert>, Fault>
+    ensures taken { Takes (λ v. v.items) result reader.new (take_certs reader.old) }
+    ensures shorter { OnOk result (length reader.new < length reader.old) }
+{
+    open(reader)?;
     let mut found = Vec::new(alloc);
-    for item in items {
-        found.push(cert(alloc, item)?)?;
+    'items: while !reader.take_end_array() {
+        let item = cert(alloc, reader)?;
+        found.push(item)?;
     }
     Ok(found)
 }
 
 // The number 0, or a certificate.
-fn mark(alloc: Global, value: &Value) -> Result<Option<Cert>, Fault>
-    ensures { Extracts (λ m. m) result (mark_of_json (view value.now)) }
+fn mark(alloc: Global, reader: &mut Reader<'_>) -> Result<Option<Cert>, Fault>
+    ensures taken { Takes (λ m. m) result reader.new (take_mark reader.old) }
+    ensures shorter { OnOk result (length reader.new < length reader.old) }
 {
-    match value {
-        Value::Number(n) => {
-            if n.as_u64() == Some(0) {
+    match token(reader)? {
+        Token::Number(text) => {
+            if whole(text) == Some(0) {
                 Ok(None)
             } else {
                 Err(Fault::Form)
             }
         }
-        _ => Ok(Some(cert(alloc, value)?)),
+        Token::BeginArray => Ok(Some(opened_cert(alloc, reader)?)),
+        Token::BeginObject
+        | Token::EndObject
+        | Token::EndArray
+        | Token::Key(_)
+        | Token::String(_)
+        | Token::Bool(_)
+        | Token::Null
+        | Token::Bad => Err(Fault::Form),
     }
 }
 
 /// An array of marks.
-pub(crate) fn marks(alloc: Global, value: &Value) -> Result<Vec<Option<Cert>>, Fault>
-    ensures { Extracts (λ v. v.items) result (marks_of_json (view value.now)) }
+pub(crate) fn marks(alloc: Global, reader: &mut Reader<'_>) -> Result<Vec<Option<Cert>>, Fault>
+    ensures taken { Takes (λ v. v.items) result reader.new (take_marks reader.old) }
+    ensures shorter { OnOk result (length reader.new < length reader.old) }
 {
-    let items = array(value)?;
+    open(reader)?;
     let mut found = Vec::new(alloc);
-    for item in items {
-        found.push(mark(alloc, item)?)?;
+    'items: while !reader.take_end_array() {
+        let item = mark(alloc, reader)?;
+        found.push(item)?;
     }
     Ok(found)
 }

@@ -1,20 +1,66 @@
-//! Choices, from the JSON value of a line: their words, by the number of arguments.
-ghost use Rattle.std.specs.Prelude.{◌≡◌, map};
-ghost use Rattle.serde_json.specs.View.{view};
+//! Choices, from the tokens of a line: their words, and the arguments of each.
+ghost use Rattle.std.specs.Prelude.{◌≡◌};
 ghost use Rattle.cap_goal.specs.Views.{choice_view};
-ghost use Rattle.cap_deriv.specs.Reading.{row_of_word, choices_of_none, choices_of_one};
-ghost use Rattle.cap_deriv.specs.Reading.{choices_of_two, choices_of_three};
-ghost use Rattle.cap_deriv.specs.Reading.{choice_of_items, choice_of_json};
-ghost use Rattle.cap_deriv.specs.Views.{Extracts};
+ghost use Rattle.cap_deriv.specs.Taking.{take_by_three, take_by_two, take_by_one};
+ghost use Rattle.cap_deriv.specs.Taking.{take_by_word, take_choice};
+ghost use Rattle.cap_deriv.specs.Views.{Takes};
 
 use crate::certs::{cert, certs, marks};
-use crate::values::{Fault, headed, number, numbers};
+use crate::values::{Fault, close, number, numbers};
 use cap_goal::Choice;
-use serde_json::Value;
+use json::Reader;
 use std::alloc::Global;
 
-fn of_none(word: &str) -> Result<Choice, Fault>
-    ensures { Extracts choice_view result (row_of_word word.now choices_of_none) }
+#[tactic(auto, unfolding(crate::specs::Taking::take_by_three))]
+fn by_three(alloc: Global, word: &str, reader: &mut Reader<'_>) -> Result<Choice, Fault>
+    ensures { Takes choice_view result reader.new (take_by_three word.now reader.old) }
+{
+    match word {
+        "clash" => Ok(Choice::Clash(number(reader)?, number(reader)?, certs(alloc, reader)?)),
+        "act" => Ok(Choice::Act(
+            number(reader)?,
+            certs(alloc, reader)?,
+            marks(alloc, reader)?,
+        )),
+        "pick" => Ok(Choice::Pick(number(reader)?, number(reader)?, number(reader)?)),
+        "guard" => Ok(Choice::Guard(number(reader)?, number(reader)?, certs(alloc, reader)?)),
+        "convert" => Ok(Choice::Convert(number(reader)?, number(reader)?, certs(alloc, reader)?)),
+        _ => Err(Fault::Form),
+    }
+}
+
+#[tactic(auto, unfolding(crate::specs::Taking::take_by_two))]
+fn by_two(alloc: Global, word: &str, reader: &mut Reader<'_>) -> Result<Choice, Fault>
+    ensures { Takes choice_view result reader.new (take_by_two word.now reader.old) }
+{
+    match word {
+        "enter" => Ok(Choice::Enter(number(reader)?, certs(alloc, reader)?)),
+        "settle" => Ok(Choice::Settle(numbers(alloc, reader)?, certs(alloc, reader)?)),
+        "cell" => Ok(Choice::Cell(number(reader)?, certs(alloc, reader)?)),
+        "region" => Ok(Choice::Region(number(reader)?, certs(alloc, reader)?)),
+        _ => by_three(alloc, word, reader),
+    }
+}
+
+#[tactic(auto, unfolding(crate::specs::Taking::take_by_one))]
+fn by_one(alloc: Global, word: &str, reader: &mut Reader<'_>) -> Result<Choice, Fault>
+    ensures { Takes choice_view result reader.new (take_by_one word.now reader.old) }
+{
+    match word {
+        "absurd" => Ok(Choice::Absurd(cert(alloc, reader)?)),
+        "assert" => Ok(Choice::Assert(certs(alloc, reader)?)),
+        "shift" => Ok(Choice::Shift(certs(alloc, reader)?)),
+        "keep" => Ok(Choice::Keep(certs(alloc, reader)?)),
+        "fact" => Ok(Choice::Fact(certs(alloc, reader)?)),
+        "create" => Ok(Choice::Create(number(reader)?)),
+        "made" => Ok(Choice::Made(certs(alloc, reader)?)),
+        _ => by_two(alloc, word, reader),
+    }
+}
+
+#[tactic(auto, unfolding(crate::specs::Taking::take_by_word))]
+fn by_word(alloc: Global, word: &str, reader: &mut Reader<'_>) -> Result<Choice, Fault>
+    ensures { Takes choice_view result reader.new (take_by_word word.now reader.old) }
 {
     match word {
         "set" => Ok(Choice::Set),
@@ -27,68 +73,15 @@ fn of_none(word: &str) -> Result<Choice, Fault>
         "return" => Ok(Choice::Return),
         "give" => Ok(Choice::Give),
         "cases" => Ok(Choice::Cases),
-        _ => Err(Fault::Form),
+        _ => by_one(alloc, word, reader),
     }
 }
 
-fn of_one(alloc: Global, word: &str, a: &Value) -> Result<Choice, Fault>
-    ensures { Extracts choice_view result (row_of_word word.now (choices_of_one (view a.now))) }
+/// The choice of a node's line whose word was read.
+pub(crate) fn choice(alloc: Global, word: &str, reader: &mut Reader<'_>) -> Result<Choice, Fault>
+    ensures { Takes choice_view result reader.new (take_choice word.now reader.old) }
 {
-    match word {
-        "absurd" => Ok(Choice::Absurd(cert(alloc, a)?)),
-        "assert" => Ok(Choice::Assert(certs(alloc, a)?)),
-        "shift" => Ok(Choice::Shift(certs(alloc, a)?)),
-        "keep" => Ok(Choice::Keep(certs(alloc, a)?)),
-        "fact" => Ok(Choice::Fact(certs(alloc, a)?)),
-        "create" => Ok(Choice::Create(number(a)?)),
-        "made" => Ok(Choice::Made(certs(alloc, a)?)),
-        _ => Err(Fault::Form),
-    }
-}
-
-fn of_two(alloc: Global, word: &str, a: &Value, b: &Value) -> Result<Choice, Fault>
-    ensures { Extracts choice_view result
-        (row_of_word word.now (choices_of_two (view a.now) (view b.now))) }
-{
-    match word {
-        "enter" => Ok(Choice::Enter(number(a)?, certs(alloc, b)?)),
-        "settle" => Ok(Choice::Settle(numbers(alloc, a)?, certs(alloc, b)?)),
-        "cell" => Ok(Choice::Cell(number(a)?, certs(alloc, b)?)),
-        "region" => Ok(Choice::Region(number(a)?, certs(alloc, b)?)),
-        _ => Err(Fault::Form),
-    }
-}
-
-fn of_three(alloc: Global, word: &str, a: &Value, b: &Value, c: &Value) -> Result<Choice, Fault>
-    ensures { Extracts choice_view result
-        (row_of_word word.now (choices_of_three (view a.now) (view b.now) (view c.now))) }
-{
-    match word {
-        "clash" => Ok(Choice::Clash(number(a)?, number(b)?, certs(alloc, c)?)),
-        "act" => Ok(Choice::Act(number(a)?, certs(alloc, b)?, marks(alloc, c)?)),
-        "pick" => Ok(Choice::Pick(number(a)?, number(b)?, number(c)?)),
-        "guard" => Ok(Choice::Guard(number(a)?, number(b)?, certs(alloc, c)?)),
-        "convert" => Ok(Choice::Convert(number(a)?, number(b)?, certs(alloc, c)?)),
-        _ => Err(Fault::Form),
-    }
-}
-
-fn of_items(alloc: Global, word: &str, items: &[Value]) -> Result<Choice, Fault>
-    ensures { Extracts choice_view result (choice_of_items word.now (map view items.now)) }
-{
-    match items {
-        [] => of_none(word),
-        [a] => of_one(alloc, word, a),
-        [a, b] => of_two(alloc, word, a, b),
-        [a, b, c] => of_three(alloc, word, a, b, c),
-        [_, _, _, _, ..] => Err(Fault::Form),
-    }
-}
-
-/// The choice of a node's line.
-pub(crate) fn choice(alloc: Global, value: &Value) -> Result<Choice, Fault>
-    ensures { Extracts choice_view result (choice_of_json (view value.now)) }
-{
-    let (word, rest) = headed(value)?;
-    of_items(alloc, word, rest)
+    let choice = by_word(alloc, word, reader)?;
+    close(reader)?;
+    Ok(choice)
 }

@@ -1,13 +1,15 @@
 //! A derivation's lines, one after another.
-ghost use Rattle.std.specs.Prelude.{◌≡◌, ◌≤◌, IsErrOf};
+ghost use Rattle.std.specs.Prelude.{◌≡◌, IsErrOf};
 ghost use Rattle.cap_deriv.specs.Told.{told_by_bytes};
 ghost use Rattle.cap_deriv.specs.declared.cursor.DerivError.TheVariants.{OutOfMemory};
 
 use crate::first::first_line;
 use crate::found::{Found, line, opening};
-use crate::values::{Fault, value};
+use crate::values::Fault;
 use cap_goal::Choice;
+use json::Scratch;
 use std::alloc::{AllocError, AllocFailed, Global};
+use std::marker::Model;
 use thiserror::Error;
 
 const MOST_NODES: u64 = 1_000_000;
@@ -68,15 +70,32 @@ impl Ended {
     }
 }
 
-/// A reader of a derivation's choices, in preorder.
+/// A reader of a derivation's choices, in preorder. Contracts see where it stands; the memory that
+/// it reads a line with, which is kept from line to line, plays no part in what it tells.
 #[derive(Drop)]
 pub struct Cursor<'a> {
     alloc: Global,
+    scratch: Scratch,
     trees: u32,
     nodes: u64,
     ended: Option<Ended>,
     rest: &'a [u8],
-    ghost few: { nodes ≤ 1000000 },
+}
+
+impl<'a> Model for Cursor<'a> {
+    ghost use Rattle.std.specs.Prelude.{◌≤◌};
+    ghost use Rattle.cap_deriv.specs.Standing.{Standing};
+
+    ghost Value = { Standing };
+
+    ghost view = { λ c. record {
+      trees = c.trees;
+      nodes = c.nodes;
+      ended = c.ended;
+      rest = c.rest.now;
+    } };
+
+    ghost invariant = { λ c. c.nodes ≤ 1000000 };
 }
 
 impl<'a> Cursor<'a> {
@@ -91,13 +110,11 @@ impl<'a> Cursor<'a> {
         let Some((first, rest)) = first_line(bytes) else {
             return Err(DerivError::Unended);
         };
-        let trees = match value(alloc, first) {
-            Ok(value) => opening(&value),
-            Err(fault) => Err(fault),
-        };
-        match trees {
+        let mut scratch = Scratch::new(alloc);
+        match opening(first, &mut scratch) {
             Ok(trees) => Ok(Cursor {
                 alloc,
+                scratch,
                 trees,
                 nodes: 0,
                 ended: None,
@@ -142,7 +159,7 @@ impl<'a> Cursor<'a> {
         let Some((first, rest)) = first_line(self.rest) else {
             return self.end(Ended::Short);
         };
-        match line(self.alloc, first) {
+        match line(self.alloc, first, &mut self.scratch) {
             Ok(Found::Node(choice)) => {
                 if self.nodes < MOST_NODES {
                     self.nodes += 1;

@@ -1,13 +1,13 @@
-//! Parts of a line's JSON value.
-ghost use Rattle.std.specs.Prelude.{◌≡◌, map};
-ghost use Rattle.serde_json.specs.Find.{as_str};
-ghost use Rattle.serde_json.specs.View.{view};
-ghost use Rattle.cap_deriv.specs.Reading.{array_of_json, long_of_json, number_of_json};
-ghost use Rattle.cap_deriv.specs.Reading.{numbers_of_json, head_of_json, json_of_bytes};
-ghost use Rattle.cap_deriv.specs.Views.{Extracts};
-ghost use Rattle.cap_deriv.specs.declared.values.Fault.TheVariants.{OutOfMemory};
+//! Parts of a line, from the tokens of its JSON text.
+ghost use Rattle.std.specs.Prelude.{◌≡◌, ◌<◌, ◌==◌, ◌∷◌, [], length, slice_index, OnOk, MatchResult};
+ghost use Rattle.json.specs.Reads.{token_of};
+ghost use Rattle.cap_deriv.specs.Taking.{take_open, take_close, take_long, take_number};
+ghost use Rattle.cap_deriv.specs.Taking.{take_text, take_numbers, long_of_text};
+ghost use Rattle.cap_deriv.specs.Views.{Takes};
+ghost use Rattle.cap_deriv.specs.declared.values.Fault.TheVariants.{Form, OutOfMemory};
 
-use serde_json::Value;
+use fast_float::Numeral;
+use json::{Reader, Token};
 use std::alloc::{AllocError, AllocFailed, Global};
 
 /// Why a line is read as nothing: its form, or want of memory.
@@ -33,47 +33,94 @@ impl<T: Drop> From<AllocFailed<T>> for Fault {
     }
 }
 
-/// The JSON value of a line.
-pub(crate) fn value(alloc: Global, line: &[u8]) -> Result<Value, Fault>
-    ensures { Extracts view result (json_of_bytes line.now) }
+/// The next token.
+pub(crate) fn token<'a>(reader: &mut Reader<'a>) -> Result<Token<'a>, Fault>
+    ensures { MatchResult result (λ t. reader.old ≡ token_of t ∷ reader.new)
+        (λ e. (e ≡ Form) × (reader.old ≡ [])) }
 {
-    match Value::from_slice(alloc, line) {
-        Ok(value) => Ok(value),
-        Err(error) => {
-            if error.is_memory() {
-                Err(Fault::OutOfMemory)
-            } else {
-                Err(Fault::Form)
-            }
-        }
+    match reader.next() {
+        Some(token) => Ok(token),
+        None => Err(Fault::Form),
     }
 }
 
-/// The items of an array.
-pub(crate) fn array(value: &Value) -> Result<&[Value], Fault>
-    ensures { Extracts (λ s. map view s.now) result (array_of_json (view value.now)) }
+/// Goes into an array.
+pub(crate) fn open(reader: &mut Reader<'_>) -> Result<(), Fault>
+    ensures taken { Takes (λ u. tt) result reader.new (take_open reader.old) }
+    ensures shorter { OnOk result (length reader.new < length reader.old) }
 {
-    match value.as_array() {
-        Some(items) => Ok(items.as_slice()),
-        None => Err(Fault::Form),
+    match token(reader)? {
+        Token::BeginArray => Ok(()),
+        Token::BeginObject
+        | Token::EndObject
+        | Token::EndArray
+        | Token::Key(_)
+        | Token::String(_)
+        | Token::Number(_)
+        | Token::Bool(_)
+        | Token::Null
+        | Token::Bad => Err(Fault::Form),
+    }
+}
+
+/// Leaves an array, behind its last item.
+pub(crate) fn close(reader: &mut Reader<'_>) -> Result<(), Fault>
+    ensures taken { Takes (λ u. tt) result reader.new (take_close reader.old) }
+    ensures shorter { OnOk result (length reader.new < length reader.old) }
+{
+    if reader.take_end_array() {
+        Ok(())
+    } else {
+        Err(Fault::Form)
+    }
+}
+
+fn has_minus(bytes: &[u8]) -> bool
+    ensures { result ≡ (slice_index bytes.now 0 == 45) }
+{
+    !bytes.is_empty() && bytes[0] == b'-'
+}
+
+/// The number that a JSON text writes without sign, fraction and exponent, within 64 bits.
+pub(crate) fn whole(text: &str) -> Option<u64>
+    ensures { result ≡ long_of_text text.now }
+{
+    let bytes = text.as_bytes();
+    if has_minus(bytes) {
+        None
+    } else {
+        Numeral::scan(bytes).to_u64()
     }
 }
 
 /// A number without sign, fraction and exponent, within 64 bits.
-pub(crate) fn long(value: &Value) -> Result<u64, Fault>
-    ensures { Extracts (λ n. n) result (long_of_json (view value.now)) }
+pub(crate) fn long(reader: &mut Reader<'_>) -> Result<u64, Fault>
+    ensures taken { Takes (λ n. n) result reader.new (take_long reader.old) }
+    ensures shorter { OnOk result (length reader.new < length reader.old) }
 {
-    match value.as_u64() {
-        Some(n) => Ok(n),
-        None => Err(Fault::Form),
+    match token(reader)? {
+        Token::Number(text) => match whole(text) {
+            Some(n) => Ok(n),
+            None => Err(Fault::Form),
+        },
+        Token::BeginObject
+        | Token::EndObject
+        | Token::BeginArray
+        | Token::EndArray
+        | Token::Key(_)
+        | Token::String(_)
+        | Token::Bool(_)
+        | Token::Null
+        | Token::Bad => Err(Fault::Form),
     }
 }
 
 /// Such a number within 32 bits.
-pub(crate) fn number(value: &Value) -> Result<u32, Fault>
-    ensures { Extracts (λ n. n) result (number_of_json (view value.now)) }
+pub(crate) fn number(reader: &mut Reader<'_>) -> Result<u32, Fault>
+    ensures taken { Takes (λ n. n) result reader.new (take_number reader.old) }
+    ensures shorter { OnOk result (length reader.new < length reader.old) }
 {
-    let n = long(value)?;
+    let n = long(reader)?;
     if n < 1 << 32 {
         Ok(n as u32)
     } else {
@@ -82,33 +129,34 @@ pub(crate) fn number(value: &Value) -> Result<u32, Fault>
 }
 
 /// An array of numbers.
-pub(crate) fn numbers(alloc: Global, value: &Value) -> Result<Vec<u32>, Fault>
-    ensures { Extracts (λ v. v.items) result (numbers_of_json (view value.now)) }
+pub(crate) fn numbers(alloc: Global, reader: &mut Reader<'_>) -> Result<Vec<u32>, Fault>
+    ensures taken { Takes (λ v. v.items) result reader.new (take_numbers reader.old) }
+    ensures shorter { OnOk result (length reader.new < length reader.old) }
 {
-    let items = array(value)?;
+    open(reader)?;
     let mut found = Vec::new(alloc);
-    for item in items {
-        found.push(number(item)?)?;
+    'items: while !reader.take_end_array() {
+        let item = number(reader)?;
+        found.push(item)?;
     }
     Ok(found)
 }
 
 /// The characters of a text.
-pub(crate) fn text(value: &Value) -> Result<&str, Fault>
-    ensures { Extracts (λ s. s.now) result (as_str (view value.now)) }
+pub(crate) fn text<'a>(reader: &mut Reader<'a>) -> Result<&'a str, Fault>
+    ensures taken { Takes (λ s. s.now) result reader.new (take_text reader.old) }
+    ensures shorter { OnOk result (length reader.new < length reader.old) }
 {
-    match value.as_str() {
-        Some(s) => Ok(s),
-        None => Err(Fault::Form),
-    }
-}
-
-/// The word that an array begins with, and its arguments.
-pub(crate) fn headed(value: &Value) -> Result<(&str, &[Value]), Fault>
-    ensures { Extracts (λ p. (p.0.now, map view p.1.now)) result (head_of_json (view value.now)) }
-{
-    match array(value)? {
-        [word, rest @ ..] => Ok((text(word)?, rest)),
-        [] => Err(Fault::Form),
+    match token(reader)? {
+        Token::String(text) => Ok(text),
+        Token::BeginObject
+        | Token::EndObject
+        | Token::BeginArray
+        | Token::EndArray
+        | Token::Key(_)
+        | Token::Number(_)
+        | Token::Bool(_)
+        | Token::Null
+        | Token::Bad => Err(Fault::Form),
     }
 }

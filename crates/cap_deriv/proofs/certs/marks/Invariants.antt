@@ -1,8 +1,14 @@
-use Rattle.std.proofs.Common.{◌≡◌, ◌++◌, map, drop, option_map}
-use Rattle.serde_json.specs.View.{view}
-use Rattle.cap_deriv.specs.Reading.{each_of_json, mark_of_json}
+use Rattle.std.proofs.Common.{◌≡◌, ℕ, ◌≤◌, ◌++◌, length}
+use Rattle.json.specs.Json.{parse_map}
+use Rattle.cap_deriv.specs.Taking.{take_mark, take_items}
 use Rattle.cap_deriv.proofs.certs.marks.Given as goal
 
 -- what was read, in front of what is still to be read
-abbrev pub invariant-loop-item : goal.invariant-loop-item
-invariant-loop-item l = option_map (λ xs. l.found.items ++ xs) (each_of_json mark_of_json (map view (drop l.item-index l.items))) ≡ each_of_json mark_of_json (map view l.items)
+abbrev pub invariant-items : goal.invariant-items
+invariant-items l =
+    (n : ℕ) × (length l.reader ≤ n)
+    × (take_items take_mark (length l.initial.reader) l.initial.reader ≡ parse_map (λ xs. l.found.items ++ xs) (take_items take_mark n l.reader))
+    × (length l.reader ≤ length l.initial.reader)
+
+abbrev pub decreases-items : goal.decreases-items
+decreases-items l = length l.reader
