@@ -21,15 +21,19 @@ write_program() {
     cd "$copy/crates/vectors_$name"
 }
 
-# `compare NAME VECTORS USES MODULE..` tries such a program on a file of vectors, compiled with checks and
-# without a proof of its own, and ends with its status.
+# Tries the program that was written on a file of vectors, compiled with checks and without a proof of its
+# own. What it prints is then in `$copy/printed`, and what is told of the try in `$copy/log`.
+try_program() {
+    rt try --seconds 3600 --data "vectors=$1" -- vectors >"$copy/printed" 2>"$copy/log" </dev/null
+}
+
+# `compare NAME VECTORS USES MODULE..` tries such a program on a file of vectors, and ends with its status.
 compare() {
     local name=$1 vectors
     vectors=$(realpath "$2")
     shift 2
     write_program "$name" "$@"
-    if rt try --seconds 3600 --data "vectors=$vectors" -- vectors \
-        >"$copy/printed" 2>"$copy/log" </dev/null; then
+    if try_program "$vectors"; then
         cat "$copy/printed"
     else
         cat "$copy/printed"
