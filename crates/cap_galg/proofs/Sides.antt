@@ -5,7 +5,7 @@ use Rattle.cap_galg.specs.declared.error.GuardError.{GuardError}
 use Rattle.cap_galg.specs.declared.error.GuardError.TheVariants.{Wide, OutOfMemory}
 use Rattle.cap_galg.specs.Elements.{Element, nothing, one, share, tok, src, both, whole, left, right, is_unit, is_full, pair_of, on_left, on_right, in_left, in_right, bind, compose, is_wide, at_most}
 use Rattle.cap_galg.specs.Algebras.{PlainAlgebra, full, IsElement, AreKin}
-use Rattle.cap_galg.specs.Answers.{IsComposition, paired}
+use Rattle.cap_galg.specs.Answers.{IsComposition, answer_of_both}
 use Rattle.cap_galg.specs.Laws.Composition.{bind-none, true_or_false, and-true, some-same, compose-nothing, compose-comm, unit-is, composed-not-unit, full_alone, sound-pair, IsSound}
 use Rattle.cap_galg.specs.Laws.Algebras.{sound-of, closed, full-element, full-only, at_most-full, completes}
 use Rattle.cap_galg.specs.Views.{HasShares}
@@ -40,7 +40,7 @@ some-not-none : {A : Type 0} (o : Option A) (x : A) → o ≡ Some x → o ≢ N
 some-not-none o x e n = let m : Some x ≡ None = sym e ∙ n in cc
 
 pub two-composition : {A B : Type 0} (f : A → Element) (g : B → Element) (x y a b c d : Element) (make : Element → Element → Element) (r : Result (Option A) GuardError) (s : Result (Option B) GuardError)
-    → ByTwo x y a b c d make → IsComposition f a c r → IsComposition g b d s → IsComposition {T = A × B} (λ p. make (f p.0) (g p.1)) x y (paired r s)
+    → ByTwo x y a b c d make → IsComposition f a c r → IsComposition g b d s → IsComposition {T = A × B} (λ p. make (f p.0) (g p.1)) x y (answer_of_both r s)
 two-composition f g x y a b c d make (Ok None) s t p q = t.composed ∙ ap (λ o. bind o (λ u. bind (compose b d) (λ v. Some (make u v)))) p
 two-composition f g x y a b c d make (Ok (Some u)) (Ok None) t p q =
     t.composed ∙ ap (λ o. bind o (λ u. bind (compose b d) (λ v. Some (make u v)))) p.0 ∙ ap (λ o. bind o (λ v. Some (make (f u) v))) q
@@ -337,12 +337,12 @@ at_most-in-right x y k = elim (true_or_false (is_unit x)) [
 -- ---- answers in code
 
 pub two-error : {A B T : Type 0} (f : A → Element) (g : B → Element) (h : T → Element) (x y a b c d : Element) (make : Element → Element → Element) (r : Result (Option A) GuardError) (s : Result (Option B) GuardError) (q : Result (Option (A × B)) GuardError) (e : GuardError)
-    → ByTwo x y a b c d make → IsComposition f a c r → IsComposition g b d s → q ≡ paired r s → q ≡ Err e → IsComposition h x y (Err e)
+    → ByTwo x y a b c d make → IsComposition f a c r → IsComposition g b d s → q ≡ answer_of_both r s → q ≡ Err e → IsComposition h x y (Err e)
 two-error f g h x y a b c d make r s q e t p k m n =
     error-composition {A = _ × _} (λ p. make (f p.0) (g p.1)) h x y e (subst (IsComposition (λ p. make (f p.0) (g p.1)) x y) (sym m ∙ n) (two-composition f g x y a b c d make r s t p k))
 
 pub two-some : {A B : Type 0} (f : A → Element) (g : B → Element) (x y a b c d : Element) (make : Element → Element → Element) (r : Result (Option A) GuardError) (s : Result (Option B) GuardError) (q : Result (Option (A × B)) GuardError) (u : A) (v : B)
-    → ByTwo x y a b c d make → IsComposition f a c r → IsComposition g b d s → q ≡ paired r s → q ≡ Ok (Some (u, v)) → (compose x y ≡ Some (make (f u) (g v))) × (is_wide x y ≡ false)
+    → ByTwo x y a b c d make → IsComposition f a c r → IsComposition g b d s → q ≡ answer_of_both r s → q ≡ Ok (Some (u, v)) → (compose x y ≡ Some (make (f u) (g v))) × (is_wide x y ≡ false)
 two-some f g x y a b c d make r s q u v t p k m n =
     subst (IsComposition (λ p. make (f p.0) (g p.1)) x y) (sym m ∙ n) (two-composition f g x y a b c d make r s t p k)
 

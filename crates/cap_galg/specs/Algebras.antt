@@ -74,15 +74,15 @@ at_atom a i x = x
 abbrev pub atom_element : PlainAlgebra → ℕ → Element → Element
 atom_element a i x = if is_unit x then nothing else at_atom a i x
 
--- two atoms stand on two sides of a sum: where they are parted at this node, whether it is a sum, and else as on
+-- two atoms stand on two sides of a sum: where this node parts them, whether it is a sum, and else as on
 -- the one side that has both
-abbrev pub parted : Bool → (ℕ → ℕ → Bool) → (ℕ → ℕ → Bool) → ℕ → ℕ → ℕ → ℕ → Bool
-parted is_sum l r n m i j =
+abbrev pub apart_at_node : Bool → (ℕ → ℕ → Bool) → (ℕ → ℕ → Bool) → ℕ → ℕ → ℕ → ℕ → Bool
+apart_at_node is_sum l r n m i j =
     if nat_lt i n
     then (if nat_lt j n then l i j else is_sum && nat_lt (j - n) m)
     else (if nat_lt j n then is_sum && nat_lt (i - n) m else r (i - n) (j - n))
 
 abbrev pub are_apart : PlainAlgebra → ℕ → ℕ → Bool
-are_apart (product a b) i j = parted false (are_apart a) (are_apart b) (atoms a) (atoms b) i j
-are_apart (sum a b) i j = parted true (are_apart a) (are_apart b) (atoms a) (atoms b) i j
+are_apart (product a b) i j = apart_at_node false (are_apart a) (are_apart b) (atoms a) (atoms b) i j
+are_apart (sum a b) i j = apart_at_node true (are_apart a) (are_apart b) (atoms a) (atoms b) i j
 are_apart a i j = false

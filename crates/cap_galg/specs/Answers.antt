@@ -17,12 +17,12 @@ OnComposite (Ok (Some z)) P = P z
 OnComposite _ P = Unit {0}
 
 -- the answers for two parts, as one answer: nothing where either is nothing, else want of memory, else Wide
-abbrev pub paired : {A B : Type 0} → Result (Option A) GuardError → Result (Option B) GuardError → Result (Option (A × B)) GuardError
-paired (Ok None) s = Ok None
-paired (Ok (Some x)) (Ok None) = Ok None
-paired (Ok (Some x)) (Ok (Some y)) = Ok (Some (x, y))
-paired (Ok (Some x)) (Err e) = Err e
-paired (Err OutOfMemory) s = Err OutOfMemory
-paired (Err Wide) (Ok None) = Ok None
-paired (Err Wide) (Ok (Some y)) = Err Wide
-paired (Err Wide) (Err e) = Err e
+abbrev pub answer_of_both : {A B : Type 0} → Result (Option A) GuardError → Result (Option B) GuardError → Result (Option (A × B)) GuardError
+answer_of_both (Ok None) s = Ok None
+answer_of_both (Ok (Some x)) (Ok None) = Ok None
+answer_of_both (Ok (Some x)) (Ok (Some y)) = Ok (Some (x, y))
+answer_of_both (Ok (Some x)) (Err e) = Err e
+answer_of_both (Err OutOfMemory) s = Err OutOfMemory
+answer_of_both (Err Wide) (Ok None) = Ok None
+answer_of_both (Err Wide) (Ok (Some y)) = Err Wide
+answer_of_both (Err Wide) (Err e) = Err e

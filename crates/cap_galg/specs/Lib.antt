@@ -5,5 +5,6 @@ pub mod Algebras
 pub mod Views
 pub mod Answers
 pub mod Placed
+pub mod OfAlgebra
 pub mod Portions
 pub mod Laws

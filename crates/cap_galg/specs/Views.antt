@@ -1,7 +1,8 @@
 -- What contracts see of the types in code.
+use Rattle.std.specs.Prelude.{◌≡◌, ℕ, ◌<◌}
 use Rattle.cap_galg.specs.Elements.{Element, nothing, one, share, tok, src, both, whole, left, right, in_left, in_right, amount, tokens}
 use Rattle.cap_galg.specs.Fractions.{IsShare, IsAmount}
-use Rattle.cap_galg.specs.Algebras.{PlainAlgebra, unique, divisible, counting, product, sum}
+use Rattle.cap_galg.specs.Algebras.{PlainAlgebra, unique, divisible, counting, product, sum, atoms, atom_algebra}
 use Rattle.cap_galg.specs.declared.algebra.Algebra.{Algebra, fold-Algebra}
 use Rattle.cap_galg.specs.declared.algebra.Atom.{Atom}
 use Rattle.cap_galg.specs.declared.algebra.Atom.TheVariants as atom
@@ -85,3 +86,15 @@ IsAmountOf divisible (part.Share f) = IsAmount f
 IsAmountOf counting (part.Src n) = Unit {0}
 IsAmountOf counting (part.Tok k) = Unit {0}
 IsAmountOf a m = ⊥
+
+-- how many atoms a declared algebra has
+abbrev pub atom_count : Algebra → ℕ
+atom_count a = atoms (algebra_view a)
+
+-- a declared algebra has an atom, which is of this kind
+abbrev pub HasAtom : Algebra → ℕ → Atom → Type 0
+HasAtom a i k = (i < atom_count a) × (atom_view k ≡ atom_algebra (algebra_view a) i)
+
+-- a declared algebra has an atom, and the amount is one of it
+abbrev pub Accepts : Algebra → ℕ → Amount → Type 0
+Accepts a i m = (i < atom_count a) × IsAmountOf (atom_algebra (algebra_view a) i) m

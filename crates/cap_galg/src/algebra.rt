@@ -1,15 +1,16 @@
-ghost use Rattle.std.specs.Prelude.{true, false, ◌≡◌, ◌↔◌, ◌<◌, ◌≤◌, ◌+◌, ◌-◌, ◌==◌, if◌then◌else◌, IsTrue, IfOk, Ok, Err, MatchResult, MatchOption};
-ghost use Rattle.cap_galg.specs.Algebras.{atoms, atom_algebra, are_apart};
+ghost use Rattle.std.specs.Prelude.{true, false, ◌≡◌, ◌↔◌, ◌≤◌, ◌+◌, ◌-◌, ◌==◌, if◌then◌else◌};
+ghost use Rattle.std.specs.Prelude.{IsTrue, IfOk, Ok, Err, MatchResult, MatchOption};
+ghost use Rattle.cap_galg.specs.Algebras.{are_apart};
 ghost use Rattle.cap_galg.specs.Placed.{HasPassed};
 ghost use Rattle.cap_galg.specs.declared.algebra.Passed.TheVariants.{Both, First, Second, Neither};
-ghost use Rattle.cap_galg.specs.Views.{algebra_view, atom_view, IsAmountOf};
+ghost use Rattle.cap_galg.specs.Views.{algebra_view, atom_count, HasAtom, Accepts};
 
 use crate::amount::Amount;
 use std::alloc::{AllocError, Global};
 
-/// The guards of a region: one guard that is unique, divisible or counting, or two algebras of which a
-/// thread may hold parts of both (`Pair`) or of one alone (`Either`). Its atoms are its unique,
-/// divisible and counting guards, numbered from 0, left to right.
+/// The guards of a region: one guard that is unique, divisible or counting, or two algebras of
+/// which a thread may hold parts of both (`Pair`) or of one alone (`Either`). Its atoms are its
+/// unique, divisible and counting guards, numbered from 0, left to right.
 #[derive(Debug, Drop)]
 pub enum Algebra {
     Unique,
@@ -29,7 +30,8 @@ pub enum Atom {
 
 // The kind of an atom, or else how many atoms it comes after the algebra's.
 fn atom_or_rest(algebra: &Algebra, atom: u32) -> Result<Atom, u32>
-    ensures { MatchResult result (λ k. (atom < atoms (algebra_view algebra.now)) × (atom_view k ≡ atom_algebra (algebra_view algebra.now) atom)) (λ rest. atoms (algebra_view algebra.now) + rest ≡ atom) }
+    ensures { MatchResult result
+        (HasAtom algebra.now atom) (λ rest. atom_count algebra.now + rest ≡ atom) }
 {
     match algebra {
         Algebra::Unique => leaf_or_rest(Atom::Unique, atom),
@@ -94,7 +96,9 @@ fn pass(algebra: &Algebra, i: u32, j: u32) -> Passed
 }
 
 fn pass_leaf(i: u32, j: u32) -> Passed
-    ensures { result ≡ (if i == 0 then (if j == 0 then Both false else First (j - 1)) else (if j == 0 then Second (i - 1) else Neither (i - 1) (j - 1))) }
+    ensures { result ≡ (if i == 0
+        then (if j == 0 then Both false else First (j - 1))
+        else (if j == 0 then Second (i - 1) else Neither (i - 1) (j - 1))) }
 {
     if i == 0 {
         if j == 0 {
@@ -112,7 +116,7 @@ fn pass_leaf(i: u32, j: u32) -> Passed
 impl Algebra {
     /// The kind of an atom, where the algebra has it.
     pub fn atom(&self, atom: u32) -> Option<Atom>
-        ensures { MatchOption result (atoms (algebra_view self.now) ≤ atom) (λ k. (atom < atoms (algebra_view self.now)) × (atom_view k ≡ atom_algebra (algebra_view self.now) atom)) }
+        ensures { MatchOption result (atom_count self.now ≤ atom) (HasAtom self.now atom) }
     {
         match atom_or_rest(self, atom) {
             Ok(kind) => Some(kind),
@@ -123,7 +127,7 @@ impl Algebra {
     /// Whether the algebra has an atom, and an amount fits it: its form is that of the atom's
     /// declaration, and a fraction is in lowest terms and at most 1.
     pub fn accepts(&self, atom: u32, amount: Amount) -> bool
-        ensures { IsTrue result ↔ ((atom < atoms (algebra_view self.now)) × IsAmountOf (atom_algebra (algebra_view self.now) atom) amount) }
+        ensures { IsTrue result ↔ Accepts self.now atom amount }
     {
         match self.atom(atom) {
             Some(kind) => amount.fits(kind),
@@ -131,8 +135,8 @@ impl Algebra {
         }
     }
 
-    /// Whether the algebra has two atoms, and they stand on two sides of a sum, so that parts of the
-    /// one and of the other never compose, unless one of them is the unit.
+    /// Whether the algebra has two atoms, and they stand on two sides of a sum, so that parts of
+    /// the one and of the other never compose, unless one of them is the unit.
     pub fn are_apart(&self, i: u32, j: u32) -> bool
         ensures { result ≡ are_apart (algebra_view self.now) i j }
     {

@@ -4,8 +4,8 @@ ghost use Rattle.cap_galg.specs.Views.{atom_view, IsAmountOf};
 use crate::algebra::Atom;
 use crate::fraction::Fraction;
 
-/// How much of one guard: all of a unique one, a fraction of a divisible one, or, of a counting one,
-/// the source with some tokens out, or some tokens.
+/// How much of one guard: all of a unique one, a fraction of a divisible one, or, of a counting
+/// one, the source with some tokens out, or some tokens.
 #[derive(Clone, Copy, Debug, PartialEq, Eq)]
 pub enum Amount {
     One,
@@ -15,8 +15,8 @@ pub enum Amount {
 }
 
 impl Amount {
-    /// Whether an amount is one of an atom of this kind. A fraction is, where its denominator isn't 0,
-    /// it is in lowest terms and at most 1.
+    /// Whether an amount is one of an atom of this kind. A fraction is, where its denominator isn't
+    /// 0, it is in lowest terms and at most 1.
     pub fn fits(self, kind: Atom) -> bool
         ensures { IsTrue result ↔ IsAmountOf (atom_view kind) self }
     {

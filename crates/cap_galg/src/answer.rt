@@ -1,15 +1,15 @@
 ghost use Rattle.std.specs.Prelude.{◌≡◌};
-ghost use Rattle.cap_galg.specs.Answers.{paired};
+ghost use Rattle.cap_galg.specs.Answers.{answer_of_both};
 
 use crate::error::GuardError;
 
-/// The answers for two parts, as one answer: nothing where either is nothing, else the first want of
-/// memory, else Wide.
+/// The answers for two parts, as one answer: nothing where either is nothing, else the first want
+/// of memory, else Wide.
 pub fn paired_answer<A: Drop, B: Drop>(
     first: Result<Option<A>, GuardError>,
     second: Result<Option<B>, GuardError>,
 ) -> Result<Option<(A, B)>, GuardError>
-    ensures { result ≡ paired first second }
+    ensures { result ≡ answer_of_both first second }
 {
     match first {
         Ok(None) => Ok(None),

@@ -95,5 +95,6 @@ impl<A: Guard, B: Guard> Guard for Either<A, B> {
 
     ghost kin_symmetric = { side-symmetric A.kin B.kin A.kin_symmetric B.kin_symmetric };
 
-    ghost lawful = { side-kin A.element B.element A.kin B.kin A.kin_reflexive B.kin_reflexive A.lawful B.lawful };
+    ghost lawful = { side-kin A.element B.element A.kin B.kin
+        A.kin_reflexive B.kin_reflexive A.lawful B.lawful };
 }

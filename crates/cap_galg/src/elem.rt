@@ -1,9 +1,10 @@
 ghost use Rattle.std.specs.Prelude.{◌≡◌, ◌<◌, ◌-◌, ◌==◌, if◌then◌else◌, IfOk, MatchResult};
-ghost use Rattle.cap_galg.specs.Views.{algebra_view, node_view, amount_element, IsAmountOf};
+ghost use Rattle.cap_galg.specs.Views.{algebra_view, node_view, amount_element};
+ghost use Rattle.cap_galg.specs.Views.{atom_count, IsAmountOf};
 ghost use Rattle.cap_galg.specs.Placed.{IsPlaced};
 ghost use Rattle.cap_galg.specs.declared.elem.Placed.TheVariants.{Here, Past};
 ghost use Rattle.cap_galg.specs.Elements.{nothing};
-ghost use Rattle.cap_galg.specs.Algebras.{IsElement, full, atoms, atom_algebra, atom_element};
+ghost use Rattle.cap_galg.specs.Algebras.{IsElement, full, atom_algebra, atom_element};
 ghost use Rattle.cap_galg.specs.Laws.Kin.{element-prop};
 ghost use Rattle.cap_galg.specs.declared.error.GuardError.TheVariants.{OutOfMemory};
 
@@ -20,7 +21,8 @@ use std::alloc::{AllocError, Global};
 pub struct Elem {
     algebra: Algebra,
     node: Node,
-    ghost proper: { IsElement (algebra_view algebra) (node_view node) } by { element-prop (algebra_view algebra) (node_view node) },
+    ghost proper: { IsElement (algebra_view algebra) (node_view node) } by {
+        element-prop (algebra_view algebra) (node_view node) },
 }
 
 // Where the walk for an atom has come to: the element with this atom, or how many atoms come before
@@ -109,9 +111,11 @@ fn full_node(alloc: Global, algebra: &Algebra) -> Result<Node, AllocError>
 }
 
 impl Elem {
+    ghost use Rattle.cap_galg.specs.OfAlgebra.{IsElementOf};
+
     /// The unit: no part of any guard.
     pub fn unit(alloc: Global, algebra: &Algebra) -> Result<Elem, GuardError>
-        ensures { MatchResult result (λ e. (node_view e.node ≡ nothing) × (algebra_view e.algebra ≡ algebra_view algebra.now)) (λ e. e ≡ OutOfMemory) }
+        ensures { MatchResult result (IsElementOf algebra.now nothing) (λ e. e ≡ OutOfMemory) }
     {
         Ok(Elem {
             algebra: algebra.copy(alloc)?,
@@ -128,7 +132,8 @@ impl Elem {
 
     /// The full element, which composes with the unit alone.
     pub fn full(alloc: Global, algebra: &Algebra) -> Result<Elem, GuardError>
-        ensures { MatchResult result (λ e. (node_view e.node ≡ full (algebra_view algebra.now)) × (algebra_view e.algebra ≡ algebra_view algebra.now)) (λ e. e ≡ OutOfMemory) }
+        ensures { MatchResult result
+            (IsElementOf algebra.now (full (algebra_view algebra.now))) (λ e. e ≡ OutOfMemory) }
     {
         let node = full_node(alloc, algebra)?;
         Ok(Elem {
@@ -146,9 +151,10 @@ impl Elem {
         atom: u32,
         amount: Amount,
     ) -> Result<Elem, GuardError>
-        requires exists { atom < atoms (algebra_view algebra.now) }
+        requires exists { atom < atom_count algebra.now }
         requires fits { IsAmountOf (atom_algebra (algebra_view algebra.now) atom) amount }
-        ensures { MatchResult result (λ e. (node_view e.node ≡ atom_element (algebra_view algebra.now) atom (amount_element amount)) × (algebra_view e.algebra ≡ algebra_view algebra.now)) (λ e. e ≡ OutOfMemory) }
+        ensures { let x = atom_element (algebra_view algebra.now) atom (amount_element amount) in
+            MatchResult result (IsElementOf algebra.now x) (λ e. e ≡ OutOfMemory) }
     {
         let node = amount_node(amount);
         if node.is_unit() {
@@ -206,5 +212,7 @@ impl Guard for Elem {
 
     ghost kin_symmetric = { λ x y k. sym k };
 
-    ghost lawful = { λ x y k. elem-kin (algebra_view x.algebra) (algebra_view y.algebra) (node_view x.node) (node_view y.node) k x.proper y.proper };
+    ghost lawful = { λ x y k.
+        elem-kin (algebra_view x.algebra) (algebra_view y.algebra)
+        (node_view x.node) (node_view y.node) k x.proper y.proper };
 }

@@ -7,8 +7,8 @@ use thiserror::Error;
 /// Why there is no element.
 #[derive(Clone, Copy, Debug, PartialEq, Eq, Error)]
 pub enum GuardError {
-    /// The elements compose, and in their composition the denominator of a sum in lowest terms, or a
-    /// count, passes 64 bits.
+    /// The elements compose, and in their composition the denominator of a sum in lowest terms, or
+    /// a count, passes 64 bits.
     #[error("a number passes 64 bits")]
     Wide,
     /// Memory ran out.

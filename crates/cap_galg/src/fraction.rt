@@ -53,7 +53,8 @@ fn product(a: u64, b: u64) -> u128
 fn reduced(num: u128, den: u128) -> Result<Fraction, GuardError>
     requires positive { 0 < den }
     requires most { num ≤ den }
-    ensures { MatchResult result (λ f. (f ≡ lowest num den) × ((lowest num den).den < 2 ^ 64)) (λ e. (e ≡ Wide) × (2 ^ 64 ≤ (lowest num den).den)) }
+    ensures { let f = lowest num den in MatchResult result
+        (λ r. (r ≡ f) × (f.den < 2 ^ 64)) (λ e. (e ≡ Wide) × (2 ^ 64 ≤ f.den)) }
 {
     let divisor = common_divisor(num, den);
     let num = num / divisor;

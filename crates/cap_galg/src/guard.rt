@@ -16,11 +16,13 @@ pub trait Guard: Drop {
     ghost kin: { Self → Self → Type 0 };
 
     /// What two parts compose to, and nothing exactly where they don't compose. Wide comes exactly
-    /// where they compose, and the denominator of a sum in lowest terms, or a count, passes 64 bits.
+    /// where they compose, and the denominator of a sum in lowest terms, or a count, passes 64
+    /// bits.
     fn compose(&self, alloc: Global, other: &Self) -> Result<Option<Self>, GuardError>
         requires { kin self.now other.now }
         ensures composed { IsComposition element (element self.now) (element other.now) result }
-        ensures kin { OnComposite result (λ z. (w : Self) → kin self.now w → kin other.now w → kin z w) };
+        ensures kin { OnComposite result (λ z.
+            (w : Self) → kin self.now w → kin other.now w → kin z w) };
 
     /// Whether some part completes this one to the other. It takes no memory.
     fn le(&self, other: &Self) -> bool
@@ -37,7 +39,8 @@ pub trait Guard: Drop {
 
     /// The same part once more.
     fn copy(&self, alloc: Global) -> Result<Self, AllocError>
-        ensures { IfOk result (λ z. (element z ≡ element self.now) × ((w : Self) → kin self.now w → kin z w)) };
+        ensures { IfOk result (λ z.
+            (element z ≡ element self.now) × ((w : Self) → kin self.now w → kin z w)) };
 
     ghost kin_reflexive: { (x : Self) → kin x x };
 

@@ -13,17 +13,22 @@ use crate::guard::Guard;
 /// what is held. Each wanted element has a held piece of its own: where two are wanted of one atom,
 /// one held piece must not serve twice. Of a piece that isn't wanted, nothing is.
 pub fn portions_compose()
-    ensures { (a : PlainAlgebra) (ps : List Portion) (y : Element) → All (IsPortion a) ps → compose_all (held_elements a ps) ≡ Some y → (z : Element) × (compose_all (wanted_elements a ps) ≡ Some z) × AtMost a z y }
+    ensures { (a : PlainAlgebra) (ps : List Portion) (y : Element) → All (IsPortion a) ps →
+        compose_all (held_elements a ps) ≡ Some y →
+        (z : Element) × (compose_all (wanted_elements a ps) ≡ Some z) × AtMost a z y }
 {}
 
 /// On either side of a sum the full element becomes the full element of the sum, so that all of one
 /// side may be given back as all of the other.
 pub fn fulls_of_both_sides()
-    ensures { (a b : PlainAlgebra) → (on_left (full a) ≡ full (sum a b)) × (on_right (full b) ≡ full (sum a b)) }
+    ensures { (a b : PlainAlgebra) →
+        (on_left (full a) ≡ full (sum a b)) × (on_right (full b) ≡ full (sum a b)) }
 {}
 
 /// Of three parts of a guard, it is the same to compose the first with the second and then with the
 /// third, and the first with what the second and the third compose to; also whether they compose.
 pub fn parts_are_associative<A: Guard>()
-    ensures { (x y z : A) → bind (compose (A.element x) (A.element y)) (λ u. compose u (A.element z)) ≡ bind (compose (A.element y) (A.element z)) (λ u. compose (A.element x) u) }
+    ensures { (x y z : A) →
+        bind (compose (A.element x) (A.element y)) (λ u. compose u (A.element z))
+        ≡ bind (compose (A.element y) (A.element z)) (λ u. compose (A.element x) u) }
 {}

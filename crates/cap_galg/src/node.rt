@@ -1,7 +1,8 @@
 ghost use Rattle.std.specs.Prelude.{◌≡◌, IfOk, Ok};
 ghost use Rattle.cap_galg.specs.Fractions.{IsShare};
 ghost use Rattle.cap_galg.specs.Views.{node_view, HasShares};
-ghost use Rattle.cap_galg.specs.Elements.{is_unit, is_full, on_left as made_left, on_right as made_right, at_most, share, tok, src};
+ghost use Rattle.cap_galg.specs.Elements.{is_unit, is_full, at_most, share, tok, src};
+ghost use Rattle.cap_galg.specs.Elements.{on_left as made_left, on_right as made_right};
 ghost use Rattle.cap_galg.specs.Answers.{IsComposition};
 
 use crate::answer::paired_answer;
@@ -9,8 +10,8 @@ use crate::error::GuardError;
 use crate::fraction::{Fraction, is_at_most, sum};
 use std::alloc::{AllocError, Global};
 
-/// An element of some algebra. A pair isn't two units, and what stands on a side of a sum is neither
-/// unit nor full there.
+/// An element of some algebra. A pair isn't two units, and what stands on a side of a sum is
+/// neither unit nor full there.
 #[derive(Debug, Drop)]
 pub enum Node {
     Nothing,
@@ -165,8 +166,8 @@ impl Node {
         }
     }
 
-    /// What two elements compose to, and nothing where they don't compose. Wide comes where they do, and
-    /// a denominator in lowest terms, or a count, passes 64 bits.
+    /// What two elements compose to, and nothing where they don't compose. Wide comes where they
+    /// do, and a denominator in lowest terms, or a count, passes 64 bits.
     pub fn compose(&self, alloc: Global, other: &Node) -> Result<Option<Node>, GuardError>
         requires shares { HasShares (node_view self.now) }
         requires other_shares { HasShares (node_view other.now) }

@@ -48,7 +48,9 @@ impl<A: Guard, B: Guard> Guard for Pair<A, B> {
 
     ghost kin_reflexive = { λ p. (A.kin_reflexive p.left, B.kin_reflexive p.right) };
 
-    ghost kin_symmetric = { λ p q k. (A.kin_symmetric p.left q.left k.0, B.kin_symmetric p.right q.right k.1) };
+    ghost kin_symmetric = { λ p q k.
+        (A.kin_symmetric p.left q.left k.0, B.kin_symmetric p.right q.right k.1) };
 
-    ghost lawful = { λ p q k. pair-kin _ _ _ _ (A.lawful p.left q.left k.0) (B.lawful p.right q.right k.1) };
+    ghost lawful = { λ p q k.
+        pair-kin _ _ _ _ (A.lawful p.left q.left k.0) (B.lawful p.right q.right k.1) };
 }

@@ -47,7 +47,8 @@ fn equal(rt: &impl Abort, a: &Elem, b: &Elem) -> bool {
     at_most(rt, a, b) && at_most(rt, b, a)
 }
 
-// A fraction of the divisible guard beside a unique one, of which a thread holds parts of one alone.
+// A fraction of the divisible guard beside a unique one, of which a thread holds parts of one
+// alone.
 #[test]
 fn halves_make_the_full_element_of_both_sides(rt: HostRuntime) -> Result<(), Fail> {
     let alloc = rt.alloc();

@@ -3,7 +3,7 @@ use Rattle.std.proofs.Common.{◌≡◌, ℕ, ◌+◌, ◌-◌, ◌<◌, ◌≤�
 use Rattle.std.specs.Prelude.{nat_lt, ◌==◌, ◌&&◌, if◌then◌else◌}
 use Rattle.std.proofs.lemmas.Bool.Decides.{nat_tests}
 use Rattle.cap_galg.specs.Elements.{Element, nothing, both, is_unit, is_full, on_left, on_right}
-use Rattle.cap_galg.specs.Algebras.{PlainAlgebra, unique, divisible, counting, product, sum, IsElement, atoms, atom_algebra, at_atom, atom_element, parted, are_apart}
+use Rattle.cap_galg.specs.Algebras.{PlainAlgebra, unique, divisible, counting, product, sum, IsElement, atoms, atom_algebra, at_atom, atom_element, apart_at_node, are_apart}
 use Rattle.cap_galg.specs.Views.{amount_element, IsAmountOf}
 use Rattle.cap_galg.specs.declared.amount.Amount.{Amount}
 use Rattle.cap_galg.specs.declared.amount.Amount.TheVariants as part
@@ -83,8 +83,8 @@ and-no : (a : Bool) → (a && false) ≡ false
 and-no true = refl
 and-no false = refl
 
-parted-second : (is_sum : Bool) (l r : ℕ → ℕ → Bool) (n m i j : ℕ) → n + m ≤ j → r (i - n) (j - n) ≡ false → parted is_sum l r n m i j ≡ false
-parted-second is_sum l r n m i j h e =
+apart_at_node-second : (is_sum : Bool) (l r : ℕ → ℕ → Bool) (n m i j : ℕ) → n + m ≤ j → r (i - n) (j - n) ≡ false → apart_at_node is_sum l r n m i j ≡ false
+apart_at_node-second is_sum l r n m i j h e =
     let a : n ≤ j = omega arith in
     let b : m ≤ j - n = omega arith in
     elim (true_or_false (nat_lt i n)) [
@@ -92,8 +92,8 @@ parted-second is_sum l r n m i j h e =
       | inr f ↦ rw (f, lt-false j n a) e
     ]
 
-parted-first : (is_sum : Bool) (l r : ℕ → ℕ → Bool) (n m i j : ℕ) → n + m ≤ i → r (i - n) (j - n) ≡ false → parted is_sum l r n m i j ≡ false
-parted-first is_sum l r n m i j h e =
+apart_at_node-first : (is_sum : Bool) (l r : ℕ → ℕ → Bool) (n m i j : ℕ) → n + m ≤ i → r (i - n) (j - n) ≡ false → apart_at_node is_sum l r n m i j ≡ false
+apart_at_node-first is_sum l r n m i j h e =
     let a : n ≤ i = omega arith in
     let b : m ≤ i - n = omega arith in
     elim (true_or_false (nat_lt j n)) [
@@ -105,12 +105,12 @@ pub apart-second : (a : PlainAlgebra) (i j : ℕ) → atoms a ≤ j → are_apar
 apart-second unique i j h = refl
 apart-second divisible i j h = refl
 apart-second counting i j h = refl
-apart-second (product a b) i j h = parted-second false (are_apart a) (are_apart b) (atoms a) (atoms b) i j h (apart-second b (i - atoms a) (j - atoms a) (omega arith))
-apart-second (sum a b) i j h = parted-second true (are_apart a) (are_apart b) (atoms a) (atoms b) i j h (apart-second b (i - atoms a) (j - atoms a) (omega arith))
+apart-second (product a b) i j h = apart_at_node-second false (are_apart a) (are_apart b) (atoms a) (atoms b) i j h (apart-second b (i - atoms a) (j - atoms a) (omega arith))
+apart-second (sum a b) i j h = apart_at_node-second true (are_apart a) (are_apart b) (atoms a) (atoms b) i j h (apart-second b (i - atoms a) (j - atoms a) (omega arith))
 
 pub apart-first : (a : PlainAlgebra) (i j : ℕ) → atoms a ≤ i → are_apart a i j ≡ false
 apart-first unique i j h = refl
 apart-first divisible i j h = refl
 apart-first counting i j h = refl
-apart-first (product a b) i j h = parted-first false (are_apart a) (are_apart b) (atoms a) (atoms b) i j h (apart-first b (i - atoms a) (j - atoms a) (omega arith))
-apart-first (sum a b) i j h = parted-first true (are_apart a) (are_apart b) (atoms a) (atoms b) i j h (apart-first b (i - atoms a) (j - atoms a) (omega arith))
+apart-first (product a b) i j h = apart_at_node-first false (are_apart a) (are_apart b) (atoms a) (atoms b) i j h (apart-first b (i - atoms a) (j - atoms a) (omega arith))
+apart-first (sum a b) i j h = apart_at_node-first true (are_apart a) (are_apart b) (atoms a) (atoms b) i j h (apart-first b (i - atoms a) (j - atoms a) (omega arith))

@@ -18,7 +18,7 @@ pub left-some : (b : Bool) (x : Element) → is_full x ≡ b → IsSome x → Is
 left-some true x e p = record { sound = tt; some = refl }
 left-some false x e p = record { sound = (p.sound, p.some, e); some = refl }
 
-right-some : (b : Bool) (y : Element) → is_full y ≡ b → IsSome y → IsSome (if b then whole else right y)
+pub right-some : (b : Bool) (y : Element) → is_full y ≡ b → IsSome y → IsSome (if b then whole else right y)
 right-some true y e p = record { sound = tt; some = refl }
 right-some false y e p = record { sound = (p.sound, p.some, e); some = refl }
 
@@ -73,7 +73,7 @@ left-both true false x y e f p q = sym (ap (λ o. bind o (λ z. Some (on_left z)
 left-both false true x y e f p q = sym (ap (λ o. bind o (λ z. Some (on_left z))) (compose-comm x y ∙ full_alone y x q.sound p.sound f p.some))
 left-both false false x y e f p q = refl
 
-right-both : (s t : Bool) (x y : Element) → is_full x ≡ s → is_full y ≡ t → IsSome x → IsSome y → compose (if s then whole else right x) (if t then whole else right y) ≡ bind (compose x y) (λ z. Some (on_right z))
+pub right-both : (s t : Bool) (x y : Element) → is_full x ≡ s → is_full y ≡ t → IsSome x → IsSome y → compose (if s then whole else right x) (if t then whole else right y) ≡ bind (compose x y) (λ z. Some (on_right z))
 right-both true true x y e f p q = sym (ap (λ o. bind o (λ z. Some (on_right z))) (full_alone x y p.sound q.sound e q.some))
 right-both true false x y e f p q = sym (ap (λ o. bind o (λ z. Some (on_right z))) (full_alone x y p.sound q.sound e q.some))
 right-both false true x y e f p q = sym (ap (λ o. bind o (λ z. Some (on_right z))) (compose-comm x y ∙ full_alone y x q.sound p.sound f p.some))
