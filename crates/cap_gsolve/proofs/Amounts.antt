@@ -59,7 +59,7 @@ amount-most v t f s e =
     rw (m.is) (omega (arith, ints, p))
 
 -- the sum of two amounts
-sum-number : (fn fd gn gd u m n : ℕ) → fn * suc u ≡ m * fd → gn * suc u ≡ n * gd → (fn * gd + gn * fd) * suc u ≡ (m + n) * (fd * gd)
+pub sum-number : (fn fd gn gd u m n : ℕ) → fn * suc u ≡ m * fd → gn * suc u ≡ n * gd → (fn * gd + gn * fd) * suc u ≡ (m + n) * (fd * gd)
 sum-number fn fd gn gd u m n e k = omega (arith, ap (λ w. w * gd) e, ap (λ w. w * fd) k)
 
 sum-value : (c d sn sd u m : ℕ) → 0 < d → c * suc u ≡ m * d → c * sd ≡ sn * d → sn * suc u ≡ m * sd

@@ -16,12 +16,12 @@ use Rattle.cap_galg.specs.Fractions.{plus as sum_of}
 use Rattle.cap_galg.specs.Elements.{Element, nothing, one, share, tok, src, tokens, is_unit, compose}
 use Rattle.cap_galg.specs.Algebras.{PlainAlgebra, unique, divisible, counting}
 use Rattle.cap_galg.specs.Laws.Fractions.{plus-share}
-use Rattle.cap_galg.specs.Laws.Composition.{true_or_false, true-le, true-eq, and-true, if-some, some-same, IsSound, compose-comm, compose-nothing}
+use Rattle.cap_galg.specs.Laws.Composition.{true_or_false, le-true, true-le, true-eq, and-true, if-some, some-same, IsSound, compose-comm, compose-nothing}
 use Rattle.cap_gsolve.specs.declared.piece.Form.{Form}
 use Rattle.cap_gsolve.specs.declared.piece.Form.TheVariants.{One, Share, Src, Tok}
 use Rattle.cap_gsolve.specs.Pieces.{has_no_parts, is_above_zero, is_surely_some}
 use Rattle.cap_gsolve.specs.Merge.{zero_term, one_term, added_rows, lone_rows, combined, combined_rows}
-use Rattle.cap_gsolve.specs.Compat.{never, fits_rows}
+use Rattle.cap_gsolve.specs.Compat.{never_compose, fits_rows}
 use Rattle.cap_gsolve.specs.Meaning.{IsFormElement, Takes}
 use Rattle.cap_gsolve.proofs.Amounts.{one-amount, zero-amount, zero-value, amount-positive, amount-most, sum-most, sum-is, count-positive, counts-most, counts-sum, counts-rest}
 
@@ -43,7 +43,7 @@ tokens-sound k = by (k == 0) refl
     by true e = tt
     by false e = grind (arith, nat_tests, e)
 
-tokens-add : (j k : ℕ) → compose (tokens j) (tokens k) ≡ Some (tokens (j + k))
+pub tokens-add : (j k : ℕ) → compose (tokens j) (tokens k) ≡ Some (tokens (j + k))
 tokens-add j k = elim (true_or_false (j == 0)) [
   | inl e ↦ let h : k ≡ j + k = omega (arith, true-eq j 0 e) in rw (tokens-none j e) (ap (λ n. Some (tokens n)) h)
   | inr e ↦ elim (true_or_false (k == 0)) [
@@ -62,6 +62,15 @@ src-take n k s h = elim (true_or_false (k == 0)) [
   | inr e ↦
       let r = if-some _ _ _ (ap (compose (src n)) (sym (tokens-some k e)) ∙ h) in
       (true-le k n r.0, sym r.1)
+]
+
+pub src-give : (n k : ℕ) → k ≤ n → compose (src n) (tokens k) ≡ Some (src (n - k))
+src-give n k l = elim (true_or_false (k == 0)) [
+  | inl e ↦
+      let z = true-eq k 0 e in
+      let d : n ≡ n - k = omega arith in
+      ap (compose (src n)) (tokens-none k e) ∙ ap (λ m. Some (src m)) d
+  | inr e ↦ ap (compose (src n)) (tokens-some k e) ∙ ap (λ b. if b then Some (src (n - k)) else None) (le-true k n l)
 ]
 
 -- ---- the element of one form
@@ -158,7 +167,7 @@ combine counting v (Tok i) (Tok j) s h k m =
 combine b v f g s h k m = first_of (cc, search rules)
 
 -- forms that never compose
-pub never-meet : (v : Valuation) (f g : Form) (s : Element) → never (Some f) g ≡ true → Meet v f g s → ⊥
+pub never-meet : (v : Valuation) (f g : Form) (s : Element) → never_compose (Some f) g ≡ true → Meet v f g s → ⊥
 never-meet v One One s h m = let e : None ≡ Some s = ap (compose one) (sym m.is_second) ∙ ap (λ z. compose z m.second) (sym m.is_first) ∙ m.whole in cc
 never-meet v (Src n) (Src j) s h m = let e : None ≡ Some s = ap (compose (src m.is_first.0)) (sym m.is_second.2) ∙ ap (λ z. compose z m.second) (sym m.is_first.2) ∙ m.whole in cc
 never-meet v f g s h m = cc

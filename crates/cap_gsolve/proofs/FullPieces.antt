@@ -5,17 +5,17 @@ use Rattle.std.proofs.lemmas.Int.{ints}
 use Rattle.cap_lin.specs.Linear.{Linear}
 use Rattle.cap_lin.specs.Values.{Valuation, value, amount, denominator}
 use Rattle.cap_galg.specs.Fractions.{fraction}
-use Rattle.cap_galg.specs.Elements.{Element, nothing, one, share, src, both, whole, left, is_full, on_left, on_right, bind, compose}
+use Rattle.cap_galg.specs.Elements.{Element, nothing, one, share, src, both, whole, left, right, is_full, on_left, on_right, bind, compose}
 use Rattle.cap_galg.specs.Algebras.{PlainAlgebra, unique, divisible, counting, product, sum, atoms, at_atom, atom_element, full}
 use Rattle.cap_galg.specs.Laws.Fractions.{whole-share}
 use Rattle.cap_galg.specs.Laws.Composition.{compose-nothing}
 use Rattle.cap_galg.specs.Laws.Algebras.{sound-of, full-element, full-present, full-full}
 use Rattle.cap_galg.specs.Laws.Atoms.{lt-true, lt-false}
-use Rattle.cap_galg.specs.Laws.Placing.{IsSome, product-some, left-some, left-both, bind-map}
+use Rattle.cap_galg.specs.Laws.Placing.{IsSome, product-some, left-some, right-some, left-both, right-both, bind-map}
 use Rattle.cap_gsolve.specs.declared.piece.Form.{Form}
 use Rattle.cap_gsolve.specs.declared.piece.Form.TheVariants.{One, Share, Src}
 use Rattle.cap_gsolve.specs.declared.piece.Piece.{Piece}
-use Rattle.cap_gsolve.specs.Pieces.{piece, full_forms, full_pieces}
+use Rattle.cap_gsolve.specs.Pieces.{piece, pieces_of, full_forms, full_pieces}
 use Rattle.cap_gsolve.specs.Merge.{zero_term, one_term}
 use Rattle.cap_gsolve.specs.Meaning.{IsFormElement, ComposeAt, AreAll}
 use Rattle.std.proofs.lemmas.List.{map-append}
@@ -53,6 +53,11 @@ second-place a b j x =
 side-place : (a b : PlainAlgebra) (j : ℕ) (x : Element) → j < atoms a → at_atom (sum a b) j x ≡ on_left (at_atom a j x)
 side-place a b j x l = ap (λ t. if t then on_left (at_atom a j x) else on_right (at_atom b (j - atoms a) x)) (lt-true j (atoms a) l)
 
+other-side-place : (a b : PlainAlgebra) (j : ℕ) (x : Element) → at_atom (sum a b) (atoms a + j) x ≡ on_right (at_atom b j x)
+other-side-place a b j x =
+    let d : atoms a + j - atoms a ≡ j = omega arith in
+    ap (λ t. if t then on_left (at_atom a (atoms a + j) x) else on_right (at_atom b (atoms a + j - atoms a) x)) (lt-false (atoms a + j) (atoms a) (omega arith)) ∙ ap (λ n. on_right (at_atom b n x)) d
+
 first-part : (x : Element) → IsSome x → IsSome (both x nothing)
 first-part x p = product-some true x x p p
 
@@ -85,6 +90,18 @@ in-side w a b i e s = record {
   some = λ x p. s.some (on_left x) (left-some (is_full x) x refl p);
 }
 
+in-other-side : (w a b : PlainAlgebra) (i : ℕ) (e : Element → Element) → Stands w (sum a b) i e → Stands w b (i + atoms a) (λ x. e (on_right x))
+in-other-side w a b i e s = record {
+  place = λ j x l.
+      ap (λ n. at_atom w n x) (let d : i + atoms a + j ≡ i + (atoms a + j) = omega arith in d)
+      ∙ s.place (atoms a + j) x (let m : atoms a + j < atoms a + atoms b = omega arith in m) ∙ ap e (other-side-place a b j x);
+  follows = λ x y p q.
+      s.follows (on_right x) (on_right y) (right-some (is_full x) x refl p) (right-some (is_full y) y refl q)
+      ∙ ap (λ o. bind o (λ z. Some (e z))) (right-both (is_full x) (is_full y) x y refl refl p q)
+      ∙ bind-map (compose x y) (λ z. on_right z) e;
+  some = λ x p. s.some (on_right x) (right-some (is_full x) x refl p);
+}
+
 -- one piece
 lone : (w a : PlainAlgebra) (k : ℕ) (v : Valuation) (r : Linear) (i : ℕ) (e : Element → Element) (f : Form) (x : Element) → 0 < atoms a → Stands w a i e → at_atom a 0 x ≡ x → IsSome x → IsFormElement v f x
     → ComposeAt w k v (value v.whole r) (piece r k i f ∷ []) (e x)
@@ -94,7 +111,7 @@ lone w a k v r i e f x l s t p h =
     let g : e x ≡ atom_element w i x = q ∙ sym (ap (λ b. if b then nothing else at_atom w i x) p.some) in
     (e x ∷ [], (inl (refl, (x, h, g), inl refl), tt), compose-nothing (e x))
 
-full-from : (a w : PlainAlgebra) (k : ℕ) (v : Valuation) (r : Linear) (i : ℕ) (e : Element → Element) → Stands w a i e → ComposeAt w k v (value v.whole r) (map (λ p. piece r k p.0 p.1) (full_forms a i)) (e (full a))
+full-from : (a w : PlainAlgebra) (k : ℕ) (v : Valuation) (r : Linear) (i : ℕ) (e : Element → Element) → Stands w a i e → ComposeAt w k v (value v.whole r) (pieces_of r k (full_forms a i)) (e (full a))
 full-from unique w k v r i e s = lone w unique k v r i e One one (omega arith) s refl (full-some unique) refl
 full-from divisible w k v r i e s =
     let m : pos 1 *ℤ denominator v.fraction ≡ amount v.fraction one_term *ℤ pos 1 = rw (one-amount v.fraction) (omega (arith, ints)) in
@@ -109,10 +126,18 @@ full-from (product a b) w k v r i e s =
     rw (map-append (λ p. piece r k p.0 p.1) (full_forms a i) (full_forms b (i + atoms a))) (in-a-row w k v (value v.whole r) _ _ _ _ _ c d f)
 full-from (sum a b) w k v r i e s =
     let c = full-from a w k v r i (λ x. e (on_left x)) (in-side w a b i e s) in
-    subst (λ t. ComposeAt w k v (value v.whole r) (map (λ p. piece r k p.0 p.1) (full_forms a i)) (e (if t then whole else left (full a)))) (full-full a) c
+    subst (λ t. ComposeAt w k v (value v.whole r) (pieces_of r k (full_forms a i)) (e (if t then whole else left (full a)))) (full-full a) c
 
 pub full-means : (a : PlainAlgebra) (r : Linear) (k : ℕ) → AreAll a r k (full_pieces a r k)
 full-means a r k v = full-from a a k v r 0 (λ x. x) (itself a)
 
 pub all-means : (a : PlainAlgebra) (r : Linear) (k : ℕ) (ps : List Piece) → ps ≡ full_pieces a r k → AreAll a r k ps
 all-means a r k ps e = rw e (full-means a r k)
+
+-- the right side of a sum has all of it too
+pub right-means : (a b : PlainAlgebra) (r : Linear) (k : ℕ) → AreAll (sum a b) r k (pieces_of r k (full_forms b (atoms a)))
+right-means a b r k v =
+    let c = full-from b (sum a b) k v r (0 + atoms a) (λ x. on_right x) (in-other-side (sum a b) a b 0 (λ x. x) (itself (sum a b))) in
+    let n : 0 + atoms a ≡ atoms a = omega arith in
+    let d = subst (λ t. ComposeAt (sum a b) k v (value v.whole r) (pieces_of r k (full_forms b (0 + atoms a))) (if t then whole else right (full b))) (full-full b) c in
+    subst (λ n. ComposeAt (sum a b) k v (value v.whole r) (pieces_of r k (full_forms b n)) whole) n d

@@ -18,7 +18,7 @@ use Rattle.cap_gsolve.specs.declared.piece.Piece.{Piece}
 use Rattle.cap_gsolve.specs.Made.{IsMade}
 use Rattle.cap_gsolve.specs.Pieces.{piece, same_part}
 use Rattle.cap_gsolve.specs.Merge.{added_rows, there, met_rows, clash, clash_rows, merged, merge_rows}
-use Rattle.cap_gsolve.specs.Compat.{never, clashes_with, clashes_some, fits_rows, wanted_rows, compat}
+use Rattle.cap_gsolve.specs.Compat.{never_compose, clashes_with, clashes_some, fits_rows, wanted_rows, compat}
 use Rattle.cap_gsolve.specs.Meaning.{region_of, IsElementAt, AreElementsAt, ComposeAt, HoldsPieces, Takes, Fits, MergesTo, wanted_pieces, CompatMeans, PartsCompose}
 use Rattle.cap_gsolve.proofs.Forms.{combine, added-hold, lone-hold, never-meet, fits-alone, fits-hold}
 use Rattle.cap_gsolve.proofs.Held.{there-same, there-other, part-is, element-sound, elements-sound, in-a-row, at-own, merged-composes, meets-there, never-clashes}
@@ -157,9 +157,9 @@ unfolding compat
 compat-some a ps r k ws e = ap (λ b. if b then None else Some (wanted_rows ps r k ws)) e
 
 -- a wanted atom has never a form that composes with none of its part
-not-never : (a : PlainAlgebra) (k : ℕ) (v : Valuation) (ps : List Piece) (p : Piece) (w : Element) (o : Option Form) → there ps p ≡ o → OneMore a k v (region_of v p) ps p w → never o p.form ≡ false
+not-never : (a : PlainAlgebra) (k : ℕ) (v : Valuation) (ps : List Piece) (p : Piece) (w : Element) (o : Option Form) → there ps p ≡ o → OneMore a k v (region_of v p) ps p w → never_compose o p.form ≡ false
 not-never a k v ps p w None e n = refl
-not-never a k v ps p w (Some f) e n = elim (true_or_false (never (Some f) p.form)) [
+not-never a k v ps p w (Some f) e n = elim (true_or_false (never_compose (Some f) p.form)) [
   | inl t ↦ absurd (
       let m = meets-there a k v ps p f n.xs n.new n.total w e n.firsts n.is n.composed n.whole in
       never-meet v f p.form m.0 t m.1)

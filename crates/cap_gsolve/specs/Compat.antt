@@ -16,14 +16,14 @@ use Rattle.cap_gsolve.specs.Pieces.{piece}
 use Rattle.cap_gsolve.specs.Merge.{zero_term, one_term, added_rows, added_steps, there, clashes}
 
 -- two forms of one atom that never compose
-abbrev pub never : Option Form → Form → Bool
-never (Some One) One = true
-never (Some (Src n)) (Src m) = true
-never g f = false
+abbrev pub never_compose : Option Form → Form → Bool
+never_compose (Some One) One = true
+never_compose (Some (Src n)) (Src m) = true
+never_compose g f = false
 
 -- a wanted atom never composes: with the piece of its part, or for one on the other side of a sum
 abbrev pub clashes_with : PlainAlgebra → List Piece → Linear → ℕ → ℕ × Form → Bool
-clashes_with a ps r k w = never (there ps (piece r k w.0 w.1)) w.1 || clashes a ps r k w.0 w.1
+clashes_with a ps r k w = never_compose (there ps (piece r k w.0 w.1)) w.1 || clashes a ps r k w.0 w.1
 
 abbrev pub clashes_some : PlainAlgebra → List Piece → Linear → ℕ → List (ℕ × Form) → Bool
 clashes_some a ps r k ws = list_any (clashes_with a ps r k) ws

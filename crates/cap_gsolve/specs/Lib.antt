@@ -2,5 +2,4 @@ pub mod Made
 pub mod Pieces
 pub mod Merge
 pub mod Compat
-pub mod Fulls
 pub mod Meaning

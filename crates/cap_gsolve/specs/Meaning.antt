@@ -1,6 +1,6 @@
 -- What symbolic guards mean: under a valuation each piece is an element of its region's guards, and a part of the
 -- guards holds the pieces that compose to no more than the part.
-use Rattle.std.specs.Prelude.{◌≡◌, ◌≢◌, ℕ, ◌<◌, List, [], ◌∷◌, ◌++◌, map, ◌⊎◌, ℤ, pos, ◌*ℤ◌, Option, Some, None}
+use Rattle.std.specs.Prelude.{◌≡◌, ◌≢◌, ℕ, ◌<◌, List, [], ◌∷◌, ◌++◌, ◌⊎◌, ℤ, pos, ◌*ℤ◌, Option, Some, None}
 use Rattle.std.specs.List.{AllByRecursion}
 use Rattle.cap_lin.specs.Linear.{Linear}
 use Rattle.cap_lin.specs.Values.{Valuation, denominator, value, amount}
@@ -14,7 +14,7 @@ use Rattle.cap_galg.specs.Algebras.{PlainAlgebra, unique, divisible, counting, a
 use Rattle.cap_gsolve.specs.declared.piece.Form.{Form}
 use Rattle.cap_gsolve.specs.declared.piece.Form.TheVariants.{One, Share, Src, Tok}
 use Rattle.cap_gsolve.specs.declared.piece.Piece.{Piece}
-use Rattle.cap_gsolve.specs.Pieces.{piece}
+use Rattle.cap_gsolve.specs.Pieces.{pieces_of}
 use Rattle.cap_gsolve.specs.Compat.{compat}
 
 -- the fraction is the term's value
@@ -87,6 +87,19 @@ MergesTo a ps p qs rows =
     → HoldsPieces g part v (ps ++ (p ∷ []))
     → HoldsPieces g part v qs × AllByRecursion (Holds v) rows
 
+-- a piece has an element under a valuation
+abbrev pub HasElement : Valuation → Piece → Type 0
+HasElement v p = (x : Element) × IsFormElement v p.form x
+
+-- where each of the pieces has an element and the rows hold, a part that holds what the pieces and a new one are
+-- merged to holds the pieces together with the new one
+abbrev pub MergeSuffices : List Piece → Piece → List Piece → List Row → Type 0
+MergeSuffices ps p qs rows =
+    (g : Kinds) (part : ℤ → Element) (v : Valuation)
+    → AllByRecursion (HasElement v) ps → AllByRecursion (Holds v) rows
+    → HoldsPieces g part v qs
+    → HoldsPieces g part v (ps ++ (p ∷ []))
+
 -- there are rows, and each holds
 abbrev pub AllHold : Valuation → Option (List Row) → Type 0
 AllHold v None = ⊥
@@ -94,7 +107,7 @@ AllHold v (Some rows) = AllByRecursion (Holds v) rows
 
 -- wanted atoms of a region's guards, as pieces
 abbrev pub wanted_pieces : Linear → ℕ → List (ℕ × Form) → List Piece
-wanted_pieces r k ws = map (λ w. piece r k w.0 w.1) ws
+wanted_pieces r k ws = pieces_of r k ws
 
 -- under each valuation by which wanted atoms of a region compose with pieces, an answer is rows, and they hold
 abbrev pub CoversWanted : PlainAlgebra → List Piece → Linear → ℕ → List (ℕ × Form) → Option (List Row) → Type 0

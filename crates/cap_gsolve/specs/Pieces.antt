@@ -37,7 +37,7 @@ is_surely_some (Share a) = true
 is_surely_some (Src n) = true
 is_surely_some (Tok k) = has_no_parts k.parts && is_above_zero k.constant
 
--- the pieces that hold all of a guard: of a sum, its left side's
+-- the forms that hold all of a guard, each of an atom from a number on: of a sum, its left side's
 abbrev pub full_forms : PlainAlgebra → ℕ → List (ℕ × Form)
 full_forms unique i = (i, One) ∷ []
 full_forms divisible i = (i, Share (number (pos 1))) ∷ []
@@ -45,5 +45,9 @@ full_forms counting i = (i, Src (number (pos 0))) ∷ []
 full_forms (product a b) i = full_forms a i ++ full_forms b (i + atoms a)
 full_forms (sum a b) i = full_forms a i
 
+-- forms, each of an atom, as pieces of a region's guards of a kind
+abbrev pub pieces_of : Linear → ℕ → List (ℕ × Form) → List Piece
+pieces_of r k fs = map (λ f. piece r k f.0 f.1) fs
+
 abbrev pub full_pieces : PlainAlgebra → Linear → ℕ → List Piece
-full_pieces a r k = map (λ p. piece r k p.0 p.1) (full_forms a 0)
+full_pieces a r k = pieces_of r k (full_forms a 0)

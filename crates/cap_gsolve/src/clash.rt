@@ -15,7 +15,8 @@ fn clashes_at(
     atom: u32,
     form: &Form,
 ) -> bool
-    ensures { result ≡ parts_clash (algebra_view algebra.now) region.now kind atom form.now piece.now }
+    ensures { let a = algebra_view algebra.now in
+        result ≡ parts_clash a region.now kind atom form.now piece.now }
 {
     piece.is_of(region, kind)
         && algebra.are_apart(atom, piece.atom)
@@ -32,7 +33,8 @@ pub fn clashes(
     atom: u32,
     form: &Form,
 ) -> bool
-    ensures { result ≡ some_clash (algebra_view algebra.now) pieces.now region.now kind atom form.now }
+    ensures { let a = algebra_view algebra.now in
+        result ≡ some_clash a pieces.now region.now kind atom form.now }
 {
     pieces.iter().any(|piece| clashes_at(algebra, piece, region, kind, atom, form))
 }

@@ -1,11 +1,12 @@
-ghost use Rattle.std.specs.Prelude.{◌≡◌, ◌++◌, ◌∷◌, []};
+ghost use Rattle.std.specs.Prelude.{◌≡◌, ◌++◌, ◌∷◌, [], OnOk};
 ghost use Rattle.cap_lin.specs.Linear.{plus, minus};
 ghost use Rattle.cap_lin.specs.Steps.{plus_steps, minus_steps};
 ghost use Rattle.cap_lin.specs.Rows.{row_of, row_of_steps};
 ghost use Rattle.cap_lin.specs.declared.row.Sort.TheVariants.{Int, Perm};
 ghost use Rattle.cap_lin.specs.declared.row.Op.TheVariants.{Le as AtMost};
-ghost use Rattle.cap_gsolve.specs.Made.{IsMade};
-ghost use Rattle.cap_gsolve.specs.Merge.{one_term, false_row, false_steps, combined, combined_rows, combined_steps};
+ghost use Rattle.cap_gsolve.specs.Made.{IsMade, Pushes};
+ghost use Rattle.cap_gsolve.specs.Merge.{one_term, false_row, false_steps};
+ghost use Rattle.cap_gsolve.specs.Merge.{combined, combined_rows, combined_steps};
 
 use crate::piece::Form;
 use crate::rows::{push_false, push_row};
@@ -19,7 +20,11 @@ pub fn sum_of_shares(
     a: &Term,
     b: &Term,
 ) -> Result<Term, LinError>
-    ensures { IsMade result (plus_steps a.now b.now ++ row_of_steps (plus a.now b.now) AtMost one_term Perm) (λ t. (t ≡ plus a.now b.now) × (rows.new.items ≡ rows.old.items ++ (row_of (plus a.now b.now) AtMost one_term Perm ∷ []))) }
+    ensures exact { let sum = plus a.now b.now in
+        IsMade result
+        (plus_steps a.now b.now ++ row_of_steps sum AtMost one_term Perm) (λ t. t ≡ sum) }
+    ensures rows { let row = row_of (plus a.now b.now) AtMost one_term Perm in
+        OnOk result (Pushes rows.old rows.new (row ∷ [])) }
 {
     let sum = a.add(alloc, b)?;
     let one = Term::constant(alloc, 1);
@@ -29,7 +34,11 @@ pub fn sum_of_shares(
 
 // The tokens that are out after some came back, and the row that they were out.
 fn left_out(alloc: Global, rows: &mut Vec<Row>, out: &Term, back: &Term) -> Result<Term, LinError>
-    ensures { IsMade result (minus_steps out.now back.now ++ row_of_steps back.now AtMost out.now Int) (λ t. (t ≡ minus out.now back.now) × (rows.new.items ≡ rows.old.items ++ (row_of back.now AtMost out.now Int ∷ []))) }
+    ensures exact { IsMade result
+        (minus_steps out.now back.now ++ row_of_steps back.now AtMost out.now Int)
+        (λ t. t ≡ minus out.now back.now) }
+    ensures rows { let row = row_of back.now AtMost out.now Int in
+        OnOk result (Pushes rows.old rows.new (row ∷ [])) }
 {
     let rest = out.minus(alloc, back)?;
     push_row(alloc, rows, back, Op::Le, out, Sort::Int)?;
@@ -38,7 +47,8 @@ fn left_out(alloc: Global, rows: &mut Vec<Row>, out: &Term, back: &Term) -> Resu
 
 // The form that is there, where no piece holds both.
 fn kept(alloc: Global, rows: &mut Vec<Row>, there: &Form) -> Result<Form, LinError>
-    ensures { IsMade result false_steps (λ f. (f ≡ there.now) × (rows.new.items ≡ rows.old.items ++ (false_row ∷ []))) }
+    ensures exact { IsMade result false_steps (λ f. f ≡ there.now) }
+    ensures rows { OnOk result (Pushes rows.old rows.new (false_row ∷ [])) }
 {
     let form = there.copy(alloc)?;
     push_false(alloc, rows)?;
@@ -52,7 +62,9 @@ pub fn combine(
     there: &Form,
     new: &Form,
 ) -> Result<Form, LinError>
-    ensures { IsMade result (combined_steps there.now new.now) (λ f. (f ≡ combined there.now new.now) × (rows.new.items ≡ rows.old.items ++ combined_rows there.now new.now)) }
+    ensures exact { IsMade result
+        (combined_steps there.now new.now) (λ f. f ≡ combined there.now new.now) }
+    ensures rows { OnOk result (Pushes rows.old rows.new (combined_rows there.now new.now)) }
 {
     match there {
         Form::One => kept(alloc, rows, there),

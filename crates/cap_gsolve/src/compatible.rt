@@ -1,32 +1,26 @@
-ghost use Rattle.std.specs.Prelude.{◌≡◌, ◌++◌, position, option_map, Some, None, IfOk};
+ghost use Rattle.std.specs.Prelude.{◌≡◌, option_map, Some, None, IfOk};
 ghost use Rattle.cap_galg.specs.Views.{algebra_view};
 ghost use Rattle.cap_gsolve.specs.declared.piece.Form.TheVariants.{Share};
-ghost use Rattle.cap_gsolve.specs.Made.{IsMade};
-ghost use Rattle.cap_gsolve.specs.Pieces.{piece as made_piece, of_atom};
+ghost use Rattle.cap_gsolve.specs.Made.{IsMade, Pushes};
+ghost use Rattle.cap_gsolve.specs.Pieces.{piece as made_piece};
 ghost use Rattle.cap_gsolve.specs.Merge.{there};
 ghost use Rattle.cap_gsolve.specs.Meaning.{CoversWanted};
-ghost use Rattle.cap_gsolve.specs.Compat.{never, clashes_with as some_clash_with, clashes_some as some_wanted_clash, fits_rows, fits_steps, one_rows, one_steps, wanted_rows, wanted_steps, compat as compat_of, compat_steps};
+ghost use Rattle.cap_gsolve.specs.Compat.{never_compose, clashes_with as some_clash_with};
+ghost use Rattle.cap_gsolve.specs.Compat.{clashes_some as some_wanted_clash};
+ghost use Rattle.cap_gsolve.specs.Compat.{fits_rows, one_rows, wanted_rows, compat as compat_of};
+ghost use Rattle.cap_gsolve.specs.Compat.{fits_steps, one_steps, wanted_steps, compat_steps};
 
 use crate::clash::clashes;
 use crate::combine::sum_of_shares;
-use crate::piece::{Form, Piece};
+use crate::piece::{Form, Piece, place_of_atom};
 use crate::rows::{push_added, push_row};
 use cap_galg::Algebra;
 use cap_lin::{LinError, Op, Row, Sort, Term};
 use std::alloc::Global;
 
-// The place of the piece of an atom.
-fn place_of_atom(pieces: &[Piece], region: &Term, kind: u32, atom: u32) -> Option<usize>
-    ensures { result ≡ position (of_atom region.now kind atom) pieces.now }
-{
-    pieces
-        .iter()
-        .position(|there| there.is_of_atom(region, kind, atom))
-}
-
 // Whether a wanted form never composes with the form of its atom that is there.
 fn is_never(there: &Form, wanted: &Form) -> bool
-    ensures { result ≡ never (Some there.now) wanted.now }
+    ensures { result ≡ never_compose (Some there.now) wanted.now }
 {
     match wanted {
         Form::One => matches!(there, Form::One),
@@ -40,7 +34,8 @@ fn is_never(there: &Form, wanted: &Form) -> bool
 
 // Whether the piece of an atom and a wanted form of it never compose.
 fn is_never_there(pieces: &[Piece], region: &Term, kind: u32, atom: u32, wanted: &Form) -> bool
-    ensures { result ≡ never (there pieces.now (made_piece region.now kind atom wanted.now)) wanted.now }
+    ensures { let found = there pieces.now (made_piece region.now kind atom wanted.now) in
+        result ≡ never_compose found wanted.now }
 {
     match place_of_atom(pieces, region, kind, atom) {
         Some(place) => is_never(&pieces[place].form, wanted),
@@ -56,7 +51,8 @@ fn clashes_with(
     kind: u32,
     wanted: &(u32, Form),
 ) -> bool
-    ensures { result ≡ some_clash_with (algebra_view algebra.now) pieces.now region.now kind wanted.now }
+    ensures { let a = algebra_view algebra.now in
+        result ≡ some_clash_with a pieces.now region.now kind wanted.now }
 {
     let (atom, form) = wanted;
     is_never_there(pieces, region, kind, *atom, form)
@@ -71,7 +67,8 @@ fn clashes_some(
     kind: u32,
     wanted: &[(u32, Form)],
 ) -> bool
-    ensures { result ≡ some_wanted_clash (algebra_view algebra.now) pieces.now region.now kind wanted.now }
+    ensures { let a = algebra_view algebra.now in
+        result ≡ some_wanted_clash a pieces.now region.now kind wanted.now }
 {
     wanted
         .iter()
@@ -85,7 +82,9 @@ fn push_shares(
     wanted: &Term,
     there: &Term,
 ) -> Result<(), LinError>
-    ensures { IsMade result (fits_steps (Some (Share there.now)) (Share wanted.now)) (λ _. rows.new.items ≡ rows.old.items ++ fits_rows (Some (Share there.now)) (Share wanted.now)) }
+    ensures { let held = Some (Share there.now) in
+        IsMade result (fits_steps held (Share wanted.now))
+        (λ _. Pushes rows.old rows.new (fits_rows held (Share wanted.now))) }
 {
     sum_of_shares(alloc, rows, wanted, there)?;
     Ok(())
@@ -93,7 +92,8 @@ fn push_shares(
 
 // Rows that hold where a wanted form composes, if no form of its atom is there.
 fn push_alone(alloc: Global, rows: &mut Vec<Row>, wanted: &Form) -> Result<(), LinError>
-    ensures { IsMade result (fits_steps None wanted.now) (λ _. rows.new.items ≡ rows.old.items ++ fits_rows None wanted.now) }
+    ensures { IsMade result (fits_steps None wanted.now)
+        (λ _. Pushes rows.old rows.new (fits_rows None wanted.now)) }
 {
     match wanted {
         Form::Share(amount) => {
@@ -113,7 +113,8 @@ fn push_beside(
     there: &Form,
     wanted: &Form,
 ) -> Result<(), LinError>
-    ensures { IsMade result (fits_steps (Some there.now) wanted.now) (λ _. rows.new.items ≡ rows.old.items ++ fits_rows (Some there.now) wanted.now) }
+    ensures { IsMade result (fits_steps (Some there.now) wanted.now)
+        (λ _. Pushes rows.old rows.new (fits_rows (Some there.now) wanted.now)) }
 {
     match wanted {
         Form::One => Ok(()),
@@ -148,7 +149,9 @@ fn push_fits(
     atom: u32,
     wanted: &Form,
 ) -> Result<(), LinError>
-    ensures { IsMade result (fits_steps (there pieces.now (made_piece region.now kind atom wanted.now)) wanted.now) (λ _. rows.new.items ≡ rows.old.items ++ fits_rows (there pieces.now (made_piece region.now kind atom wanted.now)) wanted.now) }
+    ensures { let found = there pieces.now (made_piece region.now kind atom wanted.now) in
+        IsMade result (fits_steps found wanted.now)
+        (λ _. Pushes rows.old rows.new (fits_rows found wanted.now)) }
 {
     match place_of_atom(pieces, region, kind, atom) {
         Some(place) => push_beside(alloc, rows, &pieces[place].form, wanted),
@@ -165,7 +168,8 @@ fn push_one(
     kind: u32,
     wanted: &(u32, Form),
 ) -> Result<(), LinError>
-    ensures { IsMade result (one_steps pieces.now region.now kind wanted.now) (λ _. rows.new.items ≡ rows.old.items ++ one_rows pieces.now region.now kind wanted.now) }
+    ensures { IsMade result (one_steps pieces.now region.now kind wanted.now)
+        (λ _. Pushes rows.old rows.new (one_rows pieces.now region.now kind wanted.now)) }
 {
     let (atom, form) = wanted;
     push_added(alloc, rows, form)?;
@@ -181,7 +185,8 @@ fn push_all(
     kind: u32,
     wanted: &[(u32, Form)],
 ) -> Result<(), LinError>
-    ensures { IsMade result (wanted_steps pieces.now region.now kind wanted.now) (λ _. rows.new.items ≡ rows.old.items ++ wanted_rows pieces.now region.now kind wanted.now) }
+    ensures { IsMade result (wanted_steps pieces.now region.now kind wanted.now)
+        (λ _. Pushes rows.old rows.new (wanted_rows pieces.now region.now kind wanted.now)) }
 {
     for one in wanted {
         push_one(alloc, rows, pieces, region, kind, one)?;
@@ -204,8 +209,12 @@ pub fn compat(
     kind: u32,
     wanted: &[(u32, Form)],
 ) -> Result<Option<Vec<Row>>, LinError>
-    ensures exact { IsMade result (compat_steps (algebra_view algebra.now) pieces.now region.now kind wanted.now) (λ o. option_map (λ rows. rows.items) o ≡ compat_of (algebra_view algebra.now) pieces.now region.now kind wanted.now) }
-    ensures means { IfOk result (λ o. CoversWanted (algebra_view algebra.now) pieces.now region.now kind wanted.now (option_map (λ rows. rows.items) o)) }
+    ensures exact { let a = algebra_view algebra.now in
+        IsMade result (compat_steps a pieces.now region.now kind wanted.now) (λ o.
+        option_map (λ rows. rows.items) o ≡ compat_of a pieces.now region.now kind wanted.now) }
+    ensures means { let a = algebra_view algebra.now in
+        IfOk result (λ o.
+        CoversWanted a pieces.now region.now kind wanted.now (option_map (λ rows. rows.items) o)) }
 {
     compared(alloc, algebra, pieces, region, kind, wanted)
 }
@@ -219,7 +228,9 @@ fn compared(
     kind: u32,
     wanted: &[(u32, Form)],
 ) -> Result<Option<Vec<Row>>, LinError>
-    ensures { IsMade result (compat_steps (algebra_view algebra.now) pieces.now region.now kind wanted.now) (λ o. option_map (λ rows. rows.items) o ≡ compat_of (algebra_view algebra.now) pieces.now region.now kind wanted.now) }
+    ensures { let a = algebra_view algebra.now in
+        IsMade result (compat_steps a pieces.now region.now kind wanted.now) (λ o.
+        option_map (λ rows. rows.items) o ≡ compat_of a pieces.now region.now kind wanted.now) }
 {
     if clashes_some(algebra, pieces, region, kind, wanted) {
         return Ok(None);

@@ -1,25 +1,27 @@
-ghost use Rattle.std.specs.Prelude.{◌≡◌, ◌+◌, ◌++◌, ◌∷◌, [], map, IfOk, MatchResult};
+ghost use Rattle.std.specs.Prelude.{◌≡◌, ◌+◌, ◌∷◌, [], IfOk, MatchResult};
 ghost use Rattle.cap_lin.specs.declared.error.LinError.TheVariants.{OutOfMemory};
-ghost use Rattle.cap_galg.specs.Algebras.{atoms};
-ghost use Rattle.cap_galg.specs.Views.{algebra_view};
+ghost use Rattle.cap_galg.specs.Views.{algebra_view, atom_count};
+ghost use Rattle.cap_gsolve.specs.Made.{Pushes};
 ghost use Rattle.cap_gsolve.specs.Meaning.{AreAll};
-ghost use Rattle.cap_gsolve.specs.Pieces.{piece, full_forms, full_pieces as pieces_of_all};
+ghost use Rattle.cap_gsolve.specs.Pieces.{piece, pieces_of, full_forms};
+ghost use Rattle.cap_gsolve.specs.Pieces.{full_pieces as pieces_of_all};
 
 use crate::piece::{Form, Piece};
 use cap_galg::Algebra;
 use cap_lin::{LinError, Term};
 use std::alloc::Global;
 
-/// The pieces that hold all of a region's guards: all of each atom, and of a sum its left side. It is
-/// never Wide; an atom whose number passes 32 bits counts as want of memory. Under each valuation the
-/// pieces compose to the full element.
+/// The pieces that hold all of a region's guards: all of each atom, and of a sum its left side. It
+/// is never Wide; an atom whose number passes 32 bits counts as want of memory. Under each
+/// valuation the pieces compose to the full element.
 pub fn full_pieces(
     alloc: Global,
     algebra: &Algebra,
     region: &Term,
     kind: u32,
 ) -> Result<Vec<Piece>, LinError>
-    ensures exact { MatchResult result (λ ps. ps.items ≡ pieces_of_all (algebra_view algebra.now) region.now kind) (λ e. e ≡ OutOfMemory) }
+    ensures exact { let all = pieces_of_all (algebra_view algebra.now) region.now kind in
+        MatchResult result (λ ps. ps.items ≡ all) (λ e. e ≡ OutOfMemory) }
     ensures means { IfOk result (λ ps. AreAll (algebra_view algebra.now) region.now kind ps.items) }
 {
     let mut pieces = Vec::new(alloc);
@@ -36,7 +38,10 @@ fn push_full(
     first: u64,
     pieces: &mut Vec<Piece>,
 ) -> Result<u64, LinError>
-    ensures { MatchResult result (λ next. (next ≡ first + atoms (algebra_view algebra.now)) × (pieces.new.items ≡ pieces.old.items ++ map (λ p. piece region.now kind p.0 p.1) (full_forms (algebra_view algebra.now) first))) (λ e. e ≡ OutOfMemory) }
+    ensures { let all = pieces_of region.now kind (full_forms (algebra_view algebra.now) first) in
+        MatchResult result
+        (λ next. (next ≡ first + atom_count algebra.now) × Pushes pieces.old pieces.new all)
+        (λ e. e ≡ OutOfMemory) }
 {
     match algebra {
         Algebra::Unique => push(alloc, region, kind, first, Form::One, pieces),
@@ -68,7 +73,10 @@ fn push(
     form: Form,
     pieces: &mut Vec<Piece>,
 ) -> Result<u64, LinError>
-    ensures { MatchResult result (λ next. (next ≡ atom + 1) × (pieces.new.items ≡ pieces.old.items ++ (piece region.now kind atom form ∷ []))) (λ e. e ≡ OutOfMemory) }
+    ensures { let one = piece region.now kind atom form in
+        MatchResult result
+        (λ next. (next ≡ atom + 1) × Pushes pieces.old pieces.new (one ∷ []))
+        (λ e. e ≡ OutOfMemory) }
 {
     if atom > u32::MAX as u64 {
         return Err(LinError::OutOfMemory);
@@ -85,7 +93,8 @@ fn push(
 
 // The number behind the algebra's atoms, where they begin at a number.
 fn past(algebra: &Algebra, first: u64) -> Result<u64, LinError>
-    ensures { MatchResult result (λ next. next ≡ first + atoms (algebra_view algebra.now)) (λ e. e ≡ OutOfMemory) }
+    ensures { MatchResult result
+        (λ next. next ≡ first + atom_count algebra.now) (λ e. e ≡ OutOfMemory) }
 {
     match algebra {
         Algebra::Unique | Algebra::Divisible | Algebra::Counting => {

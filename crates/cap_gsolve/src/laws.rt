@@ -1,20 +1,16 @@
 //! Laws of symbolic guards, each the contract of a function that does nothing.
-ghost use Rattle.std.specs.Prelude.{◌≡◌, Some};
-ghost use Rattle.cap_galg.specs.Algebras.{PlainAlgebra, sum, full, atoms};
-ghost use Rattle.cap_galg.specs.Lists.{compose_all};
-ghost use Rattle.cap_gsolve.specs.Pieces.{full_forms};
-ghost use Rattle.cap_gsolve.specs.Fulls.{elements_of};
-ghost use Rattle.cap_gsolve.specs.Meaning.{CompatMeans, PartsCompose};
+ghost use Rattle.std.specs.Prelude.{ℕ};
+ghost use Rattle.cap_lin.specs.Linear.{Linear};
+ghost use Rattle.cap_galg.specs.Algebras.{PlainAlgebra, sum, atoms};
+ghost use Rattle.cap_gsolve.specs.Pieces.{pieces_of, full_forms};
+ghost use Rattle.cap_gsolve.specs.Meaning.{AreAll, CompatMeans, PartsCompose};
 
-/// The full pieces of an algebra compose all together, to its full element.
-pub fn full_forms_compose()
-    ensures { (a : PlainAlgebra) → compose_all (elements_of a (full_forms a 0)) ≡ Some (full a) }
-{}
-
-/// All of a sum's right side is all of the sum, as all of its left side is: the full pieces of the
-/// right side, whose atoms come behind the left side's, compose to the same element.
-pub fn right_full_forms_compose()
-    ensures { (a b : PlainAlgebra) → compose_all (elements_of (sum a b) (full_forms b (atoms a))) ≡ Some (full (sum a b)) }
+/// All of a sum's right side is all of the sum, as all of its left side is: under each valuation
+/// the full pieces of the right side, whose atoms come behind the left side's, compose to the full
+/// element of the sum.
+pub fn right_full_pieces_compose()
+    ensures { (a b : PlainAlgebra) (r : Linear) (k : ℕ) →
+        AreAll (sum a b) r k (pieces_of r k (full_forms b (atoms a))) }
 {}
 
 /// Where wanted atoms of a region compose with the pieces that are held, they are compatible with

@@ -12,10 +12,7 @@ mod rows;
 
 pub use compatible::compat;
 pub use full::full_pieces;
-pub use laws::{
-    composed_parts_hold_both, full_forms_compose, right_full_forms_compose,
-    wanted_atoms_are_compatible,
-};
+pub use laws::{composed_parts_hold_both, right_full_pieces_compose, wanted_atoms_are_compatible};
 pub use merging::merge;
 pub use piece::{Form, Piece};
 

@@ -1,4 +1,4 @@
-ghost use Rattle.std.specs.Prelude.{◌≡◌, IfOk};
+ghost use Rattle.std.specs.Prelude.{◌≡◌, position, IfOk};
 ghost use Rattle.cap_gsolve.specs.Pieces.{of_guards, of_atom, same_part, is_surely_some};
 
 use cap_lin::Term;
@@ -83,4 +83,13 @@ impl Piece {
             form,
         })
     }
+}
+
+/// The place of the first piece of an atom of a region's guards.
+pub fn place_of_atom(pieces: &[Piece], region: &Term, kind: u32, atom: u32) -> Option<usize>
+    ensures { result ≡ position (of_atom region.now kind atom) pieces.now }
+{
+    pieces
+        .iter()
+        .position(|there| there.is_of_atom(region, kind, atom))
 }

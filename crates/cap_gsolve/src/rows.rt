@@ -1,7 +1,8 @@
-ghost use Rattle.std.specs.Prelude.{◌≡◌, ◌++◌, ◌∷◌, []};
+ghost use Rattle.std.specs.Prelude.{◌∷◌, []};
 ghost use Rattle.cap_lin.specs.Rows.{row_of, row_of_steps};
-ghost use Rattle.cap_gsolve.specs.Made.{IsMade};
-ghost use Rattle.cap_gsolve.specs.Merge.{false_row, false_steps, added_rows, added_steps, lone_rows, lone_steps};
+ghost use Rattle.cap_gsolve.specs.Made.{IsMade, Pushes};
+ghost use Rattle.cap_gsolve.specs.Merge.{false_row, added_rows, lone_rows};
+ghost use Rattle.cap_gsolve.specs.Merge.{false_steps, added_steps, lone_steps};
 
 use crate::piece::Form;
 use cap_lin::{LinError, Op, Row, Sort, Term};
@@ -16,7 +17,8 @@ pub fn push_row(
     right: &Term,
     sort: Sort,
 ) -> Result<(), LinError>
-    ensures { IsMade result (row_of_steps left.now op right.now sort) (λ _. rows.new.items ≡ rows.old.items ++ (row_of left.now op right.now sort ∷ [])) }
+    ensures { IsMade result (row_of_steps left.now op right.now sort)
+        (λ _. Pushes rows.old rows.new (row_of left.now op right.now sort ∷ [])) }
 {
     let row = Row::of(alloc, left, op, right, sort)?;
     rows.push(row)?;
@@ -25,7 +27,7 @@ pub fn push_row(
 
 /// Appends the row that never holds.
 pub fn push_false(alloc: Global, rows: &mut Vec<Row>) -> Result<(), LinError>
-    ensures { IsMade result false_steps (λ _. rows.new.items ≡ rows.old.items ++ (false_row ∷ [])) }
+    ensures { IsMade result false_steps (λ _. Pushes rows.old rows.new (false_row ∷ [])) }
 {
     let zero = Term::constant(alloc, 0);
     let one = Term::constant(alloc, 1);
@@ -34,7 +36,8 @@ pub fn push_false(alloc: Global, rows: &mut Vec<Row>) -> Result<(), LinError>
 
 /// An amount is above 0, and a count is at least 0.
 pub fn push_added(alloc: Global, rows: &mut Vec<Row>, form: &Form) -> Result<(), LinError>
-    ensures { IsMade result (added_steps form.now) (λ _. rows.new.items ≡ rows.old.items ++ added_rows form.now) }
+    ensures { IsMade result (added_steps form.now)
+        (λ _. Pushes rows.old rows.new (added_rows form.now)) }
 {
     let zero = Term::constant(alloc, 0);
     match form {
@@ -47,7 +50,8 @@ pub fn push_added(alloc: Global, rows: &mut Vec<Row>, form: &Form) -> Result<(),
 
 /// An amount alone is at most 1.
 pub fn push_lone(alloc: Global, rows: &mut Vec<Row>, form: &Form) -> Result<(), LinError>
-    ensures { IsMade result (lone_steps form.now) (λ _. rows.new.items ≡ rows.old.items ++ lone_rows form.now) }
+    ensures { IsMade result (lone_steps form.now)
+        (λ _. Pushes rows.old rows.new (lone_rows form.now)) }
 {
     match form {
         Form::Share(amount) => {
