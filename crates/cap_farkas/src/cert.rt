@@ -87,7 +87,8 @@ fn is_refutation(rows: &[Row], cert: &Cert) -> bool
 // Whether a leaf refutes the rows with the row behind them that a row's term is on this side of 0.
 fn refutes_side(rows: &[Row], place: usize, side: Side, leaf: &[(u32, i128)]) -> bool
     requires { place < length rows.now }
-    ensures { IsTrue result ↔ RefutesSide rows.now (record { place = place; side = side }) leaf.now }
+    ensures { IsTrue result ↔
+        RefutesSide rows.now (record { place = place; side = side }) leaf.now }
 {
     is_narrow(&rows[place], side) && refutes_leaf(rows, Some(Appended { place, side }), leaf)
 }

@@ -1,5 +1,6 @@
 ghost use Rattle.std.specs.Prelude.{◌≡◌, ◌<◌, ◌↔◌, ℕ, IsTrue, Some};
-ghost use Rattle.cap_farkas.specs.Farkas.{MayMultiply, Names, SumsTo, Cancels, HasStrict, Contradicts, RefutesLeaf};
+ghost use Rattle.cap_farkas.specs.Farkas.{MayMultiply, Names, SumsTo, Cancels, HasStrict};
+ghost use Rattle.cap_farkas.specs.Farkas.{Contradicts, RefutesLeaf};
 ghost use Rattle.cap_farkas.specs.System.{part_of, all_rows, AreAppended, IsNextFrom, Earlier};
 
 use crate::system::{Appended, Column, kind_at, part_at, variable_at};

@@ -3,7 +3,9 @@ ghost use Rattle.std.specs.Option.{SomeIff};
 ghost use Rattle.cap_lin.specs.Linear.{IsLeastFrom};
 ghost use Rattle.cap_lin.specs.Steps.{first_wide, multiples_steps};
 ghost use Rattle.cap_farkas.specs.Farkas.{row_at, coefficient_of, IsKindAt};
-ghost use Rattle.cap_farkas.specs.System.{part_of, below_kind, below_constant, below_steps, side_row, side_steps, side_constant, side_constant_steps, all_rows, AreAppended};
+ghost use Rattle.cap_farkas.specs.System.{part_of, below_kind, below_constant, below_steps};
+ghost use Rattle.cap_farkas.specs.System.{side_row, side_steps, side_constant, side_constant_steps};
+ghost use Rattle.cap_farkas.specs.System.{all_rows, AreAppended};
 
 use cap_lin::{Kind, Row, Sort};
 
@@ -14,8 +16,8 @@ pub enum Side {
     Above,
 }
 
-/// The row that a split puts behind the rows: that the term of the row at this place is on this side
-/// of 0.
+/// The row that a split puts behind the rows: that the term of the row at this place is on this
+/// side of 0.
 #[derive(Clone, Copy, Debug, PartialEq, Eq)]
 pub struct Appended {
     pub place: usize,

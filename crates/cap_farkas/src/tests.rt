@@ -97,8 +97,8 @@ fn wide_sums(rt: HostRuntime) -> Result<(), Fail> {
 #[test]
 fn splits(rt: HostRuntime) -> Result<(), Fail> {
     let alloc = rt.alloc();
-    // v <= 0, -v <= 0, v != 0. Behind them stands, for whole numbers, v + 1 <= 0 or -v + 1 <= 0, and
-    // for fractions v < 0 or -v < 0.
+    // v <= 0, -v <= 0, v != 0. Behind them stands, for whole numbers, v + 1 <= 0 or -v + 1 <= 0,
+    // and for fractions v < 0 or -v < 0.
     let parts = [(0, 1, Kind::Le), (0, -1, Kind::Le), (0, 1, Kind::Ne)];
     let above = [(0, 1), (3, 1)];
     let below = [(1, 1), (3, 1)];
