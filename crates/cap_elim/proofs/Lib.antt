@@ -16,4 +16,3 @@ pub mod Fits
 pub mod Made
 pub mod Kept
 pub mod Certified
-pub mod Turns
