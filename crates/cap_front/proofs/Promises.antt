@@ -21,7 +21,7 @@ use Rattle.cap_answer.specs.Task.{Task, verify, derive, check, show, replay, fil
 use Rattle.cap_answer.specs.Output.{Output, usage_output, unreadable_output, long_output, refusal_output, report_output, derivation_output, long_derivation_output, bad_derivation_output, later_output, judged_output, judged_status, tree_output, schedule_output, run_output, report_status, end_status}
 use Rattle.cap_front.specs.Reads.{IsFetched, AreFetched, given_by, AreGiven}
 use Rattle.cap_front.specs.Run.{IsSaid, IsRun}
-use Rattle.cap_front.specs.Promise.{VerifiesFile, DerivesFile, ChecksFiles, IsShownAs, ShowsFile, EndsRun, ReplaysFiles, Ends, Says, Answers, HoldsGood, HoldAccepted, HoldsTree, IsTextFor, Refuses, IsOneOf, ReadFails}
+use Rattle.cap_front.specs.Promise.{VerifiesFile, DerivesFile, ChecksFiles, IsShownAs, ShowsFile, EndsRun, ReplaysFiles, Ends, Says, AnswersFiles, HoldsGood, HoldAccepted, HoldsTree, IsTextFor, Refuses, IsOneOf, ReadFails}
 use Rattle.cap_front.proofs.Reading.{held-given, agree-given, first-given, given-held, given-unread}
 
 -- ---- the statuses of outputs
@@ -462,7 +462,7 @@ module _ (files : Files) (task : Option Task) (reads reads_now : ℕ) (blamed : 
   abbrev RunsOver : Type 0
   RunsOver = IsRun (Some files) task reads reads_now blamed fetches fetches_now written gained writes writes_now status
 
-  answers_told : Answers task files written gained status
+  answers_told : AnswersFiles task files written gained status
   answers_told got o g h = by run
     where
       by : RunsOver → Says written gained status o ⊎ (status ≡ NoMemory)
@@ -636,8 +636,8 @@ module _ (told : Option Files) (task : Option Task) (reads reads_now : ℕ) (bla
   over P f (Some files) h = λ r w. f files h r w
 
   module _ (run : IsRun told task reads reads_now blamed fetches fetches_now written gained writes writes_now status) where
-    pub answers_run : Over (λ files. Answers task files written gained status)
-    answers_run = over (λ files. Answers task files written gained status)
+    pub answers_run : Over (λ files. AnswersFiles task files written gained status)
+    answers_run = over (λ files. AnswersFiles task files written gained status)
         (λ files h r w. answers_told files task reads reads_now blamed fetches fetches_now written gained writes writes_now status h r w) told run
 
     pub proved_run : Over (λ files. (name : List ℕ) (budget : ℕ) → task ≡ Some (verify name budget) → HoldsGood budget name files → (status ≡ Good) ⊎ (status ≡ NoMemory))

@@ -104,8 +104,8 @@ abbrev pub Says : Option (List ℕ) → Option (List ℕ) → Status → Output 
 Says written gained status o = (status ≡ o.status) × Gains written gained o.text
 
 -- each output over these files is the one that is said, unless memory ran out
-abbrev pub Answers : Option Task → Files → Option (List ℕ) → Option (List ℕ) → Status → Type 0
-Answers task files written gained status =
+abbrev pub AnswersFiles : Option Task → Files → Option (List ℕ) → Option (List ℕ) → Status → Type 0
+AnswersFiles task files written gained status =
     (got : List Fetched) (o : Output) → AreGiven files (files_of task) got → IsOutput task got o
     → Says written gained status o ⊎ (status ≡ NoMemory)
 

@@ -5,7 +5,7 @@ ghost use Rattle.cap_answer.specs.Views.{output_view};
 ghost use Rattle.cap_answer.specs.declared.status.Status.TheVariants.{Good, Usage, ReadFault};
 ghost use Rattle.cap_answer.specs.declared.status.Status.TheVariants.{WriteFault, NoMemory};
 ghost use Rattle.cap_front.specs.Promise.{VerifiesFile, DerivesFile, ChecksFiles, ShowsFile};
-ghost use Rattle.cap_front.specs.Promise.{EndsRun, ReplaysFiles, Ends, Answers, HoldsGood};
+ghost use Rattle.cap_front.specs.Promise.{EndsRun, ReplaysFiles, Ends, AnswersFiles, HoldsGood};
 ghost use Rattle.cap_front.specs.Promise.{HoldAccepted, HoldsTree, Refuses, ReadFails};
 ghost use Rattle.cap_front.specs.Run.{IsSaid, IsRun};
 
@@ -166,7 +166,7 @@ pub fn run<S: Shelf, K: Sink>(
     ensures answers { IfSome (S.holds shelf.old) (λ files.
         ¬ Rose (S.faults shelf.old) (S.faults shelf.new)
         → ¬ Rose (K.faults sink.old) (K.faults sink.new)
-        → Answers (task_in words.now) files (K.written sink.old) (K.written sink.new) result) }
+        → AnswersFiles (task_in words.now) files (K.written sink.old) (K.written sink.new) result) }
     ensures proved { IfSome (S.holds shelf.old) (λ files.
         ¬ Rose (S.faults shelf.old) (S.faults shelf.new)
         → ¬ Rose (K.faults sink.old) (K.faults sink.new)

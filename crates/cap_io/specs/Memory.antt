@@ -59,8 +59,8 @@ abbrev pub room_left : SinkState → ℕ
 room_left s = s.room - length s.written
 
 -- the next put, of these bytes, does not fail
-abbrev pub Fits : SinkState → List ℕ → Type 0
-Fits s bytes = IsNone (fails_after s) × (length bytes ≤ room_left s)
+abbrev pub TakesWhole : SinkState → List ℕ → Type 0
+TakesWhole s bytes = IsNone (fails_after s) × (length bytes ≤ room_left s)
 
 -- how many of these bytes the next put takes
 abbrev pub taken : SinkState → List ℕ → ℕ

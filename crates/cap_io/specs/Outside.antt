@@ -31,12 +31,12 @@ abbrev pub Rose : ℕ → ℕ → Type 0
 Rose before now = min (before + 1) last_count ≤ now
 
 -- what a fetch of this name answers, over a shelf that tells these files, or none
-abbrev pub Answers : Option Files → List ℕ → Result (Vec ℕ Global) FetchError → Type 0
-Answers told name (Ok bytes) = (length bytes.items ≤ longest) × IfSome told (λ files. content files name ≡ Some bytes.items)
-Answers told name (Err Failed) = ⊤
-Answers told name (Err Absent) = IsSomeAnd told (λ files. content files name ≡ None)
-Answers told name (Err (TooLong seen)) = (longest < seen) × IfSome told (λ files. IsSomeAnd (content files name) (λ bytes. seen ≡ length bytes))
-Answers told name (Err OutOfMemory) = ⊤
+abbrev pub FetchAnswers : Option Files → List ℕ → Result (Vec ℕ Global) FetchError → Type 0
+FetchAnswers told name (Ok bytes) = (length bytes.items ≤ longest) × IfSome told (λ files. content files name ≡ Some bytes.items)
+FetchAnswers told name (Err Failed) = ⊤
+FetchAnswers told name (Err Absent) = IsSomeAnd told (λ files. content files name ≡ None)
+FetchAnswers told name (Err (TooLong seen)) = (longest < seen) × IfSome told (λ files. IsSomeAnd (content files name) (λ bytes. seen ≡ length bytes))
+FetchAnswers told name (Err OutOfMemory) = ⊤
 
 -- an answer with its bytes as a list
 abbrev pub plain_answer : Result (Vec ℕ Global) FetchError → Result (List ℕ) FetchError
@@ -76,7 +76,7 @@ Measures told before now (Err OutOfMemory) = ⊤
 -- where files are told and no fault came, a fetch answers exactly by the content, unless memory is short
 abbrev pub AnswersAreExact : Type 0
 AnswersAreExact = (files : Files) (name : List ℕ) (before now : ℕ) (blamed blames : Option (List ℕ)) (r : Result (Vec ℕ Global) FetchError)
-    → Answers (Some files) name r → Blames name before now blamed blames r → ¬ Rose before now → r ≢ Err OutOfMemory
+    → FetchAnswers (Some files) name r → Blames name before now blamed blames r → ¬ Rose before now → r ≢ Err OutOfMemory
     → plain_answer r ≡ found (content files name)
 
 -- one fetch more is counted, over a shelf that counts them

@@ -2,7 +2,7 @@ ghost use Rattle.std.specs.Map.{lookup};
 ghost use Rattle.std.specs.Prelude.{◌≡◌, ◌≢◌, ◌≤◌, ◌==◌, ◌↔◌, ◌++◌, [], take, Err, Some, None, IsOk, IfOk, OnOk, OnErr, option_map};
 ghost use Rattle.cap_io.specs.declared.shelf.FetchError.TheVariants.{Failed, OutOfMemory};
 ghost use Rattle.cap_io.specs.Outside.{content, counted, found, plain_answer, Blames, Counts, Measures};
-ghost use Rattle.cap_io.specs.Memory.{files_of, failed_fetches, fails_next, fetched, after_fetch, Fits, taken, fails_after};
+ghost use Rattle.cap_io.specs.Memory.{files_of, failed_fetches, fails_next, fetched, after_fetch, TakesWhole, taken, fails_after};
 
 use crate::shelf::LONGEST;
 use crate::{FetchError, PutFailed, Shelf, Sink};
@@ -211,16 +211,16 @@ fn second_of(pairs: &[(u64, u64)], number: u64) -> Option<u64>
 
 impl Sink for MemorySink {
     ghost use Rattle.std.specs.Prelude.{Some};
-    ghost use Rattle.cap_io.specs.Memory.{Fits};
+    ghost use Rattle.cap_io.specs.Memory.{TakesWhole};
 
     ghost written = { λ s. Some s.written };
 
     ghost faults = { λ s. s.failures };
 
-    ghost takes = { λ s bytes. Fits s bytes };
+    ghost takes = { λ s bytes. TakesWhole s bytes };
 
     fn put(&mut self, bytes: &[u8]) -> Result<(), PutFailed>
-        ensures succeeds { IsOk result ↔ Fits self.old bytes.now }
+        ensures succeeds { IsOk result ↔ TakesWhole self.old bytes.now }
         ensures all { OnOk result (self.new.written ≡ self.old.written ++ bytes.now) }
         ensures part { OnErr result (self.new.written ≡ self.old.written ++ take (taken self.old bytes.now) bytes.now) }
         ensures counted { self.new.puts ≡ counted self.old.puts }

@@ -1,6 +1,6 @@
 ghost use Rattle.std.specs.Prelude.{◌≡◌, ◌≢◌, ◌≤◌, List, ℕ, Option, None, Err, IsOk, OnOk, OnErr};
 ghost use Rattle.cap_io.specs.declared.shelf.FetchError.TheVariants.{Failed, OutOfMemory};
-ghost use Rattle.cap_io.specs.Outside.{Files, Answers, AnswersAreExact, Blames, Counts, Measures};
+ghost use Rattle.cap_io.specs.Outside.{Files, FetchAnswers, AnswersAreExact, Blames, Counts, Measures};
 ghost use Rattle.cap_io.specs.Outside.{Gains, GainsPrefix, Rose};
 
 use std::alloc::{AllocError, AllocFailed};
@@ -72,7 +72,7 @@ pub trait Shelf {
     /// its files never answers `Absent`.
     fn fetch(&mut self, name: &str) -> Result<Vec<u8>, FetchError>
         ensures kept { holds self.new ≡ holds self.old }
-        ensures answer { Answers (holds self.old) name.now result }
+        ensures answer { FetchAnswers (holds self.old) name.now result }
         ensures later { faults self.old ≤ faults self.new }
         ensures blame { Blames name.now (faults self.old) (faults self.new) (blamed self.old) (blamed self.new) result }
         ensures counts { Counts (fetches self.old) (fetches self.new) result }

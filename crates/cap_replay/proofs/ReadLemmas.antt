@@ -6,7 +6,7 @@ use Rattle.cap_replay.specs.declared.reading.ScheduleError.{ScheduleError}
 use Rattle.cap_replay.specs.declared.reading.ScheduleError.TheVariants.{BadLine, TooMany, OutOfMemory}
 use Rattle.cap_replay.specs.Pieces.{put, pieces, pieces_behind}
 use Rattle.cap_replay.specs.Numbers.{number}
-use Rattle.cap_replay.specs.Reading.{put_number, numbers_of, last_number, base_of, Progress, bad_unless, takes_end, take_line, lines_of, or_empty, then_read, ended, read_from, read, Answers, IsReadAs}
+use Rattle.cap_replay.specs.Reading.{put_number, numbers_of, last_number, base_of, Progress, bad_unless, takes_end, take_line, lines_of, or_empty, then_read, ended, read_from, read, GivesProgress, IsReadAs}
 
 -- the numbers so far, in front of those behind
 abbrev pub IsSoFar : List ℤ → List (List ℕ) → List (List ℕ) → Type 0
@@ -130,7 +130,7 @@ line_stops n p rest line bytes behind x h l e t =
     sym h ∙ (ap (read_from n p) (lines_next rest line behind l e) ∙ ap (λ r. then_read r (λ y. read_from (suc n) y (lines_of (pieces 10 (or_empty behind))))) t)
 
 -- an error of a line is one of the whole
-pub line_fails : {T : Type 0} (n : ℕ) (p : Progress) (rest line bytes : List ℕ) (behind : Option (List ℕ)) (x : ScheduleError) (view : T → Progress) → IsLeft n p rest bytes → 0 < length rest → pieces 10 rest ≡ line ∷ pieces_behind 10 behind → Answers (Err x) view (take_line n p line) → IsReadAs (Err x) (read bytes)
+pub line_fails : {T : Type 0} (n : ℕ) (p : Progress) (rest line bytes : List ℕ) (behind : Option (List ℕ)) (x : ScheduleError) (view : T → Progress) → IsLeft n p rest bytes → 0 < length rest → pieces 10 rest ≡ line ∷ pieces_behind 10 behind → GivesProgress (Err x) view (take_line n p line) → IsReadAs (Err x) (read bytes)
 line_fails n p rest line bytes behind (BadLine k) view h l e t = line_stops n p rest line bytes behind (BadLine k) h l e t
 line_fails n p rest line bytes behind TooMany view h l e t = line_stops n p rest line bytes behind TooMany h l e t
 line_fails n p rest line bytes behind OutOfMemory view h l e t = tt

@@ -16,7 +16,7 @@ use Rattle.cap_run.specs.Machine.{Frame, Thread, Configuration, Outcome, next, f
 use Rattle.cap_run.specs.Laws.{is_step}
 use Rattle.cap_run.specs.Ready.{ahead}
 use Rattle.cap_run.specs.Results.{entry_steps, are_narrow}
-use Rattle.cap_run.specs.View.{configuration, is_stopped, Fits, Leaves, Steps, is_enabled}
+use Rattle.cap_run.specs.View.{configuration, is_stopped, RunsProgram, Leaves, Steps, is_enabled}
 use Rattle.cap_replay.specs.declared.playing.End.{End}
 use Rattle.cap_replay.specs.declared.playing.End.TheVariants.{Stopped, NotEnabled}
 use Rattle.cap_replay.specs.declared.playing.Played.{Played}
@@ -147,7 +147,7 @@ stops_disabled p k number e m n text x i j r s =
 
 pub record Goes (p : PlainProgram) (s : Schedule) (m : Machine) (text : List ℕ) (count index : ℕ) : Type 0 where
   pub counted : count ≡ index
-  pub fits : Fits p m
+  pub fits : RunsProgram p m
   pub runs : is_stopped m ≡ false
   pub threads : length (configuration p m).threads ≤ suc index
   pub rest : in_front text (run_from p index (configuration p m) (drop index s.entries.items)) ≡ run_text p s
@@ -172,7 +172,7 @@ run_ends p s m n old new count index e end o r g l is i a h =
     let w : in_front new (ends end) ≡ run_text p s = sym (b (drop (suc index) s.entries.items)) ∙ left_at p s m old count index e g l is in
     if_ok_map r (λ q. (q.text.items ≡ new ++ last_line end) × (q.end ≡ end)) (λ q. played_view q ≡ run_text p s) (λ q k. ap (λ t. record { text = t; end = q.end }) k.0 ∙ (ap (λ x. record { text = new ++ last_line end; end = x }) k.1 ∙ w)) h
 
-pub run_goes : (p : PlainProgram) (s : Schedule) (m n : Machine) (old new : List ℕ) (count index : ℕ) (e : Entry) (o : Option End) → Goes p s m old count index → index < length s.entries.items → e ≡ get_or s.entries.items index e → o ≡ None → Advances p count e m n old new o → Fits p n → length (configuration p n).threads ≤ suc (length (configuration p m).threads) → Goes p s n new (count + 1) (index + 1)
+pub run_goes : (p : PlainProgram) (s : Schedule) (m n : Machine) (old new : List ℕ) (count index : ℕ) (e : Entry) (o : Option End) → Goes p s m old count index → index < length s.entries.items → e ≡ get_or s.entries.items index e → o ≡ None → Advances p count e m n old new o → RunsProgram p n → length (configuration p n).threads ≤ suc (length (configuration p m).threads) → Goes p s n new (count + 1) (index + 1)
 run_goes p s m n old new count index e o g l is i a f t =
     let P : Option End → Type 0 = λ u. Advances p count e m n old new u in
     let b = subst P i a in

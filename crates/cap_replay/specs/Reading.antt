@@ -140,11 +140,11 @@ abbrev pub reader_view : Reader → Progress
 reader_view r = record { stage = r.stage; last = r.last; args = r.schedule.args.items; heap = r.schedule.heap.items; entries = r.schedule.entries.items }
 
 -- the answer is what is read, unless memory runs out
-abbrev pub Answers : {T : Type 0} → Result T ScheduleError → (T → Progress) → Result Progress ScheduleError → Type 0
-Answers (Ok x) view r = r ≡ Ok (view x)
-Answers (Err (BadLine n)) view r = r ≡ Err (BadLine n)
-Answers (Err TooMany) view r = r ≡ Err TooMany
-Answers (Err OutOfMemory) view r = Unit {0}
+abbrev pub GivesProgress : {T : Type 0} → Result T ScheduleError → (T → Progress) → Result Progress ScheduleError → Type 0
+GivesProgress (Ok x) view r = r ≡ Ok (view x)
+GivesProgress (Err (BadLine n)) view r = r ≡ Err (BadLine n)
+GivesProgress (Err TooMany) view r = r ≡ Err TooMany
+GivesProgress (Err OutOfMemory) view r = Unit {0}
 
 -- the schedule that was read whole
 abbrev pub IsReadAs : Result Schedule ScheduleError → Result Progress ScheduleError → Type 0

@@ -3,7 +3,7 @@ ghost use Rattle.std.specs.Prelude.{◌^◌, suc, pos, false};
 ghost use Rattle.std.specs.Prelude.{length, slice_get, string_bytes, IfOk, IsSomeAnd, OnOk};
 ghost use Rattle.cap_prog.specs.Views.{program_view};
 ghost use Rattle.cap_run.specs.Cells.{AscendsFrom};
-ghost use Rattle.cap_run.specs.View.{configuration, is_stopped, Fits};
+ghost use Rattle.cap_run.specs.View.{configuration, is_stopped, RunsProgram};
 ghost use Rattle.cap_replay.specs.RunText.{pair_text, event_text};
 ghost use Rattle.cap_replay.specs.RunText.{head_text, step_line as the_step_line};
 ghost use Rattle.cap_replay.specs.RunText.{last_line as the_last_line, run_text, played_view};
@@ -129,14 +129,14 @@ fn advance(
     count: u64,
     text: &mut Vec<u8>,
 ) -> Result<Option<End>, AllocError>
-    requires fits { Fits (program_view program.now) machine.old }
+    requires fits { RunsProgram (program_view program.now) machine.old }
     requires runs { is_stopped machine.old ≡ false }
     requires room { let p = program_view program.now in
         length (configuration p machine.old).threads < 2 ^ 32 - 1 }
     requires count { count < 2 ^ 32 }
     ensures advances { IfOk result (λ end. Advances (program_view program.now) count entry.now
         machine.old machine.new text.old.items text.new.items end) }
-    ensures fits { Fits (program_view program.now) machine.new }
+    ensures fits { RunsProgram (program_view program.now) machine.new }
     ensures threads { let p = program_view program.now in
         length (configuration p machine.new).threads
         ≤ suc (length (configuration p machine.old).threads) }

@@ -9,7 +9,7 @@ ghost use Rattle.cap_replay.specs.Reading.{takes_args, takes_cell, takes_entry, 
 ghost use Rattle.cap_replay.specs.Reading.{step_or_end as the_step_or_end};
 ghost use Rattle.cap_replay.specs.Reading.{take_line as the_take_line};
 ghost use Rattle.cap_replay.specs.Reading.{ended, or_empty as the_or_empty, read, reader_view};
-ghost use Rattle.cap_replay.specs.Reading.{Answers, IsReadAs};
+ghost use Rattle.cap_replay.specs.Reading.{GivesProgress, IsReadAs};
 
 use crate::entries::Schedule;
 use crate::numbers::{cut, natural, number};
@@ -142,7 +142,7 @@ impl Reader {
         rest: Option<&[u8]>,
     ) -> Result<(), ScheduleError>
         ensures { let words = pieces_behind 32 (option_map (λ r. r.now) rest.entry) in
-            Answers result (λ _. reader_view self.new)
+            GivesProgress result (λ _. reader_view self.new)
             (bad_unless number (takes_args (reader_view self.old) (numbers_of words))) }
     {
         match numbers(alloc, rest)? {
@@ -157,7 +157,7 @@ impl Reader {
 
     fn take_cell(&mut self, number: u64, rest: Option<&[u8]>) -> Result<(), ScheduleError>
         ensures { let words = pieces_behind 32 (option_map (λ r. r.now) rest.entry) in
-            Answers result (λ _. reader_view self.new)
+            GivesProgress result (λ _. reader_view self.new)
             (bad_unless number (takes_cell (reader_view self.old) (cell_of words))) }
     {
         let Some((address, value)) = cell(rest) else {
@@ -173,7 +173,7 @@ impl Reader {
 
     fn take_step(&mut self, number: u64, rest: Option<&[u8]>) -> Result<(), ScheduleError>
         ensures { let words = pieces_behind 32 (option_map (λ r. r.now) rest.entry) in
-            Answers result (λ _. reader_view self.new)
+            GivesProgress result (λ _. reader_view self.new)
             (takes_entry number (reader_view self.old) (entry_of words)) }
     {
         let Some(entry) = entry(rest) else {
@@ -189,7 +189,7 @@ impl Reader {
 
     fn take_end(&mut self, number: u64, rest: Option<&[u8]>) -> Result<(), ScheduleError>
         ensures { let words = pieces_behind 32 (option_map (λ r. r.now) rest.entry) in
-            Answers result (λ _. reader_view self.new)
+            GivesProgress result (λ _. reader_view self.new)
             (bad_unless number (takes_end (reader_view self.old) words)) }
     {
         match rest {
@@ -209,7 +209,7 @@ impl Reader {
         rest: Option<&[u8]>,
     ) -> Result<(), ScheduleError>
         ensures { let words = pieces_behind 32 (option_map (λ r. r.now) rest.entry) in
-            Answers result (λ _. reader_view self.new)
+            GivesProgress result (λ _. reader_view self.new)
             (the_step_or_end number (reader_view self.old) word.now words) }
     {
         if word == b"step".as_slice() {
@@ -222,7 +222,7 @@ impl Reader {
     }
 
     fn take_line(&mut self, alloc: Global, number: u64, line: &[u8]) -> Result<(), ScheduleError>
-        ensures { Answers result (λ _. reader_view self.new)
+        ensures { GivesProgress result (λ _. reader_view self.new)
             (the_take_line number (reader_view self.old) line.now) }
     {
         let (word, rest) = cut(line, b' ');

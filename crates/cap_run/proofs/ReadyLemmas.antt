@@ -31,7 +31,7 @@ use Rattle.cap_run.specs.Machine.{Heap, Frame, Thread, Configuration, Outcome, n
 use Rattle.cap_run.specs.Fits.{FrameFits, ThreadFits, ConfigurationFits}
 use Rattle.cap_run.specs.Laws.{is_step, running, first_statement, AreFree, BaseFits}
 use Rattle.cap_run.specs.Results.{allocation_steps, are_narrow}
-use Rattle.cap_run.specs.View.{body_of, thread_view, configuration, is_stopped, ArePlaced, AllArePlaced, Fits, IsSame, Leaves, Steps, is_enabled}
+use Rattle.cap_run.specs.View.{body_of, thread_view, configuration, is_stopped, ArePlaced, AllArePlaced, RunsProgram, IsSame, Leaves, Steps, is_enabled}
 use Rattle.cap_run.specs.Ready.{IsReady, IsReadyTo, statement_ahead, ahead}
 use Rattle.cap_run.proofs.Lists.{all_at}
 use Rattle.cap_run.proofs.Keeping.{Runs, runs, step-kept, KeepsFit}
@@ -83,7 +83,7 @@ takes h (give_back t) base b = ap is_none b
 at_some : {X : Type 0} (o : Option X) (x : X) (P : X → Type 0) → IsSomeAnd o P → o ≡ Some x → P x
 at_some {X = X} o x P h e = let Q : Option X → Type 0 = λ u. IsSomeAnd u P in subst Q e h
 
-pub is_ready : (p : PlainProgram) (m : Machine) (e : Entry) (s : PlainStatement) (f : Frame) (rest : Block) → IsWellFormed p → Fits p m → is_stopped m ≡ false → running (configuration p m) e.thread ≡ Some f → f.rest ≡ first s.label s.act rest → BaseFits (configuration p m).heap s.act e.base → IsReady p m e s
+pub is_ready : (p : PlainProgram) (m : Machine) (e : Entry) (s : PlainStatement) (f : Frame) (rest : Block) → IsWellFormed p → RunsProgram p m → is_stopped m ≡ false → running (configuration p m) e.thread ≡ Some f → f.rest ≡ first s.label s.act rest → BaseFits (configuration p m).heap s.act e.base → IsReady p m e s
 is_ready p m e s f rest w h r t i b =
     let fs = running_is (slice_get (configuration p m).threads e.thread) f t in
     let k : ThreadFits p (f ∷ fs.0) = all_at (ThreadFits p) (configuration p m).threads e.thread (f ∷ fs.0) h.frames fs.1 in
@@ -133,7 +133,7 @@ block_disabled p m e f t i =
     let s : Spot = record { thread = e.thread; frame = f; below = fs.0; configuration = configuration p m } in
     and_false (not (is_stopped m)) _ (ap is_step (ap (thread_step p (configuration p m) e) fs.1 ∙ ap (statement_step p s e.base) i))
 
-pub base_disabled : (p : PlainProgram) (m : Machine) (e : Entry) (s : PlainStatement) (f : Frame) (rest : Block) → IsWellFormed p → Fits p m → running (configuration p m) e.thread ≡ Some f → f.rest ≡ first s.label s.act rest → (BaseFits (configuration p m).heap s.act e.base → ⊥) → is_enabled p m e ≡ false
+pub base_disabled : (p : PlainProgram) (m : Machine) (e : Entry) (s : PlainStatement) (f : Frame) (rest : Block) → IsWellFormed p → RunsProgram p m → running (configuration p m) e.thread ≡ Some f → f.rest ≡ first s.label s.act rest → (BaseFits (configuration p m).heap s.act e.base → ⊥) → is_enabled p m e ≡ false
 base_disabled p m e s f rest w h t i b =
     let fs = running_is (slice_get (configuration p m).threads e.thread) f t in
     let k : ThreadFits p (f ∷ fs.0) = all_at (ThreadFits p) (configuration p m).threads e.thread (f ∷ fs.0) h.frames fs.1 in
@@ -154,7 +154,7 @@ never_done : (o : Option PlainFunction) (f : Frame) → IsSomeAnd o (λ g. Frame
 never_done None f h = h
 never_done (Some g) f h = h.closing
 
-pub never_ends : (p : PlainProgram) (m : Machine) (thread : ℕ) (f : Frame) → Fits p m → running (configuration p m) thread ≡ Some f → f.rest ≡ done → ⊥
+pub never_ends : (p : PlainProgram) (m : Machine) (thread : ℕ) (f : Frame) → RunsProgram p m → running (configuration p m) thread ≡ Some f → f.rest ≡ done → ⊥
 never_ends p m thread f h t i =
     let fs = running_is (slice_get (configuration p m).threads thread) f t in
     let k : ThreadFits p (f ∷ fs.0) = all_at (ThreadFits p) (configuration p m).threads thread (f ∷ fs.0) h.frames fs.1 in
@@ -214,7 +214,7 @@ enabled_as p m e (Some x) view h = sym (enabled_now p m e (view x) h h.suits)
 
 -- ---- the machine after a step
 
-pub fits_after : (p : PlainProgram) (m n : Machine) (e : Entry) (r : Result Event StepError) → IsWellFormed p → Fits p m → Steps p e m n r → AllArePlaced p n → Fits p n
+pub fits_after : (p : PlainProgram) (m n : Machine) (e : Entry) (r : Result Event StepError) → IsWellFormed p → RunsProgram p m → Steps p e m n r → AllArePlaced p n → RunsProgram p n
 fits_after p m n e r w h s k = record { frames = go r s; places = k }
   where
     same : IsSame p m n → ConfigurationFits p (configuration p n)

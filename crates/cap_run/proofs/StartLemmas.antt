@@ -9,7 +9,7 @@ use Rattle.cap_run.specs.declared.frame.Frame as code
 use Rattle.cap_run.specs.declared.machine.Machine.{Machine}
 use Rattle.cap_run.specs.Machine.{Heap, new_frame, start}
 use Rattle.cap_run.specs.Fits.{ConfigurationFits}
-use Rattle.cap_run.specs.View.{frame_view, configuration, is_stopped, IsPlaced, AllArePlaced, ArePlaced, Fits}
+use Rattle.cap_run.specs.View.{frame_view, configuration, is_stopped, IsPlaced, AllArePlaced, ArePlaced, RunsProgram}
 use Rattle.cap_run.proofs.Keeping.{starts_keep}
 
 -- what the code made
@@ -44,6 +44,6 @@ placed_start p args heap m s =
     let one : ArePlaced p s.frames.items = subst (ArePlaced p) (sym s.one) (s.placed, tt) in
     subst (AllByRecursion (λ (t : Vec code.Frame). ArePlaced p t.items)) (sym s.threads) (one, tt)
 
-pub fits_start : (p : PlainProgram) (args : List ℤ) (heap : Heap) (m : Machine) → IsWellFormed p → IsSomeAnd (slice_get p.functions p.main) (λ f. length args ≡ f.params) → IsStart p args heap m → Fits p m
+pub fits_start : (p : PlainProgram) (args : List ℤ) (heap : Heap) (m : Machine) → IsWellFormed p → IsSomeAnd (slice_get p.functions p.main) (λ f. length args ≡ f.params) → IsStart p args heap m → RunsProgram p m
 fits_start p args heap m w h s =
     record { frames = subst (ConfigurationFits p) (sym (shows_start p args heap m _ h s)) (starts_keep p args heap w h); places = placed_start p args heap m s }

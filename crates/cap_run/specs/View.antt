@@ -55,7 +55,7 @@ unfoldable pub AllArePlaced : PlainProgram → Machine → Type 0
 AllArePlaced p m = AllByRecursion (λ (t : Vec code.Frame). ArePlaced p t.items) m.threads.items
 
 -- the machine runs this program
-pub record Fits (p : PlainProgram) (m : Machine) : Type 0 where
+pub record RunsProgram (p : PlainProgram) (m : Machine) : Type 0 where
   pub frames : ConfigurationFits p (configuration p m)
   pub places : AllArePlaced p m
 

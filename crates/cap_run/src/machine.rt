@@ -7,7 +7,7 @@ ghost use Rattle.cap_prog.specs.WellFormed.{IsWellFormed};
 ghost use Rattle.cap_run.specs.Machine as plain;
 ghost use Rattle.cap_run.specs.Cells.{AscendsFrom};
 ghost use Rattle.cap_run.specs.View.{configuration, is_stopped, frame_view, IsPlaced, AllArePlaced};
-ghost use Rattle.cap_run.specs.View.{Fits};
+ghost use Rattle.cap_run.specs.View.{RunsProgram};
 ghost use Rattle.cap_run.specs.Ready.{HasTop, CanChange, HasChanged, HasThread, IsKept};
 ghost use Rattle.cap_run.specs.Changes.{passed, entered, with_top, returned, return_event};
 
@@ -43,7 +43,7 @@ impl Machine {
         ensures begins { let p = program_view program.now in
             IfOk result (λ m. configuration p m ≡ plain.start p args.now (from_entries heap.now)) }
         ensures runs { IfOk result (λ m. is_stopped m ≡ false) }
-        ensures fits { IfOk result (λ m. Fits (program_view program.now) m) }
+        ensures fits { IfOk result (λ m. RunsProgram (program_view program.now) m) }
     {
         let cells = Heap::of(alloc, heap)?;
         let args = Vec::from_slice(alloc, args)?;

@@ -7,7 +7,7 @@ ghost use Rattle.cap_prog.specs.Views.{program_view, statement_view, act_view};
 ghost use Rattle.cap_run.specs.declared.event.StepError.TheVariants.{NotEnabled};
 ghost use Rattle.cap_run.specs.Cells.{IsTop};
 ghost use Rattle.cap_run.specs.Laws.{running};
-ghost use Rattle.cap_run.specs.View.{configuration, frame_view, IsPlaced, AllArePlaced, Fits};
+ghost use Rattle.cap_run.specs.View.{configuration, frame_view, IsPlaced, AllArePlaced, RunsProgram};
 ghost use Rattle.cap_run.specs.View.{Steps, is_enabled};
 ghost use Rattle.cap_run.specs.Ready.{IsReady, ahead, cells_of as the_cells_of};
 
@@ -59,7 +59,7 @@ impl Machine {
 
     // The statement that the entry takes, if the entry is enabled.
     fn ready<'a>(&self, program: &'a Program, entry: &Entry) -> Option<&'a Statement>
-        requires { Fits (program_view program.now) self.now }
+        requires { RunsProgram (program_view program.now) self.now }
         ensures { let p = program_view program.now in MatchOption result
             (is_enabled p self.now entry.now ≡ false)
             (λ s. IsReady p self.now entry.now (statement_view s.now)) }
@@ -115,7 +115,7 @@ impl Machine {
     /// least 1, and has no cell at the addresses from it on, as many as are allocated. It takes no
     /// memory.
     pub fn enabled(&self, program: &Program, entry: &Entry) -> bool
-        requires { Fits (program_view program.now) self.now }
+        requires { RunsProgram (program_view program.now) self.now }
         ensures { result ≡ is_enabled (program_view program.now) self.now entry.now }
     {
         self.ready(program, entry).is_some()
@@ -133,13 +133,13 @@ impl Machine {
         program: &Program,
         entry: &Entry,
     ) -> Result<Event, StepError>
-        requires fits { Fits (program_view program.now) self.old }
+        requires fits { RunsProgram (program_view program.now) self.old }
         requires room { let p = program_view program.now in
             length (configuration p self.old).threads < 2 ^ 32 - 1 }
         ensures steps { Steps (program_view program.now) entry.now self.old self.new result }
         ensures disabled { is_enabled (program_view program.now) self.old entry.now ≡ false
             → result ≡ Err NotEnabled }
-        ensures fits { Fits (program_view program.now) self.new }
+        ensures fits { RunsProgram (program_view program.now) self.new }
         ensures threads { let p = program_view program.now in
             length (configuration p self.new).threads
             ≤ suc (length (configuration p self.old).threads) }
@@ -153,7 +153,7 @@ impl Machine {
     /// The thread's next statement, and `None` exactly where there is no such thread or it has
     /// ended. Threads are counted from 0. It takes no memory.
     pub fn ahead(&self, program: &Program, thread: u32) -> Option<Ahead>
-        requires { Fits (program_view program.now) self.now }
+        requires { RunsProgram (program_view program.now) self.now }
         ensures ahead { result ≡ ahead (configuration (program_view program.now) self.now) thread }
         ensures none { (result ≡ None)
             ↔ (running (configuration (program_view program.now) self.now) thread ≡ None) }
