@@ -21,8 +21,7 @@ use std::alloc::{AllocError, Global};
 pub struct Elem {
     algebra: Algebra,
     node: Node,
-    ghost proper: { IsElement (algebra_view algebra) (node_view node) } by {
-        element-prop (algebra_view algebra) (node_view node) },
+    ghost proper: { IsElement (algebra_view algebra) (node_view node) } by { element-prop (algebra_view algebra) (node_view node) },
 }
 
 // Where the walk for an atom has come to: the element with this atom, or how many atoms come before
