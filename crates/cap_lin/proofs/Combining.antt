@@ -1,14 +1,17 @@
 -- The results on the way to a combination of two terms, and the loop over the parts: each lemma is one way through it.
-use Rattle.std.proofs.Common.{◌≡◌, ℕ, ℤ, ◌+ℤ◌, ◌*ℤ◌, List, [], ◌∷◌, ◌++◌, arith, append_assoc, refl, sym, ◌∙◌, Option, Some, None}
-use Rattle.std.specs.Prelude.{slice_get, Result}
+use Rattle.std.proofs.Common.{◌≡◌, ℕ, ℤ, pos, ◌+ℤ◌, ◌*ℤ◌, List, [], ◌∷◌, ◌++◌, ◌<◌, ◌≤◌, length, get_or, drop, arith, append_assoc, refl, sym, ◌∙◌, Option, None, inl, inr, FitsSigned}
+use Rattle.std.specs.Prelude.{Result}
+use Rattle.std.proofs.lemmas.Int.{ints}
 use Rattle.std.proofs.lemmas.Grind.{common_steps}
-use Rattle.cap_lin.specs.Linear.{Linear, merged, parts_behind, put_part, combined_parts, combination}
-use Rattle.cap_lin.specs.Steps.{Step, sum_of, product_of, first_wide, part_steps, combined_parts_steps, combination_steps}
-use Rattle.cap_lin.specs.Exact.{Explains, IsExact}
+use mir.Syntax.{w128}
+use Rattle.cap_lin.specs.Linear.{Linear, merged, only_left, only_right, put_part, multiples, combined_parts, combination}
+use Rattle.cap_lin.specs.Steps.{Step, sum_of, product_of, first_wide, part_steps, multiples_steps, combined_parts_steps, combination_steps}
+use Rattle.cap_lin.specs.Exact.{Explains, IsExact, IsCombined}
 use Rattle.cap_lin.specs.declared.error.LinError.{LinError}
 use Rattle.cap_lin.specs.declared.term.Pair.{Pair}
-use Rattle.cap_lin.proofs.Results.{first_wide-nil, first-narrow, explains_same, explains_first, explains_later, exact_after, put-append}
-use Rattle.cap_lin.proofs.Merge.{next, merged-end}
+use Rattle.cap_lin.proofs.Results.{first_wide-nil, first-narrow, product-fits, sum-fits, fits_or_not, fits-zero, product-not-fits, explains_same, explains_first, explains_later, exact_after, put-append}
+use Rattle.cap_lin.proofs.Merge.{no_part, merged-nil, merged-left, merged-right, starts-lt, starts-gt, starts-eq}
+use Rattle.cap_lin.proofs.Multiples as m
 
 -- ---- two products and their sum
 
@@ -48,31 +51,128 @@ parts-cons : (a b : ℤ) (j : Pair) (js : List Pair) → combined_parts a b (j �
 unfolding combined_parts
 parts-cons a b j js = put-append j.variable (a *ℤ j.left +ℤ b *ℤ j.right) (combined_parts a b js)
 
-pub stops : (a b : ℤ) (ps qs : List (ℕ × ℤ)) (j : Pair) (e : LinError) (all : List Step) (a' l b' r : ℤ) → slice_get (merged ps qs) 0 ≡ Some j → a' ≡ a → l ≡ j.left → b' ≡ b → r ≡ j.right → Explains e (part_steps a' l b' r []) → first_wide (combined_parts_steps a b (merged ps qs)) ≡ first_wide all → Explains e all
-stops a b ps qs j e all a' l b' r s p q t u x w =
-    let n = (next ps qs j s).rest in
+pub stops : (a b : ℤ) (js rest : List Pair) (j : Pair) (e : LinError) (all : List Step) (a' l b' r : ℤ) → js ≡ j ∷ rest → a' ≡ a → l ≡ j.left → b' ≡ b → r ≡ j.right → Explains e (part_steps a' l b' r []) → first_wide (combined_parts_steps a b js) ≡ first_wide all → Explains e all
+stops a b js rest j e all a' l b' r n p q t u x w =
     let y : Explains e (part_steps a j.left b j.right []) = rw (← p, ← q, ← t, ← u) x in
-    let z : Explains e (combined_parts_steps a b (merged ps qs)) = rw (n, steps-cons) (explains_first e _ _ y) in
+    let z : Explains e (combined_parts_steps a b js) = rw (n, steps-cons) (explains_first e _ _ y) in
     explains_same e all _ (sym w) z
 
-pub goes_on : (a b : ℤ) (ps qs : List (ℕ × ℤ)) (j : Pair) (whole : Option (ℤ × ℤ)) (a' l b' r : ℤ) → slice_get (merged ps qs) 0 ≡ Some j → a' ≡ a → l ≡ j.left → b' ≡ b → r ≡ j.right → first_wide (part_steps a' l b' r []) ≡ None → first_wide (combined_parts_steps a b (merged ps qs)) ≡ whole → first_wide (combined_parts_steps a b (merged (parts_behind j.variable ps) (parts_behind j.variable qs))) ≡ whole
-goes_on a b ps qs j whole a' l b' r s p q t u x w =
-    let n = (next ps qs j s).rest in
-    let y : first_wide (part_steps a j.left b j.right []) ≡ None = rw (← p, ← q, ← t, ← u) x in
-    sym (first-narrow _ _ y) ∙ (rw (n, steps-cons) at w)
+-- the first pair, of this variable, makes this number without leaving 128 bits, and these pairs come after it
+pub record IsStep (a b : ℤ) (js rest : List Pair) (x : ℕ) (k : ℤ) : Type 0 where
+  pub first : Pair
+  pub is : js ≡ first ∷ rest
+  pub variable : x ≡ first.variable
+  pub combined : IsCombined a first.left b first.right k
 
-pub adds : (a b : ℤ) (ps qs : List (ℕ × ℤ)) (j : Pair) (out out' whole : List (ℕ × ℤ)) (a' l b' r k : ℤ) → slice_get (merged ps qs) 0 ≡ Some j → a' ≡ a → l ≡ j.left → b' ≡ b → r ≡ j.right → k ≡ a' *ℤ l +ℤ b' *ℤ r → out' ≡ out ++ put_part j.variable k [] → out ++ combined_parts a b (merged ps qs) ≡ whole → out' ++ combined_parts a b (merged (parts_behind j.variable ps) (parts_behind j.variable qs)) ≡ whole
-adds a b ps qs j out out' whole a' l b' r k s p q t u e o w =
-    let n = (next ps qs j s).rest in
-    let i : k ≡ a *ℤ j.left +ℤ b *ℤ j.right = rw (e, p, q, t, u) refl in
-    let m : out' ≡ out ++ put_part j.variable (a *ℤ j.left +ℤ b *ℤ j.right) [] = rw (← i) o in
-    rw (m, append_assoc) (rw (n, parts-cons) at w)
+pub first_left : (a b : ℤ) (ps qs : List (ℕ × ℤ)) (x : ℕ) (k a' l b' : ℤ) → 1 ≤ length ps → 1 ≤ length qs → (get_or ps 0 no_part).0 < (get_or qs 0 no_part).0 → x ≡ (get_or ps 0 no_part).0 → a' ≡ a → l ≡ (get_or ps 0 no_part).1 → b' ≡ b → IsCombined a' l b' (pos 0) k → IsStep a b (merged ps qs) (merged (drop 1 ps) qs) x k
+first_left a b ps qs x k a' l b' h m t v p q u i =
+    record { first = only_left (get_or ps 0 no_part); is = starts-lt ps qs h m t; variable = v; combined = rw (← p, ← q, ← u) i }
 
-pub narrow : (a b : ℤ) (ps qs : List (ℕ × ℤ)) (whole : Option (ℤ × ℤ)) → slice_get (merged ps qs) 0 ≡ None → first_wide (combined_parts_steps a b (merged ps qs)) ≡ whole → whole ≡ None
-narrow a b ps qs whole s w = let e = merged-end ps qs s in sym (rw (e, steps-nil, first_wide-nil) at w)
+pub first_right : (a b : ℤ) (ps qs : List (ℕ × ℤ)) (x : ℕ) (k a' b' r : ℤ) → 1 ≤ length ps → 1 ≤ length qs → (get_or qs 0 no_part).0 < (get_or ps 0 no_part).0 → x ≡ (get_or qs 0 no_part).0 → a' ≡ a → b' ≡ b → r ≡ (get_or qs 0 no_part).1 → IsCombined a' (pos 0) b' r k → IsStep a b (merged ps qs) (merged ps (drop 1 qs)) x k
+first_right a b ps qs x k a' b' r h m t v p u w i =
+    record { first = only_right (get_or qs 0 no_part); is = starts-gt ps qs h m t; variable = v; combined = rw (← p, ← u, ← w) i }
 
-pub done : (a b : ℤ) (ps qs : List (ℕ × ℤ)) (out whole : List (ℕ × ℤ)) → slice_get (merged ps qs) 0 ≡ None → out ++ combined_parts a b (merged ps qs) ≡ whole → out ≡ whole
-done a b ps qs out whole s w = let e = merged-end ps qs s in let v : out ++ [] ≡ whole = rw (e, parts-nil) at w in grind (arith, common_steps)
+pub first_both : (a b : ℤ) (ps qs : List (ℕ × ℤ)) (x : ℕ) (k a' l b' r : ℤ) → 1 ≤ length ps → 1 ≤ length qs → (get_or qs 0 no_part).0 ≤ (get_or ps 0 no_part).0 → (get_or ps 0 no_part).0 ≤ (get_or qs 0 no_part).0 → x ≡ (get_or ps 0 no_part).0 → a' ≡ a → l ≡ (get_or ps 0 no_part).1 → b' ≡ b → r ≡ (get_or qs 0 no_part).1 → IsCombined a' l b' r k → IsStep a b (merged ps qs) (merged (drop 1 ps) (drop 1 qs)) x k
+first_both a b ps qs x k a' l b' r h m t n v p q u w i =
+    record { first = _; is = starts-eq ps qs h m t n; variable = v; combined = rw (← p, ← q, ← u, ← w) i }
+
+pub goes_on : (a b : ℤ) (js rest : List Pair) (x : ℕ) (k : ℤ) (whole : Option (ℤ × ℤ)) → IsStep a b js rest x k → first_wide (combined_parts_steps a b js) ≡ whole → first_wide (combined_parts_steps a b rest) ≡ whole
+goes_on a b js rest x k whole s w = sym (first-narrow _ _ s.combined.0) ∙ (rw (s.is, steps-cons) at w)
+
+pub adds : (a b : ℤ) (js rest : List Pair) (x : ℕ) (k : ℤ) (out out' whole : List (ℕ × ℤ)) → IsStep a b js rest x k → out' ≡ out ++ put_part x k [] → out ++ combined_parts a b js ≡ whole → out' ++ combined_parts a b rest ≡ whole
+adds a b js rest x k out out' whole s o w =
+    let m : out' ≡ out ++ put_part s.first.variable (a *ℤ s.first.left +ℤ b *ℤ s.first.right) [] = rw (← s.variable, ← s.combined.1) o in
+    rw (m, append_assoc) (rw (s.is, parts-cons) at w)
+
+-- ---- parts that only one of the terms has: their multiples
+
+left-zero : (b : ℤ) → b *ℤ pos 0 ≡ pos 0
+left-zero b = omega (arith, ints)
+
+-- a product that fits, and a product by 0 beside it
+beside-zero : (a l b r : ℤ) → (FitsSigned w128 (a *ℤ l)) → b *ℤ r ≡ pos 0 → first_wide (part_steps a l b r []) ≡ None
+beside-zero a l b r f z =
+    let g : FitsSigned w128 (b *ℤ r) = rw z fits-zero in
+    let e : a *ℤ l +ℤ b *ℤ r ≡ a *ℤ l = rw z (omega (arith, ints)) in
+    let h : FitsSigned w128 (a *ℤ l +ℤ b *ℤ r) = rw e f in
+    product-fits a l _ f ∙ product-fits b r _ g ∙ sum-fits _ _ [] h ∙ first_wide-nil
+
+behind-zero : (a l b r : ℤ) → (FitsSigned w128 (b *ℤ r)) → a *ℤ l ≡ pos 0 → first_wide (part_steps a l b r []) ≡ None
+behind-zero a l b r f z =
+    let g : FitsSigned w128 (a *ℤ l) = rw z fits-zero in
+    let e : a *ℤ l +ℤ b *ℤ r ≡ b *ℤ r = rw z (omega (arith, ints)) in
+    let h : FitsSigned w128 (a *ℤ l +ℤ b *ℤ r) = rw e f in
+    product-fits a l _ g ∙ product-fits b r _ f ∙ sum-fits _ _ [] h ∙ first_wide-nil
+
+part-left : (a b : ℤ) (p : ℕ × ℤ) (xs ys : List Step) → first_wide xs ≡ first_wide ys → first_wide (part_steps a p.1 b (pos 0) [] ++ xs) ≡ first_wide (product_of a p.1 ∷ ys)
+part-left a b p xs ys e =
+    elim (fits_or_not (a *ℤ p.1)) [
+      | inl f ↦ first-narrow _ xs (beside-zero a p.1 b (pos 0) f (left-zero b)) ∙ e ∙ sym (product-fits a p.1 ys f)
+      | inr g ↦ product-not-fits a p.1 _ g ∙ sym (product-not-fits a p.1 ys g)
+    ]
+
+part-right : (a b : ℤ) (q : ℕ × ℤ) (xs ys : List Step) → first_wide xs ≡ first_wide ys → first_wide (part_steps a (pos 0) b q.1 [] ++ xs) ≡ first_wide (product_of b q.1 ∷ ys)
+part-right a b q xs ys e =
+    let z : FitsSigned w128 (a *ℤ pos 0) = rw (left-zero a) fits-zero in
+    elim (fits_or_not (b *ℤ q.1)) [
+      | inl f ↦ first-narrow _ xs (behind-zero a (pos 0) b q.1 f (left-zero a)) ∙ e ∙ sym (product-fits b q.1 ys f)
+      | inr g ↦ product-fits a (pos 0) _ z ∙ product-not-fits b q.1 _ g ∙ sym (product-not-fits b q.1 ys g)
+    ]
+
+left-steps : (a b : ℤ) (ps : List (ℕ × ℤ)) → first_wide (combined_parts_steps a b (merged ps [])) ≡ first_wide (multiples_steps a ps)
+left-steps a b [] = rw (merged-nil, steps-nil, m.steps-nil) refl
+left-steps a b (p ∷ ps) = rw (merged-left, steps-cons, m.steps-cons) (part-left a b p _ _ (left-steps a b ps))
+
+right-steps : (a b : ℤ) (qs : List (ℕ × ℤ)) → first_wide (combined_parts_steps a b (merged [] qs)) ≡ first_wide (multiples_steps b qs)
+right-steps a b [] = rw (merged-nil, steps-nil, m.steps-nil) refl
+right-steps a b (q ∷ qs) = rw (merged-right, steps-cons, m.steps-cons) (part-right a b q _ _ (right-steps a b qs))
+
+left-parts : (a b : ℤ) (ps : List (ℕ × ℤ)) → combined_parts a b (merged ps []) ≡ multiples a ps
+left-parts a b [] = rw (merged-nil, parts-nil, m.multiples-nil) refl
+left-parts a b (p ∷ ps) =
+    let e : a *ℤ p.1 +ℤ b *ℤ pos 0 ≡ a *ℤ p.1 = rw (left-zero b) (omega (arith, ints)) in
+    rw (merged-left, parts-cons, m.multiples-cons, left-parts a b ps, e) refl
+
+right-parts : (a b : ℤ) (qs : List (ℕ × ℤ)) → combined_parts a b (merged [] qs) ≡ multiples b qs
+right-parts a b [] = rw (merged-nil, parts-nil, m.multiples-nil) refl
+right-parts a b (q ∷ qs) =
+    let e : a *ℤ pos 0 +ℤ b *ℤ q.1 ≡ b *ℤ q.1 = rw (left-zero a) (omega (arith, ints)) in
+    rw (merged-right, parts-cons, m.multiples-cons, right-parts a b qs, e) refl
+
+no-parts : (ps : List (ℕ × ℤ)) → length ps < 1 → ps ≡ []
+no-parts [] h = refl
+no-parts (p ∷ ps) h = absurd (omega arith)
+
+pub left-stops : (a b : ℤ) (ps qs : List (ℕ × ℤ)) (e : LinError) (all : List Step) (k : ℤ) → length qs < 1 → k ≡ a → Explains e (multiples_steps k ps) → first_wide (combined_parts_steps a b (merged ps qs)) ≡ first_wide all → Explains e all
+left-stops a b ps qs e all k h p x w =
+    let y : Explains e (multiples_steps a ps) = rw (← p) x in
+    explains_same e all _ (sym (rw (no-parts qs h) at w) ∙ left-steps a b ps) y
+
+pub right-stops : (a b : ℤ) (ps qs : List (ℕ × ℤ)) (e : LinError) (all : List Step) (k : ℤ) → length ps < 1 → k ≡ b → Explains e (multiples_steps k qs) → first_wide (combined_parts_steps a b (merged ps qs)) ≡ first_wide all → Explains e all
+right-stops a b ps qs e all k h p x w =
+    let y : Explains e (multiples_steps b qs) = rw (← p) x in
+    explains_same e all _ (sym (rw (no-parts ps h) at w) ∙ right-steps a b qs) y
+
+pub left-ends : (a b : ℤ) (ps qs : List (ℕ × ℤ)) (out out' whole : List (ℕ × ℤ)) (wide : Option (ℤ × ℤ)) (k : ℤ) → length qs < 1 → k ≡ a → first_wide (multiples_steps k ps) ≡ None → out' ≡ out ++ multiples k ps → first_wide (combined_parts_steps a b (merged ps qs)) ≡ wide → out ++ combined_parts a b (merged ps qs) ≡ whole → (wide ≡ None) × (out' ≡ whole)
+left-ends a b ps qs out out' whole wide k h p n o w v =
+    let e = no-parts qs h in
+    let n' : first_wide (multiples_steps a ps) ≡ None = rw (← p) n in
+    let o' : out' ≡ out ++ multiples a ps = rw (← p) o in
+    (sym (rw e at w) ∙ left-steps a b ps ∙ n', o' ∙ (rw (e, left-parts) at v))
+
+pub right-ends : (a b : ℤ) (ps qs : List (ℕ × ℤ)) (out out' whole : List (ℕ × ℤ)) (wide : Option (ℤ × ℤ)) (k : ℤ) → length ps < 1 → k ≡ b → first_wide (multiples_steps k qs) ≡ None → out' ≡ out ++ multiples k qs → first_wide (combined_parts_steps a b (merged ps qs)) ≡ wide → out ++ combined_parts a b (merged ps qs) ≡ whole → (wide ≡ None) × (out' ≡ whole)
+right-ends a b ps qs out out' whole wide k h p n o w v =
+    let e = no-parts ps h in
+    let n' : first_wide (multiples_steps b qs) ≡ None = rw (← p) n in
+    let o' : out' ≡ out ++ multiples b qs = rw (← p) o in
+    (sym (rw e at w) ∙ right-steps a b qs ∙ n', o' ∙ (rw (e, right-parts) at v))
+
+pub both-end : (a b : ℤ) (ps qs : List (ℕ × ℤ)) (out whole : List (ℕ × ℤ)) (wide : Option (ℤ × ℤ)) → length ps < 1 → length qs < 1 → first_wide (combined_parts_steps a b (merged ps qs)) ≡ wide → out ++ combined_parts a b (merged ps qs) ≡ whole → (wide ≡ None) × (out ≡ whole)
+both-end a b ps qs out whole wide h k w v =
+    let e = no-parts ps h in
+    let d = no-parts qs k in
+    let x : out ++ [] ≡ whole = rw (e, d, merged-nil, parts-nil) at v in
+    (sym (rw (e, d, merged-nil, steps-nil, first_wide-nil) at w), grind (arith, common_steps))
 
 -- ---- the whole
 

@@ -1,5 +1,5 @@
 -- Two lists of parts side by side: which pair comes first, and what is left behind it.
-use Rattle.std.proofs.Common.{◌≡◌, ℕ, ℤ, pos, List, [], ◌∷◌, ◌<◌, ◌≤◌, ◌+◌, length, get_or, true, false, arith, refl, Some, None, inl, inr}
+use Rattle.std.proofs.Common.{◌≡◌, ℕ, ℤ, pos, List, [], ◌∷◌, ◌<◌, ◌≤◌, ◌+◌, length, get_or, drop, true, false, arith, refl, Some, None, inl, inr}
 use Rattle.std.specs.Prelude.{slice_get, ◌==◌, nat_lt}
 use Rattle.std.proofs.lemmas.Bool.{cases_lt}
 use Rattle.std.proofs.lemmas.Bool.Decides.{nat_tests}
@@ -70,6 +70,27 @@ pub first-eq : (ps qs : List (ℕ × ℤ)) (a b : ℤ) → 1 ≤ length ps → 1
 first-eq [] qs a b h k l m e d = absurd (omega arith)
 first-eq (p ∷ ps) [] a b h k l m e d = absurd (omega arith)
 first-eq (p ∷ ps) (q ∷ qs) a b h k l m e d = rw (merged-eq p q ps qs l m, e, d) refl
+
+-- ---- the first pair and those after it, where neither list is empty
+
+pub starts-lt : (ps qs : List (ℕ × ℤ)) → 1 ≤ length ps → 1 ≤ length qs → (get_or ps 0 no_part).0 < (get_or qs 0 no_part).0 → merged ps qs ≡ only_left (get_or ps 0 no_part) ∷ merged (drop 1 ps) qs
+starts-lt [] qs h k l = absurd (omega arith)
+starts-lt (p ∷ ps) [] h k l = absurd (omega arith)
+starts-lt (p ∷ ps) (q ∷ qs) h k l = merged-lt p q ps qs l
+
+pub starts-gt : (ps qs : List (ℕ × ℤ)) → 1 ≤ length ps → 1 ≤ length qs → (get_or qs 0 no_part).0 < (get_or ps 0 no_part).0 → merged ps qs ≡ only_right (get_or qs 0 no_part) ∷ merged ps (drop 1 qs)
+starts-gt [] qs h k l = absurd (omega arith)
+starts-gt (p ∷ ps) [] h k l = absurd (omega arith)
+starts-gt (p ∷ ps) (q ∷ qs) h k l = merged-gt p q ps qs l
+
+pub starts-eq : (ps qs : List (ℕ × ℤ)) → 1 ≤ length ps → 1 ≤ length qs → (get_or qs 0 no_part).0 ≤ (get_or ps 0 no_part).0 → (get_or ps 0 no_part).0 ≤ (get_or qs 0 no_part).0 → merged ps qs ≡ record { variable = (get_or ps 0 no_part).0; left = (get_or ps 0 no_part).1; right = (get_or qs 0 no_part).1 } ∷ merged (drop 1 ps) (drop 1 qs)
+starts-eq [] qs h k l m = absurd (omega arith)
+starts-eq (p ∷ ps) [] h k l m = absurd (omega arith)
+starts-eq (p ∷ ps) (q ∷ qs) h k l m = merged-eq p q ps qs l m
+
+pub shorter : (ps : List (ℕ × ℤ)) → 1 ≤ length ps → length (drop 1 ps) < length ps
+shorter [] h = absurd (omega arith)
+shorter (p ∷ ps) h = omega arith
 
 -- ---- what is left behind the first pair
 

@@ -10,19 +10,19 @@ use Rattle.cap_lin.specs.declared.error.LinError.{LinError}
 use Rattle.cap_lin.proofs.Results.{first_wide-nil, first-narrow, narrow-right, product-narrow, product-fits, explains_same, explains_first, put-append}
 use Rattle.cap_lin.proofs.Merge.{no_part}
 
-steps-cons : (k : ℤ) (p : ℕ × ℤ) (ps : List (ℕ × ℤ)) → multiples_steps k (p ∷ ps) ≡ (product_of k p.1 ∷ []) ++ multiples_steps k ps
+pub steps-cons : (k : ℤ) (p : ℕ × ℤ) (ps : List (ℕ × ℤ)) → multiples_steps k (p ∷ ps) ≡ (product_of k p.1 ∷ []) ++ multiples_steps k ps
 unfolding multiples_steps
 steps-cons k p ps = refl
 
-steps-nil : (k : ℤ) → multiples_steps k [] ≡ []
+pub steps-nil : (k : ℤ) → multiples_steps k [] ≡ []
 unfolding multiples_steps
 steps-nil k = refl
 
-multiples-nil : (k : ℤ) → multiples k [] ≡ []
+pub multiples-nil : (k : ℤ) → multiples k [] ≡ []
 unfolding multiples
 multiples-nil k = refl
 
-multiples-cons : (k : ℤ) (p : ℕ × ℤ) (ps : List (ℕ × ℤ)) → multiples k (p ∷ ps) ≡ put_part p.0 (k *ℤ p.1) [] ++ multiples k ps
+pub multiples-cons : (k : ℤ) (p : ℕ × ℤ) (ps : List (ℕ × ℤ)) → multiples k (p ∷ ps) ≡ put_part p.0 (k *ℤ p.1) [] ++ multiples k ps
 unfolding multiples
 multiples-cons k p ps = put-append p.0 (k *ℤ p.1) (multiples k ps)
 

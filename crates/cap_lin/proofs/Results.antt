@@ -29,6 +29,9 @@ pub fits-no : (z : ℤ) → (FitsSigned w128 z → ⊥) → fits z ≡ false
 fits-no (pos n) h = not_below n _ (λ k. h (record { sfits = k }))
 fits-no (negsuc n) h = not_below n _ (λ k. h (record { sfits = k }))
 
+pub fits-zero : FitsSigned w128 (pos 0)
+fits-zero = record { sfits = omega arith }
+
 pub first_wide-nil : first_wide [] ≡ None
 unfolding first_wide
 first_wide-nil = refl
@@ -44,6 +47,10 @@ sum-fits a b steps h = rw (fits-yes _ h) refl
 pub product-wide : (a b : ℤ) (steps : List Step) → (FitsSigned w128 (a *ℤ b) → ⊥) → first_wide (product_of a b ∷ steps) ≡ Some (a, b)
 unfolding first_wide
 product-wide a b steps h = rw (fits-no _ h) refl
+
+pub product-not-fits : (a b : ℤ) (steps : List Step) → fits (a *ℤ b) ≡ false → first_wide (product_of a b ∷ steps) ≡ Some (a, b)
+unfolding first_wide
+product-not-fits a b steps h = rw h refl
 
 pub product-fits : (a b : ℤ) (steps : List Step) → FitsSigned w128 (a *ℤ b) → first_wide (product_of a b ∷ steps) ≡ first_wide steps
 unfolding first_wide
@@ -124,7 +131,7 @@ fits-back (negsuc n) h = record { sfits = below_from n _ h }
     below_from : (n h : ℕ) → nat_lt n h ≡ true → n < h
     below_from n h e = grind (arith, nat_tests)
 
-fits_or_not : (z : ℤ) → (FitsSigned w128 z) ⊎ (fits z ≡ false)
+pub fits_or_not : (z : ℤ) → (FitsSigned w128 z) ⊎ (fits z ≡ false)
 fits_or_not z = by_test (fits z) refl
   where
     by_test : (b : Bool) → fits z ≡ b → (FitsSigned w128 z) ⊎ (fits z ≡ false)

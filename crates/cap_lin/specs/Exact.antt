@@ -17,9 +17,9 @@ IsExactBy r view steps value = MatchResult r (λ x. (first_wide steps ≡ None) 
 abbrev pub IsExact : {T : Type 0} → Result T LinError → List Step → T → Type 0
 IsExact r steps value = MatchResult r (λ x. (first_wide steps ≡ None) × (x ≡ value)) (λ e. Explains e steps)
 
--- from -2^62 to 2^62
+-- from -2^62 to 2^62 - 1
 abbrev pub IsShort : ℤ → Type 0
-IsShort z = (negsuc (2 ^ 62 - 1) ≤ℤ z) × (z ≤ℤ pos (2 ^ 62))
+IsShort z = (negsuc (2 ^ 62 - 1) ≤ℤ z) × (z ≤ℤ pos (2 ^ 62 - 1))
 
 -- the sum of two products, where no result on the way leaves 128 bits
 abbrev pub IsCombined : ℤ → ℤ → ℤ → ℤ → ℤ → Type 0

@@ -1,4 +1,4 @@
-ghost use Rattle.std.specs.Prelude.{◌≡◌, ◌<◌, ℕ, ℤ, ◌+ℤ◌, ◌*ℤ◌, [], ◌∷◌, ◌++◌, length, OnOk, IfOk, IfSome, IsTrue, ◌↔◌, MatchResult, IfErr, ◌≢◌, slice_get, pos};
+ghost use Rattle.std.specs.Prelude.{◌≡◌, ◌<◌, ◌≤◌, ℕ, ℤ, ◌+ℤ◌, ◌*ℤ◌, [], ◌∷◌, ◌++◌, length, drop, OnOk, IfOk, IfSome, IsTrue, ◌↔◌, MatchResult, IfErr, ◌≢◌, slice_get, pos};
 ghost use Rattle.cap_lin.specs.Linear.{AscendFrom, put_part, coefficient, number, variable, merged, parts_behind, sums, IsBelow, IsLeastFrom, IsPlaceFrom, plus, minus, negative, plus_one, multiples, times, combined_parts, combination, parts_without, without, replaced};
 ghost use Rattle.cap_lin.specs.Steps.{sum_of, product_of, sums_steps, plus_steps, minus_steps, negative_steps, multiples_steps, times_steps, part_steps, combined_parts_steps, combination_steps, replaced_steps, value_steps};
 ghost use Rattle.cap_lin.specs.Exact.{IsExact, IsExactBy, IsShort, IsCombined};
@@ -155,7 +155,12 @@ impl Term {
     pub fn copy(&self, alloc: Global) -> Result<Term, AllocError>
         ensures { IfOk result (λ t. t ≡ self.now) }
     {
-        let parts = SmallVec::from_slice(alloc, &self.parts)?;
+        let parts = match self.parts.as_slice() {
+            [] => SmallVec::new(alloc),
+            [part] => one_part(alloc, *part),
+            [first, second] => SmallVec::from_buf(alloc, [*first, *second]),
+            parts => SmallVec::from_slice(alloc, parts)?,
+        };
         Ok(Term {
             constant: self.constant,
             parts,
@@ -287,6 +292,15 @@ impl Term {
     }
 }
 
+// A list of one part. It takes no memory.
+fn one_part(alloc: Global, part: (u32, i128)) -> Parts
+    ensures { result.items ≡ part ∷ [] }
+{
+    let mut parts = SmallVec::new(alloc);
+    parts.push_reserved(part);
+    parts
+}
+
 fn parts_without(alloc: Global, parts: &[(u32, i128)], v: u32) -> Result<Parts, AllocError>
     ensures { IfOk result (λ rest. rest.items ≡ parts_without v parts.now) }
 {
@@ -353,13 +367,13 @@ fn long_product(a: i128, b: i128) -> Result<i128, LinError>
     }
 }
 
-// Whether a number is from -2^62 to 2^62, so that a product of two such numbers, and a sum of two such
+// Whether a number is from -2^62 to 2^62 - 1, so that a product of two such numbers, and a sum of two such
 // products, is within 128 bits and needs no test.
 #[inline]
 fn is_short(number: i128) -> bool
     ensures { IsTrue result → IsShort number }
 {
-    -SHORT <= number && number <= SHORT
+    -SHORT <= number && number < SHORT
 }
 
 // An empty list for the parts that two lists of so many make.
@@ -379,9 +393,23 @@ fn room_for(alloc: Global, left: usize, right: usize) -> Result<Parts, AllocErro
 fn put(parts: &mut Parts, variable: u32, coefficient: i128) -> Result<(), AllocError>
     ensures { OnOk result (parts.new.items ≡ parts.old.items ++ put_part variable coefficient []) }
 {
-    if coefficient != 0 {
-        parts.push((variable, coefficient))?;
+    if coefficient == 0 {
+        return Ok(());
     }
+    if parts.len() < parts.capacity() {
+        parts.push_reserved((variable, coefficient));
+        return Ok(());
+    }
+    push_growing(parts, variable, coefficient)
+}
+
+// Appends a part to a list that has no room for it.
+#[cold]
+#[inline(never)]
+fn push_growing(parts: &mut Parts, variable: u32, coefficient: i128) -> Result<(), AllocError>
+    ensures { OnOk result (parts.new.items ≡ parts.old.items ++ (variable, coefficient) ∷ []) }
+{
+    parts.push((variable, coefficient))?;
     Ok(())
 }
 
@@ -450,12 +478,21 @@ fn scale_parts(alloc: Global, k: i128, parts: &[(u32, i128)]) -> Result<Parts, L
         (multiples_steps k parts.now) (multiples k parts.now) }
 {
     let mut scaled = room_for(alloc, parts.len(), 0)?;
+    append_multiples(&mut scaled, k, parts)?;
+    Ok(scaled)
+}
+
+// Appends the multiples of parts.
+fn append_multiples(to: &mut Parts, k: i128, parts: &[(u32, i128)]) -> Result<(), LinError>
+    ensures { IsExactBy result (λ _. to.new.items)
+        (multiples_steps k parts.now) (to.old.items ++ multiples k parts.now) }
+{
     for part in parts {
         let (variable, coefficient) = *part;
-        let coefficient = product(k, coefficient)?;
-        put(&mut scaled, variable, coefficient)?;
+        let multiple = product(k, coefficient)?;
+        put(to, variable, multiple)?;
     }
-    Ok(scaled)
+    Ok(())
 }
 
 // The sum of two products of short numbers, and None where a number is not short.
@@ -508,17 +545,46 @@ fn combine_parts(
     let mut parts = room_for(alloc, left.len(), right.len())?;
     let mut left = left;
     let mut right = right;
-    while let Some(pair) = least(left, right) {
-        // As in `combined`, without its answer in memory: most of an elimination's time goes by here.
-        let coefficient = match short_combined(a, pair.left, b, pair.right) {
-            Some(coefficient) => coefficient,
-            None => long_combined(a, pair.left, b, pair.right)?,
+    while !left.is_empty() && !right.is_empty() {
+        let (x, m) = left[0];
+        let (y, n) = right[0];
+        let number = if x < y {
+            left = after_first(left);
+            match short_combined(a, m, b, 0) {
+                Some(number) => number,
+                None => long_combined(a, m, b, 0)?,
+            }
+        } else if y < x {
+            right = after_first(right);
+            match short_combined(a, 0, b, n) {
+                Some(number) => number,
+                None => long_combined(a, 0, b, n)?,
+            }
+        } else {
+            left = after_first(left);
+            right = after_first(right);
+            match short_combined(a, m, b, n) {
+                Some(number) => number,
+                None => long_combined(a, m, b, n)?,
+            }
         };
-        put(&mut parts, pair.variable, coefficient)?;
-        left = behind(left, pair.variable);
-        right = behind(right, pair.variable);
+        put(&mut parts, x.min(y), number)?;
+    }
+    if !left.is_empty() {
+        append_multiples(&mut parts, a, left)?;
+    } else if !right.is_empty() {
+        append_multiples(&mut parts, b, right)?;
     }
     Ok(parts)
+}
+
+// The parts after the first.
+#[inline]
+fn after_first(parts: &[(u32, i128)]) -> &[(u32, i128)]
+    requires { 1 ≤ length parts.now }
+    ensures { result.now ≡ drop 1 parts.now }
+{
+    &parts[1..]
 }
 
 // The parts, without the first where it is of this variable.

@@ -1,54 +1,134 @@
-use Rattle.std.proofs.Common.{rules, to_z, of_z, ◌≡◌, ◌∙◌, refl, sym, Some, None}
-use Rattle.std.specs.Prelude.{slice_get}
+use Rattle.std.proofs.Common.{rules, arith, to_z, of_z, ◌≡◌, ◌<◌, ◌≤◌, ◌+◌, length, get_or, ◌∙◌, refl}
 use Rattle.std.proofs.lemmas.Int.{to_z-of_z}
 use Rattle.std.proofs.lemmas.Result.{err_from_is_err_and}
 use mir.Val.{SFits}
 use mir.Syntax.{w128}
 use Rattle.cap_lin.specs.Linear.{merged}
-use Rattle.cap_lin.specs.Exact.{IsCombined}
-use Rattle.cap_lin.proofs.Merge.{next}
-use Rattle.cap_lin.proofs.Combining.{stops, goes_on, adds, narrow, done}
+use Rattle.cap_lin.proofs.Merge.{no_part, starts-lt, starts-gt, starts-eq, shorter}
+use Rattle.cap_lin.proofs.Combining.{IsStep, first_left, first_right, first_both, stops, goes_on, adds, left-stops, right-stops, left-ends, right-ends, both-end}
 use Rattle.cap_lin.proofs.term.combine_parts.Goals as goal
-use Rattle.cap_lin.proofs.term.combine_parts.Goals.{in-Some-short_combined, in-None+in_ok-coefficient-in-None}
+use Rattle.cap_lin.proofs.term.combine_parts.Goals.{then-loop-x-test+else-not-is_empty, else-loop-x-test, then-not-is_empty-2+in_ok-append_multiples, else-not-is_empty-2+then-not-is_empty-3+in_ok-append_multiples-2, else-not-is_empty-2+else-not-is_empty-3}
+use Rattle.cap_lin.proofs.term.combine_parts.Goals.{then-x-y+in-Some, then-x-y+in-None+in_ok-number-in-None, else-x-y+then-y-x+in-Some-short_combined, else-x-y+then-y-x+in-None-short_combined+in_ok-number-in-None-short_combined, else-x-y+else-y-x+in-Some-short_combined-2, else-x-y+else-y-x+in-None-short_combined-2+in_ok-number-in-None-short_combined-2}
 
-pub returns-in_err-coefficient-in-None : goal.returns-in_err-coefficient-in-None
-returns-in_err-coefficient-in-None c =
-    let s : slice_get (merged c.loop-pair.left.now c.loop-pair.right.now) 0 ≡ Some c.in-Some.pair = sym c.in-Some.ensures in
-    let f : SFits w128 c.in-Some.pair.left = search rules in
-    let g : SFits w128 c.in-Some.pair.right = search rules in
+pub returns-in_err-number-in-None : goal.returns-in_err-number-in-None
+returns-in_err-number-in-None c =
+    let h : 1 ≤ length c.loop-x.left.now = search rules in
+    let k : 1 ≤ length c.loop-x.right.now = search rules in
+    let f : SFits w128 (get_or c.loop-x.left.now 0 no_part).1 = search rules in
     let x = to_z-of_z _ _ c.ranges.a in
     let y = to_z-of_z _ _ c.ranges.b in
-    let p = err_from_is_err_and c.from_residual-in_err-coefficient-in-None.result c.from_residual-in_err-coefficient-in-None.ensures.1 in
-    rw (p.1, p.2) (stops _ _ _ _ _ _ _ _ _ _ _ s x (to_z-of_z _ _ f) y (to_z-of_z _ _ g) c.in_err-coefficient-in-None.ensures (rw (x, y) at c.loop-pair.invariant.steps))
+    let p = err_from_is_err_and c.from_residual-in_err-number-in-None.result c.from_residual-in_err-number-in-None.ensures.1 in
+    rw (p.1, p.2) (stops _ _ _ _ _ _ _ _ _ _ _ (starts-lt _ _ h k c.if-x-y.true) x (to_z-of_z _ _ f) y refl c.in_err-number-in-None.ensures (rw (x, y) at c.loop-x.invariant.steps))
 
-pub loop-pair-smaller : goal.loop-pair-smaller
-loop-pair-smaller c =
-    let s : slice_get (merged c.loop-pair.left.now c.loop-pair.right.now) 0 ≡ Some c.in-Some.pair = sym c.in-Some.ensures in
-    rw (c.behind-left.ensures, c.behind-right.ensures) (next _ _ _ s).shorter
+pub returns-in_err-number-in-None-short_combined : goal.returns-in_err-number-in-None-short_combined
+returns-in_err-number-in-None-short_combined c =
+    let h : 1 ≤ length c.loop-x.left.now = search rules in
+    let k : 1 ≤ length c.loop-x.right.now = search rules in
+    let g : SFits w128 (get_or c.loop-x.right.now 0 no_part).1 = search rules in
+    let x = to_z-of_z _ _ c.ranges.a in
+    let y = to_z-of_z _ _ c.ranges.b in
+    let p = err_from_is_err_and c.from_residual-in_err-number-in-None-short_combined.result c.from_residual-in_err-number-in-None-short_combined.ensures.1 in
+    rw (p.1, p.2) (stops _ _ _ _ _ _ _ _ _ _ _ (starts-gt _ _ h k c.if-y-x.true) x refl y (to_z-of_z _ _ g) c.in_err-number-in-None-short_combined.ensures (rw (x, y) at c.loop-x.invariant.steps))
 
-pub loop-pair-preserved : goal.loop-pair-preserved
-loop-pair-preserved c =
-    let s : slice_get (merged c.loop-pair.left.now c.loop-pair.right.now) 0 ≡ Some c.in-Some.pair = sym c.in-Some.ensures in
-    let f : SFits w128 c.in-Some.pair.left = search rules in
-    let g : SFits w128 c.in-Some.pair.right = search rules in
+pub returns-in_err-number-in-None-short_combined-2 : goal.returns-in_err-number-in-None-short_combined-2
+returns-in_err-number-in-None-short_combined-2 c =
+    let h : 1 ≤ length c.loop-x.left.now = search rules in
+    let k : 1 ≤ length c.loop-x.right.now = search rules in
+    let f : SFits w128 (get_or c.loop-x.left.now 0 no_part).1 = search rules in
+    let g : SFits w128 (get_or c.loop-x.right.now 0 no_part).1 = search rules in
+    let x = to_z-of_z _ _ c.ranges.a in
+    let y = to_z-of_z _ _ c.ranges.b in
+    let p = err_from_is_err_and c.from_residual-in_err-number-in-None-short_combined-2.result c.from_residual-in_err-number-in-None-short_combined-2.ensures.1 in
+    rw (p.1, p.2) (stops _ _ _ _ _ _ _ _ _ _ _ (starts-eq _ _ h k c.if-x-y.false c.if-y-x.false) x (to_z-of_z _ _ f) y (to_z-of_z _ _ g) c.in_err-number-in-None-short_combined-2.ensures (rw (x, y) at c.loop-x.invariant.steps))
+
+pub loop-x-smaller : goal.loop-x-smaller
+loop-x-smaller c =
+    let h : 1 ≤ length c.loop-x.left.now = search rules in
+    let k : 1 ≤ length c.loop-x.right.now = search rules in
+    let i = shorter c.loop-x.left.now h in
+    let j = shorter c.loop-x.right.now k in
+    let s : length c.if-x-y.left.now + length c.if-x-y.right.now < length c.loop-x.left.now + length c.loop-x.right.now = elim c.if-x-y.branch [
+      | then-x-y+in-Some w ↦ rw (w.left-is, w.right-is, w.after_first-left.ensures) (omega (arith, i, j))
+      | then-x-y+in-None+in_ok-number-in-None w ↦ rw (w.left-is, w.right-is, w.after_first-left.ensures) (omega (arith, i, j))
+      | else-x-y+then-y-x+in-Some-short_combined w ↦ rw (w.left-is, w.right-is, w.after_first-right.ensures) (omega (arith, i, j))
+      | else-x-y+then-y-x+in-None-short_combined+in_ok-number-in-None-short_combined w ↦ rw (w.left-is, w.right-is, w.after_first-right.ensures) (omega (arith, i, j))
+      | else-x-y+else-y-x+in-Some-short_combined-2 w ↦ rw (w.left-is, w.right-is, w.after_first-left-else-y-x.ensures, w.after_first-right-else-y-x.ensures) (omega (arith, i, j))
+      | else-x-y+else-y-x+in-None-short_combined-2+in_ok-number-in-None-short_combined-2 w ↦ rw (w.left-is, w.right-is, w.after_first-left-else-y-x.ensures, w.after_first-right-else-y-x.ensures) (omega (arith, i, j))
+    ] in
+    s
+
+pub loop-x-preserved : goal.loop-x-preserved
+loop-x-preserved c =
+    let h : 1 ≤ length c.loop-x.left.now = search rules in
+    let k : 1 ≤ length c.loop-x.right.now = search rules in
+    let f : SFits w128 (get_or c.loop-x.left.now 0 no_part).1 = search rules in
+    let g : SFits w128 (get_or c.loop-x.right.now 0 no_part).1 = search rules in
     let e = to_z-of_z _ _ f in
     let d = to_z-of_z _ _ g in
-    let m : IsCombined (to_z w128 (of_z w128 c.args.a)) (to_z w128 (of_z w128 c.in-Some.pair.left)) (to_z w128 (of_z w128 c.args.b)) (to_z w128 (of_z w128 c.in-Some.pair.right)) (to_z w128 c.match-short_combined.coefficient-bits) = elim c.match-short_combined.branch [
-      | in-Some-short_combined w ↦
-          let u : SFits w128 w.in-Some-short_combined.coefficient = search rules in
-          (w.in-Some-short_combined.ensures.0, w.coefficient-is ∙ to_z-of_z _ _ u ∙ w.in-Some-short_combined.ensures.1)
-      | in-None+in_ok-coefficient-in-None w ↦
-          let u : SFits w128 w.in_ok-coefficient-in-None.coefficient = search rules in
-          (w.in_ok-coefficient-in-None.ensures.0, w.coefficient-is ∙ to_z-of_z _ _ u ∙ w.in_ok-coefficient-in-None.ensures.1)
+    let s : IsStep (to_z w128 (of_z w128 c.args.a)) (to_z w128 (of_z w128 c.args.b)) (merged c.loop-x.left.now c.loop-x.right.now) (merged c.if-x-y.left.now c.if-x-y.right.now) c.min.result (to_z w128 c.if-x-y.number-bits) = elim c.if-x-y.branch [
+      | then-x-y+in-Some w ↦
+          let u : SFits w128 w.in-Some.number = search rules in
+          rw (w.left-is, w.right-is, w.after_first-left.ensures) (first_left _ _ _ _ _ _ _ _ _ h k w.if-x-y.true (omega arith) refl e refl (w.in-Some.ensures.0, w.number-is ∙ to_z-of_z _ _ u ∙ w.in-Some.ensures.1))
+      | then-x-y+in-None+in_ok-number-in-None w ↦
+          let u : SFits w128 w.in_ok-number-in-None.number = search rules in
+          rw (w.left-is, w.right-is, w.after_first-left.ensures) (first_left _ _ _ _ _ _ _ _ _ h k w.if-x-y.true (omega arith) refl e refl (w.in_ok-number-in-None.ensures.0, w.number-is ∙ to_z-of_z _ _ u ∙ w.in_ok-number-in-None.ensures.1))
+      | else-x-y+then-y-x+in-Some-short_combined w ↦
+          let u : SFits w128 w.in-Some-short_combined.number = search rules in
+          rw (w.left-is, w.right-is, w.after_first-right.ensures) (first_right _ _ _ _ _ _ _ _ _ h k w.if-y-x.true (omega arith) refl refl d (w.in-Some-short_combined.ensures.0, w.number-is ∙ to_z-of_z _ _ u ∙ w.in-Some-short_combined.ensures.1))
+      | else-x-y+then-y-x+in-None-short_combined+in_ok-number-in-None-short_combined w ↦
+          let u : SFits w128 w.in_ok-number-in-None-short_combined.number = search rules in
+          rw (w.left-is, w.right-is, w.after_first-right.ensures) (first_right _ _ _ _ _ _ _ _ _ h k w.if-y-x.true (omega arith) refl refl d (w.in_ok-number-in-None-short_combined.ensures.0, w.number-is ∙ to_z-of_z _ _ u ∙ w.in_ok-number-in-None-short_combined.ensures.1))
+      | else-x-y+else-y-x+in-Some-short_combined-2 w ↦
+          let u : SFits w128 w.in-Some-short_combined-2.number = search rules in
+          rw (w.left-is, w.right-is, w.after_first-left-else-y-x.ensures, w.after_first-right-else-y-x.ensures) (first_both _ _ _ _ _ _ _ _ _ _ h k w.if-x-y.false w.if-y-x.false (omega arith) refl e refl d (w.in-Some-short_combined-2.ensures.0, w.number-is ∙ to_z-of_z _ _ u ∙ w.in-Some-short_combined-2.ensures.1))
+      | else-x-y+else-y-x+in-None-short_combined-2+in_ok-number-in-None-short_combined-2 w ↦
+          let u : SFits w128 w.in_ok-number-in-None-short_combined-2.number = search rules in
+          rw (w.left-is, w.right-is, w.after_first-left-else-y-x.ensures, w.after_first-right-else-y-x.ensures) (first_both _ _ _ _ _ _ _ _ _ _ h k w.if-x-y.false w.if-y-x.false (omega arith) refl e refl d (w.in_ok-number-in-None-short_combined-2.ensures.0, w.number-is ∙ to_z-of_z _ _ u ∙ w.in_ok-number-in-None-short_combined-2.ensures.1))
     ] in
     record {
-      steps = rw (c.behind-left.ensures, c.behind-right.ensures) (goes_on _ _ _ _ _ _ _ _ _ _ s refl e refl d m.0 c.loop-pair.invariant.steps);
-      parts = rw (c.behind-left.ensures, c.behind-right.ensures) (adds _ _ _ _ _ _ _ _ _ _ _ _ _ s refl e refl d m.1 c.in_ok-put.ensures c.loop-pair.invariant.parts);
+      steps = goes_on _ _ _ _ _ _ _ s c.loop-x.invariant.steps;
+      parts = adds _ _ _ _ _ _ _ _ _ s c.in_ok-put.ensures c.loop-x.invariant.parts;
     }
+
+pub returns-in_err-append_multiples : goal.returns-in_err-append_multiples
+returns-in_err-append_multiples c =
+    let h : length c.loop-x.right.now < 1 = elim c.loop-x-test.branch [
+      | then-loop-x-test+else-not-is_empty w ↦ search rules
+      | else-loop-x-test w ↦ let l : length c.loop-x.left.now < 1 = search rules in let m : 1 ≤ length c.loop-x.left.now = search rules in absurd (omega (arith, l, m))
+    ] in
+    let x = to_z-of_z _ _ c.ranges.a in
+    let y = to_z-of_z _ _ c.ranges.b in
+    let p = err_from_is_err_and c.from_residual-in_err-append_multiples.result c.from_residual-in_err-append_multiples.ensures.1 in
+    rw (p.1, p.2) (left-stops _ _ _ _ _ _ _ h x c.in_err-append_multiples.ensures (rw (x, y) at c.loop-x.invariant.steps))
+
+pub returns-in_err-append_multiples-2 : goal.returns-in_err-append_multiples-2
+returns-in_err-append_multiples-2 c =
+    let h : length c.loop-x.left.now < 1 = search rules in
+    let x = to_z-of_z _ _ c.ranges.a in
+    let y = to_z-of_z _ _ c.ranges.b in
+    let p = err_from_is_err_and c.from_residual-in_err-append_multiples-2.result c.from_residual-in_err-append_multiples-2.ensures.1 in
+    rw (p.1, p.2) (right-stops _ _ _ _ _ _ _ h y c.in_err-append_multiples-2.ensures (rw (x, y) at c.loop-x.invariant.steps))
 
 pub returns : goal.returns
 returns c =
-    let s : slice_get (merged c.loop-pair.left.now c.loop-pair.right.now) 0 ≡ None = sym c.in_default.ensures in
     let x = to_z-of_z _ _ c.ranges.a in
     let y = to_z-of_z _ _ c.ranges.b in
-    (narrow _ _ _ _ _ s (rw (x, y) at c.loop-pair.invariant.steps), done _ _ _ _ _ _ s (rw (x, y) at c.loop-pair.invariant.parts))
+    let s = rw (x, y) at c.loop-x.invariant.steps in
+    let v = rw (x, y) at c.loop-x.invariant.parts in
+    elim c.if-not-is_empty-2.branch [
+      | then-not-is_empty-2+in_ok-append_multiples w ↦
+          let h : length c.loop-x.right.now < 1 = elim c.loop-x-test.branch [
+            | then-loop-x-test+else-not-is_empty u ↦ search rules
+            | else-loop-x-test u ↦ let l : length c.loop-x.left.now < 1 = search rules in let m : 1 ≤ length c.loop-x.left.now = search rules in absurd (omega (arith, l, m))
+          ] in
+          let n = w.in_ok-append_multiples.ensures in
+          rw w.parts-is (left-ends _ _ _ _ _ _ _ _ _ h x n.0 n.1 s v)
+      | else-not-is_empty-2+then-not-is_empty-3+in_ok-append_multiples-2 w ↦
+          let h : length c.loop-x.left.now < 1 = search rules in
+          let n = w.in_ok-append_multiples-2.ensures in
+          rw w.parts-is (right-ends _ _ _ _ _ _ _ _ _ h y n.0 n.1 s v)
+      | else-not-is_empty-2+else-not-is_empty-3 w ↦
+          let h : length c.loop-x.left.now < 1 = search rules in
+          let k : length c.loop-x.right.now < 1 = search rules in
+          rw w.parts-is (both-end _ _ _ _ _ _ _ h k s v)
+    ]

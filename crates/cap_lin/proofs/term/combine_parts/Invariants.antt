@@ -3,11 +3,11 @@ use Rattle.cap_lin.specs.Linear.{merged, combined_parts}
 use Rattle.cap_lin.specs.Steps.{first_wide, combined_parts_steps}
 use Rattle.cap_lin.proofs.term.combine_parts.Given as goal
 
-abbrev pub invariant-loop-pair : goal.invariant-loop-pair
-invariant-loop-pair l = record {
+abbrev pub invariant-loop-x : goal.invariant-loop-x
+invariant-loop-x l = record {
   steps : first_wide (combined_parts_steps l.a l.b (merged l.left l.right)) ≡ first_wide (combined_parts_steps l.a l.b (merged l.fn.left l.fn.right));
   parts : l.parts.items ++ combined_parts l.a l.b (merged l.left l.right) ≡ combined_parts l.a l.b (merged l.fn.left l.fn.right);
 }
 
-abbrev pub decreases-loop-pair : goal.decreases-loop-pair
-decreases-loop-pair l = length l.left + length l.right
+abbrev pub decreases-loop-x : goal.decreases-loop-x
+decreases-loop-x l = length l.left + length l.right

@@ -3,6 +3,12 @@ use Rattle.std.proofs.lemmas.Int.{to_z-of_z}
 use Rattle.cap_lin.proofs.Short.{product-short, sum-short, is-combined}
 use Rattle.cap_lin.proofs.term.short_combined.Goals as goal
 
+pub overflow_mul-left : goal.overflow_mul-left
+overflow_mul-left c = product-short _ _ (c.is_short.ensures c.if-is_short.true) (c.is_short-then-is_short-2.ensures c.if-is_short-3.true)
+
+pub overflow_mul-right : goal.overflow_mul-right
+overflow_mul-right c = product-short _ _ (c.is_short-then-is_short.ensures c.if-is_short-2.true) (c.is_short-then-is_short-3.ensures c.if-is_short-4.true)
+
 pub overflow_add-result : goal.overflow_add-result
 overflow_add-result c =
     let h = c.is_short.ensures c.if-is_short.true in

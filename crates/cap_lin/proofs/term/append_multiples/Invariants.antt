@@ -1,10 +1,10 @@
 use Rattle.std.proofs.Common.{◌≡◌, ◌++◌, drop}
 use Rattle.cap_lin.specs.Linear.{multiples}
 use Rattle.cap_lin.specs.Steps.{first_wide, multiples_steps}
-use Rattle.cap_lin.proofs.term.scale_parts.Given as goal
+use Rattle.cap_lin.proofs.term.append_multiples.Given as goal
 
 abbrev pub invariant-loop-part : goal.invariant-loop-part
 invariant-loop-part l = record {
   steps : first_wide (multiples_steps l.k (drop l.part-index l.parts)) ≡ first_wide (multiples_steps l.k l.parts);
-  parts : l.scaled.items ++ multiples l.k (drop l.part-index l.parts) ≡ multiples l.k l.parts;
+  parts : l.to.items ++ multiples l.k (drop l.part-index l.parts) ≡ l.fn.to.items ++ multiples l.k l.parts;
 }

@@ -5,26 +5,26 @@ use mir.Val.{SFits}
 use mir.Syntax.{w128}
 use Rattle.cap_lin.proofs.Merge.{no_part}
 use Rattle.cap_lin.proofs.Multiples.{stops, goes_on, adds, narrow, done}
-use Rattle.cap_lin.proofs.term.scale_parts.Goals as goal
+use Rattle.cap_lin.proofs.term.append_multiples.Goals as goal
 
-pub returns-in_err-coefficient : goal.returns-in_err-coefficient
-returns-in_err-coefficient c =
+pub returns-in_err-multiple : goal.returns-in_err-multiple
+returns-in_err-multiple c =
     let h : c.loop-part.part-index < length c.args.parts.now = omega arith in
     let g : SFits w128 (get_or c.args.parts.now c.loop-part.part-index no_part).1 = search rules in
     let e = to_z-of_z _ _ c.ranges.k in
-    let p = err_from_is_err_and c.from_residual-in_err-coefficient.result c.from_residual-in_err-coefficient.ensures.1 in
-    rw (p.1, p.2) (stops _ _ _ _ _ _ _ h e (to_z-of_z _ _ g) c.in_err-coefficient.ensures.exact (rw e at c.loop-part.invariant.steps))
+    let p = err_from_is_err_and c.from_residual.result c.from_residual.ensures.1 in
+    rw (p.1, p.2) (stops _ _ _ _ _ _ _ h e (to_z-of_z _ _ g) c.in_err-multiple.ensures.exact (rw e at c.loop-part.invariant.steps))
 
 pub loop-part-preserved : goal.loop-part-preserved
 loop-part-preserved c =
     let h : c.loop-part.part-index < length c.args.parts.now = omega arith in
     let g : SFits w128 (get_or c.args.parts.now c.loop-part.part-index no_part).1 = search rules in
     let d = to_z-of_z _ _ g in
-    let u : SFits w128 c.in_ok-coefficient.coefficient = search rules in
+    let u : SFits w128 c.in_ok-multiple.multiple = search rules in
     let r = to_z-of_z _ _ u in
     record {
-      steps = goes_on _ _ _ _ _ _ h refl d c.in_ok-coefficient.ensures.exact.0 c.loop-part.invariant.steps;
-      parts = adds _ _ _ _ _ _ _ _ _ h refl d (r ∙ c.in_ok-coefficient.ensures.exact.1) c.in_ok-put.ensures c.loop-part.invariant.parts;
+      steps = goes_on _ _ _ _ _ _ h refl d c.in_ok-multiple.ensures.exact.0 c.loop-part.invariant.steps;
+      parts = adds _ _ _ _ _ _ _ _ _ h refl d (r ∙ c.in_ok-multiple.ensures.exact.1) c.in_ok-put.ensures c.loop-part.invariant.parts;
     }
 
 pub returns : goal.returns
