@@ -1,4 +1,4 @@
-ghost use Rattle.std.specs.Prelude.{◌≡◌, ◌<◌, ◌≤◌, ℕ, ℤ, ◌+ℤ◌, ◌*ℤ◌, [], ◌∷◌, ◌++◌, length, drop, OnOk, IfOk, IfSome, IsTrue, ◌↔◌, MatchResult, IfErr, ◌≢◌, slice_get, pos};
+ghost use Rattle.std.specs.Prelude.{◌≡◌, ◌<◌, ◌≤◌, ℕ, ℤ, ◌+ℤ◌, ◌*ℤ◌, [], ◌∷◌, ◌++◌, List, length, drop, OnOk, IfOk, IfSome, IsTrue, ◌↔◌, MatchResult, IfErr, ◌≢◌, slice_get, pos};
 ghost use Rattle.cap_lin.specs.Linear.{AscendFrom, put_part, coefficient, number, variable, merged, parts_behind, sums, IsBelow, IsLeastFrom, IsPlaceFrom, plus, minus, negative, plus_one, multiples, times, combined_parts, combination, parts_without, without, replaced};
 ghost use Rattle.cap_lin.specs.Steps.{sum_of, product_of, sums_steps, plus_steps, minus_steps, negative_steps, multiples_steps, times_steps, part_steps, combined_parts_steps, combination_steps, replaced_steps, value_steps};
 ghost use Rattle.cap_lin.specs.Exact.{IsExact, IsExactBy, IsShort, IsCombined};
@@ -388,25 +388,66 @@ fn room_for(alloc: Global, left: usize, right: usize) -> Result<Parts, AllocErro
     }
 }
 
-// Appends a part, unless its coefficient is 0.
-#[inline]
-fn put(parts: &mut Parts, variable: u32, coefficient: i128) -> Result<(), AllocError>
-    ensures { OnOk result (parts.new.items ≡ parts.old.items ++ put_part variable coefficient []) }
-{
-    if coefficient == 0 {
-        return Ok(());
+// A list at whose end parts are put.
+trait PartList {
+    ghost items: { Self → List (ℕ × ℤ) };
+
+    // Appends a part, unless its coefficient is 0.
+    fn put(&mut self, variable: u32, coefficient: i128) -> Result<(), AllocError>
+        ensures { OnOk result
+            (items self.new ≡ items self.old ++ put_part variable coefficient []) };
+}
+
+impl PartList for Parts {
+    ghost items = { λ parts. parts.items };
+
+    #[inline]
+    fn put(&mut self, variable: u32, coefficient: i128) -> Result<(), AllocError> {
+        if coefficient == 0 {
+            return Ok(());
+        }
+        if self.len() < self.capacity() {
+            self.push_reserved((variable, coefficient));
+            return Ok(());
+        }
+        push_growing(self, variable, coefficient)
     }
-    if parts.len() < parts.capacity() {
-        parts.push_reserved((variable, coefficient));
-        return Ok(());
+}
+
+impl PartList for Vec<(u32, i128)> {
+    ghost items = { λ parts. parts.items };
+
+    #[inline]
+    fn put(&mut self, variable: u32, coefficient: i128) -> Result<(), AllocError> {
+        if coefficient == 0 {
+            return Ok(());
+        }
+        if self.len() < self.capacity() {
+            self.push_reserved((variable, coefficient));
+            return Ok(());
+        }
+        push_growing_many(self, variable, coefficient)
     }
-    push_growing(parts, variable, coefficient)
 }
 
 // Appends a part to a list that has no room for it.
 #[cold]
 #[inline(never)]
 fn push_growing(parts: &mut Parts, variable: u32, coefficient: i128) -> Result<(), AllocError>
+    ensures { OnOk result (parts.new.items ≡ parts.old.items ++ (variable, coefficient) ∷ []) }
+{
+    parts.push((variable, coefficient))?;
+    Ok(())
+}
+
+// Appends a part to a list of many that has no room for it.
+#[cold]
+#[inline(never)]
+fn push_growing_many(
+    parts: &mut Vec<(u32, i128)>,
+    variable: u32,
+    coefficient: i128,
+) -> Result<(), AllocError>
     ensures { OnOk result (parts.new.items ≡ parts.old.items ++ (variable, coefficient) ∷ []) }
 {
     parts.push((variable, coefficient))?;
@@ -466,7 +507,7 @@ fn add_parts(alloc: Global, left: &[(u32, i128)], right: &[(u32, i128)]) -> Resu
     let mut right = right;
     while let Some(pair) = least(left, right) {
         let coefficient = sum(pair.left, pair.right)?;
-        put(&mut parts, pair.variable, coefficient)?;
+        parts.put(pair.variable, coefficient)?;
         left = behind(left, pair.variable);
         right = behind(right, pair.variable);
     }
@@ -483,14 +524,18 @@ fn scale_parts(alloc: Global, k: i128, parts: &[(u32, i128)]) -> Result<Parts, L
 }
 
 // Appends the multiples of parts.
-fn append_multiples(to: &mut Parts, k: i128, parts: &[(u32, i128)]) -> Result<(), LinError>
-    ensures { IsExactBy result (λ _. to.new.items)
-        (multiples_steps k parts.now) (to.old.items ++ multiples k parts.now) }
+fn append_multiples<P: PartList>(
+    to: &mut P,
+    k: i128,
+    parts: &[(u32, i128)],
+) -> Result<(), LinError>
+    ensures { IsExactBy result (λ _. P.items to.new)
+        (multiples_steps k parts.now) (P.items to.old ++ multiples k parts.now) }
 {
     for part in parts {
         let (variable, coefficient) = *part;
         let multiple = product(k, coefficient)?;
-        put(to, variable, multiple)?;
+        to.put(variable, multiple)?;
     }
     Ok(())
 }
@@ -542,7 +587,28 @@ fn combine_parts(
         (combined_parts_steps a b (merged left.now right.now))
         (combined_parts a b (merged left.now right.now)) }
 {
-    let mut parts = room_for(alloc, left.len(), right.len())?;
+    if left.len().max(right.len()) <= INLINE {
+        let mut few = SmallVec::new(alloc);
+        append_combination(&mut few, a, left, b, right)?;
+        return Ok(few);
+    }
+    let mut many = Vec::with_capacity(alloc, left.len().saturating_add(right.len()))?;
+    append_combination(&mut many, a, left, b, right)?;
+    Ok(SmallVec::from_vec(many))
+}
+
+// Appends the parts of a combination. Most of an elimination's time goes by in its loop.
+fn append_combination<P: PartList>(
+    parts: &mut P,
+    a: i128,
+    left: &[(u32, i128)],
+    b: i128,
+    right: &[(u32, i128)],
+) -> Result<(), LinError>
+    ensures { IsExactBy result (λ _. P.items parts.new)
+        (combined_parts_steps a b (merged left.now right.now))
+        (P.items parts.old ++ combined_parts a b (merged left.now right.now)) }
+{
     let mut left = left;
     let mut right = right;
     while !left.is_empty() && !right.is_empty() {
@@ -568,14 +634,14 @@ fn combine_parts(
                 None => long_combined(a, m, b, n)?,
             }
         };
-        put(&mut parts, x.min(y), number)?;
+        parts.put(x.min(y), number)?;
     }
     if !left.is_empty() {
-        append_multiples(&mut parts, a, left)?;
+        append_multiples(parts, a, left)?;
     } else if !right.is_empty() {
-        append_multiples(&mut parts, b, right)?;
+        append_multiples(parts, b, right)?;
     }
-    Ok(parts)
+    Ok(())
 }
 
 // The parts after the first.

@@ -8,18 +8,18 @@ use Rattle.cap_lin.proofs.Multiples.{stops, goes_on, adds, narrow, done}
 use Rattle.cap_lin.proofs.term.append_multiples.Goals as goal
 
 pub returns-in_err-multiple : goal.returns-in_err-multiple
-returns-in_err-multiple c =
+returns-in_err-multiple g c =
     let h : c.loop-part.part-index < length c.args.parts.now = omega arith in
-    let g : SFits w128 (get_or c.args.parts.now c.loop-part.part-index no_part).1 = search rules in
+    let f : SFits w128 (get_or c.args.parts.now c.loop-part.part-index no_part).1 = search rules in
     let e = to_z-of_z _ _ c.ranges.k in
     let p = err_from_is_err_and c.from_residual.result c.from_residual.ensures.1 in
-    rw (p.1, p.2) (stops _ _ _ _ _ _ _ h e (to_z-of_z _ _ g) c.in_err-multiple.ensures.exact (rw e at c.loop-part.invariant.steps))
+    rw (p.1, p.2) (stops _ _ _ _ _ _ _ h e (to_z-of_z _ _ f) c.in_err-multiple.ensures.exact (rw e at c.loop-part.invariant.steps))
 
 pub loop-part-preserved : goal.loop-part-preserved
-loop-part-preserved c =
+loop-part-preserved g c =
     let h : c.loop-part.part-index < length c.args.parts.now = omega arith in
-    let g : SFits w128 (get_or c.args.parts.now c.loop-part.part-index no_part).1 = search rules in
-    let d = to_z-of_z _ _ g in
+    let f : SFits w128 (get_or c.args.parts.now c.loop-part.part-index no_part).1 = search rules in
+    let d = to_z-of_z _ _ f in
     let u : SFits w128 c.in_ok-multiple.multiple = search rules in
     let r = to_z-of_z _ _ u in
     record {
@@ -28,7 +28,7 @@ loop-part-preserved c =
     }
 
 pub returns : goal.returns
-returns c =
+returns g c =
     let h : length c.args.parts.now ≤ c.loop-part.part-index = omega arith in
     let e = to_z-of_z _ _ c.ranges.k in
     (narrow _ _ _ _ h (rw e at c.loop-part.invariant.steps), done _ _ _ _ _ h (rw e at c.loop-part.invariant.parts))

@@ -6,43 +6,43 @@ use mir.Syntax.{w128}
 use Rattle.cap_lin.specs.Linear.{merged}
 use Rattle.cap_lin.proofs.Merge.{no_part, starts-lt, starts-gt, starts-eq, shorter}
 use Rattle.cap_lin.proofs.Combining.{IsStep, first_left, first_right, first_both, stops, goes_on, adds, left-stops, right-stops, left-ends, right-ends, both-end}
-use Rattle.cap_lin.proofs.term.combine_parts.Goals as goal
-use Rattle.cap_lin.proofs.term.combine_parts.Goals.{then-loop-x-test+else-not-is_empty, else-loop-x-test, then-not-is_empty-2+in_ok-append_multiples, else-not-is_empty-2+then-not-is_empty-3+in_ok-append_multiples-2, else-not-is_empty-2+else-not-is_empty-3}
-use Rattle.cap_lin.proofs.term.combine_parts.Goals.{then-x-y+in-Some, then-x-y+in-None+in_ok-number-in-None, else-x-y+then-y-x+in-Some-short_combined, else-x-y+then-y-x+in-None-short_combined+in_ok-number-in-None-short_combined, else-x-y+else-y-x+in-Some-short_combined-2, else-x-y+else-y-x+in-None-short_combined-2+in_ok-number-in-None-short_combined-2}
+use Rattle.cap_lin.proofs.term.append_combination.Goals as goal
+use Rattle.cap_lin.proofs.term.append_combination.Goals.{then-loop-x-test+else-not-is_empty, else-loop-x-test}
+use Rattle.cap_lin.proofs.term.append_combination.Goals.{then-x-y+in-Some, then-x-y+in-None+in_ok-number-in-None, else-x-y+then-y-x+in-Some-short_combined, else-x-y+then-y-x+in-None-short_combined+in_ok-number-in-None-short_combined, else-x-y+else-y-x+in-Some-short_combined-2, else-x-y+else-y-x+in-None-short_combined-2+in_ok-number-in-None-short_combined-2}
 
 pub returns-in_err-number-in-None : goal.returns-in_err-number-in-None
-returns-in_err-number-in-None c =
+returns-in_err-number-in-None g c =
     let h : 1 ≤ length c.loop-x.left.now = search rules in
     let k : 1 ≤ length c.loop-x.right.now = search rules in
     let f : SFits w128 (get_or c.loop-x.left.now 0 no_part).1 = search rules in
     let x = to_z-of_z _ _ c.ranges.a in
     let y = to_z-of_z _ _ c.ranges.b in
-    let p = err_from_is_err_and c.from_residual-in_err-number-in-None.result c.from_residual-in_err-number-in-None.ensures.1 in
+    let p = err_from_is_err_and c.from_residual.result c.from_residual.ensures.1 in
     rw (p.1, p.2) (stops _ _ _ _ _ _ _ _ _ _ _ (starts-lt _ _ h k c.if-x-y.true) x (to_z-of_z _ _ f) y refl c.in_err-number-in-None.ensures (rw (x, y) at c.loop-x.invariant.steps))
 
 pub returns-in_err-number-in-None-short_combined : goal.returns-in_err-number-in-None-short_combined
-returns-in_err-number-in-None-short_combined c =
+returns-in_err-number-in-None-short_combined g c =
     let h : 1 ≤ length c.loop-x.left.now = search rules in
     let k : 1 ≤ length c.loop-x.right.now = search rules in
-    let g : SFits w128 (get_or c.loop-x.right.now 0 no_part).1 = search rules in
+    let m : SFits w128 (get_or c.loop-x.right.now 0 no_part).1 = search rules in
     let x = to_z-of_z _ _ c.ranges.a in
     let y = to_z-of_z _ _ c.ranges.b in
     let p = err_from_is_err_and c.from_residual-in_err-number-in-None-short_combined.result c.from_residual-in_err-number-in-None-short_combined.ensures.1 in
-    rw (p.1, p.2) (stops _ _ _ _ _ _ _ _ _ _ _ (starts-gt _ _ h k c.if-y-x.true) x refl y (to_z-of_z _ _ g) c.in_err-number-in-None-short_combined.ensures (rw (x, y) at c.loop-x.invariant.steps))
+    rw (p.1, p.2) (stops _ _ _ _ _ _ _ _ _ _ _ (starts-gt _ _ h k c.if-y-x.true) x refl y (to_z-of_z _ _ m) c.in_err-number-in-None-short_combined.ensures (rw (x, y) at c.loop-x.invariant.steps))
 
 pub returns-in_err-number-in-None-short_combined-2 : goal.returns-in_err-number-in-None-short_combined-2
-returns-in_err-number-in-None-short_combined-2 c =
+returns-in_err-number-in-None-short_combined-2 g c =
     let h : 1 ≤ length c.loop-x.left.now = search rules in
     let k : 1 ≤ length c.loop-x.right.now = search rules in
     let f : SFits w128 (get_or c.loop-x.left.now 0 no_part).1 = search rules in
-    let g : SFits w128 (get_or c.loop-x.right.now 0 no_part).1 = search rules in
+    let m : SFits w128 (get_or c.loop-x.right.now 0 no_part).1 = search rules in
     let x = to_z-of_z _ _ c.ranges.a in
     let y = to_z-of_z _ _ c.ranges.b in
     let p = err_from_is_err_and c.from_residual-in_err-number-in-None-short_combined-2.result c.from_residual-in_err-number-in-None-short_combined-2.ensures.1 in
-    rw (p.1, p.2) (stops _ _ _ _ _ _ _ _ _ _ _ (starts-eq _ _ h k c.if-x-y.false c.if-y-x.false) x (to_z-of_z _ _ f) y (to_z-of_z _ _ g) c.in_err-number-in-None-short_combined-2.ensures (rw (x, y) at c.loop-x.invariant.steps))
+    rw (p.1, p.2) (stops _ _ _ _ _ _ _ _ _ _ _ (starts-eq _ _ h k c.if-x-y.false c.if-y-x.false) x (to_z-of_z _ _ f) y (to_z-of_z _ _ m) c.in_err-number-in-None-short_combined-2.ensures (rw (x, y) at c.loop-x.invariant.steps))
 
 pub loop-x-smaller : goal.loop-x-smaller
-loop-x-smaller c =
+loop-x-smaller g c =
     let h : 1 ≤ length c.loop-x.left.now = search rules in
     let k : 1 ≤ length c.loop-x.right.now = search rules in
     let i = shorter c.loop-x.left.now h in
@@ -58,13 +58,13 @@ loop-x-smaller c =
     s
 
 pub loop-x-preserved : goal.loop-x-preserved
-loop-x-preserved c =
+loop-x-preserved g c =
     let h : 1 ≤ length c.loop-x.left.now = search rules in
     let k : 1 ≤ length c.loop-x.right.now = search rules in
     let f : SFits w128 (get_or c.loop-x.left.now 0 no_part).1 = search rules in
-    let g : SFits w128 (get_or c.loop-x.right.now 0 no_part).1 = search rules in
+    let m : SFits w128 (get_or c.loop-x.right.now 0 no_part).1 = search rules in
     let e = to_z-of_z _ _ f in
-    let d = to_z-of_z _ _ g in
+    let d = to_z-of_z _ _ m in
     let s : IsStep (to_z w128 (of_z w128 c.args.a)) (to_z w128 (of_z w128 c.args.b)) (merged c.loop-x.left.now c.loop-x.right.now) (merged c.if-x-y.left.now c.if-x-y.right.now) c.min.result (to_z w128 c.if-x-y.number-bits) = elim c.if-x-y.branch [
       | then-x-y+in-Some w ↦
           let u : SFits w128 w.in-Some.number = search rules in
@@ -91,7 +91,7 @@ loop-x-preserved c =
     }
 
 pub returns-in_err-append_multiples : goal.returns-in_err-append_multiples
-returns-in_err-append_multiples c =
+returns-in_err-append_multiples g c =
     let h : length c.loop-x.right.now < 1 = elim c.loop-x-test.branch [
       | then-loop-x-test+else-not-is_empty w ↦ search rules
       | else-loop-x-test w ↦ let l : length c.loop-x.left.now < 1 = search rules in let m : 1 ≤ length c.loop-x.left.now = search rules in absurd (omega (arith, l, m))
@@ -102,33 +102,36 @@ returns-in_err-append_multiples c =
     rw (p.1, p.2) (left-stops _ _ _ _ _ _ _ h x c.in_err-append_multiples.ensures (rw (x, y) at c.loop-x.invariant.steps))
 
 pub returns-in_err-append_multiples-2 : goal.returns-in_err-append_multiples-2
-returns-in_err-append_multiples-2 c =
+returns-in_err-append_multiples-2 g c =
     let h : length c.loop-x.left.now < 1 = search rules in
     let x = to_z-of_z _ _ c.ranges.a in
     let y = to_z-of_z _ _ c.ranges.b in
     let p = err_from_is_err_and c.from_residual-in_err-append_multiples-2.result c.from_residual-in_err-append_multiples-2.ensures.1 in
     rw (p.1, p.2) (right-stops _ _ _ _ _ _ _ h y c.in_err-append_multiples-2.ensures (rw (x, y) at c.loop-x.invariant.steps))
 
-pub returns : goal.returns
-returns c =
+pub returns-in_ok-append_multiples : goal.returns-in_ok-append_multiples
+returns-in_ok-append_multiples g c =
+    let h : length c.loop-x.right.now < 1 = elim c.loop-x-test.branch [
+      | then-loop-x-test+else-not-is_empty w ↦ search rules
+      | else-loop-x-test w ↦ let l : length c.loop-x.left.now < 1 = search rules in let m : 1 ≤ length c.loop-x.left.now = search rules in absurd (omega (arith, l, m))
+    ] in
     let x = to_z-of_z _ _ c.ranges.a in
     let y = to_z-of_z _ _ c.ranges.b in
-    let s = rw (x, y) at c.loop-x.invariant.steps in
-    let v = rw (x, y) at c.loop-x.invariant.parts in
-    elim c.if-not-is_empty-2.branch [
-      | then-not-is_empty-2+in_ok-append_multiples w ↦
-          let h : length c.loop-x.right.now < 1 = elim c.loop-x-test.branch [
-            | then-loop-x-test+else-not-is_empty u ↦ search rules
-            | else-loop-x-test u ↦ let l : length c.loop-x.left.now < 1 = search rules in let m : 1 ≤ length c.loop-x.left.now = search rules in absurd (omega (arith, l, m))
-          ] in
-          let n = w.in_ok-append_multiples.ensures in
-          rw w.parts-is (left-ends _ _ _ _ _ _ _ _ _ h x n.0 n.1 s v)
-      | else-not-is_empty-2+then-not-is_empty-3+in_ok-append_multiples-2 w ↦
-          let h : length c.loop-x.left.now < 1 = search rules in
-          let n = w.in_ok-append_multiples-2.ensures in
-          rw w.parts-is (right-ends _ _ _ _ _ _ _ _ _ h y n.0 n.1 s v)
-      | else-not-is_empty-2+else-not-is_empty-3 w ↦
-          let h : length c.loop-x.left.now < 1 = search rules in
-          let k : length c.loop-x.right.now < 1 = search rules in
-          rw w.parts-is (both-end _ _ _ _ _ _ _ h k s v)
-    ]
+    let n = c.in_ok-append_multiples.ensures in
+    left-ends _ _ _ _ _ _ _ _ _ h x n.0 n.1 (rw (x, y) at c.loop-x.invariant.steps) (rw (x, y) at c.loop-x.invariant.parts)
+
+pub returns-in_ok-append_multiples-2 : goal.returns-in_ok-append_multiples-2
+returns-in_ok-append_multiples-2 g c =
+    let h : length c.loop-x.left.now < 1 = search rules in
+    let x = to_z-of_z _ _ c.ranges.a in
+    let y = to_z-of_z _ _ c.ranges.b in
+    let n = c.in_ok-append_multiples-2.ensures in
+    right-ends _ _ _ _ _ _ _ _ _ h y n.0 n.1 (rw (x, y) at c.loop-x.invariant.steps) (rw (x, y) at c.loop-x.invariant.parts)
+
+pub returns-else-not-is_empty-3 : goal.returns-else-not-is_empty-3
+returns-else-not-is_empty-3 g c =
+    let h : length c.loop-x.left.now < 1 = search rules in
+    let k : length c.loop-x.right.now < 1 = search rules in
+    let x = to_z-of_z _ _ c.ranges.a in
+    let y = to_z-of_z _ _ c.ranges.b in
+    both-end _ _ _ _ _ _ _ h k (rw (x, y) at c.loop-x.invariant.steps) (rw (x, y) at c.loop-x.invariant.parts)
