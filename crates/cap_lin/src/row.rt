@@ -3,7 +3,9 @@ ghost use Rattle.cap_lin.specs.Linear.{minus};
 ghost use Rattle.cap_lin.specs.Steps.{minus_steps};
 ghost use Rattle.cap_lin.specs.Exact.{IsExact, IsExactBy};
 ghost use Rattle.cap_lin.specs.Values.{Valuation};
-ghost use Rattle.cap_lin.specs.Rows.{row, below_zero, below_zero_steps, above_zero, above_zero_steps, less_steps, row_of, row_of_steps, negations, negations_steps};
+ghost use Rattle.cap_lin.specs.Rows.{row, below_zero, below_zero_steps, above_zero};
+ghost use Rattle.cap_lin.specs.Rows.{above_zero_steps, less_steps, row_of, row_of_steps, negations};
+ghost use Rattle.cap_lin.specs.Rows.{negations_steps};
 ghost use Rattle.cap_lin.specs.Solves.{Holds, HoldsSome, Compares};
 
 use crate::error::LinError;

@@ -1,6 +1,14 @@
-ghost use Rattle.std.specs.Prelude.{◌≡◌, ◌<◌, ◌≤◌, ℕ, ℤ, ◌+ℤ◌, ◌*ℤ◌, [], ◌∷◌, ◌++◌, List, length, drop, OnOk, IfOk, IfSome, IsTrue, ◌↔◌, MatchResult, IfErr, ◌≢◌, slice_get, pos};
-ghost use Rattle.cap_lin.specs.Linear.{AscendFrom, put_part, coefficient, number, variable, merged, parts_behind, sums, IsBelow, IsLeastFrom, IsPlaceFrom, plus, minus, negative, plus_one, multiples, times, combined_parts, combination, parts_without, without, replaced};
-ghost use Rattle.cap_lin.specs.Steps.{sum_of, product_of, sums_steps, plus_steps, minus_steps, negative_steps, multiples_steps, times_steps, part_steps, combined_parts_steps, combination_steps, replaced_steps, value_steps};
+ghost use Rattle.std.specs.Prelude.{◌≡◌, ◌<◌, ◌≤◌, ℕ, ℤ, ◌+ℤ◌, ◌*ℤ◌, [], ◌∷◌, ◌++◌, List, length};
+ghost use Rattle.std.specs.Prelude.{drop, OnOk, IfOk, IfSome, IsTrue, ◌↔◌, MatchResult, IfErr, ◌≢◌};
+ghost use Rattle.std.specs.Prelude.{slice_get, pos};
+ghost use Rattle.cap_lin.specs.Linear.{AscendFrom, put_part, coefficient, number, variable, merged};
+ghost use Rattle.cap_lin.specs.Linear.{parts_behind, sums, IsBelow, IsLeastFrom, IsPlaceFrom, plus};
+ghost use Rattle.cap_lin.specs.Linear.{minus, negative, plus_one, multiples, times, combined_parts};
+ghost use Rattle.cap_lin.specs.Linear.{combination, parts_without, without, replaced};
+ghost use Rattle.cap_lin.specs.Steps.{sum_of, product_of, sums_steps, plus_steps, minus_steps};
+ghost use Rattle.cap_lin.specs.Steps.{negative_steps, multiples_steps, times_steps, part_steps};
+ghost use Rattle.cap_lin.specs.Steps.{combined_parts_steps, combination_steps, replaced_steps};
+ghost use Rattle.cap_lin.specs.Steps.{value_steps};
 ghost use Rattle.cap_lin.specs.Exact.{IsExact, IsExactBy, IsShort, IsCombined};
 ghost use Rattle.cap_lin.specs.Values.{value, number_at, changed};
 
@@ -20,8 +28,8 @@ type Parts = SmallVec<(u32, i128), 2>;
 /// A linear term: a constant, and pairs of a variable and its coefficient, in ascending order of
 /// variables and without coefficients of 0, so that a term has one form. Variables are numbers.
 ///
-/// Arithmetic is exact: an operation gives its term, or the two operands of the first sum or product
-/// on the way that leaves 128 bits.
+/// Arithmetic is exact: an operation gives its term, or the two operands of the first sum or
+/// product on the way that leaves 128 bits.
 #[derive(Debug, Drop)]
 pub struct Term {
     constant: i128,
@@ -64,7 +72,8 @@ impl Hash for Term {
     ghost use Rattle.std.specs.Hash.{same_Alike};
     ghost use Rattle.cap_lin.specs.Laws.Sameness.{same_term-decides};
 
-    ghost hash_input = { λ t. fed.i128 t.constant ++ fed.slice (λ p. fed.u32 p.0 ++ fed.i128 p.1) t.parts };
+    ghost hash_input = { λ t. fed.i128 t.constant
+        ++ fed.slice (λ p. fed.u32 p.0 ++ fed.i128 p.1) t.parts };
 
     ghost respects_eq = { (same_Alike _ same_term-decides).fed };
 
@@ -201,9 +210,9 @@ impl Term {
         Ok(Term { constant, parts })
     }
 
-    /// A multiple of this term plus a multiple of another one. Wide has the first result that leaves
-    /// 128 bits: of the constants, and then of the coefficients in the order of variables, the
-    /// product of `a` and this term's number, that of `b` and the other's, and then their sum.
+    /// A multiple of this term plus a multiple of another one. Wide has the first result that
+    /// leaves 128 bits: of the constants, and then of the coefficients in the order of variables,
+    /// the product of `a` and this term's number, that of `b` and the other's, and then their sum.
     pub fn combination(
         &self,
         alloc: Global,
@@ -248,10 +257,11 @@ impl Term {
     }
 
     /// The term with another one in the place of a variable: its multiple by the variable's
-    /// coefficient, added to the rest. Wide is as in `scale`, for the multiple, and then as in `add`,
-    /// with the rest first. Where the term lacks the variable it is the term, and never Wide.
+    /// coefficient, added to the rest. Wide is as in `scale`, for the multiple, and then as in
+    /// `add`, with the rest first. Where the term lacks the variable it is the term, never Wide.
     pub fn subst(&self, alloc: Global, v: u32, by: &Term) -> Result<Term, LinError>
-        ensures exact { IsExact result (replaced_steps v by.now self.now) (replaced v by.now self.now) }
+        ensures exact { IsExact result
+            (replaced_steps v by.now self.now) (replaced v by.now self.now) }
         ensures means { IfOk result
             (λ t. (n : ℕ → ℤ) → value n t ≡ value (changed n v (value n by.now)) self.now) }
     {
@@ -318,7 +328,7 @@ fn first_from(parts: &[(u32, i128)], low: u64) -> usize
 {
     let mut start = 0;
     let mut end = parts.len();
-    // An elimination takes variables in ascending order, so that it mostly asks for the first place.
+    // An elimination takes variables in ascending order: it mostly asks for the first place.
     if start < end && low <= parts[0].0 as u64 {
         return 0;
     }
@@ -367,8 +377,8 @@ fn long_product(a: i128, b: i128) -> Result<i128, LinError>
     }
 }
 
-// Whether a number is from -2^62 to 2^62 - 1, so that a product of two such numbers, and a sum of two such
-// products, is within 128 bits and needs no test.
+// Whether a number is from -2^62 to 2^62 - 1, so that a product of two such numbers, and a sum of
+// two such products, is within 128 bits and needs no test.
 #[inline]
 fn is_short(number: i128) -> bool
     ensures { IsTrue result → IsShort number }
@@ -392,20 +402,16 @@ fn room_for(alloc: Global, left: usize, right: usize) -> Result<Parts, AllocErro
 trait PartList {
     ghost items: { Self → List (ℕ × ℤ) };
 
-    // Appends a part, unless its coefficient is 0.
-    fn put(&mut self, variable: u32, coefficient: i128) -> Result<(), AllocError>
+    fn append(&mut self, variable: u32, coefficient: i128) -> Result<(), AllocError>
         ensures { OnOk result
-            (items self.new ≡ items self.old ++ put_part variable coefficient []) };
+            (items self.new ≡ items self.old ++ (variable, coefficient) ∷ []) };
 }
 
 impl PartList for Parts {
     ghost items = { λ parts. parts.items };
 
     #[inline]
-    fn put(&mut self, variable: u32, coefficient: i128) -> Result<(), AllocError> {
-        if coefficient == 0 {
-            return Ok(());
-        }
+    fn append(&mut self, variable: u32, coefficient: i128) -> Result<(), AllocError> {
         if self.len() < self.capacity() {
             self.push_reserved((variable, coefficient));
             return Ok(());
@@ -418,16 +424,25 @@ impl PartList for Vec<(u32, i128)> {
     ghost items = { λ parts. parts.items };
 
     #[inline]
-    fn put(&mut self, variable: u32, coefficient: i128) -> Result<(), AllocError> {
-        if coefficient == 0 {
-            return Ok(());
-        }
+    fn append(&mut self, variable: u32, coefficient: i128) -> Result<(), AllocError> {
         if self.len() < self.capacity() {
             self.push_reserved((variable, coefficient));
             return Ok(());
         }
         push_growing_many(self, variable, coefficient)
     }
+}
+
+// Appends a part, unless its coefficient is 0.
+#[inline]
+fn put<P: PartList>(parts: &mut P, variable: u32, coefficient: i128) -> Result<(), AllocError>
+    ensures { OnOk result
+        (P.items parts.new ≡ P.items parts.old ++ put_part variable coefficient []) }
+{
+    if coefficient != 0 {
+        parts.append(variable, coefficient)?;
+    }
+    Ok(())
 }
 
 // Appends a part to a list that has no room for it.
@@ -507,7 +522,7 @@ fn add_parts(alloc: Global, left: &[(u32, i128)], right: &[(u32, i128)]) -> Resu
     let mut right = right;
     while let Some(pair) = least(left, right) {
         let coefficient = sum(pair.left, pair.right)?;
-        parts.put(pair.variable, coefficient)?;
+        put(&mut parts, pair.variable, coefficient)?;
         left = behind(left, pair.variable);
         right = behind(right, pair.variable);
     }
@@ -524,18 +539,14 @@ fn scale_parts(alloc: Global, k: i128, parts: &[(u32, i128)]) -> Result<Parts, L
 }
 
 // Appends the multiples of parts.
-fn append_multiples<P: PartList>(
-    to: &mut P,
-    k: i128,
-    parts: &[(u32, i128)],
-) -> Result<(), LinError>
+fn append_multiples<P: PartList>(to: &mut P, k: i128, parts: &[(u32, i128)]) -> Result<(), LinError>
     ensures { IsExactBy result (λ _. P.items to.new)
         (multiples_steps k parts.now) (P.items to.old ++ multiples k parts.now) }
 {
     for part in parts {
         let (variable, coefficient) = *part;
         let multiple = product(k, coefficient)?;
-        to.put(variable, multiple)?;
+        put(to, variable, multiple)?;
     }
     Ok(())
 }
@@ -634,7 +645,7 @@ fn append_combination<P: PartList>(
                 None => long_combined(a, m, b, n)?,
             }
         };
-        parts.put(x.min(y), number)?;
+        put(parts, x.min(y), number)?;
     }
     if !left.is_empty() {
         append_multiples(parts, a, left)?;

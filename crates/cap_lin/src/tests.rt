@@ -70,6 +70,22 @@ fn combinations(rt: HostRuntime) -> Result<(), Fail> {
 }
 
 #[test]
+fn combinations_of_many_parts(rt: HostRuntime) -> Result<(), Fail> {
+    let alloc = rt.alloc();
+    // 2 (v0 + 2 v1 + 3 v3) - (5 v1 + v2 + 7 v4 + v5), and the same terms added the other way round.
+    let left = term(alloc, 0, &[(0, 1), (1, 2), (3, 3)])?;
+    let right = term(alloc, 0, &[(1, 5), (2, 1), (4, 7), (5, 1)])?;
+    let both = left.combination(alloc, 2, &right, -1)?;
+    let parts = [(0, 2), (1, -1), (2, -1), (3, 6), (4, -7), (5, -1)];
+    assert_eq!(rt; both.parts(), parts.as_slice());
+    let sum = right.combination(alloc, 1, &left, 1)?;
+    let parts = [(0, 1), (1, 7), (2, 1), (3, 3), (4, 7), (5, 1)];
+    assert_eq!(rt; sum.parts(), parts.as_slice());
+    assert!(rt; sum.copy(alloc)?.same(&sum));
+    Ok(())
+}
+
+#[test]
 fn replacements(rt: HostRuntime) -> Result<(), Fail> {
     let alloc = rt.alloc();
     // 2 v0 + 1, where v0 is v0 + 3, and where v1, which it lacks, is v0 + 3.
@@ -174,7 +190,7 @@ fn rows_of_comparisons(rt: HostRuntime) -> Result<(), Fail> {
 #[test]
 fn negations_of_rows(rt: HostRuntime) -> Result<(), Fail> {
     let alloc = rt.alloc();
-    // Of v0 + 5: the kinds and constants of the negations, the second one 0 where there is only one.
+    // Of v0 + 5: the kinds and constants of the negations, the second one 0 where there is one.
     let cases = [
         (Kind::Le, Sort::Int, Kind::Le, -4, 0),
         (Kind::Le, Sort::Perm, Kind::Lt, -5, 0),
