@@ -4,13 +4,13 @@ use Rattle.std.specs.Prelude.{Result}
 use Rattle.std.proofs.lemmas.Int.{ints}
 use Rattle.std.proofs.lemmas.Grind.{common_steps}
 use mir.Syntax.{w128}
-use Rattle.cap_lin.specs.Linear.{Linear, merged, only_left, only_right, put_part, multiples, combined_parts, combination}
+use Rattle.cap_lin.specs.Linear.{Linear, merged, put_part, multiples, combined_parts, combination}
 use Rattle.cap_lin.specs.Steps.{Step, sum_of, product_of, first_wide, part_steps, multiples_steps, combined_parts_steps, combination_steps}
 use Rattle.cap_lin.specs.Exact.{Explains, IsExact, IsCombined}
 use Rattle.cap_lin.specs.declared.error.LinError.{LinError}
 use Rattle.cap_lin.specs.declared.term.Pair.{Pair}
 use Rattle.cap_lin.proofs.Results.{first_wide-nil, first-narrow, product-fits, sum-fits, fits_or_not, fits-zero, product-not-fits, explains_same, explains_first, explains_later, exact_after, put-append}
-use Rattle.cap_lin.proofs.Merge.{no_part, merged-nil, merged-left, merged-right, starts-lt, starts-gt, starts-eq}
+use Rattle.cap_lin.proofs.Merge.{merged-nil, merged-left, merged-right}
 use Rattle.cap_lin.proofs.Multiples as m
 
 -- ---- two products and their sum
@@ -51,38 +51,19 @@ parts-cons : (a b : ℤ) (j : Pair) (js : List Pair) → combined_parts a b (j �
 unfolding combined_parts
 parts-cons a b j js = put-append j.variable (a *ℤ j.left +ℤ b *ℤ j.right) (combined_parts a b js)
 
-pub stops : (a b : ℤ) (js rest : List Pair) (j : Pair) (e : LinError) (all : List Step) (a' l b' r : ℤ) → js ≡ j ∷ rest → a' ≡ a → l ≡ j.left → b' ≡ b → r ≡ j.right → Explains e (part_steps a' l b' r []) → first_wide (combined_parts_steps a b js) ≡ first_wide all → Explains e all
-stops a b js rest j e all a' l b' r n p q t u x w =
-    let y : Explains e (part_steps a j.left b j.right []) = rw (← p, ← q, ← t, ← u) x in
+pub stops : (a b : ℤ) (js rest : List Pair) (j : Pair) (e : LinError) (all : List Step) (a' b' : ℤ) → js ≡ j ∷ rest → a' ≡ a → b' ≡ b → Explains e (part_steps a' j.left b' j.right []) → first_wide (combined_parts_steps a b js) ≡ first_wide all → Explains e all
+stops a b js rest j e all a' b' n p q x w =
+    let y : Explains e (part_steps a j.left b j.right []) = rw (← p, ← q) x in
     let z : Explains e (combined_parts_steps a b js) = rw (n, steps-cons) (explains_first e _ _ y) in
     explains_same e all _ (sym w) z
 
--- the first pair, of this variable, makes this number without leaving 128 bits, and these pairs come after it
-pub record IsStep (a b : ℤ) (js rest : List Pair) (x : ℕ) (k : ℤ) : Type 0 where
-  pub first : Pair
-  pub is : js ≡ first ∷ rest
-  pub variable : x ≡ first.variable
-  pub combined : IsCombined a first.left b first.right k
+pub goes_on : (a b : ℤ) (js rest : List Pair) (j : Pair) (k : ℤ) (whole : Option (ℤ × ℤ)) → js ≡ j ∷ rest → IsCombined a j.left b j.right k → first_wide (combined_parts_steps a b js) ≡ whole → first_wide (combined_parts_steps a b rest) ≡ whole
+goes_on a b js rest j k whole s c w = sym (first-narrow _ _ c.0) ∙ (rw (s, steps-cons) at w)
 
-pub first_left : (a b : ℤ) (ps qs : List (ℕ × ℤ)) (x : ℕ) (k a' l b' : ℤ) → 1 ≤ length ps → 1 ≤ length qs → (get_or ps 0 no_part).0 < (get_or qs 0 no_part).0 → x ≡ (get_or ps 0 no_part).0 → a' ≡ a → l ≡ (get_or ps 0 no_part).1 → b' ≡ b → IsCombined a' l b' (pos 0) k → IsStep a b (merged ps qs) (merged (drop 1 ps) qs) x k
-first_left a b ps qs x k a' l b' h m t v p q u i =
-    record { first = only_left (get_or ps 0 no_part); is = starts-lt ps qs h m t; variable = v; combined = rw (← p, ← q, ← u) i }
-
-pub first_right : (a b : ℤ) (ps qs : List (ℕ × ℤ)) (x : ℕ) (k a' b' r : ℤ) → 1 ≤ length ps → 1 ≤ length qs → (get_or qs 0 no_part).0 < (get_or ps 0 no_part).0 → x ≡ (get_or qs 0 no_part).0 → a' ≡ a → b' ≡ b → r ≡ (get_or qs 0 no_part).1 → IsCombined a' (pos 0) b' r k → IsStep a b (merged ps qs) (merged ps (drop 1 qs)) x k
-first_right a b ps qs x k a' b' r h m t v p u w i =
-    record { first = only_right (get_or qs 0 no_part); is = starts-gt ps qs h m t; variable = v; combined = rw (← p, ← u, ← w) i }
-
-pub first_both : (a b : ℤ) (ps qs : List (ℕ × ℤ)) (x : ℕ) (k a' l b' r : ℤ) → 1 ≤ length ps → 1 ≤ length qs → (get_or qs 0 no_part).0 ≤ (get_or ps 0 no_part).0 → (get_or ps 0 no_part).0 ≤ (get_or qs 0 no_part).0 → x ≡ (get_or ps 0 no_part).0 → a' ≡ a → l ≡ (get_or ps 0 no_part).1 → b' ≡ b → r ≡ (get_or qs 0 no_part).1 → IsCombined a' l b' r k → IsStep a b (merged ps qs) (merged (drop 1 ps) (drop 1 qs)) x k
-first_both a b ps qs x k a' l b' r h m t n v p q u w i =
-    record { first = _; is = starts-eq ps qs h m t n; variable = v; combined = rw (← p, ← q, ← u, ← w) i }
-
-pub goes_on : (a b : ℤ) (js rest : List Pair) (x : ℕ) (k : ℤ) (whole : Option (ℤ × ℤ)) → IsStep a b js rest x k → first_wide (combined_parts_steps a b js) ≡ whole → first_wide (combined_parts_steps a b rest) ≡ whole
-goes_on a b js rest x k whole s w = sym (first-narrow _ _ s.combined.0) ∙ (rw (s.is, steps-cons) at w)
-
-pub adds : (a b : ℤ) (js rest : List Pair) (x : ℕ) (k : ℤ) (out out' whole : List (ℕ × ℤ)) → IsStep a b js rest x k → out' ≡ out ++ put_part x k [] → out ++ combined_parts a b js ≡ whole → out' ++ combined_parts a b rest ≡ whole
-adds a b js rest x k out out' whole s o w =
-    let m : out' ≡ out ++ put_part s.first.variable (a *ℤ s.first.left +ℤ b *ℤ s.first.right) [] = rw (← s.variable, ← s.combined.1) o in
-    rw (m, append_assoc) (rw (s.is, parts-cons) at w)
+pub adds : (a b : ℤ) (js rest : List Pair) (j : Pair) (x : ℕ) (k : ℤ) (out out' whole : List (ℕ × ℤ)) → js ≡ j ∷ rest → IsCombined a j.left b j.right k → x ≡ j.variable → out' ≡ out ++ put_part x k [] → out ++ combined_parts a b js ≡ whole → out' ++ combined_parts a b rest ≡ whole
+adds a b js rest j x k out out' whole s c v o w =
+    let m : out' ≡ out ++ put_part j.variable (a *ℤ j.left +ℤ b *ℤ j.right) [] = rw (← v, ← c.1) o in
+    rw (m, append_assoc) (rw (s, parts-cons) at w)
 
 -- ---- parts that only one of the terms has: their multiples
 

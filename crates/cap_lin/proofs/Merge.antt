@@ -73,20 +73,23 @@ first-eq (p ∷ ps) (q ∷ qs) a b h k l m e d = rw (merged-eq p q ps qs l m, e,
 
 -- ---- the first pair and those after it, where neither list is empty
 
-pub starts-lt : (ps qs : List (ℕ × ℤ)) → 1 ≤ length ps → 1 ≤ length qs → (get_or ps 0 no_part).0 < (get_or qs 0 no_part).0 → merged ps qs ≡ only_left (get_or ps 0 no_part) ∷ merged (drop 1 ps) qs
-starts-lt [] qs h k l = absurd (omega arith)
-starts-lt (p ∷ ps) [] h k l = absurd (omega arith)
-starts-lt (p ∷ ps) (q ∷ qs) h k l = merged-lt p q ps qs l
+abbrev pub pair : ℕ → ℤ → ℤ → Pair
+pair x l r = record { variable = x; left = l; right = r }
 
-pub starts-gt : (ps qs : List (ℕ × ℤ)) → 1 ≤ length ps → 1 ≤ length qs → (get_or qs 0 no_part).0 < (get_or ps 0 no_part).0 → merged ps qs ≡ only_right (get_or qs 0 no_part) ∷ merged ps (drop 1 qs)
-starts-gt [] qs h k l = absurd (omega arith)
-starts-gt (p ∷ ps) [] h k l = absurd (omega arith)
-starts-gt (p ∷ ps) (q ∷ qs) h k l = merged-gt p q ps qs l
+pub starts-lt : (ps qs : List (ℕ × ℤ)) (x : ℕ) (l r : ℤ) → 1 ≤ length ps → 1 ≤ length qs → (get_or ps 0 no_part).0 < (get_or qs 0 no_part).0 → x ≡ (get_or ps 0 no_part).0 → l ≡ (get_or ps 0 no_part).1 → r ≡ pos 0 → merged ps qs ≡ pair x l r ∷ merged (drop 1 ps) qs
+starts-lt [] qs x l r h k t u v w = absurd (omega arith)
+starts-lt (p ∷ ps) [] x l r h k t u v w = absurd (omega arith)
+starts-lt (p ∷ ps) (q ∷ qs) x l r h k t u v w = rw (merged-lt p q ps qs t, u, v, w) refl
 
-pub starts-eq : (ps qs : List (ℕ × ℤ)) → 1 ≤ length ps → 1 ≤ length qs → (get_or qs 0 no_part).0 ≤ (get_or ps 0 no_part).0 → (get_or ps 0 no_part).0 ≤ (get_or qs 0 no_part).0 → merged ps qs ≡ record { variable = (get_or ps 0 no_part).0; left = (get_or ps 0 no_part).1; right = (get_or qs 0 no_part).1 } ∷ merged (drop 1 ps) (drop 1 qs)
-starts-eq [] qs h k l m = absurd (omega arith)
-starts-eq (p ∷ ps) [] h k l m = absurd (omega arith)
-starts-eq (p ∷ ps) (q ∷ qs) h k l m = merged-eq p q ps qs l m
+pub starts-gt : (ps qs : List (ℕ × ℤ)) (x : ℕ) (l r : ℤ) → 1 ≤ length ps → 1 ≤ length qs → (get_or qs 0 no_part).0 < (get_or ps 0 no_part).0 → x ≡ (get_or qs 0 no_part).0 → l ≡ pos 0 → r ≡ (get_or qs 0 no_part).1 → merged ps qs ≡ pair x l r ∷ merged ps (drop 1 qs)
+starts-gt [] qs x l r h k t u v w = absurd (omega arith)
+starts-gt (p ∷ ps) [] x l r h k t u v w = absurd (omega arith)
+starts-gt (p ∷ ps) (q ∷ qs) x l r h k t u v w = rw (merged-gt p q ps qs t, u, v, w) refl
+
+pub starts-eq : (ps qs : List (ℕ × ℤ)) (x : ℕ) (l r : ℤ) → 1 ≤ length ps → 1 ≤ length qs → (get_or qs 0 no_part).0 ≤ (get_or ps 0 no_part).0 → (get_or ps 0 no_part).0 ≤ (get_or qs 0 no_part).0 → x ≡ (get_or ps 0 no_part).0 → l ≡ (get_or ps 0 no_part).1 → r ≡ (get_or qs 0 no_part).1 → merged ps qs ≡ pair x l r ∷ merged (drop 1 ps) (drop 1 qs)
+starts-eq [] qs x l r h k t m u v w = absurd (omega arith)
+starts-eq (p ∷ ps) [] x l r h k t m u v w = absurd (omega arith)
+starts-eq (p ∷ ps) (q ∷ qs) x l r h k t m u v w = rw (merged-eq p q ps qs t m, u, v, w) refl
 
 pub shorter : (ps : List (ℕ × ℤ)) → 1 ≤ length ps → length (drop 1 ps) < length ps
 shorter [] h = absurd (omega arith)

@@ -623,27 +623,24 @@ fn append_combination<P: PartList>(
     let mut left = left;
     let mut right = right;
     while !left.is_empty() && !right.is_empty() {
-        let (x, m) = left[0];
-        let (y, n) = right[0];
-        let number = if x < y {
+        let (x, mut m) = left[0];
+        let (y, mut n) = right[0];
+        let short = if x < y {
             left = after_first(left);
-            match short_combined(a, m, b, 0) {
-                Some(number) => number,
-                None => long_combined(a, m, b, 0)?,
-            }
+            n = 0;
+            short_combined(a, m, b, 0)
         } else if y < x {
             right = after_first(right);
-            match short_combined(a, 0, b, n) {
-                Some(number) => number,
-                None => long_combined(a, 0, b, n)?,
-            }
+            m = 0;
+            short_combined(a, 0, b, n)
         } else {
             left = after_first(left);
             right = after_first(right);
-            match short_combined(a, m, b, n) {
-                Some(number) => number,
-                None => long_combined(a, m, b, n)?,
-            }
+            short_combined(a, m, b, n)
+        };
+        let number = match short {
+            Some(number) => number,
+            None => long_combined(a, m, b, n)?,
         };
         put(parts, x.min(y), number)?;
     }
