@@ -12,58 +12,28 @@ use Rattle.cap_elim.specs.Events.{many, first_limit, counted}
 use Rattle.cap_elim.specs.Runs as plain
 use Rattle.cap_elim.specs.Runs.{going, done}
 use Rattle.cap_elim.specs.Rows.{same_kind, same_row, has_arisen, count}
-use Rattle.cap_fm.specs.Views.{form_view, history_view, stage_view, number_of, Fits}
+use Rattle.cap_fm.specs.Views.{history_view, stage_view, number_of, Fits}
 use Rattle.cap_fm.specs.Answers.{Is, IsCounted}
 use Rattle.cap_fm.specs.Entries.{Entry}
-use Rattle.cap_fm.specs.declared.stage.Form.{Form}
 use Rattle.cap_fm.specs.declared.stage.Stage.{Stage}
-use Rattle.cap_fm.specs.contracts.stage.FormPartialEq.TheImpl.{eq-value}
+use Rattle.cap_fm.specs.Forms.{same_form}
 use Rattle.cap_fm.proofs.Marks.{number-later, arisen-new}
 use Rattle.cap_fm.proofs.Stages.{fits-by, fits-new, grows-by, grows-new}
 use Rattle.cap_fm.proofs.Booleans.{or-none}
 
-by_kind : (k l : Kind) (s t : Linear) → eq-value.it (record { kind = k; term = s }) (record { kind = l; term = t }) ≡ (same_kind k l && same_term s t)
-by_kind Le Le s t = refl
-by_kind Le Lt s t = refl
-by_kind Le Eq s t = refl
-by_kind Le Ne s t = refl
-by_kind Lt Le s t = refl
-by_kind Lt Lt s t = refl
-by_kind Lt Eq s t = refl
-by_kind Lt Ne s t = refl
-by_kind Eq Le s t = refl
-by_kind Eq Lt s t = refl
-by_kind Eq Eq s t = refl
-by_kind Eq Ne s t = refl
-by_kind Ne Le s t = refl
-by_kind Ne Lt s t = refl
-by_kind Ne Eq s t = refl
-by_kind Ne Ne s t = refl
-
-form-eq : (f g : Form) → eq-value.it f g ≡ same_row f.term f.kind g.term g.kind
-form-eq f g = by_kind f.kind g.kind f.term g.term
-
-pub has-view : (f : Form) (fs : List Form) → list_any (eq-value.it f) fs ≡ has_arisen f.term f.kind (map form_view fs)
-has-view f [] = refl
-has-view f (g ∷ gs) = ap (λ b. b || list_any (eq-value.it f) gs) (form-eq f g) ∙ ap (λ b. same_row f.term f.kind g.term g.kind || b) (has-view f gs)
-
-pub number-view : (f : Form) (fs : List Form) → position_or_len (eq-value.it f) fs ≡ number_of f.term f.kind (map form_view fs)
-number-view f [] = refl
-number-view f (g ∷ gs) = ap (λ b. cond (not b) (1 + position_or_len (eq-value.it f) gs) 0) (form-eq f g) ∙ ap (λ n. cond (not (same_row f.term f.kind g.term g.kind)) (1 + n) 0) (number-view f gs)
-
-pub insert-old : (f : Form) (fs : List Form) → has_arisen f.term f.kind (map form_view fs) ≡ true → insert_key eq-value.it fs f ≡ fs
-insert-old f fs h = by (list_any (eq-value.it f) fs) (has-view f fs ∙ h)
+pub insert-old : (f : Linear × Kind) (rows : List (Linear × Kind)) → has_arisen f.0 f.1 rows ≡ true → insert_key same_form rows f ≡ rows
+insert-old f rows h = by (has_arisen f.0 f.1 rows) h
   where
-    by : (b : Bool) → b ≡ true → (if b then fs else fs ++ (f ∷ [])) ≡ fs
+    by : (b : Bool) → b ≡ true → (if b then rows else rows ++ (f ∷ [])) ≡ rows
     by true e = refl
     by false e = cc
 
-pub insert-new : (f : Form) (fs : List Form) → has_arisen f.term f.kind (map form_view fs) ≡ false → map form_view (insert_key eq-value.it fs f) ≡ map form_view fs ++ ((f.term, f.kind) ∷ [])
-insert-new f fs h = by (list_any (eq-value.it f) fs) (has-view f fs ∙ h)
+pub insert-new : (f : Linear × Kind) (rows : List (Linear × Kind)) → has_arisen f.0 f.1 rows ≡ false → insert_key same_form rows f ≡ rows ++ (f ∷ [])
+insert-new f rows h = by (has_arisen f.0 f.1 rows) h
   where
-    by : (b : Bool) → b ≡ false → map form_view (if b then fs else fs ++ (f ∷ [])) ≡ map form_view fs ++ ((f.term, f.kind) ∷ [])
+    by : (b : Bool) → b ≡ false → (if b then rows else rows ++ (f ∷ [])) ≡ rows ++ (f ∷ [])
     by true e = cc
-    by false e = map-append form_view fs (f ∷ [])
+    by false e = refl
 
 pub number-none : (t : Linear) (k : Kind) (rows : List (Linear × Kind)) → has_arisen t k rows ≡ false → number_of t k rows ≡ length rows
 number-none t k [] h = refl
@@ -115,44 +85,37 @@ not-false : (b c : Bool) → c ≡ not b → c ≡ false → b ≡ true
 not-false true c e h = refl
 not-false false c e h = cc
 
--- a form that is new
-new-form : (f : Form) (fs : List Form) (is_new : Bool) → is_new ≡ not (list_any (eq-value.it f) fs) → is_new ≡ true → has_arisen f.term f.kind (map form_view fs) ≡ false
-new-form f fs is_new e h = sym (has-view f fs) ∙ not-true (list_any (eq-value.it f) fs) is_new e h
+pub one-too-many : (f : Linear × Kind) (s : Stage) (n : ℕ) (is_new : Bool) → is_new ≡ not (has_arisen f.0 f.1 s.forms.keys) → is_new ≡ true → n ≡ number_of f.0 f.1 s.forms.keys → 4096 ≤ n → first_limit (count f.0 f.1 (stage_view s)).events ≡ Some many
+one-too-many f s n is_new a h p l =
+    let g = not-true (has_arisen f.0 f.1 s.forms.keys) is_new a h in
+    let q = p ∙ number-none f.0 f.1 s.forms.keys g in
+    too-many f.0 f.1 (stage_view s) g (omega arith)
 
-old-form : (f : Form) (fs : List Form) (is_new : Bool) → is_new ≡ not (list_any (eq-value.it f) fs) → is_new ≡ false → has_arisen f.term f.kind (map form_view fs) ≡ true
-old-form f fs is_new e h = sym (has-view f fs) ∙ not-false (list_any (eq-value.it f) fs) is_new e h
-
-pub one-too-many : (f : Form) (t : Linear) (s : Stage) (n : ℕ) (is_new : Bool) → f.term ≡ t → is_new ≡ not (list_any (eq-value.it f) s.forms.keys) → is_new ≡ true → n ≡ position_or_len (eq-value.it f) s.forms.keys → 4096 ≤ n → first_limit (count t f.kind (stage_view s)).events ≡ Some many
-one-too-many f t s n is_new e a h p l =
-    let g = new-form f s.forms.keys is_new a h in
-    let q = p ∙ number-view f s.forms.keys ∙ number-none f.term f.kind (stage_view s).arisen g in
-    subst (λ u. first_limit (count u f.kind (stage_view s)).events ≡ Some many) e (too-many f.term f.kind (stage_view s) g (omega arith))
-
-pub counted-new : (inputs : ℕ) (f : Form) (t : Linear) (s z : Stage) (ds : List Entry) (n : ℕ) (is_new : Bool) → f.term ≡ t → is_new ≡ not (list_any (eq-value.it f) s.forms.keys) → is_new ≡ true → n ≡ position_or_len (eq-value.it f) s.forms.keys → n < 4096 → z.forms.keys ≡ insert_key eq-value.it s.forms.keys f → z.present.items ≡ s.present.items ++ (false ∷ []) → z.history.items ≡ s.history.items → Fits inputs s ds → IsCounted inputs s z ds t f.kind n
-counted-new inputs f t s z ds n is_new e a h p l k m o fits =
-    let g = new-form f s.forms.keys is_new a h in
-    let q = p ∙ number-view f s.forms.keys ∙ number-none f.term f.kind (stage_view s).arisen g in
-    let A : (stage_view z).arisen ≡ (stage_view s).arisen ++ ((f.term, f.kind) ∷ []) = ap (map form_view) k ∙ insert-new f s.forms.keys g in
-    let i = arisen-new f.term f.kind (stage_view s).arisen g in
-    subst (λ u. IsCounted inputs s z ds u f.kind n) e (record {
-      is = few-by (has_arisen f.term f.kind (stage_view s).arisen) (length (stage_view s).arisen + 1) (stage_view s) _ (stage_view z) g (omega arith) (more-stage s z f.term f.kind A o);
-      fits = fits-new inputs s z f.term f.kind ds g A m o fits;
-      grows = grows-new s z f.term f.kind A o;
+pub counted-new : (inputs : ℕ) (f : Linear × Kind) (s z : Stage) (ds : List Entry) (n : ℕ) (is_new : Bool) → is_new ≡ not (has_arisen f.0 f.1 s.forms.keys) → is_new ≡ true → n ≡ number_of f.0 f.1 s.forms.keys → n < 4096 → z.forms.keys ≡ insert_key same_form s.forms.keys f → z.present.items ≡ s.present.items ++ (false ∷ []) → z.history.items ≡ s.history.items → Fits inputs s ds → IsCounted inputs s z ds f.0 f.1 n
+counted-new inputs f s z ds n is_new a h p l k m o fits =
+    let g = not-true (has_arisen f.0 f.1 s.forms.keys) is_new a h in
+    let q = p ∙ number-none f.0 f.1 s.forms.keys g in
+    let A : z.forms.keys ≡ s.forms.keys ++ ((f.0, f.1) ∷ []) = k ∙ insert-new f s.forms.keys g in
+    let i = arisen-new f.0 f.1 s.forms.keys g in
+    record {
+      is = few-by (has_arisen f.0 f.1 s.forms.keys) (length s.forms.keys + 1) (stage_view s) _ (stage_view z) g (omega arith) (more-stage s z f.0 f.1 A o);
+      fits = fits-new inputs s z f.0 f.1 ds g A m o fits;
+      grows = grows-new s z f.0 f.1 A o;
       history = o;
-      arose = subst (λ B. has_arisen f.term f.kind B ≡ true) (sym A) i.0;
-      number = ap (number_of f.term f.kind) A ∙ i.1 ∙ sym q;
-    })
+      arose = subst (λ B. has_arisen f.0 f.1 B ≡ true) (sym A) i.0;
+      number = ap (number_of f.0 f.1) A ∙ i.1 ∙ sym q;
+    }
 
-pub counted-again : (inputs : ℕ) (f : Form) (t : Linear) (s z : Stage) (ds : List Entry) (n : ℕ) (is_new : Bool) → f.term ≡ t → is_new ≡ not (list_any (eq-value.it f) s.forms.keys) → is_new ≡ false → n ≡ position_or_len (eq-value.it f) s.forms.keys → z.forms.keys ≡ insert_key eq-value.it s.forms.keys f → z.present.items ≡ s.present.items → z.history.items ≡ s.history.items → Fits inputs s ds → IsCounted inputs s z ds t f.kind n
-counted-again inputs f t s z ds n is_new e a h p k m o fits =
-    let g = old-form f s.forms.keys is_new a h in
-    let A : (stage_view z).arisen ≡ (stage_view s).arisen = ap (map form_view) (k ∙ insert-old f s.forms.keys g) in
+pub counted-again : (inputs : ℕ) (f : Linear × Kind) (s z : Stage) (ds : List Entry) (n : ℕ) (is_new : Bool) → is_new ≡ not (has_arisen f.0 f.1 s.forms.keys) → is_new ≡ false → n ≡ number_of f.0 f.1 s.forms.keys → z.forms.keys ≡ insert_key same_form s.forms.keys f → z.present.items ≡ s.present.items → z.history.items ≡ s.history.items → Fits inputs s ds → IsCounted inputs s z ds f.0 f.1 n
+counted-again inputs f s z ds n is_new a h p k m o fits =
+    let g = not-false (has_arisen f.0 f.1 s.forms.keys) is_new a h in
+    let A : z.forms.keys ≡ s.forms.keys = k ∙ insert-old f s.forms.keys g in
     let v = same-stage s z A o in
-    subst (λ u. IsCounted inputs s z ds u f.kind n) e (record {
-      is = subst (λ w. Is (going tt) w (count f.term f.kind (stage_view s))) (sym v) (again-by (has_arisen f.term f.kind (stage_view s).arisen) (length (stage_view s).arisen + 1) (stage_view s) _ g);
+    record {
+      is = subst (λ w. Is (going tt) w (count f.0 f.1 (stage_view s))) (sym v) (again-by (has_arisen f.0 f.1 s.forms.keys) (length s.forms.keys + 1) (stage_view s) _ g);
       fits = fits-by inputs s z ds A m o fits;
       grows = grows-by s z A (let w = ap length o in omega arith);
       history = o;
-      arose = subst (λ B. has_arisen f.term f.kind B ≡ true) (sym A) g;
-      number = ap (number_of f.term f.kind) A ∙ sym (number-view f s.forms.keys) ∙ sym p;
-    })
+      arose = subst (λ B. has_arisen f.0 f.1 B ≡ true) (sym A) g;
+      number = ap (number_of f.0 f.1) A ∙ sym p;
+    }

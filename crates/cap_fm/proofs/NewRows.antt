@@ -31,7 +31,7 @@ use Rattle.cap_lin.proofs.Infeasible.{push-all}
 -- ---- the history with one more origin
 
 pub history-more : (s z : Stage) (o : Origin) → z.forms.keys ≡ s.forms.keys → z.history.items ≡ s.history.items ++ (o ∷ []) → stage_view z ≡ record (stage_view s) { history = origin_view o ∷ (stage_view s).history }
-history-more s z o k h = made _ _ _ _ (ap (map Rattle.cap_fm.specs.Views.form_view) k) (ap history_view h ∙ ap reverse (map-append origin_view s.history.items (o ∷ [])) ∙ reverse-append (map origin_view s.history.items) (origin_view o ∷ []))
+history-more s z o k h = made _ _ _ _ k (ap history_view h ∙ ap reverse (map-append origin_view s.history.items (o ∷ [])) ∙ reverse-append (map origin_view s.history.items) (origin_view o ∷ []))
   where
     made : (A B : List (Linear × Kind)) (os qs : List plain.Origin) → A ≡ B → os ≡ qs → ◌≡◌ {A = plain.Stage} (record { arisen = A; history = os }) (record { arisen = B; history = qs })
     made A B os qs p q = rw (p, q) refl
@@ -72,7 +72,7 @@ kept-mark t k rows marks ds d l a n h m = elim (true_or_false (same_row t k d.te
 
 pub fits-kept : (inputs : ℕ) (s z : Stage) (o : Origin) (ds : List Entry) (d : Entry) → z.forms.keys ≡ s.forms.keys → z.present.items ≡ set s.present.items d.number true → z.history.items ≡ s.history.items ++ (o ∷ []) → IsOrigin inputs (length s.history.items) o → has_arisen d.term d.kind (stage_view s).arisen ≡ true → number_of d.term d.kind (stage_view s).arisen ≡ d.number → d.origin ≡ length s.history.items → Fits inputs s ds → Fits inputs z (ds ++ (d ∷ [])) × Grows s z
 fits-kept inputs s z o ds d k m h i a n q f =
-    let A : (stage_view z).arisen ≡ (stage_view s).arisen = ap (map Rattle.cap_fm.specs.Views.form_view) k in
+    let A : (stage_view z).arisen ≡ (stage_view s).arisen = k in
     let l = more-origins s.history.items z.history.items o h in
     let g = grows-by s z A (omega arith) in (
       record {
@@ -101,7 +101,7 @@ pub last-is : (inputs : ℕ) (s z : Stage) (o : Origin) (d : FalseRow) (ds : Lis
 last-is inputs s z o d ds h p i f = let l = more-origins s.history.items z.history.items o h in record { last = omega arith; history = subst (IsHistory inputs) (sym h) (history-push inputs s.history.items o f.history i) }
 
 pub grows-noted : (s z : Stage) (o : Origin) → z.forms.keys ≡ s.forms.keys → z.history.items ≡ s.history.items ++ (o ∷ []) → Grows s z
-grows-noted s z o k h = let l = more-origins s.history.items z.history.items o h in grows-by s z (ap (map Rattle.cap_fm.specs.Views.form_view) k) (omega arith)
+grows-noted s z o k h = let l = more-origins s.history.items z.history.items o h in grows-by s z k (omega arith)
 
 -- ---- the definition's cases
 

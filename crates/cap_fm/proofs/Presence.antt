@@ -10,7 +10,7 @@ use Rattle.cap_lin.specs.declared.row.Kind.{Kind}
 use Rattle.cap_elim.specs.Rows.{same_row, has_arisen, is_present}
 use Rattle.cap_fm.specs.Entries.{Entry}
 use Rattle.cap_fm.specs.declared.stage.Stage.{Stage}
-use Rattle.cap_fm.specs.Views.{stage_view, form_view, entries_view, term_of, lacking_rows, number_of, Fits, IsNumbered, AreNumbered, Grows}
+use Rattle.cap_fm.specs.Views.{stage_view, entries_view, term_of, lacking_rows, number_of, Fits, IsNumbered, AreNumbered, Grows}
 use Rattle.cap_fm.specs.Answers.{Remarks, Leaves}
 use Rattle.cap_elim.proofs.Lists.{each-filter}
 use Rattle.cap_fm.proofs.Each.{each-at}
@@ -166,7 +166,7 @@ all-left x inputs old new ds f h =
     record {
       fits = record {
         marked = record {
-          long = h.long ∙ f.marked.long ∙ ap (λ ks. length (map form_view ks)) (sym h.forms);
+          long = h.long ∙ f.marked.long ∙ ap length (sym h.forms);
           tell = rw h.forms (λ t k a. h.tell t k a ∙ ap (λ b. b && not (is_left x t k ds)) (f.marked.tell t k a) ∙ present-lacking x t k ds);
         };
         numbered = all-grow old new (lacking_rows x ds) grows (each-filter (IsNumbered old) (λ d. is_zero (coefficient x d.term.parts)) ds f.numbered);

@@ -7,25 +7,21 @@ use Rattle.cap_lin.specs.declared.row.Kind.{Kind}
 use Rattle.cap_lin.specs.declared.row.Kind.TheVariants.{Le}
 use Rattle.cap_elim.specs.Rows.{same_row, has_arisen}
 use Rattle.cap_fm.specs.Entries.{Entry}
-use Rattle.cap_fm.specs.Views.{form_view, stage_view, number_of, term_of, entry_of, entries_of, IsNumbered, AreNumbered, Grows}
+use Rattle.cap_fm.specs.Views.{stage_view, number_of, term_of, entry_of, entries_of, IsNumbered, AreNumbered, Grows}
 use Rattle.cap_fm.specs.declared.entry.Present.{Present}
-use Rattle.cap_fm.specs.declared.stage.Form.{Form}
 use Rattle.cap_fm.specs.declared.stage.Stage.{Stage}
 use Rattle.cap_fm.proofs.Marks.{row-is, number-first, number-later}
 use Rattle.cap_fm.proofs.Booleans.{true_or_false, or-later}
 use Rattle.cap_fm.proofs.Stages.{all-grow}
 
-abbrev form_term : Form → Linear
-form_term f = f.term
-
 -- the term under the number of a row that arose
-term-at : (t : Linear) (k : Kind) (fs : List Form) (z : Linear) → has_arisen t k (map form_view fs) ≡ true → get_or (map form_term fs) (number_of t k (map form_view fs)) z ≡ t
+term-at : (t : Linear) (k : Kind) (rows : List (Linear × Kind)) (z : Linear) → has_arisen t k rows ≡ true → get_or (map (λ (r : Linear × Kind). r.0) rows) (number_of t k rows) z ≡ t
 term-at t k [] z h = cc
-term-at t k (f ∷ fs) z h = elim (true_or_false (same_row t k f.term f.kind)) [
-  | inl e ↦ ap (λ n. get_or (map form_term (f ∷ fs)) n z) (number-first t k (form_view f) (map form_view fs) e) ∙ sym (row-is t k f.term f.kind e).0
+term-at t k (r ∷ rows) z h = elim (true_or_false (same_row t k r.0 r.1)) [
+  | inl e ↦ ap (λ n. get_or (map (λ (q : Linear × Kind). q.0) (r ∷ rows)) n z) (number-first t k r rows e) ∙ sym (row-is t k r.0 r.1 e).0
   | inr e ↦
-      let n : 1 + number_of t k (map form_view fs) ≡ suc (number_of t k (map form_view fs)) = omega arith in
-      ap (λ n. get_or (map form_term (f ∷ fs)) n z) (number-later t k (form_view f) (map form_view fs) e ∙ n) ∙ term-at t k fs z (or-later _ _ e h)
+      let n : 1 + number_of t k rows ≡ suc (number_of t k rows) = omega arith in
+      ap (λ n. get_or (map (λ (q : Linear × Kind). q.0) (r ∷ rows)) n z) (number-later t k r rows e ∙ n) ∙ term-at t k rows z (or-later _ _ e h)
 ]
 
 entry-by : (t : Linear) (d : Present) (u : Linear) → u ≡ t → ◌≡◌ {A = Entry} (record { term = u; kind = d.kind; origin = d.origin; number = d.number }) (record { term = t; kind = d.kind; origin = d.origin; number = d.number })

@@ -16,7 +16,6 @@ use Rattle.cap_fm.specs.declared.entry.Arisen.{Arisen}
 use Rattle.cap_fm.specs.declared.entry.Arisen.TheVariants.{LeftOut, Kept, False}
 use Rattle.cap_fm.specs.declared.entry.Reached.{Reached}
 use Rattle.cap_fm.specs.declared.entry.Reached.TheVariants.{Rows, Contradiction}
-use Rattle.cap_fm.specs.declared.stage.Form.{Form}
 use Rattle.cap_fm.specs.declared.stage.Stage.{Stage}
 
 abbrev pub origin_view : Origin → plain.Origin
@@ -38,7 +37,7 @@ false_view d = plain.entry (linear.number d.constant) d.kind d.origin
 
 -- the term of the row of a number among those that arose, and 0 for a number that no row has
 abbrev pub term_of : Stage → ℕ → Linear
-term_of s n = get_or (map (λ (f : Form). f.term) s.forms.keys) n s.zero
+term_of s n = get_or (map (λ f. f.0) s.forms.keys) n s.zero
 
 -- a row that is present, with the term that the stage has of it
 abbrev pub entry_of : Stage → Present → Entry
@@ -56,11 +55,8 @@ abbrev pub reached_view : Stage → Reached → Found (List plain.Entry)
 reached_view s (Rows ds) = going (entries_view (entries_of s ds.items))
 reached_view s (Contradiction d) = contradiction (false_view d)
 
-abbrev pub form_view : Form → Linear × Kind
-form_view f = (f.term, f.kind)
-
 abbrev pub stage_view : Stage → plain.Stage
-stage_view s = record { arisen = map form_view s.forms.keys; history = history_view s.history.items }
+stage_view s = record { arisen = s.forms.keys; history = history_view s.history.items }
 
 -- the number of a row among those that arose
 abbrev pub number_of : Linear → Kind → List (Linear × Kind) → ℕ

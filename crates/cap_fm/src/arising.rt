@@ -13,7 +13,7 @@ use cap_lin::{Kind, Row, Term};
 use std::alloc::Global;
 
 /// An input row arises, which has this number. A row Ne takes no part.
-pub fn input(alloc: Global, stage: &mut Stage, row: &Row, number: u32) -> Result<Arisen, SolveError>
+pub fn input<'a>(stage: &mut Stage<'a>, row: &'a Row, number: u32) -> Result<Arisen, SolveError>
     ensures { (inputs : ℕ) (present : List Entry) →
         Fits inputs stage.old present → number < inputs →
         DoesArise inputs stage.old stage.new present
@@ -22,15 +22,14 @@ pub fn input(alloc: Global, stage: &mut Stage, row: &Row, number: u32) -> Result
 {
     match row.kind {
         Kind::Ne => Ok(Arisen::LeftOut),
-        kind => given(alloc, stage, &row.term, kind, number),
+        kind => given(stage, &row.term, kind, number),
     }
 }
 
 // An input row is counted, and then looked at.
-fn given(
-    alloc: Global,
-    stage: &mut Stage,
-    term: &Term,
+fn given<'a>(
+    stage: &mut Stage<'a>,
+    term: &'a Term,
     kind: Kind,
     number: u32,
 ) -> Result<Arisen, SolveError>
@@ -39,7 +38,7 @@ fn given(
         DoesArise inputs stage.old stage.new present
         (arise_given (entries_view present) term.now kind number (stage_view stage.old)) result }
 {
-    let place = stage.count(term.copy(alloc)?, kind)?;
+    let place = stage.count_given(term, kind)?;
     if stage.is_present(place) {
         return Ok(Arisen::LeftOut);
     }
@@ -90,7 +89,7 @@ fn counted(stage: &mut Stage, term: Term, kind: Kind, origin: Origin) -> Result<
         (stage_view stage.old))
         result }
 {
-    let place = stage.count(term, kind)?;
+    let place = stage.count_made(term, kind)?;
     if stage.is_present(place) {
         Ok(Arisen::LeftOut)
     } else {

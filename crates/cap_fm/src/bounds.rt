@@ -10,26 +10,27 @@ use crate::entry::{Arisen, FalseRow, Present, Reached, strictest};
 use crate::equations::{leave_all, negated};
 use crate::error::SolveError;
 use crate::stage::Stage;
+use bumpalo::Bump;
 use std::alloc::{AllocError, Global};
 
 // The rows without a variable, those with a positive coefficient of it, and those with a negative one.
 #[derive(Drop)]
-struct Parted {
-    without: Vec<Present>,
-    uppers: Vec<Present>,
-    lowers: Vec<Present>,
+struct Parted<'a> {
+    without: Vec<Present, &'a Bump>,
+    uppers: Vec<Present, &'a Bump>,
+    lowers: Vec<Present, &'a Bump>,
 }
 
 /// Combines each row with a positive coefficient of the variable with each with a negative one, and
 /// takes the rows with the variable out.
-pub fn by_bounds(
+pub fn by_bounds<'a>(
     alloc: Global,
-    stage: &mut Stage,
-    rows: Vec<Present>,
+    stage: &mut Stage<'a>,
+    rows: Vec<Present, &'a Bump>,
     variable: u32,
-) -> Result<Reached, SolveError>
-    ensures { (inputs : ℕ) → Fits inputs stage.old (entries_of stage.old rows.items) →
-        DoesReach inputs stage.new (AllBounds variable (entries_of stage.old rows.items) stage.old)
+) -> Result<Reached<'a>, SolveError>
+    ensures { (inputs : ℕ) → Fits inputs stage.old (entries_of stage.old rows.entry.items) →
+        DoesReach inputs stage.new (AllBounds variable (entries_of stage.old rows.entry.items) stage.old)
         result }
 {
     leave_all(stage, &rows, variable);
@@ -37,7 +38,7 @@ pub fn by_bounds(
         without,
         uppers,
         lowers,
-    } = part(alloc, stage, rows, variable)?;
+    } = part(stage, rows, variable)?;
     let mut kept = without;
     for upper in &uppers {
         let upper = *upper;
@@ -48,22 +49,21 @@ pub fn by_bounds(
     Ok(Reached::Rows(kept))
 }
 
-fn part(
-    alloc: Global,
-    stage: &Stage,
-    rows: Vec<Present>,
+fn part<'a>(
+    stage: &Stage<'a>,
+    rows: Vec<Present, &'a Bump>,
     variable: u32,
-) -> Result<Parted, AllocError>
+) -> Result<Parted<'a>, AllocError>
     ensures without { IfOk result (λ p. entries_of stage.now p.without.items
-        ≡ lacking_rows variable (entries_of stage.now rows.items)) }
+        ≡ lacking_rows variable (entries_of stage.now rows.entry.items)) }
     ensures uppers { IfOk result (λ p. entries_of stage.now p.uppers.items
-        ≡ upper_rows variable (entries_of stage.now rows.items)) }
+        ≡ upper_rows variable (entries_of stage.now rows.entry.items)) }
     ensures lowers { IfOk result (λ p. entries_of stage.now p.lowers.items
-        ≡ lower_rows variable (entries_of stage.now rows.items)) }
+        ≡ lower_rows variable (entries_of stage.now rows.entry.items)) }
 {
-    let mut without = Vec::new(alloc);
-    let mut uppers = Vec::new(alloc);
-    let mut lowers = Vec::new(alloc);
+    let mut without = Vec::new(stage.bump());
+    let mut uppers = Vec::new(stage.bump());
+    let mut lowers = Vec::new(stage.bump());
     for row in rows {
         let coefficient = stage.term(row.number).coefficient(variable);
         if coefficient == 0 {
@@ -85,7 +85,7 @@ fn part(
 fn combine_each(
     alloc: Global,
     stage: &mut Stage,
-    kept: &mut Vec<Present>,
+    kept: &mut Vec<Present, &Bump>,
     upper: Present,
     lowers: &[Present],
     variable: u32,

@@ -13,9 +13,15 @@ use crate::error::SolveError;
 use crate::leaf::leaf;
 use crate::numbered::numbered_row;
 use crate::stage::Stage;
+use bumpalo::Bump;
 use cap_farkas::Multipliers;
 use cap_lin::Row;
 use std::alloc::Global;
+
+// How many bytes an elimination of few rows takes, and how many more for each row.
+const ROOM: usize = 512;
+
+const ROOM_OF_ROW: usize = 160;
 
 /// Eliminates the variables of the rows that are not Ne, of rows and more rows behind them: the leaf of
 /// a contradiction, if there is one.
@@ -24,19 +30,21 @@ pub fn refuted(alloc: Global, rows: &[Row], more: &[Row]) -> Result<Option<Multi
     requires ascend { RowsAscend rows.now }
     ensures { IsLogged result (refuted_log (rows.now ++ more.now)) }
 {
-    let mut stage = Stage::with_room(alloc, rows.len() + more.len())?;
+    let count = rows.len() + more.len();
+    let bump = Bump::try_with_capacity(alloc, ROOM + ROOM_OF_ROW * count)?;
+    let mut stage = Stage::with_room(alloc, &bump, count)?;
     match eliminated(alloc, &mut stage, rows, more)? {
         Reached::Rows(_) => Ok(None),
         Reached::Contradiction(row) => Ok(Some(leaf(alloc, rows, more, stage.history(), row)?)),
     }
 }
 
-fn eliminated(
+fn eliminated<'a>(
     alloc: Global,
-    stage: &mut Stage,
-    rows: &[Row],
-    more: &[Row],
-) -> Result<Reached, SolveError>
+    stage: &mut Stage<'a>,
+    rows: &'a [Row],
+    more: &'a [Row],
+) -> Result<Reached<'a>, SolveError>
     requires few { length rows.now + length more.now ≤ 2 ^ 32 }
     requires ascend { RowsAscend rows.now }
     ensures { Fits (length (rows.now ++ more.now)) stage.old [] →
@@ -64,22 +72,22 @@ pub fn terms_ascend(rows: &[Row])
 }
 
 // The input rows arise, one by one.
-fn inputs(
+fn inputs<'a>(
     alloc: Global,
-    stage: &mut Stage,
-    rows: &[Row],
-    more: &[Row],
-) -> Result<Reached, SolveError>
+    stage: &mut Stage<'a>,
+    rows: &'a [Row],
+    more: &'a [Row],
+) -> Result<Reached<'a>, SolveError>
     requires { length rows.now + length more.now ≤ 2 ^ 32 }
     ensures { Fits (length (rows.now ++ more.now)) stage.old [] →
         DoesReach (length (rows.now ++ more.now)) stage.new
         (inputs_run [] 0 (rows.now ++ more.now) (stage_view stage.old)) result }
 {
     let count = rows.len() + more.len();
-    let mut entries = Vec::with_capacity(alloc, count)?;
+    let mut entries = Vec::with_capacity(stage.bump(), count)?;
     for i in 0..count {
         let row = numbered_row(rows, more, i);
-        match input(alloc, stage, row, i as u32)? {
+        match input(stage, row, i as u32)? {
             Arisen::LeftOut => {}
             Arisen::Kept(row) => entries.push(row)?,
             Arisen::False(row) => return Ok(Reached::Contradiction(row)),
@@ -90,9 +98,13 @@ fn inputs(
 
 // While an equation has a variable with the coefficient 1 or -1, the variable is replaced by it.
 // Each turn takes out a row, so there are no more turns than rows.
-fn by_units(alloc: Global, stage: &mut Stage, rows: Vec<Present>) -> Result<Reached, SolveError>
-    ensures { (inputs : ℕ) → Fits inputs stage.old (entries_of stage.old rows.items) →
-        DoesReach inputs stage.new (AllUnits (entries_of stage.old rows.items) stage.old) result }
+fn by_units<'a>(
+    alloc: Global,
+    stage: &mut Stage<'a>,
+    rows: Vec<Present, &'a Bump>,
+) -> Result<Reached<'a>, SolveError>
+    ensures { (inputs : ℕ) → Fits inputs stage.old (entries_of stage.old rows.entry.items) →
+        DoesReach inputs stage.new (AllUnits (entries_of stage.old rows.entry.items) stage.old) result }
 {
     let mut rows = rows;
     for _turn in 0..rows.len() {
@@ -108,10 +120,14 @@ fn by_units(alloc: Global, stage: &mut Stage, rows: Vec<Present>) -> Result<Reac
 }
 
 // Each variable that still occurs, in ascending order, is eliminated.
-fn by_variables(alloc: Global, stage: &mut Stage, rows: Vec<Present>) -> Result<Reached, SolveError>
-    ensures { (inputs : ℕ) → Fits inputs stage.old (entries_of stage.old rows.items) →
-        AreRows (entries_of stage.old rows.items) →
-        DoesReach inputs stage.new (AllVariables (entries_of stage.old rows.items) stage.old)
+fn by_variables<'a>(
+    alloc: Global,
+    stage: &mut Stage<'a>,
+    rows: Vec<Present, &'a Bump>,
+) -> Result<Reached<'a>, SolveError>
+    ensures { (inputs : ℕ) → Fits inputs stage.old (entries_of stage.old rows.entry.items) →
+        AreRows (entries_of stage.old rows.entry.items) →
+        DoesReach inputs stage.new (AllVariables (entries_of stage.old rows.entry.items) stage.old)
         result }
 {
     let mut rows = rows;
@@ -150,15 +166,15 @@ fn lesser(a: Option<u32>, b: Option<u32>) -> Option<u32>
     }
 }
 
-fn by_variable(
+fn by_variable<'a>(
     alloc: Global,
-    stage: &mut Stage,
-    rows: Vec<Present>,
+    stage: &mut Stage<'a>,
+    rows: Vec<Present, &'a Bump>,
     variable: u32,
-) -> Result<Reached, SolveError>
-    ensures { (inputs : ℕ) → Fits inputs stage.old (entries_of stage.old rows.items) →
+) -> Result<Reached<'a>, SolveError>
+    ensures { (inputs : ℕ) → Fits inputs stage.old (entries_of stage.old rows.entry.items) →
         DoesReach inputs stage.new
-        (by_variable_run variable (entries_view (entries_of stage.old rows.items))
+        (by_variable_run variable (entries_view (entries_of stage.old rows.entry.items))
         (stage_view stage.old))
         result }
 {

@@ -2,6 +2,7 @@ ghost use Rattle.std.specs.Prelude.{◌≡◌};
 ghost use Rattle.cap_elim.specs.Rows.{is_false as is_false_kind};
 ghost use Rattle.cap_elim.specs.Elimination.{strictest as strictest_kind};
 
+use bumpalo::Bump;
 use cap_lin::Kind;
 
 /// Where a row comes from.
@@ -45,10 +46,10 @@ pub enum Arisen {
 }
 
 /// Where an elimination has come to: the rows that are present, in order, or a false row.
-#[derive(Debug, Drop)]
-pub enum Reached {
+#[derive(Drop)]
+pub enum Reached<'a> {
     /// The rows that are present.
-    Rows(Vec<Present>),
+    Rows(Vec<Present, &'a Bump>),
     /// A false row, which ends the elimination.
     Contradiction(FalseRow),
 }

@@ -10,6 +10,7 @@ use crate::arising::combine;
 use crate::entry::{Arisen, Present, Reached};
 use crate::error::SolveError;
 use crate::stage::Stage;
+use bumpalo::Bump;
 use cap_lin::Kind;
 use std::alloc::Global;
 
@@ -97,16 +98,16 @@ fn variable_of(stage: &Stage, row: Present, variable: u32) -> Option<u32>
 }
 
 /// Replaces the variable of an equation in the other rows, and takes the equation out.
-pub fn by_equation(
+pub fn by_equation<'a>(
     alloc: Global,
-    stage: &mut Stage,
-    rows: Vec<Present>,
+    stage: &mut Stage<'a>,
+    rows: Vec<Present, &'a Bump>,
     pivot: Pivot,
-) -> Result<Reached, SolveError>
+) -> Result<Reached<'a>, SolveError>
     requires { pivot.place < length rows.items }
     ensures { (inputs : ℕ) (before after : List Entry) (equation : Entry) →
-        Fits inputs stage.old (entries_of stage.old rows.items) →
-        entries_of stage.old rows.items ≡ before ++ (equation ∷ after) →
+        Fits inputs stage.old (entries_of stage.old rows.entry.items) →
+        entries_of stage.old rows.entry.items ≡ before ++ (equation ∷ after) →
         pivot.place ≡ length before →
         is_zero (coefficient pivot.variable equation.term.parts) ≡ false →
         DoesReach inputs stage.new
@@ -132,24 +133,24 @@ pub fn leave_all(stage: &mut Stage, rows: &[Present], variable: u32)
     }
 }
 
-fn replace_all(
+fn replace_all<'a>(
     alloc: Global,
-    stage: &mut Stage,
-    rows: Vec<Present>,
+    stage: &mut Stage<'a>,
+    rows: Vec<Present, &'a Bump>,
     equation: Present,
     variable: u32,
-) -> Result<Reached, SolveError>
+) -> Result<Reached<'a>, SolveError>
     ensures { (inputs : ℕ) →
-        Fits inputs stage.old (lacking_rows variable (entries_of stage.old rows.items)) →
-        AreNumbered stage.old (entries_of stage.old rows.items) →
+        Fits inputs stage.old (lacking_rows variable (entries_of stage.old rows.entry.items)) →
+        AreNumbered stage.old (entries_of stage.old rows.entry.items) →
         IsNumbered stage.old (entry_of stage.old equation) →
         DoesReach inputs stage.new
         (replace_all_run variable (entry_view (entry_of stage.old equation)) []
-        (entries_view (entries_of stage.old rows.items)) (stage_view stage.old))
+        (entries_view (entries_of stage.old rows.entry.items)) (stage_view stage.old))
         result }
 {
     let coefficient = stage.term(equation.number).coefficient(variable);
-    let mut replaced = Vec::with_capacity(alloc, rows.len())?;
+    let mut replaced = Vec::with_capacity(stage.bump(), rows.len())?;
     for row in rows {
         let own = stage.term(row.number).coefficient(variable);
         if own == 0 {

@@ -1,60 +1,185 @@
 ghost use Rattle.std.specs.Prelude.{◌≡◌, ◌<◌, [], ℕ, List, get_or, false, true, IfOk};
 ghost use Rattle.cap_elim.specs.Runs.{at_first};
 ghost use Rattle.cap_fm.specs.Entries.{Entry};
+ghost use Rattle.cap_fm.specs.Forms.{digest_of, low_word, mixed, with_part};
 ghost use Rattle.cap_fm.specs.Views.{stage_view, term_of, Fits};
 ghost use Rattle.cap_fm.specs.Answers.{DoesCount, Remarks, Notes};
 
 use crate::entry::Origin;
 use crate::error::SolveError;
+use bumpalo::Bump;
 use cap_lin::{Kind, Term};
 use indexmap::IndexSet;
 use std::alloc::{AllocError, Global};
+use std::hash::{BuildHasherDefault, FoldHasher, Hash, Hasher};
+use std::marker::Model;
 
 /// How many rows one elimination may have.
 const LIMIT: usize = 4096;
 
+const LOW_WORD: u128 = 0xFFFF_FFFF_FFFF_FFFF;
+
+const MULTIPLIER: u64 = 0x9E37_79B9_7F4A_7C15;
+
+// An input row lends its term, and a combination has its own.
+#[derive(Drop)]
+enum FormTerm<'a> {
+    Given(&'a Term),
+    Made(Box<Term, &'a Bump>),
+}
+
 // A row as it is compared with others: the sort plays no part.
-#[derive(Debug, PartialEq, Eq, Hash, Drop)]
-struct Form {
+#[derive(Drop)]
+struct Form<'a> {
     kind: Kind,
-    term: Term,
+    term: FormTerm<'a>,
+}
+
+impl<'a> Model for Form<'a> {
+    ghost use Rattle.cap_lin.specs.Linear.{Linear};
+    ghost use Rattle.cap_lin.specs.declared.row.Kind.{Kind};
+    ghost use Rattle.cap_fm.specs.Terms.{form_term};
+
+    ghost Value = { Linear × Kind };
+
+    ghost view = { λ f. (form_term f.term, f.kind) };
+}
+
+impl<'a> PartialEq for Form<'a> {
+    ghost use Rattle.std.specs.Cmp.{partial_equiv_from_equiv};
+    ghost use Rattle.cap_fm.specs.Forms.{same_form};
+    ghost use Rattle.cap_fm.specs.Laws.Sameness.{same_form-equivalence};
+
+    ghost eq = { same_form };
+
+    ghost laws = { partial_equiv_from_equiv same_form-equivalence };
+
+    fn eq(&self, other: &Form<'a>) -> bool {
+        self.kind == other.kind && self.term() == other.term()
+    }
+}
+
+impl<'a> Eq for Form<'a> {
+    ghost use Rattle.cap_fm.specs.Laws.Sameness.{same_form-equivalence};
+
+    ghost laws = { same_form-equivalence };
+}
+
+// Of a term one word is hashed, since elimination asks for many rows.
+impl<'a> Hash for Form<'a> {
+    ghost use Rattle.std.specs.Hash as fed;
+    ghost use Rattle.std.specs.Hash.{same_Alike};
+    ghost use Rattle.cap_fm.specs.Forms.{digest_of};
+    ghost use Rattle.cap_fm.specs.Laws.Sameness.{same_form-decides};
+
+    ghost hash_input = { λ f. fed.u64 (digest_of f.0) };
+
+    ghost respects_eq = { (same_Alike _ same_form-decides).fed };
+
+    fn hash<H: Hasher>(&self, state: &mut H) {
+        state.write_u64(digest(self.term()));
+    }
+}
+
+impl<'a> Form<'a> {
+    fn term(&self) -> &Term
+        ensures { result.now ≡ self.now.0 }
+    {
+        match &self.term {
+            FormTerm::Given(term) => term,
+            FormTerm::Made(term) => term,
+        }
+    }
+}
+
+fn digest(term: &Term) -> u64
+    ensures { result ≡ digest_of term.now }
+{
+    let mut digest = low_word(term.constant_part());
+    for part in term.parts() {
+        digest = with_part(digest, *part);
+    }
+    digest
+}
+
+fn with_part(digest: u64, part: (u32, i128)) -> u64
+    ensures { result ≡ with_part digest part }
+{
+    let (variable, coefficient) = part;
+    mixed(mixed(digest, variable as u64), low_word(coefficient))
+}
+
+fn low_word(number: i128) -> u64
+    ensures { result ≡ low_word number }
+{
+    (number.cast_unsigned() & LOW_WORD) as u64
+}
+
+fn mixed(digest: u64, word: u64) -> u64
+    ensures { result ≡ mixed digest word }
+{
+    digest.wrapping_mul(MULTIPLIER).wrapping_add(word)
 }
 
 /// The rows that arose in an elimination, equal ones once, which of them are present, and where each
 /// row that was kept comes from.
 #[derive(Drop)]
-pub struct Stage {
-    forms: IndexSet<Form>,
+pub struct Stage<'a> {
+    forms: IndexSet<Form<'a>, BuildHasherDefault<FoldHasher>, &'a Bump>,
     // The term of a number that no row has.
     zero: Term,
-    present: Vec<bool>,
-    history: Vec<Origin>,
+    bump: &'a Bump,
+    present: Vec<bool, &'a Bump>,
+    history: Vec<Origin, &'a Bump>,
 }
 
-impl Stage {
+impl<'a> Stage<'a> {
     /// The stage before any row has arisen, with room for so many.
-    pub fn with_room(alloc: Global, rows: usize) -> Result<Stage, AllocError>
+    pub fn with_room(alloc: Global, bump: &'a Bump, rows: usize) -> Result<Stage<'a>, AllocError>
         ensures view { IfOk result (λ stage. stage_view stage ≡ at_first) }
         ensures fits { IfOk result (λ stage. (inputs : ℕ) → Fits inputs stage []) }
     {
-        let forms = IndexSet::with_capacity(alloc, rows)?;
-        let present = Vec::with_capacity(alloc, rows)?;
-        let history = Vec::with_capacity(alloc, rows)?;
+        let forms = IndexSet::with_capacity_and_hasher(bump, rows, BuildHasherDefault::new())?;
+        let present = Vec::with_capacity(bump, rows)?;
+        let history = Vec::with_capacity(bump, rows)?;
         Ok(Stage {
             forms,
             zero: Term::constant(alloc, 0),
+            bump,
             present,
             history,
         })
     }
 
-    /// Counts a row that arises, unless an equal one arose before, and gives its number. `Rows` comes
-    /// where it would be the 4,097th.
-    pub fn count(&mut self, term: Term, kind: Kind) -> Result<usize, SolveError>
+    /// The arena of the elimination.
+    pub fn bump(&self) -> &'a Bump {
+        self.bump
+    }
+
+    /// Counts an input row, unless an equal one arose before, and gives its number. `Rows` comes where
+    /// it would be the 4,097th.
+    pub fn count_given(&mut self, term: &'a Term, kind: Kind) -> Result<usize, SolveError>
+        ensures { (inputs : ℕ) (present : List Entry) → Fits inputs self.old present →
+            DoesCount inputs self.old self.new present term.now kind result }
+    {
+        let term = FormTerm::Given(term);
+        self.count_form(Form { kind, term })
+    }
+
+    /// Counts a combination, as `count_given` does an input row.
+    pub fn count_made(&mut self, term: Term, kind: Kind) -> Result<usize, SolveError>
         ensures { (inputs : ℕ) (present : List Entry) → Fits inputs self.old present →
             DoesCount inputs self.old self.new present term kind result }
     {
-        let (number, is_new) = self.forms.insert_full(Form { kind, term })?;
+        let term = FormTerm::Made(Box::new(self.bump, term)?);
+        self.count_form(Form { kind, term })
+    }
+
+    fn count_form(&mut self, form: Form<'a>) -> Result<usize, SolveError>
+        ensures { (inputs : ℕ) (present : List Entry) → Fits inputs self.old present →
+            DoesCount inputs self.old self.new present form.entry.0 form.entry.1 result }
+    {
+        let (number, is_new) = self.forms.insert_full(form)?;
         if is_new {
             if number >= LIMIT {
                 return Err(SolveError::Rows);
@@ -69,7 +194,7 @@ impl Stage {
         ensures { result.now ≡ term_of self.now number }
     {
         match self.forms.get_index(number) {
-            Some(form) => &form.term,
+            Some(form) => form.term(),
             None => self.no_term(),
         }
     }
