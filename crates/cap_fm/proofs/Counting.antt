@@ -1,17 +1,14 @@
 -- A row is counted: the set of forms, and the definition's list of rows that arose.
-use Rattle.std.proofs.Common.{◌≡◌, ℕ, ◌+◌, ◌<◌, ◌≤◌, nat_lt, List, [], ◌∷◌, ◌++◌, length, map, not, cond, arith, refl, subst, sym, ap, ◌∙◌, Bool, true, false, Some}
-use Rattle.std.specs.Prelude.{◌||◌, ◌&&◌, if◌then◌else◌}
-use Rattle.std.specs.List.{list_any, position_or_len}
-use Rattle.std.proofs.lemmas.List.{map-append}
+use Rattle.std.proofs.Common.{◌≡◌, ℕ, ◌+◌, ◌<◌, ◌≤◌, nat_lt, List, [], ◌∷◌, ◌++◌, length, not, arith, refl, subst, sym, ap, ◌∙◌, Bool, true, false, Some}
+use Rattle.std.specs.Prelude.{if◌then◌else◌}
 use Rattle.std.proofs.lemmas.Bool.Decides.{nat_tests}
 use Rattle.indexmap.specs.IndexSet.{insert_key}
-use Rattle.cap_lin.specs.Linear.{Linear, same_term}
+use Rattle.cap_lin.specs.Linear.{Linear}
 use Rattle.cap_lin.specs.declared.row.Kind.{Kind}
-use Rattle.cap_lin.specs.declared.row.Kind.TheVariants.{Le, Lt, Eq, Ne}
 use Rattle.cap_elim.specs.Events.{many, first_limit, counted}
 use Rattle.cap_elim.specs.Runs as plain
 use Rattle.cap_elim.specs.Runs.{going, done}
-use Rattle.cap_elim.specs.Rows.{same_kind, same_row, has_arisen, count}
+use Rattle.cap_elim.specs.Rows.{same_row, has_arisen, count}
 use Rattle.cap_fm.specs.Views.{history_view, stage_view, number_of, Fits}
 use Rattle.cap_fm.specs.Answers.{Is, IsCounted}
 use Rattle.cap_fm.specs.Entries.{Entry}

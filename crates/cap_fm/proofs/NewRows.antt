@@ -14,7 +14,7 @@ use Rattle.cap_elim.specs.Runs as plain
 use Rattle.cap_elim.specs.Runs.{Run, going, contradiction, done, results, Elimination, ◌>>=◌}
 use Rattle.cap_elim.specs.Rows.{same_row, has_arisen, is_present, is_false, are_some, has_parts, count, keep, fail, look, arise, arise_combined, combine}
 use Rattle.cap_fm.specs.Errors.{solve_error}
-use Rattle.cap_fm.specs.Views.{origin_view, history_view, stage_view, entry_view, entries_view, false_view, arisen_view, number_of, IsNumbered, AreNumbered, IsMarked, IsOrigin, IsHistory, Fits, IsLast, Grows}
+use Rattle.cap_fm.specs.Views.{origin_view, history_view, stage_view, entry_view, entries_view, number_of, IsNumbered, IsOrigin, IsHistory, Fits, IsLast, Grows}
 use Rattle.cap_fm.specs.Answers.{Is, Same, IsCounted, DoesArise, Explains, ExplainsSteps}
 use Rattle.cap_fm.specs.Entries.{Entry}
 use Rattle.cap_fm.specs.declared.entry.FalseRow.{FalseRow}

@@ -37,6 +37,10 @@ ExplainsSteps (error.Wide a b) steps = first_wide steps ≡ Some (a, b)
 ExplainsSteps error.Rows steps = ⊥
 ExplainsSteps error.OutOfMemory steps = Unit {0}
 
+-- the value, where no result on the way leaves 128 bits, and else an error that explains the first
+abbrev pub IsMadeBy : {A : Type 0} → List Step → A → Result A SolveError → Type 0
+IsMadeBy steps value r = MatchResult r (λ x. (first_wide steps ≡ None) × (x ≡ value)) (λ e. ExplainsSteps e steps)
+
 -- no event passes a limit, and what was found and the stage are those of the run
 pub record Is {A : Type 0} (what : Found A) (at : plain.Stage) (run : Run A) : Type 0 where
   pub within : first_limit run.events ≡ None

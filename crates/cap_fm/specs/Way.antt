@@ -44,12 +44,16 @@ unfoldable pub rising_steps : (ℕ → Bool) → (ℕ → Linear) → ℕ → Li
 rising_steps way terms place [] = []
 rising_steps way terms place (o ∷ os) = steps_at (way place) o terms ++ rising_steps way terms (place + 1) os
 
+-- the results of the multipliers of the row at a place
+abbrev pub steps_of : List Origin → ℕ → List Step
+steps_of history last = way_steps history (λ i. i == last)
+
 -- the marks of the rows on the way to the one at a place
 pub record IsWay (history : List Origin) (last : ℕ) (marks : List Bool) : Type 0 where
   pub long : length marks ≡ length history
   pub own : is_marked marks last ≡ true
   pub closed : IsClosed (is_marked marks) 0 history
-  pub steps : rising_steps (is_marked marks) (multipliers (reverse history)) 0 history ≡ way_steps (reverse history) (λ i. i == last)
+  pub steps : rising_steps (is_marked marks) (multipliers (reverse history)) 0 history ≡ steps_of (reverse history) last
 
 -- the term at a place
 abbrev pub term_at : List Linear → ℕ → Linear

@@ -1,8 +1,11 @@
 ghost use Rattle.cap_lin.specs.Linear.{coefficient};
 ghost use Rattle.std.specs.Prelude.{◌≡◌, ℕ, List, IfOk};
-ghost use Rattle.cap_elim.specs.Elimination.{combine_bounds as combine_bounds_run, combine_each as combine_each_run};
+ghost use Rattle.cap_elim.specs.Elimination.{combine_bounds as combine_bounds_run};
+ghost use Rattle.cap_elim.specs.Elimination.{combine_each as combine_each_run};
 ghost use Rattle.cap_fm.specs.Entries.{Entry};
-ghost use Rattle.cap_fm.specs.Views.{stage_view, entry_view, entries_view, term_of, entry_of, entries_of, lacking_rows, upper_rows, lower_rows, Fits, AreNumbered, IsNumbered};
+ghost use Rattle.cap_fm.specs.Views.{stage_view, entry_view, entries_view, term_of, entry_of};
+ghost use Rattle.cap_fm.specs.Views.{entries_of, lacking_rows, upper_rows, lower_rows, Fits};
+ghost use Rattle.cap_fm.specs.Views.{AreNumbered, IsNumbered};
 ghost use Rattle.cap_fm.specs.Answers.{AllBounds, DoesArise, DoesReach, DoesEach};
 
 use crate::arising::combine;
@@ -30,8 +33,8 @@ pub fn by_bounds<'a>(
     variable: u32,
 ) -> Result<Reached<'a>, SolveError>
     ensures { (inputs : ℕ) → Fits inputs stage.old (entries_of stage.old rows.entry.items) →
-        DoesReach inputs stage.new (AllBounds variable (entries_of stage.old rows.entry.items) stage.old)
-        result }
+        DoesReach inputs stage.new
+        (AllBounds variable (entries_of stage.old rows.entry.items) stage.old) result }
 {
     leave_all(stage, &rows, variable);
     let Parted {

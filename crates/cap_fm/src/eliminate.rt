@@ -1,9 +1,11 @@
 ghost use Rattle.std.specs.Prelude.{◌≤◌, ◌<◌, ◌+◌, ◌^◌, ◌++◌, [], ℕ, List, length};
-ghost use Rattle.cap_elim.specs.Elimination.{inputs as inputs_run, by_variable as by_variable_run, eliminated as eliminated_run};
+ghost use Rattle.cap_elim.specs.Elimination.{inputs as inputs_run, by_variable as by_variable_run};
+ghost use Rattle.cap_elim.specs.Elimination.{eliminated as eliminated_run};
 ghost use Rattle.cap_elim.specs.Solving.{RowsAscend, refuted as refuted_log};
 ghost use Rattle.cap_fm.specs.Entries.{Entry};
 ghost use Rattle.cap_fm.specs.Views.{stage_view, entries_view, entries_of, Fits};
-ghost use Rattle.cap_fm.specs.Answers.{AllUnits, AllVariables, DoesReach, IsLogged, IsLeast, AreRows};
+ghost use Rattle.cap_fm.specs.Answers.{AllUnits, AllVariables, DoesReach, IsLogged, IsLeast};
+ghost use Rattle.cap_fm.specs.Answers.{AreRows};
 
 use crate::arising::input;
 use crate::bounds::by_bounds;
@@ -104,7 +106,8 @@ fn by_units<'a>(
     rows: Vec<Present, &'a Bump>,
 ) -> Result<Reached<'a>, SolveError>
     ensures { (inputs : ℕ) → Fits inputs stage.old (entries_of stage.old rows.entry.items) →
-        DoesReach inputs stage.new (AllUnits (entries_of stage.old rows.entry.items) stage.old) result }
+        DoesReach inputs stage.new
+        (AllUnits (entries_of stage.old rows.entry.items) stage.old) result }
 {
     let mut rows = rows;
     for _turn in 0..rows.len() {

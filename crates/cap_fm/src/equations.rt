@@ -1,10 +1,14 @@
-ghost use Rattle.std.specs.Prelude.{◌≡◌, ◌<◌, ◌++◌, ◌∷◌, [], ℕ, ℤ, negsuc, ◌*ℤ◌, List, length, Some, None, false, IfSome, MatchResult};
+ghost use Rattle.std.specs.Prelude.{◌≡◌, ◌<◌, ◌++◌, ◌∷◌, [], ℕ, ℤ, negsuc, ◌*ℤ◌, List, length};
+ghost use Rattle.std.specs.Prelude.{Some, None, false, IfSome};
 ghost use Rattle.cap_lin.specs.Linear.{is_zero, coefficient};
-ghost use Rattle.cap_lin.specs.Steps.{product_of, first_wide};
-ghost use Rattle.cap_elim.specs.Elimination.{chosen, unit_variable as unit_variable_in, is_unit as is_unit_number, occurring, replacement, replace_all as replace_all_run};
+ghost use Rattle.cap_lin.specs.Steps.{product_of};
+ghost use Rattle.cap_elim.specs.Elimination.{chosen, unit_variable as unit_variable_in};
+ghost use Rattle.cap_elim.specs.Elimination.{is_unit as is_unit_number, occurring, replacement};
+ghost use Rattle.cap_elim.specs.Elimination.{replace_all as replace_all_run};
 ghost use Rattle.cap_fm.specs.Entries.{Entry};
-ghost use Rattle.cap_fm.specs.Views.{stage_view, entry_view, entries_view, term_of, entry_of, entries_of, lacking_rows, Fits, AreNumbered, IsNumbered};
-ghost use Rattle.cap_fm.specs.Answers.{DoesArise, DoesReach, Leaves, IsPivot, ExplainsSteps};
+ghost use Rattle.cap_fm.specs.Views.{stage_view, entry_view, entries_view, term_of, entry_of};
+ghost use Rattle.cap_fm.specs.Views.{entries_of, lacking_rows, Fits, AreNumbered, IsNumbered};
+ghost use Rattle.cap_fm.specs.Answers.{DoesArise, DoesReach, Leaves, IsPivot, IsMadeBy};
 
 use crate::arising::combine;
 use crate::entry::{Arisen, Present, Reached};
@@ -195,12 +199,10 @@ fn replace(
 
 /// -1 times a number.
 pub fn negated(number: i128) -> Result<i128, SolveError>
-    ensures { MatchResult result
-        (λ n. (first_wide (product_of (negsuc 0) number ∷ []) ≡ None) × (n ≡ negsuc 0 *ℤ number))
-        (λ e. ExplainsSteps e (product_of (negsuc 0) number ∷ [])) }
+    ensures { IsMadeBy (product_of (negsuc 0) number ∷ []) (negsuc 0 *ℤ number) result }
 {
-    match (-1_i128).checked_mul(number) {
-        Some(product) => Ok(product),
+    match number.checked_neg() {
+        Some(negative) => Ok(negative),
         None => Err(SolveError::Wide(-1, number)),
     }
 }

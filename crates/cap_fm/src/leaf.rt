@@ -1,10 +1,11 @@
-ghost use Rattle.std.specs.Prelude.{◌≡◌, ◌==◌, ◌<◌, ◌+◌, ◌++◌, map, length, MatchResult, IfOk, None, pos};
+ghost use Rattle.std.specs.Prelude.{◌≡◌, ◌<◌, ◌+◌, ◌++◌, map, length, IfOk, pos};
 ghost use Rattle.cap_lin.specs.Linear.{number, IsBelow};
-ghost use Rattle.cap_lin.specs.Steps.{first_wide};
-ghost use Rattle.cap_elim.specs.Leaf.{leaf as leaf_of, leaf_steps, multipliers_of, multipliers as multipliers_at, own_steps, way_steps, is_turned, turned as turned_of, turned_steps, check_steps};
+ghost use Rattle.cap_elim.specs.Leaf.{leaf as leaf_of, leaf_steps};
+ghost use Rattle.cap_elim.specs.Leaf.{multipliers as multipliers_at, multipliers_of, own_steps};
+ghost use Rattle.cap_elim.specs.Leaf.{is_turned, turned as turned_of, turned_steps, check_steps};
 ghost use Rattle.cap_fm.specs.Views.{origin_view, history_view, false_view, IsHistory};
-ghost use Rattle.cap_fm.specs.Answers.{ExplainsSteps};
-ghost use Rattle.cap_fm.specs.Way.{IsWay, AreEarlier, RowsBelow, with_rows, term_at};
+ghost use Rattle.cap_fm.specs.Answers.{IsMadeBy};
+ghost use Rattle.cap_fm.specs.Way.{IsWay, AreEarlier, RowsBelow, steps_of, with_rows, term_at};
 
 use crate::entry::{FalseRow, Origin};
 use crate::error::SolveError;
@@ -13,9 +14,9 @@ use cap_farkas::Multipliers;
 use cap_lin::{Kind, Row, Term};
 use std::alloc::{AllocError, Global};
 
-/// The leaf of a false row: its multiples of the input rows, which are rows and more behind them. Wide has the first result that leaves
-/// 128 bits: of the multipliers of the rows on the way, in the order in which these arose, of their
-/// negatives, and then of the sum by which the leaf is checked.
+/// The leaf of a false row: its multiples of the input rows, which are rows and more behind them.
+/// Wide has the first result that leaves 128 bits: of the multipliers of the rows on the way, in the
+/// order in which these arose, of their negatives, and then of the sum by which the leaf is checked.
 pub fn leaf(
     alloc: Global,
     rows: &[Row],
@@ -25,7 +26,10 @@ pub fn leaf(
 ) -> Result<Multipliers, SolveError>
     requires history { IsHistory (length (rows.now ++ more.now)) history.now }
     requires last { row.origin + 1 ≡ length history.now }
-    ensures { MatchResult result (λ m. (first_wide (leaf_steps (rows.now ++ more.now) (history_view history.now) (false_view row)) ≡ None) × (m ≡ (leaf_of (history_view history.now) (false_view row)).parts)) (λ e. ExplainsSteps e (leaf_steps (rows.now ++ more.now) (history_view history.now) (false_view row))) }
+    ensures { IsMadeBy
+        (leaf_steps (rows.now ++ more.now) (history_view history.now) (false_view row))
+        (leaf_of (history_view history.now) (false_view row)).parts
+        result }
 {
     let multipliers = multipliers(alloc, history, row.origin)?;
     let multipliers = turned(alloc, row.kind, row.constant, multipliers)?;
@@ -68,9 +72,10 @@ fn mark(way: &mut [bool], origin: Origin)
 fn multipliers(alloc: Global, history: &[Origin], last: usize) -> Result<Term, SolveError>
     requires history { AreEarlier 0 (map origin_view history.now) }
     requires last { last + 1 ≡ length history.now }
-    ensures { MatchResult result
-        (λ t. (first_wide (way_steps (history_view history.now) (λ i. i == last)) ≡ None) × (t ≡ multipliers_at (history_view history.now) last))
-        (λ e. ExplainsSteps e (way_steps (history_view history.now) (λ i. i == last))) }
+    ensures { IsMadeBy
+        (steps_of (history_view history.now) last)
+        (multipliers_at (history_view history.now) last)
+        result }
 {
     let way = way(alloc, history, last)?;
     let mut terms = Vec::with_capacity(alloc, history.len())?;
@@ -88,9 +93,10 @@ fn multipliers(alloc: Global, history: &[Origin], last: usize) -> Result<Term, S
 // The multipliers of a row, by those of the rows that it is a combination of.
 fn own(alloc: Global, origin: Origin, terms: &[Term]) -> Result<Term, SolveError>
     requires { RowsBelow (length terms.now) (origin_view origin) }
-    ensures { MatchResult result
-        (λ t. (first_wide (own_steps (origin_view origin) (term_at terms.now)) ≡ None) × (t ≡ multipliers_of (origin_view origin) (term_at terms.now)))
-        (λ e. ExplainsSteps e (own_steps (origin_view origin) (term_at terms.now))) }
+    ensures { IsMadeBy
+        (own_steps (origin_view origin) (term_at terms.now))
+        (multipliers_of (origin_view origin) (term_at terms.now))
+        result }
 {
     match origin {
         Origin::Given(number) => Ok(Term::var(alloc, number)?),
@@ -102,9 +108,10 @@ fn own(alloc: Global, origin: Origin, terms: &[Term]) -> Result<Term, SolveError
 
 // The multipliers, or for an equation with a negative constant their negatives.
 fn turned(alloc: Global, kind: Kind, constant: i128, multipliers: Term) -> Result<Term, SolveError>
-    ensures { MatchResult result
-        (λ t. (first_wide (turned_steps (is_turned kind constant) multipliers) ≡ None) × (t ≡ turned_of (is_turned kind constant) multipliers))
-        (λ e. ExplainsSteps e (turned_steps (is_turned kind constant) multipliers)) }
+    ensures { IsMadeBy
+        (turned_steps (is_turned kind constant) multipliers)
+        (turned_of (is_turned kind constant) multipliers)
+        result }
 {
     match kind {
         Kind::Eq => {
@@ -126,9 +133,10 @@ fn checked(
     multipliers: &Term,
 ) -> Result<Multipliers, SolveError>
     requires { IsBelow (length (rows.now ++ more.now)) multipliers.now }
-    ensures { MatchResult result
-        (λ m. (first_wide (check_steps (rows.now ++ more.now) (number (pos 0)) multipliers.now.parts) ≡ None) × (m ≡ multipliers.now.parts))
-        (λ e. ExplainsSteps e (check_steps (rows.now ++ more.now) (number (pos 0)) multipliers.now.parts)) }
+    ensures { IsMadeBy
+        (check_steps (rows.now ++ more.now) (number (pos 0)) multipliers.now.parts)
+        multipliers.now.parts
+        result }
 {
     let parts = multipliers.parts();
     let mut sum = Term::constant(alloc, 0);

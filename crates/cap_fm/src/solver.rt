@@ -1,5 +1,7 @@
-ghost use Rattle.std.specs.Prelude.{◌≡◌, ◌<◌, ◌-◌, ◌^◌, ◌++◌, ◌∷◌, [], IfOk, length, slice_get, Some};
-ghost use Rattle.cap_elim.specs.Solving.{RowsAscend, solved as solved_log, split as split_log, refuted as refuted_log};
+ghost use Rattle.std.specs.Prelude.{◌≡◌, ◌<◌, ◌-◌, ◌^◌, ◌++◌, ◌∷◌, [], IfOk, length, slice_get};
+ghost use Rattle.std.specs.Prelude.{Some};
+ghost use Rattle.cap_elim.specs.Solving.{RowsAscend, solved as solved_log, split as split_log};
+ghost use Rattle.cap_elim.specs.Solving.{refuted as refuted_log};
 ghost use Rattle.cap_fm.specs.Answers.{IsLogged};
 ghost use Rattle.cap_fm.specs.Solved.{IsSolved, IsCertified, IsTrueOf, HasSolution};
 
@@ -59,7 +61,8 @@ fn split(alloc: Global, rows: &[Row], place: usize) -> Result<Option<Cert>, Solv
     requires few { length rows.now < 2 ^ 32 - 1 }
     requires bound { place < length rows.now }
     requires ascend { RowsAscend rows.now }
-    ensures { (row : Row) → slice_get rows.now place ≡ Some row → IsLogged result (split_log rows.now place row.kind row.sort row.term) }
+    ensures { (row : Row) → slice_get rows.now place ≡ Some row →
+        IsLogged result (split_log rows.now place row.kind row.sort row.term) }
 {
     let row = &rows[place];
     match row.kind {
@@ -72,7 +75,8 @@ fn both_sides(alloc: Global, rows: &[Row], place: usize) -> Result<Option<Cert>,
     requires few { length rows.now < 2 ^ 32 - 1 }
     requires bound { place < length rows.now }
     requires ascend { RowsAscend rows.now }
-    ensures { (row : Row) → slice_get rows.now place ≡ Some row → IsLogged result (split_log rows.now place Kind.Ne row.sort row.term) }
+    ensures { (row : Row) → slice_get rows.now place ≡ Some row →
+        IsLogged result (split_log rows.now place Kind.Ne row.sort row.term) }
 {
     let row = &rows[place];
     let below = row.below_zero(alloc)?;

@@ -1,5 +1,5 @@
 -- Whether two rows are the same is a test that decides equality of term and kind, and so an equivalence.
-use Rattle.std.proofs.Common.{◌≡◌, refl, ap, Bool, true, false, Decides}
+use Rattle.std.proofs.Common.{◌≡◌, refl, Bool, true, false, Decides}
 use Rattle.std.specs.Prelude.{◌&&◌}
 use Rattle.std.specs.Cmp.{IsEquivalence, decided}
 use Rattle.cap_lin.specs.Linear.{Linear, same_term}
