@@ -4,7 +4,7 @@ use Rattle.std.specs.Prelude.{Result, Ok, Err}
 use Rattle.std.proofs.lemmas.List.{length-map}
 use Rattle.cap_prog.specs.Program.{PlainProgram}
 use Rattle.cap_logic.specs.Choices.{PlainTree}
-use Rattle.cap_logic.specs.Roots.{units, all_roots}
+use Rattle.cap_logic.specs.Roots.{all_roots}
 use Rattle.cap_goal.specs.declared.choice.Node.{Node}
 use Rattle.cap_check.specs.declared.error.CheckError.{CheckError}
 use Rattle.cap_check.specs.declared.error.CheckError.TheVariants.{Node as NodeFails, Shape, OutOfMemory}
@@ -14,8 +14,8 @@ use Rattle.cap_check.specs.Starts.{PlainStart, starts}
 use Rattle.cap_check.specs.Walks.{PlainWalk, goes_on, at_node, at_shape, passed, ended, VisitsStarts, IsEnd}
 use Rattle.cap_check.specs.Checks.{Concluded, Checked}
 use Rattle.cap_check.specs.Laws.{FaultyAreInvalid, Tells, WalksTell}
-use Rattle.cap_check.specs.Views.{Walked, walk_view, start_view, starts_view, tree_view}
-use Rattle.cap_check.proofs.Roots.{length-starts}
+use Rattle.cap_check.specs.Views.{Walked, walk_view, starts_view, tree_view}
+use Rattle.cap_check.proofs.Starting.{starts-many}
 
 pub end-concludes : (p : PlainProgram) (w : PlainWalk) (ts : List (Option PlainTree)) (ss : List PlainStart) (new : Walk) (r : Result (Unit {0}) CheckError) → w ≡ passed 0 → VisitsStarts p w ts ss (goes_on (walk_view new)) → Walked new r (λ o. o ≡ ended (walk_view new)) → Concluded r (IsEnd p ts ss)
 end-concludes p w ts ss new (Ok x) e v h = (walk_view new, (goes_on (walk_view new), subst (λ u. VisitsStarts p u ts ss (goes_on (walk_view new))) e v, h))
@@ -38,16 +38,13 @@ tells-checked p ts (Err (Shape k)) tell faulty same (m, v, a) =
     (t, (faulty p ts k).1 t)
 tells-checked p ts (Err OutOfMemory) tell faulty same h = tt
 
-many-roots : (p : PlainProgram) (ss : List Start) → starts_view ss ≡ starts p → length ss ≡ length (all_roots p)
-many-roots p ss e = sym (length-map ss start_view) ∙ (ap length e ∙ length-starts p (units p))
-
 pub concluded-checked : (p : PlainProgram) (ns : List (Option Node)) (ss : List Start) (r : Result (Unit {0}) CheckError) → WalksTell → FaultyAreInvalid → starts_view ss ≡ starts p → length ns ≡ length ss → Concluded r (IsEnd p (map tree_view ns) (starts_view ss)) → Checked p (map tree_view ns) r
 concluded-checked p ns ss r tell faulty e same h =
-    tells-checked p (map tree_view ns) r tell faulty (length-map ns tree_view ∙ (same ∙ many-roots p ss e)) (subst (λ x. Concluded r (IsEnd p (map tree_view ns) x)) e h)
+    tells-checked p (map tree_view ns) r tell faulty (length-map ns tree_view ∙ (same ∙ starts-many p ss e)) (subst (λ x. Concluded r (IsEnd p (map tree_view ns) x)) e h)
 
 pub miscounted-checked : (p : PlainProgram) (ns : List (Option Node)) (ss : List Start) → FaultyAreInvalid → starts_view ss ≡ starts p → length ns ≢ length ss → Checked p (map tree_view ns) (Err (Shape 1))
 miscounted-checked p ns ss faulty e other =
     (inl (refl, miscounted), (faulty p (map tree_view ns) 1).1 (inl (refl, miscounted)))
   where
     miscounted : length (map tree_view ns) ≢ length (all_roots p)
-    miscounted same = other (sym (length-map ns tree_view) ∙ (same ∙ sym (many-roots p ss e)))
+    miscounted same = other (sym (length-map ns tree_view) ∙ (same ∙ sym (starts-many p ss e)))

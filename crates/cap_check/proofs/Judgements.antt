@@ -2,25 +2,22 @@
 use Rattle.std.proofs.Common.{◌≡◌, ◌≢◌, inl, inr, ℕ, suc, ◌+◌, arith, List, [], ◌∷◌, ◌++◌, length, drop, Option, Some, None, refl, sym, ap, subst, ◌∙◌, append_assoc}
 use Rattle.std.specs.Prelude.{Result, Ok, Err, IfOk}
 use Rattle.std.specs.List.{AllByRecursion}
-use Rattle.std.proofs.lemmas.List.{append-nil, length-append, length-map}
+use Rattle.std.proofs.lemmas.List.{append-nil, length-append}
 use Rattle.cap_prog.specs.Program.{PlainProgram}
 use Rattle.cap_logic.specs.States.{PlainGoal}
 use Rattle.cap_logic.specs.Choices.{PlainChoice}
-use Rattle.cap_logic.specs.Roots.{units, all_roots}
+use Rattle.cap_logic.specs.Roots.{all_roots}
 use Rattle.cap_check.specs.declared.error.CheckError.{CheckError}
 use Rattle.cap_check.specs.declared.error.CheckError.TheVariants.{Node, Shape}
 use Rattle.cap_check.specs.Starts.{PlainStart, no_tasks, at_goal, barred, starts}
 use Rattle.cap_check.specs.Owed.{PlainDebt, debts_of, Pays, Replaces, OwedFrom, Owed, FailsNext, MisfitsNext, StopsAt}
 use Rattle.cap_check.specs.declared.start.Start.{Start}
-use Rattle.cap_check.specs.Views.{start_view, starts_view, StartIsKept}
+use Rattle.cap_check.specs.Views.{starts_view, StartIsKept}
 use Rattle.cap_check.specs.Debts.{DebtsAreKept, LeavesOwed}
 use Rattle.cap_check.specs.Judges.{Judged, PlainJudge, AreOwed, StaysJudged, StandsBy, Judges, JudgesNext, AnswersFor, with_fault, paid}
-use Rattle.cap_check.proofs.Roots.{length-starts}
+use Rattle.cap_check.proofs.Starting.{starts-many}
 
 -- ---- at the start
-
-starts-many : (p : PlainProgram) (ss : List Start) → starts_view ss ≡ starts p → length ss ≡ length (all_roots p)
-starts-many p ss e = sym (length-map ss start_view) ∙ (ap length e ∙ length-starts p (units p))
 
 pub begins : (p : PlainProgram) (trees : ℕ) (ss : List Start) (owed : List PlainDebt) → starts_view ss ≡ starts p → length ss ≡ trees → owed ≡ debts_of (starts_view ss) → Judges p trees [] (record { program = p; next = 1; owed = owed; fault = None })
 begins p trees ss owed e n o = record {

@@ -8,11 +8,11 @@ use Rattle.cap_logic.specs.Choices.{PlainChoice, PlainTree, node, PlainTrees, no
 use Rattle.cap_logic.specs.Roots.{units, all_roots}
 use Rattle.cap_rules.specs.Answers.{Subgoals}
 use Rattle.cap_rules.specs.Valid.{Derives, AllDerive, RootDerives}
-use Rattle.cap_check.specs.Starts.{PlainStart, no_tasks, at_goal, barred, start_of, starts}
+use Rattle.cap_check.specs.Starts.{PlainStart, no_tasks, at_goal, barred, start_of, starts, StartDerives}
 use Rattle.cap_check.specs.Owed.{choices_of, all_choices_of, preorder, PlainDebt, owes, debts_of, PaysAt, Replaces, OwedFrom, Owed, FailsNext, MisfitsNext, StopsAt, JudgedOk, JudgedShape}
 use Rattle.cap_check.specs.Laws.{HasTrees, JudgedAreValid}
 use Rattle.cap_check.proofs.Trees.{subgoals-one}
-use Rattle.cap_check.proofs.Roots.{StartDerives, derives-valid, narrow-starts, length-starts}
+use Rattle.cap_check.proofs.Roots.{derives-valid, narrow-starts, length-starts}
 
 -- ---- trees from choices
 
@@ -82,11 +82,11 @@ judged-sound p trees n cs (many, owed, e) =
 -- ---- choices from trees
 
 mutual
-  derives-owed : (t : PlainTree) (p : PlainProgram) (n : ℕ) (g : PlainGoal) (ds end : List PlainDebt) (cs : List PlainChoice) → Derives p (suc n) t g → OwedFrom p ds cs end → OwedFrom p (owes n g ∷ ds) (choices_of t ++ cs) end
+  pub derives-owed : (t : PlainTree) (p : PlainProgram) (n : ℕ) (g : PlainGoal) (ds end : List PlainDebt) (cs : List PlainChoice) → Derives p (suc n) t g → OwedFrom p ds cs end → OwedFrom p (owes n g ∷ ds) (choices_of t ++ cs) end
   derives-owed (node c ts) p n g ds end cs (le, gs, s, d) h =
       (map (owes (suc n)) gs ++ ds, (gs, (le, s), refl), all-owed ts p (suc n) gs ds end cs d h)
 
-  all-owed : (ts : PlainTrees) (p : PlainProgram) (n : ℕ) (gs : List PlainGoal) (ds end : List PlainDebt) (cs : List PlainChoice) → AllDerive (Subgoals p) (suc n) ts gs → OwedFrom p ds cs end → OwedFrom p (map (owes n) gs ++ ds) (all_choices_of ts ++ cs) end
+  pub all-owed : (ts : PlainTrees) (p : PlainProgram) (n : ℕ) (gs : List PlainGoal) (ds end : List PlainDebt) (cs : List PlainChoice) → AllDerive (Subgoals p) (suc n) ts gs → OwedFrom p ds cs end → OwedFrom p (map (owes n) gs ++ ds) (all_choices_of ts ++ cs) end
   all-owed no_trees p n [] ds end cs d h = h
   all-owed no_trees p n (g ∷ gs) ds end cs d h = absurd d
   all-owed (tree t ts) p n [] ds end cs d h = absurd d

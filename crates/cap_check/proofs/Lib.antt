@@ -10,3 +10,7 @@ pub mod Agreeing
 pub mod Judgements
 pub mod Stacks
 pub mod Rooms
+pub mod Growing
+pub mod Grown
+pub mod Unique
+pub mod Bundles

@@ -11,7 +11,7 @@ use Rattle.cap_logic.specs.States.{PlainGoal}
 use Rattle.cap_logic.specs.Choices.{PlainTree}
 use Rattle.cap_logic.specs.Roots.{PlainUnit, region_unit, function_unit, roots, roots_steps, region_roots, region_steps, case_root, case_steps, units, all_roots, all_roots_steps}
 use Rattle.cap_rules.specs.Valid.{deepest, Derives, RootDerives, Valid}
-use Rattle.cap_check.specs.Starts.{PlainStart, no_tasks, at_goal, barred, start_of, starts_unless, unit_starts, starts}
+use Rattle.cap_check.specs.Starts.{PlainStart, no_tasks, at_goal, barred, start_of, starts_unless, unit_starts, starts, StartDerives}
 use Rattle.cap_check.specs.Faults.{nodes_of, Fault, failed, left_over, missing, unrooted, HasFault, StartsFault, ShowsFault, TellsNode, TellsShape}
 use Rattle.cap_check.specs.Walks.{PlainWalk, Outcome, goes_on, at_node, at_shape, passed, next_of, After, unless_lacking, unrooted_at, VisitsStarts, ended}
 use Rattle.cap_check.specs.Laws.{FaultyAreInvalid, Tells, WalksTell}
@@ -19,13 +19,6 @@ use Rattle.cap_check.proofs.Telling.{Shows, With, Told, Within, true-false, both
 use Rattle.cap_check.proofs.Trees.{has-above, some-node, visits-within, tells-left, tells-pending, tells-missing, tells-none, visits-told, derives-fine}
 
 -- ---- derivations by starts
-
-abbrev pub StartDerives : PlainProgram → Option PlainTree → PlainStart → Type 0
-StartDerives p o barred = ⊥
-StartDerives p None no_tasks = Unit {0}
-StartDerives p (Some t) no_tasks = ⊥
-StartDerives p None (at_goal g) = ⊥
-StartDerives p (Some t) (at_goal g) = Derives p 1 t g
 
 abbrev IsOpen : PlainStart → Type 0
 IsOpen no_tasks = Unit {0}

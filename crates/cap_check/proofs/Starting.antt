@@ -2,18 +2,19 @@
 use Rattle.std.proofs.Common.{◌≡◌, ℕ, ◌+◌, ℤ, List, [], ◌∷◌, ◌++◌, length, map, flat_map, Option, Some, None, refl, sym, ap, subst, ◌∙◌, append_assoc, arith}
 use Rattle.std.specs.Prelude.{slice_get, replicate, Result, Ok, Err, IfOk}
 use Rattle.std.specs.List.{AllByRecursion, range_with_len}
-use Rattle.std.proofs.lemmas.List.{append-nil}
+use Rattle.std.proofs.lemmas.List.{append-nil, length-map}
 use Rattle.std.proofs.lemmas.List.FromFn.{map-range_with_len_more}
 use Rattle.std.proofs.lemmas.Grind.{flat_map-append}
 use Rattle.cap_lin.specs.Steps.{first_wide}
 use Rattle.cap_prog.specs.Program.{PlainProgram, PlainCase, PlainRegionType}
 use Rattle.cap_prog.specs.WellFormed.{IsWellFormed}
 use Rattle.cap_logic.specs.States.{PlainGoal}
-use Rattle.cap_logic.specs.Roots.{PlainUnit, region_unit, function_unit, roots, roots_steps, region_roots, case_root, units}
+use Rattle.cap_logic.specs.Roots.{PlainUnit, region_unit, function_unit, roots, roots_steps, region_roots, case_root, units, all_roots}
 use Rattle.cap_fits.specs.Kept.{RootIsKept, RootsAreKept}
 use Rattle.cap_check.specs.Starts.{PlainStart, barred, start_of, starts_unless, unit_starts, starts, cases_of, case_count}
-use Rattle.cap_check.specs.Views.{StartIsKept}
-use Rattle.cap_check.proofs.Roots.{no-steps}
+use Rattle.cap_check.specs.declared.start.Start.{Start}
+use Rattle.cap_check.specs.Views.{StartIsKept, start_view, starts_view}
+use Rattle.cap_check.proofs.Roots.{no-steps, length-starts}
 
 -- ---- a unit
 
@@ -84,3 +85,8 @@ units-kept p w law (u ∷ us) = each-join (StartIsKept p) (unit_starts p u) (fla
 pub all-kept : {T E : Type 0} (p : PlainProgram) (view : T → List PlainStart) (r : Result T E) → IsWellFormed p → RootsAreKept → IfOk r (λ v. view v ≡ starts p) → IfOk r (λ v. AllByRecursion (StartIsKept p) (view v))
 all-kept p view (Ok v) w law e = subst (AllByRecursion (StartIsKept p)) (sym e) (units-kept p w law (units p))
 all-kept p view (Err x) w law e = e
+
+-- ---- all roots
+
+pub starts-many : (p : PlainProgram) (ss : List Start) → starts_view ss ≡ starts p → length ss ≡ length (all_roots p)
+starts-many p ss e = sym (length-map ss start_view) ∙ (ap length e ∙ length-starts p (units p))

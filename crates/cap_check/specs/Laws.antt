@@ -56,3 +56,9 @@ abbrev pub JudgementsAreOne : Type 0
 JudgementsAreOne =
     (p : PlainProgram) (trees : ℕ) (cs : List PlainChoice) (a b : Result ℕ CheckError) →
     Judged p trees cs a → Judged p trees cs b → a ≡ b
+
+-- valid trees with the same choices in preorder are the same
+abbrev pub ValidTreesAreOne : Type 0
+ValidTreesAreOne =
+    (p : PlainProgram) (a b : List (Option PlainTree)) →
+    Valid p a → Valid p b → preorder a ≡ preorder b → a ≡ b

@@ -8,3 +8,5 @@ pub mod Owed
 pub mod Judges
 pub mod Debts
 pub mod JudgeViews
+pub mod Growths
+pub mod GrowthViews

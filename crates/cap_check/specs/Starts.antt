@@ -3,7 +3,9 @@ use Rattle.std.specs.Prelude.{ℕ, ℤ, List, length, map, slice_get, flat_map, 
 use Rattle.cap_lin.specs.Steps.{first_wide}
 use Rattle.cap_prog.specs.Program.{PlainProgram, PlainRegionType}
 use Rattle.cap_logic.specs.States.{PlainGoal}
+use Rattle.cap_logic.specs.Choices.{PlainTree}
 use Rattle.cap_logic.specs.Roots.{PlainUnit, region_unit, function_unit, roots, roots_steps, units}
+use Rattle.cap_rules.specs.Valid.{Derives}
 
 -- a root without tasks has no tree; where a term of a unit's roots leaves 128 bits, no choice
 -- applies at any of them
@@ -34,3 +36,11 @@ cases_of (Some k) = length k.cases
 abbrev pub case_count : PlainProgram → PlainUnit → ℕ
 case_count p (region_unit n) = cases_of (slice_get p.regions n)
 case_count p (function_unit n) = 0
+
+-- a tree of what stands at a root
+abbrev pub StartDerives : PlainProgram → Option PlainTree → PlainStart → Type 0
+StartDerives p o barred = ⊥
+StartDerives p None no_tasks = Unit {0}
+StartDerives p (Some t) no_tasks = ⊥
+StartDerives p None (at_goal g) = ⊥
+StartDerives p (Some t) (at_goal g) = Derives p 1 t g

@@ -1,6 +1,6 @@
 //! Laws of faults, walks and what is owed, each the contract of a function that does nothing.
 ghost use Rattle.cap_check.specs.Laws.{FaultyAreInvalid, JudgedAreValid};
-ghost use Rattle.cap_check.specs.Laws.{JudgementsAreOne, WalksTell};
+ghost use Rattle.cap_check.specs.Laws.{JudgementsAreOne, ValidTreesAreOne, WalksTell};
 
 /// Trees at which a node or a shape is told are not valid.
 pub fn faulty_are_invalid()
@@ -23,4 +23,9 @@ pub fn judged_are_valid()
 /// and otherwise by one node, or by the shape at one.
 pub fn judgements_are_one()
     ensures { JudgementsAreOne }
+{}
+
+/// Valid trees with the same choices in preorder are the same.
+pub fn valid_trees_are_one()
+    ensures { ValidTreesAreOne }
 {}
