@@ -4,7 +4,7 @@ use Rattle.std.proofs.lemmas.Int.{ints}
 use Rattle.cap_lin.specs.Linear.{Linear}
 use Rattle.cap_lin.specs.Rows.{row_of}
 use Rattle.cap_lin.specs.Values.{Valuation, denominator, value}
-use Rattle.cap_lin.specs.Solves.{number_of, Holds, Relates, IsWholeAt}
+use Rattle.cap_lin.specs.Solves.{value_by_sort, Holds, Relates, IsWholeAt}
 use Rattle.cap_lin.specs.declared.row.Row.{Row}
 use Rattle.cap_lin.specs.declared.row.Sort.{Sort}
 use Rattle.cap_lin.specs.declared.row.Sort.TheVariants.{Int}
@@ -70,14 +70,14 @@ pub record TermGiven (sc : Scope) (e : ℕ) (a v : Valuation) (s : PlainState) (
   pub after : PlainState
   pub term : Linear
   pub step : Step sc e a v s after
-  pub number_is : number_of o step.w term ≡ z
+  pub number_is : value_by_sort o step.w term ≡ z
   pub over : Over (Usable [] after.sorts o) term
   pub comes : P (pair after term)
 
 pub term-given :
     (sc : Scope) (e : ℕ) (a v : Valuation) (s : PlainState) (o : Sort) (t : Linear)
     (P : Pair Linear → Type 0) → Ready sc e a v s → TermFits sc o t → Comes (give_term s e o t) P →
-    TermGiven sc e a v s o (number_of o a t) P
+    TermGiven sc e a v s o (value_by_sort o a t) P
 term-given sc e a v s o t P r h c =
     let rest : PlainState → Attempt (Pair Linear) = λ s'. value_by (env_at s' e) t >>= λ u. unit
     (pair s' u) in
@@ -130,8 +130,8 @@ pub record SidesGiven (sc : Scope) (e : ℕ) (a v : Valuation) (s : PlainState) 
   pub left : Linear
   pub right : Linear
   pub step : Step sc e a v s after
-  pub left_is : number_of c.sort step.w left ≡ number_of c.sort a c.left
-  pub right_is : number_of c.sort step.w right ≡ number_of c.sort a c.right
+  pub left_is : value_by_sort c.sort step.w left ≡ value_by_sort c.sort a c.left
+  pub right_is : value_by_sort c.sort step.w right ≡ value_by_sort c.sort a c.right
   pub left_over : Over (Usable [] after.sorts c.sort) left
   pub right_over : Over (Usable [] after.sorts c.sort) right
   pub comes : P (pair after (left, right))
@@ -145,7 +145,7 @@ over-later s t o u m h =
 
 pub number-later :
     (s : PlainState) (v w : Valuation) (o : Sort) (u : Linear) → Agree (Old s) v w →
-    Over (Usable [] s.sorts o) u → number_of o w u ≡ number_of o v u
+    Over (Usable [] s.sorts o) u → value_by_sort o w u ≡ value_by_sort o v u
 number-later s v w o u g h =
     number-agree (Old s) v w g o u
     (vars-more (Usable [] s.sorts o) (Old s) (usable-old [] s.sorts o) u.parts h)
@@ -182,7 +182,7 @@ sides-given sc e a v s c P r h k =
 abbrev pub sides-row :
     (sc : Scope) (e : ℕ) (a v : Valuation) (s : PlainState) (c : Comp) (op : Op)
     (P : Pair (Linear × Linear) → Type 0) → (m : SidesGiven sc e a v s c P) →
-    Relates op (number_of c.sort a c.left) (number_of c.sort a c.right) →
+    Relates op (value_by_sort c.sort a c.left) (value_by_sort c.sort a c.right) →
     Step sc e a v s (row_added m.after (row_of m.left op m.right c.sort))
 sides-row sc e a v s c op P m h =
     step-row sc e a v s m.after (row_of m.left op m.right c.sort) m.step

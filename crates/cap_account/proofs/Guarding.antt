@@ -6,7 +6,7 @@ use Rattle.cap_lin.specs.Linear.{Linear, plus, minus}
 use Rattle.cap_lin.specs.Steps.{plus_steps, minus_steps}
 use Rattle.cap_lin.specs.Rows.{row_of}
 use Rattle.cap_lin.specs.Values.{Valuation, value, amount}
-use Rattle.cap_lin.specs.Solves.{number_of, Relates, Proves}
+use Rattle.cap_lin.specs.Solves.{value_by_sort, Relates, Proves}
 use Rattle.cap_lin.specs.declared.row.Sort.{Sort}
 use Rattle.cap_lin.specs.declared.row.Sort.TheVariants.{Int, Perm}
 use Rattle.cap_lin.specs.declared.row.Op.{Op}
@@ -85,7 +85,7 @@ pub record IsSettled (ks : List ℕ) (sc : Scope) (v : Valuation) (s : PlainStat
   pub is : x ≡ Is t
   pub over : Over (Usable ks s.sorts o) (term_in env t)
   pub number_is :
-      (X : Valuation) → Means sc v env X → number_of o v (term_in env t) ≡ number_of o X t
+      (X : Valuation) → Means sc v env X → value_by_sort o v (term_in env t) ≡ value_by_sort o X t
 
 settled-same : (t u : Linear) → settled t ≡ settled u → t ≡ u
 settled-same t u e = cc
@@ -122,7 +122,7 @@ settled-slot ks sc v s env (Is u) o t pl h e = by (is_determined env u) refl e
 pub proved-relates :
     (ks : List ℕ) (v : Valuation) (s : PlainState) (l : Linear) (op : Op) (r : Linear) (o : Sort) →
     Meets ks v s → Proves s.rows (row_of l op r o) → Over (Usable ks s.sorts o) l →
-    Over (Usable ks s.sorts o) r → Relates op (number_of o v l) (number_of o v r)
+    Over (Usable ks s.sorts o) r → Relates op (value_by_sort o v l) (value_by_sort o v r)
 proved-relates ks v s l op r o m h a b =
     (row_of-means v l op r o).0
     (proved-holds ks ks v s (row_of l op r o) m h (row-over (Usable ks s.sorts) l op r o a b))

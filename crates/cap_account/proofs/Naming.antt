@@ -5,7 +5,7 @@ use Rattle.std.specs.List.{list_all}
 use Rattle.std.proofs.lemmas.Bool.{cases_eq}
 use Rattle.cap_lin.specs.Linear.{Linear}
 use Rattle.cap_lin.specs.Values.{Valuation, denominator, parts_value, value, amount}
-use Rattle.cap_lin.specs.Solves.{number_of, Holds, Relates}
+use Rattle.cap_lin.specs.Solves.{value_by_sort, Holds, Relates}
 use Rattle.cap_lin.specs.declared.row.Sort.{Sort}
 use Rattle.cap_lin.specs.declared.row.Sort.TheVariants.{Int, Perm}
 use Rattle.cap_lin.specs.declared.row.Op.{Op}
@@ -190,7 +190,7 @@ names-of sc env o (p ∷ ps) h b = ((h.0, b.0), names-of sc env o ps h.1 b.1)
 number-names :
     (sc : Scope) (v : Valuation) (env : PlainEnv) (a : Valuation) (o : Sort) (t : Linear) →
     Means sc v env a → Vars (Names sc env o) t.parts →
-    number_of o (by_terms v (bound_term env)) t ≡ number_of o a t
+    value_by_sort o (by_terms v (bound_term env)) t ≡ value_by_sort o a t
 number-names sc v env a Int t m h =
     value-is (by_terms v (bound_term env)).whole t
     ∙ ap (λ z. t.constant +ℤ z)
@@ -221,7 +221,7 @@ term-over ks sc sorts env o t p h b =
 pub term-number :
     (sc : Scope) (v : Valuation) (env : PlainEnv) (a : Valuation) (o : Sort) (t : Linear) →
     Means sc v env a → TermFits sc o t → Vars (Bound env) t.parts →
-    number_of o v (term_in env t) ≡ number_of o a t
+    value_by_sort o v (term_in env t) ≡ value_by_sort o a t
 term-number sc v env a o t m h b =
     number-over o v (bound_term env) t ∙ number-names sc v env a o t m
     (names-of sc env o t.parts h b)
@@ -254,7 +254,7 @@ comp-over ks sc sorts env c op p h b =
 pub comp-holds :
     (sc : Scope) (v : Valuation) (env : PlainEnv) (a : Valuation) (c : Comp) (op : Op) →
     Means sc v env a → CompFits sc c → CompBound env c →
-    Relates op (number_of c.sort a c.left) (number_of c.sort a c.right) →
+    Relates op (value_by_sort c.sort a c.left) (value_by_sort c.sort a c.right) →
     Holds v (comp_row env op c)
 comp-holds sc v env a c op m h b k =
     (row_of-means v (term_in env c.left) op (term_in env c.right) c.sort).1
@@ -264,7 +264,7 @@ comp-holds sc v env a c op m h b k =
 pub comp-means :
     (sc : Scope) (v : Valuation) (env : PlainEnv) (a : Valuation) (c : Comp) (op : Op) →
     Means sc v env a → CompFits sc c → CompBound env c → Holds v (comp_row env op c) →
-    Relates op (number_of c.sort a c.left) (number_of c.sort a c.right)
+    Relates op (value_by_sort c.sort a c.left) (value_by_sort c.sort a c.right)
 comp-means sc v env a c op m h b k =
     relates-same op _ _ _ _ (term-number sc v env a c.sort c.left m h.0 b.left)
     (term-number sc v env a c.sort c.right m h.1 b.right)

@@ -8,7 +8,7 @@ use Rattle.cap_numbers.proofs.Ring.{expand, product3}
 use Rattle.cap_lin.specs.Linear.{Linear, is_zero, coefficient, plus, times, parts_without, without, replaced}
 use Rattle.cap_lin.specs.Steps.{replaced_steps}
 use Rattle.cap_lin.specs.Values.{Valuation, parts_value, value}
-use Rattle.cap_lin.specs.Solves.{number_of, HoldsAs, Holds, Proves, IsWholeAt, FitsSort}
+use Rattle.cap_lin.specs.Solves.{value_by_sort, HoldsAs, Holds, Proves, IsWholeAt, FitsSort}
 use Rattle.cap_lin.specs.declared.row.Row.{Row}
 use Rattle.cap_lin.specs.declared.row.Sort.TheVariants.{Int}
 use Rattle.cap_lin.proofs.Values.{value-nil, value-cons, value-plus, value-times}
@@ -283,7 +283,7 @@ module _ (k : PlainRegionType) (s : PlainState) (f : PlainFact) (a : PlainAction
 
   candidate-holds : (r : Row) → IsCandidate s r → HoldsAt v s b r → Holds w r
   candidate-holds r i h =
-      subst (λ o. HoldsAs r.kind (number_of o w r.term)) (sym i.0)
+      subst (λ o. HoldsAs r.kind (value_by_sort o w r.term)) (sym i.0)
       (subst (HoldsAs r.kind) (sym (first-at r.term i.1)) h)
 
   candidate-over : (r : Row) → IsCandidate s r → RowOver (Whole w) r
@@ -311,7 +311,7 @@ module _ (k : PlainRegionType) (s : PlainState) (f : PlainFact) (a : PlainAction
   target-holds : (r : Row) → IsCandidate s r → Holds w (row_at s target r) → HoldsAt v s c r
   target-holds r i h =
       let g : HoldsAs r.kind (value w.whole (replaced n target r.term)) =
-      subst (λ o. HoldsAs r.kind (number_of o w (replaced n target r.term))) i.0 h in
+      subst (λ o. HoldsAs r.kind (value_by_sort o w (replaced n target r.term))) i.0 h in
       subst (HoldsAs r.kind)
       (replaced-value w.whole n target r.term
       ∙ (ap (λ z. value (changed w.whole n z) r.term) sol.target_is ∙ same-at c r.term i.1)) g

@@ -5,7 +5,7 @@ use Rattle.std.specs.List.{AllByRecursion}
 use Rattle.std.proofs.lemmas.Int.{ints}
 use Rattle.cap_lin.specs.Linear.{Linear, number}
 use Rattle.cap_lin.specs.Values.{Valuation, denominator, parts_value, value}
-use Rattle.cap_lin.specs.Solves.{number_of, Relates, Holds, IsWholeAt, PartsWhole}
+use Rattle.cap_lin.specs.Solves.{value_by_sort, Relates, Holds, IsWholeAt, PartsWhole}
 use Rattle.cap_lin.specs.declared.row.Sort.{Sort}
 use Rattle.cap_lin.specs.declared.row.Sort.TheVariants.{Int, Perm}
 use Rattle.cap_lin.specs.declared.row.Op.{Op}
@@ -190,7 +190,7 @@ whole-parts v (p ∷ ps) h = (h.0, whole-parts v ps h.1)
 number-here :
     (v : Valuation) (s : PlainState) (store : List ℤ) (o : Sort) (t : Linear) → Meets [] v s →
     map (value v.whole) s.store ≡ store →
-    number_of o v (here s t) ≡ value_in store t *ℤ factor v o
+    value_by_sort o v (here s t) ≡ value_in store t *ℤ factor v o
 number-here v s store Int t m e = here-value v s store t e ∙ one (value_in store t)
   where
     one : (z : ℤ) → z ≡ z *ℤ pos 1
@@ -213,7 +213,7 @@ holds-here v s store c op m e h =
     let k = relates-times op (value_in store c.left) (value_in store c.right) (factor v c.sort)
     (factor-positive v c.sort) h in
     (row_of-means v (here s c.left) op (here s c.right) c.sort).1
-    (subst (λ z. Relates op z (number_of c.sort v (here s c.right))) (sym x)
+    (subst (λ z. Relates op z (value_by_sort c.sort v (here s c.right))) (sym x)
     (subst (λ z. Relates op (value_in store c.left *ℤ factor v c.sort) z) (sym y) k))
 
 pub row-here-over :
@@ -236,7 +236,7 @@ met-here v s store c m e h = by (holds store c) refl
         let r = here s c.right in
         let k = holds-here v s store c (opposite c.op) m e
         (unmet-relates c.op (value_in store c.left) (value_in store c.right) q) in
-        absurd (not-both c.op (number_of c.sort v l) (number_of c.sort v r)
+        absurd (not-both c.op (value_by_sort c.sort v l) (value_by_sort c.sort v r)
         ((row_of-means v l c.op r c.sort).0 h) ((row_of-means v l (opposite c.op) r c.sort).0 k))
 
 -- ---- what goes on

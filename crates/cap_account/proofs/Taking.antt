@@ -4,7 +4,7 @@ use Rattle.std.specs.Prelude.{slice_get, remove}
 use Rattle.cap_lin.specs.Linear.{Linear}
 use Rattle.cap_lin.specs.Rows.{row_of}
 use Rattle.cap_lin.specs.Values.{Valuation, value}
-use Rattle.cap_lin.specs.Solves.{number_of, Holds, Relates}
+use Rattle.cap_lin.specs.Solves.{value_by_sort, Holds, Relates}
 use Rattle.cap_lin.specs.declared.row.Row.{Row}
 use Rattle.cap_lin.specs.declared.row.Sort.TheVariants.{Int}
 use Rattle.cap_lin.specs.declared.row.Op.{Op}
@@ -160,11 +160,11 @@ module _ (p : Checked) (bare : p.program.regions ≡ []) (ks : List ℕ) (T : Ta
       let fs = fits-sides p.program sc (choose c x y) more f in
       let fx = all-first (ItemFits p.program sc) (all_items x) (all_items y) fs in
       let fy = all-second (ItemFits p.program sc) (all_items x) (all_items y) fs in
-      let row-holds : (op : Op) → Relates op (number_of c.sort v (term_in env c.left))
-      (number_of c.sort v (term_in env c.right)) → Holds v (comp_row env op c) =
+      let row-holds : (op : Op) → Relates op (value_by_sort c.sort v (term_in env c.left))
+      (value_by_sort c.sort v (term_in env c.right)) → Holds v (comp_row env op c) =
       (λ op h. (row_of-means v (term_in env c.left) op (term_in env c.right) c.sort).1 h) in
-      elim (relates-or c.op (number_of c.sort v (term_in env c.left))
-      (number_of c.sort v (term_in env c.right))) [
+      elim (relates-or c.op (value_by_sort c.sort v (term_in env c.left))
+      (value_by_sort c.sort v (term_in env c.right))) [
         | inl h ↦ side c.op x b kk.left kk.first (row-holds c.op h)
             (let u = append-size x more in omega (arith, le, u)) fx (λ a q m h t. inl (h, t))
         | inr h ↦ side (opposite c.op) y b kk.right kk.second (row-holds (opposite c.op) h)
@@ -178,8 +178,8 @@ module _ (p : Checked) (bare : p.program.regions ≡ []) (ks : List ℕ) (T : Ta
           (to_take (append_items z more) e l n ∷ ts) →
           Holds v (comp_row (env_at s e) op c) → items_size (append_items z more) ≤ size →
           AreFit p.program sc z →
-          ((a : Valuation) (q m : Hold) → Relates op (number_of c.sort a c.left)
-          (number_of c.sort a c.right) → Spends T a z q m → SpendsOne T a (choose c x y) q m) →
+          ((a : Valuation) (q m : Hold) → Relates op (value_by_sort c.sort a c.left)
+          (value_by_sort c.sort a c.right) → Spends T a z q m → SpendsOne T a (choose c x y) q m) →
           Taken p ks T sc e v s (item (choose c x y) more) ts
       side op z b ls hd2 holds small fz pack =
           let row = comp_row (env_at s e) op c in

@@ -7,7 +7,7 @@ use Rattle.std.proofs.lemmas.Int.{ints}
 use Rattle.cap_numbers.proofs.Ring.{expand, product3}
 use Rattle.cap_lin.specs.Linear.{Linear}
 use Rattle.cap_lin.specs.Values.{Valuation, denominator, parts_value, value, amount}
-use Rattle.cap_lin.specs.Solves.{number_of, HoldsAs, Holds, Relates, IsWholeAt}
+use Rattle.cap_lin.specs.Solves.{value_by_sort, HoldsAs, Holds, Relates, IsWholeAt}
 use Rattle.cap_lin.specs.declared.row.Row.{Row}
 use Rattle.cap_lin.specs.declared.row.Sort.{Sort}
 use Rattle.cap_lin.specs.declared.row.Sort.TheVariants.{Int, Perm}
@@ -77,14 +77,14 @@ like-amount sc a b l t h =
 
 pub like-relates :
     (sc : Scope) (a b : Valuation) → Like sc a b → (c : Comp) (op : Op) → CompFits sc c →
-    Relates op (number_of c.sort a c.left) (number_of c.sort a c.right) →
-    Relates op (number_of c.sort b c.left) (number_of c.sort b c.right)
+    Relates op (value_by_sort c.sort a c.left) (value_by_sort c.sort a c.right) →
+    Relates op (value_by_sort c.sort b c.left) (value_by_sort c.sort b c.right)
 like-relates sc a b l c op f h = by c.sort f.0 f.1 h
   where
     by :
         (o : Sort) → TermFits sc o c.left → TermFits sc o c.right →
-        Relates op (number_of o a c.left) (number_of o a c.right) →
-        Relates op (number_of o b c.left) (number_of o b c.right)
+        Relates op (value_by_sort o a c.left) (value_by_sort o a c.right) →
+        Relates op (value_by_sort o b c.left) (value_by_sort o b c.right)
     by Int f g k =
         relates-same op _ _ _ _ (sym (like-value sc a b l c.left f))
         (sym (like-value sc a b l c.right g)) k
@@ -267,8 +267,8 @@ row-scaled : (m : ℕ) (v : Valuation) (r : Row) → Holds v r → Holds (scaled
 row-scaled m v r h = by r.sort h
   where
     by :
-        (o : Sort) → HoldsAs r.kind (number_of o v r.term) →
-        HoldsAs r.kind (number_of o (scaled m v) r.term)
+        (o : Sort) → HoldsAs r.kind (value_by_sort o v r.term) →
+        HoldsAs r.kind (value_by_sort o (scaled m v) r.term)
     by Int h = h
     by Perm h =
         subst (HoldsAs r.kind) (sym (scaled-amount m v r.term))

@@ -4,7 +4,7 @@ use Rattle.std.specs.Prelude.{slice_get}
 use Rattle.std.specs.List.{AllByRecursion}
 use Rattle.cap_lin.specs.Linear.{Linear, variable}
 use Rattle.cap_lin.specs.Values.{Valuation, denominator, parts_value, value, amount}
-use Rattle.cap_lin.specs.Solves.{number_of, IsWholeAt}
+use Rattle.cap_lin.specs.Solves.{value_by_sort, IsWholeAt}
 use Rattle.cap_lin.specs.declared.row.Sort.{Sort}
 use Rattle.cap_lin.specs.declared.row.Sort.TheVariants.{Int, Perm}
 use Rattle.cap_prog.specs.Scopes.{Scope, HasSort, TermFits}
@@ -259,7 +259,7 @@ module _ (X : Valuation) (sc : Scope) (normal : (x : ℕ) → HasSort sc Int x �
 
   pub named-number :
       (w : Valuation) (ts : List Linear) (next : ℕ) → NamesOk w ts next → (o : Sort) (t : Linear) →
-      Vars (Low (length ts)) t.parts → number_of o w (named_term ts t) ≡ number_of o X t
+      Vars (Low (length ts)) t.parts → value_by_sort o w (named_term ts t) ≡ value_by_sort o X t
   named-number w ts next h Int t b = named-value w ts next h t b
   named-number w ts next h Perm t b = named-amount w ts next h t b
 

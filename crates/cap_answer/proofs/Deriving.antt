@@ -17,7 +17,7 @@ use Rattle.cap_report.specs.declared.report.Report.{Report}
 use Rattle.cap_report.specs.Report.{is_good}
 use Rattle.cap_report.specs.Found.{found_trees}
 use Rattle.cap_report.specs.Laws.{FoundAreValid}
-use Rattle.cap_report.specs.Views.{IsLeftBy, IsProvedBy}
+use Rattle.cap_report.specs.Views.{IsLeftBy, IsWhollyProvedBy}
 use Rattle.cap_answer.specs.declared.output.Output as code
 use Rattle.cap_answer.specs.Answers.{IsOnly, IsDerived}
 use Rattle.cap_answer.specs.Report.{IsReport}
@@ -43,7 +43,7 @@ module _ (budget : ℕ) (p : PlainProgram) where
       by q (inr (inl s)) = not_both (is_good p budget) s.good h.bad
       by q (inr (inr s)) = not_both (is_good p budget) s.good h.bad
 
-  module _ (b : Bundle) (h : IsProvedBy p budget b) where
+  module _ (b : Bundle) (h : IsWhollyProvedBy p budget b) where
     pub says_long : (HaveText (bundle_view b) → ⊥) → IsOnly (IsDerivation budget p) long_derivation_output
     says_long n =
         let long : HaveText (found_trees p budget) → ⊥ = subst (λ ts. HaveText ts → ⊥) h.trees n in

@@ -11,7 +11,7 @@ use Rattle.cap_farkas.specs.declared.cert.Cert.{Cert}
 use Rattle.cap_farkas.specs.declared.cert.Cert.TheVariants.{Leaf, Split}
 use Rattle.cap_deriv.specs.Reading.{data_items, below_limit, long_of_json, number_of_json, numbers_of_json, head_of_items, multiplier_text, multiplier_of_json, pair_of_items, pair_of_json, pairs_of_json, leaf_of_items, split_of_items, cert_of_items, cert_of_json, certs_of_json, mark_of_json, marks_of_json}
 use Rattle.cap_deriv.specs.Taking.{take_open, take_close, take_long, take_number, take_text, take_numbers, take_multiplier, take_pair, take_pairs, take_leaf, take_split, take_cert_by_word, take_opened_cert, take_cert, take_certs, take_mark, take_marks}
-use Rattle.cap_deriv.proofs.ReadAs.{with_rest, data_as, Reads, ReadsItems, no_object, long_reads, text_reads, then_reads, never, same_list, mapped, end_reads, item_reads, array_reads, all_read}
+use Rattle.cap_deriv.proofs.ReadAs.{with_rest, data_as, ReadsData, ReadsItems, no_object, long_reads, text_reads, then_reads, never, same_list, mapped, end_reads, item_reads, array_reads, all_read}
 
 -- ---- so many items
 
@@ -46,13 +46,13 @@ three_taken {A} k p q r ts = option_and_then (λ (a : A × List Token). two_take
 pub none_read : {C : Type 0} (k : C) (d : ℕ) → ReadsItems (of_none k) d (ended k)
 none_read k d = end_reads (of_none k) d (λ x xs. refl)
 
-pub one_read : {A C : Type 0} (k : A → C) (f : Data → Option A) (p : Parse A) (d : ℕ) → Reads f d p → ReadsItems (of_one k f) d (one_taken k p)
+pub one_read : {A C : Type 0} (k : A → C) (f : Data → Option A) (p : Parse A) (d : ℕ) → ReadsData f d p → ReadsItems (of_one k f) d (one_taken k p)
 one_read k f p d same = item_reads f (of_one k f) (λ a. of_none (k a)) (λ a. ended (k a)) d (λ x xs. refl) refl (λ a. none_read (k a) d) p same
 
-pub two_read : {A B C : Type 0} (k : A → B → C) (f : Data → Option A) (g : Data → Option B) (p : Parse A) (q : Parse B) (d : ℕ) → Reads f d p → Reads g d q → ReadsItems (of_two k f g) d (two_taken k p q)
+pub two_read : {A B C : Type 0} (k : A → B → C) (f : Data → Option A) (g : Data → Option B) (p : Parse A) (q : Parse B) (d : ℕ) → ReadsData f d p → ReadsData g d q → ReadsItems (of_two k f g) d (two_taken k p q)
 two_read k f g p q d same next = item_reads f (of_two k f g) (λ a. of_one (k a) g) (λ a. one_taken (k a) q) d (λ x xs. refl) refl (λ a. one_read (k a) g q d next) p same
 
-pub three_read : {A B C D : Type 0} (k : A → B → C → D) (f : Data → Option A) (g : Data → Option B) (h : Data → Option C) (p : Parse A) (q : Parse B) (r : Parse C) (d : ℕ) → Reads f d p → Reads g d q → Reads h d r
+pub three_read : {A B C D : Type 0} (k : A → B → C → D) (f : Data → Option A) (g : Data → Option B) (h : Data → Option C) (p : Parse A) (q : Parse B) (r : Parse C) (d : ℕ) → ReadsData f d p → ReadsData g d q → ReadsData h d r
     → ReadsItems (of_three k f g h) d (three_taken k p q r)
 three_read k f g h p q r d same next last = item_reads f (of_three k f g h) (λ a. of_two (k a) g h) (λ a. two_taken (k a) q r) d (λ x xs. refl) refl (λ a. two_read (k a) g h q r d next last) p same
 
@@ -119,27 +119,27 @@ is_of_three F k f g h none one two three more (x ∷ y ∷ z ∷ w ∷ ws) =
 
 -- ---- numbers and certificates
 
-pub number_read : (d : ℕ) → Reads number_of_json d take_number
+pub number_read : (d : ℕ) → ReadsData number_of_json d take_number
 number_read d = then_reads long_of_json (below_limit (2 ^ 32)) d take_long (long_reads d)
 
-multiplier_read : (d : ℕ) → Reads multiplier_of_json d take_multiplier
+multiplier_read : (d : ℕ) → ReadsData multiplier_of_json d take_multiplier
 multiplier_read d = then_reads as_str multiplier_text d take_text (text_reads d)
 
-pub numbers_read : (d : ℕ) → Reads numbers_of_json (suc d) take_numbers
+pub numbers_read : (d : ℕ) → ReadsData numbers_of_json (suc d) take_numbers
 numbers_read d = all_read number_of_json d take_number (number_read d)
 
 module _ {A : Type 0} (f : List Data → Option A) (p : Parse A) (d : ℕ) (reads : ReadsItems f d p) where
-  pub in_array : Reads (λ x. option_and_then f (option_map data_items (as_array x))) (suc d) (λ ts. option_and_then (λ (u : ⊤ × List Token). p u.1) (take_open ts))
+  pub in_array : ReadsData (λ x. option_and_then f (option_map data_items (as_array x))) (suc d) (λ ts. option_and_then (λ (u : ⊤ × List Token). p u.1) (take_open ts))
   in_array = array_reads (λ o. option_and_then f (option_map data_items o)) f (λ ds. refl) d p refl (λ ts. reads (length ts) ts (omega arith))
 
-pair_read : (d : ℕ) → Reads pair_of_json (suc d) take_pair
+pair_read : (d : ℕ) → ReadsData pair_of_json (suc d) take_pair
 pair_read d =
     in_array pair_of_items (two_taken (λ n z. (n, z)) take_number take_multiplier) d
     (same_items (of_two (λ n z. (n, z)) number_of_json multiplier_of_json) pair_of_items d (two_taken (λ n z. (n, z)) take_number take_multiplier)
     (is_of_two pair_of_items (λ n z. (n, z)) number_of_json multiplier_of_json refl (λ x. refl) (λ x y. refl) (λ x y z zs. refl))
     (two_read (λ n z. (n, z)) number_of_json multiplier_of_json take_number take_multiplier d (number_read d) (multiplier_read d)))
 
-pairs_read : (d : ℕ) → Reads pairs_of_json (suc (suc d)) take_pairs
+pairs_read : (d : ℕ) → ReadsData pairs_of_json (suc (suc d)) take_pairs
 pairs_read d = all_read pair_of_json (suc d) take_pair (pair_read d)
 
 leaf_read : (d : ℕ) → ReadsItems leaf_of_items (suc (suc d)) take_leaf
@@ -173,12 +173,12 @@ opened_cert_read d =
 abbrev cert_of_array : Option Items → Option Cert
 cert_of_array o = option_and_then (λ h. cert_of_items h.0 h.1) (option_and_then head_of_items (option_map data_items o))
 
-pub cert_read : (d : ℕ) → Reads cert_of_json (suc (suc (suc d))) take_cert
+pub cert_read : (d : ℕ) → ReadsData cert_of_json (suc (suc (suc d))) take_cert
 cert_read d =
     array_reads cert_of_array (λ xs. option_and_then (λ h. cert_of_items h.0 h.1) (head_of_items xs)) (λ ds. refl) (suc (suc d)) take_opened_cert refl
     (λ ts. opened_cert_read d (length ts) ts (omega arith))
 
-pub certs_read : (d : ℕ) → Reads certs_of_json (suc (suc (suc (suc d)))) take_certs
+pub certs_read : (d : ℕ) → ReadsData certs_of_json (suc (suc (suc (suc d)))) take_certs
 certs_read d = all_read cert_of_json (suc (suc (suc d))) take_cert (cert_read d)
 
 -- ---- marks
@@ -209,7 +209,7 @@ mark_array : (o : Option (json.Items × List Token)) → parse_map Some (convert
 mark_array None = refl
 mark_array (Some p) = mark_items p.1 (of_items p.0)
 
-mark_read : (d : ℕ) → Reads mark_of_json (suc (suc (suc d))) take_mark
+mark_read : (d : ℕ) → ReadsData mark_of_json (suc (suc (suc d))) take_mark
 unfolding value
 mark_read d [] = refl
 mark_read d (Token.begin_object ∷ ts) = no_object mark_of_json (λ ms. refl) (members (value (suc (suc d))) (length ts) ts)
@@ -223,5 +223,5 @@ mark_read d (Token.boolean b ∷ ts) = refl
 mark_read d (Token.null ∷ ts) = refl
 mark_read d (Token.bad ∷ ts) = refl
 
-pub marks_read : (d : ℕ) → Reads marks_of_json (suc (suc (suc (suc d)))) take_marks
+pub marks_read : (d : ℕ) → ReadsData marks_of_json (suc (suc (suc (suc d)))) take_marks
 marks_read d = all_read mark_of_json (suc (suc (suc d))) take_mark (mark_read d)

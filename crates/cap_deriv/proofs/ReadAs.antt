@@ -21,8 +21,8 @@ data_as f j = option_and_then f (of_json j)
 abbrev pub read_as : {A : Type 0} → (Data → Option A) → ℕ → Parse A
 read_as f d ts = converted (data_as f) (value d ts)
 
-abbrev pub Reads : {A : Type 0} → (Data → Option A) → ℕ → Parse A → Type 0
-Reads f d p = (ts : List Token) → p ts ≡ read_as f d ts
+abbrev pub ReadsData : {A : Type 0} → (Data → Option A) → ℕ → Parse A → Type 0
+ReadsData f d p = (ts : List Token) → p ts ≡ read_as f d ts
 
 abbrev pub listed : {A : Type 0} → (List Data → Option A) → json.Items → Option A
 listed f js = option_and_then (λ ds. f (data_items ds)) (of_items js)
@@ -74,7 +74,7 @@ long_at a o (Token.boolean b ∷ ts) = refl
 long_at a o (Token.null ∷ ts) = refl
 long_at a o (Token.bad ∷ ts) = refl
 
-pub long_reads : (d : ℕ) → Reads long_of_json d take_long
+pub long_reads : (d : ℕ) → ReadsData long_of_json d take_long
 unfolding value
 long_reads zero ts = long_at (λ ts. None) (λ ts. None) ts
 long_reads (suc d) ts = long_at (λ ts. items (value d) (length ts) ts) (λ ts. members (value d) (length ts) ts) ts
@@ -92,7 +92,7 @@ text_at a o (Token.boolean b ∷ ts) = refl
 text_at a o (Token.null ∷ ts) = refl
 text_at a o (Token.bad ∷ ts) = refl
 
-pub text_reads : (d : ℕ) → Reads as_str d take_text
+pub text_reads : (d : ℕ) → ReadsData as_str d take_text
 unfolding value
 text_reads zero ts = text_at (λ ts. None) (λ ts. None) ts
 text_reads (suc d) ts = text_at (λ ts. items (value d) (length ts) ts) (λ ts. members (value d) (length ts) ts) ts
@@ -113,7 +113,7 @@ module _ {A B : Type 0} (h : Data → Option A) (k : A → Option B) where
   then_at None = refl
   then_at (Some p) = then_data p.1 (of_json p.0)
 
-  pub then_reads : (d : ℕ) (p : Parse A) → Reads h d p → Reads (λ y. option_and_then k (h y)) d (λ ts. option_and_then (λ (a : A × List Token). with_rest a.1 (k a.0)) (p ts))
+  pub then_reads : (d : ℕ) (p : Parse A) → ReadsData h d p → ReadsData (λ y. option_and_then k (h y)) d (λ ts. option_and_then (λ (a : A × List Token). with_rest a.1 (k a.0)) (p ts))
   then_reads d p same ts = ap (option_and_then (λ (a : A × List Token). with_rest a.1 (k a.0))) (same ts) ∙ then_at (value d ts)
 
 -- ---- an array's items
@@ -228,7 +228,7 @@ module _ {A B : Type 0} (h : Data → Option A) (f : List Data → Option B) (g 
       ap (λ v. behind (converted (data_as h) v)) stop ∙ sym over
   arg_at n ts le None e = arg_value n ts le e (value d ts) refl
 
-  pub item_reads : (s : Parse A) → Reads h d s → ReadsItems f d (λ ts. option_and_then (λ (a : A × List Token). t a.0 a.1) (s ts))
+  pub item_reads : (s : Parse A) → ReadsData h d s → ReadsItems f d (λ ts. option_and_then (λ (a : A × List Token). t a.0 a.1) (s ts))
   item_reads s same n ts le = ap behind (same ts) ∙ arg_at n ts le (after_end_array ts) refl
 
 -- ---- a whole array
@@ -242,7 +242,7 @@ module _ {A : Type 0} (K : Option Items → Option A) (f : List Data → Option 
   array_at None = refl
   array_at (Some p) = array_in p.1 (of_items p.0)
 
-  pub array_reads : (d : ℕ) (p : Parse A) → K None ≡ None → ((ts : List Token) → p ts ≡ list_as f d (length ts) ts) → Reads (λ x. K (as_array x)) (suc d) (λ ts. option_and_then (λ (u : ⊤ × List Token). p u.1) (take_open ts))
+  pub array_reads : (d : ℕ) (p : Parse A) → K None ≡ None → ((ts : List Token) → p ts ≡ list_as f d (length ts) ts) → ReadsData (λ x. K (as_array x)) (suc d) (λ ts. option_and_then (λ (u : ⊤ × List Token). p u.1) (take_open ts))
   unfolding value
   array_reads d p none same [] = refl
   array_reads d p none same (Token.begin_object ∷ ts) = no_object (λ x. K (as_array x)) (λ ms. none) (members (value d) (length ts) ts)
@@ -258,7 +258,7 @@ module _ {A : Type 0} (K : Option Items → Option A) (f : List Data → Option 
 
 -- ---- an array of any length
 
-module _ {A : Type 0} (f : Data → Option A) (d : ℕ) (p : Parse A) (same : Reads f d p) where
+module _ {A : Type 0} (f : Data → Option A) (d : ℕ) (p : Parse A) (same : ReadsData f d p) where
   abbrev in_front : ℕ → Option (A × List Token) → Option (List A × List Token)
   in_front n o = option_and_then (λ (q : A × List Token). parse_map (λ xs. q.0 ∷ xs) (take_items p n q.1)) o
 
@@ -285,5 +285,5 @@ module _ {A : Type 0} (f : Data → Option A) (d : ℕ) (p : Parse A) (same : Re
   each_reads zero ts = refl
   each_reads (suc n) ts = each_at n (each_reads n) ts (after_end_array ts)
 
-  pub all_read : Reads (λ x. option_and_then (each_of_json f) (option_map data_items (as_array x))) (suc d) (take_array p)
+  pub all_read : ReadsData (λ x. option_and_then (each_of_json f) (option_map data_items (as_array x))) (suc d) (take_array p)
   all_read = array_reads (λ o. option_and_then (each_of_json f) (option_map data_items o)) (each_of_json f) (λ ds. refl) d (λ ts. take_items p (length ts) ts) refl (λ ts. each_reads (length ts) ts)

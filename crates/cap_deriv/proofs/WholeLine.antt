@@ -12,7 +12,7 @@ use Rattle.serde_json.specs.Read.{of_json, converted, read}
 use Rattle.cap_deriv.specs.Reading.{data_items, long_of_json, number_of_json, head_of_items, choice_of_items, opening_of_items, opening_by_word, opening_of_json, closing_of_items, closing_by_word, json_of_bytes}
 use Rattle.cap_deriv.specs.Told.{PlainLine, choice_line, end_line, or_end_line, line_of_json, line_of_bytes}
 use Rattle.cap_deriv.specs.Taking.{take_long, take_number, take_text, take_choice, take_closing, take_line_by_word, take_line, take_version_and_trees, take_opening_by_word, take_opening, if_alone}
-use Rattle.cap_deriv.proofs.ReadAs.{with_rest, data_as, Reads, list_as, ReadsItems, long_reads, text_reads, item_reads, array_reads}
+use Rattle.cap_deriv.proofs.ReadAs.{with_rest, data_as, ReadsData, list_as, ReadsItems, long_reads, text_reads, item_reads, array_reads}
 use Rattle.cap_deriv.proofs.Parts.{of_one, ended, one_read, same_items, map_read, cond_read, refused_read, is_of_one, head_read, number_read, last_map, nothing, under}
 use Rattle.cap_deriv.proofs.Words.{word_is, choice_read}
 
@@ -85,7 +85,7 @@ module _ (d : ℕ) where
   line_items_read : ReadsItems line_of_items deep (λ ts. option_and_then (λ (w : List ℕ × List Token). take_line_by_word w.0 w.1) (take_text ts))
   line_items_read = item_reads as_str line_of_items line_by_word take_line_by_word deep (λ x xs. headed_line xs (as_str x)) refl line_by_word_read take_text (text_reads deep)
 
-  line_read : Reads line_of_json (suc deep) take_line
+  line_read : ReadsData line_of_json (suc deep) take_line
   line_read =
       array_reads line_of_array line_of_items (λ ds. refl) deep (λ ts. option_and_then (λ (w : List ℕ × List Token). take_line_by_word w.0 w.1) (take_text ts)) refl
       (λ ts. line_items_read (length ts) ts (omega arith))
@@ -131,7 +131,7 @@ opening_items_read d =
 abbrev opening_of_array : Option Items → Option ℕ
 opening_of_array o = option_and_then (λ h. opening_by_word h.0 h.1) (option_and_then head_of_items (option_map data_items o))
 
-opening_read : (d : ℕ) → Reads opening_of_json (suc d) take_opening
+opening_read : (d : ℕ) → ReadsData opening_of_json (suc d) take_opening
 opening_read d =
     array_reads opening_of_array (λ xs. option_and_then (λ h. opening_by_word h.0 h.1) (head_of_items xs)) (λ ds. refl) d (λ ts. option_and_then (λ (w : List ℕ × List Token). take_opening_by_word w.0 w.1) (take_text ts)) refl
     (λ ts. opening_items_read d (length ts) ts (omega arith))
@@ -152,7 +152,7 @@ module _ {A : Type 0} (f : Data → Option A) where
   alone_at (Some (j, [])) = alone_value (option_and_then f (of_json j))
   alone_at (Some (j, t ∷ ts)) = not_alone t ts (option_and_then f (of_json j))
 
-  text_as : (p : Parse A) → Reads f 127 p → (b : List ℕ) → is_utf8 b ≡ true → if_alone (p (tokens b)) ≡ option_and_then f (json_of_bytes b)
+  text_as : (p : Parse A) → ReadsData f 127 p → (b : List ℕ) → is_utf8 b ≡ true → if_alone (p (tokens b)) ≡ option_and_then f (json_of_bytes b)
   text_as p same b e = ap if_alone (same (tokens b)) ∙ alone_at (value 127 (tokens b)) ∙ sym (ap (λ (t : Bool). option_and_then f (cond t (read b) None)) e)
 
 pub line_is : (b : List ℕ) → is_utf8 b ≡ true → if_alone (take_line (tokens b)) ≡ line_of_bytes b

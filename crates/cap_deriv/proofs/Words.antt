@@ -8,7 +8,7 @@ use Rattle.serde_json.specs.Data.{Data}
 use Rattle.cap_logic.specs.Choices.{PlainChoice, by_absurd, by_clash, by_set, by_alloc, by_assert, by_if, by_loop, by_turn, by_call, by_fork, by_return, by_enter, by_act, by_pick, by_shift, by_settle, by_keep, by_give, by_fact, by_cases, by_cell, by_region, by_guard, by_convert, by_create, by_made}
 use Rattle.cap_deriv.specs.Reading.{row_of_word, number_of_json, numbers_of_json, cert_of_json, certs_of_json, marks_of_json, choices_of_none, choices_of_one, choices_of_two, choices_of_three, choice_of_items}
 use Rattle.cap_deriv.specs.Taking.{take_close, take_number, take_numbers, take_cert, take_certs, take_marks, take_none, take_one, take_two, take_three, take_by_three, take_by_two, take_by_one, take_by_word, take_choice}
-use Rattle.cap_deriv.proofs.ReadAs.{Reads, list_as, ReadsItems}
+use Rattle.cap_deriv.proofs.ReadAs.{ReadsData, list_as, ReadsItems}
 use Rattle.cap_deriv.proofs.Parts.{ended, one_taken, two_taken, three_taken, of_none, of_one, of_two, of_three, none_read, one_read, two_read, three_read, same_items, refused_read, NoneAt, is_of_none, is_of_one, is_of_two, is_of_three, number_read, numbers_read, cert_read, certs_read, marks_read}
 
 pub word_is : (w v : List ℕ) → bytes_eq w v ≡ true → w ≡ v
@@ -139,20 +139,20 @@ module _ (d : ℕ) (w : List ℕ) where
   row_of_none : (k : PlainChoice) → choice_of_items w [] ≡ Some k → ((x : Data) → choice_of_items w (x ∷ []) ≡ None) → NoneOfTwo w → NoneOfThree w → RowReads d (w, take_none k)
   row_of_none k none one two three = same_items (of_none k) (choice_of_items w) d (ended k) (is_of_none (choice_of_items w) k none (more_than_none w one two three)) (none_read k d)
 
-  row_of_one : {A : Type 0} (k : A → PlainChoice) (f : Data → Option A) (p : Parse A) → Reads f d p → choice_of_items w [] ≡ None → ((x : Data) → choice_of_items w (x ∷ []) ≡ option_map k (f x)) → NoneOfTwo w → NoneOfThree w
+  row_of_one : {A : Type 0} (k : A → PlainChoice) (f : Data → Option A) (p : Parse A) → ReadsData f d p → choice_of_items w [] ≡ None → ((x : Data) → choice_of_items w (x ∷ []) ≡ option_map k (f x)) → NoneOfTwo w → NoneOfThree w
       → RowReads d (w, take_one k p)
   row_of_one k f p same none one two three n ts le =
       behind_one k (p ts)
       ∙ same_items (of_one k f) (choice_of_items w) d (one_taken k p) (is_of_one (choice_of_items w) k f none one (more_than_one w two three)) (one_read k f p d same) n ts le
 
-  row_of_two : {A B : Type 0} (k : A → B → PlainChoice) (f : Data → Option A) (g : Data → Option B) (p : Parse A) (q : Parse B) → Reads f d p → Reads g d q
+  row_of_two : {A B : Type 0} (k : A → B → PlainChoice) (f : Data → Option A) (g : Data → Option B) (p : Parse A) (q : Parse B) → ReadsData f d p → ReadsData g d q
       → choice_of_items w [] ≡ None → ((x : Data) → choice_of_items w (x ∷ []) ≡ None) → ((x y : Data) → choice_of_items w (x ∷ y ∷ []) ≡ option_and_then (λ a. option_map (k a) (g y)) (f x)) → NoneOfThree w
       → RowReads d (w, take_two k p q)
   row_of_two k f g p q same next none one two three n ts le =
       behind_two k q (p ts)
       ∙ same_items (of_two k f g) (choice_of_items w) d (two_taken k p q) (is_of_two (choice_of_items w) k f g none one two (more_than_two w three)) (two_read k f g p q d same next) n ts le
 
-  row_of_three : {A B C : Type 0} (k : A → B → C → PlainChoice) (f : Data → Option A) (g : Data → Option B) (h : Data → Option C) (p : Parse A) (q : Parse B) (r : Parse C) → Reads f d p → Reads g d q → Reads h d r
+  row_of_three : {A B C : Type 0} (k : A → B → C → PlainChoice) (f : Data → Option A) (g : Data → Option B) (h : Data → Option C) (p : Parse A) (q : Parse B) (r : Parse C) → ReadsData f d p → ReadsData g d q → ReadsData h d r
       → choice_of_items w [] ≡ None → ((x : Data) → choice_of_items w (x ∷ []) ≡ None) → NoneOfTwo w
       → ((x y z : Data) → choice_of_items w (x ∷ y ∷ z ∷ []) ≡ option_and_then (λ a. option_and_then (λ b. option_map (k a b) (h z)) (g y)) (f x))
       → RowReads d (w, take_three k p q r)

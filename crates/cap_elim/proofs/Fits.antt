@@ -16,20 +16,20 @@ use Rattle.cap_elim.specs.Leaf.{check_steps}
 use Rattle.cap_elim.proofs.Pivots.{absent-below}
 use Rattle.cap_elim.proofs.Sums.{combination-constant}
 
-abbrev Fits : ℤ → Type 0
-Fits z = FitsSigned w128 z
+abbrev Within128 : ℤ → Type 0
+Within128 z = FitsSigned w128 z
 
-zero-fits : Fits (pos 0)
+zero-fits : Within128 (pos 0)
 zero-fits = record { sfits = lit< tt }
 
-by_value : (a b : ℤ) → a ≡ b → Fits b → Fits a
+by_value : (a b : ℤ) → a ≡ b → Within128 b → Within128 a
 by_value a b e f = rw e f
 
 -- ---- a part's three results
 
 record PartFits (a l b r : ℤ) (more : List Step) : Type 0 where
-  second : Fits (b *ℤ r)
-  sum : Fits (a *ℤ l +ℤ b *ℤ r)
+  second : Within128 (b *ℤ r)
+  sum : Within128 (a *ℤ l +ℤ b *ℤ r)
   rest : first_wide more ≡ None
 
 part-fits : (a l b r : ℤ) (more : List Step) → first_wide (part_steps a l b r more) ≡ None → PartFits a l b r more
@@ -47,8 +47,8 @@ record PairOf (x : ℕ) (parts : ℤ → ℤ → List (ℕ × ℤ)) (steps : ℤ
   left : ℤ
   right : ℤ
   is : (a b : ℤ) → coefficient x (parts a b) ≡ a *ℤ left +ℤ b *ℤ right
-  second : (a b : ℤ) → first_wide (steps a b) ≡ None → Fits (b *ℤ right)
-  sum : (a b : ℤ) → first_wide (steps a b) ≡ None → Fits (a *ℤ left +ℤ b *ℤ right)
+  second : (a b : ℤ) → first_wide (steps a b) ≡ None → Within128 (b *ℤ right)
+  sum : (a b : ℤ) → first_wide (steps a b) ≡ None → Within128 (a *ℤ left +ℤ b *ℤ right)
 
 combined-ascend : (low : ℕ) (a b : ℤ) (js : _) → PairsAscend low js → AscendFrom low (combined_parts a b js)
 unfolding combined_parts
@@ -98,8 +98,8 @@ pair-of x low (j ∷ js) h = by_variable (pair-of x (j.variable + 1) js h.1)
 
 record StepFits (s m t r : ℤ) : Type 0 where
   is : r ≡ s +ℤ m *ℤ t
-  product : Fits (m *ℤ t)
-  sum : Fits (s +ℤ m *ℤ t)
+  product : Within128 (m *ℤ t)
+  sum : Within128 (s +ℤ m *ℤ t)
 
 once : (a b : ℤ) → pos 1 *ℤ a +ℤ b ≡ a +ℤ b
 once (pos n) b = omega (arith, ints)

@@ -1,5 +1,7 @@
 -- The elimination of variables from rows, by equations and by pairs of bounds.
-use Rattle.std.specs.Prelude.{ℕ, zero, suc, ◌+◌, max, List, [], ◌∷◌, ◌++◌, filter, length, ℤ, pos, negsuc, ◌*ℤ◌, Bool, true, false, if◌then◌else◌, Option, Some, None, option_map}
+use Rattle.std.specs.Prelude.{ℕ, zero, suc, ◌+◌, max, List, [], ◌∷◌, ◌++◌, filter, length, ℤ, pos}
+use Rattle.std.specs.Prelude.{negsuc, ◌*ℤ◌, Bool, true, false, if◌then◌else◌, Option, Some, None}
+use Rattle.std.specs.Prelude.{option_map}
 use Rattle.cap_lin.specs.Linear.{Linear, is_zero, coefficient}
 use Rattle.cap_lin.specs.Steps.{product_of}
 use Rattle.cap_lin.specs.declared.row.Row.{Row}
@@ -22,7 +24,8 @@ inputs present i (r ∷ rows) = do
 
 -- ---- by an equation
 
--- a row in which the variable has the coefficient q becomes a combination with an equation in which it has e
+-- a row in which the variable has the coefficient q becomes a combination with an equation in which
+-- it has e
 abbrev pub replacement : List Entry → ℤ → ℤ → Entry → Entry → Elimination (List Entry)
 replacement present (pos n) q equation r = do
   u ← results (product_of (negsuc 0) q ∷ [])
@@ -32,9 +35,12 @@ replacement present (negsuc n) q equation r = do
   combine present (negsuc 0 *ℤ negsuc n) r q equation r.kind
 
 abbrev pub replace : ℕ → Entry → List Entry → Entry → Elimination (List Entry)
-replace x equation present r = if is_zero (of_row x r) then done (r ∷ []) else replacement present (of_row x equation) (of_row x r) equation r
+replace x equation present r =
+    if is_zero (of_row x r) then done (r ∷ [])
+    else replacement present (of_row x equation) (of_row x r) equation r
 
--- the rows one after the other, each in its place; those replaced and those still to replace are present
+-- the rows one after the other, each in its place; those replaced and those still to replace are
+-- present
 unfoldable pub replace_all : ℕ → Entry → List Entry → List Entry → Elimination (List Entry)
 replace_all x equation before [] = done before
 replace_all x equation before (r ∷ rows) = do
@@ -64,7 +70,8 @@ chosen choice k ps = None
 
 unfoldable pub first_pivot : (List (ℕ × ℤ) → Option ℕ) → List Entry → Option Pivot
 first_pivot choice [] = None
-first_pivot choice (r ∷ rows) = or_later r rows (chosen choice r.kind r.term.parts) (first_pivot choice rows)
+first_pivot choice (r ∷ rows) =
+    or_later r rows (chosen choice r.kind r.term.parts) (first_pivot choice rows)
 
 abbrev pub by_equation : Pivot → Elimination (List Entry)
 by_equation p = replace_all p.variable p.equation [] p.others
@@ -82,7 +89,8 @@ unit_variable [] = None
 unit_variable (p ∷ ps) = if is_unit p.1 then Some p.0 else unit_variable ps
 
 -- each turn takes out an equation, so there are no more turns than rows
-abbrev pub while_some : Option Pivot → List Entry → (List Entry → Elimination (List Entry)) → Elimination (List Entry)
+abbrev pub while_some : Option Pivot → List Entry → (List Entry → Elimination (List Entry))
+    → Elimination (List Entry)
 while_some None rows next = done rows
 while_some (Some p) rows next = by_equation p >>= next
 

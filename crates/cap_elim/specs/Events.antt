@@ -1,8 +1,10 @@
 -- The events of an elimination, in their order, and the first that passes a limit.
-use Rattle.std.specs.Prelude.{ℕ, List, [], ◌∷◌, map, ℤ, Bool, nat_lt, if◌then◌else◌, Option, Some, None}
+use Rattle.std.specs.Prelude.{ℕ, List, [], ◌∷◌, map, ℤ, Bool, nat_lt, if◌then◌else◌, Option, Some}
+use Rattle.std.specs.Prelude.{None}
 use Rattle.cap_lin.specs.Steps.{Step, first_wide}
 
--- a sum or a product is made, or a row that never arose before is counted, with its number from 1 on
+-- a sum or a product is made, or a row that never arose before is counted, with its number from 1
+-- on
 pub data Event : Type 0 where
   made : Step → Event
   counted : ℕ → Event

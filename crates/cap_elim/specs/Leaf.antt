@@ -1,5 +1,6 @@
 -- The leaf of a false row: its multipliers of the input rows, and the results on the way to them.
-use Rattle.std.specs.Prelude.{ℕ, ◌==◌, List, [], ◌∷◌, ◌++◌, length, ℤ, pos, Bool, true, false, ◌||◌, if◌then◌else◌}
+use Rattle.std.specs.Prelude.{ℕ, ◌==◌, List, [], ◌∷◌, ◌++◌, length, ℤ, pos, Bool, true, false, ◌||◌}
+use Rattle.std.specs.Prelude.{if◌then◌else◌}
 use Rattle.cap_lin.specs.Linear.{Linear, number, variable, negative, combination}
 use Rattle.cap_lin.specs.Steps.{Step, negative_steps, combination_steps}
 use Rattle.cap_lin.specs.declared.row.Row.{Row}
@@ -17,7 +18,8 @@ multipliers_of (combined a p b q) earlier = combination a (earlier p) b (earlier
 -- of the row of a number; the history has the last row first
 unfoldable pub multipliers : List Origin → ℕ → Linear
 multipliers [] i = number (pos 0)
-multipliers (o ∷ older) i = if i == length older then multipliers_of o (multipliers older) else multipliers older i
+multipliers (o ∷ older) i =
+    if i == length older then multipliers_of o (multipliers older) else multipliers older i
 
 -- the rows that a row is a combination of are on the way to it
 abbrev pub and_its_rows : Origin → (ℕ → Bool) → ℕ → Bool
@@ -52,7 +54,9 @@ turned_steps false m = []
 -- a leaf is checked by adding up its rows, row by row and part by part
 unfoldable pub check_steps : List Row → Linear → List (ℕ × ℤ) → List Step
 check_steps rows sum [] = []
-check_steps rows sum (p ∷ ps) = combination_steps (pos 1) sum p.1 (row_at rows p.0).term ++ check_steps rows (combination (pos 1) sum p.1 (row_at rows p.0).term) ps
+check_steps rows sum (p ∷ ps) =
+    combination_steps (pos 1) sum p.1 (row_at rows p.0).term
+    ++ check_steps rows (combination (pos 1) sum p.1 (row_at rows p.0).term) ps
 
 -- of a false row, by its number
 abbrev pub leaf : List Origin → Entry → Linear
@@ -60,4 +64,6 @@ leaf history e = turned (is_turned e.kind e.term.constant) (multipliers history 
 
 abbrev pub leaf_steps : List Row → List Origin → Entry → List Step
 leaf_steps rows history e =
-    way_steps history (λ i. i == e.origin) ++ (turned_steps (is_turned e.kind e.term.constant) (multipliers history e.origin) ++ check_steps rows (number (pos 0)) (leaf history e).parts)
+    way_steps history (λ i. i == e.origin)
+    ++ (turned_steps (is_turned e.kind e.term.constant) (multipliers history e.origin)
+    ++ check_steps rows (number (pos 0)) (leaf history e).parts)

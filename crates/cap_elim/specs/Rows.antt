@@ -1,12 +1,14 @@
 -- How rows arise in an elimination.
-use Rattle.std.specs.Prelude.{ℕ, zero, suc, ◌+◌, List, [], ◌∷◌, ◌++◌, length, ℤ, pos, negsuc, Bool, true, false, not, ◌&&◌, if◌then◌else◌}
+use Rattle.std.specs.Prelude.{ℕ, zero, suc, ◌+◌, List, [], ◌∷◌, ◌++◌, length, ℤ, pos, negsuc, Bool}
+use Rattle.std.specs.Prelude.{true, false, not, ◌&&◌, if◌then◌else◌}
 use Rattle.std.specs.List.{list_any}
 use Rattle.cap_lin.specs.Linear.{Linear, is_zero, same_term, coefficient, combination}
 use Rattle.cap_lin.specs.Steps.{combination_steps}
 use Rattle.cap_lin.specs.declared.row.Kind.{Kind}
 use Rattle.cap_lin.specs.declared.row.Kind.TheVariants.{Le, Lt, Eq, Ne}
 use Rattle.cap_elim.specs.Events.{counted}
-use Rattle.cap_elim.specs.Runs.{Origin, given, combined, Entry, entry, Stage, going, contradiction, Elimination, done, results, ◌>>=◌}
+use Rattle.cap_elim.specs.Runs.{Origin, given, combined, Entry, entry, Stage, going, contradiction}
+use Rattle.cap_elim.specs.Runs.{Elimination, done, results, ◌>>=◌}
 
 abbrev pub same_kind : Kind → Kind → Bool
 same_kind Le Le = true
@@ -30,7 +32,11 @@ abbrev pub count : Linear → Kind → Elimination (Unit {0})
 count t k s =
     if has_arisen t k s.arisen
     then done tt s
-    else record { events = counted (length s.arisen + 1) ∷ []; stage = record s { arisen = s.arisen ++ ((t, k) ∷ []) }; found = going tt }
+    else record {
+      events = counted (length s.arisen + 1) ∷ [];
+      stage = record s { arisen = s.arisen ++ ((t, k) ∷ []) };
+      found = going tt;
+    }
 
 abbrev pub are_some : List (ℕ × ℤ) → Bool
 are_some [] = false
@@ -60,14 +66,25 @@ with_origin o s = record s { history = o ∷ s.history }
 
 -- a row is present from now on
 abbrev pub keep : Linear → Kind → Origin → Elimination (List Entry)
-keep t k o s = record { events = []; stage = with_origin o s; found = going (entry t k (length s.history) ∷ []) }
+keep t k o s =
+    record {
+      events = [];
+      stage = with_origin o s;
+      found = going (entry t k (length s.history) ∷ []);
+    }
 
 abbrev pub fail : Linear → Kind → Origin → Elimination (List Entry)
-fail t k o s = record { events = []; stage = with_origin o s; found = contradiction (entry t k (length s.history)) }
+fail t k o s =
+    record {
+      events = [];
+      stage = with_origin o s;
+      found = contradiction (entry t k (length s.history));
+    }
 
 -- a row without variables is left out where it is true, and ends the elimination where it is false
 abbrev pub look : Linear → Kind → Origin → Elimination (List Entry)
-look t k o = if has_parts t then keep t k o else (if is_false k t.constant then fail t k o else done [])
+look t k o =
+    if has_parts t then keep t k o else (if is_false k t.constant then fail t k o else done [])
 
 -- a row that is equal to one that is present is left out
 abbrev pub arise : List Entry → Linear → Kind → Origin → Elimination (List Entry)
@@ -81,9 +98,11 @@ arise_given present t k i = do
 
 -- a combination is counted where it has variables
 abbrev pub arise_combined : List Entry → Linear → Kind → Origin → Elimination (List Entry)
-arise_combined present t k o = if has_parts t then (count t k >>= (λ u. arise present t k o)) else look t k o
+arise_combined present t k o =
+    if has_parts t then (count t k >>= (λ u. arise present t k o)) else look t k o
 
--- a times a row plus b times another: the new row, or none where it is true or equal to one that is present
+-- a times a row plus b times another: the new row, or none where it is true or equal to one that is
+-- present
 abbrev pub combine : List Entry → ℤ → Entry → ℤ → Entry → Kind → Elimination (List Entry)
 combine present a p b q k = do
   u ← results (combination_steps a p.term b q.term)

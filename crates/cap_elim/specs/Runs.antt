@@ -5,8 +5,8 @@ use Rattle.cap_lin.specs.Steps.{Step}
 use Rattle.cap_lin.specs.declared.row.Kind.{Kind}
 use Rattle.cap_elim.specs.Events.{Event, made_all}
 
--- where a row comes from: it is an input row, by its number, or a multiple of a row plus a multiple of another, by
--- their numbers in the history
+-- where a row comes from: it is an input row, by its number, or a multiple of a row plus a multiple
+-- of another, by their numbers in the history
 pub data Origin : Type 0 where
   given : ℕ → Origin
   combined : ℤ → ℕ → ℤ → ℕ → Origin
@@ -20,7 +20,8 @@ pub record Entry : Type 0 where
 abbrev pub entry : Linear → Kind → ℕ → Entry
 entry t k i = record { term = t; kind = k; origin = i }
 
--- the rows that ever arose, each once, in order; and where each row that was kept comes from, the last first
+-- the rows that ever arose, each once, in order; and where each row that was kept comes from, the
+-- last first
 pub record Stage : Type 0 where
   pub arisen : List (Linear × Kind)
   pub history : List Origin

@@ -30,9 +30,11 @@ logged es x = record { events = es; value = x }
 abbrev pub after : {A : Type 0} → List Event → Logged A → Logged A
 after es l = logged (es ++ l.events) l.value
 
-abbrev pub leaf_found : {A : Type 0} → List Row → List Event → Stage → Found A → Logged (Option (List (ℕ × ℤ)))
+abbrev pub leaf_found : {A : Type 0} → List Row → List Event → Stage → Found A
+    → Logged (Option (List (ℕ × ℤ)))
 leaf_found rows es s (going x) = logged es None
-leaf_found rows es s (contradiction e) = logged (es ++ made_all (leaf_steps rows s.history e)) (Some (leaf s.history e).parts)
+leaf_found rows es s (contradiction e) =
+    logged (es ++ made_all (leaf_steps rows s.history e)) (Some (leaf s.history e).parts)
 
 abbrev pub run_leaf : {A : Type 0} → List Row → Run A → Logged (Option (List (ℕ × ℤ)))
 run_leaf rows r = leaf_found rows r.events r.stage r.found
@@ -46,14 +48,17 @@ abbrev pub refuted_with : List Row → List Step → Row → Logged (Option (Lis
 refuted_with rows steps r = after (made_all steps) (refuted (rows ++ (r ∷ [])))
 
 -- the second side is tried where the first has a leaf
-abbrev pub then_above : ℕ → List Event → Option (List (ℕ × ℤ)) → Logged (Option (List (ℕ × ℤ))) → Logged (Option Cert)
+abbrev pub then_above : ℕ → List Event → Option (List (ℕ × ℤ)) → Logged (Option (List (ℕ × ℤ)))
+    → Logged (Option Cert)
 then_above place es None above = logged es None
-then_above place es (Some l) above = logged (es ++ above.events) (option_map (λ m. cert.Split place l m) above.value)
+then_above place es (Some l) above =
+    logged (es ++ above.events) (option_map (λ m. cert.Split place l m) above.value)
 
 abbrev pub split : List Row → ℕ → Kind → Sort → Linear → Logged (Option Cert)
 split rows place Ne s t =
     let below = refuted_with rows (below_zero_steps s t) (below_zero s t) in
-    then_above place below.events below.value (refuted_with rows (above_zero_steps s t) (above_zero s t))
+    then_above place below.events below.value
+    (refuted_with rows (above_zero_steps s t) (above_zero s t))
 split rows place k s t = logged [] None
 
 abbrev pub or_next : List Event → Option Cert → Logged (Option Cert) → Logged (Option Cert)
@@ -63,7 +68,9 @@ or_next es None next = after es next
 -- for each row Ne, in order
 unfoldable pub splits : List Row → ℕ → List Row → Logged (Option Cert)
 splits rows place [] = logged [] None
-splits rows place (r ∷ rest) = let first = split rows place r.kind r.sort r.term in or_next first.events first.value (splits rows (place + 1) rest)
+splits rows place (r ∷ rest) =
+    let first = split rows place r.kind r.sort r.term in
+    or_next first.events first.value (splits rows (place + 1) rest)
 
 abbrev pub or_splits : List Row → List Event → Option (List (ℕ × ℤ)) → Logged (Option Cert)
 or_splits rows es (Some l) = logged es (Some (cert.Leaf l))

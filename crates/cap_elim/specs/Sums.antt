@@ -24,8 +24,8 @@ pub record HasStrictly (rows : List Row) (m : Linear) : Type 0 where
   pub strict : (row_at rows number).kind ≡ Lt
   pub above : pos 0 <ℤ coefficient number m.parts
 
--- the term is the sum of the input rows' terms, each times the coefficient that its number has in m, and the sum
--- says of the term what the kind does
+-- the term is the sum of the input rows' terms, each times the coefficient that its number has in
+-- m, and the sum says of the term what the kind does
 pub record IsSumOf (rows : List Row) (t : Linear) (k : Kind) (m : Linear) : Type 0 where
   pub bare : m.constant ≡ pos 0
   pub constant : t.constant ≡ value (column constant_of rows) m

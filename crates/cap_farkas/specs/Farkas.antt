@@ -1,5 +1,6 @@
 -- Leaves: multipliers of rows, and what it takes that their sum contradicts itself.
-use Rattle.std.specs.Prelude.{◌≡◌, ◌≢◌, ℕ, ◌+◌, ◌<◌, ◌≤◌, ℤ, pos, ◌+ℤ◌, ◌*ℤ◌, ◌<ℤ◌, ◌⊎◌, List, [], ◌∷◌, length, get_or, Option, Some, None}
+use Rattle.std.specs.Prelude.{◌≡◌, ◌≢◌, ℕ, ◌+◌, ◌<◌, ◌≤◌, ℤ, pos, ◌+ℤ◌, ◌*ℤ◌, ◌<ℤ◌, ◌⊎◌, List, []}
+use Rattle.std.specs.Prelude.{◌∷◌, length, get_or, Option, Some, None}
 use Rattle.cap_lin.specs.Linear.{Linear, number, coefficient}
 use Rattle.cap_lin.specs.Steps.{Step, sum_of, product_of, first_wide}
 use Rattle.cap_lin.specs.Rows.{row}
@@ -22,10 +23,13 @@ no_row = row Le Int (number (pos 0))
 abbrev pub row_at : List Row → ℕ → Row
 row_at rows i = get_or rows i no_row
 
--- the numbers ascend from `low` on, each is that of a row, and the row may be taken with its multiplier
+-- the numbers ascend from `low` on, each is that of a row, and the row may be taken with its
+-- multiplier
 unfoldable pub Names : ℕ → List Row → List (ℕ × ℤ) → Type 0
 Names low rows [] = Unit {0}
-Names low rows (p ∷ ps) = (low ≤ p.0) × (p.0 < length rows) × MayMultiply (row_at rows p.0).kind p.1 × Names (p.0 + 1) rows ps
+Names low rows (p ∷ ps) =
+    (low ≤ p.0) × (p.0 < length rows) × MayMultiply (row_at rows p.0).kind p.1
+    × Names (p.0 + 1) rows ps
 
 -- a column of rows: their constants, or their coefficients of a variable
 abbrev pub constant_of : Linear → ℤ
@@ -43,7 +47,9 @@ column_sum of rows sum (p ∷ ps) = column_sum of rows (sum +ℤ p.1 *ℤ of (ro
 unfoldable pub column_steps : (Linear → ℤ) → List Row → ℤ → List (ℕ × ℤ) → List Step
 column_steps of rows sum [] = []
 column_steps of rows sum (p ∷ ps) =
-    product_of p.1 (of (row_at rows p.0).term) ∷ (sum_of sum (p.1 *ℤ of (row_at rows p.0).term) ∷ column_steps of rows (sum +ℤ p.1 *ℤ of (row_at rows p.0).term) ps)
+    product_of p.1 (of (row_at rows p.0).term)
+    ∷ (sum_of sum (p.1 *ℤ of (row_at rows p.0).term)
+    ∷ column_steps of rows (sum +ℤ p.1 *ℤ of (row_at rows p.0).term) ps)
 
 -- a column stays within 128 bits
 abbrev pub IsNarrow : (Linear → ℤ) → List Row → List (ℕ × ℤ) → Type 0
@@ -69,11 +75,13 @@ unfoldable pub HasStrict : List Row → List (ℕ × ℤ) → Type 0
 HasStrict rows [] = ⊥
 HasStrict rows (p ∷ ps) = ((row_at rows p.0).kind ≡ Lt) ⊎ HasStrict rows ps
 
--- the sum is above 0, or it is 0 and a named row is Lt: but it ought to be at most 0, and then below 0
+-- the sum is above 0, or it is 0 and a named row is Lt: but it ought to be at most 0, and then
+-- below 0
 abbrev pub Contradicts : List Row → List (ℕ × ℤ) → ℤ → Type 0
 Contradicts rows leaf sum = (pos 0 <ℤ sum) ⊎ ((sum ≡ pos 0) × HasStrict rows leaf)
 
--- the leaf refutes the rows: by Farkas' lemma, its multiples of rows add up to a constant that contradicts them
+-- the leaf refutes the rows: by Farkas' lemma, its multiples of rows add up to a constant that
+-- contradicts them
 pub record RefutesLeaf (rows : List Row) (leaf : List (ℕ × ℤ)) : Type 0 where
   pub names : Names 0 rows leaf
   pub constant : IsNarrow constant_of rows leaf

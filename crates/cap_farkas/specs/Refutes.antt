@@ -17,7 +17,8 @@ use Rattle.cap_farkas.specs.declared.cert.Cert.TheVariants.{Leaf, Split}
 abbrev pub RefutesSide : List Row → Appended → List (ℕ × ℤ) → Type 0
 RefutesSide rows a leaf = IsAppended rows a × RefutesLeaf (all_rows rows (Some a)) leaf
 
--- the row at a place is Ne; one leaf refutes the rows with its term below 0, the other with its term above 0
+-- the row at a place is Ne; one leaf refutes the rows with its term below 0, the other with its
+-- term above 0
 pub record RefutesSplit (rows : List Row) (place : ℕ) (below above : List (ℕ × ℤ)) : Type 0 where
   pub term : Linear
   pub sort : Sort
@@ -32,8 +33,8 @@ abbrev pub Refutes : List Row → Cert → Type 0
 Refutes rows (Leaf leaf) = RefutesLeaf rows leaf
 Refutes rows (Split place below above) = RefutesSplit rows place below above
 
--- what a certificate excludes: a leaf, each rational valuation of the rows that are not Ne; a split, each on
--- both sides of its row
+-- what a certificate excludes: a leaf, each rational valuation of the rows that are not Ne; a
+-- split, each on both sides of its row
 abbrev pub Excludes : List Row → Cert → Type 0
 Excludes rows (Leaf leaf) = HasNoRational (without_ne rows)
 Excludes rows (Split place below above) = SplitsToNone rows place

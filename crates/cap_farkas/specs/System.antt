@@ -1,5 +1,6 @@
 -- Rows with a row behind them that a split appends, and their variables in ascending order.
-use Rattle.std.specs.Prelude.{◌≡◌, ℕ, ◌<◌, ◌≤◌, min, List, [], ◌∷◌, ◌++◌, length, get_or, ℤ, pos, negsuc, ◌+ℤ◌, ◌*ℤ◌, Option, Some, None}
+use Rattle.std.specs.Prelude.{◌≡◌, ℕ, ◌<◌, ◌≤◌, min, List, [], ◌∷◌, ◌++◌, length, get_or, ℤ, pos}
+use Rattle.std.specs.Prelude.{negsuc, ◌+ℤ◌, ◌*ℤ◌, Option, Some, None}
 use Rattle.cap_lin.specs.Linear.{Linear}
 use Rattle.cap_lin.specs.Steps.{Step, sum_of, product_of, first_wide}
 use Rattle.cap_lin.specs.Rows.{below_zero, below_zero_steps, above_zero, above_zero_steps}
@@ -61,7 +62,8 @@ all_rows rows (Some a) = rows ++ appended_row rows a ∷ []
 -- the appended row is made of one of the rows, and stays within 128 bits
 pub record IsAppended (rows : List Row) (a : Appended) : Type 0 where
   pub bound : a.place < length rows
-  pub narrow : first_wide (side_steps a.side (row_at rows a.place).sort (row_at rows a.place).term) ≡ None
+  pub narrow : first_wide (side_steps a.side (row_at rows a.place).sort (row_at rows a.place).term)
+      ≡ None
 
 abbrev pub AreAppended : List Row → Option Appended → Type 0
 AreAppended rows None = Unit {0}
@@ -69,7 +71,8 @@ AreAppended rows (Some a) = IsAppended rows a
 
 -- no named row has the variable
 abbrev pub IsAbsent : List Row → List (ℕ × ℤ) → ℕ → Type 0
-IsAbsent rows leaf x = (k : ℕ) → k < length leaf → coefficient_of x (row_at rows (get_or leaf k (0, pos 0)).0).term ≡ pos 0
+IsAbsent rows leaf x = (k : ℕ) → k < length leaf
+    → coefficient_of x (row_at rows (get_or leaf k (0, pos 0)).0).term ≡ pos 0
 
 -- no variable from `low` on, and below the next one, if there is one, is in a named row
 abbrev pub IsNextFrom : ℕ → List Row → List (ℕ × ℤ) → Option ℕ → Type 0

@@ -9,7 +9,7 @@ use Rattle.cap_elim.specs.Events.{many, first_limit, counted}
 use Rattle.cap_elim.specs.Runs as plain
 use Rattle.cap_elim.specs.Runs.{going, done}
 use Rattle.cap_elim.specs.Rows.{same_row, has_arisen, count}
-use Rattle.cap_fm.specs.Views.{history_view, stage_view, number_of, Fits}
+use Rattle.cap_fm.specs.Views.{history_view, stage_view, row_number, IsStageOf}
 use Rattle.cap_fm.specs.Answers.{Is, IsCounted}
 use Rattle.cap_fm.specs.Entries.{Entry}
 use Rattle.cap_fm.specs.declared.stage.Stage.{Stage}
@@ -32,7 +32,7 @@ insert-new f rows h = by (has_arisen f.0 f.1 rows) h
     by true e = cc
     by false e = refl
 
-pub number-none : (t : Linear) (k : Kind) (rows : List (Linear × Kind)) → has_arisen t k rows ≡ false → number_of t k rows ≡ length rows
+pub number-none : (t : Linear) (k : Kind) (rows : List (Linear × Kind)) → has_arisen t k rows ≡ false → row_number t k rows ≡ length rows
 number-none t k [] h = refl
 number-none t k (r ∷ rows) h =
     let n = or-none (same_row t k r.0 r.1) (has_arisen t k rows) h in
@@ -82,13 +82,13 @@ not-false : (b c : Bool) → c ≡ not b → c ≡ false → b ≡ true
 not-false true c e h = refl
 not-false false c e h = cc
 
-pub one-too-many : (f : Linear × Kind) (s : Stage) (n : ℕ) (is_new : Bool) → is_new ≡ not (has_arisen f.0 f.1 s.forms.keys) → is_new ≡ true → n ≡ number_of f.0 f.1 s.forms.keys → 4096 ≤ n → first_limit (count f.0 f.1 (stage_view s)).events ≡ Some many
+pub one-too-many : (f : Linear × Kind) (s : Stage) (n : ℕ) (is_new : Bool) → is_new ≡ not (has_arisen f.0 f.1 s.forms.keys) → is_new ≡ true → n ≡ row_number f.0 f.1 s.forms.keys → 4096 ≤ n → first_limit (count f.0 f.1 (stage_view s)).events ≡ Some many
 one-too-many f s n is_new a h p l =
     let g = not-true (has_arisen f.0 f.1 s.forms.keys) is_new a h in
     let q = p ∙ number-none f.0 f.1 s.forms.keys g in
     too-many f.0 f.1 (stage_view s) g (omega arith)
 
-pub counted-new : (inputs : ℕ) (f : Linear × Kind) (s z : Stage) (ds : List Entry) (n : ℕ) (is_new : Bool) → is_new ≡ not (has_arisen f.0 f.1 s.forms.keys) → is_new ≡ true → n ≡ number_of f.0 f.1 s.forms.keys → n < 4096 → z.forms.keys ≡ insert_key same_form s.forms.keys f → z.present.items ≡ s.present.items ++ (false ∷ []) → z.history.items ≡ s.history.items → Fits inputs s ds → IsCounted inputs s z ds f.0 f.1 n
+pub counted-new : (inputs : ℕ) (f : Linear × Kind) (s z : Stage) (ds : List Entry) (n : ℕ) (is_new : Bool) → is_new ≡ not (has_arisen f.0 f.1 s.forms.keys) → is_new ≡ true → n ≡ row_number f.0 f.1 s.forms.keys → n < 4096 → z.forms.keys ≡ insert_key same_form s.forms.keys f → z.present.items ≡ s.present.items ++ (false ∷ []) → z.history.items ≡ s.history.items → IsStageOf inputs s ds → IsCounted inputs s z ds f.0 f.1 n
 counted-new inputs f s z ds n is_new a h p l k m o fits =
     let g = not-true (has_arisen f.0 f.1 s.forms.keys) is_new a h in
     let q = p ∙ number-none f.0 f.1 s.forms.keys g in
@@ -100,10 +100,10 @@ counted-new inputs f s z ds n is_new a h p l k m o fits =
       grows = grows-new s z f.0 f.1 A o;
       history = o;
       arose = subst (λ B. has_arisen f.0 f.1 B ≡ true) (sym A) i.0;
-      number = ap (number_of f.0 f.1) A ∙ i.1 ∙ sym q;
+      number = ap (row_number f.0 f.1) A ∙ i.1 ∙ sym q;
     }
 
-pub counted-again : (inputs : ℕ) (f : Linear × Kind) (s z : Stage) (ds : List Entry) (n : ℕ) (is_new : Bool) → is_new ≡ not (has_arisen f.0 f.1 s.forms.keys) → is_new ≡ false → n ≡ number_of f.0 f.1 s.forms.keys → z.forms.keys ≡ insert_key same_form s.forms.keys f → z.present.items ≡ s.present.items → z.history.items ≡ s.history.items → Fits inputs s ds → IsCounted inputs s z ds f.0 f.1 n
+pub counted-again : (inputs : ℕ) (f : Linear × Kind) (s z : Stage) (ds : List Entry) (n : ℕ) (is_new : Bool) → is_new ≡ not (has_arisen f.0 f.1 s.forms.keys) → is_new ≡ false → n ≡ row_number f.0 f.1 s.forms.keys → z.forms.keys ≡ insert_key same_form s.forms.keys f → z.present.items ≡ s.present.items → z.history.items ≡ s.history.items → IsStageOf inputs s ds → IsCounted inputs s z ds f.0 f.1 n
 counted-again inputs f s z ds n is_new a h p k m o fits =
     let g = not-false (has_arisen f.0 f.1 s.forms.keys) is_new a h in
     let A : z.forms.keys ≡ s.forms.keys = k ∙ insert-old f s.forms.keys g in
@@ -114,5 +114,5 @@ counted-again inputs f s z ds n is_new a h p k m o fits =
       grows = grows-by s z A (let w = ap length o in omega arith);
       history = o;
       arose = subst (λ B. has_arisen f.0 f.1 B ≡ true) (sym A) g;
-      number = ap (number_of f.0 f.1) A ∙ sym p;
+      number = ap (row_number f.0 f.1) A ∙ sym p;
     }

@@ -6,7 +6,7 @@ use Rattle.cap_lin.specs.Laws.Sameness.{same_term-decides}
 use Rattle.cap_lin.specs.declared.row.Kind.{Kind}
 use Rattle.cap_lin.specs.declared.row.Kind.TheVariants.{Le, Lt, Eq, Ne}
 use Rattle.cap_elim.specs.Rows.{same_kind, same_row, has_arisen}
-use Rattle.cap_fm.specs.Views.{number_of}
+use Rattle.cap_fm.specs.Views.{row_number}
 use Rattle.cap_elim.proofs.Arising.{both-true, same-kind}
 use Rattle.cap_fm.proofs.Booleans.{true_or_false, or-later, or-none}
 
@@ -38,13 +38,13 @@ later-number : (b : Bool) (n : ℕ) → b ≡ false → cond (not b) (1 + n) 0 �
 later-number true n e = cc
 later-number false n e = refl
 
-pub number-first : (t : Linear) (k : Kind) (r : Linear × Kind) (rows : List (Linear × Kind)) → same_row t k r.0 r.1 ≡ true → number_of t k (r ∷ rows) ≡ 0
-number-first t k r rows e = first-number (same_row t k r.0 r.1) (number_of t k rows) e
+pub number-first : (t : Linear) (k : Kind) (r : Linear × Kind) (rows : List (Linear × Kind)) → same_row t k r.0 r.1 ≡ true → row_number t k (r ∷ rows) ≡ 0
+number-first t k r rows e = first-number (same_row t k r.0 r.1) (row_number t k rows) e
 
-pub number-later : (t : Linear) (k : Kind) (r : Linear × Kind) (rows : List (Linear × Kind)) → same_row t k r.0 r.1 ≡ false → number_of t k (r ∷ rows) ≡ 1 + number_of t k rows
-number-later t k r rows e = later-number (same_row t k r.0 r.1) (number_of t k rows) e
+pub number-later : (t : Linear) (k : Kind) (r : Linear × Kind) (rows : List (Linear × Kind)) → same_row t k r.0 r.1 ≡ false → row_number t k (r ∷ rows) ≡ 1 + row_number t k rows
+number-later t k r rows e = later-number (same_row t k r.0 r.1) (row_number t k rows) e
 
-pub number-below : (t : Linear) (k : Kind) (rows : List (Linear × Kind)) → has_arisen t k rows ≡ true → number_of t k rows < length rows
+pub number-below : (t : Linear) (k : Kind) (rows : List (Linear × Kind)) → has_arisen t k rows ≡ true → row_number t k rows < length rows
 number-below t k [] h = cc
 number-below t k (r ∷ rows) h = elim (true_or_false (same_row t k r.0 r.1)) [
   | inl e ↦ let n = number-first t k r rows e in omega arith
@@ -52,7 +52,7 @@ number-below t k (r ∷ rows) h = elim (true_or_false (same_row t k r.0 r.1)) [
 ]
 
 -- equal numbers are of equal rows
-pub number-one : (t : Linear) (k : Kind) (u : Linear) (l : Kind) (rows : List (Linear × Kind)) → has_arisen t k rows ≡ true → number_of t k rows ≡ number_of u l rows → same_row t k u l ≡ true
+pub number-one : (t : Linear) (k : Kind) (u : Linear) (l : Kind) (rows : List (Linear × Kind)) → has_arisen t k rows ≡ true → row_number t k rows ≡ row_number u l rows → same_row t k u l ≡ true
 number-one t k u l [] h e = cc
 number-one t k u l (r ∷ rows) h e = elim (true_or_false (same_row t k r.0 r.1)) [
   | inl p ↦ elim (true_or_false (same_row u l r.0 r.1)) [
@@ -66,7 +66,7 @@ number-one t k u l (r ∷ rows) h e = elim (true_or_false (same_row t k r.0 r.1)
 ]
 
 -- one more row behind the others
-pub arisen-kept : (t : Linear) (k : Kind) (rows : List (Linear × Kind)) (r : Linear × Kind) → has_arisen t k rows ≡ true → (has_arisen t k (rows ++ (r ∷ [])) ≡ true) × (number_of t k (rows ++ (r ∷ [])) ≡ number_of t k rows)
+pub arisen-kept : (t : Linear) (k : Kind) (rows : List (Linear × Kind)) (r : Linear × Kind) → has_arisen t k rows ≡ true → (has_arisen t k (rows ++ (r ∷ [])) ≡ true) × (row_number t k (rows ++ (r ∷ [])) ≡ row_number t k rows)
 arisen-kept t k [] r h = cc
 arisen-kept t k (s ∷ rows) r h = elim (true_or_false (same_row t k s.0 s.1)) [
   | inl e ↦ (ap (λ b. b || has_arisen t k (rows ++ (r ∷ []))) e, number-first t k s (rows ++ (r ∷ [])) e ∙ sym (number-first t k s rows e))
@@ -76,7 +76,7 @@ arisen-kept t k (s ∷ rows) r h = elim (true_or_false (same_row t k s.0 s.1)) [
 ]
 
 -- a row that is new is the last
-pub arisen-new : (t : Linear) (k : Kind) (rows : List (Linear × Kind)) → has_arisen t k rows ≡ false → (has_arisen t k (rows ++ ((t, k) ∷ [])) ≡ true) × (number_of t k (rows ++ ((t, k) ∷ [])) ≡ length rows)
+pub arisen-new : (t : Linear) (k : Kind) (rows : List (Linear × Kind)) → has_arisen t k rows ≡ false → (has_arisen t k (rows ++ ((t, k) ∷ [])) ≡ true) × (row_number t k (rows ++ ((t, k) ∷ [])) ≡ length rows)
 arisen-new t k [] h = let e = row-self t k in (ap (λ b. b || false) e, number-first t k (t, k) [] e)
 arisen-new t k (s ∷ rows) h =
     let n = or-none (same_row t k s.0 s.1) (has_arisen t k rows) h in

@@ -14,7 +14,7 @@ use Rattle.cap_elim.specs.Runs as plain
 use Rattle.cap_elim.specs.Runs.{Run, going, contradiction, done, results, Elimination, ◌>>=◌}
 use Rattle.cap_elim.specs.Rows.{same_row, has_arisen, is_present, is_false, are_some, has_parts, count, keep, fail, look, arise, arise_combined, combine}
 use Rattle.cap_fm.specs.Errors.{solve_error}
-use Rattle.cap_fm.specs.Views.{origin_view, history_view, stage_view, entry_view, entries_view, number_of, IsNumbered, IsOrigin, IsHistory, Fits, IsLast, Grows}
+use Rattle.cap_fm.specs.Views.{origin_view, history_view, stage_view, entry_view, entries_view, row_number, IsNumbered, IsOrigin, IsHistory, IsStageOf, IsLast, Grows}
 use Rattle.cap_fm.specs.Answers.{Is, Same, IsCounted, DoesArise, Explains, ExplainsSteps}
 use Rattle.cap_fm.specs.Entries.{Entry}
 use Rattle.cap_fm.specs.declared.entry.FalseRow.{FalseRow}
@@ -55,22 +55,22 @@ or-false false = refl
 present-more : (t : Linear) (k : Kind) (ds : List Entry) (d : Entry) → is_present t k (entries_view (ds ++ (d ∷ []))) ≡ (is_present t k (entries_view ds) || (same_row t k d.term d.kind || false))
 present-more t k ds d = ap (is_present t k) (map-append entry_view ds (d ∷ [])) ∙ list_any-append (λ r. same_row t k r.term r.kind) (entries_view ds) (entry_view d ∷ [])
 
-kept-mark : (t : Linear) (k : Kind) (rows : List (Linear × Kind)) (marks : List Bool) (ds : List Entry) (d : Entry) → length marks ≡ length rows → has_arisen d.term d.kind rows ≡ true → number_of d.term d.kind rows ≡ d.number → has_arisen t k rows ≡ true → get_or marks (number_of t k rows) false ≡ is_present t k (entries_view ds) → get_or (set marks d.number true) (number_of t k rows) false ≡ is_present t k (entries_view (ds ++ (d ∷ [])))
+kept-mark : (t : Linear) (k : Kind) (rows : List (Linear × Kind)) (marks : List Bool) (ds : List Entry) (d : Entry) → length marks ≡ length rows → has_arisen d.term d.kind rows ≡ true → row_number d.term d.kind rows ≡ d.number → has_arisen t k rows ≡ true → get_or marks (row_number t k rows) false ≡ is_present t k (entries_view ds) → get_or (set marks d.number true) (row_number t k rows) false ≡ is_present t k (entries_view (ds ++ (d ∷ [])))
 kept-mark t k rows marks ds d l a n h m = elim (true_or_false (same_row t k d.term d.kind)) [
   | inl e ↦
       let q = row-is t k d.term d.kind e in
-      let i : number_of t k rows ≡ d.number = rw (q.0, q.1) n in
+      let i : row_number t k rows ≡ d.number = rw (q.0, q.1) n in
       let b = number-below t k rows h in
       ap (λ j. get_or (set marks d.number true) j false) i ∙ get_or-set_same marks d.number true false (omega arith) ∙ sym (present-more t k ds d ∙ ap (λ b. is_present t k (entries_view ds) || (b || false)) e ∙ or-true (is_present t k (entries_view ds)))
   | inr e ↦
-      let o : number_of t k rows ≢ d.number = λ i. absurd (false-true (sym e ∙ number-one t k d.term d.kind rows h (i ∙ sym n))) in
-      get_or-set_other marks d.number (number_of t k rows) true false o ∙ m ∙ sym (present-more t k ds d ∙ ap (λ b. is_present t k (entries_view ds) || (b || false)) e ∙ or-false (is_present t k (entries_view ds)))
+      let o : row_number t k rows ≢ d.number = λ i. absurd (false-true (sym e ∙ number-one t k d.term d.kind rows h (i ∙ sym n))) in
+      get_or-set_other marks d.number (row_number t k rows) true false o ∙ m ∙ sym (present-more t k ds d ∙ ap (λ b. is_present t k (entries_view ds) || (b || false)) e ∙ or-false (is_present t k (entries_view ds)))
 ]
   where
     false-true : false ≡ true → ⊥
     false-true p = cc
 
-pub fits-kept : (inputs : ℕ) (s z : Stage) (o : Origin) (ds : List Entry) (d : Entry) → z.forms.keys ≡ s.forms.keys → z.present.items ≡ set s.present.items d.number true → z.history.items ≡ s.history.items ++ (o ∷ []) → IsOrigin inputs (length s.history.items) o → has_arisen d.term d.kind (stage_view s).arisen ≡ true → number_of d.term d.kind (stage_view s).arisen ≡ d.number → d.origin ≡ length s.history.items → Fits inputs s ds → Fits inputs z (ds ++ (d ∷ [])) × Grows s z
+pub fits-kept : (inputs : ℕ) (s z : Stage) (o : Origin) (ds : List Entry) (d : Entry) → z.forms.keys ≡ s.forms.keys → z.present.items ≡ set s.present.items d.number true → z.history.items ≡ s.history.items ++ (o ∷ []) → IsOrigin inputs (length s.history.items) o → has_arisen d.term d.kind (stage_view s).arisen ≡ true → row_number d.term d.kind (stage_view s).arisen ≡ d.number → d.origin ≡ length s.history.items → IsStageOf inputs s ds → IsStageOf inputs z (ds ++ (d ∷ [])) × Grows s z
 fits-kept inputs s z o ds d k m h i a n q f =
     let A : (stage_view z).arisen ≡ (stage_view s).arisen = k in
     let l = more-origins s.history.items z.history.items o h in
@@ -79,11 +79,11 @@ fits-kept inputs s z o ds d k m h i a n q f =
         marked = record {
           long = ap length m ∙ length-set s.present.items d.number true ∙ f.marked.long ∙ sym (ap length A);
           tell = λ t k e.
-              ap (λ ms. get_or ms (number_of t k (stage_view z).arisen) false) m
-              ∙ ap (λ B. get_or (set s.present.items d.number true) (number_of t k B) false) A
+              ap (λ ms. get_or ms (row_number t k (stage_view z).arisen) false) m
+              ∙ ap (λ B. get_or (set s.present.items d.number true) (row_number t k B) false) A
               ∙ (let e2 = subst (λ B. has_arisen t k B ≡ true) A e in kept-mark t k (stage_view s).arisen s.present.items ds d f.marked.long a n e2 (f.marked.tell t k e2));
         };
-        numbered = push-all (IsNumbered z) ds d (all-grow s z ds g f.numbered) (record { arose = subst (λ B. has_arisen d.term d.kind B ≡ true) (sym A) a; number = ap (number_of d.term d.kind) A ∙ n; origin = omega arith });
+        numbered = push-all (IsNumbered z) ds d (all-grow s z ds g f.numbered) (record { arose = subst (λ B. has_arisen d.term d.kind B ≡ true) (sym A) a; number = ap (row_number d.term d.kind) A ∙ n; origin = omega arith });
         history = subst (IsHistory inputs) (sym h) (history-push inputs s.history.items o f.history i);
       },
       g,
@@ -97,7 +97,7 @@ pub fail-is : (s z : Stage) (o : Origin) (t : Linear) (k : Kind) (place : ℕ) �
 unfolding first_limit
 fail-is s z o t k place f h p = record { within = refl; found = ap (λ i. contradiction (plain.entry t k i)) (p ∙ sym (history-length s)); stage = history-more s z o f h }
 
-pub last-is : (inputs : ℕ) (s z : Stage) (o : Origin) (d : FalseRow) (ds : List Entry) → z.history.items ≡ s.history.items ++ (o ∷ []) → d.origin ≡ length s.history.items → IsOrigin inputs (length s.history.items) o → Fits inputs s ds → IsLast inputs z d
+pub last-is : (inputs : ℕ) (s z : Stage) (o : Origin) (d : FalseRow) (ds : List Entry) → z.history.items ≡ s.history.items ++ (o ∷ []) → d.origin ≡ length s.history.items → IsOrigin inputs (length s.history.items) o → IsStageOf inputs s ds → IsLast inputs z d
 last-is inputs s z o d ds h p i f = let l = more-origins s.history.items z.history.items o h in record { last = omega arith; history = subst (IsHistory inputs) (sym h) (history-push inputs s.history.items o f.history i) }
 
 pub grows-noted : (s z : Stage) (o : Origin) → z.forms.keys ≡ s.forms.keys → z.history.items ≡ s.history.items ++ (o ∷ []) → Grows s z

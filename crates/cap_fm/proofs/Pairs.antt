@@ -13,8 +13,8 @@ use Rattle.cap_fm.specs.declared.entry.FalseRow.{FalseRow}
 use Rattle.cap_fm.specs.declared.entry.Arisen.TheVariants.{LeftOut, Kept, False}
 use Rattle.cap_fm.specs.declared.stage.Stage.{Stage}
 use Rattle.cap_fm.specs.declared.error.SolveError.{SolveError}
-use Rattle.cap_fm.specs.Views.{upper_rows, lower_rows, stage_view, entry_view, entries_view, entry_of, false_view, lacking_rows, Fits, IsLast, Grows, IsNumbered, AreNumbered}
-use Rattle.cap_fm.specs.Answers.{AllBounds, Explains, Is, Same, Arises, Leaves}
+use Rattle.cap_fm.specs.Views.{upper_rows, lower_rows, stage_view, entry_view, entries_view, entry_of, false_view, lacking_rows, IsStageOf, IsLast, Grows, IsNumbered, AreNumbered}
+use Rattle.cap_fm.specs.Answers.{AllBounds, Explains, Is, Same, Arises, OnlyLeaves}
 use Rattle.cap_elim.proofs.Lists.{each-filter}
 use Rattle.cap_fm.proofs.Stages.{all-grow}
 use Rattle.cap_fm.proofs.Runs.{then-continues, then-stops, then-fails, same-is, same-explains, same-then, same-refl}
@@ -30,11 +30,11 @@ each-cons x present p n ns = refl
 
 -- the work that remains of the combinations of one bound
 pub record EachGoes (inputs x : ℕ) (upper : Entry) (old now : Stage) (kept held all rest : List Entry) : Type 0 where
-  pub fits : Fits inputs now held
+  pub fits : IsStageOf inputs now held
   pub grows : Grows old now
   pub same : Same (combine_each x (entries_view kept) (entry_view upper) (entries_view all) (stage_view old)) (combine_each x (entries_view held) (entry_view upper) (entries_view rest) (stage_view now))
 
-pub each-starts : (inputs x : ℕ) (upper : Entry) (s : Stage) (kept all : List Entry) → Fits inputs s kept → EachGoes inputs x upper s s kept kept all all
+pub each-starts : (inputs x : ℕ) (upper : Entry) (s : Stage) (kept all : List Entry) → IsStageOf inputs s kept → EachGoes inputs x upper s s kept kept all all
 each-starts inputs x upper s kept all f = record { fits = f; grows = λ d n. n; same = same-refl _ }
 
 pub each-next : (inputs x : ℕ) (upper : Entry) (old now : Stage) (kept held all : List Entry) (i : ℕ) (d : Entry) → i < length all → d ≡ get_or all i d → EachGoes inputs x upper old now kept held all (drop i all) → EachGoes inputs x upper old now kept held all (d ∷ drop (i + 1) all)
@@ -75,7 +75,7 @@ each-fails inputs x upper d e old now kept held all rest h f =
     same-explains e _ (combine_each x (entries_view held) (entry_view upper) (entries_view (d ∷ rest)) (stage_view now)) h.same
     (rw (each-cons x (entries_view held) (entry_view upper) (entry_view d) (entries_view rest)) (then-fails (combine_bounds x (entries_view held) (entry_view upper) (entry_view d)) (λ more. combine_each x (entries_view held ++ more) (entry_view upper) (entries_view rest)) (stage_view now) e f))
 
-pub each-ends : (inputs x : ℕ) (upper : Entry) (old now : Stage) (kept held all : List Entry) (i : ℕ) → length all ≤ i → EachGoes inputs x upper old now kept held all (drop i all) → Is (going (entries_view held)) (stage_view now) (combine_each x (entries_view kept) (entry_view upper) (entries_view all) (stage_view old)) × Fits inputs now held × Grows old now
+pub each-ends : (inputs x : ℕ) (upper : Entry) (old now : Stage) (kept held all : List Entry) (i : ℕ) → length all ≤ i → EachGoes inputs x upper old now kept held all (drop i all) → Is (going (entries_view held)) (stage_view now) (combine_each x (entries_view kept) (entry_view upper) (entries_view all) (stage_view old)) × IsStageOf inputs now held × Grows old now
 each-ends inputs x upper old now kept held all i l h =
     let e : EachGoes inputs x upper old now kept held all [] = subst (EachGoes inputs x upper old now kept held all) (drop_all i all l) h in
     (same-is _ _ _ (combine_each x (entries_view held) (entry_view upper) [] (stage_view now)) e.same (rw (each-nil x (entries_view held) (entry_view upper)) (done-is _ _)), e.fits, e.grows)
@@ -100,12 +100,12 @@ all-cons x present p ps ns = refl
 
 -- the work that remains of them
 pub record BoundsGo (inputs x : ℕ) (old now : Stage) (rows held rest below : List Entry) : Type 0 where
-  pub fits : Fits inputs now held
+  pub fits : IsStageOf inputs now held
   pub above_numbered : AreNumbered now rest
   pub below_numbered : AreNumbered now below
   pub same : Same (AllBounds x rows old) (combine_all x (entries_view held) (entries_view rest) (entries_view below) (stage_view now))
 
-pub bounds-start : (inputs x : ℕ) (old now : Stage) (rows held above below : List Entry) → Fits inputs old rows → Leaves inputs old now (lacking_rows x rows) → held ≡ lacking_rows x rows → above ≡ upper_rows x rows → below ≡ lower_rows x rows → BoundsGo inputs x old now rows held above below
+pub bounds-start : (inputs x : ℕ) (old now : Stage) (rows held above below : List Entry) → IsStageOf inputs old rows → OnlyLeaves inputs old now (lacking_rows x rows) → held ≡ lacking_rows x rows → above ≡ upper_rows x rows → below ≡ lower_rows x rows → BoundsGo inputs x old now rows held above below
 bounds-start inputs x old now rows held above below f l a b c =
     let n = all-grow old now rows l.grows f.numbered in
     rw (a, b, c) (record {
@@ -118,7 +118,7 @@ bounds-start inputs x old now rows held above below f l a b c =
 pub bounds-next : (inputs x : ℕ) (old now : Stage) (rows held above below : List Entry) (i : ℕ) (d : Entry) → i < length above → d ≡ get_or above i d → BoundsGo inputs x old now rows held (drop i above) below → BoundsGo inputs x old now rows held (d ∷ drop (i + 1) above) below
 bounds-next inputs x old now rows held above below i d l g h = subst (λ es. BoundsGo inputs x old now rows held es below) (drop_more above i d l ∙ ap (λ e. e ∷ drop (i + 1) above) (sym g)) h
 
-pub bounds-more : (inputs x : ℕ) (old now new : Stage) (rows held more rest below : List Entry) (d : Entry) → BoundsGo inputs x old now rows held (d ∷ rest) below → Is (going (entries_view more)) (stage_view new) (combine_each x (entries_view held) (entry_view d) (entries_view below) (stage_view now)) → Fits inputs new more → Grows now new → BoundsGo inputs x old new rows more rest below
+pub bounds-more : (inputs x : ℕ) (old now new : Stage) (rows held more rest below : List Entry) (d : Entry) → BoundsGo inputs x old now rows held (d ∷ rest) below → Is (going (entries_view more)) (stage_view new) (combine_each x (entries_view held) (entry_view d) (entries_view below) (stage_view now)) → IsStageOf inputs new more → Grows now new → BoundsGo inputs x old new rows more rest below
 bounds-more inputs x old now new rows held more rest below d h i f g = record {
   fits = f;
   above_numbered = all-grow now new rest g h.above_numbered.1;
@@ -136,7 +136,7 @@ bounds-fails inputs x old now rows held rest below d e h f =
     same-explains e _ (combine_all x (entries_view held) (entries_view (d ∷ rest)) (entries_view below) (stage_view now)) h.same
     (rw (all-cons x (entries_view held) (entry_view d) (entries_view rest) (entries_view below)) (then-fails (combine_each x (entries_view held) (entry_view d) (entries_view below)) (λ es. combine_all x es (entries_view rest) (entries_view below)) (stage_view now) e f))
 
-pub bounds-end : (inputs x : ℕ) (old now : Stage) (rows held above below : List Entry) (i : ℕ) → length above ≤ i → BoundsGo inputs x old now rows held (drop i above) below → Is (going (entries_view held)) (stage_view now) (AllBounds x rows old) × Fits inputs now held
+pub bounds-end : (inputs x : ℕ) (old now : Stage) (rows held above below : List Entry) (i : ℕ) → length above ≤ i → BoundsGo inputs x old now rows held (drop i above) below → Is (going (entries_view held)) (stage_view now) (AllBounds x rows old) × IsStageOf inputs now held
 bounds-end inputs x old now rows held above below i l h =
     let e : BoundsGo inputs x old now rows held [] below = subst (λ es. BoundsGo inputs x old now rows held es below) (drop_all i above l) h in
     (same-is _ _ _ (combine_all x (entries_view held) [] (entries_view below) (stage_view now)) e.same (rw (all-nil x (entries_view held) (entries_view below)) (done-is _ _)), e.fits)

@@ -10,8 +10,8 @@ use Rattle.cap_lin.specs.declared.row.Kind.{Kind}
 use Rattle.cap_elim.specs.Rows.{same_row, has_arisen, is_present}
 use Rattle.cap_fm.specs.Entries.{Entry}
 use Rattle.cap_fm.specs.declared.stage.Stage.{Stage}
-use Rattle.cap_fm.specs.Views.{stage_view, entries_view, term_of, lacking_rows, number_of, Fits, IsNumbered, AreNumbered, Grows}
-use Rattle.cap_fm.specs.Answers.{Remarks, Leaves}
+use Rattle.cap_fm.specs.Views.{stage_view, entries_view, term_of, lacking_rows, row_number, IsStageOf, IsNumbered, AreNumbered, Grows}
+use Rattle.cap_fm.specs.Answers.{Remarks, OnlyLeaves}
 use Rattle.cap_elim.proofs.Lists.{each-filter}
 use Rattle.cap_fm.proofs.Each.{each-at}
 use Rattle.cap_fm.proofs.Stages.{all-grow}
@@ -95,7 +95,7 @@ pub record HasLeft (x : ℕ) (old new : Stage) (ds : List Entry) : Type 0 where
   pub history : new.history.items ≡ old.history.items
   pub zero : new.zero ≡ old.zero
   pub long : length new.present.items ≡ length old.present.items
-  pub tell : (t : Linear) (k : Kind) → has_arisen t k (stage_view old).arisen ≡ true → get_or new.present.items (number_of t k (stage_view old).arisen) false ≡ (get_or old.present.items (number_of t k (stage_view old).arisen) false && not (is_left x t k ds))
+  pub tell : (t : Linear) (k : Kind) → has_arisen t k (stage_view old).arisen ≡ true → get_or new.present.items (row_number t k (stage_view old).arisen) false ≡ (get_or old.present.items (row_number t k (stage_view old).arisen) false && not (is_left x t k ds))
 
 pub none-left : (x : ℕ) (s : Stage) → HasLeft x s s []
 none-left x s = record { forms = refl; history = refl; zero = refl; long = refl; tell = λ t k h. sym (and-true _) }
@@ -130,22 +130,22 @@ passes-one x old mid ds i d l g z h = record {
   history = h.history;
   zero = h.zero;
   long = h.long;
-  tell = λ t k a. h.tell t k a ∙ ap (λ b. get_or old.present.items (number_of t k (stage_view old).arisen) false && not b) (sym (left-more x t k ds i d l g ∙ or-zero _ (same_row t k d.term d.kind) (is_left x t k (take i ds)) z));
+  tell = λ t k a. h.tell t k a ∙ ap (λ b. get_or old.present.items (row_number t k (stage_view old).arisen) false && not b) (sym (left-more x t k ds i d l g ∙ or-zero _ (same_row t k d.term d.kind) (is_left x t k (take i ds)) z));
 }
 
-marks-one : (x : ℕ) (old mid new : Stage) (ds : List Entry) (i : ℕ) (d : Entry) (t : Linear) (k : Kind) → IsNumbered old d → length old.present.items ≡ length (stage_view old).arisen → i < length ds → d ≡ get_or ds i d → is_zero (coefficient x d.term.parts) ≡ false → Remarks mid new d.number false → HasLeft x old mid (take i ds) → has_arisen t k (stage_view old).arisen ≡ true → get_or new.present.items (number_of t k (stage_view old).arisen) false ≡ (get_or old.present.items (number_of t k (stage_view old).arisen) false && not (is_left x t k (take (i + 1) ds)))
+marks-one : (x : ℕ) (old mid new : Stage) (ds : List Entry) (i : ℕ) (d : Entry) (t : Linear) (k : Kind) → IsNumbered old d → length old.present.items ≡ length (stage_view old).arisen → i < length ds → d ≡ get_or ds i d → is_zero (coefficient x d.term.parts) ≡ false → Remarks mid new d.number false → HasLeft x old mid (take i ds) → has_arisen t k (stage_view old).arisen ≡ true → get_or new.present.items (row_number t k (stage_view old).arisen) false ≡ (get_or old.present.items (row_number t k (stage_view old).arisen) false && not (is_left x t k (take (i + 1) ds)))
 marks-one x old mid new ds i d t k n m l g z r h a = elim (true_or_false (same_row t k d.term d.kind)) [
   | inl s ↦
       let q = row-is t k d.term d.kind s in
-      let e : number_of t k (stage_view old).arisen ≡ d.number = ap (λ u. number_of u k (stage_view old).arisen) q.0 ∙ ap (λ c. number_of d.term c (stage_view old).arisen) q.1 ∙ n.number in
+      let e : row_number t k (stage_view old).arisen ≡ d.number = ap (λ u. row_number u k (stage_view old).arisen) q.0 ∙ ap (λ c. row_number d.term c (stage_view old).arisen) q.1 ∙ n.number in
       let b = number-below d.term d.kind (stage_view old).arisen n.arose in
       let f = n.number in
       let o = h.long in
       let w : d.number < length mid.present.items = omega arith in
-      rw (left-more x t k ds i d l g, none-of _ _ (is_left x t k (take i ds)) (get_or old.present.items (number_of t k (stage_view old).arisen) false) z s, e, r.marks) (get_or-set_same mid.present.items d.number false false w)
+      rw (left-more x t k ds i d l g, none-of _ _ (is_left x t k (take i ds)) (get_or old.present.items (row_number t k (stage_view old).arisen) false) z s, e, r.marks) (get_or-set_same mid.present.items d.number false false w)
   | inr s ↦
-      let other : number_of t k (stage_view old).arisen ≢ d.number = λ e. false≢true (sym s ∙ number-one t k d.term d.kind (stage_view old).arisen a (e ∙ sym n.number)) in
-      rw (left-more x t k ds i d l g, not-that (is_zero (coefficient x d.term.parts)) _ (is_left x t k (take i ds)) s, r.marks) (get_or-set_other mid.present.items d.number (number_of t k (stage_view old).arisen) false false other ∙ h.tell t k a)
+      let other : row_number t k (stage_view old).arisen ≢ d.number = λ e. false≢true (sym s ∙ number-one t k d.term d.kind (stage_view old).arisen a (e ∙ sym n.number)) in
+      rw (left-more x t k ds i d l g, not-that (is_zero (coefficient x d.term.parts)) _ (is_left x t k (take i ds)) s, r.marks) (get_or-set_other mid.present.items d.number (row_number t k (stage_view old).arisen) false false other ∙ h.tell t k a)
 ]
 
 pub leaves-one : (x : ℕ) (old mid new : Stage) (ds : List Entry) (i : ℕ) (d : Entry) → AreNumbered old ds → length old.present.items ≡ length (stage_view old).arisen → i < length ds → d ≡ get_or ds i d → is_zero (coefficient x d.term.parts) ≡ false → Remarks mid new d.number false → HasLeft x old mid (take i ds) → HasLeft x old new (take (i + 1) ds)
@@ -160,7 +160,7 @@ leaves-one x old mid new ds i d n m l g z r h = record {
 grows-same : (old new : Stage) → new.forms.keys ≡ old.forms.keys → new.history.items ≡ old.history.items → Grows old new
 grows-same old new f h d n = record { arose = rw f n.arose; number = rw f n.number; origin = rw h n.origin }
 
-pub all-left : (x inputs : ℕ) (old new : Stage) (ds : List Entry) → Fits inputs old ds → HasLeft x old new ds → Leaves inputs old new (lacking_rows x ds)
+pub all-left : (x inputs : ℕ) (old new : Stage) (ds : List Entry) → IsStageOf inputs old ds → HasLeft x old new ds → OnlyLeaves inputs old new (lacking_rows x ds)
 all-left x inputs old new ds f h =
     let grows = grows-same old new h.forms h.history in
     record {

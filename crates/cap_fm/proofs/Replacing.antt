@@ -20,7 +20,7 @@ use Rattle.cap_fm.specs.declared.entry.FalseRow.{FalseRow}
 use Rattle.cap_fm.specs.declared.entry.Arisen.TheVariants.{LeftOut, Kept, False}
 use Rattle.cap_fm.specs.declared.stage.Stage.{Stage}
 use Rattle.cap_fm.specs.declared.error.SolveError.{SolveError}
-use Rattle.cap_fm.specs.Views.{stage_view, entry_view, entries_view, entry_of, false_view, lacking_rows, Fits, IsLast, IsNumbered, AreNumbered}
+use Rattle.cap_fm.specs.Views.{stage_view, entry_view, entries_view, entry_of, false_view, lacking_rows, IsStageOf, IsLast, IsNumbered, AreNumbered}
 use Rattle.cap_fm.specs.Answers.{Replacement, Explains, Is, Same, Arises}
 use Rattle.cap_fm.proofs.Runs.{then-continues, then-stops, then-fails, same-is, same-explains, same-then, same-refl}
 use Rattle.cap_elim.proofs.Lists.{each-join, each-left, each-right}
@@ -80,7 +80,7 @@ present-moved t k ds es fs =
     ∙ exchanged (is_present t k (entries_view ds)) (is_present t k (entries_view fs)) (is_present t k (entries_view es))
     ∙ sym (present-append t k (ds ++ fs) es ∙ ap (λ b. b || is_present t k (entries_view es)) (present-append t k ds fs))
 
-fits-moved : (inputs : ℕ) (s : Stage) (ds es fs : List Entry) → Fits inputs s ((ds ++ es) ++ fs) → Fits inputs s ((ds ++ fs) ++ es)
+fits-moved : (inputs : ℕ) (s : Stage) (ds es fs : List Entry) → IsStageOf inputs s ((ds ++ es) ++ fs) → IsStageOf inputs s ((ds ++ fs) ++ es)
 fits-moved inputs s ds es fs f =
     let n = each-left (IsNumbered s) (ds ++ es) fs f.numbered in
     record {
@@ -101,12 +101,12 @@ all-cons x equation before r rows = refl
 
 -- the work that remains
 pub record AllGoes (inputs x : ℕ) (equation : Entry) (old now : Stage) (held all rest : List Entry) : Type 0 where
-  pub fits : Fits inputs now (held ++ lacking_rows x rest)
+  pub fits : IsStageOf inputs now (held ++ lacking_rows x rest)
   pub numbered : AreNumbered now rest
   pub equation_numbered : IsNumbered now equation
   pub same : Same (replace_all x (entry_view equation) [] (entries_view all) (stage_view old)) (replace_all x (entry_view equation) (entries_view held) (entries_view rest) (stage_view now))
 
-pub all-starts : (inputs x : ℕ) (equation : Entry) (s : Stage) (held all rest : List Entry) → held ≡ [] → rest ≡ all → Fits inputs s (lacking_rows x all) → AreNumbered s all → IsNumbered s equation → AllGoes inputs x equation s s held all rest
+pub all-starts : (inputs x : ℕ) (equation : Entry) (s : Stage) (held all rest : List Entry) → held ≡ [] → rest ≡ all → IsStageOf inputs s (lacking_rows x all) → AreNumbered s all → IsNumbered s equation → AllGoes inputs x equation s s held all rest
 all-starts inputs x equation s held all rest h r f n m = rw (h, r) (record { fits = f; numbered = n; equation_numbered = m; same = same-refl _ })
 
 step-same : (x : ℕ) (equation d : Entry) (held more rest : List Entry) (s t : plain.Stage) (new : List plain.Entry) → Is (going new) t (replace x (entry_view equation) (entries_view held ++ entries_view rest) (entry_view d) s) → entries_view held ++ new ≡ entries_view more → Same (replace_all x (entry_view equation) (entries_view held) (entries_view (d ∷ rest)) s) (replace_all x (entry_view equation) (entries_view more) (entries_view rest) t)
@@ -120,7 +120,7 @@ stays x equation d present s z = rw z (done-is _ _)
 
 pub all-stays : (inputs x : ℕ) (equation d : Entry) (old now : Stage) (held more all rest : List Entry) → is_zero (coefficient x d.term.parts) ≡ true → more ≡ held ++ (d ∷ []) → AllGoes inputs x equation old now held all (d ∷ rest) → AllGoes inputs x equation old now more all rest
 all-stays inputs x equation d old now held more all rest z m h = subst (λ es. AllGoes inputs x equation old now es all rest) (sym m) (record {
-  fits = subst (Fits inputs now) (ap (λ b. held ++ cond b (d ∷ lacking_rows x rest) (lacking_rows x rest)) z ∙ sym (append_assoc held (d ∷ []) (lacking_rows x rest))) h.fits;
+  fits = subst (IsStageOf inputs now) (ap (λ b. held ++ cond b (d ∷ lacking_rows x rest) (lacking_rows x rest)) z ∙ sym (append_assoc held (d ∷ []) (lacking_rows x rest))) h.fits;
   numbered = h.numbered.1;
   equation_numbered = h.equation_numbered;
   same = same-then _ _ _ h.same (step-same x equation d held (held ++ (d ∷ [])) rest (stage_view now) (stage_view now) (entry_view d ∷ []) (stays x equation d (entries_view held ++ entries_view rest) (stage_view now) z) (sym (map-append entry_view held (d ∷ []))));
@@ -133,8 +133,8 @@ run-same x equation d held rest s z =
     ∙ replacement-by x (entries_view held ++ entries_view rest) (entries_view (held ++ lacking_rows x rest)) (of_row x (entry_view equation)) (of_row x (entry_view d)) (entry_view equation) (entry_view d) s refl refl (rest-lacking x held rest)
 
 -- without it, fewer rows are present
-pub fits-rest : (inputs x : ℕ) (s : Stage) (d : Entry) (held rest : List Entry) → is_zero (coefficient x d.term.parts) ≡ false → Fits inputs s (held ++ lacking_rows x (d ∷ rest)) → Fits inputs s (held ++ lacking_rows x rest)
-fits-rest inputs x s d held rest z f = subst (Fits inputs s) (ap (λ b. held ++ cond b (d ∷ lacking_rows x rest) (lacking_rows x rest)) z) f
+pub fits-rest : (inputs x : ℕ) (s : Stage) (d : Entry) (held rest : List Entry) → is_zero (coefficient x d.term.parts) ≡ false → IsStageOf inputs s (held ++ lacking_rows x (d ∷ rest)) → IsStageOf inputs s (held ++ lacking_rows x rest)
+fits-rest inputs x s d held rest z f = subst (IsStageOf inputs s) (ap (λ b. held ++ cond b (d ∷ lacking_rows x rest) (lacking_rows x rest)) z) f
 
 abbrev RunOf : ℕ → Entry → Entry → Stage → List Entry → List Entry → Run (List plain.Entry)
 RunOf x equation d now held rest = Replacement x equation d (held ++ lacking_rows x rest) now
@@ -175,10 +175,10 @@ all-fails inputs x equation d e old now held all rest z f h =
     same-explains e _ (replace_all x (entry_view equation) (entries_view held) (entries_view (d ∷ rest)) (stage_view now)) h.same
     (rw (all-cons x (entry_view equation) (entries_view held) (entry_view d) (entries_view rest)) (then-fails (replace x (entry_view equation) (entries_view held ++ entries_view rest) (entry_view d)) (λ es. replace_all x (entry_view equation) (entries_view held ++ es) (entries_view rest)) (stage_view now) e g))
 
-pub all-ends : (inputs x : ℕ) (equation : Entry) (old now : Stage) (held all rest : List Entry) → rest ≡ [] → AllGoes inputs x equation old now held all rest → Is (going (entries_view held)) (stage_view now) (replace_all x (entry_view equation) [] (entries_view all) (stage_view old)) × Fits inputs now held
+pub all-ends : (inputs x : ℕ) (equation : Entry) (old now : Stage) (held all rest : List Entry) → rest ≡ [] → AllGoes inputs x equation old now held all rest → Is (going (entries_view held)) (stage_view now) (replace_all x (entry_view equation) [] (entries_view all) (stage_view old)) × IsStageOf inputs now held
 all-ends inputs x equation old now held all rest n h =
     let e : AllGoes inputs x equation old now held all [] = subst (AllGoes inputs x equation old now held all) n h in
-    (same-is _ _ _ (replace_all x (entry_view equation) (entries_view held) [] (stage_view now)) e.same (rw (all-nil x (entry_view equation) (entries_view held)) (done-is _ _)), subst (Fits inputs now) (append-nil held) e.fits)
+    (same-is _ _ _ (replace_all x (entry_view equation) (entries_view held) [] (stage_view now)) e.same (rw (all-nil x (entry_view equation) (entries_view held)) (done-is _ _)), subst (IsStageOf inputs now) (append-nil held) e.fits)
 
 pub no-items : {X : Type 0} (xs : List X) (n : ℕ) → length xs ≡ n → n ≡ 0 → xs ≡ []
 no-items [] n e z = refl

@@ -6,7 +6,7 @@ use Rattle.std.specs.Prelude.{◌||◌}
 use Rattle.cap_lin.specs.Linear.{Linear}
 use Rattle.cap_lin.specs.declared.row.Kind.{Kind}
 use Rattle.cap_elim.specs.Rows.{same_row, has_arisen, is_present}
-use Rattle.cap_fm.specs.Views.{stage_view, entries_view, number_of, AreNumbered, IsMarked, IsOrigin, IsHistory, IsHistoryFrom, Fits, Grows}
+use Rattle.cap_fm.specs.Views.{stage_view, entries_view, row_number, AreNumbered, IsMarked, IsOrigin, IsHistory, IsHistoryFrom, IsStageOf, Grows}
 use Rattle.cap_fm.specs.Entries.{Entry}
 use Rattle.cap_fm.specs.declared.entry.Origin.{Origin}
 use Rattle.cap_fm.specs.declared.stage.Stage.{Stage}
@@ -22,7 +22,7 @@ all-grow s t (d ∷ ds) g a = (g d a.0, all-grow s t ds g a.1)
 pub grows-by : (s t : Stage) → (stage_view t).arisen ≡ (stage_view s).arisen → length s.history.items ≤ length t.history.items → Grows s t
 grows-by s t a h d n = record {
   arose = subst (λ A. has_arisen d.term d.kind A ≡ true) (sym a) n.arose;
-  number = subst (λ A. number_of d.term d.kind A ≡ d.number) (sym a) n.number;
+  number = subst (λ A. row_number d.term d.kind A ≡ d.number) (sym a) n.number;
   origin = let o = n.origin in omega arith;
 }
 
@@ -39,11 +39,11 @@ present-arisen s t k (d ∷ ds) a h = elim (true_or_false (same_row t k d.term d
 
 -- ---- a stage with the same rows
 
-pub fits-by : (inputs : ℕ) (s t : Stage) (ds : List Entry) → (stage_view t).arisen ≡ (stage_view s).arisen → t.present.items ≡ s.present.items → t.history.items ≡ s.history.items → Fits inputs s ds → Fits inputs t ds
+pub fits-by : (inputs : ℕ) (s t : Stage) (ds : List Entry) → (stage_view t).arisen ≡ (stage_view s).arisen → t.present.items ≡ s.present.items → t.history.items ≡ s.history.items → IsStageOf inputs s ds → IsStageOf inputs t ds
 fits-by inputs s t ds a m h f = record {
   marked = record {
     long = ap length m ∙ f.marked.long ∙ sym (ap length a);
-    tell = λ u l e. ap (λ z. get_or z (number_of u l (stage_view t).arisen) false) m ∙ ap (λ A. get_or s.present.items (number_of u l A) false) a ∙ f.marked.tell u l (subst (λ A. has_arisen u l A ≡ true) a e);
+    tell = λ u l e. ap (λ z. get_or z (row_number u l (stage_view t).arisen) false) m ∙ ap (λ A. get_or s.present.items (row_number u l A) false) a ∙ f.marked.tell u l (subst (λ A. has_arisen u l A ≡ true) a e);
   };
   numbered = all-grow s t ds (grows-by s t a (subst (λ n. n ≤ length t.history.items) (ap length h) (omega arith))) f.numbered;
   history = subst (IsHistory inputs) (sym h) f.history;
@@ -56,7 +56,7 @@ grows-new s t u l a h d n =
     let k = arisen-kept d.term d.kind (stage_view s).arisen (u, l) n.arose in
     record {
       arose = subst (λ A. has_arisen d.term d.kind A ≡ true) (sym a) k.0;
-      number = subst (λ A. number_of d.term d.kind A ≡ d.number) (sym a) (k.1 ∙ n.number);
+      number = subst (λ A. row_number d.term d.kind A ≡ d.number) (sym a) (k.1 ∙ n.number);
       origin = subst (λ n. d.origin < n) (sym (ap length h)) n.origin;
     }
 
@@ -64,26 +64,26 @@ present-none : (b : Bool) → (b ≡ true → false ≡ true) → b ≡ false
 present-none true f = sym (f refl)
 present-none false f = refl
 
-new-mark : (s : Stage) (t u : Linear) (k l : Kind) (ds : List Entry) (marks : List Bool) → AreNumbered s ds → length marks ≡ length (stage_view s).arisen → has_arisen u l (stage_view s).arisen ≡ false → same_row t k u l ≡ true → get_or (marks ++ (false ∷ [])) (number_of t k ((stage_view s).arisen ++ ((u, l) ∷ []))) false ≡ is_present t k (entries_view ds)
+new-mark : (s : Stage) (t u : Linear) (k l : Kind) (ds : List Entry) (marks : List Bool) → AreNumbered s ds → length marks ≡ length (stage_view s).arisen → has_arisen u l (stage_view s).arisen ≡ false → same_row t k u l ≡ true → get_or (marks ++ (false ∷ [])) (row_number t k ((stage_view s).arisen ++ ((u, l) ∷ []))) false ≡ is_present t k (entries_view ds)
 new-mark s t u k l ds marks a e n q =
     let r = row-is t k u l q in
     let f : is_present u l (entries_view ds) ≡ false = present-none (is_present u l (entries_view ds)) (λ p. sym n ∙ present-arisen s u l ds a p) in
-    let g : number_of u l ((stage_view s).arisen ++ ((u, l) ∷ [])) ≡ length marks = (arisen-new u l (stage_view s).arisen n).1 ∙ sym e in
+    let g : row_number u l ((stage_view s).arisen ++ ((u, l) ∷ [])) ≡ length marks = (arisen-new u l (stage_view s).arisen n).1 ∙ sym e in
     rw (r.0, r.1) (ap (λ i. get_or (marks ++ (false ∷ [])) i false) g ∙ get_or-append_seam marks false [] false ∙ sym f)
 
-old-mark : (s : Stage) (t u : Linear) (k l : Kind) (ds : List Entry) → IsMarked s ds → has_arisen t k (stage_view s).arisen ≡ true → get_or (s.present.items ++ (false ∷ [])) (number_of t k ((stage_view s).arisen ++ ((u, l) ∷ []))) false ≡ is_present t k (entries_view ds)
+old-mark : (s : Stage) (t u : Linear) (k l : Kind) (ds : List Entry) → IsMarked s ds → has_arisen t k (stage_view s).arisen ≡ true → get_or (s.present.items ++ (false ∷ [])) (row_number t k ((stage_view s).arisen ++ ((u, l) ∷ []))) false ≡ is_present t k (entries_view ds)
 old-mark s t u k l ds m h =
     let b = number-below t k (stage_view s).arisen h in
     let e = m.long in
-    ap (λ i. get_or (s.present.items ++ (false ∷ [])) i false) (arisen-kept t k (stage_view s).arisen (u, l) h).1 ∙ get_or-append s.present.items (false ∷ []) false (number_of t k (stage_view s).arisen) (omega arith) ∙ m.tell t k h
+    ap (λ i. get_or (s.present.items ++ (false ∷ [])) i false) (arisen-kept t k (stage_view s).arisen (u, l) h).1 ∙ get_or-append s.present.items (false ∷ []) false (row_number t k (stage_view s).arisen) (omega arith) ∙ m.tell t k h
 
-pub fits-new : (inputs : ℕ) (s t : Stage) (u : Linear) (l : Kind) (ds : List Entry) → has_arisen u l (stage_view s).arisen ≡ false → (stage_view t).arisen ≡ (stage_view s).arisen ++ ((u, l) ∷ []) → t.present.items ≡ s.present.items ++ (false ∷ []) → t.history.items ≡ s.history.items → Fits inputs s ds → Fits inputs t ds
+pub fits-new : (inputs : ℕ) (s t : Stage) (u : Linear) (l : Kind) (ds : List Entry) → has_arisen u l (stage_view s).arisen ≡ false → (stage_view t).arisen ≡ (stage_view s).arisen ++ ((u, l) ∷ []) → t.present.items ≡ s.present.items ++ (false ∷ []) → t.history.items ≡ s.history.items → IsStageOf inputs s ds → IsStageOf inputs t ds
 fits-new inputs s t u l ds n a m h f = record {
   marked = record {
     long = ap length m ∙ length-append s.present.items (false ∷ []) ∙ ap (λ i. i + 1) f.marked.long ∙ sym (length-append (stage_view s).arisen ((u, l) ∷ [])) ∙ sym (ap length a);
     tell = λ v k e.
-        ap (λ z. get_or z (number_of v k (stage_view t).arisen) false) m
-        ∙ ap (λ A. get_or (s.present.items ++ (false ∷ [])) (number_of v k A) false) a
+        ap (λ z. get_or z (row_number v k (stage_view t).arisen) false) m
+        ∙ ap (λ A. get_or (s.present.items ++ (false ∷ [])) (row_number v k A) false) a
         ∙ elim (arisen-split v k (stage_view s).arisen (u, l) (subst (λ A. has_arisen v k A ≡ true) a e)) [
           | inl o ↦ old-mark s v u k l ds f.marked o
           | inr q ↦ new-mark s v u k l ds s.present.items f.numbered f.marked.long n q

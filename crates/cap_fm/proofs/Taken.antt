@@ -11,8 +11,8 @@ use Rattle.cap_fm.specs.Entries.{Entry}
 use Rattle.cap_fm.specs.declared.entry.Reached.{Reached}
 use Rattle.cap_fm.specs.declared.stage.Stage.{Stage}
 use Rattle.cap_fm.specs.declared.error.SolveError.{SolveError}
-use Rattle.cap_fm.specs.Views.{stage_view, entry_view, entries_view, lacking_rows, Fits, IsNumbered, AreNumbered}
-use Rattle.cap_fm.specs.Answers.{DoesReach, Leaves}
+use Rattle.cap_fm.specs.Views.{stage_view, entry_view, entries_view, lacking_rows, IsStageOf, IsNumbered, AreNumbered}
+use Rattle.cap_fm.specs.Answers.{DoesReach, OnlyLeaves}
 use Rattle.cap_elim.proofs.Lists.{each-join, each-left, each-right}
 use Rattle.cap_fm.proofs.Stages.{all-grow}
 
@@ -38,17 +38,17 @@ lacking-taken x before after equation z =
 
 -- the rows with the variable have left, the equation with them
 pub record IsTaken (inputs x : ℕ) (old new : Stage) (equation : Entry) (others : List Entry) : Type 0 where
-  pub fits : Fits inputs new (lacking_rows x others)
+  pub fits : IsStageOf inputs new (lacking_rows x others)
   pub numbered : AreNumbered new others
   pub equation_numbered : IsNumbered new equation
   pub stage : stage_view new ≡ stage_view old
 
-pub taken : (inputs x : ℕ) (old new : Stage) (rows before after : List Entry) (equation : Entry) → rows ≡ before ++ (equation ∷ after) → is_zero (coefficient x equation.term.parts) ≡ false → Fits inputs old rows → Leaves inputs old new (lacking_rows x rows) → IsTaken inputs x old new equation (before ++ after)
+pub taken : (inputs x : ℕ) (old new : Stage) (rows before after : List Entry) (equation : Entry) → rows ≡ before ++ (equation ∷ after) → is_zero (coefficient x equation.term.parts) ≡ false → IsStageOf inputs old rows → OnlyLeaves inputs old new (lacking_rows x rows) → IsTaken inputs x old new equation (before ++ after)
 taken inputs x old new rows before after equation e z f l =
     let n : AreNumbered new (before ++ (equation ∷ after)) = subst (AreNumbered new) e (all-grow old new rows l.grows f.numbered) in
     let r = each-right (IsNumbered new) before (equation ∷ after) n in
     record {
-      fits = subst (Fits inputs new) (ap (lacking_rows x) e ∙ lacking-taken x before after equation z) l.fits;
+      fits = subst (IsStageOf inputs new) (ap (lacking_rows x) e ∙ lacking-taken x before after equation z) l.fits;
       numbered = each-join (IsNumbered new) before after (each-left (IsNumbered new) before (equation ∷ after) n) r.1;
       equation_numbered = r.0;
       stage = l.stage;

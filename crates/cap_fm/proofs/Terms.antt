@@ -7,7 +7,7 @@ use Rattle.cap_lin.specs.declared.row.Kind.{Kind}
 use Rattle.cap_lin.specs.declared.row.Kind.TheVariants.{Le}
 use Rattle.cap_elim.specs.Rows.{same_row, has_arisen}
 use Rattle.cap_fm.specs.Entries.{Entry}
-use Rattle.cap_fm.specs.Views.{stage_view, number_of, term_of, entry_of, entries_of, IsNumbered, AreNumbered, Grows}
+use Rattle.cap_fm.specs.Views.{stage_view, row_number, term_of, entry_of, entries_of, IsNumbered, AreNumbered, Grows}
 use Rattle.cap_fm.specs.declared.entry.Present.{Present}
 use Rattle.cap_fm.specs.declared.stage.Stage.{Stage}
 use Rattle.cap_fm.proofs.Marks.{row-is, number-first, number-later}
@@ -15,23 +15,23 @@ use Rattle.cap_fm.proofs.Booleans.{true_or_false, or-later}
 use Rattle.cap_fm.proofs.Stages.{all-grow}
 
 -- the term under the number of a row that arose
-term-at : (t : Linear) (k : Kind) (rows : List (Linear × Kind)) (z : Linear) → has_arisen t k rows ≡ true → get_or (map (λ (r : Linear × Kind). r.0) rows) (number_of t k rows) z ≡ t
+term-at : (t : Linear) (k : Kind) (rows : List (Linear × Kind)) (z : Linear) → has_arisen t k rows ≡ true → get_or (map (λ (r : Linear × Kind). r.0) rows) (row_number t k rows) z ≡ t
 term-at t k [] z h = cc
 term-at t k (r ∷ rows) z h = elim (true_or_false (same_row t k r.0 r.1)) [
   | inl e ↦ ap (λ n. get_or (map (λ (q : Linear × Kind). q.0) (r ∷ rows)) n z) (number-first t k r rows e) ∙ sym (row-is t k r.0 r.1 e).0
   | inr e ↦
-      let n : 1 + number_of t k rows ≡ suc (number_of t k rows) = omega arith in
+      let n : 1 + row_number t k rows ≡ suc (row_number t k rows) = omega arith in
       ap (λ n. get_or (map (λ (q : Linear × Kind). q.0) (r ∷ rows)) n z) (number-later t k r rows e ∙ n) ∙ term-at t k rows z (or-later _ _ e h)
 ]
 
 entry-by : (t : Linear) (d : Present) (u : Linear) → u ≡ t → ◌≡◌ {A = Entry} (record { term = u; kind = d.kind; origin = d.origin; number = d.number }) (record { term = t; kind = d.kind; origin = d.origin; number = d.number })
 entry-by t d u e = rw e refl
 
-pub entry-is : (s : Stage) (t : Linear) (d : Present) → has_arisen t d.kind (stage_view s).arisen ≡ true → number_of t d.kind (stage_view s).arisen ≡ d.number → entry_of s d ≡ record { term = t; kind = d.kind; origin = d.origin; number = d.number }
+pub entry-is : (s : Stage) (t : Linear) (d : Present) → has_arisen t d.kind (stage_view s).arisen ≡ true → row_number t d.kind (stage_view s).arisen ≡ d.number → entry_of s d ≡ record { term = t; kind = d.kind; origin = d.origin; number = d.number }
 entry-is s t d a n = entry-by t d (term_of s d.number) (ap (term_of s) (sym n) ∙ term-at t d.kind s.forms.keys s.zero a)
 
 -- the same, where only marks and the history have changed
-pub kept-entry : (s z : Stage) (t : Linear) (d : Present) → z.forms.keys ≡ s.forms.keys → has_arisen t d.kind (stage_view s).arisen ≡ true → number_of t d.kind (stage_view s).arisen ≡ d.number → entry_of z d ≡ record { term = t; kind = d.kind; origin = d.origin; number = d.number }
+pub kept-entry : (s z : Stage) (t : Linear) (d : Present) → z.forms.keys ≡ s.forms.keys → has_arisen t d.kind (stage_view s).arisen ≡ true → row_number t d.kind (stage_view s).arisen ≡ d.number → entry_of z d ≡ record { term = t; kind = d.kind; origin = d.origin; number = d.number }
 kept-entry s z t d k a n = entry-is z t d (rw k a) (rw k n)
 
 -- ---- in a stage that has grown

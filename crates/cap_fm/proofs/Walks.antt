@@ -15,7 +15,7 @@ use Rattle.cap_elim.specs.Runs.{Stage, Run, Found, going, contradiction, done, E
 use Rattle.cap_elim.specs.Elimination.{Pivot, input, inputs, chosen, first_pivot, by_equation, unit_variable, while_some, by_units, lacking, uppers, lowers, combine_all, occurring, by_pivot, by_variable, by_variables, width}
 use Rattle.cap_elim.proofs.Variables.{AreSound, Combines, Ascends, variable-steps, absent-above}
 use Rattle.cap_lin.proofs.Combinations.{combination-coefficient}
-use Rattle.cap_fm.specs.Views.{stage_view, entry_view, entries_view, Fits}
+use Rattle.cap_fm.specs.Views.{stage_view, entry_view, entries_view, IsStageOf}
 use Rattle.cap_fm.specs.Answers.{AllVariables, Is, Same, Explains, DoesReach, AreRows, Lack, IsLeast}
 use Rattle.cap_fm.specs.Entries.{Entry}
 use Rattle.cap_fm.specs.declared.entry.Reached.{Reached}
@@ -215,7 +215,7 @@ found-below w low y ds a h = elim (cases_lt y w) [ inl l ↦ l | inr l ↦ absur
 
 -- the work that remains of the variables
 abbrev pub VariablesGo : ℕ → Kept → Kept → List Entry → List Entry → ℕ → Type 0
-VariablesGo inputs old now all rows low = Fits inputs now rows × AreSound (Under (width (entries_view all))) (entries_view rows) × ((n : ℕ) × (low + n ≡ width (entries_view all)) × Same (AllVariables all old) (by_variables low n (entries_view rows) (stage_view now)))
+VariablesGo inputs old now all rows low = IsStageOf inputs now rows × AreSound (Under (width (entries_view all))) (entries_view rows) × ((n : ℕ) × (low + n ≡ width (entries_view all)) × Same (AllVariables all old) (by_variables low n (entries_view rows) (stage_view now)))
 
 -- up to the least variable nothing changes
 pub to-least : (w low n y : ℕ) (ds : List Entry) (s : Stage) (whole : Run (List plain.Entry)) → AreSound (Under w) (entries_view ds) → low + n ≡ w → IsLeast low ds (Some y) → Same whole (by_variables low n (entries_view ds) s) → (m : ℕ) × (y + 1 + m ≡ w) × Same whole (by_variables y (suc m) (entries_view ds) s)

@@ -1,5 +1,6 @@
 -- What the parts of an elimination, and the whole, answer.
-use Rattle.std.specs.Prelude.{◌≡◌, ◌≢◌, ℕ, ◌<◌, ◌≤◌, ℤ, pos, List, [], ◌∷◌, ◌++◌, length, slice_set, Bool, true, false, Option, Some, None, Result, MatchResult}
+use Rattle.std.specs.Prelude.{◌≡◌, ◌≢◌, ℕ, ◌<◌, ◌≤◌, ℤ, pos, List, [], ◌∷◌, ◌++◌, length, slice_set}
+use Rattle.std.specs.Prelude.{Bool, true, false, Option, Some, None, Result, MatchResult}
 use Rattle.std.specs.List.{AllByRecursion}
 use Rattle.cap_lin.specs.Linear.{Linear, AscendFrom, is_zero, coefficient}
 use Rattle.cap_lin.specs.Steps.{Step, first_wide}
@@ -9,10 +10,13 @@ use Rattle.cap_elim.specs.Events.{Event, wide, many, first_limit}
 use Rattle.cap_elim.specs.Runs as plain
 use Rattle.cap_elim.specs.Runs.{Run, Found, going, contradiction}
 use Rattle.cap_elim.specs.Rows.{has_arisen, has_parts, count, of_row}
-use Rattle.cap_elim.specs.Elimination.{first_pivot, pivot, lacking, uppers, lowers, combine_all, replacement, by_units, by_variables, width}
+use Rattle.cap_elim.specs.Elimination.{first_pivot, pivot, lacking, uppers, lowers, combine_all}
+use Rattle.cap_elim.specs.Elimination.{replacement, by_units, by_variables, width}
 use Rattle.cap_elim.specs.Solving.{Logged}
 use Rattle.cap_fm.specs.declared.equations.Pivot.{Pivot}
-use Rattle.cap_fm.specs.Views.{stage_view, entry_view, entries_view, entry_of, entries_of, false_view, arisen_view, reached_view, Fits, IsLast, Grows, number_of}
+use Rattle.cap_fm.specs.Views.{stage_view, entry_view, entries_view, entry_of, entries_of}
+use Rattle.cap_fm.specs.Views.{false_view, arisen_view, reached_view, IsStageOf, IsLast, Grows}
+use Rattle.cap_fm.specs.Views.{row_number}
 use Rattle.cap_fm.specs.Entries.{Entry}
 use Rattle.cap_fm.specs.declared.entry.Present.{Present}
 use Rattle.cap_fm.specs.declared.entry.Origin.{Origin}
@@ -39,7 +43,8 @@ ExplainsSteps error.OutOfMemory steps = Unit {0}
 
 -- the value, where no result on the way leaves 128 bits, and else an error that explains the first
 abbrev pub IsMadeBy : {A : Type 0} → List Step → A → Result A SolveError → Type 0
-IsMadeBy steps value r = MatchResult r (λ x. (first_wide steps ≡ None) × (x ≡ value)) (λ e. ExplainsSteps e steps)
+IsMadeBy steps value r =
+    MatchResult r (λ x. (first_wide steps ≡ None) × (x ≡ value)) (λ e. ExplainsSteps e steps)
 
 -- no event passes a limit, and what was found and the stage are those of the run
 pub record Is {A : Type 0} (what : Found A) (at : plain.Stage) (run : Run A) : Type 0 where
@@ -54,38 +59,46 @@ pub record Same {A : Type 0} (r s : Run A) : Type 0 where
   pub stage : r.stage ≡ s.stage
 
 -- the rows that are present after a row arose
-abbrev pub FitsArisen : ℕ → Stage → List Entry → Arisen → Type 0
-FitsArisen inputs s present LeftOut = Fits inputs s present
-FitsArisen inputs s present (Kept d) = Fits inputs s (present ++ (entry_of s d ∷ []))
-FitsArisen inputs s present (False d) = IsLast inputs s d
+abbrev pub IsStageOfArisen : ℕ → Stage → List Entry → Arisen → Type 0
+IsStageOfArisen inputs s present LeftOut = IsStageOf inputs s present
+IsStageOfArisen inputs s present (Kept d) = IsStageOf inputs s (present ++ (entry_of s d ∷ []))
+IsStageOfArisen inputs s present (False d) = IsLast inputs s d
 
 abbrev pub Arises : ℕ → Stage → Stage → List Entry → Run (List plain.Entry) → Arisen → Type 0
-Arises inputs old new present run a = Is (arisen_view new a) (stage_view new) run × FitsArisen inputs new present a × Grows old new
+Arises inputs old new present run a =
+    Is (arisen_view new a) (stage_view new) run × IsStageOfArisen inputs new present a
+    × Grows old new
 
-abbrev pub FitsReached : ℕ → Stage → Reached → Type 0
-FitsReached inputs s (Rows ds) = Fits inputs s (entries_of s ds.items)
-FitsReached inputs s (Contradiction d) = IsLast inputs s d
+abbrev pub IsStageOfReached : ℕ → Stage → Reached → Type 0
+IsStageOfReached inputs s (Rows ds) = IsStageOf inputs s (entries_of s ds.items)
+IsStageOfReached inputs s (Contradiction d) = IsLast inputs s d
 
 abbrev pub Reaches : ℕ → Stage → Run (List plain.Entry) → Reached → Type 0
-Reaches inputs new run r = Is (reached_view new r) (stage_view new) run × FitsReached inputs new r
+Reaches inputs new run r =
+    Is (reached_view new r) (stage_view new) run × IsStageOfReached inputs new r
 
-abbrev pub DoesArise : ℕ → Stage → Stage → List Entry → Run (List plain.Entry) → Result Arisen SolveError → Type 0
-DoesArise inputs old new present run r = MatchResult r (Arises inputs old new present run) (λ e. Explains e run.events)
+abbrev pub DoesArise : ℕ → Stage → Stage → List Entry → Run (List plain.Entry)
+    → Result Arisen SolveError → Type 0
+DoesArise inputs old new present run r =
+    MatchResult r (Arises inputs old new present run) (λ e. Explains e run.events)
 
 abbrev pub DoesReach : ℕ → Stage → Run (List plain.Entry) → Result Reached SolveError → Type 0
 DoesReach inputs new run r = MatchResult r (Reaches inputs new run) (λ e. Explains e run.events)
 
 -- a row was counted under a number, whose mark tells whether it is present
-pub record IsCounted (inputs : ℕ) (old new : Stage) (present : List Entry) (t : Linear) (k : Kind) (n : ℕ) : Type 0 where
+pub record IsCounted (inputs : ℕ) (old new : Stage) (present : List Entry) (t : Linear) (k : Kind)
+    (n : ℕ) : Type 0 where
   pub is : Is (going tt) (stage_view new) (count t k (stage_view old))
-  pub fits : Fits inputs new present
+  pub fits : IsStageOf inputs new present
   pub grows : Grows old new
   pub history : new.history.items ≡ old.history.items
   pub arose : has_arisen t k (stage_view new).arisen ≡ true
-  pub number : number_of t k (stage_view new).arisen ≡ n
+  pub number : row_number t k (stage_view new).arisen ≡ n
 
 abbrev pub DoesCount : ℕ → Stage → Stage → List Entry → Linear → Kind → Result ℕ SolveError → Type 0
-DoesCount inputs old new present t k r = MatchResult r (IsCounted inputs old new present t k) (λ e. Explains e (count t k (stage_view old)).events)
+DoesCount inputs old new present t k r =
+    MatchResult r (IsCounted inputs old new present t k)
+    (λ e. Explains e (count t k (stage_view old)).events)
 
 -- one mark is changed, where there is one of this number
 pub record Remarks (old new : Stage) (number : ℕ) (mark : Bool) : Type 0 where
@@ -102,21 +115,23 @@ pub record Notes (old new : Stage) (origin : Origin) (at : ℕ) : Type 0 where
   pub place : at ≡ length old.history.items
 
 -- some rows are no longer present, and no other thing has changed
-pub record Leaves (inputs : ℕ) (old new : Stage) (present : List Entry) : Type 0 where
-  pub fits : Fits inputs new present
+pub record OnlyLeaves (inputs : ℕ) (old new : Stage) (present : List Entry) : Type 0 where
+  pub fits : IsStageOf inputs new present
   pub grows : Grows old new
   pub stage : stage_view new ≡ stage_view old
   pub same : (d : Present) → entry_of new d ≡ entry_of old d
 
 -- a pivot is the first, stands at its place among the rows, and has its variable
-pub record IsPivotAt (choice : List (ℕ × ℤ) → Option ℕ) (rows : List Entry) (p : Pivot) : Type 0 where
+pub record IsPivotAt (choice : List (ℕ × ℤ) → Option ℕ) (rows : List Entry) (p : Pivot)
+    : Type 0 where
   pub before : List Entry
   pub equation : Entry
   pub after : List Entry
   pub rows_are : rows ≡ before ++ (equation ∷ after)
   pub place : p.place ≡ length before
   pub has : is_zero (coefficient p.variable equation.term.parts) ≡ false
-  pub is : first_pivot choice (entries_view rows) ≡ Some (pivot (entry_view equation) (entries_view (before ++ after)) p.variable)
+  pub is : first_pivot choice (entries_view rows)
+      ≡ Some (pivot (entry_view equation) (entries_view (before ++ after)) p.variable)
 
 abbrev pub IsPivot : (List (ℕ × ℤ) → Option ℕ) → List Entry → Option Pivot → Type 0
 IsPivot choice rows None = first_pivot choice (entries_view rows) ≡ None
@@ -127,20 +142,29 @@ abbrev pub each_view : List Entry → Option FalseRow → Found (List plain.Entr
 each_view kept None = going (entries_view kept)
 each_view kept (Some d) = contradiction (false_view d)
 
-abbrev pub FitsEach : ℕ → Stage → List Entry → Option FalseRow → Type 0
-FitsEach inputs s kept None = Fits inputs s kept
-FitsEach inputs s kept (Some d) = IsLast inputs s d
+abbrev pub IsStageOfEach : ℕ → Stage → List Entry → Option FalseRow → Type 0
+IsStageOfEach inputs s kept None = IsStageOf inputs s kept
+IsStageOfEach inputs s kept (Some d) = IsLast inputs s d
 
-abbrev pub DoesEach : ℕ → Stage → Stage → List Entry → Run (List plain.Entry) → Result (Option FalseRow) SolveError → Type 0
-DoesEach inputs old new kept run r = MatchResult r (λ o. Is (each_view kept o) (stage_view new) run × FitsEach inputs new kept o × Grows old new) (λ e. Explains e run.events)
+abbrev pub DoesEach : ℕ → Stage → Stage → List Entry → Run (List plain.Entry)
+    → Result (Option FalseRow) SolveError → Type 0
+DoesEach inputs old new kept run r =
+    MatchResult r
+    (λ o. Is (each_view kept o) (stage_view new) run × IsStageOfEach inputs new kept o
+    × Grows old new)
+    (λ e. Explains e run.events)
 
 -- the combinations of all bounds of a variable
 abbrev pub AllBounds : ℕ → List Entry → Stage → Run (List plain.Entry)
-AllBounds x rows s = combine_all x (lacking x (entries_view rows)) (uppers x (entries_view rows)) (lowers x (entries_view rows)) (stage_view s)
+AllBounds x rows s =
+    combine_all x (lacking x (entries_view rows)) (uppers x (entries_view rows))
+    (lowers x (entries_view rows)) (stage_view s)
 
 -- the combination of a row that has a variable with an equation
 abbrev pub Replacement : ℕ → Entry → Entry → List Entry → Stage → Run (List plain.Entry)
-Replacement x equation row present s = replacement (entries_view present) (of_row x (entry_view equation)) (of_row x (entry_view row)) (entry_view equation) (entry_view row) (stage_view s)
+Replacement x equation row present s =
+    replacement (entries_view present) (of_row x (entry_view equation)) (of_row x (entry_view row))
+    (entry_view equation) (entry_view row) (stage_view s)
 
 -- the elimination by the equations of rows that have a coefficient 1 or -1
 abbrev pub AllUnits : List Entry → Stage → Run (List plain.Entry)
@@ -152,7 +176,8 @@ AllVariables rows s = by_variables 0 (width (entries_view rows)) (entries_view r
 
 -- what is answered is the value, where no event passes a limit
 abbrev pub IsLogged : {A : Type 0} → Result A SolveError → Logged A → Type 0
-IsLogged r l = MatchResult r (λ x. (first_limit l.events ≡ None) × (x ≡ l.value)) (λ e. Explains e l.events)
+IsLogged r l =
+    MatchResult r (λ x. (first_limit l.events ≡ None) × (x ≡ l.value)) (λ e. Explains e l.events)
 
 -- a variable that is in no row
 abbrev pub Lack : ℕ → List Entry → Type 0
@@ -161,7 +186,8 @@ Lack x rows = AllByRecursion (λ d. coefficient x d.term.parts ≡ pos 0) rows
 -- the least variable of rows that is at least `low`
 abbrev pub IsLeast : ℕ → List Entry → Option ℕ → Type 0
 IsLeast low rows None = (x : ℕ) → low ≤ x → Lack x rows
-IsLeast low rows (Some y) = (low ≤ y) × (Lack y rows → ⊥) × ((x : ℕ) → low ≤ x → x < y → Lack x rows)
+IsLeast low rows (Some y) =
+    (low ≤ y) × (Lack y rows → ⊥) × ((x : ℕ) → low ≤ x → x < y → Lack x rows)
 
 -- what holds of each row that is present
 pub record IsRow (d : Entry) : Type 0 where

@@ -18,7 +18,9 @@ certificate_of Solvable = None
 
 -- the answer has the definition's certificate, or there is none, where no event passes a limit
 abbrev pub IsSolved : Result Answer SolveError → Logged (Option Cert) → Type 0
-IsSolved r l = MatchResult r (λ a. (first_limit l.events ≡ None) × (certificate_of a ≡ l.value)) (λ e. Explains e l.events)
+IsSolved r l =
+    MatchResult r (λ a. (first_limit l.events ≡ None) × (certificate_of a ≡ l.value))
+    (λ e. Explains e l.events)
 
 -- the certificate of an Empty refutes the rows
 abbrev pub IsCertified : List Row → Answer → Type 0

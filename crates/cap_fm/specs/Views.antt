@@ -1,5 +1,6 @@
 -- What is seen of the rows and the stage of an elimination.
-use Rattle.std.specs.Prelude.{◌≡◌, ℕ, ◌+◌, ◌<◌, List, [], ◌∷◌, map, filter, reverse, length, get_or, true, false}
+use Rattle.std.specs.Prelude.{◌≡◌, ℕ, ◌+◌, ◌<◌, List, [], ◌∷◌, map, filter, reverse, length, get_or}
+use Rattle.std.specs.Prelude.{true, false}
 use Rattle.std.specs.List.{AllByRecursion, position_or_len}
 use Rattle.cap_lin.specs.Linear.{Linear, is_zero, coefficient}
 use Rattle.cap_lin.specs.Linear as linear
@@ -41,7 +42,8 @@ term_of s n = get_or (map (λ f. f.0) s.forms.keys) n s.zero
 
 -- a row that is present, with the term that the stage has of it
 abbrev pub entry_of : Stage → Present → Entry
-entry_of s d = record { term = term_of s d.number; kind = d.kind; origin = d.origin; number = d.number }
+entry_of s d =
+    record { term = term_of s d.number; kind = d.kind; origin = d.origin; number = d.number }
 
 abbrev pub entries_of : Stage → List Present → List Entry
 entries_of s ds = map (entry_of s) ds
@@ -59,13 +61,13 @@ abbrev pub stage_view : Stage → plain.Stage
 stage_view s = record { arisen = s.forms.keys; history = history_view s.history.items }
 
 -- the number of a row among those that arose
-abbrev pub number_of : Linear → Kind → List (Linear × Kind) → ℕ
-number_of t k rows = position_or_len (λ r. same_row t k r.0 r.1) rows
+abbrev pub row_number : Linear → Kind → List (Linear × Kind) → ℕ
+row_number t k rows = position_or_len (λ r. same_row t k r.0 r.1) rows
 
 -- the row arose under its number, and its place in the history is there
 pub record IsNumbered (s : Stage) (d : Entry) : Type 0 where
   pub arose : has_arisen d.term d.kind (stage_view s).arisen ≡ true
-  pub number : number_of d.term d.kind (stage_view s).arisen ≡ d.number
+  pub number : row_number d.term d.kind (stage_view s).arisen ≡ d.number
   pub origin : d.origin < length s.history.items
 
 abbrev pub AreNumbered : Stage → List Entry → Type 0
@@ -86,10 +88,12 @@ IsHistory inputs os = IsHistoryFrom inputs 0 os
 -- the marks tell which of the rows that arose are present
 pub record IsMarked (s : Stage) (present : List Entry) : Type 0 where
   pub long : length s.present.items ≡ length (stage_view s).arisen
-  pub tell : (t : Linear) (k : Kind) → has_arisen t k (stage_view s).arisen ≡ true → get_or s.present.items (number_of t k (stage_view s).arisen) false ≡ is_present t k (entries_view present)
+  pub tell : (t : Linear) (k : Kind) → has_arisen t k (stage_view s).arisen ≡ true
+      → get_or s.present.items (row_number t k (stage_view s).arisen) false
+      ≡ is_present t k (entries_view present)
 
 -- the stage of an elimination of so many input rows, in which these rows are present
-pub record Fits (inputs : ℕ) (s : Stage) (present : List Entry) : Type 0 where
+pub record IsStageOf (inputs : ℕ) (s : Stage) (present : List Entry) : Type 0 where
   pub marked : IsMarked s present
   pub numbered : AreNumbered s present
   pub history : IsHistory inputs s.history.items

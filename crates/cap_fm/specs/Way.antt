@@ -1,5 +1,7 @@
--- The rows on the way to a row of a history: their marks are found downwards, and their results made upwards.
-use Rattle.std.specs.Prelude.{◌≡◌, ℕ, ◌+◌, ◌<◌, List, [], ◌∷◌, ◌++◌, length, reverse, get_or, slice_set, ◌==◌, Bool, true, false, pos}
+-- The rows on the way to a row of a history: their marks are found downwards, and their results
+-- made upwards.
+use Rattle.std.specs.Prelude.{◌≡◌, ℕ, ◌+◌, ◌<◌, List, [], ◌∷◌, ◌++◌, length, reverse, get_or}
+use Rattle.std.specs.Prelude.{slice_set, ◌==◌, Bool, true, false, pos}
 use Rattle.cap_lin.specs.Linear.{Linear, number}
 use Rattle.cap_lin.specs.Steps.{Step}
 use Rattle.cap_elim.specs.Runs.{Origin, given, combined}
@@ -29,7 +31,8 @@ abbrev pub with_rows : Origin → List Bool → List Bool
 with_rows (given i) marks = marks
 with_rows (combined a p b q) marks = slice_set (slice_set marks p true) q true
 
--- from a place on, the rows that a row on the way is a combination of are on the way; the history has the first row first
+-- from a place on, the rows that a row on the way is a combination of are on the way; the history
+-- has the first row first
 unfoldable pub IsClosed : (ℕ → Bool) → ℕ → List Origin → Type 0
 IsClosed way place [] = Unit {0}
 IsClosed way place (o ∷ os) = (way place ≡ true → IsReached way o) × IsClosed way (place + 1) os
@@ -42,7 +45,8 @@ steps_at false o terms = []
 -- from a place on, the results of the rows on the way; the history has the first row first
 unfoldable pub rising_steps : (ℕ → Bool) → (ℕ → Linear) → ℕ → List Origin → List Step
 rising_steps way terms place [] = []
-rising_steps way terms place (o ∷ os) = steps_at (way place) o terms ++ rising_steps way terms (place + 1) os
+rising_steps way terms place (o ∷ os) =
+    steps_at (way place) o terms ++ rising_steps way terms (place + 1) os
 
 -- the results of the multipliers of the row at a place
 abbrev pub steps_of : List Origin → ℕ → List Step
@@ -53,7 +57,8 @@ pub record IsWay (history : List Origin) (last : ℕ) (marks : List Bool) : Type
   pub long : length marks ≡ length history
   pub own : is_marked marks last ≡ true
   pub closed : IsClosed (is_marked marks) 0 history
-  pub steps : rising_steps (is_marked marks) (multipliers (reverse history)) 0 history ≡ steps_of (reverse history) last
+  pub steps : rising_steps (is_marked marks) (multipliers (reverse history)) 0 history
+      ≡ steps_of (reverse history) last
 
 -- the term at a place
 abbrev pub term_at : List Linear → ℕ → Linear

@@ -5,7 +5,7 @@ ghost use Rattle.cap_elim.specs.Elimination.{input as input_row};
 ghost use Rattle.cap_lin.specs.Linear.{Linear, number};
 ghost use Rattle.cap_fm.specs.Entries.{Entry};
 ghost use Rattle.cap_fm.specs.Views.{stage_view, entry_view, entries_view, entry_of, origin_view};
-ghost use Rattle.cap_fm.specs.Views.{number_of, Fits, IsNumbered, IsOrigin};
+ghost use Rattle.cap_fm.specs.Views.{row_number, IsStageOf, IsNumbered, IsOrigin};
 ghost use Rattle.cap_fm.specs.Answers.{DoesArise};
 
 use crate::entry::{Arisen, FalseRow, Origin, Present, is_false};
@@ -17,7 +17,7 @@ use std::alloc::Global;
 /// An input row arises, which has this number. A row Ne takes no part.
 pub fn input<'a>(stage: &mut Stage<'a>, row: &'a Row, number: u32) -> Result<Arisen, SolveError>
     ensures { (inputs : ℕ) (present : List Entry) →
-        Fits inputs stage.old present → number < inputs →
+        IsStageOf inputs stage.old present → number < inputs →
         DoesArise inputs stage.old stage.new present
         (input_row (entries_view present) number row.now.kind row.now.term (stage_view stage.old))
         result }
@@ -36,7 +36,7 @@ fn given<'a>(
     number: u32,
 ) -> Result<Arisen, SolveError>
     ensures { (inputs : ℕ) (present : List Entry) →
-        Fits inputs stage.old present → number < inputs →
+        IsStageOf inputs stage.old present → number < inputs →
         DoesArise inputs stage.old stage.new present
         (arise_given (entries_view present) term.now kind number (stage_view stage.old)) result }
 {
@@ -63,7 +63,7 @@ pub fn combine(
     second: Present,
     kind: Kind,
 ) -> Result<Arisen, SolveError>
-    ensures { (inputs : ℕ) (present : List Entry) → Fits inputs stage.old present →
+    ensures { (inputs : ℕ) (present : List Entry) → IsStageOf inputs stage.old present →
         IsNumbered stage.old (entry_of stage.old first) →
         IsNumbered stage.old (entry_of stage.old second) →
         DoesArise inputs stage.old stage.new present
@@ -84,7 +84,7 @@ pub fn combine(
 
 fn counted(stage: &mut Stage, term: Term, kind: Kind, origin: Origin) -> Result<Arisen, SolveError>
     requires { has_parts term ≡ true }
-    ensures { (inputs : ℕ) (present : List Entry) → Fits inputs stage.old present →
+    ensures { (inputs : ℕ) (present : List Entry) → IsStageOf inputs stage.old present →
         IsOrigin inputs (length stage.old.history.items) origin →
         DoesArise inputs stage.old stage.new present
         (arise_combined (entries_view present) term kind (origin_view origin)
@@ -101,10 +101,11 @@ fn counted(stage: &mut Stage, term: Term, kind: Kind, origin: Origin) -> Result<
 
 // The row of a number, which has variables, is present from now on.
 fn keep(stage: &mut Stage, kind: Kind, origin: Origin, number: usize) -> Result<Arisen, SolveError>
-    ensures { (inputs : ℕ) (present : List Entry) (term : Linear) → Fits inputs stage.old present →
+    ensures { (inputs : ℕ) (present : List Entry) (term : Linear) →
+        IsStageOf inputs stage.old present →
         IsOrigin inputs (length stage.old.history.items) origin →
         has_arisen term kind (stage_view stage.old).arisen ≡ true →
-        number_of term kind (stage_view stage.old).arisen ≡ number →
+        row_number term kind (stage_view stage.old).arisen ≡ number →
         DoesArise inputs stage.old stage.new present
         (keep_row term kind (origin_view origin) (stage_view stage.old)) result }
 {
@@ -119,7 +120,7 @@ fn keep(stage: &mut Stage, kind: Kind, origin: Origin, number: usize) -> Result<
 
 // A row without variables, which is a number, is left out where it is true.
 fn bare(stage: &mut Stage, constant: i128, kind: Kind, origin: Origin) -> Result<Arisen, SolveError>
-    ensures { (inputs : ℕ) (present : List Entry) → Fits inputs stage.old present →
+    ensures { (inputs : ℕ) (present : List Entry) → IsStageOf inputs stage.old present →
         IsOrigin inputs (length stage.old.history.items) origin →
         DoesArise inputs stage.old stage.new present
         (look (number constant) kind (origin_view origin) (stage_view stage.old)) result }

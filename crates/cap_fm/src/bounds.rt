@@ -4,7 +4,7 @@ ghost use Rattle.cap_elim.specs.Elimination.{combine_bounds as combine_bounds_ru
 ghost use Rattle.cap_elim.specs.Elimination.{combine_each as combine_each_run};
 ghost use Rattle.cap_fm.specs.Entries.{Entry};
 ghost use Rattle.cap_fm.specs.Views.{stage_view, entry_view, entries_view, term_of, entry_of};
-ghost use Rattle.cap_fm.specs.Views.{entries_of, lacking_rows, upper_rows, lower_rows, Fits};
+ghost use Rattle.cap_fm.specs.Views.{entries_of, lacking_rows, upper_rows, lower_rows, IsStageOf};
 ghost use Rattle.cap_fm.specs.Views.{AreNumbered, IsNumbered};
 ghost use Rattle.cap_fm.specs.Answers.{AllBounds, DoesArise, DoesReach, DoesEach};
 
@@ -16,7 +16,8 @@ use crate::stage::Stage;
 use bumpalo::Bump;
 use std::alloc::{AllocError, Global};
 
-// The rows without a variable, those with a positive coefficient of it, and those with a negative one.
+// The rows without a variable, those with a positive coefficient of it, and those with a negative
+// one.
 #[derive(Drop)]
 struct Parted<'a> {
     without: Vec<Present, &'a Bump>,
@@ -32,7 +33,7 @@ pub fn by_bounds<'a>(
     rows: Vec<Present, &'a Bump>,
     variable: u32,
 ) -> Result<Reached<'a>, SolveError>
-    ensures { (inputs : ℕ) → Fits inputs stage.old (entries_of stage.old rows.entry.items) →
+    ensures { (inputs : ℕ) → IsStageOf inputs stage.old (entries_of stage.old rows.entry.items) →
         DoesReach inputs stage.new
         (AllBounds variable (entries_of stage.old rows.entry.items) stage.old) result }
 {
@@ -84,7 +85,8 @@ fn part<'a>(
     })
 }
 
-// Combines a row with each of the rows that have a negative coefficient; a false row, if one arises.
+// Combines a row with each of the rows that have a negative coefficient; a false row, if one
+// arises.
 fn combine_each(
     alloc: Global,
     stage: &mut Stage,
@@ -93,7 +95,7 @@ fn combine_each(
     lowers: &[Present],
     variable: u32,
 ) -> Result<Option<FalseRow>, SolveError>
-    ensures { (inputs : ℕ) → Fits inputs stage.old (entries_of stage.old kept.old.items) →
+    ensures { (inputs : ℕ) → IsStageOf inputs stage.old (entries_of stage.old kept.old.items) →
         IsNumbered stage.old (entry_of stage.old upper) →
         AreNumbered stage.old (entries_of stage.old lowers.now) →
         DoesEach inputs stage.old stage.new (entries_of stage.new kept.new.items)
@@ -121,7 +123,7 @@ fn combine_bounds(
     lower: Present,
     variable: u32,
 ) -> Result<Arisen, SolveError>
-    ensures { (inputs : ℕ) (present : List Entry) → Fits inputs stage.old present →
+    ensures { (inputs : ℕ) (present : List Entry) → IsStageOf inputs stage.old present →
         IsNumbered stage.old (entry_of stage.old upper) →
         IsNumbered stage.old (entry_of stage.old lower) →
         positive ≡ coefficient variable (term_of stage.old upper.number).parts →

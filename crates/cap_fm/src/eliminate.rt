@@ -3,7 +3,7 @@ ghost use Rattle.cap_elim.specs.Elimination.{inputs as inputs_run, by_variable a
 ghost use Rattle.cap_elim.specs.Elimination.{eliminated as eliminated_run};
 ghost use Rattle.cap_elim.specs.Solving.{RowsAscend, refuted as refuted_log};
 ghost use Rattle.cap_fm.specs.Entries.{Entry};
-ghost use Rattle.cap_fm.specs.Views.{stage_view, entries_view, entries_of, Fits};
+ghost use Rattle.cap_fm.specs.Views.{stage_view, entries_view, entries_of, IsStageOf};
 ghost use Rattle.cap_fm.specs.Answers.{AllUnits, AllVariables, DoesReach, IsLogged, IsLeast};
 ghost use Rattle.cap_fm.specs.Answers.{AreRows};
 
@@ -25,8 +25,8 @@ const ROOM: usize = 512;
 
 const ROOM_OF_ROW: usize = 160;
 
-/// Eliminates the variables of the rows that are not Ne, of rows and more rows behind them: the leaf of
-/// a contradiction, if there is one.
+/// Eliminates the variables of the rows that are not Ne, of rows and more rows behind them: the
+/// leaf of a contradiction, if there is one.
 pub fn refuted(alloc: Global, rows: &[Row], more: &[Row]) -> Result<Option<Multipliers>, SolveError>
     requires few { length rows.now + length more.now ≤ 2 ^ 32 }
     requires ascend { RowsAscend rows.now }
@@ -49,7 +49,7 @@ fn eliminated<'a>(
 ) -> Result<Reached<'a>, SolveError>
     requires few { length rows.now + length more.now ≤ 2 ^ 32 }
     requires ascend { RowsAscend rows.now }
-    ensures { Fits (length (rows.now ++ more.now)) stage.old [] →
+    ensures { IsStageOf (length (rows.now ++ more.now)) stage.old [] →
         DoesReach (length (rows.now ++ more.now)) stage.new
         (eliminated_run (rows.now ++ more.now) (stage_view stage.old)) result }
 {
@@ -63,8 +63,8 @@ fn eliminated<'a>(
     }
 }
 
-/// Tells that the parts of each row's term ascend, which `Term::parts` tells of one term. It computes
-/// nothing else.
+/// Tells that the parts of each row's term ascend, which `Term::parts` tells of one term. It
+/// computes nothing else.
 pub fn terms_ascend(rows: &[Row])
     ensures { RowsAscend rows.now }
 {
@@ -81,7 +81,7 @@ fn inputs<'a>(
     more: &'a [Row],
 ) -> Result<Reached<'a>, SolveError>
     requires { length rows.now + length more.now ≤ 2 ^ 32 }
-    ensures { Fits (length (rows.now ++ more.now)) stage.old [] →
+    ensures { IsStageOf (length (rows.now ++ more.now)) stage.old [] →
         DoesReach (length (rows.now ++ more.now)) stage.new
         (inputs_run [] 0 (rows.now ++ more.now) (stage_view stage.old)) result }
 {
@@ -105,7 +105,7 @@ fn by_units<'a>(
     stage: &mut Stage<'a>,
     rows: Vec<Present, &'a Bump>,
 ) -> Result<Reached<'a>, SolveError>
-    ensures { (inputs : ℕ) → Fits inputs stage.old (entries_of stage.old rows.entry.items) →
+    ensures { (inputs : ℕ) → IsStageOf inputs stage.old (entries_of stage.old rows.entry.items) →
         DoesReach inputs stage.new
         (AllUnits (entries_of stage.old rows.entry.items) stage.old) result }
 {
@@ -128,7 +128,7 @@ fn by_variables<'a>(
     stage: &mut Stage<'a>,
     rows: Vec<Present, &'a Bump>,
 ) -> Result<Reached<'a>, SolveError>
-    ensures { (inputs : ℕ) → Fits inputs stage.old (entries_of stage.old rows.entry.items) →
+    ensures { (inputs : ℕ) → IsStageOf inputs stage.old (entries_of stage.old rows.entry.items) →
         AreRows (entries_of stage.old rows.entry.items) →
         DoesReach inputs stage.new (AllVariables (entries_of stage.old rows.entry.items) stage.old)
         result }
@@ -175,7 +175,7 @@ fn by_variable<'a>(
     rows: Vec<Present, &'a Bump>,
     variable: u32,
 ) -> Result<Reached<'a>, SolveError>
-    ensures { (inputs : ℕ) → Fits inputs stage.old (entries_of stage.old rows.entry.items) →
+    ensures { (inputs : ℕ) → IsStageOf inputs stage.old (entries_of stage.old rows.entry.items) →
         DoesReach inputs stage.new
         (by_variable_run variable (entries_view (entries_of stage.old rows.entry.items))
         (stage_view stage.old))

@@ -7,8 +7,8 @@ ghost use Rattle.cap_elim.specs.Elimination.{is_unit as is_unit_number, occurrin
 ghost use Rattle.cap_elim.specs.Elimination.{replace_all as replace_all_run};
 ghost use Rattle.cap_fm.specs.Entries.{Entry};
 ghost use Rattle.cap_fm.specs.Views.{stage_view, entry_view, entries_view, term_of, entry_of};
-ghost use Rattle.cap_fm.specs.Views.{entries_of, lacking_rows, Fits, AreNumbered, IsNumbered};
-ghost use Rattle.cap_fm.specs.Answers.{DoesArise, DoesReach, Leaves, IsPivot, IsMadeBy};
+ghost use Rattle.cap_fm.specs.Views.{entries_of, lacking_rows, IsStageOf, AreNumbered, IsNumbered};
+ghost use Rattle.cap_fm.specs.Answers.{DoesArise, DoesReach, OnlyLeaves, IsPivot, IsMadeBy};
 
 use crate::arising::combine;
 use crate::entry::{Arisen, Present, Reached};
@@ -110,7 +110,7 @@ pub fn by_equation<'a>(
 ) -> Result<Reached<'a>, SolveError>
     requires { pivot.place < length rows.items }
     ensures { (inputs : ℕ) (before after : List Entry) (equation : Entry) →
-        Fits inputs stage.old (entries_of stage.old rows.entry.items) →
+        IsStageOf inputs stage.old (entries_of stage.old rows.entry.items) →
         entries_of stage.old rows.entry.items ≡ before ++ (equation ∷ after) →
         pivot.place ≡ length before →
         is_zero (coefficient pivot.variable equation.term.parts) ≡ false →
@@ -127,8 +127,9 @@ pub fn by_equation<'a>(
 
 /// The rows that have a variable are no longer present.
 pub fn leave_all(stage: &mut Stage, rows: &[Present], variable: u32)
-    ensures { (inputs : ℕ) → Fits inputs stage.old (entries_of stage.old rows.now) →
-        Leaves inputs stage.old stage.new (lacking_rows variable (entries_of stage.old rows.now)) }
+    ensures { (inputs : ℕ) → IsStageOf inputs stage.old (entries_of stage.old rows.now) →
+        OnlyLeaves inputs stage.old stage.new
+        (lacking_rows variable (entries_of stage.old rows.now)) }
 {
     for row in rows {
         if stage.term(row.number).coefficient(variable) != 0 {
@@ -145,7 +146,7 @@ fn replace_all<'a>(
     variable: u32,
 ) -> Result<Reached<'a>, SolveError>
     ensures { (inputs : ℕ) →
-        Fits inputs stage.old (lacking_rows variable (entries_of stage.old rows.entry.items)) →
+        IsStageOf inputs stage.old (lacking_rows variable (entries_of stage.old rows.entry.items)) →
         AreNumbered stage.old (entries_of stage.old rows.entry.items) →
         IsNumbered stage.old (entry_of stage.old equation) →
         DoesReach inputs stage.new
@@ -179,7 +180,7 @@ fn replace(
     equation: Present,
     coefficient: i128,
 ) -> Result<Arisen, SolveError>
-    ensures { (inputs : ℕ) (present : List Entry) → Fits inputs stage.old present →
+    ensures { (inputs : ℕ) (present : List Entry) → IsStageOf inputs stage.old present →
         IsNumbered stage.old (entry_of stage.old row) →
         IsNumbered stage.old (entry_of stage.old equation) →
         DoesArise inputs stage.old stage.new present

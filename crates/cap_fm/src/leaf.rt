@@ -15,8 +15,9 @@ use cap_lin::{Kind, Row, Term};
 use std::alloc::{AllocError, Global};
 
 /// The leaf of a false row: its multiples of the input rows, which are rows and more behind them.
-/// Wide has the first result that leaves 128 bits: of the multipliers of the rows on the way, in the
-/// order in which these arose, of their negatives, and then of the sum by which the leaf is checked.
+/// Wide has the first result that leaves 128 bits: of the multipliers of the rows on the way, in
+/// the order in which these arose, of their negatives, and then of the sum by which the leaf is
+/// checked.
 pub fn leaf(
     alloc: Global,
     rows: &[Row],
@@ -36,8 +37,8 @@ pub fn leaf(
     checked(alloc, rows, more, &multipliers)
 }
 
-// Marks the rows of the history that are on the way to the one at a place. An input row's mark has no
-// effect, since its multipliers take no results.
+// Marks the rows of the history that are on the way to the one at a place. An input row's mark has
+// no effect, since its multipliers take no results.
 fn way(alloc: Global, history: &[Origin], last: usize) -> Result<Vec<bool>, AllocError>
     requires history { AreEarlier 0 (map origin_view history.now) }
     requires last { last + 1 ≡ length history.now }
@@ -68,7 +69,8 @@ fn mark(way: &mut [bool], origin: Origin)
     }
 }
 
-// The multipliers of the row at a place, as a term whose variables are the numbers of the input rows.
+// The multipliers of the row at a place, as a term whose variables are the numbers of the input
+// rows.
 fn multipliers(alloc: Global, history: &[Origin], last: usize) -> Result<Term, SolveError>
     requires history { AreEarlier 0 (map origin_view history.now) }
     requires last { last + 1 ≡ length history.now }

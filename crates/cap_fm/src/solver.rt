@@ -21,13 +21,13 @@ pub enum Answer {
     Solvable,
 }
 
-/// Whether rows exclude every valuation, by the elimination of Fourier and Motzkin. The rows that are
-/// not Ne are eliminated, and then, for each row Ne in order, they and the row that its term is below
-/// 0; where that is a contradiction, they and the row that its term is above 0.
+/// Whether rows exclude every valuation, by the elimination of Fourier and Motzkin. The rows that
+/// are not Ne are eliminated, and then, for each row Ne in order, they and the row that its term is
+/// below 0; where that is a contradiction, they and the row that its term is above 0.
 ///
 /// Wide has the first result that leaves 128 bits. Rows comes where one elimination has more than
-/// 4,096 rows, input rows and combinations with variables together, equal ones counted once. Which of
-/// the two comes is by the first event that passes its limit; otherwise Empty comes exactly for
+/// 4,096 rows, input rows and combinations with variables together, equal ones counted once. Which
+/// of the two comes is by the first event that passes its limit; otherwise Empty comes exactly for
 /// infeasible rows.
 pub fn solve(alloc: Global, rows: &[Row]) -> Result<Answer, SolveError>
     requires { length rows.now < 2 ^ 32 - 1 }

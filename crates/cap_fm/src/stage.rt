@@ -2,7 +2,7 @@ ghost use Rattle.std.specs.Prelude.{◌≡◌, ◌<◌, [], ℕ, List, get_or, f
 ghost use Rattle.cap_elim.specs.Runs.{at_first};
 ghost use Rattle.cap_fm.specs.Entries.{Entry};
 ghost use Rattle.cap_fm.specs.Forms.{digest_of, low_word, mixed, with_part};
-ghost use Rattle.cap_fm.specs.Views.{stage_view, term_of, Fits};
+ghost use Rattle.cap_fm.specs.Views.{stage_view, term_of, IsStageOf};
 ghost use Rattle.cap_fm.specs.Answers.{DoesCount, Remarks, Notes};
 
 use crate::entry::Origin;
@@ -121,8 +121,8 @@ fn mixed(digest: u64, word: u64) -> u64
     digest.wrapping_mul(MULTIPLIER).wrapping_add(word)
 }
 
-/// The rows that arose in an elimination, equal ones once, which of them are present, and where each
-/// row that was kept comes from.
+/// The rows that arose in an elimination, equal ones once, which of them are present, and where
+/// each row that was kept comes from.
 #[derive(Drop)]
 pub struct Stage<'a> {
     forms: IndexSet<Form<'a>, BuildHasherDefault<FoldHasher>, &'a Bump>,
@@ -137,7 +137,7 @@ impl<'a> Stage<'a> {
     /// The stage before any row has arisen, with room for so many.
     pub fn with_room(alloc: Global, bump: &'a Bump, rows: usize) -> Result<Stage<'a>, AllocError>
         ensures view { IfOk result (λ stage. stage_view stage ≡ at_first) }
-        ensures fits { IfOk result (λ stage. (inputs : ℕ) → Fits inputs stage []) }
+        ensures fits { IfOk result (λ stage. (inputs : ℕ) → IsStageOf inputs stage []) }
     {
         let forms = IndexSet::with_capacity_and_hasher(bump, rows, BuildHasherDefault::new())?;
         let present = Vec::with_capacity(bump, rows)?;
@@ -156,10 +156,10 @@ impl<'a> Stage<'a> {
         self.bump
     }
 
-    /// Counts an input row, unless an equal one arose before, and gives its number. `Rows` comes where
-    /// it would be the 4,097th.
+    /// Counts an input row, unless an equal one arose before, and gives its number. `Rows` comes
+    /// where it would be the 4,097th.
     pub fn count_given(&mut self, term: &'a Term, kind: Kind) -> Result<usize, SolveError>
-        ensures { (inputs : ℕ) (present : List Entry) → Fits inputs self.old present →
+        ensures { (inputs : ℕ) (present : List Entry) → IsStageOf inputs self.old present →
             DoesCount inputs self.old self.new present term.now kind result }
     {
         let term = FormTerm::Given(term);
@@ -168,7 +168,7 @@ impl<'a> Stage<'a> {
 
     /// Counts a combination, as `count_given` does an input row.
     pub fn count_made(&mut self, term: Term, kind: Kind) -> Result<usize, SolveError>
-        ensures { (inputs : ℕ) (present : List Entry) → Fits inputs self.old present →
+        ensures { (inputs : ℕ) (present : List Entry) → IsStageOf inputs self.old present →
             DoesCount inputs self.old self.new present term kind result }
     {
         let term = FormTerm::Made(Box::new(self.bump, term)?);
@@ -176,7 +176,7 @@ impl<'a> Stage<'a> {
     }
 
     fn count_form(&mut self, form: Form<'a>) -> Result<usize, SolveError>
-        ensures { (inputs : ℕ) (present : List Entry) → Fits inputs self.old present →
+        ensures { (inputs : ℕ) (present : List Entry) → IsStageOf inputs self.old present →
             DoesCount inputs self.old self.new present form.entry.0 form.entry.1 result }
     {
         let (number, is_new) = self.forms.insert_full(form)?;

@@ -180,8 +180,8 @@ fn sorts(rt: HostRuntime) -> Result<(), Fail> {
 #[test]
 fn several_rows_ne(rt: HostRuntime) -> Result<(), Fail> {
     let alloc = rt.alloc();
-    // -v0 <= 0, v0 - 1 <= 0, v0 != 0, v0 - 1 != 0: no whole number solves them, but each row Ne alone
-    // leaves one, and 1/2 solves them all
+    // -v0 <= 0, v0 - 1 <= 0, v0 != 0, v0 - 1 != 0: no whole number solves them, but each row Ne
+    // alone leaves one, and 1/2 solves them all
     let two_numbers = rows(
         alloc,
         &[

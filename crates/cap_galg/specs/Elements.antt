@@ -1,7 +1,8 @@
--- Guard elements and their partial composition. The units of all algebras are one element, `nothing`. A pair isn't
--- two units; a left or right element of a sum is neither unit nor full on its side, as all units of a sum are one
--- element and all fulls are one element.
-use Rattle.std.specs.Prelude.{ℕ, ◌+◌, ◌-◌, ◌*◌, ◌^◌, ◌==◌, ◌&&◌, ◌||◌, Bool, true, false, nat_le, if◌then◌else◌, Option, Some, None}
+-- Guard elements and their partial composition. The units of all algebras are one element,
+-- `nothing`. A pair isn't two units; a left or right element of a sum is neither unit nor full on
+-- its side, as all units of a sum are one element and all fulls are one element.
+use Rattle.std.specs.Prelude.{ℕ, ◌+◌, ◌-◌, ◌*◌, ◌^◌, ◌==◌, ◌&&◌, ◌||◌, Bool, true, false, nat_le}
+use Rattle.std.specs.Prelude.{if◌then◌else◌, Option, Some, None}
 use Rattle.cap_galg.specs.declared.fraction.Fraction.{Fraction}
 use Rattle.cap_galg.specs.Fractions.{crossed, plus}
 
@@ -63,7 +64,8 @@ bind (Some x) f = f x
 abbrev pub compose : Element → Element → Option Element
 compose nothing y = Some y
 compose x nothing = Some x
-compose (share f) (share g) = if nat_le (crossed f g) (f.den * g.den) then Some (share (plus f g)) else None
+compose (share f) (share g) =
+    if nat_le (crossed f g) (f.den * g.den) then Some (share (plus f g)) else None
 compose (tok j) (tok k) = Some (tok (j + k))
 compose (src n) (tok k) = if nat_le k n then Some (src (n - k)) else None
 compose (tok k) (src n) = if nat_le k n then Some (src (n - k)) else None
@@ -72,7 +74,8 @@ compose (left x) (left y) = bind (compose x y) (λ z. Some (on_left z))
 compose (right x) (right y) = bind (compose x y) (λ z. Some (on_right z))
 compose _ _ = None
 
--- whether, in the composition of two elements, the denominator of a sum in lowest terms, or a count, passes 64 bits
+-- whether, in the composition of two elements, the denominator of a sum in lowest terms, or a
+-- count, passes 64 bits
 abbrev pub is_wide : Element → Element → Bool
 is_wide (share f) (share g) = nat_le (2 ^ 64) (plus f g).den
 is_wide (tok j) (tok k) = nat_le (2 ^ 64) (j + k)

@@ -13,7 +13,8 @@ abbrev pub IsPlaced : PlainAlgebra → ℕ → Element → Placed → Type 0
 IsPlaced a i x (Here n) = (i < atoms a) × (node_view n ≡ at_atom a i x)
 IsPlaced a i x (Past rest n) = (atoms a + rest ≡ i) × (node_view n ≡ x)
 
--- whether both atoms are the algebra's and apart, or how many atoms one or both come after the algebra's
+-- whether both atoms are the algebra's and apart, or how many atoms one or both come after the
+-- algebra's
 abbrev pub HasPassed : PlainAlgebra → ℕ → ℕ → Passed → Type 0
 HasPassed a i j (Both apart) = (i < atoms a) × (j < atoms a) × (apart ≡ are_apart a i j)
 HasPassed a i j (First rest) = (i < atoms a) × (atoms a + rest ≡ j)

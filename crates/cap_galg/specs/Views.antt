@@ -1,8 +1,10 @@
 -- What contracts see of the types in code.
 use Rattle.std.specs.Prelude.{◌≡◌, ℕ, ◌<◌}
-use Rattle.cap_galg.specs.Elements.{Element, nothing, one, share, tok, src, both, whole, left, right, in_left, in_right, amount, tokens}
+use Rattle.cap_galg.specs.Elements.{Element, nothing, one, share, tok, src, both, whole, left}
+use Rattle.cap_galg.specs.Elements.{right, in_left, in_right, amount, tokens}
 use Rattle.cap_galg.specs.Fractions.{IsShare, IsAmount}
-use Rattle.cap_galg.specs.Algebras.{PlainAlgebra, unique, divisible, counting, product, sum, atoms, atom_algebra}
+use Rattle.cap_galg.specs.Algebras.{PlainAlgebra, unique, divisible, counting, product, sum, atoms}
+use Rattle.cap_galg.specs.Algebras.{atom_algebra}
 use Rattle.cap_galg.specs.declared.algebra.Algebra.{Algebra, fold-Algebra}
 use Rattle.cap_galg.specs.declared.algebra.Atom.{Atom}
 use Rattle.cap_galg.specs.declared.algebra.Atom.TheVariants as atom
@@ -68,7 +70,8 @@ abbrev pub side_element : {A B : Type 0} → (A → Element) → (B → Element)
 side_element f g (Left x) = in_left (f x)
 side_element f g (Right y) = in_right (g y)
 
-abbrev pub SideKin : {A B : Type 0} → (A → A → Type 0) → (B → B → Type 0) → Either A B → Either A B → Type 0
+abbrev pub SideKin : {A B : Type 0} → (A → A → Type 0) → (B → B → Type 0) → Either A B → Either A B
+    → Type 0
 SideKin K L (Left x) (Left y) = K x y
 SideKin K L (Right x) (Right y) = L x y
 SideKin K L _ _ = Unit {0}

@@ -227,14 +227,14 @@ pub shaped-room : (k : Class) (d : ℕ) (t : Token) → room_behind d (shaped k 
 shaped-room Open d t = refl
 shaped-room k d t = refl
 
-record Fits (of_kind : TokenKind) (text : List ℕ) (value : ℕ) (k : Class) : Type 0 where
+record FitsClass (of_kind : TokenKind) (text : List ℕ) (value : ℕ) (k : Class) : Type 0 where
   known : is_known k ≡ true
   kind_is : of_kind ≡ kind_of k
   text_is : text ≡ text_in k text
   value_is : value ≡ value_in k value
 
 abbrev Seen : TokenKind → List ℕ → ℕ → Class → Type 0
-Seen of_kind text value k = (k ≡ Other) ⊎ Fits of_kind text value k
+Seen of_kind text value k = (k ≡ Other) ⊎ FitsClass of_kind text value k
 
 abbrev Matches : TokenKind → List (List ℕ × Class) → Type 0
 Matches of_kind [] = Unit {0}

@@ -1,6 +1,7 @@
--- Wanted atoms of a region, and the pieces that are held of it: whether they never compose, and the rows that hold
--- where they do.
-use Rattle.std.specs.Prelude.{ℕ, List, [], ◌∷◌, ◌++◌, Bool, true, false, ◌||◌, if◌then◌else◌, Option, Some, None}
+-- Wanted atoms of a region, and the pieces that are held of it: whether they never compose, and the
+-- rows that hold where they do.
+use Rattle.std.specs.Prelude.{ℕ, List, [], ◌∷◌, ◌++◌, Bool, true, false, ◌||◌, if◌then◌else◌}
+use Rattle.std.specs.Prelude.{Option, Some, None}
 use Rattle.std.specs.List.{list_any}
 use Rattle.cap_lin.specs.Linear.{Linear, plus}
 use Rattle.cap_lin.specs.Steps.{Step, plus_steps}
@@ -23,7 +24,8 @@ never_compose g f = false
 
 -- a wanted atom never composes: with the piece of its part, or for one on the other side of a sum
 abbrev pub clashes_with : PlainAlgebra → List Piece → Linear → ℕ → ℕ × Form → Bool
-clashes_with a ps r k w = never_compose (there ps (piece r k w.0 w.1)) w.1 || clashes a ps r k w.0 w.1
+clashes_with a ps r k w =
+    never_compose (there ps (piece r k w.0 w.1)) w.1 || clashes a ps r k w.0 w.1
 
 abbrev pub clashes_some : PlainAlgebra → List Piece → Linear → ℕ → List (ℕ × Form) → Bool
 clashes_some a ps r k ws = list_any (clashes_with a ps r k) ws
@@ -41,7 +43,8 @@ fits_rows (Some (Src m)) (Tok k) = row_of k AtMost m Int ∷ []
 fits_rows g f = []
 
 abbrev pub fits_steps : Option Form → Form → List Step
-fits_steps g (Share e) = plus_steps e (share_there g) ++ row_of_steps (plus e (share_there g)) AtMost one_term Perm
+fits_steps g (Share e) =
+    plus_steps e (share_there g) ++ row_of_steps (plus e (share_there g)) AtMost one_term Perm
 fits_steps (Some (Tok m)) (Src n) = row_of_steps m AtMost n Int
 fits_steps (Some (Src m)) (Tok k) = row_of_steps k AtMost m Int
 fits_steps g f = []

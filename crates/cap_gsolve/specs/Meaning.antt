@@ -1,6 +1,7 @@
--- What symbolic guards mean: under a valuation each piece is an element of its region's guards, and a part of the
--- guards holds the pieces that compose to no more than the part.
-use Rattle.std.specs.Prelude.{◌≡◌, ◌≢◌, ℕ, ◌<◌, List, [], ◌∷◌, ◌++◌, ◌⊎◌, ℤ, pos, ◌*ℤ◌, Option, Some, None}
+-- What symbolic guards mean: under a valuation each piece is an element of its region's guards, and
+-- a part of the guards holds the pieces that compose to no more than the part.
+use Rattle.std.specs.Prelude.{◌≡◌, ◌≢◌, ℕ, ◌<◌, List, [], ◌∷◌, ◌++◌, ◌⊎◌, ℤ, pos, ◌*ℤ◌, Option}
+use Rattle.std.specs.Prelude.{Some, None}
 use Rattle.std.specs.List.{AllByRecursion}
 use Rattle.cap_lin.specs.Linear.{Linear}
 use Rattle.cap_lin.specs.Values.{Valuation, denominator, value, amount}
@@ -10,7 +11,8 @@ use Rattle.cap_galg.specs.declared.fraction.Fraction.{Fraction}
 use Rattle.cap_galg.specs.Fractions.{IsShare}
 use Rattle.cap_galg.specs.Elements.{Element, nothing, one, share, src, tokens, compose}
 use Rattle.cap_galg.specs.Lists.{compose_all}
-use Rattle.cap_galg.specs.Algebras.{PlainAlgebra, unique, divisible, counting, atoms, atom_algebra, atom_element, full, AtMost}
+use Rattle.cap_galg.specs.Algebras.{PlainAlgebra, unique, divisible, counting, atoms, atom_algebra}
+use Rattle.cap_galg.specs.Algebras.{atom_element, full, AtMost}
 use Rattle.cap_gsolve.specs.declared.piece.Form.{Form}
 use Rattle.cap_gsolve.specs.declared.piece.Form.TheVariants.{One, Share, Src, Tok}
 use Rattle.cap_gsolve.specs.declared.piece.Piece.{Piece}
@@ -21,7 +23,8 @@ use Rattle.cap_gsolve.specs.Compat.{compat}
 abbrev pub IsValueOf : Valuation → Linear → Fraction → Type 0
 IsValueOf v t f = pos f.num *ℤ denominator v.fraction ≡ amount v.fraction t *ℤ pos f.den
 
--- the element of a form: an amount is above 0 and at most 1, a count is at least 0, and no tokens are nothing
+-- the element of a form: an amount is above 0 and at most 1, a count is at least 0, and no tokens
+-- are nothing
 abbrev pub IsFormElement : Valuation → Form → Element → Type 0
 IsFormElement v One x = x ≡ one
 IsFormElement v (Share t) x = (f : Fraction) × IsShare f × IsValueOf v t f × (x ≡ share f)
@@ -36,8 +39,8 @@ IsPieceElement a v p x = (y : Element) × IsFormElement v p.form y × (x ≡ ato
 abbrev pub region_of : Valuation → Piece → ℤ
 region_of v p = value v.whole p.region
 
--- what a piece is at a region whose guards are of a kind: its element at its own region, which is of its kind
--- unless the element is nothing, and nothing at all others
+-- what a piece is at a region whose guards are of a kind: its element at its own region, which is
+-- of its kind unless the element is nothing, and nothing at all others
 abbrev pub IsElementAt : PlainAlgebra → ℕ → Valuation → ℤ → Piece → Element → Type 0
 IsElementAt a k v r p x =
     ((region_of v p ≡ r) × IsPieceElement a v p x × ((p.kind ≡ k) ⊎ (x ≡ nothing)))
@@ -51,7 +54,8 @@ AreElementsAt a k v r ps xs = ⊥
 
 -- what pieces compose to at a region
 abbrev pub ComposeAt : PlainAlgebra → ℕ → Valuation → ℤ → List Piece → Element → Type 0
-ComposeAt a k v r ps x = (xs : List Element) × AreElementsAt a k v r ps xs × (compose_all xs ≡ Some x)
+ComposeAt a k v r ps x =
+    (xs : List Element) × AreElementsAt a k v r ps xs × (compose_all xs ≡ Some x)
 
 -- under each valuation the pieces are all of the region's guards
 abbrev pub AreAll : PlainAlgebra → Linear → ℕ → List Piece → Type 0
@@ -64,7 +68,9 @@ pub record Kinds : Type 0 where
 
 -- a part has an element for each region, and holds pieces that compose to at most this at each
 abbrev pub HoldsPieces : Kinds → (ℤ → Element) → Valuation → List Piece → Type 0
-HoldsPieces g part v ps = (r : ℤ) → (x : Element) × ComposeAt (g.algebra (g.kind r)) (g.kind r) v r ps x × AtMost (g.algebra (g.kind r)) x (part r)
+HoldsPieces g part v ps = (r : ℤ)
+    → (x : Element) × ComposeAt (g.algebra (g.kind r)) (g.kind r) v r ps x
+    × AtMost (g.algebra (g.kind r)) x (part r)
 
 -- an atomic algebra's guards are of this form
 abbrev pub Takes : PlainAlgebra → Form → Type 0
@@ -78,8 +84,8 @@ Takes a f = ⊥
 abbrev pub Fits : PlainAlgebra → Piece → Type 0
 Fits a p = (p.atom < atoms a) × Takes (atom_algebra a p.atom) p.form
 
--- a part that holds pieces together with a new one, which are known to fit, holds what they are merged to, and
--- the rows hold
+-- a part that holds pieces together with a new one, which are known to fit, holds what they are
+-- merged to, and the rows hold
 abbrev pub MergesTo : PlainAlgebra → List Piece → Piece → List Piece → List Row → Type 0
 MergesTo a ps p qs rows =
     (g : Kinds) (part : ℤ → Element) (v : Valuation)
@@ -91,8 +97,8 @@ MergesTo a ps p qs rows =
 abbrev pub HasElement : Valuation → Piece → Type 0
 HasElement v p = (x : Element) × IsFormElement v p.form x
 
--- where each of the pieces has an element and the rows hold, a part that holds what the pieces and a new one are
--- merged to holds the pieces together with the new one
+-- where each of the pieces has an element and the rows hold, a part that holds what the pieces and
+-- a new one are merged to holds the pieces together with the new one
 abbrev pub MergeSuffices : List Piece → Piece → List Piece → List Row → Type 0
 MergeSuffices ps p qs rows =
     (g : Kinds) (part : ℤ → Element) (v : Valuation)
@@ -109,8 +115,10 @@ AllHold v (Some rows) = AllByRecursion (Holds v) rows
 abbrev pub wanted_pieces : Linear → ℕ → List (ℕ × Form) → List Piece
 wanted_pieces r k ws = pieces_of r k ws
 
--- under each valuation by which wanted atoms of a region compose with pieces, an answer is rows, and they hold
-abbrev pub CoversWanted : PlainAlgebra → List Piece → Linear → ℕ → List (ℕ × Form) → Option (List Row) → Type 0
+-- under each valuation by which wanted atoms of a region compose with pieces, an answer is rows,
+-- and they hold
+abbrev pub CoversWanted : PlainAlgebra → List Piece → Linear → ℕ → List (ℕ × Form)
+    → Option (List Row) → Type 0
 CoversWanted a ps r k ws answer =
     (v : Valuation) (x y z : Element)
     → ComposeAt a k v (value v.whole r) ps x
@@ -120,7 +128,8 @@ CoversWanted a ps r k ws answer =
 
 -- what compatibility answers covers the wanted atoms in this way
 abbrev pub CompatMeans : Type 0
-CompatMeans = (a : PlainAlgebra) (ps : List Piece) (r : Linear) (k : ℕ) (ws : List (ℕ × Form)) → CoversWanted a ps r k ws (compat a ps r k ws)
+CompatMeans = (a : PlainAlgebra) (ps : List Piece) (r : Linear) (k : ℕ) (ws : List (ℕ × Form))
+    → CoversWanted a ps r k ws (compat a ps r k ws)
 
 -- what two parts hold is held together by the part that they compose to
 abbrev pub PartsCompose : Type 0

@@ -1,12 +1,15 @@
--- One more piece with those that are there, the rows that then hold, and the results on the way to them, in order.
-use Rattle.std.specs.Prelude.{ℕ, List, [], ◌∷◌, ◌++◌, Bool, true, false, ◌&&◌, pos, Option, Some, None, option_map, position, slice_index_or, slice_set}
+-- One more piece with those that are there, the rows that then hold, and the results on the way to
+-- them, in order.
+use Rattle.std.specs.Prelude.{ℕ, List, [], ◌∷◌, ◌++◌, Bool, true, false, ◌&&◌, pos, Option, Some}
+use Rattle.std.specs.Prelude.{None, option_map, position, slice_index_or, slice_set}
 use Rattle.std.specs.List.{list_any}
 use Rattle.cap_lin.specs.Linear.{Linear, number, plus, minus}
 use Rattle.cap_lin.specs.Steps.{Step, plus_steps, minus_steps}
 use Rattle.cap_lin.specs.Rows.{row_of, row_of_steps}
 use Rattle.cap_lin.specs.declared.row.Row.{Row}
 use Rattle.cap_lin.specs.declared.row.Sort.TheVariants.{Int, Perm}
-use Rattle.cap_lin.specs.declared.row.Op.TheVariants.{Le as AtMost, Eq as Equal, Gt as Greater, Ge as AtLeast}
+use Rattle.cap_lin.specs.declared.row.Op.TheVariants.{Le as AtMost, Eq as Equal, Gt as Greater}
+use Rattle.cap_lin.specs.declared.row.Op.TheVariants.{Ge as AtLeast}
 use Rattle.cap_galg.specs.Algebras.{PlainAlgebra, are_apart}
 use Rattle.cap_gsolve.specs.declared.piece.Form.{Form}
 use Rattle.cap_gsolve.specs.declared.piece.Form.TheVariants.{One, Share, Src, Tok}
@@ -90,7 +93,8 @@ met_steps (Some g) f = combined_steps g f
 
 -- a piece that is surely some part stands on the other side of a sum
 abbrev pub clashes_at : PlainAlgebra → Linear → ℕ → ℕ → Form → Piece → Bool
-clashes_at a r k i f q = of_guards r k q && (are_apart a i q.atom && (is_surely_some f && is_surely_some q.form))
+clashes_at a r k i f q =
+    of_guards r k q && (are_apart a i q.atom && (is_surely_some f && is_surely_some q.form))
 
 abbrev pub clashes : PlainAlgebra → List Piece → Linear → ℕ → ℕ → Form → Bool
 clashes a ps r k i f = list_any (clashes_at a r k i f) ps
@@ -121,4 +125,5 @@ unfoldable pub merge_rows : PlainAlgebra → List Piece → Piece → List Row
 merge_rows a ps p = added_rows p.form ++ (met_rows (there ps p) p.form ++ clash_rows (clash a ps p))
 
 unfoldable pub merge_steps : PlainAlgebra → List Piece → Piece → List Step
-merge_steps a ps p = added_steps p.form ++ (met_steps (there ps p) p.form ++ clash_steps (clash a ps p))
+merge_steps a ps p =
+    added_steps p.form ++ (met_steps (there ps p) p.form ++ clash_steps (clash a ps p))

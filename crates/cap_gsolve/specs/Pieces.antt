@@ -1,5 +1,6 @@
 -- Symbolic guards: the parts of guards that are held of regions, with amounts that are terms.
-use Rattle.std.specs.Prelude.{ℕ, zero, suc, ◌+◌, List, [], ◌∷◌, ◌++◌, map, Bool, true, false, ◌&&◌, ◌==◌, ℤ, pos, negsuc}
+use Rattle.std.specs.Prelude.{ℕ, zero, suc, ◌+◌, List, [], ◌∷◌, ◌++◌, map, Bool, true, false, ◌&&◌}
+use Rattle.std.specs.Prelude.{◌==◌, ℤ, pos, negsuc}
 use Rattle.cap_lin.specs.Linear.{Linear, number, same_term}
 use Rattle.cap_galg.specs.Algebras.{PlainAlgebra, unique, divisible, counting, product, sum, atoms}
 use Rattle.cap_gsolve.specs.declared.piece.Form.{Form}
@@ -9,8 +10,8 @@ use Rattle.cap_gsolve.specs.declared.piece.Piece.{Piece}
 abbrev pub piece : Linear → ℕ → ℕ → Form → Piece
 piece r k i f = record { region = r; kind = k; atom = i; form = f }
 
--- whether a piece is of a region's guards, or of one atom of them, and whether two pieces are of one atom of one
--- region's guards
+-- whether a piece is of a region's guards, or of one atom of them, and whether two pieces are of
+-- one atom of one region's guards
 abbrev pub of_guards : Linear → ℕ → Piece → Bool
 of_guards r k p = same_term p.region r && (p.kind == k)
 

@@ -1,5 +1,5 @@
 -- The results on the way to a combination of two terms, and the loop over the parts: each lemma is one way through it.
-use Rattle.std.proofs.Common.{◌≡◌, ℕ, ℤ, pos, ◌+ℤ◌, ◌*ℤ◌, List, [], ◌∷◌, ◌++◌, ◌<◌, ◌≤◌, length, get_or, drop, arith, append_assoc, refl, sym, ◌∙◌, Option, None, inl, inr, FitsSigned}
+use Rattle.std.proofs.Common.{◌≡◌, ℕ, ℤ, pos, ◌+ℤ◌, ◌*ℤ◌, List, [], ◌∷◌, ◌++◌, ◌<◌, length, arith, append_assoc, refl, sym, ◌∙◌, Option, None, inl, inr, FitsSigned}
 use Rattle.std.specs.Prelude.{Result}
 use Rattle.std.proofs.lemmas.Int.{ints}
 use Rattle.std.proofs.lemmas.Grind.{common_steps}

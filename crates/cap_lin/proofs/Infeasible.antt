@@ -8,7 +8,7 @@ use Rattle.cap_numbers.proofs.Order.{mul-le, mul-lt, sign_of}
 use Rattle.cap_lin.specs.Linear.{Linear, put_part, multiples, times, negative, plus_one}
 use Rattle.cap_lin.specs.Values.{Valuation, denominator, parts_value, value, amount}
 use Rattle.cap_lin.specs.Rows.{row, below_zero, above_zero}
-use Rattle.cap_lin.specs.Solves.{number_of, HoldsAs, Holds, IsWholeAt, PartsWhole, FitsSort, Solves, HasNone, HoldsRationally, SolvesRationally, kept, without_ne, SplitsToNone, Infeasible}
+use Rattle.cap_lin.specs.Solves.{value_by_sort, HoldsAs, Holds, IsWholeAt, PartsWhole, FitsSort, Solves, HasNone, HoldsRationally, SolvesRationally, kept, without_ne, SplitsToNone, Infeasible}
 use Rattle.cap_lin.specs.declared.row.Row.{Row}
 use Rattle.cap_lin.specs.declared.row.Sort.{Sort}
 use Rattle.cap_lin.specs.declared.row.Sort.TheVariants.{Int, Perm}
@@ -33,11 +33,11 @@ multiplied Lt d z n p h = let l = mul-lt d z (pos 0) p h in omega (arith, ints)
 multiplied Eq d z n p h = rw h (omega (arith, ints))
 multiplied Ne d z n p h = absurd (n refl)
 
-as_fraction : (v : Valuation) (k : Kind) (s : Sort) (t : Linear) → (k ≡ Ne → ⊥) → FitsSort v s t → HoldsAs k (number_of s v t) → HoldsAs k (amount v.fraction t)
+as_fraction : (v : Valuation) (k : Kind) (s : Sort) (t : Linear) → (k ≡ Ne → ⊥) → FitsSort v s t → HoldsAs k (value_by_sort s v t) → HoldsAs k (amount v.fraction t)
 as_fraction v k Int t n f h = rw (whole-amount v t f) (multiplied k (denominator v.fraction) (value v.whole t) n (omega (arith, ints)) h)
 as_fraction v k Perm t n f h = h
 
-keeps : (v : Valuation) (k : Kind) (s : Sort) (t : Linear) (rows : List Row) → FitsSort v s t → HoldsAs k (number_of s v t) → SolvesRationally v.fraction rows → SolvesRationally v.fraction (kept k (row k s t) rows)
+keeps : (v : Valuation) (k : Kind) (s : Sort) (t : Linear) (rows : List Row) → FitsSort v s t → HoldsAs k (value_by_sort s v t) → SolvesRationally v.fraction rows → SolvesRationally v.fraction (kept k (row k s t) rows)
 keeps v Le s t rows f h r = (as_fraction v Le s t (λ e. cc) f h, r)
 keeps v Lt s t rows f h r = (as_fraction v Lt s t (λ e. cc) f h, r)
 keeps v Eq s t rows f h r = (as_fraction v Eq s t (λ e. cc) f h, r)
@@ -69,11 +69,11 @@ pub negative-fits : (v : Valuation) (s : Sort) (t : Linear) → FitsSort v s t �
 negative-fits v Int t f = times-whole v t f
 negative-fits v Perm t f = tt
 
-below-rational : (v : Valuation) (s : Sort) (t : Linear) → FitsSort v s t → number_of s v t <ℤ pos 0 → HoldsRationally v.fraction (below_zero s t)
+below-rational : (v : Valuation) (s : Sort) (t : Linear) → FitsSort v s t → value_by_sort s v t <ℤ pos 0 → HoldsRationally v.fraction (below_zero s t)
 below-rational v Int t f h = as_fraction v Le Int (plus_one t) (λ e. cc) f (below-holds Int v t h)
 below-rational v Perm t f h = h
 
-above-rational : (v : Valuation) (s : Sort) (t : Linear) → FitsSort v s t → pos 0 <ℤ number_of s v t → HoldsRationally v.fraction (above_zero s t)
+above-rational : (v : Valuation) (s : Sort) (t : Linear) → FitsSort v s t → pos 0 <ℤ value_by_sort s v t → HoldsRationally v.fraction (above_zero s t)
 above-rational v Int t f h = as_fraction v Le Int (plus_one (negative t)) (λ e. cc) (negative-fits v Int t f) (above-holds Int v t h)
 above-rational v Perm t f h = above-holds Perm v t h
 
@@ -92,9 +92,9 @@ at-place P (y ∷ ys) (suc k) x a e = at-place P ys k x a.1 e
 split-none : (rows : List Row) (place : ℕ) → SplitsToNone rows place → HasNone rows
 split-none rows place p v s =
     let f : FitsSort v p.sort p.term = at-place (λ r. FitsSort v r.sort r.term) rows place (row Ne p.sort p.term) s.fits p.is in
-    let n : number_of p.sort v p.term ≢ pos 0 = at-place (Holds v) rows place (row Ne p.sort p.term) s.holds p.is in
+    let n : value_by_sort p.sort v p.term ≢ pos 0 = at-place (Holds v) rows place (row Ne p.sort p.term) s.holds p.is in
     let r = solves-rationally v rows s in
-    elim (sign_of (number_of p.sort v p.term)) [
+    elim (sign_of (value_by_sort p.sort v p.term)) [
       | inl below ↦ p.below v.fraction (push-all _ (without_ne rows) _ r (below-rational v p.sort p.term f below))
       | inr (inl e) ↦ n e
       | inr (inr above) ↦ p.above v.fraction (push-all _ (without_ne rows) _ r (above-rational v p.sort p.term f above))

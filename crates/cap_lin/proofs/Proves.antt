@@ -6,7 +6,7 @@ use Rattle.cap_numbers.proofs.Order.{sign_of}
 use Rattle.cap_lin.specs.Linear.{Linear}
 use Rattle.cap_lin.specs.Values.{Valuation}
 use Rattle.cap_lin.specs.Rows.{below_zero, above_zero, negations_as, negations}
-use Rattle.cap_lin.specs.Solves.{number_of, HoldsAs, Holds, HoldsSome, FitsSort, Solves, HasNone, Proves}
+use Rattle.cap_lin.specs.Solves.{value_by_sort, HoldsAs, Holds, HoldsSome, FitsSort, Solves, HasNone, Proves}
 use Rattle.cap_lin.specs.declared.row.Row.{Row}
 use Rattle.cap_lin.specs.declared.row.Sort.{Sort}
 use Rattle.cap_lin.specs.declared.row.Sort.TheVariants.{Int, Perm}
@@ -55,7 +55,7 @@ none-holds v rows (n ∷ ns) f a s (inl h) = a.0 v (solves-push v rows n s f.0 h
 none-holds v rows (n ∷ ns) f a s (inr h) = none-holds v rows ns f.1 a.1 s h
 
 pub negations-prove : (rows : List Row) (r : Row) → AllByRecursion (λ n. HasNone (rows ++ n ∷ [])) (negations r) → Proves rows r
-negations-prove rows r a v s f = elim (holds_or r.kind (number_of r.sort v r.term)) [
+negations-prove rows r a v s f = elim (holds_or r.kind (value_by_sort r.sort v r.term)) [
   | inl h ↦ h
   | inr n ↦ absurd (none-holds v rows (negations r) (negations-fit v r.kind r.sort r.term f) a s ((negations-cover v r.kind r.sort r.term).0 n))
 ]

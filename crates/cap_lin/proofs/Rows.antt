@@ -8,7 +8,7 @@ use Rattle.cap_lin.specs.Steps.{first_wide, minus_steps, negative_steps}
 use Rattle.cap_lin.specs.Exact.{Explains, IsExact}
 use Rattle.cap_lin.specs.Values.{Valuation, value, amount}
 use Rattle.cap_lin.specs.Rows.{row, below_zero, below_zero_steps, above_zero, above_zero_steps, less_steps, row_of, negations_as}
-use Rattle.cap_lin.specs.Solves.{number_of, HoldsAs, Holds, HoldsSome, Compares}
+use Rattle.cap_lin.specs.Solves.{value_by_sort, HoldsAs, Holds, HoldsSome, Compares}
 use Rattle.cap_lin.specs.declared.error.LinError.{LinError}
 use Rattle.cap_lin.specs.declared.row.Row.{Row}
 use Rattle.cap_lin.specs.declared.row.Sort.{Sort}
@@ -40,11 +40,11 @@ less-after a l r s n h = exact_after a _ _ _ n h
 
 -- ---- the meaning
 
-number-minus : (s : Sort) (v : Valuation) (a b : Linear) → number_of s v (minus a b) ≡ number_of s v a +ℤ negsuc 0 *ℤ number_of s v b
+number-minus : (s : Sort) (v : Valuation) (a b : Linear) → value_by_sort s v (minus a b) ≡ value_by_sort s v a +ℤ negsuc 0 *ℤ value_by_sort s v b
 number-minus Int v a b = value-plus v.whole a (negative b) ∙ ap (λ z. value v.whole a +ℤ z) (value-times v.whole (negsuc 0) b)
 number-minus Perm v a b = amount-plus v.fraction a (negative b) ∙ ap (λ z. amount v.fraction a +ℤ z) (amount-times v.fraction (negsuc 0) b)
 
-pub number-negative : (s : Sort) (v : Valuation) (t : Linear) → number_of s v (negative t) ≡ negsuc 0 *ℤ number_of s v t
+pub number-negative : (s : Sort) (v : Valuation) (t : Linear) → value_by_sort s v (negative t) ≡ negsuc 0 *ℤ value_by_sort s v t
 number-negative Int v t = value-times v.whole (negsuc 0) t
 number-negative Perm v t = amount-times v.fraction (negsuc 0) t
 
@@ -52,18 +52,18 @@ value-plus_one : (v : Valuation) (t : Linear) → value v.whole (plus_one t) ≡
 unfolding value
 value-plus_one v t = omega (arith, ints)
 
-pub below-holds : (s : Sort) (v : Valuation) (t : Linear) → number_of s v t <ℤ pos 0 → Holds v (below_zero s t)
+pub below-holds : (s : Sort) (v : Valuation) (t : Linear) → value_by_sort s v t <ℤ pos 0 → Holds v (below_zero s t)
 below-holds Int v t h = let e = value-plus_one v t in omega (arith, ints, e, h)
 below-holds Perm v t h = h
 
-pub below-means : (s : Sort) (v : Valuation) (t : Linear) → Holds v (below_zero s t) → number_of s v t <ℤ pos 0
+pub below-means : (s : Sort) (v : Valuation) (t : Linear) → Holds v (below_zero s t) → value_by_sort s v t <ℤ pos 0
 below-means Int v t h = let e = value-plus_one v t in omega (arith, ints, e, h)
 below-means Perm v t h = h
 
-pub above-holds : (s : Sort) (v : Valuation) (t : Linear) → pos 0 <ℤ number_of s v t → Holds v (above_zero s t)
+pub above-holds : (s : Sort) (v : Valuation) (t : Linear) → pos 0 <ℤ value_by_sort s v t → Holds v (above_zero s t)
 above-holds s v t h = let e = number-negative s v t in below-holds s v (negative t) (omega (arith, ints, e, h))
 
-pub above-means : (s : Sort) (v : Valuation) (t : Linear) → Holds v (above_zero s t) → pos 0 <ℤ number_of s v t
+pub above-means : (s : Sort) (v : Valuation) (t : Linear) → Holds v (above_zero s t) → pos 0 <ℤ value_by_sort s v t
 above-means s v t h = let e = number-negative s v t in let b = below-means s v (negative t) h in omega (arith, ints, e, b)
 
 -- a row of this kind, of a difference, by the two numbers
@@ -76,10 +76,10 @@ le-minus d a b e = (λ h. omega (arith, ints, e, h), λ h. omega (arith, ints, e
 lt-minus : (d a b : ℤ) → d ≡ a +ℤ negsuc 0 *ℤ b → (d <ℤ pos 0) ↔ (a <ℤ b)
 lt-minus d a b e = (λ h. omega (arith, ints, e, h), λ h. omega (arith, ints, e, h))
 
-row-holds : (v : Valuation) (k : Kind) (s : Sort) (t : Linear) → Holds v (row k s t) ≡ HoldsAs k (number_of s v t)
+row-holds : (v : Valuation) (k : Kind) (s : Sort) (t : Linear) → Holds v (row k s t) ≡ HoldsAs k (value_by_sort s v t)
 row-holds v k s t = refl
 
-less-means : (v : Valuation) (l r : Linear) (s : Sort) → Holds v (below_zero s (minus l r)) ↔ (number_of s v l <ℤ number_of s v r)
+less-means : (v : Valuation) (l r : Linear) (s : Sort) → Holds v (below_zero s (minus l r)) ↔ (value_by_sort s v l <ℤ value_by_sort s v r)
 less-means v l r s =
     let m = lt-minus _ _ _ (number-minus s v l r) in
     (λ h. m.0 (below-means s v (minus l r) h), λ h. below-holds s v (minus l r) (m.1 h))
@@ -102,7 +102,7 @@ lone (inr e) = absurd e
 -- one of the negations holds exactly where the row doesn't
 pub negations-cover : (v : Valuation) (k : Kind) (s : Sort) (t : Linear) → (¬ Holds v (row k s t)) ↔ HoldsSome v (negations_as k s t)
 negations-cover v Le s t =
-    (λ n. inl (above-holds s v t (positive (number_of s v t) n)), λ h y. let p = above-means s v t (lone h) in absurd (omega (arith, ints, p, y)))
+    (λ n. inl (above-holds s v t (positive (value_by_sort s v t) n)), λ h y. let p = above-means s v t (lone h) in absurd (omega (arith, ints, p, y)))
   where
     positive : (z : ℤ) → (z ≤ℤ pos 0 → ⊥) → pos 0 <ℤ z
     positive z n = elim (sign_of z) [
@@ -110,7 +110,7 @@ negations-cover v Le s t =
       | inr (inl e) ↦ absurd (n (omega (arith, ints)))
       | inr (inr above) ↦ above
     ]
-negations-cover v Lt s t = (λ n. inl (holds s t (not_below (number_of s v t) n)), λ h y. let p = means s t (lone h) in absurd (omega (arith, ints, p, y)))
+negations-cover v Lt s t = (λ n. inl (holds s t (not_below (value_by_sort s v t) n)), λ h y. let p = means s t (lone h) in absurd (omega (arith, ints, p, y)))
   where
     not_below : (z : ℤ) → (z <ℤ pos 0 → ⊥) → pos 0 ≤ℤ z
     not_below z n = elim (sign_of z) [
@@ -119,24 +119,24 @@ negations-cover v Lt s t = (λ n. inl (holds s t (not_below (number_of s v t) n)
       | inr (inr above) ↦ omega (arith, ints)
     ]
 
-    holds : (s : Sort) (t : Linear) → pos 0 ≤ℤ number_of s v t → number_of s v (negative t) ≤ℤ pos 0
+    holds : (s : Sort) (t : Linear) → pos 0 ≤ℤ value_by_sort s v t → value_by_sort s v (negative t) ≤ℤ pos 0
     holds s t h = let e = number-negative s v t in omega (arith, ints, e, h)
 
-    means : (s : Sort) (t : Linear) → number_of s v (negative t) ≤ℤ pos 0 → pos 0 ≤ℤ number_of s v t
+    means : (s : Sort) (t : Linear) → value_by_sort s v (negative t) ≤ℤ pos 0 → pos 0 ≤ℤ value_by_sort s v t
     means s t h = let e = number-negative s v t in omega (arith, ints, e, h)
 negations-cover v Eq s t = (λ n. differs n, λ h y. meets h y)
   where
-    differs : (number_of s v t ≡ pos 0 → ⊥) → HoldsSome v (negations_as Eq s t)
-    differs n = elim (sign_of (number_of s v t)) [
+    differs : (value_by_sort s v t ≡ pos 0 → ⊥) → HoldsSome v (negations_as Eq s t)
+    differs n = elim (sign_of (value_by_sort s v t)) [
       | inl below ↦ inl (below-holds s v t below)
       | inr (inl e) ↦ absurd (n e)
       | inr (inr above) ↦ inr (inl (above-holds s v t above))
     ]
 
-    meets : HoldsSome v (negations_as Eq s t) → number_of s v t ≡ pos 0 → ⊥
+    meets : HoldsSome v (negations_as Eq s t) → value_by_sort s v t ≡ pos 0 → ⊥
     meets (inl b) y = let p = below-means s v t b in absurd (omega (arith, ints, p, y))
     meets (inr b) y = let p = above-means s v t (lone b) in absurd (omega (arith, ints, p, y))
-negations-cover v Ne s t = (λ n. inl (is_zero (number_of s v t) n), λ h y. y (lone h))
+negations-cover v Ne s t = (λ n. inl (is_zero (value_by_sort s v t) n), λ h y. y (lone h))
   where
     is_zero : (z : ℤ) → ((z ≡ pos 0 → ⊥) → ⊥) → z ≡ pos 0
     is_zero (pos zero) n = refl

@@ -1,5 +1,8 @@
--- Linear terms: a constant, and pairs of a variable and its coefficient in ascending order of variables.
-use Rattle.std.specs.Prelude.{◌≢◌, ℕ, zero, suc, ◌+◌, ◌≤◌, ◌<◌, ◌≡◌, List, [], ◌∷◌, map, filter, length, get_or, not, ◌&&◌, Option, Some, None, ℤ, pos, negsuc, ◌+ℤ◌, ◌*ℤ◌, Bool, true, false, ◌==◌, nat_lt, if◌then◌else◌}
+-- Linear terms: a constant, and pairs of a variable and its coefficient in ascending order of
+-- variables.
+use Rattle.std.specs.Prelude.{◌≢◌, ℕ, zero, suc, ◌+◌, ◌≤◌, ◌<◌, ◌≡◌, List, [], ◌∷◌, map, filter}
+use Rattle.std.specs.Prelude.{length, get_or, not, ◌&&◌, Option, Some, None, ℤ, pos, negsuc, ◌+ℤ◌}
+use Rattle.std.specs.Prelude.{◌*ℤ◌, Bool, true, false, ◌==◌, nat_lt, if◌then◌else◌}
 use Rattle.std.specs.List.{All}
 use Rattle.cap_lin.specs.declared.term.Pair.{Pair}
 
@@ -58,7 +61,8 @@ merged_from p rest [] = only_left p ∷ rest []
 merged_from p rest (q ∷ qs) =
     if nat_lt p.0 q.0
     then only_left p ∷ rest (q ∷ qs)
-    else (if nat_lt q.0 p.0 then only_right q ∷ merged_from p rest qs else record { variable = p.0; left = p.1; right = q.1 } ∷ rest qs)
+    else (if nat_lt q.0 p.0 then only_right q ∷ merged_from p rest qs
+    else record { variable = p.0; left = p.1; right = q.1 } ∷ rest qs)
 
 unfoldable pub merged : List (ℕ × ℤ) → List (ℕ × ℤ) → List Pair
 merged [] qs = map only_right qs
@@ -86,10 +90,15 @@ times k t = record { constant = k *ℤ t.constant; parts = multiples k t.parts }
 -- a multiple of one term plus a multiple of another, part by part
 unfoldable pub combined_parts : ℤ → ℤ → List Pair → List (ℕ × ℤ)
 combined_parts a b [] = []
-combined_parts a b (j ∷ js) = put_part j.variable (a *ℤ j.left +ℤ b *ℤ j.right) (combined_parts a b js)
+combined_parts a b (j ∷ js) =
+    put_part j.variable (a *ℤ j.left +ℤ b *ℤ j.right) (combined_parts a b js)
 
 unfoldable pub combination : ℤ → Linear → ℤ → Linear → Linear
-combination a s b t = record { constant = a *ℤ s.constant +ℤ b *ℤ t.constant; parts = combined_parts a b (merged s.parts t.parts) }
+combination a s b t =
+    record {
+      constant = a *ℤ s.constant +ℤ b *ℤ t.constant;
+      parts = combined_parts a b (merged s.parts t.parts);
+    }
 
 abbrev pub negative : Linear → Linear
 negative t = times (negsuc 0) t
@@ -120,9 +129,11 @@ IsBelow count t = All (λ p. p.0 < count) t.parts
 -- the least variable that is at least `low`, where there is one
 abbrev pub IsLeastFrom : ℕ → List (ℕ × ℤ) → Option ℕ → Type 0
 IsLeastFrom low ps None = (x : ℕ) → low ≤ x → coefficient x ps ≡ pos 0
-IsLeastFrom low ps (Some y) = (low ≤ y) × (coefficient y ps ≢ pos 0) × ((x : ℕ) → low ≤ x → x < y → coefficient x ps ≡ pos 0)
+IsLeastFrom low ps (Some y) =
+    (low ≤ y) × (coefficient y ps ≢ pos 0) × ((x : ℕ) → low ≤ x → x < y → coefficient x ps ≡ pos 0)
 
--- a place that splits the parts: the variables before it are below `low`, and those from it on are not
+-- a place that splits the parts: the variables before it are below `low`, and those from it on are
+-- not
 pub record IsPlaceFrom (low : ℕ) (ps : List (ℕ × ℤ)) (place : ℕ) : Type 0 where
   pub bound : place ≤ length ps
   pub below : (k : ℕ) → k < place → (get_or ps k (0, pos 0)).0 < low

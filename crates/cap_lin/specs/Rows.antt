@@ -8,7 +8,8 @@ use Rattle.cap_lin.specs.declared.row.Sort.TheVariants.{Int, Perm}
 use Rattle.cap_lin.specs.declared.row.Kind.{Kind}
 use Rattle.cap_lin.specs.declared.row.Kind.TheVariants.{Le, Lt, Eq, Ne}
 use Rattle.cap_lin.specs.declared.row.Op.{Op}
-use Rattle.cap_lin.specs.declared.row.Op.TheVariants.{Le as AtMost, Lt as Less, Eq as Equal, Ne as Unequal, Gt as Greater, Ge as AtLeast}
+use Rattle.cap_lin.specs.declared.row.Op.TheVariants.{Le as AtMost, Lt as Less, Eq as Equal}
+use Rattle.cap_lin.specs.declared.row.Op.TheVariants.{Ne as Unequal, Gt as Greater, Ge as AtLeast}
 
 abbrev pub row : Kind → Sort → Linear → Row
 row k s t = record { term = t; kind = k; sort = s }

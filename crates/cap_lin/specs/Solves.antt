@@ -1,5 +1,6 @@
 -- Which rows and comparisons hold under a valuation, and which rows none solves.
-use Rattle.std.specs.Prelude.{◌≡◌, ◌≢◌, ℕ, List, [], ◌∷◌, ◌++◌, ◌⊎◌, ℤ, pos, ◌*ℤ◌, ◌≤ℤ◌, ◌<ℤ◌, slice_get, Some}
+use Rattle.std.specs.Prelude.{◌≡◌, ◌≢◌, ℕ, List, [], ◌∷◌, ◌++◌, ◌⊎◌, ℤ, pos, ◌*ℤ◌, ◌≤ℤ◌, ◌<ℤ◌}
+use Rattle.std.specs.Prelude.{slice_get, Some}
 use Rattle.std.specs.List.{AllByRecursion}
 use Rattle.cap_lin.specs.Linear.{Linear}
 use Rattle.cap_lin.specs.Values.{RationalValuation, Valuation, denominator, value, amount}
@@ -10,12 +11,13 @@ use Rattle.cap_lin.specs.declared.row.Sort.TheVariants.{Int, Perm}
 use Rattle.cap_lin.specs.declared.row.Kind.{Kind}
 use Rattle.cap_lin.specs.declared.row.Kind.TheVariants.{Le, Lt, Eq, Ne}
 use Rattle.cap_lin.specs.declared.row.Op.{Op}
-use Rattle.cap_lin.specs.declared.row.Op.TheVariants.{Le as AtMost, Lt as Less, Eq as Equal, Ne as Unequal, Gt as Greater, Ge as AtLeast}
+use Rattle.cap_lin.specs.declared.row.Op.TheVariants.{Le as AtMost, Lt as Less, Eq as Equal}
+use Rattle.cap_lin.specs.declared.row.Op.TheVariants.{Ne as Unequal, Gt as Greater, Ge as AtLeast}
 
 -- a term's value by sort: a whole number, or a fraction's numerator over the denominator
-abbrev pub number_of : Sort → Valuation → Linear → ℤ
-number_of Int v t = value v.whole t
-number_of Perm v t = amount v.fraction t
+abbrev pub value_by_sort : Sort → Valuation → Linear → ℤ
+value_by_sort Int v t = value v.whole t
+value_by_sort Perm v t = amount v.fraction t
 
 -- a number, or its positive multiple, is as a row of this kind wants it
 abbrev pub HoldsAs : Kind → ℤ → Type 0
@@ -25,7 +27,7 @@ HoldsAs Eq z = z ≡ pos 0
 HoldsAs Ne z = z ≢ pos 0
 
 abbrev pub Holds : Valuation → Row → Type 0
-Holds v r = HoldsAs r.kind (number_of r.sort v r.term)
+Holds v r = HoldsAs r.kind (value_by_sort r.sort v r.term)
 
 -- some row of the list holds
 abbrev pub HoldsSome : Valuation → List Row → Type 0
@@ -42,7 +44,7 @@ Relates AtLeast a b = b ≤ℤ a
 
 -- a comparison of two terms of a sort
 abbrev pub Compares : Valuation → Linear → Op → Linear → Sort → Type 0
-Compares v l op r s = Relates op (number_of s v l) (number_of s v r)
+Compares v l op r s = Relates op (value_by_sort s v l) (value_by_sort s v r)
 
 -- the variable's fraction is its whole number
 abbrev pub IsWholeAt : Valuation → ℕ → Type 0

@@ -1,5 +1,6 @@
 -- Valuations, and the values of terms.
-use Rattle.std.specs.Prelude.{ℕ, ◌+◌, List, [], ◌∷◌, ◌==◌, if◌then◌else◌, get_or, ℤ, pos, ◌+ℤ◌, ◌*ℤ◌}
+use Rattle.std.specs.Prelude.{ℕ, ◌+◌, List, [], ◌∷◌, ◌==◌, if◌then◌else◌, get_or, ℤ, pos, ◌+ℤ◌}
+use Rattle.std.specs.Prelude.{◌*ℤ◌}
 use Rattle.cap_lin.specs.Linear.{Linear}
 
 -- a fraction for each variable: its numerator over the common denominator, which is `under` + 1

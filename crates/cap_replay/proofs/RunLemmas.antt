@@ -16,7 +16,7 @@ use Rattle.cap_run.specs.Machine.{Frame, Thread, Configuration, Outcome, next, f
 use Rattle.cap_run.specs.Laws.{is_step}
 use Rattle.cap_run.specs.Ready.{ahead}
 use Rattle.cap_run.specs.Results.{entry_steps, are_narrow}
-use Rattle.cap_run.specs.View.{configuration, is_stopped, RunsProgram, Leaves, Steps, is_enabled}
+use Rattle.cap_run.specs.View.{configuration, is_stopped, RunsProgram, LeavesMachine, Steps, is_enabled}
 use Rattle.cap_replay.specs.declared.playing.End.{End}
 use Rattle.cap_replay.specs.declared.playing.End.TheVariants.{Stopped, NotEnabled}
 use Rattle.cap_replay.specs.declared.playing.Played.{Played}
@@ -95,7 +95,7 @@ run_at p k c e es b o n i =
 fault_ends_at : (p : PlainProgram) (k : ℕ) (e : Entry) (m n : Machine) (old new : List ℕ) (a : Option Ahead) (event : Event) → Steps p e m n (Ok event) → a ≡ ahead (configuration p m) e.thread → new ≡ old ++ step_line (suc k) e.thread a event → is_fault event ≡ true → Advances p k e m n old new (Some (Stopped (suc k)))
 fault_ends_at p k e m n old new a event s h w f es = go (step p (configuration p m) e) refl (step-tells p (configuration p m) e) s.2
   where
-    go : (o : Outcome) → step p (configuration p m) e ≡ o → Tells o → Leaves p m n event o → in_front old (run_from p k (configuration p m) (e ∷ es)) ≡ in_front new (ends (Stopped (suc k)))
+    go : (o : Outcome) → step p (configuration p m) e ≡ o → Tells o → LeavesMachine p m n event o → in_front old (run_from p k (configuration p m) (e ∷ es)) ≡ in_front new (ends (Stopped (suc k)))
     go (next d x) i t l = let y : is_fault event ≡ false = ap is_fault l.0 ∙ t in absurd (cc)
     go (fault x) i t l =
         ap (in_front old) (run_at p k (configuration p m) e es true (fault x) s.1 i)
@@ -106,7 +106,7 @@ fault_ends_at p k e m n old new a event s h w f es = go (step p (configuration p
 step_goes_at : (p : PlainProgram) (k : ℕ) (e : Entry) (m n : Machine) (old new : List ℕ) (a : Option Ahead) (event : Event) → Steps p e m n (Ok event) → a ≡ ahead (configuration p m) e.thread → new ≡ old ++ step_line (suc k) e.thread a event → is_fault event ≡ false → Advances p k e m n old new None
 step_goes_at p k e m n old new a event s h w f = go (step p (configuration p m) e) refl (step-tells p (configuration p m) e) s.2
   where
-    go : (o : Outcome) → step p (configuration p m) e ≡ o → Tells o → Leaves p m n event o → Advances p k e m n old new None
+    go : (o : Outcome) → step p (configuration p m) e ≡ o → Tells o → LeavesMachine p m n event o → Advances p k e m n old new None
     go (next d x) i t l = (
       λ es.
           ap (in_front old) (run_at p k (configuration p m) e es true (next d x) s.1 i)

@@ -23,7 +23,7 @@ pub record IsReportOf (p : PlainProgram) (budget : ℕ) (r : Report) : Type 0 wh
   pub good : r.good ≡ is_good p budget
 
 -- all of the program is proved, by these trees
-pub record IsProvedBy (p : PlainProgram) (budget : ℕ) (b : Bundle) : Type 0 where
+pub record IsWhollyProvedBy (p : PlainProgram) (budget : ℕ) (b : Bundle) : Type 0 where
   pub good : is_good p budget ≡ true
   pub trees : bundle_view b ≡ found_trees p budget
 
@@ -33,5 +33,5 @@ pub record IsLeftBy (p : PlainProgram) (budget : ℕ) (r : Report) : Type 0 wher
   pub report : IsReportOf p budget r
 
 abbrev pub IsConclusionOf : PlainProgram → ℕ → Conclusion → Type 0
-IsConclusionOf p budget (Proved b) = IsProvedBy p budget b
+IsConclusionOf p budget (Proved b) = IsWhollyProvedBy p budget b
 IsConclusionOf p budget (Reported r) = IsLeftBy p budget r

@@ -21,8 +21,8 @@ use Rattle.cap_run.specs.Laws.{is_step, BaseFits}
 use Rattle.cap_run.specs.Places.{inside, side_of, behind, behind_act}
 use Rattle.cap_run.specs.Changes.{tail_of, passed, entered, with_top}
 use Rattle.cap_run.specs.Errors.{Explains}
-use Rattle.cap_run.specs.View.{configuration, is_stopped, AllArePlaced, IsSame, Leaves, Steps, is_enabled}
-use Rattle.cap_run.specs.Ready.{IsReady, HasTop, update, CanChange, HasChanged, IsKept}
+use Rattle.cap_run.specs.View.{configuration, is_stopped, AllArePlaced, IsSame, LeavesMachine, Steps, is_enabled}
+use Rattle.cap_run.specs.Ready.{IsReady, HasTop, update, CanChange, HasChanged, IsUnchanged}
 use Rattle.cap_run.proofs.Lists.{all_map}
 use Rattle.cap_run.proofs.Keeping.{Runs}
 use Rattle.cap_run.proofs.Enabled.{statement-iff, none_is}
@@ -71,11 +71,11 @@ results_are p m e s r = ap (λ o. frame_steps e.base (top_frame o)) r.there ∙ 
 
 pub ok_next : (p : PlainProgram) (m after : Machine) (e : Entry) (s : PlainStatement) (r : IsReady p m e s) (event : Event) (d : Configuration) → are_narrow (act_steps r.frame.store s.act e.base) ≡ true → now p m e s r ≡ next d event → configuration p after ≡ d → is_stopped after ≡ is_stopped m → Steps p e m after (Ok event)
 ok_next p m after e s r event d n o c t =
-    (r.runs, ap are_narrow (results_are p m e s r) ∙ n, subst (Leaves p m after event) (sym (step_is p m e s r ∙ o)) (refl, c, t ∙ r.runs))
+    (r.runs, ap are_narrow (results_are p m e s r) ∙ n, subst (LeavesMachine p m after event) (sym (step_is p m e s r ∙ o)) (refl, c, t ∙ r.runs))
 
 pub ok_fault : (p : PlainProgram) (m after : Machine) (e : Entry) (s : PlainStatement) (r : IsReady p m e s) (event : Event) → are_narrow (act_steps r.frame.store s.act e.base) ≡ true → now p m e s r ≡ fault event → configuration p after ≡ configuration p m → is_stopped after ≡ true → Steps p e m after (Ok event)
 ok_fault p m after e s r event n o c t =
-    (r.runs, ap are_narrow (results_are p m e s r) ∙ n, subst (Leaves p m after event) (sym (step_is p m e s r ∙ o)) (refl, c, t))
+    (r.runs, ap are_narrow (results_are p m e s r) ∙ n, subst (LeavesMachine p m after event) (sym (step_is p m e s r ∙ o)) (refl, c, t))
 
 pub enabled_now : (p : PlainProgram) (m : Machine) (e : Entry) (s : PlainStatement) (r : IsReady p m e s) → BaseFits (configuration p m).heap s.act e.base → is_enabled p m e ≡ true
 enabled_now p m e s r b =
@@ -153,7 +153,7 @@ pub entered_ok : (p : PlainProgram) (m after : Machine) (e : Entry) (s : PlainSt
 entered_ok p m after e s r event side n o c =
     ok_next p m after e s r event _ n o (moved p m after m.heap e s r (entered side) (with_rest r.frame (append (side_of side s.act) (behind_act s.label s.act r.rest))) c (entered_to p m e s r side) ∙ ap (λ g. with_frame p m e s r g (with_rest r.frame (append (side_of side s.act) (behind_act s.label s.act r.rest)))) (sym (heap_is p m))) c.stop
 
-pub kept_memory : (p : PlainProgram) (m after : Machine) (e : Entry) → IsKept p m after → Steps p e m after (Err OutOfMemory)
+pub kept_memory : (p : PlainProgram) (m after : Machine) (e : Entry) → IsUnchanged p m after → Steps p e m after (Err OutOfMemory)
 kept_memory p m after e k = record { same_configuration = k.configured; same_stop = k.stop }
 
 -- a fault stops the machine and leaves the rest

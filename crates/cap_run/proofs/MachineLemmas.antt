@@ -11,7 +11,7 @@ use Rattle.cap_run.specs.declared.frame.Frame as code
 use Rattle.cap_run.specs.declared.machine.Machine.{Machine}
 use Rattle.cap_run.specs.Machine.{Frame, Thread}
 use Rattle.cap_run.specs.View.{frame_view, thread_view, configuration, is_stopped, IsPlaced, ArePlaced, AllArePlaced}
-use Rattle.cap_run.specs.Ready.{HasTop, update, CanChange, HasChanged, HasThread, IsKept}
+use Rattle.cap_run.specs.Ready.{HasTop, update, CanChange, HasChanged, HasThread, IsUnchanged}
 use Rattle.cap_run.proofs.Lists.{all_at, all_set, all_append}
 use Rattle.cap_run.proofs.ThreadLemmas.{thread_top}
 
@@ -63,7 +63,7 @@ changed p m n change t u threads h is e v k =
       places = subst (AllByRecursion (λ (w : Vec code.Frame). ArePlaced p w.items)) (sym e) (all_set (λ (w : Vec code.Frame). ArePlaced p w.items) m.threads.items n u h.places k);
     }
 
-pub kept : (p : PlainProgram) (m : Machine) (n : ℕ) (t u : Vec code.Frame) (threads : Vec (Vec code.Frame)) → CanChange p m n → t ≡ get_or m.threads.items n t → threads.items ≡ set m.threads.items n u → thread_view p u.items ≡ thread_view p t.items → ArePlaced p u.items → IsKept p m (record m { threads = threads })
+pub kept : (p : PlainProgram) (m : Machine) (n : ℕ) (t u : Vec code.Frame) (threads : Vec (Vec code.Frame)) → CanChange p m n → t ≡ get_or m.threads.items n t → threads.items ≡ set m.threads.items n u → thread_view p u.items ≡ thread_view p t.items → ArePlaced p u.items → IsUnchanged p m (record m { threads = threads })
 unfolding configuration is_stopped AllArePlaced
 kept p m n t u threads h is e v k =
     let at = lent_thread m.threads.items n t (is_there m n h.top) is in
@@ -101,7 +101,7 @@ has_top p m n f fs e = go m.threads.items n e
         some (x ∷ xs) j = omega arith
     go (w ∷ ws) (suc k) i = go ws k i
 
-pub threads_same : (p : PlainProgram) (m : Machine) (threads : Vec (Vec code.Frame)) → threads.items ≡ m.threads.items → AllArePlaced p m → IsKept p m (record m { threads = threads })
+pub threads_same : (p : PlainProgram) (m : Machine) (threads : Vec (Vec code.Frame)) → threads.items ≡ m.threads.items → AllArePlaced p m → IsUnchanged p m (record m { threads = threads })
 unfolding configuration is_stopped AllArePlaced
 threads_same p m threads e h =
     record {

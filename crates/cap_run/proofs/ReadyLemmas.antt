@@ -31,7 +31,7 @@ use Rattle.cap_run.specs.Machine.{Heap, Frame, Thread, Configuration, Outcome, n
 use Rattle.cap_run.specs.Fits.{FrameFits, ThreadFits, ConfigurationFits}
 use Rattle.cap_run.specs.Laws.{is_step, running, first_statement, AreFree, BaseFits}
 use Rattle.cap_run.specs.Results.{allocation_steps, are_narrow}
-use Rattle.cap_run.specs.View.{body_of, thread_view, configuration, is_stopped, ArePlaced, AllArePlaced, RunsProgram, IsSame, Leaves, Steps, is_enabled}
+use Rattle.cap_run.specs.View.{body_of, thread_view, configuration, is_stopped, ArePlaced, AllArePlaced, RunsProgram, IsSame, LeavesMachine, Steps, is_enabled}
 use Rattle.cap_run.specs.Ready.{IsReady, IsReadyTo, statement_ahead, ahead}
 use Rattle.cap_run.proofs.Lists.{all_at}
 use Rattle.cap_run.proofs.Keeping.{Runs, runs, step-kept, KeepsFit}
@@ -220,7 +220,7 @@ fits_after p m n e r w h s k = record { frames = go r s; places = k }
     same : IsSame p m n → ConfigurationFits p (configuration p n)
     same i = subst (ConfigurationFits p) (sym i.same_configuration) h.frames
 
-    left : (o : Outcome) (event : Event) → KeepsFit p o → Leaves p m n event o → ConfigurationFits p (configuration p n)
+    left : (o : Outcome) (event : Event) → KeepsFit p o → LeavesMachine p m n event o → ConfigurationFits p (configuration p n)
     left (next c x) event f l = subst (ConfigurationFits p) (sym l.1) f
     left (fault x) event f l = subst (ConfigurationFits p) (sym l.1) h.frames
     left disabled event f l = absurd l
@@ -299,7 +299,7 @@ grows_after p m n e r s = go r s
     same : (c : Configuration) → c ≡ configuration p m → length c.threads ≤ suc (length (configuration p m).threads)
     same c i = let k : length c.threads ≡ length (configuration p m).threads = ap (λ (d : Configuration). length d.threads) i in omega arith
 
-    left : (o : Outcome) (event : Event) → Grows (length (configuration p m).threads) o → Leaves p m n event o → length (configuration p n).threads ≤ suc (length (configuration p m).threads)
+    left : (o : Outcome) (event : Event) → Grows (length (configuration p m).threads) o → LeavesMachine p m n event o → length (configuration p n).threads ≤ suc (length (configuration p m).threads)
     left (next c x) event g l = let k : length (configuration p n).threads ≡ length c.threads = ap (λ (d : Configuration). length d.threads) l.1 in omega arith
     left (fault x) event g l = same (configuration p n) l.1
     left disabled event g l = absurd l

@@ -63,7 +63,7 @@ pub record HasThread (p : PlainProgram) (first : Frame) (before after : Machine)
   pub places : AllArePlaced p after
 
 -- nothing that is seen changed
-pub record IsKept (p : PlainProgram) (before after : Machine) : Type 0 where
+pub record IsUnchanged (p : PlainProgram) (before after : Machine) : Type 0 where
   pub configured : configuration p after ≡ configuration p before
   pub stop : is_stopped after ≡ is_stopped before
   pub places : AllArePlaced p after

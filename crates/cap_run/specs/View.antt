@@ -68,14 +68,14 @@ pub record IsSame (p : PlainProgram) (before after : Machine) : Type 0 where
   pub same_stop : is_stopped after ≡ is_stopped before
 
 -- what the machine after a step shows, by what the step is
-abbrev pub Leaves : PlainProgram → Machine → Machine → Event → Outcome → Type 0
-Leaves p before after event (next c e) = (event ≡ e) × (configuration p after ≡ c) × (is_stopped after ≡ false)
-Leaves p before after event (fault e) = (event ≡ e) × (configuration p after ≡ configuration p before) × (is_stopped after ≡ true)
-Leaves p before after event disabled = ⊥
+abbrev pub LeavesMachine : PlainProgram → Machine → Machine → Event → Outcome → Type 0
+LeavesMachine p before after event (next c e) = (event ≡ e) × (configuration p after ≡ c) × (is_stopped after ≡ false)
+LeavesMachine p before after event (fault e) = (event ≡ e) × (configuration p after ≡ configuration p before) × (is_stopped after ≡ true)
+LeavesMachine p before after event disabled = ⊥
 
 -- what a step answers, and the machine after it
 abbrev pub Steps : PlainProgram → Entry → Machine → Machine → Result Event StepError → Type 0
-Steps p e before after (Ok event) = (is_stopped before ≡ false) × (are_narrow (entry_steps (configuration p before) e) ≡ true) × Leaves p before after event (step p (configuration p before) e)
+Steps p e before after (Ok event) = (is_stopped before ≡ false) × (are_narrow (entry_steps (configuration p before) e) ≡ true) × LeavesMachine p before after event (step p (configuration p before) e)
 Steps p e before after (Err NotEnabled) = (is_enabled p before e ≡ false) × IsSame p before after
 Steps p e before after (Err Wide) = (is_enabled p before e ≡ true) × (are_narrow (entry_steps (configuration p before) e) ≡ false) × IsSame p before after
 Steps p e before after (Err OutOfMemory) = IsSame p before after

@@ -8,7 +8,7 @@ ghost use Rattle.cap_run.specs.Machine as plain;
 ghost use Rattle.cap_run.specs.Cells.{AscendsFrom};
 ghost use Rattle.cap_run.specs.View.{configuration, is_stopped, frame_view, IsPlaced, AllArePlaced};
 ghost use Rattle.cap_run.specs.View.{RunsProgram};
-ghost use Rattle.cap_run.specs.Ready.{HasTop, CanChange, HasChanged, HasThread, IsKept};
+ghost use Rattle.cap_run.specs.Ready.{HasTop, CanChange, HasChanged, HasThread, IsUnchanged};
 ghost use Rattle.cap_run.specs.Changes.{passed, entered, with_top, returned, return_event};
 
 use crate::event::Event;
@@ -96,7 +96,7 @@ impl Machine {
         requires { CanChange (program_view program.now) self.old thread }
         ensures entered { OnOk result (HasChanged (program_view program.now)
             (with_top (entered side)) thread self.old self.new) }
-        ensures kept { OnErr result (IsKept (program_view program.now) self.old self.new) }
+        ensures kept { OnErr result (IsUnchanged (program_view program.now) self.old self.new) }
     {
         thread::enter(program, &mut self.threads[thread as usize], side)
     }
@@ -112,7 +112,7 @@ impl Machine {
         requires callee { IsPlaced (program_view program.now) callee }
         ensures pushed { let p = program_view program.now in OnOk result (HasChanged p
             (λ fs. frame_view p callee ∷ with_top passed fs) thread self.old self.new) }
-        ensures kept { OnErr result (IsKept (program_view program.now) self.old self.new) }
+        ensures kept { OnErr result (IsUnchanged (program_view program.now) self.old self.new) }
     {
         thread::call(program, &mut self.threads[thread as usize], callee)
     }
@@ -140,7 +140,7 @@ impl Machine {
         requires first { IsPlaced (program_view _program.now) first }
         ensures added { let p = program_view _program.now in
             OnOk result (HasThread p (frame_view p first) self.old self.new) }
-        ensures kept { OnErr result (IsKept (program_view _program.now) self.old self.new) }
+        ensures kept { OnErr result (IsUnchanged (program_view _program.now) self.old self.new) }
     {
         let mut frames = Vec::new(alloc);
         frames.push(first)?;

@@ -21,7 +21,7 @@ use Rattle.cap_stands.proofs.Every.{each_flat, each_weaker}
 use Rattle.cap_stands.proofs.Nothing.{nothing_front, nothing_behind, nothing_flat, nothing_mapped, nothing_kept}
 use Rattle.cap_stands.proofs.Known.{OccursKnown, occurrences-known, all-kept, knows-front, knows-behind, sorts-whole, sorts-hidden, sorts-names, sorts-last}
 use Rattle.cap_stands.proofs.Terms.{terms-flat}
-use Rattle.cap_stands.proofs.Items.{Right, Reads, ItemsAre, assertion-fit}
+use Rattle.cap_stands.proofs.Items.{Right, ReadsTrees, ItemsAre, assertion-fit}
 use Rattle.cap_stands.proofs.Counts.{within-limit}
 
 -- each item is right
@@ -32,7 +32,7 @@ right-items rs own types scope items a b c = zipped items (each_flat (OccursKnow
     zipped [] x y z = tt
     zipped (i ∷ more) x y z = (record { known = x.0; nothing = y.0; wanted = z.0 }, zipped more x.1 y.1 z.1)
 
-pub clause-fit : (p : PlainProgram) (rs : List RegionTree) (types : List TypedName) (scope : NameScope) → Reads p rs types → (c : Option ClauseTree) → Right rs None types scope (clause_parts c) → ItemsAre (ItemFits p (sorts_of scope)) (clause_program rs types scope c)
+pub clause-fit : (p : PlainProgram) (rs : List RegionTree) (types : List TypedName) (scope : NameScope) → ReadsTrees p rs types → (c : Option ClauseTree) → Right rs None types scope (clause_parts c) → ItemsAre (ItemFits p (sorts_of scope)) (clause_program rs types scope c)
 clause-fit p rs types scope h None a = tt
 clause-fit p rs types scope h (Some c) a = assertion-fit p rs None types scope h false c.assertion a
 

@@ -193,14 +193,14 @@ all_items-append P (item i a) b x y =
     (x.0, each_append P (side_items i) (all_items (append_items a b)) (each_front P (side_items i) (all_items a) x.1) (all_items-append P a b (each_behind P (side_items i) (all_items a) x.1) y))
 
 -- what is asked of all that items are read with
-pub record Reads (p : PlainProgram) (rs : List RegionTree) (types : List TypedName) : Type 0 where
+pub record ReadsTrees (p : PlainProgram) (rs : List RegionTree) (types : List TypedName) : Type 0 where
   pub declared : HasRegions p rs
   pub told : TypesNumbered rs types
 
 abbrev pub Right : List RegionTree → Option Word → List TypedName → NameScope → List PlacedItem → Type 0
 Right rs own types scope items = AllByRecursion (RightItem rs own types scope) items
 
-fact-item : (p : PlainProgram) (rs : List RegionTree) (own : Option Word) (types : List TypedName) (scope : NameScope) → Reads p rs types → (inside : Bool) (k : Word) (q : Place) (r : Word) (args : List (Place × SlotTree)) (c : Place) (s : SlotTree) (e : Place) → RightItem rs own types scope (inside, fact k q r args c s e)
+fact-item : (p : PlainProgram) (rs : List RegionTree) (own : Option Word) (types : List TypedName) (scope : NameScope) → ReadsTrees p rs types → (inside : Bool) (k : Word) (q : Place) (r : Word) (args : List (Place × SlotTree)) (c : Place) (s : SlotTree) (e : Place) → RightItem rs own types scope (inside, fact k q r args c s e)
     → HasSort (sorts_of scope) Int (variable_of scope r.text) × IsSomeAnd (slice_get p.regions (type_number rs k.text)) (λ type. FactFits (sorts_of scope) type (map (λ (a : Place × SlotTree). slot_program scope a.1) args) (slot_program scope s))
 fact-item p rs own types scope h inside k q r args c s e a =
     let rest = nothing_behind (arity_findings (region_named rs k.text) k (length args)) _ a.nothing in
@@ -209,7 +209,7 @@ fact-item p rs own types scope h inside k q r args c s e a =
       fact-fits p rs h.declared scope inside k args s (nothing_front (arity_findings (region_named rs k.text) k (length args)) _ a.nothing) a.known.1 a.wanted,
     )
 
-held-item : (p : PlainProgram) (rs : List RegionTree) (own : Option Word) (types : List TypedName) (scope : NameScope) → Reads p rs types → (inside : Bool) (r : Word) (q : Place) (g : HeldTree) → RightItem rs own types scope (inside, guards r q g) → ItemsAre (ItemFits p (sorts_of scope)) (atoms_program (type_of types r.text) scope r (held_atoms g))
+held-item : (p : PlainProgram) (rs : List RegionTree) (own : Option Word) (types : List TypedName) (scope : NameScope) → ReadsTrees p rs types → (inside : Bool) (r : Word) (q : Place) (g : HeldTree) → RightItem rs own types scope (inside, guards r q g) → ItemsAre (ItemFits p (sorts_of scope)) (atoms_program (type_of types r.text) scope r (held_atoms g))
 held-item p rs own types scope h inside r q g a =
     held-fit p rs h.declared scope inside (type_of types r.text) (λ k e. typed-numbered rs types r.text k h.told e) r
     (region-sorted scope r a.known.0 (nothing_front (region_findings scope r) _ a.nothing)) (held_atoms g)
@@ -222,7 +222,7 @@ cell-item p rs own types scope inside t q s a = (
 )
 
 mutual
-  item-fit : (p : PlainProgram) (rs : List RegionTree) (own : Option Word) (types : List TypedName) (scope : NameScope) → Reads p rs types → (inside : Bool) (i : ItemTree) → Right rs own types scope (item_parts inside i) → ItemsAre (ItemFits p (sorts_of scope)) (item_program rs types scope i)
+  item-fit : (p : PlainProgram) (rs : List RegionTree) (own : Option Word) (types : List TypedName) (scope : NameScope) → ReadsTrees p rs types → (inside : Bool) (i : ItemTree) → Right rs own types scope (item_parts inside i) → ItemsAre (ItemFits p (sorts_of scope)) (item_program rs types scope i)
   item-fit p rs own types scope h inside (holds q) a = tt
   item-fit p rs own types scope h inside (fails q) a = ((tt, tt), tt)
   item-fit p rs own types scope h inside (fact k q r args c s e) a = (fact-item p rs own types scope h inside k q r args c s e a.0, tt)
@@ -237,18 +237,18 @@ mutual
         (side-fit p rs own types scope h y (each_behind (RightItem rs own types scope) (side_parts x) (side_parts y) a.1))) tt,
   )
 
-  items-fit : (p : PlainProgram) (rs : List RegionTree) (own : Option Word) (types : List TypedName) (scope : NameScope) → Reads p rs types → (inside : Bool) (more : ItemTrees) → Right rs own types scope (items_parts inside more) → ItemsAre (ItemFits p (sorts_of scope)) (items_program rs types scope more)
+  items-fit : (p : PlainProgram) (rs : List RegionTree) (own : Option Word) (types : List TypedName) (scope : NameScope) → ReadsTrees p rs types → (inside : Bool) (more : ItemTrees) → Right rs own types scope (items_parts inside more) → ItemsAre (ItemFits p (sorts_of scope)) (items_program rs types scope more)
   items-fit p rs own types scope h inside no_item a = tt
   items-fit p rs own types scope h inside (and_item q i more) a =
       all_items-append (ItemFits p (sorts_of scope)) (item_program rs types scope i) (items_program rs types scope more)
       (item-fit p rs own types scope h inside i (each_front (RightItem rs own types scope) (item_parts inside i) (items_parts inside more) a))
       (items-fit p rs own types scope h inside more (each_behind (RightItem rs own types scope) (item_parts inside i) (items_parts inside more) a))
 
-  pub assertion-fit : (p : PlainProgram) (rs : List RegionTree) (own : Option Word) (types : List TypedName) (scope : NameScope) → Reads p rs types → (inside : Bool) (a : AssertionTree) → Right rs own types scope (assertion_parts inside a) → ItemsAre (ItemFits p (sorts_of scope)) (assertion_program rs types scope a)
+  pub assertion-fit : (p : PlainProgram) (rs : List RegionTree) (own : Option Word) (types : List TypedName) (scope : NameScope) → ReadsTrees p rs types → (inside : Bool) (a : AssertionTree) → Right rs own types scope (assertion_parts inside a) → ItemsAre (ItemFits p (sorts_of scope)) (assertion_program rs types scope a)
   assertion-fit p rs own types scope h inside (assertion i more) a =
       all_items-append (ItemFits p (sorts_of scope)) (item_program rs types scope i) (items_program rs types scope more)
       (item-fit p rs own types scope h inside i (each_front (RightItem rs own types scope) (item_parts inside i) (items_parts inside more) a))
       (items-fit p rs own types scope h inside more (each_behind (RightItem rs own types scope) (item_parts inside i) (items_parts inside more) a))
 
-  side-fit : (p : PlainProgram) (rs : List RegionTree) (own : Option Word) (types : List TypedName) (scope : NameScope) → Reads p rs types → (x : SideTree) → Right rs own types scope (side_parts x) → ItemsAre (ItemFits p (sorts_of scope)) (side_program rs types scope x)
+  side-fit : (p : PlainProgram) (rs : List RegionTree) (own : Option Word) (types : List TypedName) (scope : NameScope) → ReadsTrees p rs types → (x : SideTree) → Right rs own types scope (side_parts x) → ItemsAre (ItemFits p (sorts_of scope)) (side_program rs types scope x)
   side-fit p rs own types scope h (side q a e) r = assertion-fit p rs own types scope h true a r

@@ -6,20 +6,20 @@ use Rattle.std.proofs.lemmas.Option.{same_Some, slice_get-map, slice_get-get_or}
 use Rattle.std.proofs.lemmas.List.{length-map, map-append}
 use Rattle.cap_stands.specs.Names.{KnownName, NameScope, knows, has_name, variable_of, sort_of, found_sort, known_sort}
 use Rattle.std.specs.Borrow.{Bor}
-use Rattle.cap_terms.specs.Views.{entry_view, number_in, number_of, first_number}
+use Rattle.cap_terms.specs.Views.{entry_view, number_in, variable_in, first_number}
 use Rattle.cap_terms.specs.declared.scope.Known.{Known}
 
 some-not : {A B : Type 0} {x : A} → Some x ≡ None → B
 some-not e = absurd (true≢false (ap is_some e))
 
-pub some-number : (scope : NameScope) (x : List ℕ) (n : ℕ) → Some n ≡ number_of scope x → (n ≡ variable_of scope x) × (knows scope x ≡ true)
+pub some-number : (scope : NameScope) (x : List ℕ) (n : ℕ) → Some n ≡ variable_in scope x → (n ≡ variable_of scope x) × (knows scope x ≡ true)
 some-number scope x n e = by (knows scope x) refl e
   where
     by : (b : Bool) → knows scope x ≡ b → Some n ≡ (if b then Some (variable_of scope x) else None) → (n ≡ variable_of scope x) × (knows scope x ≡ true)
     by true h d = (same_Some n (variable_of scope x) d, h)
     by false h d = some-not d
 
-pub none-number : (scope : NameScope) (x : List ℕ) → None ≡ number_of scope x → knows scope x ≡ false
+pub none-number : (scope : NameScope) (x : List ℕ) → None ≡ variable_in scope x → knows scope x ≡ false
 none-number scope x e = by (knows scope x) refl e
   where
     by : (b : Bool) → knows scope x ≡ b → None ≡ (if b then Some (variable_of scope x) else None) → knows scope x ≡ false
@@ -53,7 +53,7 @@ known-within (k ∷ scope) x e = by (has_name x k) e (λ d. known-within scope x
 pub sort-at : (scope : NameScope) (x : List ℕ) (k : Option KnownName) → slice_get scope (variable_of scope x) ≡ Some k → sort_of scope x ≡ known_sort k
 sort-at scope x k e = ap found_sort (find_at (has_name x) scope ∙ e)
 
-pub number-within : (entries : List (Option Known)) (x : List ℕ) (n : ℕ) → Some n ≡ number_of (map entry_view entries) x → n < length entries
+pub number-within : (entries : List (Option Known)) (x : List ℕ) (n : ℕ) → Some n ≡ variable_in (map entry_view entries) x → n < length entries
 number-within entries x n e =
     let s = some-number (map entry_view entries) x n e in
     let h : variable_of (map entry_view entries) x < length (map entry_view entries) = known-within (map entry_view entries) x s.1 in
@@ -62,14 +62,14 @@ number-within entries x n e =
     omega arith
 
 -- the entry at a name's number
-pub read-sort : (xs entries : List (Option Known)) (x : List ℕ) (n : ℕ) (d r : Option Known) → xs ≡ entries → Some n ≡ number_of (map entry_view entries) x → get_or xs n d ≡ r → known_sort (entry_view r) ≡ sort_of (map entry_view entries) x
+pub read-sort : (xs entries : List (Option Known)) (x : List ℕ) (n : ℕ) (d r : Option Known) → xs ≡ entries → Some n ≡ variable_in (map entry_view entries) x → get_or xs n d ≡ r → known_sort (entry_view r) ≡ sort_of (map entry_view entries) x
 read-sort xs entries x n d r w e g =
     let s = some-number (map entry_view entries) x n e in
     let a : slice_get entries n ≡ Some r = slice_get-get_or entries n d (number-within entries x n e) ∙ ap Some (ap (λ ys. get_or ys n d) (sym w) ∙ g) in
     let b : slice_get (map entry_view entries) n ≡ Some (entry_view r) = slice_get-map entry_view entries n ∙ ap (option_map entry_view) a in
     sym (sort-at (map entry_view entries) x (entry_view r) (subst (λ m. slice_get (map entry_view entries) m ≡ Some (entry_view r)) s.0 b))
 
-pub known-number : (scope : NameScope) (x : List ℕ) → is_some (number_of scope x) ≡ knows scope x
+pub known-number : (scope : NameScope) (x : List ℕ) → is_some (variable_in scope x) ≡ knows scope x
 known-number scope x = by (knows scope x)
   where
     by : (b : Bool) → is_some (if b then Some (variable_of scope x) else None) ≡ b
@@ -99,10 +99,10 @@ variable-unknown (k ∷ a) b x e = by (has_name x k) e (λ d. variable-unknown a
 
 -- ---- one more variable
 
-pub put-number : (scope : NameScope) (k : Option KnownName) (x : List ℕ) → number_of (scope ++ k ∷ []) x ≡ first_number (number_of scope x) (has_name x k) (length scope)
+pub put-number : (scope : NameScope) (k : Option KnownName) (x : List ℕ) → variable_in (scope ++ k ∷ []) x ≡ first_number (variable_in scope x) (has_name x k) (length scope)
 put-number scope k x = by (knows scope x) refl (has_name x k) refl
   where
-    by : (b : Bool) → knows scope x ≡ b → (c : Bool) → has_name x k ≡ c → number_of (scope ++ k ∷ []) x ≡ first_number (if b then Some (variable_of scope x) else None) c (length scope)
+    by : (b : Bool) → knows scope x ≡ b → (c : Bool) → has_name x k ≡ c → variable_in (scope ++ k ∷ []) x ≡ first_number (if b then Some (variable_of scope x) else None) c (length scope)
     by true e c f =
         ap (λ t. if t then Some (variable_of (scope ++ k ∷ []) x) else None) (knows-append scope (k ∷ []) x ∙ ap (λ t. t || knows (k ∷ []) x) e)
         ∙ ap Some (variable-known scope (k ∷ []) x e)
@@ -135,12 +135,12 @@ none-from-test None e = refl
 none-from-test (Some a) e = absurd (true≢false e)
 
 -- the table once the name's number is put, where there was none before
-pub push-numbers : (entries new : List (Option Known)) (k : Option Known) (number : ℕ) (x : List ℕ) (o : Option ℕ) → new ≡ entries ++ k ∷ [] → number ≡ length entries → o ≡ number_of (map entry_view entries) x → first_number o (has_name x (entry_view k)) number ≡ number_of (map entry_view new) x
+pub push-numbers : (entries new : List (Option Known)) (k : Option Known) (number : ℕ) (x : List ℕ) (o : Option ℕ) → new ≡ entries ++ k ∷ [] → number ≡ length entries → o ≡ variable_in (map entry_view entries) x → first_number o (has_name x (entry_view k)) number ≡ variable_in (map entry_view new) x
 push-numbers entries new k number x o e n h =
     ap (λ p. first_number p (has_name x (entry_view k)) number) h
-    ∙ (ap (first_number (number_of (map entry_view entries) x) (has_name x (entry_view k))) (n ∙ sym (length-map entries entry_view))
+    ∙ (ap (first_number (variable_in (map entry_view entries) x) (has_name x (entry_view k))) (n ∙ sym (length-map entries entry_view))
     ∙ (sym (put-number (map entry_view entries) (entry_view k) x)
-    ∙ ap (λ s. number_of s x) (sym (map-append entry_view entries (k ∷ [])) ∙ ap (map entry_view) (sym e))))
+    ∙ ap (λ s. variable_in s x) (sym (map-append entry_view entries (k ∷ [])) ∙ ap (map entry_view) (sym e))))
 
 pub variable-within : (scope : NameScope) (x : List ℕ) → variable_of scope x ≤ length scope
 variable-within scope x = by (knows scope x) refl

@@ -48,8 +48,8 @@ entry_view k = option_map known_view k
 abbrev pub number_in : List (Bor (List ℕ) × ℕ) → List ℕ → Option ℕ
 number_in entries x = lookup (λ (k : Bor (List ℕ)). bytes_eq x k.now) entries
 
-abbrev pub number_of : NameScope → List ℕ → Option ℕ
-number_of scope x = if knows scope x then Some (variable_of scope x) else None
+abbrev pub variable_in : NameScope → List ℕ → Option ℕ
+variable_in scope x = if knows scope x then Some (variable_of scope x) else None
 
 -- the number that a name had, else the new one where it is the name that is put
 abbrev pub first_number : Option ℕ → Bool → ℕ → Option ℕ
@@ -57,4 +57,4 @@ first_number (Some n) same number = Some n
 first_number None same number = if same then Some number else None
 
 abbrev pub Numbers : List (Bor (List ℕ) × ℕ) → NameScope → Type 0
-Numbers entries scope = (x : List ℕ) → number_in entries x ≡ number_of scope x
+Numbers entries scope = (x : List ℕ) → number_in entries x ≡ variable_in scope x

@@ -1,5 +1,5 @@
 ghost use Rattle.std.specs.Prelude.{◌≡◌, fold};
-ghost use Rattle.cap_stands.specs.Finding.{cause_number as number_of, is_earlier as earlier};
+ghost use Rattle.cap_stands.specs.Finding.{cause_number as variable_in, is_earlier as earlier};
 ghost use Rattle.cap_stands.specs.Finding.{is_same_place as same_place, is_before as before};
 ghost use Rattle.cap_stands.specs.Finding.{note as noted, found_if};
 ghost use Rattle.cap_terms.specs.Views.{cause_view, finding_view, noted_view};
@@ -47,7 +47,7 @@ pub struct Noted<'a> {
 }
 
 fn cause_number(cause: &Cause<'_>) -> u8
-    ensures { result ≡ number_of (cause_view cause.now) }
+    ensures { result ≡ variable_in (cause_view cause.now) }
 {
     match cause {
         Cause::Unknown(_) => 1,

@@ -1,4 +1,5 @@
--- Whether two rows are the same is a test that decides equality of term and kind, and so an equivalence.
+-- Whether two rows are the same is a test that decides equality of term and kind, and so an
+-- equivalence.
 use Rattle.std.proofs.Common.{◌≡◌, refl, Bool, true, false, Decides}
 use Rattle.std.specs.Prelude.{◌&&◌}
 use Rattle.std.specs.Cmp.{IsEquivalence, decided}

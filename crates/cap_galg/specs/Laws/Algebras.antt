@@ -1,13 +1,21 @@
 -- Each guard algebra is lawful.
-use Rattle.std.proofs.Common.{◌≡◌, ℕ, ◌+◌, ◌-◌, ◌*◌, ◌≤◌, ◌<◌, arith, refl, sym, ap, ◌∙◌, subst, inl, inr, Bool, true, false, Some, None, rules}
+use Rattle.std.proofs.Common.{◌≡◌, ℕ, ◌+◌, ◌-◌, ◌*◌, ◌≤◌, ◌<◌, arith, refl, sym, ap, ◌∙◌, subst}
+use Rattle.std.proofs.Common.{inl, inr, Bool, true, false, Some, None, rules}
 use Rattle.std.specs.Prelude.{◌&&◌, if◌then◌else◌}
 use Rattle.std.proofs.lemmas.Bool.{cases_lt}
 use Rattle.cap_galg.specs.declared.fraction.Fraction.{Fraction}
 use Rattle.cap_galg.specs.Fractions.{IsShare, crossed}
-use Rattle.cap_galg.specs.Elements.{Element, nothing, one, share, tok, src, both, whole, left, right, is_unit, is_full, on_left, on_right, bind, compose, at_most}
-use Rattle.cap_galg.specs.Algebras.{PlainAlgebra, unique, divisible, counting, product, sum, full, IsElement, AtMost, Lawful}
-use Rattle.cap_galg.specs.Laws.Fractions.{plus-share, le-plus, between, between-share, between-fits, plus-between, one_whole, whole-share, equal}
-use Rattle.cap_galg.specs.Laws.Composition.{true_or_false, le-true, true-le, true-eq, and-true, bind-is, if-some, some-same, IsSound, compose-comm, compose-nothing, unit-is, not-unit, composed-not-unit, full_alone, sound-pair, compose_assoc}
+use Rattle.cap_galg.specs.Elements.{Element, nothing, one, share, tok, src, both, whole, left}
+use Rattle.cap_galg.specs.Elements.{right, is_unit, is_full, on_left, on_right, bind, compose}
+use Rattle.cap_galg.specs.Elements.{at_most}
+use Rattle.cap_galg.specs.Algebras.{PlainAlgebra, unique, divisible, counting, product, sum, full}
+use Rattle.cap_galg.specs.Algebras.{IsElement, AtMost, Lawful}
+use Rattle.cap_galg.specs.Laws.Fractions.{plus-share, le-plus, between, between-share, between-fits}
+use Rattle.cap_galg.specs.Laws.Fractions.{plus-between, one_whole, whole-share, equal}
+use Rattle.cap_galg.specs.Laws.Composition.{true_or_false, le-true, true-le, true-eq, and-true}
+use Rattle.cap_galg.specs.Laws.Composition.{bind-is, if-some, some-same, IsSound, compose-comm}
+use Rattle.cap_galg.specs.Laws.Composition.{compose-nothing, unit-is, not-unit, composed-not-unit}
+use Rattle.cap_galg.specs.Laws.Composition.{full_alone, sound-pair, compose_assoc}
 
 -- ---- elements of an algebra
 
@@ -23,15 +31,18 @@ sound-of (sum a b) (left x) h = (sound-of a x h.0, h.1, h.2)
 sound-of (sum a b) (right y) h = (sound-of b y h.0, h.1, h.2)
 sound-of a x h = absurd h
 
-pub left-element : (a b : PlainAlgebra) (t : Bool) (z : Element) → is_full z ≡ t → IsElement a z → is_unit z ≡ false → IsElement (sum a b) (if t then whole else left z)
+pub left-element : (a b : PlainAlgebra) (t : Bool) (z : Element) → is_full z ≡ t → IsElement a z
+    → is_unit z ≡ false → IsElement (sum a b) (if t then whole else left z)
 left-element a b true z e h u = tt
 left-element a b false z e h u = (h, u, e)
 
-pub right-element : (a b : PlainAlgebra) (t : Bool) (z : Element) → is_full z ≡ t → IsElement b z → is_unit z ≡ false → IsElement (sum a b) (if t then whole else right z)
+pub right-element : (a b : PlainAlgebra) (t : Bool) (z : Element) → is_full z ≡ t → IsElement b z
+    → is_unit z ≡ false → IsElement (sum a b) (if t then whole else right z)
 right-element a b true z e h u = tt
 right-element a b false z e h u = (h, u, e)
 
-pub closed : (a : PlainAlgebra) (x y z : Element) → IsElement a x → IsElement a y → compose x y ≡ Some z → IsElement a z
+pub closed : (a : PlainAlgebra) (x y z : Element) → IsElement a x → IsElement a y
+    → compose x y ≡ Some z → IsElement a z
 closed a nothing y z h k e = subst (IsElement a) (some-same y z e) k
 closed a x nothing z h k e = subst (IsElement a) (some-same x z (sym (compose-nothing x) ∙ e)) h
 closed divisible (share f) (share g) z h k e =
@@ -114,15 +125,18 @@ at_most-full (sum a b) (left x) h = refl
 at_most-full (sum a b) (right y) h = refl
 at_most-full a x h = absurd h
 
-at_most-left : (b : Bool) (x z : Element) → at_most x z ≡ true → at_most (left x) (if b then whole else left z) ≡ true
+at_most-left : (b : Bool) (x z : Element) → at_most x z ≡ true
+    → at_most (left x) (if b then whole else left z) ≡ true
 at_most-left true x z e = refl
 at_most-left false x z e = e
 
-at_most-right : (b : Bool) (x z : Element) → at_most x z ≡ true → at_most (right x) (if b then whole else right z) ≡ true
+at_most-right : (b : Bool) (x z : Element) → at_most x z ≡ true
+    → at_most (right x) (if b then whole else right z) ≡ true
 at_most-right true x z e = refl
 at_most-right false x z e = e
 
-pub at_most-composed : (x z y : Element) → IsSound x → IsSound z → compose x z ≡ Some y → at_most x y ≡ true
+pub at_most-composed : (x z y : Element) → IsSound x → IsSound z → compose x z ≡ Some y
+    → at_most x y ≡ true
 at_most-composed nothing z y p q e = refl
 at_most-composed x nothing y p q e = subst (λ w. at_most x w ≡ true) (some-same _ _ (sym (compose-nothing x) ∙ e)) (at_most-self x)
 at_most-composed (share f) (share g) y p q e = subst (λ w. at_most (share f) w ≡ true) (if-some _ _ _ e).1 (le-true _ _ (le-plus f g p q))
@@ -146,7 +160,8 @@ at_most-composed x z y p q e = cc
 completes-self : (a : PlainAlgebra) (x y : Element) → x ≡ y → AtMost a x y
 completes-self a x y e = (nothing, tt, compose-nothing x ∙ ap (λ w. Some w) e)
 
-completes-share : (f g : Fraction) → IsShare f → IsShare g → f.num * g.den ≤ g.num * f.den → AtMost divisible (share f) (share g)
+completes-share : (f g : Fraction) → IsShare f → IsShare g → f.num * g.den ≤ g.num * f.den
+    → AtMost divisible (share f) (share g)
 completes-share f g p q l = elim (cases_lt (f.num * g.den) (g.num * f.den)) [
   | inl m ↦
       let e : crossed f (between f g) ≤ f.den * (between f g).den = between-fits f g p q m in
@@ -169,7 +184,8 @@ completes-src n m l = elim (cases_lt m n) [
 completes-out : (k n : ℕ) → AtMost counting (tok k) (src n)
 completes-out k n = (src (n + k), tt, (let t : k ≤ n + k = omega arith in let e : n + k - k ≡ n = omega arith in rw (le-true k (n + k) t, e) refl))
 
-completes-pair : (a b : PlainAlgebra) (u v c d : Element) → AtMost a u c → AtMost b v d → AtMost (product a b) (both u v) (both c d)
+completes-pair : (a b : PlainAlgebra) (u v c d : Element) → AtMost a u c → AtMost b v d
+    → AtMost (product a b) (both u v) (both c d)
 completes-pair a b u v c d p q = elim (true_or_false (is_unit p.0 && is_unit q.0)) [
   | inl t ↦
       let s = and-true (is_unit p.0) (is_unit q.0) t in
@@ -180,26 +196,30 @@ completes-pair a b u v c d p q = elim (true_or_false (is_unit p.0 && is_unit q.0
 ]
 
 -- what completes an element that isn't the unit isn't full
-rest-not-full : (a : PlainAlgebra) (x y z : Element) → IsElement a x → IsElement a z → is_unit x ≡ false → compose x z ≡ Some y → is_full z ≡ false
+rest-not-full : (a : PlainAlgebra) (x y z : Element) → IsElement a x → IsElement a z
+    → is_unit x ≡ false → compose x z ≡ Some y → is_full z ≡ false
 rest-not-full a x y z h k u e = elim (true_or_false (is_full z)) [
   | inl t ↦ absurd (let n : None ≡ Some y = sym (compose-comm x z ∙ full_alone z x (sound-of a z k) (sound-of a x h) t u) ∙ e in cc)
   | inr f ↦ f
 ]
 
-completes-left : (a b : PlainAlgebra) (x y : Element) → IsElement a x → is_unit x ≡ false → is_full y ≡ false → AtMost a x y → AtMost (sum a b) (left x) (left y)
+completes-left : (a b : PlainAlgebra) (x y : Element) → IsElement a x → is_unit x ≡ false
+    → is_full y ≡ false → AtMost a x y → AtMost (sum a b) (left x) (left y)
 completes-left a b x y h u f p = elim (true_or_false (is_unit p.0)) [
   | inl t ↦ completes-self (sum a b) (left x) (left y) (ap left (some-same _ _ (sym (compose-nothing x) ∙ ap (compose x) (sym (unit-is p.0 t)) ∙ p.2)))
   | inr v ↦ (left p.0, (p.1, v, rest-not-full a x y p.0 h p.1 u p.2), rw (p.2, f) refl)
 ]
 
-completes-right : (a b : PlainAlgebra) (x y : Element) → IsElement b x → is_unit x ≡ false → is_full y ≡ false → AtMost b x y → AtMost (sum a b) (right x) (right y)
+completes-right : (a b : PlainAlgebra) (x y : Element) → IsElement b x → is_unit x ≡ false
+    → is_full y ≡ false → AtMost b x y → AtMost (sum a b) (right x) (right y)
 completes-right a b x y h u f p = elim (true_or_false (is_unit p.0)) [
   | inl t ↦ completes-self (sum a b) (right x) (right y) (ap right (some-same _ _ (sym (compose-nothing x) ∙ ap (compose x) (sym (unit-is p.0 t)) ∙ p.2)))
   | inr v ↦ (right p.0, (p.1, v, rest-not-full b x y p.0 h p.1 u p.2), rw (p.2, f) refl)
 ]
 
 -- what completes an element that isn't full isn't the unit
-rest-not-unit : (a : PlainAlgebra) (x z : Element) → is_full x ≡ false → compose x z ≡ Some (full a) → is_unit z ≡ false
+rest-not-unit : (a : PlainAlgebra) (x z : Element) → is_full x ≡ false → compose x z ≡ Some (full a)
+    → is_unit z ≡ false
 rest-not-unit a x z f e = elim (true_or_false (is_unit z)) [
   | inl t ↦
       let s : x ≡ full a = some-same _ _ (sym (compose-nothing x) ∙ ap (compose x) (sym (unit-is z t)) ∙ e) in
@@ -207,15 +227,18 @@ rest-not-unit a x z f e = elim (true_or_false (is_unit z)) [
   | inr v ↦ v
 ]
 
-completes-left_whole : (a b : PlainAlgebra) (x : Element) → IsElement a x → is_unit x ≡ false → is_full x ≡ false → AtMost a x (full a) → AtMost (sum a b) (left x) whole
+completes-left_whole : (a b : PlainAlgebra) (x : Element) → IsElement a x → is_unit x ≡ false
+    → is_full x ≡ false → AtMost a x (full a) → AtMost (sum a b) (left x) whole
 completes-left_whole a b x h u f p =
     (left p.0, (p.1, rest-not-unit a x p.0 f p.2, rest-not-full a x (full a) p.0 h p.1 u p.2), rw (p.2, full-full a) refl)
 
-completes-right_whole : (a b : PlainAlgebra) (x : Element) → IsElement b x → is_unit x ≡ false → is_full x ≡ false → AtMost b x (full b) → AtMost (sum a b) (right x) whole
+completes-right_whole : (a b : PlainAlgebra) (x : Element) → IsElement b x → is_unit x ≡ false
+    → is_full x ≡ false → AtMost b x (full b) → AtMost (sum a b) (right x) whole
 completes-right_whole a b x h u f p =
     (right p.0, (p.1, rest-not-unit b x p.0 f p.2, rest-not-full b x (full b) p.0 h p.1 u p.2), rw (p.2, full-full b) refl)
 
-pub completes : (a : PlainAlgebra) (x y : Element) → IsElement a x → IsElement a y → at_most x y ≡ true → AtMost a x y
+pub completes : (a : PlainAlgebra) (x y : Element) → IsElement a x → IsElement a y
+    → at_most x y ≡ true → AtMost a x y
 completes a nothing y h k e = (y, k, refl)
 completes unique one one h k e = completes-self unique one one refl
 completes divisible (share f) (share g) h k e = completes-share f g h k (true-le _ _ e)

@@ -1,13 +1,16 @@
--- Composition of guard elements, whatever their algebra is: it is commutative and associative, `nothing` is its unit,
--- and what is full composes with nothing else.
-use Rattle.std.proofs.Common.{◌≡◌, ◌≢◌, ℕ, ◌+◌, ◌-◌, ◌*◌, ◌≤◌, ◌<◌, arith, refl, sym, ap, ◌∙◌, subst, ◌⊎◌, inl, inr, Bool, true, false, Option, Some, None}
+-- Composition of guard elements, whatever their algebra is: it is commutative and associative,
+-- `nothing` is its unit, and what is full composes with nothing else.
+use Rattle.std.proofs.Common.{◌≡◌, ◌≢◌, ℕ, ◌+◌, ◌-◌, ◌*◌, ◌≤◌, ◌<◌, arith, refl, sym, ap, ◌∙◌}
+use Rattle.std.proofs.Common.{subst, ◌⊎◌, inl, inr, Bool, true, false, Option, Some, None}
 use Rattle.std.specs.Prelude.{nat_le, ◌==◌, ◌&&◌, if◌then◌else◌}
 use Rattle.std.proofs.lemmas.Bool.{cases_lt}
 use Rattle.std.proofs.lemmas.Bool.Decides.{nat_tests}
 use Rattle.cap_galg.specs.declared.fraction.Fraction.{Fraction}
 use Rattle.cap_galg.specs.Fractions.{IsShare, crossed, plus}
-use Rattle.cap_galg.specs.Elements.{Element, nothing, one, share, tok, src, both, whole, left, right, is_unit, is_full, on_left, on_right, bind, compose}
-use Rattle.cap_galg.specs.Laws.Fractions.{plus_comm, plus_assoc, plus-share, three-le, le-three, le-two, crossed3, dens3, product-positive}
+use Rattle.cap_galg.specs.Elements.{Element, nothing, one, share, tok, src, both, whole, left}
+use Rattle.cap_galg.specs.Elements.{right, is_unit, is_full, on_left, on_right, bind, compose}
+use Rattle.cap_galg.specs.Laws.Fractions.{plus_comm, plus_assoc, plus-share, three-le, le-three}
+use Rattle.cap_galg.specs.Laws.Fractions.{le-two, crossed3, dens3, product-positive}
 
 -- ---- tests
 
@@ -43,11 +46,13 @@ and-false true true e = cc
 and-false true false e = inr refl
 and-false false b e = inl refl
 
-pub bind-is : {A B : Type 0} (o : Option A) (f : A → Option B) (z : B) → bind o f ≡ Some z → (x : A) × (o ≡ Some x) × (f x ≡ Some z)
+pub bind-is : {A B : Type 0} (o : Option A) (f : A → Option B) (z : B) → bind o f ≡ Some z
+    → (x : A) × (o ≡ Some x) × (f x ≡ Some z)
 bind-is None f z e = cc
 bind-is (Some x) f z e = (x, refl, e)
 
-pub if-some : (b : Bool) (u z : Element) → (if b then Some u else None) ≡ Some z → (b ≡ true) × (u ≡ z)
+pub if-some : (b : Bool) (u z : Element) → (if b then Some u else None) ≡ Some z
+    → (b ≡ true) × (u ≡ z)
 if-some true u z e = (refl, cc)
 if-some false u z e = cc
 
@@ -109,7 +114,8 @@ pub side-not-unit_right : (b : Bool) (x : Element) → is_unit (if b then whole 
 side-not-unit_right true x = refl
 side-not-unit_right false x = refl
 
-pub made_of_nothing : (x y z : Element) → compose x y ≡ Some z → is_unit z ≡ true → (x ≡ nothing) × (y ≡ nothing)
+pub made_of_nothing : (x y z : Element) → compose x y ≡ Some z → is_unit z ≡ true
+    → (x ≡ nothing) × (y ≡ nothing)
 made_of_nothing nothing y z e u = (refl, some-same _ _ e ∙ unit-is z u)
 made_of_nothing x nothing z e u = (some-same _ _ (sym (compose-nothing x) ∙ e) ∙ unit-is z u, refl)
 made_of_nothing (share f) (share g) z e u =
@@ -129,7 +135,8 @@ made_of_nothing (right x) (right y) z e u =
     let v : false ≡ true = sym (side-not-unit_right (is_full r.0) r.0) ∙ ap is_unit (some-same _ _ r.2) ∙ u in cc
 made_of_nothing x y z e u = cc
 
-pub composed-not-unit : (x y z : Element) → is_unit x ≡ false → compose x y ≡ Some z → is_unit z ≡ false
+pub composed-not-unit : (x y z : Element) → is_unit x ≡ false → compose x y ≡ Some z
+    → is_unit z ≡ false
 composed-not-unit x y z h e = elim (true_or_false (is_unit z)) [
   | inl u ↦ absurd (not-unit x h (made_of_nothing x y z e u).0)
   | inr v ↦ v
@@ -141,7 +148,8 @@ pub bind-none : {A B : Type 0} (o : Option A) → ◌≡◌ {A = Option B} (bind
 bind-none None = refl
 bind-none (Some x) = refl
 
-pub full_alone : (x y : Element) → IsSound x → IsSound y → is_full x ≡ true → is_unit y ≡ false → compose x y ≡ None
+pub full_alone : (x y : Element) → IsSound x → IsSound y → is_full x ≡ true → is_unit y ≡ false
+    → compose x y ≡ None
 full_alone nothing y p q e u = cc
 full_alone x nothing p q e u = cc
 full_alone (share f) (share g) p q e u =
@@ -164,7 +172,8 @@ full_alone x y p q e u = refl
 
 -- ---- soundness is kept
 
-pub sound-pair : (a b c d x y : Element) → compose a c ≡ Some x → compose b d ≡ Some y → (is_unit a && is_unit b) ≡ false → (is_unit x && is_unit y) ≡ false
+pub sound-pair : (a b c d x y : Element) → compose a c ≡ Some x → compose b d ≡ Some y
+    → (is_unit a && is_unit b) ≡ false → (is_unit x && is_unit y) ≡ false
 sound-pair a b c d x y e f h = elim (true_or_false (is_unit x && is_unit y)) [
   | inl t ↦
       let s = and-true (is_unit x) (is_unit y) t in
@@ -175,11 +184,13 @@ sound-pair a b c d x y e f h = elim (true_or_false (is_unit x && is_unit y)) [
   | inr f ↦ f
 ]
 
-sound-left : (b : Bool) (z : Element) → is_full z ≡ b → IsSound z → is_unit z ≡ false → IsSound (if b then whole else left z)
+sound-left : (b : Bool) (z : Element) → is_full z ≡ b → IsSound z → is_unit z ≡ false
+    → IsSound (if b then whole else left z)
 sound-left true z e h u = tt
 sound-left false z e h u = (h, u, e)
 
-sound-right : (b : Bool) (z : Element) → is_full z ≡ b → IsSound z → is_unit z ≡ false → IsSound (if b then whole else right z)
+sound-right : (b : Bool) (z : Element) → is_full z ≡ b → IsSound z → is_unit z ≡ false
+    → IsSound (if b then whole else right z)
 sound-right true z e h u = tt
 sound-right false z e h u = (h, u, e)
 
@@ -231,13 +242,15 @@ next-nothing (Some u) = compose-nothing u
 abbrev pub shares3 : Fraction → Fraction → Fraction → Option Element
 shares3 f g h = if nat_le (crossed3 f g h) (dens3 f g h) then Some (share (plus (plus f g) h)) else None
 
-shares-some : (f g h : Fraction) → IsShare f → IsShare g → IsShare h → crossed3 f g h ≤ dens3 f g h → and_next (compose (share f) (share g)) (share h) ≡ Some (share (plus (plus f g) h))
+shares-some : (f g h : Fraction) → IsShare f → IsShare g → IsShare h → crossed3 f g h ≤ dens3 f g h
+    → and_next (compose (share f) (share g)) (share h) ≡ Some (share (plus (plus f g) h))
 shares-some f g h p q r l =
     let a = le-true (crossed f g) (f.den * g.den) (le-two f g h r.amount.lowest.positive l) in
     let b = le-true (crossed (plus f g) h) ((plus f g).den * h.den) (le-three f g h p.amount.lowest q.amount.lowest l) in
     rw (a, b) refl
 
-shares-none : (f g h : Fraction) → IsShare f → IsShare g → dens3 f g h < crossed3 f g h → and_next (compose (share f) (share g)) (share h) ≡ None
+shares-none : (f g h : Fraction) → IsShare f → IsShare g → dens3 f g h < crossed3 f g h
+    → and_next (compose (share f) (share g)) (share h) ≡ None
 shares-none f g h p q l = elim (cases_lt (f.den * g.den) (crossed f g)) [
   | inl a ↦ rw (le-false (crossed f g) (f.den * g.den) a) refl
   | inr a ↦ elim (cases_lt ((plus f g).den * h.den) (crossed (plus f g) h)) [
@@ -246,24 +259,29 @@ shares-none f g h p q l = elim (cases_lt (f.den * g.den) (crossed f g)) [
   ]
 ]
 
-shares-next : (f g h : Fraction) → IsShare f → IsShare g → IsShare h → and_next (compose (share f) (share g)) (share h) ≡ shares3 f g h
+shares-next : (f g h : Fraction) → IsShare f → IsShare g → IsShare h
+    → and_next (compose (share f) (share g)) (share h) ≡ shares3 f g h
 shares-next f g h p q r = elim (cases_lt (dens3 f g h) (crossed3 f g h)) [
   | inl l ↦ shares-none f g h p q l ∙ sym (ap (λ b. if b then Some (share (plus (plus f g) h)) else None) (le-false (crossed3 f g h) (dens3 f g h) l))
   | inr l ↦ shares-some f g h p q r l ∙ sym (ap (λ b. if b then Some (share (plus (plus f g) h)) else None) (le-true (crossed3 f g h) (dens3 f g h) l))
 ]
 
-shares-turned : (f g h : Fraction) → IsShare f → IsShare g → IsShare h → shares3 g h f ≡ shares3 f g h
+shares-turned : (f g h : Fraction) → IsShare f → IsShare g → IsShare h
+    → shares3 g h f ≡ shares3 f g h
 shares-turned f g h p q r =
     let a : crossed3 g h f ≡ crossed3 f g h = omega arith in
     let b : dens3 g h f ≡ dens3 f g h = omega arith in
     let c : plus (plus g h) f ≡ plus (plus f g) h = plus_comm (plus g h) f ∙ sym (plus_assoc f g h p.amount.lowest q.amount.lowest r.amount.lowest) in
     rw (a, b, c) refl
 
-shares-assoc : (f g h : Fraction) → IsShare f → IsShare g → IsShare h → Assoc (share f) (share g) (share h)
+shares-assoc : (f g h : Fraction) → IsShare f → IsShare g → IsShare h
+    → Assoc (share f) (share g) (share h)
 shares-assoc f g h p q r = shares-next f g h p q r ∙ sym (shares-turned f g h p q r) ∙ sym (shares-next g h f q r p) ∙ sym (before-next (share f) (compose (share g) (share h)))
 
 -- counts: a source with tokens that come one after the other
-src-src : (n k j : ℕ) → and_next (compose (src n) (tok k)) (tok j) ≡ (if nat_le (k + j) n then Some (src (n - (k + j))) else None)
+src-src : (n k j : ℕ)
+    → and_next (compose (src n) (tok k)) (tok j)
+    ≡ (if nat_le (k + j) n then Some (src (n - (k + j))) else None)
 src-src n k j = elim (cases_lt n k) [
   | inl l ↦ let a : n < k + j = omega arith in rw (le-false k n l, le-false (k + j) n a) refl
   | inr l ↦ elim (cases_lt (n - k) j) [
@@ -275,13 +293,17 @@ src-src n k j = elim (cases_lt n k) [
 src-alone : (n k m : ℕ) → and_next (compose (src n) (tok k)) (src m) ≡ None
 src-alone n k m = elim (nat_le k n) as (λ b. and_next (if b then Some (src (n - k)) else None) (src m) ≡ None) [ true ↦ refl | false ↦ refl ]
 
-swapped : (n k j : ℕ) → (if nat_le (k + j) n then Some (src (n - (k + j))) else None) ≡ (if nat_le (j + k) n then Some (src (n - (j + k))) else None)
+swapped : (n k j : ℕ)
+    → (if nat_le (k + j) n then Some (src (n - (k + j))) else None)
+    ≡ (if nat_le (j + k) n then Some (src (n - (j + k))) else None)
 swapped n k j = let e : k + j ≡ j + k = omega arith in rw e refl
 
-counts-assoc : (n j k : ℕ) → and_next (compose (src n) (tok j)) (tok k) ≡ before (src n) (compose (tok j) (tok k))
+counts-assoc : (n j k : ℕ)
+    → and_next (compose (src n) (tok j)) (tok k) ≡ before (src n) (compose (tok j) (tok k))
 counts-assoc n j k = src-src n j k
 
--- sides of a sum: what a side's elements make and another element, where `mk` makes an element of the sum
+-- sides of a sum: what a side's elements make and another element, where `mk` makes an element of
+-- the sum
 module _ (w : Element) (e : Element → Element) where
   abbrev mk : Element → Element
   mk z = if is_full z then w else e z
@@ -324,21 +346,27 @@ module _ (w : Element) (e : Element → Element) where
 pairs : (p q : Option Element) → Option Element
 pairs p q = bind p (λ x. bind q (λ y. Some (both x y)))
 
-pairs-next : (p q : Option Element) (c d : Element) → and_next (bind p (λ x. bind q (λ y. Some (both x y)))) (both c d) ≡ bind (and_next p c) (λ x. bind (and_next q d) (λ y. Some (both x y)))
+pairs-next : (p q : Option Element) (c d : Element)
+    → and_next (bind p (λ x. bind q (λ y. Some (both x y)))) (both c d)
+    ≡ bind (and_next p c) (λ x. bind (and_next q d) (λ y. Some (both x y)))
 pairs-next None q c d = refl
 pairs-next (Some x) None c d = sym (bind-none (compose x c))
 pairs-next (Some x) (Some y) c d = refl
 
-before-pairs : (a b : Element) (p q : Option Element) → before (both a b) (bind p (λ x. bind q (λ y. Some (both x y)))) ≡ bind (before a p) (λ x. bind (before b q) (λ y. Some (both x y)))
+before-pairs : (a b : Element) (p q : Option Element)
+    → before (both a b) (bind p (λ x. bind q (λ y. Some (both x y))))
+    ≡ bind (before a p) (λ x. bind (before b q) (λ y. Some (both x y)))
 before-pairs a b None q = refl
 before-pairs a b (Some x) None = sym (bind-none (compose a x))
 before-pairs a b (Some x) (Some y) = refl
 
 -- what full elements made of two compose with
-full-next : (x y z v : Element) → IsSound x → IsSound y → IsSound z → is_unit z ≡ false → compose x y ≡ Some v → is_full v ≡ true → compose v z ≡ None
+full-next : (x y z v : Element) → IsSound x → IsSound y → IsSound z → is_unit z ≡ false
+    → compose x y ≡ Some v → is_full v ≡ true → compose v z ≡ None
 full-next x y z v p q r u e f = full_alone v z (sound-composed x y v p q e) r f u
 
-next-full : (x y z u : Element) → IsSound x → IsSound y → IsSound z → is_unit x ≡ false → compose y z ≡ Some u → is_full u ≡ true → compose x u ≡ None
+next-full : (x y z u : Element) → IsSound x → IsSound y → IsSound z → is_unit x ≡ false
+    → compose y z ≡ Some u → is_full u ≡ true → compose x u ≡ None
 next-full x y z u p q r n e f = compose-comm x u ∙ full_alone u x (sound-composed y z u q r e) p f n
 
 -- elements of two forms never compose, and what elements compose to has their form
@@ -370,7 +398,8 @@ same_form pair_form pair_form = true
 same_form side_form side_form = true
 same_form _ _ = false
 
-apart : (x y : Element) → is_unit x ≡ false → is_unit y ≡ false → same_form (form x) (form y) ≡ false → compose x y ≡ None
+apart : (x y : Element) → is_unit x ≡ false → is_unit y ≡ false
+    → same_form (form x) (form y) ≡ false → compose x y ≡ None
 apart nothing y u v d = cc
 apart x nothing u v d = cc
 apart (share f) (share g) u v d = cc
@@ -409,15 +438,18 @@ kept (right x) (right y) z u e =
     ap form (sym (some-same _ _ r.2)) ∙ right-form (is_full r.0) r.0
 kept x y z u e = cc
 
-none-before : (x : Element) (o : Option Element) → ((u : Element) → o ≡ Some u → compose x u ≡ None) → before x o ≡ None
+none-before : (x : Element) (o : Option Element) → ((u : Element) → o ≡ Some u → compose x u ≡ None)
+    → before x o ≡ None
 none-before x None h = refl
 none-before x (Some u) h = h u refl
 
-none-next : (o : Option Element) (z : Element) → ((v : Element) → o ≡ Some v → compose v z ≡ None) → and_next o z ≡ None
+none-next : (o : Option Element) (z : Element) → ((v : Element) → o ≡ Some v → compose v z ≡ None)
+    → and_next o z ≡ None
 none-next None z h = refl
 none-next (Some v) z h = h v refl
 
-mixed : (x y z : Element) → is_unit x ≡ false → is_unit y ≡ false → is_unit z ≡ false → (same_form (form x) (form y) && same_form (form y) (form z)) ≡ false → Assoc x y z
+mixed : (x y z : Element) → is_unit x ≡ false → is_unit y ≡ false → is_unit z ≡ false
+    → (same_form (form x) (form y) && same_form (form y) (form z)) ≡ false → Assoc x y z
 mixed x y z u v w d = elim (and-false (same_form (form x) (form y)) (same_form (form y) (form z)) d) [
   | inl a ↦
       ap (λ o. and_next o z) (apart x y u v a)
@@ -428,16 +460,20 @@ mixed x y z u v w d = elim (and-false (same_form (form x) (form y)) (same_form (
 ]
 
 -- what two elements of one side make, and one that is elsewhere in the sum
-left-next : (x y b : Element) → ((v : Element) → compose (left v) b ≡ None) → compose whole b ≡ None → and_next (compose (left x) (left y)) b ≡ None
+left-next : (x y b : Element) → ((v : Element) → compose (left v) b ≡ None) → compose whole b ≡ None
+    → and_next (compose (left x) (left y)) b ≡ None
 left-next x y b f g = alone whole left (compose x y) b f g
 
-right-next : (x y b : Element) → ((v : Element) → compose (right v) b ≡ None) → compose whole b ≡ None → and_next (compose (right x) (right y)) b ≡ None
+right-next : (x y b : Element) → ((v : Element) → compose (right v) b ≡ None)
+    → compose whole b ≡ None → and_next (compose (right x) (right y)) b ≡ None
 right-next x y b f g = alone whole right (compose x y) b f g
 
-before-left : (b y z : Element) → ((v : Element) → compose (left v) b ≡ None) → compose whole b ≡ None → before b (compose (left y) (left z)) ≡ None
+before-left : (b y z : Element) → ((v : Element) → compose (left v) b ≡ None)
+    → compose whole b ≡ None → before b (compose (left y) (left z)) ≡ None
 before-left b y z f g = before-next b (compose (left y) (left z)) ∙ left-next y z b f g
 
-before-right : (b y z : Element) → ((v : Element) → compose (right v) b ≡ None) → compose whole b ≡ None → before b (compose (right y) (right z)) ≡ None
+before-right : (b y z : Element) → ((v : Element) → compose (right v) b ≡ None)
+    → compose whole b ≡ None → before b (compose (right y) (right z)) ≡ None
 before-right b y z f g = before-next b (compose (right y) (right z)) ∙ right-next y z b f g
 
 pub compose_assoc : (x y z : Element) → IsSound x → IsSound y → IsSound z → Assoc x y z

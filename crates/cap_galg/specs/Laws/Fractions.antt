@@ -1,11 +1,15 @@
 -- Fractions in lowest terms: two of one value are equal, and sums are commutative and associative.
-use Rattle.std.proofs.Common.{◌≡◌, ℕ, zero, suc, ◌+◌, ◌-◌, ◌*◌, ◌/◌, ◌%◌, ◌≤◌, ◌<◌, arith, refl, ap, sym, ◌∙◌, subst, inl, inr}
+use Rattle.std.proofs.Common.{◌≡◌, ℕ, zero, suc, ◌+◌, ◌-◌, ◌*◌, ◌/◌, ◌%◌, ◌≤◌, ◌<◌, arith, refl, ap}
+use Rattle.std.proofs.Common.{sym, ◌∙◌, subst, inl, inr}
 use Rattle.std.specs.Int.{◌∣◌, IsGcd}
 use Rattle.std.proofs.lemmas.Bool.{cases_lt}
 use Rattle.std.proofs.lemmas.Nat.Gcd.{IsGcd-from_zero, IsGcd-from_mod, same_from_IsGcd}
-use Rattle.std.proofs.Math.Nat.{dvd_refl, dvd-zero, dvd-add, eq-one_of_dvd-one, mul-le-mul_left, mul-le-mul_right, mul-lt-mul_of_pos_left, mul-dvd-mul_left, dvd_of_mul-dvd-mul_left, mul-div_cancel'}
+use Rattle.std.proofs.Math.Nat.{dvd_refl, dvd-zero, dvd-add, eq-one_of_dvd-one, mul-le-mul_left}
+use Rattle.std.proofs.Math.Nat.{mul-le-mul_right, mul-lt-mul_of_pos_left, mul-dvd-mul_left}
+use Rattle.std.proofs.Math.Nat.{dvd_of_mul-dvd-mul_left, mul-div_cancel'}
 use Rattle.cap_galg.specs.declared.fraction.Fraction.{Fraction}
-use Rattle.cap_galg.specs.Fractions.{fraction, IsLowest, IsAmount, IsShare, gcd_within, gcd, lowest, crossed, plus}
+use Rattle.cap_galg.specs.Fractions.{fraction, IsLowest, IsAmount, IsShare, gcd_within, gcd, lowest}
+use Rattle.cap_galg.specs.Fractions.{crossed, plus}
 
 -- ---- the greatest common divisor
 
@@ -118,8 +122,10 @@ turned-ratio n b m c h = omega arith
 lowered-ratio : (a d b e : ℕ) → (d + a) * e ≡ (e + b) * d → a * e ≡ b * d
 lowered-ratio a d b e h = omega arith
 
--- two ratios in lowest terms are equal: subtract the smaller number from the greater in both, and go on
-ratios-equal : (fuel n d m e : ℕ) → n + d < fuel → Coprime n d → Coprime m e → n * e ≡ m * d → (n ≡ m) × (d ≡ e)
+-- two ratios in lowest terms are equal: subtract the smaller number from the greater in both, and
+-- go on
+ratios-equal : (fuel n d m e : ℕ) → n + d < fuel → Coprime n d → Coprime m e → n * e ≡ m * d
+    → (n ≡ m) × (d ≡ e)
 ratios-equal zero n d m e f a b k = absurd (omega arith)
 ratios-equal (suc fuel) zero d m e f a b k =
     let z : m ≡ 0 = numerator-zero m d e a.positive (sym k) in
@@ -161,7 +167,8 @@ equal f g a b e =
 
 -- ---- sums
 
-pub plus-is : (f g : Fraction) → IsLowest f → IsLowest g → Reduced (crossed f g) (f.den * g.den) (plus f g)
+pub plus-is : (f g : Fraction) → IsLowest f → IsLowest g
+    → Reduced (crossed f g) (f.den * g.den) (plus f g)
 plus-is f g a b = lowest-is _ _ (product-positive f.den g.den a.positive b.positive)
 
 pub plus_comm : (f g : Fraction) → plus f g ≡ plus g f
@@ -178,13 +185,15 @@ abbrev pub dens3 : Fraction → Fraction → Fraction → ℕ
 dens3 f g h = f.den * g.den * h.den
 
 -- a sum of two plus a third one, over the product of all denominators
-three-num : (f g h s : Fraction) → crossed f g * s.den ≡ s.num * (f.den * g.den) → (f.den * g.den) * crossed s h ≡ s.den * crossed3 f g h
+three-num : (f g h s : Fraction) → crossed f g * s.den ≡ s.num * (f.den * g.den)
+    → (f.den * g.den) * crossed s h ≡ s.den * crossed3 f g h
 three-num f g h s e = omega (arith, ap (λ w. w * h.den) e)
 
 three-den : (f g h s : Fraction) → (f.den * g.den) * (s.den * h.den) ≡ s.den * dens3 f g h
 three-den f g h s = omega arith
 
-pub three-le : (f g h : Fraction) → IsLowest f → IsLowest g → crossed (plus f g) h ≤ (plus f g).den * h.den → crossed3 f g h ≤ dens3 f g h
+pub three-le : (f g h : Fraction) → IsLowest f → IsLowest g
+    → crossed (plus f g) h ≤ (plus f g).den * h.den → crossed3 f g h ≤ dens3 f g h
 three-le f g h a b l =
     let s = plus-is f g a b in
     let n = three-num f g h (plus f g) s.value in
@@ -192,7 +201,8 @@ three-le f g h a b l =
     let m = mul-le-mul_left (f.den * g.den) l in
     cancel-le (plus f g).den _ _ s.lowest.positive (omega arith)
 
-pub le-three : (f g h : Fraction) → IsLowest f → IsLowest g → crossed3 f g h ≤ dens3 f g h → crossed (plus f g) h ≤ (plus f g).den * h.den
+pub le-three : (f g h : Fraction) → IsLowest f → IsLowest g → crossed3 f g h ≤ dens3 f g h
+    → crossed (plus f g) h ≤ (plus f g).den * h.den
 le-three f g h a b l =
     let s = plus-is f g a b in
     let n = three-num f g h (plus f g) s.value in
@@ -200,16 +210,19 @@ le-three f g h a b l =
     let m = mul-le-mul_left (plus f g).den l in
     cancel-le (f.den * g.den) _ _ (product-positive f.den g.den a.positive b.positive) (omega arith)
 
-pub le-two : (f g h : Fraction) → 0 < h.den → crossed3 f g h ≤ dens3 f g h → crossed f g ≤ f.den * g.den
+pub le-two : (f g h : Fraction) → 0 < h.den → crossed3 f g h ≤ dens3 f g h
+    → crossed f g ≤ f.den * g.den
 le-two f g h p l = cancel-le h.den _ _ p (omega arith)
 
 -- the value of a sum of three
-three-value : (f g h s r : Fraction) → 0 < s.den → crossed f g * s.den ≡ s.num * (f.den * g.den) → crossed s h * r.den ≡ r.num * (s.den * h.den) → crossed3 f g h * r.den ≡ r.num * dens3 f g h
+three-value : (f g h s r : Fraction) → 0 < s.den → crossed f g * s.den ≡ s.num * (f.den * g.den)
+    → crossed s h * r.den ≡ r.num * (s.den * h.den) → crossed3 f g h * r.den ≡ r.num * dens3 f g h
 three-value f g h s r p e k =
     let n = three-num f g h s e in
     cancel s.den _ _ p (omega (arith, ap (λ w. w * r.den) n, ap (λ w. w * (f.den * g.den)) k))
 
-pub plus_assoc : (f g h : Fraction) → IsLowest f → IsLowest g → IsLowest h → plus (plus f g) h ≡ plus f (plus g h)
+pub plus_assoc : (f g h : Fraction) → IsLowest f → IsLowest g → IsLowest h
+    → plus (plus f g) h ≡ plus f (plus g h)
 plus_assoc f g h a b c =
     let s = plus-is f g a b in
     let t = plus-is g h b c in
@@ -235,7 +248,8 @@ reduced-share n d r p q l c = record {
   positive = sum-positive n d r.num r.den p c.lowest.positive c.value;
 }
 
-pub plus-share : (f g : Fraction) → IsShare f → IsShare g → crossed f g ≤ f.den * g.den → IsShare (plus f g)
+pub plus-share : (f g : Fraction) → IsShare f → IsShare g → crossed f g ≤ f.den * g.den
+    → IsShare (plus f g)
 plus-share f g a b l =
     let p = product-positive f.num g.den a.positive b.amount.lowest.positive in
     reduced-share _ _ (plus f g) (omega arith) (product-positive f.den g.den a.amount.lowest.positive b.amount.lowest.positive) l (plus-is f g a.amount.lowest b.amount.lowest)
@@ -244,35 +258,43 @@ plus-share f g a b l =
 pub between : Fraction → Fraction → Fraction
 between f g = lowest (g.num * f.den - f.num * g.den) (f.den * g.den)
 
-between-is : (f g : Fraction) → IsShare f → IsShare g → Reduced (g.num * f.den - f.num * g.den) (f.den * g.den) (between f g)
+between-is : (f g : Fraction) → IsShare f → IsShare g
+    → Reduced (g.num * f.den - f.num * g.den) (f.den * g.den) (between f g)
 unfolding between
 between-is f g a b = lowest-is _ _ (product-positive f.den g.den a.amount.lowest.positive b.amount.lowest.positive)
 
-pub between-share : (f g : Fraction) → IsShare f → IsShare g → f.num * g.den < g.num * f.den → IsShare (between f g)
+pub between-share : (f g : Fraction) → IsShare f → IsShare g → f.num * g.den < g.num * f.den
+    → IsShare (between f g)
 between-share f g a b l =
     let m = mul-le-mul_right f.den b.amount.most in
     reduced-share _ _ (between f g) (omega arith) (product-positive f.den g.den a.amount.lowest.positive b.amount.lowest.positive) (omega arith) (between-is f g a b)
 
 -- f plus what is between f and g has the value of g
-between-value : (fn fd gn gd hn hd c : ℕ) → c + fn * gd ≡ gn * fd → c * hd ≡ hn * (fd * gd) → (fd * gd) * (fn * hd + hn * fd) ≡ (fd * gd) * hd * 0 + fd * (hd * (gn * fd))
+between-value : (fn fd gn gd hn hd c : ℕ) → c + fn * gd ≡ gn * fd → c * hd ≡ hn * (fd * gd)
+    → (fd * gd) * (fn * hd + hn * fd) ≡ (fd * gd) * hd * 0 + fd * (hd * (gn * fd))
 between-value fn fd gn gd hn hd c e k = omega (arith, ap (λ w. w * (fd * hd)) e, ap (λ w. w * fd) k)
 
-crossed-value : (f g h : Fraction) → 0 < f.den → 0 < g.den → (f.den * g.den) * (f.num * h.den + h.num * f.den) ≡ f.den * (h.den * (g.num * f.den)) → crossed f h * g.den ≡ g.num * (f.den * h.den)
+crossed-value : (f g h : Fraction) → 0 < f.den → 0 < g.den
+    → (f.den * g.den) * (f.num * h.den + h.num * f.den) ≡ f.den * (h.den * (g.num * f.den))
+    → crossed f h * g.den ≡ g.num * (f.den * h.den)
 crossed-value f g h p q e = cancel f.den _ _ p (omega arith)
 
-pub between-crossed : (f g : Fraction) → IsShare f → IsShare g → f.num * g.den < g.num * f.den → crossed f (between f g) * g.den ≡ g.num * (f.den * (between f g).den)
+pub between-crossed : (f g : Fraction) → IsShare f → IsShare g → f.num * g.den < g.num * f.den
+    → crossed f (between f g) * g.den ≡ g.num * (f.den * (between f g).den)
 between-crossed f g a b l =
     let r = between-is f g a b in
     let v = between-value f.num f.den g.num g.den (between f g).num (between f g).den (g.num * f.den - f.num * g.den) (omega arith) r.value in
     crossed-value f g (between f g) a.amount.lowest.positive b.amount.lowest.positive (omega arith)
 
-pub between-fits : (f g : Fraction) → IsShare f → IsShare g → f.num * g.den < g.num * f.den → crossed f (between f g) ≤ f.den * (between f g).den
+pub between-fits : (f g : Fraction) → IsShare f → IsShare g → f.num * g.den < g.num * f.den
+    → crossed f (between f g) ≤ f.den * (between f g).den
 between-fits f g a b l =
     let e = between-crossed f g a b l in
     let m = mul-le-mul_right (f.den * (between f g).den) b.amount.most in
     cancel-le g.den _ _ b.amount.lowest.positive (omega arith)
 
-pub plus-between : (f g : Fraction) → IsShare f → IsShare g → f.num * g.den < g.num * f.den → plus f (between f g) ≡ g
+pub plus-between : (f g : Fraction) → IsShare f → IsShare g → f.num * g.den < g.num * f.den
+    → plus f (between f g) ≡ g
 plus-between f g a b l =
     let h = between-share f g a b l in
     let s = plus-is f (between f g) a.amount.lowest h.amount.lowest in
@@ -281,7 +303,8 @@ plus-between f g a b l =
     equal _ _ s.lowest b.amount.lowest (cancel (f.den * (between f g).den) _ _ d (omega (arith, ap (λ w. w * g.den) s.value, ap (λ w. w * (plus f (between f g)).den) e)))
 
 -- a share is at most its sum with another
-pub le-plus : (f g : Fraction) → IsShare f → IsShare g → f.num * (plus f g).den ≤ (plus f g).num * f.den
+pub le-plus : (f g : Fraction) → IsShare f → IsShare g
+    → f.num * (plus f g).den ≤ (plus f g).num * f.den
 le-plus f g a b =
     let s = plus-is f g a.amount.lowest b.amount.lowest in
     cancel-le g.den _ _ b.amount.lowest.positive (omega (arith, s.value))
@@ -314,5 +337,6 @@ lowest-from f g h is e = record { positive = h; coprime = λ k a b. eq-one_of_dv
 pub from-lowest : (f : Fraction) (g : ℕ) → IsGcd f.num f.den g → IsLowest f → g ≡ 1
 from-lowest f g is l = l.coprime g is.0 is.1
 
-pub amount-from : (f : Fraction) (g : ℕ) → 0 < f.den → f.num ≤ f.den → IsGcd f.num f.den g → g ≡ 1 → IsAmount f
+pub amount-from : (f : Fraction) (g : ℕ) → 0 < f.den → f.num ≤ f.den → IsGcd f.num f.den g → g ≡ 1
+    → IsAmount f
 amount-from f g h l is e = record { lowest = lowest-from f g h is e; most = l }

@@ -1,5 +1,6 @@
 -- Whether two terms are the same is a test that decides equality, and so an equivalence.
-use Rattle.std.proofs.Common.{◌≡◌, ℕ, ℤ, pos, negsuc, List, [], ◌∷◌, arith, refl, ap, Bool, true, false, Decides}
+use Rattle.std.proofs.Common.{◌≡◌, ℕ, ℤ, pos, negsuc, List, [], ◌∷◌, arith, refl, ap, Bool, true}
+use Rattle.std.proofs.Common.{false, Decides}
 use Rattle.std.specs.Prelude.{◌==◌, ◌&&◌}
 use Rattle.std.specs.Bool.{one_answer}
 use Rattle.std.specs.Cmp.{IsEquivalence, decided}
@@ -44,7 +45,8 @@ parts-self : (ps : List (ℕ × ℤ)) → same_parts ps ps ≡ true
 parts-self [] = refl
 parts-self (p ∷ ps) = rw (eq-true p.0 p.0 refl, number-self p.1, parts-self ps) refl
 
-term-is : (a b : ℤ) (ps qs : List (ℕ × ℤ)) → a ≡ b → ps ≡ qs → ◌≡◌ {A = Linear} (record { constant = a; parts = ps }) (record { constant = b; parts = qs })
+term-is : (a b : ℤ) (ps qs : List (ℕ × ℤ)) → a ≡ b → ps ≡ qs
+    → ◌≡◌ {A = Linear} (record { constant = a; parts = ps }) (record { constant = b; parts = qs })
 term-is a b ps qs p q = rw (p, q) refl
 
 same-is : (s t : Linear) → same_term s t ≡ true → s ≡ t

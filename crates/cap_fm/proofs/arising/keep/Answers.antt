@@ -1,7 +1,7 @@
 use Rattle.std.proofs.Common.{◌∷◌, [], ◌++◌, length, ap, ◌∙◌, subst, sym}
 use Rattle.cap_elim.specs.Runs.{going}
 use Rattle.cap_elim.specs.Rows.{keep}
-use Rattle.cap_fm.specs.Views.{stage_view, entry_view, origin_view, Fits}
+use Rattle.cap_fm.specs.Views.{stage_view, entry_view, origin_view, IsStageOf}
 use Rattle.cap_fm.specs.Answers.{Is}
 use Rattle.cap_fm.specs.declared.entry.Present.{Present}
 use Rattle.cap_fm.proofs.NewRows.{fits-kept, keep-is}
@@ -19,6 +19,6 @@ returns c = λ inputs present t f i a n.
     let e = kept-entry c.args.stage.now c.note.new.self t d k a n in
     let w = keep-is c.args.stage.now c.note.new.self c.args.origin t c.args.kind c.in_ok-origin.origin k h p in (
       subst (λ x. Is (going (entry_view x ∷ [])) (stage_view c.note.new.self) (keep t c.args.kind (origin_view c.args.origin) (stage_view c.args.stage.now))) (sym e) w,
-      subst (λ x. Fits inputs c.note.new.self (present ++ (x ∷ []))) (sym e) q.0,
+      subst (λ x. IsStageOf inputs c.note.new.self (present ++ (x ∷ []))) (sym e) q.0,
       q.1,
     )

@@ -2,7 +2,7 @@ use Rattle.std.proofs.Common.{◌∙◌, List, get_or, subst, sym, ap}
 use Rattle.std.proofs.lemmas.Result.{err_from_is_err_and}
 use Rattle.cap_elim.specs.Runs as plain
 use Rattle.cap_elim.specs.Runs.{Run, going, contradiction}
-use Rattle.cap_fm.specs.Views.{stage_view, entries_view, entry_of, entries_of, false_view, lacking_rows, upper_rows, lower_rows, Fits, IsLast, Grows}
+use Rattle.cap_fm.specs.Views.{stage_view, entries_view, entry_of, entries_of, false_view, lacking_rows, upper_rows, lower_rows, IsStageOf, IsLast, Grows}
 use Rattle.cap_fm.specs.Answers.{Explains, Is}
 use Rattle.cap_fm.proofs.Terms.{no_row, entry-in, below-of, past-of, same-entry, same-entries, numbered-now, numbered-all, entries-by}
 use Rattle.cap_fm.proofs.Pairs.{each-by, bounds-start, bounds-next, bounds-more, bounds-false, bounds-fails, bounds-end}
@@ -85,7 +85,7 @@ loop-upper-preserved c = λ inputs f.
     let new = c.combine_each.new.stage in
     let more = entries_of new c.combine_each.new.kept.items in
     let w = each-by x held upper (entry_of now item) below (entries_of now c.in_ok-without.field-0.lowers.items) (stage_view now) u v in
-    let d = subst (λ r. Is (going (entries_view more)) (stage_view new) r × Fits inputs new more × Grows now new) w ((rw c.in_default.is at (rw c.deref-in-loop-upper.ensures.value at c.in_ok-row.ensures)) inputs h.fits p q) in
+    let d = subst (λ r. Is (going (entries_view more)) (stage_view new) r × IsStageOf inputs new more × Grows now new) w ((rw c.in_default.is at (rw c.deref-in-loop-upper.ensures.value at c.in_ok-row.ensures)) inputs h.fits p q) in
     bounds-more inputs x s now new rows held more _ below upper h d.0 d.1 d.2
 
 pub returns : goal.returns

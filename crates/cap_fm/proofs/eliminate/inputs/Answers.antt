@@ -2,7 +2,7 @@ use Rattle.std.proofs.Common.{◌≡◌, ◌<◌, ◌≤◌, length, length-appe
 use Rattle.std.proofs.lemmas.List.{append-nil}
 use Rattle.std.proofs.lemmas.Result.{err_from_is_err_and}
 use Rattle.cap_elim.specs.Elimination.{inputs}
-use Rattle.cap_fm.specs.Views.{stage_view, entry_view, entry_of, entries_of, Fits}
+use Rattle.cap_fm.specs.Views.{stage_view, entry_view, entry_of, entries_of, IsStageOf}
 use Rattle.cap_fm.proofs.Terms.{grown-entries, entries-more}
 use Rattle.cap_fm.proofs.Walks.{reach-err, inputs-fail, inputs-contradict, inputs-go, inputs-end, view-more}
 use Rattle.cap_fm.proofs.eliminate.inputs.Goals as goal
@@ -33,12 +33,12 @@ loop-i-preserved c = λ f.
       | in-LeftOut w ↦
           let a = rw w.in-LeftOut.is at (c.in_ok-input.ensures _ _ i.0 l) in
           let e : entries_of new c.match-branch-3.entries.items ≡ held = ap (λ v. entries_of new v.items) w.entries-is ∙ grown-entries now new c.loop-i.entries.items a.2 i.0.numbered in
-          (subst (Fits inputs new) (sym e) a.1, inputs-go _ [] _ _ c.loop-i.i c.numbered_row-row.result.now (c.args.rows.now ++ c.args.more.now) _ _ l c.numbered_row-row.ensures (view-more held [] _ (e ∙ sym (append-nil held))) i.1 a.0)
+          (subst (IsStageOf inputs new) (sym e) a.1, inputs-go _ [] _ _ c.loop-i.i c.numbered_row-row.result.now (c.args.rows.now ++ c.args.more.now) _ _ l c.numbered_row-row.ensures (view-more held [] _ (e ∙ sym (append-nil held))) i.1 a.0)
       | in-Kept+in_ok-push-in-Kept w ↦
           let a = rw w.in-Kept.is at (c.in_ok-input.ensures _ _ i.0 l) in
           let row = entry_of new w.in-Kept.row in
           let e : entries_of new c.match-branch-3.entries.items ≡ held ++ (row ∷ []) = entries-more now new c.loop-i.entries.items c.match-branch-3.entries.items w.in-Kept.row (ap (λ v. v.items) w.entries-is ∙ w.in_ok-push-in-Kept.ensures.items) a.2 i.0.numbered in
-          (subst (Fits inputs new) (sym e) a.1, inputs-go _ (entry_view row ∷ []) _ _ c.loop-i.i c.numbered_row-row.result.now (c.args.rows.now ++ c.args.more.now) _ _ l c.numbered_row-row.ensures (view-more held (row ∷ []) _ e) i.1 a.0)
+          (subst (IsStageOf inputs new) (sym e) a.1, inputs-go _ (entry_view row ∷ []) _ _ c.loop-i.i c.numbered_row-row.result.now (c.args.rows.now ++ c.args.more.now) _ _ l c.numbered_row-row.ensures (view-more held (row ∷ []) _ e) i.1 a.0)
     ]
 
 pub returns : goal.returns

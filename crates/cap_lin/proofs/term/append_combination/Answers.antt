@@ -1,4 +1,4 @@
-use Rattle.std.proofs.Common.{rules, arith, to_z, of_z, ◌≡◌, ◌<◌, ◌≤◌, ◌+◌, ◌∷◌, length, get_or, min, ◌∙◌, refl}
+use Rattle.std.proofs.Common.{rules, arith, to_z, of_z, ◌≡◌, ◌<◌, ◌≤◌, ◌+◌, ◌∷◌, length, get_or, min, ◌∙◌}
 use Rattle.std.specs.Prelude.{IfSome}
 use Rattle.std.proofs.lemmas.Int.{to_z-of_z}
 use Rattle.std.proofs.lemmas.Result.{err_from_is_err_and}
