@@ -13,7 +13,8 @@ pub(crate) struct Preorder<'c> {
 }
 
 impl<'c> Preorder<'c> {
-    ghost use Rattle.std.specs.Prelude.{◌≡◌, ◌≢◌, [], ◌∷◌, map, suc, MatchOption, MatchResult};
+    ghost use Rattle.std.specs.Prelude.{◌≡◌, ◌≢◌, [], ◌∷◌, map, suc};
+    ghost use Rattle.std.specs.Prelude.{MatchOption, MatchResult};
     ghost use Rattle.cap_goal.specs.Views.{choice_view};
     ghost use Rattle.cap_check.specs.declared.error.CheckError.TheVariants.{Shape};
     ghost use Rattle.cap_check.specs.Growths.{PassesOver};

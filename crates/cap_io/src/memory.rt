@@ -2,7 +2,8 @@ ghost use Rattle.std.specs.Map.{lookup};
 ghost use Rattle.std.specs.Prelude.{◌≡◌, ◌≢◌, ◌≤◌, ◌==◌, ◌↔◌, ◌++◌, [], take, Err, Some, None, IsOk, IfOk, OnOk, OnErr, option_map};
 ghost use Rattle.cap_io.specs.declared.shelf.FetchError.TheVariants.{Failed, OutOfMemory};
 ghost use Rattle.cap_io.specs.Outside.{content, counted, found, plain_answer, Blames, Counts, Measures};
-ghost use Rattle.cap_io.specs.Memory.{files_of, failed_fetches, fails_next, fetched, after_fetch, TakesWhole, taken, fails_after};
+ghost use Rattle.cap_io.specs.Memory.{files_of, failed_fetches, fails_next, fetched};
+ghost use Rattle.cap_io.specs.Memory.{after_fetch, TakesWhole, taken, fails_after};
 
 use crate::shelf::LONGEST;
 use crate::{FetchError, PutFailed, Shelf, Sink};
