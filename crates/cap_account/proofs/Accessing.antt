@@ -12,14 +12,14 @@ use Rattle.cap_lin.specs.declared.row.Sort.TheVariants.{Int}
 use Rattle.cap_lin.specs.declared.row.Op.TheVariants.{Eq as Equal}
 use Rattle.cap_lin.proofs.Rows.{row_of-means}
 use Rattle.cap_prog.specs.Program.{Label, PlainAct, set, read, write, cas, alloc, call, fork, branch, loop, check, give_back, Block, first, PlainFunction}
-use Rattle.cap_logic.specs.States.{PlainState, Home, PlainTask, to_rest, goals_of}
-use Rattle.cap_logic.specs.Choices.{node, by_absurd, by_clash, by_enter, by_act, PlainTree, PlainTrees}
+use Rattle.cap_goal_spec.specs.States.{PlainState, Home, PlainTask, to_rest, goals_of}
+use Rattle.cap_goal_spec.specs.Choices.{node, by_absurd, by_clash, by_enter, by_act, PlainTree, PlainTrees}
 use Rattle.cap_rules.specs.Attempts.{Attempt, ◌>>=◌, unit}
 use Rattle.cap_rules.specs.Making.{prove_equal}
 use Rattle.cap_rules.specs.Closing.{address_of, Rival, rivals, rivals_from, with_marks, acted, closing}
 use Rattle.cap_rules.specs.Rules.{at_act, at_clash, at_enter}
-use Rattle.cap_run.specs.Machine.{Heap, Frame}
-use Rattle.cap_meaning.specs.Assertions.{NameValue}
+use Rattle.cap_machine.specs.Machine.{Heap, Frame}
+use Rattle.cap_machine_accounts.specs.Assertions.{NameValue}
 use Rattle.cap_account.specs.Nodes.{Comes, Children}
 use Rattle.cap_account.specs.Parts.{one_cell, cells_of, Hold}
 use Rattle.cap_account.proofs.Lists.{some-same, none-some, all-at}

@@ -5,12 +5,12 @@ use Rattle.std.specs.List.{AllByRecursion}
 use Rattle.std.specs.Ordering.{int_cmp}
 use Rattle.std.specs.FinMap.{get, get-empty}
 use Rattle.cap_prog.specs.Program.{PlainProgram}
-use Rattle.cap_run.specs.Machine.{Heap, Frame, Thread, Configuration}
-use Rattle.cap_run.specs.declared.event.Event.{Event}
-use Rattle.cap_meaning.specs.Parts.{Guard, join_with, Part, guard_at, guards_at}
-use Rattle.cap_meaning.specs.Assertions.{NameValue}
-use Rattle.cap_meaning.specs.Accounts.{Held, Account, ThreadHolds, ThreadsHold, EachTwo, CellsApart, CellsWithin, GuardsFit, IsValidAccount}
-use Rattle.cap_meaning.specs.Following.{Stepping, FramesFollow, accesses, SomeHasCell, IsBound, Exchanges, Follows}
+use Rattle.cap_machine.specs.Machine.{Heap, Frame, Thread, Configuration}
+use Rattle.cap_machine.specs.declared.event.Event.{Event}
+use Rattle.cap_machine_accounts.specs.Parts.{Guard, join_with, Part, guard_at, guards_at}
+use Rattle.cap_machine_accounts.specs.Assertions.{NameValue}
+use Rattle.cap_machine_accounts.specs.Accounts.{Held, Account, ThreadHolds, ThreadsHold, EachTwo, CellsApart, CellsWithin, GuardsFit, IsValidAccount}
+use Rattle.cap_machine_accounts.specs.Following.{Stepping, FramesFollow, accesses, SomeHasCell, IsBound, Exchanges, Follows}
 use Rattle.cap_account.specs.Parts.{Cells, cells_of, nothing}
 use Rattle.cap_account.proofs.Lists.{some-same, none-some, all-both}
 use Rattle.cap_account.proofs.Heaps.{counted-is, count-at-most, count-one}

@@ -14,15 +14,15 @@ use Rattle.cap_lin.specs.declared.row.Op.TheVariants.{Eq as Equal, Ne as Unequal
 use Rattle.cap_lin.proofs.Rows.{row_of-means}
 use Rattle.cap_lin.proofs.Values.{value-plus}
 use Rattle.cap_prog.specs.Program.{Label, PlainAct, read, write, cas, alloc, Block, first, PlainFunction}
-use Rattle.cap_logic.specs.States.{PlainState, PlainGoal, Home, to_rest, goals_of}
-use Rattle.cap_logic.specs.Environments.{zero_value, one_value}
-use Rattle.cap_logic.specs.Choices.{node, by_absurd, by_alloc, PlainTree, PlainTrees}
+use Rattle.cap_goal_spec.specs.States.{PlainState, PlainGoal, Home, to_rest, goals_of}
+use Rattle.cap_goal_spec.specs.Environments.{zero_value, one_value}
+use Rattle.cap_goal_spec.specs.Choices.{node, by_absurd, by_alloc, PlainTree, PlainTrees}
 use Rattle.cap_rules.specs.Attempts.{unit, ◌>>=◌}
 use Rattle.cap_rules.specs.Making.{fresh, value_here, with_comparison, with_cell, with_local}
 use Rattle.cap_rules.specs.Closing.{with_content}
 use Rattle.cap_rules.specs.Rules.{leaves, with_new_cells}
-use Rattle.cap_run.specs.Machine.{Heap, Frame, value_in, with_rest, with_value}
-use Rattle.cap_meaning.specs.Assertions.{NameValue}
+use Rattle.cap_machine.specs.Machine.{Heap, Frame, value_in, with_rest, with_value}
+use Rattle.cap_machine_accounts.specs.Assertions.{NameValue}
 use Rattle.cap_account.specs.Nodes.{Comes, Children}
 use Rattle.cap_account.specs.Parts.{one_cell, cells_of, Hold, hold, joined, Table}
 use Rattle.cap_account.proofs.Lists.{get-last, map-set, all-at, all-both}

@@ -14,10 +14,10 @@ use Rattle.cap_prog.specs.Program.{PlainItem, compare, choose, fact, atom, cell,
 use Rattle.cap_prog.specs.Parts.{all_items, side_items}
 use Rattle.cap_prog.specs.Scopes.{Scope, requires_scope, ensures_scope}
 use Rattle.cap_prog.specs.WellFormed.{ItemFits, FunctionFits}
-use Rattle.cap_run.specs.Machine.{Heap}
-use Rattle.cap_meaning.specs.Parts.{Part, without_cell}
-use Rattle.cap_meaning.specs.Assertions as Meaning
-use Rattle.cap_meaning.specs.Assertions.{NameValue, MeetsRequires, Met}
+use Rattle.cap_machine.specs.Machine.{Heap}
+use Rattle.cap_machine_accounts.specs.Parts.{Part, without_cell}
+use Rattle.cap_machine_accounts.specs.Assertions as Meaning
+use Rattle.cap_machine_accounts.specs.Assertions.{NameValue, MeetsRequires, Met}
 use Rattle.cap_account.specs.Parts.{Cells, once, count_of, cells_of, Hold, hold, Within, Table, SpendsOne, Spends}
 use Rattle.cap_account.specs.Meeting.{HasRequires, HasEnsures}
 use Rattle.cap_account.proofs.Lists.{all-first, all-second}

@@ -17,8 +17,8 @@ use Rattle.cap_gsolve.specs.Merge.{merge_rows}
 use Rattle.cap_gsolve.specs.Meaning.{IsPieceElement, region_of, IsElementAt, AreElementsAt, ComposeAt}
 use Rattle.cap_gsolve.proofs.FullPieces.{full-means}
 use Rattle.cap_prog.specs.Program.{PlainProgram}
-use Rattle.cap_meaning.specs.Parts.{Guard, algebra_of}
-use Rattle.cap_logic.specs.States.{PlainState}
+use Rattle.cap_machine_accounts.specs.Parts.{Guard, algebra_of}
+use Rattle.cap_goal_spec.specs.States.{PlainState}
 use Rattle.cap_rules.specs.Making.{with_piece, with_pieces}
 use Rattle.cap_account.specs.Nodes.{Comes}
 use Rattle.cap_account.specs.Parts.{Known, Table}

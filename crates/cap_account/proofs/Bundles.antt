@@ -4,9 +4,9 @@ use Rattle.std.specs.Prelude.{slice_get, flat_map, option_to_list}
 use Rattle.std.specs.List.{AllZip, range_with_len}
 use Rattle.cap_prog.specs.Program.{done, PlainFunction, PlainProgram}
 use Rattle.cap_prog.specs.WellFormed.{IsWellFormed}
-use Rattle.cap_logic.specs.States.{PlainGoal, to_run, to_turn}
-use Rattle.cap_logic.specs.Choices.{PlainTree, PlainTrees, no_trees, tree}
-use Rattle.cap_logic.specs.Roots.{region_unit, function_unit, loops_in, loop_roots, function_roots, optional_roots, roots, units, all_roots, at_entry, at_loop, home_of, from_given}
+use Rattle.cap_goal_spec.specs.States.{PlainGoal, to_run, to_turn}
+use Rattle.cap_goal_spec.specs.Choices.{PlainTree, PlainTrees, no_trees, tree}
+use Rattle.cap_goal_spec.specs.Roots.{region_unit, function_unit, loops_in, loop_roots, function_roots, optional_roots, roots, units, all_roots, at_entry, at_loop, home_of, from_given}
 use Rattle.cap_rules.specs.Valid.{RootDerives, Valid}
 use Rattle.cap_account.specs.Nodes.{Children, Deriving}
 use Rattle.cap_account.proofs.Lists.{within}

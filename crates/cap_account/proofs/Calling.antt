@@ -11,14 +11,14 @@ use Rattle.cap_lin.specs.declared.row.Sort.TheVariants.{Int, Perm}
 use Rattle.cap_prog.specs.Program.{Label, call, fork, Block, first, PlainFunction, PlainProgram}
 use Rattle.cap_prog.specs.Scopes.{fixed_start, result_name, requires_scope, ensures_scope, HasSort}
 use Rattle.cap_prog.specs.WellFormed.{GivesLocal, IsWellFormed}
-use Rattle.cap_logic.specs.States.{PlainEnv, PlainState, Home, PlainTask, to_take, to_give, to_rest}
-use Rattle.cap_logic.specs.Environments.{zero_value, term_of, callee_env}
-use Rattle.cap_logic.specs.Choices.{node, by_absurd, by_call, by_fork, PlainTree}
+use Rattle.cap_goal_spec.specs.States.{PlainEnv, PlainState, Home, PlainTask, to_take, to_give, to_rest}
+use Rattle.cap_goal_spec.specs.Environments.{zero_value, term_of, callee_env}
+use Rattle.cap_goal_spec.specs.Choices.{node, by_absurd, by_call, by_fork, PlainTree}
 use Rattle.cap_rules.specs.Attempts.{Attempt, unit, ◌>>=◌, appended}
 use Rattle.cap_rules.specs.Making.{fresh, env_at, with_env, with_sort, with_destination}
 use Rattle.cap_rules.specs.Rules.{leaves, called}
-use Rattle.cap_run.specs.Machine.{Frame, value_in, with_rest, receives}
-use Rattle.cap_meaning.specs.Assertions.{NameValue, a_number, a_fraction, HasNameSort, ValuesFit, IsNamed, AreNamed, AreWhole}
+use Rattle.cap_machine.specs.Machine.{Frame, value_in, with_rest, receives}
+use Rattle.cap_machine_accounts.specs.Assertions.{NameValue, a_number, a_fraction, HasNameSort, ValuesFit, IsNamed, AreNamed, AreWhole}
 use Rattle.cap_account.specs.Nodes.{Comes, Children}
 use Rattle.cap_account.specs.Parts.{one_cell, Hold, hold, nothing, joined, Table}
 use Rattle.cap_account.specs.Meeting.{HasRequires, HasEnsures}

@@ -15,7 +15,7 @@ use Rattle.cap_gsolve.proofs.Forms.{form-sound}
 use Rattle.cap_gsolve.proofs.Held.{merged-composes, in-a-row}
 use Rattle.cap_gsolve.proofs.Means.{merge-means}
 use Rattle.cap_prog.specs.Program.{PlainProgram}
-use Rattle.cap_meaning.specs.Parts.{algebra_of, guard_of}
+use Rattle.cap_machine_accounts.specs.Parts.{algebra_of, guard_of}
 use Rattle.cap_account.proofs.Monoid.{lift}
 use Rattle.cap_account.proofs.Marks.{is, Mark, free, of, meet, fitting, fit, joins-law}
 

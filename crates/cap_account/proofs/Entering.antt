@@ -9,13 +9,13 @@ use Rattle.cap_prog.specs.declared.assertion.Comp.{Comp}
 use Rattle.cap_prog.specs.Program.{PlainAssertion, Label, loop, Block, done, first, append, PlainFunction}
 use Rattle.cap_prog.specs.Scopes.{requires_scope, invariant_scope}
 use Rattle.cap_prog.specs.WellFormed.{IsWellFormed}
-use Rattle.cap_run.specs.Machine.{Frame, holds, with_rest, new_frame}
-use Rattle.cap_meaning.specs.Assertions.{NameValue, ValuesFit}
-use Rattle.cap_logic.specs.Terms.{variables_from}
-use Rattle.cap_logic.specs.States.{to_run, to_turn}
-use Rattle.cap_logic.specs.Environments.{zero_value, bound, unbound}
-use Rattle.cap_logic.specs.Choices.{PlainTrees}
-use Rattle.cap_logic.specs.Roots.{LoopPoint, loops_in, at_entry, at_loop, home_of, root_state, root_env, from_given}
+use Rattle.cap_machine.specs.Machine.{Frame, holds, with_rest, new_frame}
+use Rattle.cap_machine_accounts.specs.Assertions.{NameValue, ValuesFit}
+use Rattle.cap_goal_spec.specs.Terms.{variables_from}
+use Rattle.cap_goal_spec.specs.States.{to_run, to_turn}
+use Rattle.cap_goal_spec.specs.Environments.{zero_value, bound, unbound}
+use Rattle.cap_goal_spec.specs.Choices.{PlainTrees}
+use Rattle.cap_goal_spec.specs.Roots.{LoopPoint, loops_in, at_entry, at_loop, home_of, root_state, root_env, from_given}
 use Rattle.cap_account.specs.Nodes.{Children}
 use Rattle.cap_account.specs.Parts.{Hold, Table}
 use Rattle.cap_account.specs.Meeting.{HasRequires, HasInvariant}

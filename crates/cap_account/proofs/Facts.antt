@@ -18,8 +18,8 @@ use Rattle.cap_prog.specs.declared.assertion.Slot.{Slot}
 use Rattle.cap_prog.specs.declared.assertion.Slot.TheVariants.{Is}
 use Rattle.cap_prog.specs.Program.{fact}
 use Rattle.cap_prog.specs.Scopes.{Scope, SlotFits}
-use Rattle.cap_meaning.specs.Assertions.{SlotIs, SlotsAre}
-use Rattle.cap_logic.specs.States.{PlainFact, PlainEnv, PlainState}
+use Rattle.cap_machine_accounts.specs.Assertions.{SlotIs, SlotsAre}
+use Rattle.cap_goal_spec.specs.States.{PlainFact, PlainEnv, PlainState}
 use Rattle.cap_rules.specs.Attempts.{Attempt, unit, ◌>>=◌, appended}
 use Rattle.cap_rules.specs.Making.{match_slot, match_slots, is_of_region, is_of_other_type, without_first, with_comparison, with_equalities, with_same, with_false, with_fact}
 use Rattle.cap_account.specs.Nodes.{Comes}

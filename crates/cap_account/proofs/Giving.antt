@@ -20,10 +20,10 @@ use Rattle.cap_prog.specs.Program as prog
 use Rattle.cap_prog.specs.Parts.{all_items}
 use Rattle.cap_prog.specs.Scopes.{Scope, TermFits, SlotFits, CompFits}
 use Rattle.cap_prog.specs.WellFormed.{ItemFits}
-use Rattle.cap_meaning.specs.Assertions.{SlotIs}
-use Rattle.cap_logic.specs.States.{PlainState, PlainTask, PlainGoal, to_give, goals_of}
-use Rattle.cap_logic.specs.Environments.{one_value, term_in, term_in_steps}
-use Rattle.cap_logic.specs.Choices.{PlainTree, node, PlainTrees, by_absurd, by_give}
+use Rattle.cap_machine_accounts.specs.Assertions.{SlotIs}
+use Rattle.cap_goal_spec.specs.States.{PlainState, PlainTask, PlainGoal, to_give, goals_of}
+use Rattle.cap_goal_spec.specs.Environments.{one_value, term_in, term_in_steps}
+use Rattle.cap_goal_spec.specs.Choices.{PlainTree, node, PlainTrees, by_absurd, by_give}
 use Rattle.cap_rules.specs.Attempts.{Attempt, unit, ◌>>=◌}
 use Rattle.cap_rules.specs.Making.{value_by, fresh, with_cell, with_comparison, env_at, opposite}
 use Rattle.cap_rules.specs.Giving.{name_parts, Given as Pair, given as pair, give_term, give_slot, give_sides, give_item, give}

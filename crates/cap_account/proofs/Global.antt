@@ -3,10 +3,10 @@ use Rattle.std.proofs.Common.{◌≡◌, ℕ, zero, suc, ◌+◌, ℤ, List, [],
 use Rattle.std.specs.Prelude.{slice_get, slice_set}
 use Rattle.std.specs.FinMap.{empty}
 use Rattle.std.proofs.lemmas.Bool.{cases_eq}
-use Rattle.cap_run.specs.Machine.{Heap, Frame, Thread, Configuration}
-use Rattle.cap_meaning.specs.Parts.{Part}
-use Rattle.cap_meaning.specs.Assertions.{NameValue}
-use Rattle.cap_meaning.specs.Accounts.{Held}
+use Rattle.cap_machine.specs.Machine.{Heap, Frame, Thread, Configuration}
+use Rattle.cap_machine_accounts.specs.Parts.{Part}
+use Rattle.cap_machine_accounts.specs.Assertions.{NameValue}
+use Rattle.cap_machine_accounts.specs.Accounts.{Held}
 use Rattle.cap_account.specs.Parts.{Hold, hold, nothing, joined, Within, cells_of, no_regions}
 use Rattle.cap_account.proofs.Lists.{some-same, none-some, within, get-set-same, get-set-other, set-length, get-join, push-length}
 use Rattle.cap_account.proofs.Bridge.{hold_of}

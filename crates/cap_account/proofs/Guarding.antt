@@ -25,10 +25,10 @@ use Rattle.cap_prog.specs.declared.assertion.Slot.TheVariants.{Any, Is}
 use Rattle.cap_prog.specs.declared.assertion.Asked.{Asked}
 use Rattle.cap_prog.specs.declared.assertion.Asked.TheVariants.{One, Share, Src, Tok}
 use Rattle.cap_prog.specs.Scopes.{Scope, SlotFits}
-use Rattle.cap_meaning.specs.Assertions.{SlotIs, ShareIs, IsAsked}
-use Rattle.cap_logic.specs.Terms.{lone_variable}
-use Rattle.cap_logic.specs.States.{PlainEnv, PlainState}
-use Rattle.cap_logic.specs.Environments.{zero_value, is_determined, term_in, term_in_steps, Reading, settled, open_to, stuck, read_name, reading, bind_open}
+use Rattle.cap_machine_accounts.specs.Assertions.{SlotIs, ShareIs, IsAsked}
+use Rattle.cap_goal_spec.specs.Terms.{lone_variable}
+use Rattle.cap_goal_spec.specs.States.{PlainEnv, PlainState}
+use Rattle.cap_goal_spec.specs.Environments.{zero_value, is_determined, term_in, term_in_steps, Reading, settled, open_to, stuck, read_name, reading, bind_open}
 use Rattle.cap_rules.specs.Attempts.{Attempt, unit, ◌>>=◌, prove_that}
 use Rattle.cap_rules.specs.Making.{sum, difference, match_reading}
 use Rattle.cap_rules.specs.Taking.{Cut, cut, cut_share, cut_source, cut_tokens, cut_new_tokens, cut_form}

@@ -16,10 +16,10 @@ use Rattle.cap_gsolve.specs.Meaning.{region_of, Takes, Fits, IsFormElement}
 use Rattle.cap_prog.specs.declared.assertion.Asked.{Asked}
 use Rattle.cap_prog.specs.Program.{PlainProgram}
 use Rattle.cap_prog.specs.Scopes.{Scope, HasSort, SlotFits}
-use Rattle.cap_meaning.specs.Parts.{algebra_of}
-use Rattle.cap_meaning.specs.Assertions.{IsAsked}
-use Rattle.cap_logic.specs.States.{PlainEnv, PlainState, PlainGoal}
-use Rattle.cap_logic.specs.Environments.{Reading, settled, stuck, term_of, reading, open_to, bind_open, zero_value, term_in}
+use Rattle.cap_machine_accounts.specs.Parts.{algebra_of}
+use Rattle.cap_machine_accounts.specs.Assertions.{IsAsked}
+use Rattle.cap_goal_spec.specs.States.{PlainEnv, PlainState, PlainGoal}
+use Rattle.cap_goal_spec.specs.Environments.{Reading, settled, stuck, term_of, reading, open_to, bind_open, zero_value, term_in}
 use Rattle.cap_rules.specs.Attempts.{Attempt, ◌>>=◌, need, found}
 use Rattle.cap_rules.specs.Making.{prove_equal, env_at, fresh, determined_slot}
 use Rattle.cap_rules.specs.Taking.{Cut, cut, cut_form, after_cut, with_form, cut_share}

@@ -21,10 +21,10 @@ use Rattle.cap_prog.specs.declared.assertion.Slot.{Slot}
 use Rattle.cap_prog.specs.declared.assertion.Slot.TheVariants.{Any, Is}
 use Rattle.cap_prog.specs.declared.assertion.Asked.TheVariants.{Share}
 use Rattle.cap_prog.specs.Scopes.{Scope, HasSort, SlotFits}
-use Rattle.cap_meaning.specs.Assertions.{ShareIs, IsAsked}
-use Rattle.cap_logic.specs.Terms.{lone_variable}
-use Rattle.cap_logic.specs.States.{PlainEnv, PlainState}
-use Rattle.cap_logic.specs.Environments.{zero_value, term_of, is_determined, settled, open_to, stuck, read_name, reading, bind_open}
+use Rattle.cap_machine_accounts.specs.Assertions.{ShareIs, IsAsked}
+use Rattle.cap_goal_spec.specs.Terms.{lone_variable}
+use Rattle.cap_goal_spec.specs.States.{PlainEnv, PlainState}
+use Rattle.cap_goal_spec.specs.Environments.{zero_value, term_of, is_determined, settled, open_to, stuck, read_name, reading, bind_open}
 use Rattle.cap_rules.specs.Attempts.{Attempt, unit, ◌>>=◌}
 use Rattle.cap_rules.specs.Making.{fresh, with_comparison, difference}
 use Rattle.cap_rules.specs.Taking.{Cut, cut, cut_share}

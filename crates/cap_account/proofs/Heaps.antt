@@ -8,7 +8,7 @@ use Rattle.std.specs.Cmp.{int_cmp_total, int_ranks}
 use Rattle.std.specs.FinMap.{get, insert, remove, get-insert, get-remove}
 use Rattle.std.proofs.lemmas.Int.{ints}
 use Rattle.cap_lin.specs.Linear.{same_number}
-use Rattle.cap_run.specs.Machine.{Heap, with_cells, are_free}
+use Rattle.cap_machine.specs.Machine.{Heap, with_cells, are_free}
 use Rattle.cap_account.specs.Parts.{Cells, once, one_cell, count_of, cells_of}
 use Rattle.cap_account.proofs.Order.{same-int, same-refl, other-int}
 

@@ -8,8 +8,8 @@ use Rattle.cap_galg.specs.Elements.{Element}
 use Rattle.cap_galg.specs.Algebras.{atom_algebra, IsElement}
 use Rattle.cap_prog.specs.declared.assertion.Asked.{Asked}
 use Rattle.cap_prog.specs.Program.{PlainAction, PlainRegionType, PlainProgram}
-use Rattle.cap_meaning.specs.Parts.{Guard, join, IsGuard, atom_guard, algebra_of, Region}
-use Rattle.cap_meaning.specs.Assertions.{CompHolds, AreWhole, IsAsked, TakesGuards, Acts}
+use Rattle.cap_machine_accounts.specs.Parts.{Guard, join, IsGuard, atom_guard, algebra_of, Region}
+use Rattle.cap_machine_accounts.specs.Assertions.{CompHolds, AreWhole, IsAsked, TakesGuards, Acts}
 use Rattle.cap_account.specs.Parts.{known_as, Table}
 use Rattle.cap_account.proofs.Lists.{some-same, none-some}
 use Rattle.cap_account.proofs.Marks.{is-element, is-present, Mark, free, meet, meet_if, fit, fitting, joins-law, meets-join}

@@ -9,14 +9,14 @@ use Rattle.cap_prog.specs.declared.assertion.Comp.{Comp}
 use Rattle.cap_prog.specs.Program.{PlainAssertion, Items, Label, give_back, loop, Block, first, PlainFunction}
 use Rattle.cap_prog.specs.Scopes.{Scope, fixed_start, result_name, ensures_scope, invariant_scope, HasSort}
 use Rattle.cap_prog.specs.WellFormed.{IsWellFormed}
-use Rattle.cap_logic.specs.States.{PlainEnv, PlainState, Home, to_take}
-use Rattle.cap_logic.specs.Environments.{zero_value, term_of, bound_term, bound, unbound, own_env}
-use Rattle.cap_logic.specs.Choices.{node, by_absurd, by_loop, by_return, PlainTree}
+use Rattle.cap_goal_spec.specs.States.{PlainEnv, PlainState, Home, to_take}
+use Rattle.cap_goal_spec.specs.Environments.{zero_value, term_of, bound_term, bound, unbound, own_env}
+use Rattle.cap_goal_spec.specs.Choices.{node, by_absurd, by_loop, by_return, PlainTree}
 use Rattle.cap_rules.specs.Attempts.{◌>>=◌}
 use Rattle.cap_rules.specs.Making.{env_at, with_env, value_here}
 use Rattle.cap_rules.specs.Rules.{leaves, own_params}
-use Rattle.cap_run.specs.Machine.{Frame, value_in, with_rest}
-use Rattle.cap_meaning.specs.Assertions.{NameValue, a_number, a_fraction, IsNamed, AreNamed}
+use Rattle.cap_machine.specs.Machine.{Frame, value_in, with_rest}
+use Rattle.cap_machine_accounts.specs.Assertions.{NameValue, a_number, a_fraction, IsNamed, AreNamed}
 use Rattle.cap_account.specs.Nodes.{Comes, Children}
 use Rattle.cap_account.specs.Parts.{Hold, nothing, joined, Table, Has, Spends}
 use Rattle.cap_account.proofs.Lists.{some-same, none-some, within, there-is, get-map, map-length, get-or-push, push-length, all-at}

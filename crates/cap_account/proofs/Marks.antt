@@ -12,7 +12,7 @@ use Rattle.cap_galg.specs.Laws.Composition.{le-true, true-le, true-eq, eq-true, 
 use Rattle.cap_galg.specs.Laws.Algebras.{sound-of, closed, full-element, full-present, full-full}
 use Rattle.cap_galg.specs.Laws.Atoms.{true-lt, lt-true}
 use Rattle.cap_prog.specs.Program.{PlainProgram}
-use Rattle.cap_meaning.specs.Parts.{Guard, join, algebra_of}
+use Rattle.cap_machine_accounts.specs.Parts.{Guard, join, algebra_of}
 use Rattle.cap_account.proofs.Heaps.{both-true}
 use Rattle.cap_account.proofs.Monoid.{lift, IsCommutative}
 

@@ -10,7 +10,7 @@ use Rattle.cap_lin.specs.Solves.{Holds, IsWholeAt, Solves, Proves, FitsSort}
 use Rattle.cap_lin.specs.declared.row.Row.{Row}
 use Rattle.cap_lin.specs.declared.row.Sort.{Sort}
 use Rattle.cap_lin.specs.declared.row.Sort.TheVariants.{Int, Perm}
-use Rattle.cap_logic.specs.States.{PlainEnv, PlainState}
+use Rattle.cap_goal_spec.specs.States.{PlainEnv, PlainState}
 use Rattle.cap_account.specs.Parts.{Cells, one_cell}
 use Rattle.cap_account.proofs.Lists.{within, get-first, get-join, push-length, none-some, some-same, all-more, all-both}
 use Rattle.cap_account.proofs.Terms.{Over, vars-more, RowOver, fits-sort, Agree, agree-trans, agree-less, value-agree, rows-agree}

@@ -12,8 +12,8 @@ use Rattle.cap_lin.specs.declared.row.Op.{Op}
 use Rattle.cap_lin.proofs.Rows.{row_of-means}
 use Rattle.cap_prog.specs.declared.assertion.Comp.{Comp}
 use Rattle.cap_prog.specs.Scopes.{Scope, HasSort, TermFits, CompFits}
-use Rattle.cap_logic.specs.States.{PlainEnv, PlainState}
-use Rattle.cap_logic.specs.Environments.{zero_value, term_of, bound_term, term_in, with_name}
+use Rattle.cap_goal_spec.specs.States.{PlainEnv, PlainState}
+use Rattle.cap_goal_spec.specs.Environments.{zero_value, term_of, bound_term, term_in, with_name}
 use Rattle.cap_rules.specs.Attempts.{unit}
 use Rattle.cap_rules.specs.Making.{fresh, env_at, with_env_at}
 use Rattle.cap_rules.specs.Giving.{name_as, name_parts}

@@ -21,7 +21,7 @@ use Rattle.cap_gsolve.specs.Meaning.{IsFormElement, region_of, IsElementAt, AreE
 use Rattle.cap_gsolve.proofs.Forms.{form-sound}
 use Rattle.cap_gsolve.proofs.Held.{element-sound, elements-sound, in-a-row, IsOwn, at-own}
 use Rattle.cap_prog.specs.Program.{PlainProgram}
-use Rattle.cap_meaning.specs.Parts.{algebra_of}
+use Rattle.cap_machine_accounts.specs.Parts.{algebra_of}
 use Rattle.cap_rules.specs.Taking.{with_form}
 use Rattle.cap_account.proofs.Lists.{some-same, none-some, all-at, all-both}
 use Rattle.cap_account.proofs.Marks.{Mark, free, of, fit, wrap, is-by, joins-law}

@@ -11,10 +11,10 @@ use Rattle.cap_lin.specs.declared.row.Sort.TheVariants.{Int, Perm}
 use Rattle.cap_prog.specs.Program.{PlainFunction, PlainProgram}
 use Rattle.cap_prog.specs.Scopes.{Scope, fixed_start, result_name, HasSort}
 use Rattle.cap_prog.specs.WellFormed.{FunctionFits, IsWellFormed}
-use Rattle.cap_meaning.specs.Assertions.{NameValue, a_number, a_fraction, HasNameSort, ValuesFit, IsNamed, AreNamed, AreWhole}
-use Rattle.cap_logic.specs.Terms.{variables_from}
-use Rattle.cap_logic.specs.States.{PlainEnv, PlainState, Home}
-use Rattle.cap_logic.specs.Environments.{zero_value, term_of, bound, own_env}
+use Rattle.cap_machine_accounts.specs.Assertions.{NameValue, a_number, a_fraction, HasNameSort, ValuesFit, IsNamed, AreNamed, AreWhole}
+use Rattle.cap_goal_spec.specs.Terms.{variables_from}
+use Rattle.cap_goal_spec.specs.States.{PlainEnv, PlainState, Home}
+use Rattle.cap_goal_spec.specs.Environments.{zero_value, term_of, bound, own_env}
 use Rattle.cap_account.proofs.Lists.{some-same, none-some, within, there-is, get-join, get-first, get-second, all-at}
 use Rattle.cap_account.proofs.Terms.{Over, value-number}
 use Rattle.cap_account.proofs.Meets.{Usable, variable-value, variable-amount}

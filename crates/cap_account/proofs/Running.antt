@@ -2,13 +2,13 @@
 use Rattle.std.proofs.Common.{◌≡◌, ℕ, zero, suc, ℤ, List, [], ◌∷◌, length, arith, refl, sym, subst, Option, Some, None}
 use Rattle.std.specs.Prelude.{slice_get, option_to_list, option_map}
 use Rattle.cap_prog.specs.Program.{PlainFunction}
-use Rattle.cap_run.specs.declared.event.Entry.{Entry}
-use Rattle.cap_run.specs.declared.event.Event.{Event}
-use Rattle.cap_run.specs.Machine.{Frame, Thread, Configuration, Outcome, next, fault, disabled, Spot, new_frame, statement_step, thread_step, step, start}
-use Rattle.cap_meaning.specs.Parts.{Part}
-use Rattle.cap_meaning.specs.Accounts.{Held, Account, IsValidAccount}
-use Rattle.cap_meaning.specs.Following.{Follows}
-use Rattle.cap_meaning.specs.Safety.{KeepsContracts, IfStepped, IsTracked, whole_part, Safe}
+use Rattle.cap_machine.specs.declared.event.Entry.{Entry}
+use Rattle.cap_machine.specs.declared.event.Event.{Event}
+use Rattle.cap_machine.specs.Machine.{Frame, Thread, Configuration, Outcome, next, fault, disabled, Spot, new_frame, statement_step, thread_step, step, start}
+use Rattle.cap_machine_accounts.specs.Parts.{Part}
+use Rattle.cap_machine_accounts.specs.Accounts.{Held, Account, IsValidAccount}
+use Rattle.cap_machine_accounts.specs.Following.{Follows}
+use Rattle.cap_machine_accounts.specs.Safety.{KeepsContracts, IfStepped, IsTracked, whole_part, Safe}
 use Rattle.cap_account.specs.Parts.{nothing, no_regions}
 use Rattle.cap_account.proofs.Lists.{some-same, none-some}
 use Rattle.cap_account.proofs.Checked.{Checked}

@@ -14,7 +14,7 @@ use Rattle.cap_lin.specs.declared.row.Sort.TheVariants.{Int}
 use Rattle.cap_lin.proofs.Values.{value-nil, value-cons, value-plus, value-times}
 use Rattle.cap_prog.specs.Program.{PlainAction, PlainRegionType, PlainProgram}
 use Rattle.cap_prog.specs.WellFormed.{ActionFits}
-use Rattle.cap_logic.specs.States.{PlainFact, PlainState}
+use Rattle.cap_goal_spec.specs.States.{PlainFact, PlainState}
 use Rattle.cap_rules.specs.Attempts.{◌>>=◌, prove}
 use Rattle.cap_rules.specs.Resting.{value_over, action_names, system, prove_at, prove_closed, prove_stable}
 use Rattle.cap_account.specs.Nodes.{Comes}

@@ -20,11 +20,11 @@ use Rattle.cap_prog.specs.declared.assertion.Asked.TheVariants.{One, Share, Src,
 use Rattle.cap_prog.specs.Program.{PlainAction, PlainRegionType, PlainProgram}
 use Rattle.cap_prog.specs.Scopes.{Scope, HasSort, CompFits, known, whole_numbers, region_scope}
 use Rattle.cap_prog.specs.WellFormed.{AskedFits, AtomFits, ActionFits}
-use Rattle.cap_logic.specs.States.{PlainFact, PlainState}
-use Rattle.cap_logic.specs.Candidates.{later_state}
+use Rattle.cap_goal_spec.specs.States.{PlainFact, PlainState}
+use Rattle.cap_goal_spec.specs.Candidates.{later_state}
 use Rattle.cap_rules.specs.Resting.{Names, names_below, ask, ask_all, first_names, action_names}
-use Rattle.cap_meaning.specs.Parts.{kind_algebra}
-use Rattle.cap_meaning.specs.Assertions.{CompHolds, AreWhole}
+use Rattle.cap_machine_accounts.specs.Parts.{kind_algebra}
+use Rattle.cap_machine_accounts.specs.Assertions.{CompHolds, AreWhole}
 use Rattle.cap_account.proofs.Lists.{within, get-first, map-length, all-both}
 use Rattle.cap_account.proofs.Terms.{Over, vars-more, RowOver, row-over, fits-sort, Agree, agree-trans, agree-less, value-agree, rows-agree}
 use Rattle.cap_account.proofs.Meets.{new-whole, new-share, Usable, usable-old, variable-value}

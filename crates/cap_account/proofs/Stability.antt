@@ -8,12 +8,12 @@ use Rattle.cap_lin.specs.declared.row.Sort.TheVariants.{Int, Perm}
 use Rattle.cap_prog.specs.Program.{Items, PlainFunction, PlainProgram}
 use Rattle.cap_prog.specs.Scopes.{Scope, fixed_start, requires_scope, HasSort}
 use Rattle.cap_prog.specs.WellFormed.{IsWellFormed}
-use Rattle.cap_meaning.specs.Assertions.{NameValue, a_number, a_fraction, HasNameSort, ValuesFit, IsNamed}
-use Rattle.cap_logic.specs.Terms.{variables_from}
-use Rattle.cap_logic.specs.States.{PlainState, to_give, to_take, to_rest}
-use Rattle.cap_logic.specs.Environments.{zero_value, term_of, unbound}
-use Rattle.cap_logic.specs.Choices.{PlainTree, PlainTrees}
-use Rattle.cap_logic.specs.Roots.{at_entry, home_of, root_env, root_state, stability}
+use Rattle.cap_machine_accounts.specs.Assertions.{NameValue, a_number, a_fraction, HasNameSort, ValuesFit, IsNamed}
+use Rattle.cap_goal_spec.specs.Terms.{variables_from}
+use Rattle.cap_goal_spec.specs.States.{PlainState, to_give, to_take, to_rest}
+use Rattle.cap_goal_spec.specs.Environments.{zero_value, term_of, unbound}
+use Rattle.cap_goal_spec.specs.Choices.{PlainTree, PlainTrees}
+use Rattle.cap_goal_spec.specs.Roots.{at_entry, home_of, root_env, root_state, stability}
 use Rattle.cap_rules.specs.Making.{env_at}
 use Rattle.cap_rules.specs.Valid.{Valid}
 use Rattle.cap_account.specs.Nodes.{Open}

@@ -14,15 +14,15 @@ use Rattle.cap_lin.proofs.Infeasible.{whole-amount}
 use Rattle.cap_prog.specs.declared.assertion.Comp.{Comp}
 use Rattle.cap_prog.specs.Program.{PlainAssertion, Label, set, branch, check, loop, Block, first, append, PlainFunction}
 use Rattle.cap_prog.specs.Scopes.{whole_numbers, body_scope, fixed_start, HasSort, TermFits, CompFits}
-use Rattle.cap_logic.specs.Terms.{term_over}
-use Rattle.cap_logic.specs.States.{PlainState, Home, PlainTask, to_run, to_turn, to_rest, goal, goal_of, goals_of}
-use Rattle.cap_logic.specs.Environments.{zero_value}
-use Rattle.cap_logic.specs.Choices.{PlainTree, node, by_absurd, by_set, by_assert, by_if, by_turn, PlainTrees}
+use Rattle.cap_goal_spec.specs.Terms.{term_over}
+use Rattle.cap_goal_spec.specs.States.{PlainState, Home, PlainTask, to_run, to_turn, to_rest, goal, goal_of, goals_of}
+use Rattle.cap_goal_spec.specs.Environments.{zero_value}
+use Rattle.cap_goal_spec.specs.Choices.{PlainTree, node, by_absurd, by_set, by_assert, by_if, by_turn, PlainTrees}
 use Rattle.cap_rules.specs.Making.{opposite, in_store, with_local, with_row, row_here}
 use Rattle.cap_rules.specs.Rules.{leaves, branches}
 use Rattle.cap_rules.specs.Attempts.{◌>>=◌, unit, prove}
-use Rattle.cap_run.specs.Machine.{Frame, value_in, holds, with_rest, with_value}
-use Rattle.cap_meaning.specs.Assertions.{NameValue, a_number, a_fraction, IsNamed, AreNamed}
+use Rattle.cap_machine.specs.Machine.{Frame, value_in, holds, with_rest, with_value}
+use Rattle.cap_machine_accounts.specs.Assertions.{NameValue, a_number, a_fraction, IsNamed, AreNamed}
 use Rattle.cap_account.specs.Nodes.{NodePredicate, Comes, Children}
 use Rattle.cap_account.specs.Parts.{Hold, known_as, Table}
 use Rattle.cap_account.proofs.Lists.{some-same, none-some, within, there-is, map-set}

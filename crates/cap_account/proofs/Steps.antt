@@ -7,14 +7,14 @@ use Rattle.cap_lin.specs.Linear.{Linear}
 use Rattle.cap_lin.specs.declared.row.Op.TheVariants.{Eq as Equal}
 use Rattle.cap_prog.specs.declared.assertion.Comp.{Comp}
 use Rattle.cap_prog.specs.Program.{PlainAssertion, Label, set, read, write, cas, alloc, call, fork, branch, loop, check, give_back, Block, done, first, append, PlainFunction}
-use Rattle.cap_run.specs.declared.event.Event.{Event}
-use Rattle.cap_run.specs.declared.event.Event.TheVariants.{Set, Read, Write, Cas, Alloc, Call, Fork, Branch, Assert, Return, End, Failed}
-use Rattle.cap_run.specs.Machine.{Heap, Frame, Configuration, Outcome, next, fault, disabled, Spot, value_in, compared, holds, with_rest, with_value, passes, sets, at_cell, swaps, with_cells, are_free, may_be_at, new_frame, calls, forks, receives, returns, does, statement_step}
-use Rattle.cap_meaning.specs.Parts.{Part, no_part}
-use Rattle.cap_meaning.specs.Assertions.{NameValue, Met}
-use Rattle.cap_meaning.specs.Accounts.{Held}
-use Rattle.cap_meaning.specs.Following.{FramesFollow, accesses, SomeHasCell, Joins}
-use Rattle.cap_meaning.specs.Safety.{top_of, TopFrame, KeepsContracts}
+use Rattle.cap_machine.specs.declared.event.Event.{Event}
+use Rattle.cap_machine.specs.declared.event.Event.TheVariants.{Set, Read, Write, Cas, Alloc, Call, Fork, Branch, Assert, Return, End, Failed}
+use Rattle.cap_machine.specs.Machine.{Heap, Frame, Configuration, Outcome, next, fault, disabled, Spot, value_in, compared, holds, with_rest, with_value, passes, sets, at_cell, swaps, with_cells, are_free, may_be_at, new_frame, calls, forks, receives, returns, does, statement_step}
+use Rattle.cap_machine_accounts.specs.Parts.{Part, no_part}
+use Rattle.cap_machine_accounts.specs.Assertions.{NameValue, Met}
+use Rattle.cap_machine_accounts.specs.Accounts.{Held}
+use Rattle.cap_machine_accounts.specs.Following.{FramesFollow, accesses, SomeHasCell, Joins}
+use Rattle.cap_machine_accounts.specs.Safety.{top_of, TopFrame, KeepsContracts}
 use Rattle.cap_account.specs.Parts.{count_of, cells_of, Hold, hold, nothing, joined, Within, Table, no_regions}
 use Rattle.cap_account.specs.Meeting.{HasRequires}
 use Rattle.cap_account.proofs.Lists.{some-same, none-some, within, get-set-same, get-last, set-length, map-length}

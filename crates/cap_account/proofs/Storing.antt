@@ -9,9 +9,9 @@ use Rattle.cap_lin.specs.declared.row.Kind.TheVariants.{Le}
 use Rattle.cap_lin.specs.declared.row.Sort.TheVariants.{Int}
 use Rattle.cap_farkas.specs.Farkas.{Names, column_sum, column_steps, RefutesLeaf}
 use Rattle.cap_prog.specs.WellFormed.{IsWellFormed}
-use Rattle.cap_logic.specs.States.{PlainGoal, goal}
-use Rattle.cap_logic.specs.Choices.{PlainChoice, by_alloc, by_call, by_cell, by_give, by_act, by_assert, by_return, PlainTree, node, no_trees}
-use Rattle.cap_logic.specs.Roots.{empty_state, roots, function_unit}
+use Rattle.cap_goal_spec.specs.States.{PlainGoal, goal}
+use Rattle.cap_goal_spec.specs.Choices.{PlainChoice, by_alloc, by_call, by_cell, by_give, by_act, by_assert, by_return, PlainTree, node, no_trees}
+use Rattle.cap_goal_spec.specs.Roots.{empty_state, roots, function_unit}
 use Rattle.cap_rules.specs.Rules.{rule}
 use Rattle.cap_rules.specs.Answers.{marks_of, passed}
 use Rattle.cap_rules.specs.Valid.{Derives, Valid}

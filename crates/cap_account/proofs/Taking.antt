@@ -18,9 +18,9 @@ use Rattle.cap_prog.specs.Program as prog
 use Rattle.cap_prog.specs.Parts.{all_items}
 use Rattle.cap_prog.specs.Scopes.{Scope}
 use Rattle.cap_prog.specs.WellFormed.{ItemFits}
-use Rattle.cap_logic.specs.States.{PlainEnv, PlainState, PlainTask, PlainGoal, to_take, goals_of}
-use Rattle.cap_logic.specs.Environments.{term_in}
-use Rattle.cap_logic.specs.Choices.{PlainTree, node, PlainTrees, by_absurd, by_fact, by_cases, by_cell}
+use Rattle.cap_goal_spec.specs.States.{PlainEnv, PlainState, PlainTask, PlainGoal, to_take, goals_of}
+use Rattle.cap_goal_spec.specs.Environments.{term_in}
+use Rattle.cap_goal_spec.specs.Choices.{PlainTree, node, PlainTrees, by_absurd, by_fact, by_cases, by_cell}
 use Rattle.cap_rules.specs.Attempts.{Attempt, unit, ◌>>=◌, prove}
 use Rattle.cap_rules.specs.Making.{determined, prove_equal, match_slot, with_row, row_by, env_at, with_env_at, opposite}
 use Rattle.cap_rules.specs.Rules.{Remaining, goes}

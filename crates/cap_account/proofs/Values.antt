@@ -23,8 +23,8 @@ use Rattle.cap_prog.specs.Program.{PlainItem, compare, choose, fact, atom, cell,
 use Rattle.cap_prog.specs.Parts.{all_items}
 use Rattle.cap_prog.specs.Scopes.{Scope, HasSort, TermFits, SlotFits, CompFits}
 use Rattle.cap_prog.specs.WellFormed.{ItemFits}
-use Rattle.cap_meaning.specs.Assertions.{CompHolds, SlotIs, NameValue, a_number, a_fraction, IsNamed, AreNamed, AreWhole}
-use Rattle.cap_logic.specs.States.{PlainState}
+use Rattle.cap_machine_accounts.specs.Assertions.{CompHolds, SlotIs, NameValue, a_number, a_fraction, IsNamed, AreNamed, AreWhole}
+use Rattle.cap_goal_spec.specs.States.{PlainState}
 use Rattle.cap_rules.specs.Making.{opposite}
 use Rattle.cap_account.specs.Parts.{Hold, Table, one_cell, SpendsOne, Spends}
 use Rattle.cap_account.proofs.Lists.{none-some, some-same, all-first, all-second}

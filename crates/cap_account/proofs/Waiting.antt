@@ -2,8 +2,8 @@
 -- callees.
 use Rattle.std.specs.Prelude.{◌≡◌, ℕ, ℤ, List, slice_get, Option, Some}
 use Rattle.cap_prog.specs.Program.{PlainAssertion, PlainFunction}
-use Rattle.cap_run.specs.Machine.{Frame, receives}
-use Rattle.cap_meaning.specs.Assertions.{NameValue, ValuesFit}
+use Rattle.cap_machine.specs.Machine.{Frame, receives}
+use Rattle.cap_machine_accounts.specs.Assertions.{NameValue, ValuesFit}
 use Rattle.cap_account.specs.Parts.{Hold, joined, Within, Table}
 use Rattle.cap_account.specs.Meeting.{HasRequires, HasEnsures, HasInvariant}
 use Rattle.cap_account.proofs.Checked.{Checked}

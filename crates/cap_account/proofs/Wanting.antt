@@ -8,8 +8,8 @@ use Rattle.cap_lin.specs.Solves.{value_by_sort, IsWholeAt}
 use Rattle.cap_lin.specs.declared.row.Sort.{Sort}
 use Rattle.cap_lin.specs.declared.row.Sort.TheVariants.{Int, Perm}
 use Rattle.cap_prog.specs.Scopes.{Scope, HasSort, TermFits}
-use Rattle.cap_logic.specs.Terms.{term_over, variables_from}
-use Rattle.cap_logic.specs.Environments.{zero_value}
+use Rattle.cap_goal_spec.specs.Terms.{term_over, variables_from}
+use Rattle.cap_goal_spec.specs.Environments.{zero_value}
 use Rattle.cap_rules.specs.Resting.{Names, names_below}
 use Rattle.cap_account.proofs.Lists.{some-same, none-some, within, there-is, get-join}
 use Rattle.cap_account.proofs.Terms.{Vars, Over, vars-more, over-over, by_terms, value-is, amount-is, number-over, Agree, agree-same, agree-trans, agree-less, sum-agree, value-agree, amount-agree}

@@ -2,11 +2,11 @@
 use Rattle.std.specs.Prelude.{◌≡◌, ℕ, ℤ, List, [], length, slice_get, Option, Some}
 use Rattle.cap_prog.specs.Program.{PlainFunction, PlainProgram}
 use Rattle.cap_prog.specs.WellFormed.{IsWellFormed}
-use Rattle.cap_logic.specs.States.{PlainState, PlainTask}
-use Rattle.cap_logic.specs.Choices.{PlainTree}
+use Rattle.cap_goal_spec.specs.States.{PlainState, PlainTask}
+use Rattle.cap_goal_spec.specs.Choices.{PlainTree}
 use Rattle.cap_rules.specs.Valid.{Valid}
-use Rattle.cap_meaning.specs.Assertions.{NameValue, ValuesFit}
-use Rattle.cap_meaning.specs.Safety.{Safe}
+use Rattle.cap_machine_accounts.specs.Assertions.{NameValue, ValuesFit}
+use Rattle.cap_machine_accounts.specs.Safety.{Safe}
 use Rattle.cap_account.specs.Parts.{Hold, Table}
 use Rattle.cap_account.specs.Meeting.{HasRequires}
 use Rattle.cap_account.specs.Nodes.{IsNode, Deriving}

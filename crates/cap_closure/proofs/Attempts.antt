@@ -7,19 +7,19 @@ use Rattle.cap_lin.specs.Steps.{Step, first_wide, replaced_steps}
 use Rattle.cap_lin.specs.declared.error.LinError.{LinError}
 use Rattle.cap_lin.specs.declared.row.Row.{Row}
 use Rattle.cap_lin.proofs.Results.{first-narrow}
-use Rattle.cap_logic.specs.States.{PlainState}
+use Rattle.cap_goal_spec.specs.States.{PlainState}
 use Rattle.cap_rules.specs.Attempts.{owed, Event, makes, claims, Attempt, unit, go_on, behind, ◌>>=◌, computed, prove}
 use Rattle.cap_rules.specs.Answers.{steps_of, owed_lists, answer_unless, lists_if, proofs_of}
 use Rattle.cap_rules.specs.Resting.{prove_at}
-use Rattle.cap_offering.specs.Deciding.{PlainNotes, decided_all, certified_by, certified, succeeds}
-use Rattle.cap_offering.proofs.Trying.{Runs, proofs-come}
-use Rattle.cap_steps.specs.declared.error.RuleError.{RuleError}
-use Rattle.cap_steps.specs.declared.error.RuleError.TheVariants.{NotApplicable, Wide, OutOfMemory}
-use Rattle.cap_steps.specs.Errors.{rule_error}
-use Rattle.cap_steps.specs.Judging.{IsTold}
-use Rattle.cap_steps.specs.Walks.{Makes, Claims, giving, Ends, Standing, walk, owing}
-use Rattle.cap_steps.proofs.Walking.{weaker, unmade_claims, wide_claims, all_narrow}
-use Rattle.cap_steps.proofs.Judges.{told-ok, told-error}
+use Rattle.cap_offer_spec.specs.Deciding.{PlainNotes, decided_all, certified_by, certified, succeeds}
+use Rattle.cap_offer_spec.proofs.Trying.{Runs, proofs-come}
+use Rattle.cap_rules_steps.specs.declared.error.RuleError.{RuleError}
+use Rattle.cap_rules_steps.specs.declared.error.RuleError.TheVariants.{NotApplicable, Wide, OutOfMemory}
+use Rattle.cap_rules_steps.specs.Errors.{rule_error}
+use Rattle.cap_rules_steps.specs.Judging.{IsTold}
+use Rattle.cap_rules_steps.specs.Walks.{Makes, Claims, giving, Ends, Standing, walk, owing}
+use Rattle.cap_rules_steps.proofs.Walking.{weaker, unmade_claims, wide_claims, all_narrow}
+use Rattle.cap_rules_steps.proofs.Judges.{told-ok, told-error}
 use Rattle.cap_closure.specs.Tested.{without_value}
 
 abbrev Lists : Type 0

@@ -9,16 +9,16 @@ use Rattle.cap_closure.specs.Views.{listed_of, list_view}
 use Rattle.std.specs.Prelude.{◌==◌, option_to_list, Result, Ok, Err, IfOk}
 use Rattle.std.specs.declared.alloc.AllocError.{AllocError}
 use Rattle.cap_lin.specs.declared.row.Row.{Row}
-use Rattle.cap_logic.specs.States.{PlainFact, PlainState}
-use Rattle.cap_logic.specs.Candidates.{MadeRow, candidates, PlainCandidate, known, past, candidate_of}
+use Rattle.cap_goal_spec.specs.States.{PlainFact, PlainState}
+use Rattle.cap_goal_spec.specs.Candidates.{MadeRow, candidates, PlainCandidate, known, past, candidate_of}
 use Rattle.cap_rules.specs.Resting.{prove_at}
-use Rattle.cap_offering.specs.Deciding.{PlainNotes, Outcome, Noted, succeeds}
+use Rattle.cap_offer_spec.specs.Deciding.{PlainNotes, Outcome, Noted, succeeds}
 use Rattle.cap_prog.specs.declared.region.Action.{Action}
 use Rattle.cap_prog.specs.Program.{PlainAction, PlainRegionType}
 use Rattle.cap_prog.specs.Views.{action_view}
-use Rattle.cap_offering.specs.Claims.{keeps_after}
-use Rattle.cap_offering.specs.Closures.{Listed, listed, kept_if, started_by, rows_of, numbers_of, started, and_also, survives, surviving, unless_all, rounds, closed_list}
-use Rattle.cap_decide.specs.Noting.{Adds}
+use Rattle.cap_offer_spec.specs.Claims.{keeps_after}
+use Rattle.cap_offer_spec.specs.Closures.{Listed, listed, kept_if, started_by, rows_of, numbers_of, started, and_also, survives, surviving, unless_all, rounds, closed_list}
+use Rattle.cap_closure_decide.specs.Noting.{Adds}
 use Rattle.cap_closure.specs.Tested.{listed_if, started_one, started_from}
 
 -- ---- what is decided and noted in the same way

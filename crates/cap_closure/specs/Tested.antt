@@ -1,13 +1,13 @@
 -- The candidates that hold at present, one after the other.
 use Rattle.std.specs.Prelude.{ℕ, ◌+◌, Bool, true, false, List, [], ◌∷◌, ◌++◌, option_map, option_to_list, Option, Some, None}
 use Rattle.cap_lin.specs.declared.row.Row.{Row}
-use Rattle.cap_elim.specs.Events.{wide}
-use Rattle.cap_logic.specs.States.{PlainFact, PlainState}
-use Rattle.cap_logic.specs.Candidates.{PlainCandidate, known, past}
+use Rattle.cap_fm_spec.specs.Events.{wide}
+use Rattle.cap_goal_spec.specs.States.{PlainFact, PlainState}
+use Rattle.cap_goal_spec.specs.Candidates.{PlainCandidate, known, past}
 use Rattle.cap_rules.specs.Attempts.{Attempt}
 use Rattle.cap_rules.specs.Resting.{prove_at}
-use Rattle.cap_offering.specs.Deciding.{Noted, done, note, ◌>>=◌, succeeds}
-use Rattle.cap_offering.specs.Closures.{Listed, listed}
+use Rattle.cap_offer_spec.specs.Deciding.{Noted, done, note, ◌>>=◌, succeeds}
+use Rattle.cap_offer_spec.specs.Closures.{Listed, listed}
 
 abbrev pub listed_if : Bool → ℕ → Row → Option Listed
 listed_if true i r = Some (listed i r)

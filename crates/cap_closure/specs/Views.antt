@@ -1,7 +1,7 @@
 -- What contracts see of candidates that are still in the list, and of closures.
 use Rattle.std.specs.Prelude.{List, map}
-use Rattle.cap_offering.specs.Closures.{Listed, listed, PlainClosure, keeps, settles}
-use Rattle.cap_decide.specs.Noting.{certs_seen}
+use Rattle.cap_offer_spec.specs.Closures.{Listed, listed, PlainClosure, keeps, settles}
+use Rattle.cap_closure_decide.specs.Noting.{certs_seen}
 use Rattle.cap_closure.specs.declared.starting.Listed as code
 use Rattle.cap_closure.specs.declared.closing.Closure.{Closure}
 use Rattle.cap_closure.specs.declared.closing.Closure.TheVariants.{Keeps, Settles}

@@ -1,18 +1,18 @@
 ghost use Rattle.std.specs.Prelude.{◌≡◌, ◌≤◌, ◌<◌, length, slice_get, Some, IfOk};
 ghost use Rattle.cap_prog.specs.Program.{PlainRegionType};
 ghost use Rattle.cap_prog.specs.Views.{region_view, program_view};
-ghost use Rattle.cap_logic.specs.States.{PlainFact, longest_list};
-ghost use Rattle.cap_logic.specs.Fits.{StateFits};
-ghost use Rattle.cap_offering.specs.Deciding.{clean};
-ghost use Rattle.cap_offering.specs.Closures.{numbers_of as numbers_in, closed_list as list_closed};
-ghost use Rattle.cap_offering.specs.Closures.{settled as settled_by_list, closure as plain_closure};
-ghost use Rattle.cap_decide.specs.Noting.{Adds};
+ghost use Rattle.cap_goal_spec.specs.States.{PlainFact, longest_list};
+ghost use Rattle.cap_goal_spec.specs.Fits.{StateFits};
+ghost use Rattle.cap_offer_spec.specs.Deciding.{clean};
+ghost use Rattle.cap_offer_spec.specs.Closures.{numbers_of as numbers_in, closed_list as list_closed};
+ghost use Rattle.cap_offer_spec.specs.Closures.{settled as settled_by_list, closure as plain_closure};
+ghost use Rattle.cap_closure_decide.specs.Noting.{Adds};
 ghost use Rattle.cap_closure.specs.Views.{list_view, closure_view};
 
 use crate::settling::{keep_certs, settle_certs};
 use crate::starting::{Listed, started};
 use crate::surviving::rounds;
-use cap_decide::Notes;
+use cap_closure_decide::Notes;
 use cap_farkas::Cert;
 use cap_goal::{Fact, State};
 use cap_prog::{Program, RegionType};
@@ -105,7 +105,7 @@ fn settled(
 /// each action of the others, by what is known of the whole list; those that fail a round leave at
 /// its end. A decision or a term that passes a limit is noted, the first of each kind, and counts
 /// as not proved.
-#[tactic(auto, unfolding(cap_offering::specs::Closures::closure))]
+#[tactic(auto, unfolding(cap_offer_spec::specs::Closures::closure))]
 pub fn closure_of(
     alloc: Global,
     region: &RegionType,

@@ -1,19 +1,19 @@
 //! The certificates with which a fact keeps its state, or is settled by candidates.
 ghost use Rattle.std.specs.Prelude.{◌≡◌, ◌≤◌, ◌<◌, length, IfOk};
 ghost use Rattle.cap_prog.specs.Views.{region_view};
-ghost use Rattle.cap_logic.specs.States.{longest_list};
+ghost use Rattle.cap_goal_spec.specs.States.{longest_list};
 ghost use Rattle.cap_rules.specs.Resting.{keep as kept, settle as settled};
-ghost use Rattle.cap_offering.specs.Deciding.{certified as certified_attempt};
-ghost use Rattle.cap_steps.specs.Walks.{Claims, giving};
-ghost use Rattle.cap_decide.specs.Noting.{Adds, certs_seen};
+ghost use Rattle.cap_offer_spec.specs.Deciding.{certified as certified_attempt};
+ghost use Rattle.cap_rules_steps.specs.Walks.{Claims, giving};
+ghost use Rattle.cap_closure_decide.specs.Noting.{Adds, certs_seen};
 ghost use Rattle.cap_closure.specs.Tested.{without_value};
 
-use cap_decide::{Notes, certified};
+use cap_closure_decide::{Notes, certified};
 use cap_farkas::Cert;
 use cap_goal::{Fact, State};
 use cap_prog::RegionType;
+use cap_rules_steps::{Ledger, RuleError};
 use cap_stab::{keep, settle};
-use cap_steps::{Ledger, RuleError};
 use std::alloc::{AllocError, Global};
 
 // Claims that the state of a fact is the same after each action.

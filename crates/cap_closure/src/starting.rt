@@ -1,14 +1,14 @@
 //! The candidates that are proved with the present state.
 ghost use Rattle.std.specs.Prelude.{◌≡◌, ◌≤◌, ◌+◌, length, drop, option_map, IfOk};
-ghost use Rattle.cap_logic.specs.States.{longest_list};
-ghost use Rattle.cap_logic.specs.Candidates.{known};
-ghost use Rattle.cap_decide.specs.Noting.{Adds};
+ghost use Rattle.cap_goal_spec.specs.States.{longest_list};
+ghost use Rattle.cap_goal_spec.specs.Candidates.{known};
+ghost use Rattle.cap_closure_decide.specs.Noting.{Adds};
 ghost use Rattle.cap_stab.specs.Views.{candidate_view, candidates_view};
 ghost use Rattle.cap_closure.specs.Tested.{started_one as one_started, started_from};
 ghost use Rattle.cap_closure.specs.Views.{listed_of, list_view};
 
 use crate::testing::proves_at;
-use cap_decide::Notes;
+use cap_closure_decide::Notes;
 use cap_goal::{Fact, State};
 use cap_lin::Row;
 use cap_stab::Candidate;

@@ -1,16 +1,16 @@
 //! Rounds, in which the candidates leave that are not proved after each action of others.
 ghost use Rattle.std.specs.Prelude.{◌≡◌, ◌≤◌, length, map, IfOk};
 ghost use Rattle.cap_prog.specs.Views.{action_view, region_view};
-ghost use Rattle.cap_logic.specs.States.{longest_list};
-ghost use Rattle.cap_logic.specs.Candidates.{later_state as later_of};
-ghost use Rattle.cap_offering.specs.Closures.{rows_of as rows_in, survives as survival};
-ghost use Rattle.cap_offering.specs.Closures.{surviving as survivors, rounds as rounds_of};
-ghost use Rattle.cap_decide.specs.Noting.{Adds};
+ghost use Rattle.cap_goal_spec.specs.States.{longest_list};
+ghost use Rattle.cap_goal_spec.specs.Candidates.{later_state as later_of};
+ghost use Rattle.cap_offer_spec.specs.Closures.{rows_of as rows_in, survives as survival};
+ghost use Rattle.cap_offer_spec.specs.Closures.{surviving as survivors, rounds as rounds_of};
+ghost use Rattle.cap_closure_decide.specs.Noting.{Adds};
 ghost use Rattle.cap_closure.specs.Views.{list_view};
 
 use crate::starting::Listed;
 use crate::testing::keeps_after;
-use cap_decide::Notes;
+use cap_closure_decide::Notes;
 use cap_goal::{Fact, State};
 use cap_lin::{Row, Term};
 use cap_prog::{Action, RegionType};
@@ -28,7 +28,7 @@ fn rows_of(alloc: Global, list: &[Listed]) -> Result<Vec<Row>, AllocError>
 
 // Whether a candidate's row is proved after each of these actions, where these rows are known
 // before it; up to the first after which it isn't.
-#[tactic(auto, unfolding(cap_offering::specs::Closures::survives))]
+#[tactic(auto, unfolding(cap_offer_spec::specs::Closures::survives))]
 fn survives(
     alloc: Global,
     region: &RegionType,
@@ -54,7 +54,7 @@ fn survives(
 }
 
 // The candidates that survive, where these rows are known before each action.
-#[tactic(auto, unfolding(cap_offering::specs::Closures::surviving))]
+#[tactic(auto, unfolding(cap_offer_spec::specs::Closures::surviving))]
 fn surviving(
     alloc: Global,
     region: &RegionType,
@@ -113,7 +113,7 @@ fn round(
 
 /// The candidates that the rounds leave. There are no more rounds than candidates, since each but
 /// the last takes one out.
-#[tactic(auto, unfolding(cap_offering::specs::Closures::rounds))]
+#[tactic(auto, unfolding(cap_offer_spec::specs::Closures::rounds))]
 pub fn rounds(
     alloc: Global,
     region: &RegionType,

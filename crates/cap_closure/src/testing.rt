@@ -5,21 +5,21 @@ ghost use Rattle.cap_lin.specs.Exact.{IsExact};
 ghost use Rattle.cap_lin.specs.Linear.{replaced as replaced_term};
 ghost use Rattle.cap_lin.specs.Steps.{replaced_steps};
 ghost use Rattle.cap_prog.specs.Views.{action_view, region_view};
-ghost use Rattle.cap_logic.specs.States.{longest_list};
-ghost use Rattle.cap_logic.specs.Candidates.{later_state as later_of};
+ghost use Rattle.cap_goal_spec.specs.States.{longest_list};
+ghost use Rattle.cap_goal_spec.specs.Candidates.{later_state as later_of};
 ghost use Rattle.cap_rules.specs.Resting.{prove_at, prove_closed as closed_claims};
-ghost use Rattle.cap_offering.specs.Claims.{keeps_after as kept_after};
-ghost use Rattle.cap_offering.specs.Deciding.{succeeds};
+ghost use Rattle.cap_offer_spec.specs.Claims.{keeps_after as kept_after};
+ghost use Rattle.cap_offer_spec.specs.Deciding.{succeeds};
 ghost use Rattle.cap_stab.specs.Asking.{rows_seen};
-ghost use Rattle.cap_decide.specs.Noting.{Adds};
+ghost use Rattle.cap_closure_decide.specs.Noting.{Adds};
 ghost use Rattle.std.specs.Prelude.{length, Some};
 
-use cap_decide::{Notes, proves};
+use cap_closure_decide::{Notes, proves};
 use cap_goal::{Fact, State};
 use cap_lin::{LinError, Row, Term};
 use cap_prog::{Action, RegionType};
+use cap_rules_steps::{RuleError, value_over};
 use cap_stab::{action_names, action_system};
-use cap_steps::{RuleError, value_over};
 use std::alloc::{AllocError, Global};
 
 // The row with this term in the place of a variable.

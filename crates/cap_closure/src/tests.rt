@@ -1,7 +1,7 @@
 ghost use Rattle.std.specs.Prelude.{◌≡◌, length, IfOk};
 
 use crate::{Closure, closure_of};
-use cap_decide::Notes;
+use cap_closure_decide::Notes;
 use cap_galg::Algebra;
 use cap_goal::{Fact, State};
 use cap_lin::{LinError, Sort, Term};

@@ -1,7 +1,7 @@
 -- The choices so far, in front of what is left.
 use Rattle.std.proofs.Common.{◌≡◌, ℕ, suc, List, [], ◌∷◌, ◌++◌, map, Err, refl, ap, ◌∙◌}
 use Rattle.std.proofs.lemmas.List.{map_push}
-use Rattle.cap_logic.specs.Choices.{PlainChoice}
+use Rattle.cap_goal_spec.specs.Choices.{PlainChoice}
 use Rattle.cap_deriv.specs.Told.{choices_told, Told, all_told, bad_told, unended_told, too_many_told, choice_told, Opening, opening_told}
 use Rattle.cap_deriv.specs.Telling.{Tells}
 use Rattle.cap_goal.specs.Views.{choice_view}

@@ -5,7 +5,7 @@ use Rattle.std.proofs.lemmas.Slice.Eq.{bytes_eq-Decides}
 use Rattle.json.specs.Token.{Token}
 use Rattle.json.specs.Json.{Parse}
 use Rattle.serde_json.specs.Data.{Data}
-use Rattle.cap_logic.specs.Choices.{PlainChoice, by_absurd, by_clash, by_set, by_alloc, by_assert, by_if, by_loop, by_turn, by_call, by_fork, by_return, by_enter, by_act, by_pick, by_shift, by_settle, by_keep, by_give, by_fact, by_cases, by_cell, by_region, by_guard, by_convert, by_create, by_made}
+use Rattle.cap_goal_spec.specs.Choices.{PlainChoice, by_absurd, by_clash, by_set, by_alloc, by_assert, by_if, by_loop, by_turn, by_call, by_fork, by_return, by_enter, by_act, by_pick, by_shift, by_settle, by_keep, by_give, by_fact, by_cases, by_cell, by_region, by_guard, by_convert, by_create, by_made}
 use Rattle.cap_deriv.specs.Reading.{row_of_word, number_of_json, numbers_of_json, cert_of_json, certs_of_json, marks_of_json, choices_of_none, choices_of_one, choices_of_two, choices_of_three, choice_of_items}
 use Rattle.cap_deriv.specs.Taking.{take_close, take_number, take_numbers, take_cert, take_certs, take_marks, take_none, take_one, take_two, take_three, take_by_three, take_by_two, take_by_one, take_by_word, take_choice}
 use Rattle.cap_deriv.proofs.ReadAs.{ReadsData, list_as, ReadsItems}

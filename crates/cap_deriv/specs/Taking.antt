@@ -6,7 +6,7 @@ use Rattle.serde_json.specs.Find.{as_u64}
 use Rattle.serde_json.specs.Read.{number_of}
 use Rattle.cap_farkas.specs.declared.cert.Cert.{Cert}
 use Rattle.cap_farkas.specs.declared.cert.Cert.TheVariants.{Leaf, Split}
-use Rattle.cap_logic.specs.Choices.{PlainChoice, by_absurd, by_clash, by_set, by_alloc, by_assert, by_if, by_loop, by_turn, by_call, by_fork, by_return, by_enter, by_act, by_pick, by_shift, by_settle, by_keep, by_give, by_fact, by_cases, by_cell, by_region, by_guard, by_convert, by_create, by_made}
+use Rattle.cap_goal_spec.specs.Choices.{PlainChoice, by_absurd, by_clash, by_set, by_alloc, by_assert, by_if, by_loop, by_turn, by_call, by_fork, by_return, by_enter, by_act, by_pick, by_shift, by_settle, by_keep, by_give, by_fact, by_cases, by_cell, by_region, by_guard, by_convert, by_create, by_made}
 use Rattle.cap_deriv.specs.Reading.{below_limit, multiplier_text}
 use Rattle.cap_deriv.specs.Told.{PlainLine, choice_line, end_line}
 

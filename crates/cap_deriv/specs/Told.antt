@@ -1,7 +1,7 @@
 -- The lines of bytes, and what they tell, from the first to the last.
 use Rattle.std.specs.Prelude.{ℕ, ◌+◌, ◌==◌, nat_lt, List, [], ◌∷◌, Option, Some, None, option_map, option_and_then, if◌then◌else◌}
 use Rattle.serde_json.specs.Data.{Data}
-use Rattle.cap_logic.specs.Choices.{PlainChoice}
+use Rattle.cap_goal_spec.specs.Choices.{PlainChoice}
 use Rattle.cap_deriv.specs.Reading.{json_of_bytes, choice_of_json, opening_of_json, closing_of_json}
 
 -- lines end by LF; that of the last may be missing

@@ -5,10 +5,10 @@ use Rattle.std.proofs.lemmas.Bool.Decides.{nat_tests}
 use Rattle.indexmap.specs.IndexSet.{insert_key}
 use Rattle.cap_lin.specs.Linear.{Linear}
 use Rattle.cap_lin.specs.declared.row.Kind.{Kind}
-use Rattle.cap_elim.specs.Events.{many, first_limit, counted}
-use Rattle.cap_elim.specs.Runs as plain
-use Rattle.cap_elim.specs.Runs.{going, done}
-use Rattle.cap_elim.specs.Rows.{same_row, has_arisen, count}
+use Rattle.cap_fm_spec.specs.Events.{many, first_limit, counted}
+use Rattle.cap_fm_spec.specs.Runs as plain
+use Rattle.cap_fm_spec.specs.Runs.{going, done}
+use Rattle.cap_fm_spec.specs.Rows.{same_row, has_arisen, count}
 use Rattle.cap_fm.specs.Views.{history_view, stage_view, row_number, IsStageOf}
 use Rattle.cap_fm.specs.Answers.{Is, IsCounted}
 use Rattle.cap_fm.specs.Entries.{Entry}

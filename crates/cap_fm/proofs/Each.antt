@@ -2,7 +2,7 @@
 use Rattle.std.proofs.Common.{◌<◌, ◌+◌, ℕ, zero, suc, arith, List, [], ◌∷◌, length, get_or, take}
 use Rattle.std.specs.List.{AllByRecursion}
 use Rattle.std.proofs.lemmas.List.{take_more}
-use Rattle.cap_elim.proofs.Lists.{each-join}
+use Rattle.cap_fm_spec.proofs.Lists.{each-join}
 
 pub each-more : {X : Type 0} (P : X → Type 0) (xs : List X) (i : ℕ) (d : X) → i < length xs → P (get_or xs i d) → AllByRecursion P (take i xs) → AllByRecursion P (take (i + 1) xs)
 each-more P xs i d l p f = rw (take_more xs i d l) (each-join P (take i xs) (get_or xs i d ∷ []) f (p, tt))

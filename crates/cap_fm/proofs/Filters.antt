@@ -5,7 +5,7 @@ use Rattle.std.proofs.lemmas.Int.{ints}
 use Rattle.std.proofs.lemmas.List.Elements.{filter-append}
 use Rattle.cap_lin.specs.Linear.{coefficient}
 use Rattle.cap_lin.proofs.Results.{is_zero-yes, is_zero-no}
-use Rattle.cap_elim.specs.Rows.{is_positive, is_negative}
+use Rattle.cap_fm_spec.specs.Rows.{is_positive, is_negative}
 use Rattle.cap_fm.specs.Views.{entry_of, entries_of, lacking_rows, upper_rows, lower_rows}
 use Rattle.cap_fm.specs.Entries.{Entry}
 use Rattle.cap_fm.specs.declared.entry.Present.{Present}

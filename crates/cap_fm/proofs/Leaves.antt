@@ -15,8 +15,8 @@ use Rattle.cap_lin.proofs.Ascend.{multiple-ascends}
 use Rattle.cap_lin.proofs.Places.{coefficient-other, coefficient-nil, at_place}
 use Rattle.cap_lin.proofs.Values.{coefficient-multiples}
 use Rattle.cap_lin.proofs.Combinations.{combination-coefficient, combination-ascends}
-use Rattle.cap_elim.specs.Runs.{Origin, given, combined, Entry}
-use Rattle.cap_elim.specs.Leaf.{multipliers_of, multipliers, way_steps, is_turned, turned, turned_steps, check_steps, leaf, leaf_steps}
+use Rattle.cap_fm_spec.specs.Runs.{Origin, given, combined, Entry}
+use Rattle.cap_fm_spec.specs.Leaf.{multipliers_of, multipliers, way_steps, is_turned, turned, turned_steps, check_steps, leaf, leaf_steps}
 use Rattle.cap_fm.specs.declared.entry.Origin as entry
 use Rattle.cap_fm.specs.declared.entry.Origin.TheVariants.{Given, Combined}
 use Rattle.cap_fm.specs.declared.error.SolveError.{SolveError}

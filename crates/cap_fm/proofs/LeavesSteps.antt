@@ -12,8 +12,8 @@ use Rattle.cap_lin.specs.declared.row.Kind.TheVariants.{Le, Lt, Eq, Ne}
 use Rattle.cap_lin.proofs.Merge.{no_part}
 use Rattle.cap_farkas.specs.Farkas.{row_at}
 use Rattle.cap_lin.proofs.Results.{first-wide, first-narrow, first_wide-nil}
-use Rattle.cap_elim.specs.Runs.{Origin, given, combined}
-use Rattle.cap_elim.specs.Leaf.{own_steps, is_turned, turned, turned_steps, check_steps}
+use Rattle.cap_fm_spec.specs.Runs.{Origin, given, combined}
+use Rattle.cap_fm_spec.specs.Leaf.{own_steps, is_turned, turned, turned_steps, check_steps}
 use Rattle.cap_fm.specs.declared.error.SolveError.{SolveError}
 use Rattle.cap_fm.specs.declared.error.SolveError.TheVariants as error
 use Rattle.cap_fm.specs.Answers.{ExplainsSteps}

@@ -6,8 +6,8 @@ use Rattle.std.proofs.lemmas.List.{get_or_read, length_push}
 use Rattle.cap_lin.specs.Linear.{Linear}
 use Rattle.cap_lin.specs.Steps.{Step, first_wide}
 use Rattle.cap_lin.proofs.Results.{first_wide-nil, first-narrow}
-use Rattle.cap_elim.specs.Runs.{Origin}
-use Rattle.cap_elim.specs.Leaf.{multipliers_of, multipliers, own_steps, way_steps}
+use Rattle.cap_fm_spec.specs.Runs.{Origin}
+use Rattle.cap_fm_spec.specs.Leaf.{multipliers_of, multipliers, own_steps, way_steps}
 use Rattle.cap_fm.specs.declared.entry.Origin as entry
 use Rattle.cap_fm.specs.declared.entry.Origin.TheVariants.{Given}
 use Rattle.cap_fm.specs.declared.error.SolveError.{SolveError}

@@ -7,8 +7,8 @@ use Rattle.std.proofs.lemmas.Bool.{eq-eqb, ne_eqb, false≢true, cases_Bool, cas
 use Rattle.std.proofs.lemmas.Bool.Decides.{nat_tests}
 use Rattle.cap_lin.specs.Linear.{Linear, number}
 use Rattle.cap_lin.specs.Steps.{Step}
-use Rattle.cap_elim.specs.Runs.{Origin, given, combined}
-use Rattle.cap_elim.specs.Leaf.{multipliers_of, multipliers, and_its_rows, own_steps, way_steps}
+use Rattle.cap_fm_spec.specs.Runs.{Origin, given, combined}
+use Rattle.cap_fm_spec.specs.Leaf.{multipliers_of, multipliers, and_its_rows, own_steps, way_steps}
 use Rattle.cap_fm.specs.declared.entry.Origin as entry
 use Rattle.cap_fm.specs.declared.entry.Origin.TheVariants.{Given}
 use Rattle.cap_fm.specs.Views.{origin_view, history_view}

@@ -5,9 +5,9 @@ use Rattle.cap_lin.specs.Linear.{Linear, same_term}
 use Rattle.cap_lin.specs.Laws.Sameness.{same_term-decides}
 use Rattle.cap_lin.specs.declared.row.Kind.{Kind}
 use Rattle.cap_lin.specs.declared.row.Kind.TheVariants.{Le, Lt, Eq, Ne}
-use Rattle.cap_elim.specs.Rows.{same_kind, same_row, has_arisen}
+use Rattle.cap_fm_spec.specs.Rows.{same_kind, same_row, has_arisen}
 use Rattle.cap_fm.specs.Views.{row_number}
-use Rattle.cap_elim.proofs.Arising.{both-true, same-kind}
+use Rattle.cap_fm_spec.proofs.Arising.{both-true, same-kind}
 use Rattle.cap_fm.proofs.Booleans.{true_or_false, or-later, or-none}
 
 -- ---- equal rows

@@ -9,10 +9,10 @@ use Rattle.cap_lin.specs.Steps.{first_wide, combination_steps}
 use Rattle.cap_lin.specs.Exact as lin
 use Rattle.cap_lin.specs.declared.row.Kind.{Kind}
 use Rattle.cap_lin.specs.declared.error.LinError.{LinError}
-use Rattle.cap_elim.specs.Events.{first_limit}
-use Rattle.cap_elim.specs.Runs as plain
-use Rattle.cap_elim.specs.Runs.{Run, going, contradiction, done, results, Elimination, ◌>>=◌}
-use Rattle.cap_elim.specs.Rows.{same_row, has_arisen, is_present, is_false, are_some, has_parts, count, keep, fail, look, arise, arise_combined, combine}
+use Rattle.cap_fm_spec.specs.Events.{first_limit}
+use Rattle.cap_fm_spec.specs.Runs as plain
+use Rattle.cap_fm_spec.specs.Runs.{Run, going, contradiction, done, results, Elimination, ◌>>=◌}
+use Rattle.cap_fm_spec.specs.Rows.{same_row, has_arisen, is_present, is_false, are_some, has_parts, count, keep, fail, look, arise, arise_combined, combine}
 use Rattle.cap_fm.specs.Errors.{solve_error}
 use Rattle.cap_fm.specs.Views.{origin_view, history_view, stage_view, entry_view, entries_view, row_number, IsNumbered, IsOrigin, IsHistory, IsStageOf, IsLast, Grows}
 use Rattle.cap_fm.specs.Answers.{Is, Same, IsCounted, DoesArise, Explains, ExplainsSteps}

@@ -3,10 +3,10 @@ use Rattle.std.proofs.Common.{◌≡◌, ℕ, ◌+◌, ◌<◌, ◌≤◌, List,
 use Rattle.std.specs.Prelude.{filter}
 use Rattle.std.proofs.lemmas.List.{drop_more, drop_all, map-append}
 use Rattle.cap_lin.specs.Linear.{is_zero, coefficient}
-use Rattle.cap_elim.specs.Runs as plain
-use Rattle.cap_elim.specs.Runs.{Run, Elimination, going, contradiction, done, ◌>>=◌}
-use Rattle.cap_elim.specs.Rows.{of_row, is_positive, is_negative}
-use Rattle.cap_elim.specs.Elimination.{combine_bounds, combine_each, combine_all}
+use Rattle.cap_fm_spec.specs.Runs as plain
+use Rattle.cap_fm_spec.specs.Runs.{Run, Elimination, going, contradiction, done, ◌>>=◌}
+use Rattle.cap_fm_spec.specs.Rows.{of_row, is_positive, is_negative}
+use Rattle.cap_fm_spec.specs.Elimination.{combine_bounds, combine_each, combine_all}
 use Rattle.cap_fm.specs.Entries.{Entry}
 use Rattle.cap_fm.specs.declared.entry.Present.{Present}
 use Rattle.cap_fm.specs.declared.entry.FalseRow.{FalseRow}
@@ -15,7 +15,7 @@ use Rattle.cap_fm.specs.declared.stage.Stage.{Stage}
 use Rattle.cap_fm.specs.declared.error.SolveError.{SolveError}
 use Rattle.cap_fm.specs.Views.{upper_rows, lower_rows, stage_view, entry_view, entries_view, entry_of, false_view, lacking_rows, IsStageOf, IsLast, Grows, IsNumbered, AreNumbered}
 use Rattle.cap_fm.specs.Answers.{AllBounds, Explains, Is, Same, Arises, OnlyLeaves}
-use Rattle.cap_elim.proofs.Lists.{each-filter}
+use Rattle.cap_fm_spec.proofs.Lists.{each-filter}
 use Rattle.cap_fm.proofs.Stages.{all-grow}
 use Rattle.cap_fm.proofs.Runs.{then-continues, then-stops, then-fails, same-is, same-explains, same-then, same-refl}
 use Rattle.cap_fm.proofs.Runs.{done-is}

@@ -9,7 +9,7 @@ use Rattle.cap_lin.specs.declared.row.Kind.{Kind}
 use Rattle.cap_lin.specs.declared.row.Kind.TheVariants.{Eq}
 use Rattle.cap_lin.proofs.Results.{is_zero-no}
 use Rattle.cap_lin.proofs.Places.{coefficient-nil, coefficient-same, coefficient-other}
-use Rattle.cap_elim.specs.Elimination.{chosen, occurring, is_unit, unit_variable, pivot, or_later, first_pivot}
+use Rattle.cap_fm_spec.specs.Elimination.{chosen, occurring, is_unit, unit_variable, pivot, or_later, first_pivot}
 use Rattle.cap_fm.specs.Views.{entry_view, entries_view}
 use Rattle.cap_fm.specs.Answers.{IsPivotAt}
 use Rattle.cap_fm.specs.Entries.{Entry}

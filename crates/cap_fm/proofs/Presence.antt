@@ -7,12 +7,12 @@ use Rattle.std.proofs.lemmas.List.{get_or-set_same, get_or-set_other, length-set
 use Rattle.std.proofs.lemmas.List.Folds.{list_any_more}
 use Rattle.cap_lin.specs.Linear.{Linear, is_zero, coefficient}
 use Rattle.cap_lin.specs.declared.row.Kind.{Kind}
-use Rattle.cap_elim.specs.Rows.{same_row, has_arisen, is_present}
+use Rattle.cap_fm_spec.specs.Rows.{same_row, has_arisen, is_present}
 use Rattle.cap_fm.specs.Entries.{Entry}
 use Rattle.cap_fm.specs.declared.stage.Stage.{Stage}
 use Rattle.cap_fm.specs.Views.{stage_view, entries_view, term_of, lacking_rows, row_number, IsStageOf, IsNumbered, AreNumbered, Grows}
 use Rattle.cap_fm.specs.Answers.{Remarks, OnlyLeaves}
-use Rattle.cap_elim.proofs.Lists.{each-filter}
+use Rattle.cap_fm_spec.proofs.Lists.{each-filter}
 use Rattle.cap_fm.proofs.Each.{each-at}
 use Rattle.cap_fm.proofs.Stages.{all-grow}
 use Rattle.cap_fm.proofs.Marks.{row-is, number-below, number-one}

@@ -4,10 +4,10 @@ use Rattle.std.specs.Prelude.{Result, Ok, Err}
 use Rattle.std.proofs.lemmas.Int.{ints}
 use Rattle.cap_lin.specs.Steps.{product_of, first_wide}
 use Rattle.cap_lin.specs.declared.row.Kind.{Kind}
-use Rattle.cap_elim.specs.Runs as plain
-use Rattle.cap_elim.specs.Runs.{Run, going, done, results}
-use Rattle.cap_elim.specs.Rows.{combine, of_row}
-use Rattle.cap_elim.specs.Elimination.{replacement, combine_bounds, strictest}
+use Rattle.cap_fm_spec.specs.Runs as plain
+use Rattle.cap_fm_spec.specs.Runs.{Run, going, done, results}
+use Rattle.cap_fm_spec.specs.Rows.{combine, of_row}
+use Rattle.cap_fm_spec.specs.Elimination.{replacement, combine_bounds, strictest}
 use Rattle.cap_fm.specs.Entries.{Entry}
 use Rattle.cap_fm.specs.declared.entry.Arisen.{Arisen}
 use Rattle.cap_fm.specs.declared.stage.Stage.{Stage}

@@ -10,10 +10,10 @@ use Rattle.cap_lin.specs.Steps.{product_of, combination_steps}
 use Rattle.cap_lin.specs.declared.row.Kind.{Kind}
 use Rattle.cap_lin.proofs.Combinations.{combination-coefficient}
 use Rattle.cap_lin.proofs.Results.{is_zero-yes}
-use Rattle.cap_elim.specs.Runs as plain
-use Rattle.cap_elim.specs.Runs.{Run, Elimination, combined, going, contradiction, done, results, ◌>>=◌}
-use Rattle.cap_elim.specs.Rows.{same_row, is_present, has_parts, count, look, of_row}
-use Rattle.cap_elim.specs.Elimination.{replacement, replace, replace_all}
+use Rattle.cap_fm_spec.specs.Runs as plain
+use Rattle.cap_fm_spec.specs.Runs.{Run, Elimination, combined, going, contradiction, done, results, ◌>>=◌}
+use Rattle.cap_fm_spec.specs.Rows.{same_row, is_present, has_parts, count, look, of_row}
+use Rattle.cap_fm_spec.specs.Elimination.{replacement, replace, replace_all}
 use Rattle.cap_fm.specs.Entries.{Entry}
 use Rattle.cap_fm.specs.declared.entry.Present.{Present}
 use Rattle.cap_fm.specs.declared.entry.FalseRow.{FalseRow}
@@ -23,7 +23,7 @@ use Rattle.cap_fm.specs.declared.error.SolveError.{SolveError}
 use Rattle.cap_fm.specs.Views.{stage_view, entry_view, entries_view, entry_of, false_view, lacking_rows, IsStageOf, IsLast, IsNumbered, AreNumbered}
 use Rattle.cap_fm.specs.Answers.{Replacement, Explains, Is, Same, Arises}
 use Rattle.cap_fm.proofs.Runs.{then-continues, then-stops, then-fails, same-is, same-explains, same-then, same-refl}
-use Rattle.cap_elim.proofs.Lists.{each-join, each-left, each-right}
+use Rattle.cap_fm_spec.proofs.Lists.{each-join, each-left, each-right}
 use Rattle.cap_fm.proofs.Stages.{all-grow}
 use Rattle.cap_fm.proofs.Presence.{zero-present}
 use Rattle.cap_fm.proofs.Runs.{done-is}

@@ -2,8 +2,8 @@
 use Rattle.std.proofs.Common.{◌≡◌, ℤ, ◌+ℤ◌, ◌*ℤ◌, List, [], ◌∷◌, ◌++◌, refl, subst, sym, ap, ◌∙◌, Bool, true, false, Option, Some, None}
 use Rattle.std.specs.Prelude.{if◌then◌else◌}
 use Rattle.cap_lin.specs.Steps.{Step, sum_of, product_of, fits, first_wide}
-use Rattle.cap_elim.specs.Events.{Event, made, counted, Limit, wide, many, made_all, wide_or, is_too_many, first_limit}
-use Rattle.cap_elim.specs.Runs.{Entry, Stage, Found, going, contradiction, Run, Elimination, done, go_on, results, ◌>>=◌}
+use Rattle.cap_fm_spec.specs.Events.{Event, made, counted, Limit, wide, many, made_all, wide_or, is_too_many, first_limit}
+use Rattle.cap_fm_spec.specs.Runs.{Entry, Stage, Found, going, contradiction, Run, Elimination, done, go_on, results, ◌>>=◌}
 use Rattle.cap_lin.specs.Exact as lin
 use Rattle.cap_lin.specs.declared.error.LinError.{LinError}
 use Rattle.cap_lin.specs.declared.error.LinError.TheVariants as wrong

@@ -16,13 +16,13 @@ use Rattle.cap_farkas.specs.Farkas.{no_row}
 use Rattle.cap_fm.specs.Errors.{solve_error}
 use Rattle.cap_farkas.specs.declared.cert.Cert.{Cert}
 use Rattle.cap_farkas.specs.declared.cert.Cert.TheVariants as cert
-use Rattle.cap_elim.specs.Events.{Event, first_limit, made_all}
-use Rattle.cap_elim.specs.Solving.{Logged, RowsAscend, refuted, refuted_with, then_above, split, or_next, splits, or_splits, solved}
+use Rattle.cap_fm_spec.specs.Events.{Event, first_limit, made_all}
+use Rattle.cap_fm_spec.specs.Solving.{Logged, RowsAscend, refuted, refuted_with, then_above, split, or_next, splits, or_splits, solved}
 use Rattle.cap_fm.specs.Answers.{Explains, ExplainsSteps, IsLogged}
 use Rattle.cap_fm.specs.declared.error.SolveError.{SolveError}
 use Rattle.cap_fm.specs.declared.error.SolveError.TheVariants as error
-use Rattle.cap_elim.proofs.Solved.{solved-complete, solved-feasible}
-use Rattle.cap_elim.proofs.Certified.{certified}
+use Rattle.cap_fm_spec.proofs.Solved.{solved-complete, solved-feasible}
+use Rattle.cap_fm_spec.proofs.Certified.{certified}
 use Rattle.cap_farkas.proofs.Sound.{refuted-excludes, excluded-infeasible}
 use Rattle.cap_fm.specs.Solved.{certificate_of, IsSolved, IsCertified, IsTrueOf, HasSolution}
 use Rattle.cap_fm.specs.declared.solver.Answer.{Answer}

@@ -5,7 +5,7 @@ use Rattle.std.proofs.Math.Seq.{get_or-append_seam}
 use Rattle.std.specs.Prelude.{◌||◌}
 use Rattle.cap_lin.specs.Linear.{Linear}
 use Rattle.cap_lin.specs.declared.row.Kind.{Kind}
-use Rattle.cap_elim.specs.Rows.{same_row, has_arisen, is_present}
+use Rattle.cap_fm_spec.specs.Rows.{same_row, has_arisen, is_present}
 use Rattle.cap_fm.specs.Views.{stage_view, entries_view, row_number, AreNumbered, IsMarked, IsOrigin, IsHistory, IsHistoryFrom, IsStageOf, Grows}
 use Rattle.cap_fm.specs.Entries.{Entry}
 use Rattle.cap_fm.specs.declared.entry.Origin.{Origin}

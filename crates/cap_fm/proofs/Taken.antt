@@ -5,15 +5,15 @@ use Rattle.std.specs.List.{remove}
 use Rattle.std.proofs.lemmas.List.{take_at}
 use Rattle.std.proofs.lemmas.List.Elements.{filter-append}
 use Rattle.cap_lin.specs.Linear.{is_zero, coefficient}
-use Rattle.cap_elim.specs.Runs as plain
-use Rattle.cap_elim.specs.Elimination.{replace_all}
+use Rattle.cap_fm_spec.specs.Runs as plain
+use Rattle.cap_fm_spec.specs.Elimination.{replace_all}
 use Rattle.cap_fm.specs.Entries.{Entry}
 use Rattle.cap_fm.specs.declared.entry.Reached.{Reached}
 use Rattle.cap_fm.specs.declared.stage.Stage.{Stage}
 use Rattle.cap_fm.specs.declared.error.SolveError.{SolveError}
 use Rattle.cap_fm.specs.Views.{stage_view, entry_view, entries_view, lacking_rows, IsStageOf, IsNumbered, AreNumbered}
 use Rattle.cap_fm.specs.Answers.{DoesReach, OnlyLeaves}
-use Rattle.cap_elim.proofs.Lists.{each-join, each-left, each-right}
+use Rattle.cap_fm_spec.proofs.Lists.{each-join, each-left, each-right}
 use Rattle.cap_fm.proofs.Stages.{all-grow}
 
 item-seam : (before after : List Entry) (equation d : Entry) → get_or (before ++ (equation ∷ after)) (length before) d ≡ equation

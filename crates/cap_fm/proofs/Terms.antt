@@ -5,7 +5,7 @@ use Rattle.std.proofs.lemmas.List.{map-append, length-map, get_or-map, take-map,
 use Rattle.cap_lin.specs.Linear.{Linear}
 use Rattle.cap_lin.specs.declared.row.Kind.{Kind}
 use Rattle.cap_lin.specs.declared.row.Kind.TheVariants.{Le}
-use Rattle.cap_elim.specs.Rows.{same_row, has_arisen}
+use Rattle.cap_fm_spec.specs.Rows.{same_row, has_arisen}
 use Rattle.cap_fm.specs.Entries.{Entry}
 use Rattle.cap_fm.specs.Views.{stage_view, row_number, term_of, entry_of, entries_of, IsNumbered, AreNumbered, Grows}
 use Rattle.cap_fm.specs.declared.entry.Present.{Present}

@@ -5,15 +5,15 @@ use Rattle.std.specs.Prelude.{Result, Err, slice_get}
 use Rattle.std.proofs.lemmas.Option.{slice_get_read}
 use Rattle.std.proofs.lemmas.List.{map-append, take_more, drop_all}
 use Rattle.std.proofs.lemmas.Bool.{cases_lt}
-use Rattle.cap_elim.specs.Events.{first_limit}
+use Rattle.cap_fm_spec.specs.Events.{first_limit}
 use Rattle.cap_lin.specs.Linear.{Linear, IsLeastFrom, coefficient}
 use Rattle.cap_lin.specs.declared.row.Row.{Row}
 use Rattle.cap_lin.specs.declared.row.Kind.{Kind}
 use Rattle.cap_lin.specs.declared.row.Kind.TheVariants.{Le, Lt, Eq, Ne}
-use Rattle.cap_elim.specs.Runs as plain
-use Rattle.cap_elim.specs.Runs.{Stage, Run, Found, going, contradiction, done, Elimination, ◌>>=◌}
-use Rattle.cap_elim.specs.Elimination.{Pivot, input, inputs, chosen, first_pivot, by_equation, unit_variable, while_some, by_units, lacking, uppers, lowers, combine_all, occurring, by_pivot, by_variable, by_variables, width}
-use Rattle.cap_elim.proofs.Variables.{AreSound, Combines, Ascends, variable-steps, absent-above}
+use Rattle.cap_fm_spec.specs.Runs as plain
+use Rattle.cap_fm_spec.specs.Runs.{Stage, Run, Found, going, contradiction, done, Elimination, ◌>>=◌}
+use Rattle.cap_fm_spec.specs.Elimination.{Pivot, input, inputs, chosen, first_pivot, by_equation, unit_variable, while_some, by_units, lacking, uppers, lowers, combine_all, occurring, by_pivot, by_variable, by_variables, width}
+use Rattle.cap_fm_spec.proofs.Variables.{AreSound, Combines, Ascends, variable-steps, absent-above}
 use Rattle.cap_lin.proofs.Combinations.{combination-coefficient}
 use Rattle.cap_fm.specs.Views.{stage_view, entry_view, entries_view, IsStageOf}
 use Rattle.cap_fm.specs.Answers.{AllVariables, Is, Same, Explains, DoesReach, AreRows, Lack, IsLeast}
@@ -21,7 +21,7 @@ use Rattle.cap_fm.specs.Entries.{Entry}
 use Rattle.cap_fm.specs.declared.entry.Reached.{Reached}
 use Rattle.cap_fm.specs.declared.error.SolveError.{SolveError}
 use Rattle.cap_fm.specs.declared.stage.Stage.{Stage as Kept}
-use Rattle.cap_elim.proofs.Lists.{each-join, each-left, each-right}
+use Rattle.cap_fm_spec.proofs.Lists.{each-join, each-left, each-right}
 use Rattle.cap_fm.proofs.Runs.{done-is, then-continues, then-stops, then-fails, same-is, same-explains, same-then}
 
 same-eq : {A : Type 0} (r s : Run A) → r ≡ s → Same r s

@@ -4,14 +4,14 @@ use Rattle.std.specs.Prelude.{Result, Ok, Err}
 use Rattle.std.proofs.lemmas.List.{length-map}
 use Rattle.cap_lin.specs.Steps.{first_wide}
 use Rattle.cap_lin.specs.declared.row.Row.{Row}
-use Rattle.cap_elim.specs.Events.{Event, first_limit, made_all}
-use Rattle.cap_elim.specs.Runs as plain
-use Rattle.cap_elim.specs.Runs.{Stage, at_first, Run, Found, going, contradiction, Elimination, ◌>>=◌}
-use Rattle.cap_elim.specs.Elimination.{inputs, by_units, by_variables, width, eliminated}
-use Rattle.cap_elim.specs.Leaf.{leaf, leaf_steps}
-use Rattle.cap_elim.specs.Solving.{RowsAscend, Logged, leaf_found, run_leaf, refuted}
-use Rattle.cap_elim.proofs.Variables.{units-lead}
-use Rattle.cap_elim.proofs.Complete.{inputs-sound}
+use Rattle.cap_fm_spec.specs.Events.{Event, first_limit, made_all}
+use Rattle.cap_fm_spec.specs.Runs as plain
+use Rattle.cap_fm_spec.specs.Runs.{Stage, at_first, Run, Found, going, contradiction, Elimination, ◌>>=◌}
+use Rattle.cap_fm_spec.specs.Elimination.{inputs, by_units, by_variables, width, eliminated}
+use Rattle.cap_fm_spec.specs.Leaf.{leaf, leaf_steps}
+use Rattle.cap_fm_spec.specs.Solving.{RowsAscend, Logged, leaf_found, run_leaf, refuted}
+use Rattle.cap_fm_spec.proofs.Variables.{units-lead}
+use Rattle.cap_fm_spec.proofs.Complete.{inputs-sound}
 use Rattle.cap_fm.specs.Views.{entry_view, entries_view, stage_view, history_view}
 use Rattle.cap_fm.specs.declared.entry.Origin.{Origin}
 use Rattle.cap_fm.specs.Answers.{Is, Same, Explains, ExplainsSteps, DoesReach, AreRows, IsLogged}

@@ -6,13 +6,13 @@ use Rattle.cap_lin.specs.Linear.{Linear, AscendFrom, is_zero, coefficient}
 use Rattle.cap_lin.specs.Steps.{Step, first_wide}
 use Rattle.cap_lin.specs.declared.row.Kind.{Kind}
 use Rattle.cap_lin.specs.declared.row.Kind.TheVariants.{Ne}
-use Rattle.cap_elim.specs.Events.{Event, wide, many, first_limit}
-use Rattle.cap_elim.specs.Runs as plain
-use Rattle.cap_elim.specs.Runs.{Run, Found, going, contradiction}
-use Rattle.cap_elim.specs.Rows.{has_arisen, has_parts, count, of_row}
-use Rattle.cap_elim.specs.Elimination.{first_pivot, pivot, lacking, uppers, lowers, combine_all}
-use Rattle.cap_elim.specs.Elimination.{replacement, by_units, by_variables, width}
-use Rattle.cap_elim.specs.Solving.{Logged}
+use Rattle.cap_fm_spec.specs.Events.{Event, wide, many, first_limit}
+use Rattle.cap_fm_spec.specs.Runs as plain
+use Rattle.cap_fm_spec.specs.Runs.{Run, Found, going, contradiction}
+use Rattle.cap_fm_spec.specs.Rows.{has_arisen, has_parts, count, of_row}
+use Rattle.cap_fm_spec.specs.Elimination.{first_pivot, pivot, lacking, uppers, lowers, combine_all}
+use Rattle.cap_fm_spec.specs.Elimination.{replacement, by_units, by_variables, width}
+use Rattle.cap_fm_spec.specs.Solving.{Logged}
 use Rattle.cap_fm.specs.declared.equations.Pivot.{Pivot}
 use Rattle.cap_fm.specs.Views.{stage_view, entry_view, entries_view, entry_of, entries_of}
 use Rattle.cap_fm.specs.Views.{false_view, arisen_view, reached_view, IsStageOf, IsLast, Grows}

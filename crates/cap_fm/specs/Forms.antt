@@ -4,7 +4,7 @@ use mir.Syntax.{w128}
 use mir.Val.{of_z as cast_unsigned}
 use Rattle.cap_lin.specs.Linear.{Linear}
 use Rattle.cap_lin.specs.declared.row.Kind.{Kind}
-use Rattle.cap_elim.specs.Rows.{same_row}
+use Rattle.cap_fm_spec.specs.Rows.{same_row}
 
 abbrev pub same_form : Linear × Kind → Linear × Kind → Bool
 same_form f g = same_row f.0 f.1 g.0 g.1

@@ -5,8 +5,8 @@ use Rattle.cap_lin.specs.Solves.{SolvesRationally, Infeasible}
 use Rattle.cap_lin.specs.declared.row.Row.{Row}
 use Rattle.cap_farkas.specs.Refutes.{Refutes}
 use Rattle.cap_farkas.specs.declared.cert.Cert.{Cert}
-use Rattle.cap_elim.specs.Events.{first_limit}
-use Rattle.cap_elim.specs.Solving.{Logged}
+use Rattle.cap_fm_spec.specs.Events.{first_limit}
+use Rattle.cap_fm_spec.specs.Solving.{Logged}
 use Rattle.cap_fm.specs.Answers.{Explains}
 use Rattle.cap_fm.specs.declared.error.SolveError.{SolveError}
 use Rattle.cap_fm.specs.declared.solver.Answer.{Answer}

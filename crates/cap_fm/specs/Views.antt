@@ -5,9 +5,9 @@ use Rattle.std.specs.List.{AllByRecursion, position_or_len}
 use Rattle.cap_lin.specs.Linear.{Linear, is_zero, coefficient}
 use Rattle.cap_lin.specs.Linear as linear
 use Rattle.cap_lin.specs.declared.row.Kind.{Kind}
-use Rattle.cap_elim.specs.Runs as plain
-use Rattle.cap_elim.specs.Runs.{going, contradiction, Found}
-use Rattle.cap_elim.specs.Rows.{is_positive, is_negative, same_row, has_arisen, is_present}
+use Rattle.cap_fm_spec.specs.Runs as plain
+use Rattle.cap_fm_spec.specs.Runs.{going, contradiction, Found}
+use Rattle.cap_fm_spec.specs.Rows.{is_positive, is_negative, same_row, has_arisen, is_present}
 use Rattle.cap_fm.specs.declared.entry.Origin.{Origin}
 use Rattle.cap_fm.specs.declared.entry.Origin.TheVariants.{Given, Combined}
 use Rattle.cap_fm.specs.Entries.{Entry}

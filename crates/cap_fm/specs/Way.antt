@@ -4,8 +4,8 @@ use Rattle.std.specs.Prelude.{◌≡◌, ℕ, ◌+◌, ◌<◌, List, [], ◌∷
 use Rattle.std.specs.Prelude.{slice_set, ◌==◌, Bool, true, false, pos}
 use Rattle.cap_lin.specs.Linear.{Linear, number}
 use Rattle.cap_lin.specs.Steps.{Step}
-use Rattle.cap_elim.specs.Runs.{Origin, given, combined}
-use Rattle.cap_elim.specs.Leaf.{multipliers, own_steps, way_steps}
+use Rattle.cap_fm_spec.specs.Runs.{Origin, given, combined}
+use Rattle.cap_fm_spec.specs.Leaf.{multipliers, own_steps, way_steps}
 
 -- the mark at a place tells whether its row is on the way
 abbrev pub is_marked : List Bool → ℕ → Bool

@@ -1,7 +1,7 @@
 ghost use Rattle.std.specs.Prelude.{◌≡◌, ◌<◌, ℕ, List, length, false, true};
-ghost use Rattle.cap_elim.specs.Rows.{arise_given, arise_combined, combine as combine_rows};
-ghost use Rattle.cap_elim.specs.Rows.{keep as keep_row, look, has_parts, is_present, has_arisen};
-ghost use Rattle.cap_elim.specs.Elimination.{input as input_row};
+ghost use Rattle.cap_fm_spec.specs.Rows.{arise_given, arise_combined, combine as combine_rows};
+ghost use Rattle.cap_fm_spec.specs.Rows.{keep as keep_row, look, has_parts, is_present, has_arisen};
+ghost use Rattle.cap_fm_spec.specs.Elimination.{input as input_row};
 ghost use Rattle.cap_lin.specs.Linear.{Linear, number};
 ghost use Rattle.cap_fm.specs.Entries.{Entry};
 ghost use Rattle.cap_fm.specs.Views.{stage_view, entry_view, entries_view, entry_of, origin_view};

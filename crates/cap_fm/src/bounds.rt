@@ -1,7 +1,7 @@
 ghost use Rattle.cap_lin.specs.Linear.{coefficient};
 ghost use Rattle.std.specs.Prelude.{◌≡◌, ℕ, List, IfOk};
-ghost use Rattle.cap_elim.specs.Elimination.{combine_bounds as combine_bounds_run};
-ghost use Rattle.cap_elim.specs.Elimination.{combine_each as combine_each_run};
+ghost use Rattle.cap_fm_spec.specs.Elimination.{combine_bounds as combine_bounds_run};
+ghost use Rattle.cap_fm_spec.specs.Elimination.{combine_each as combine_each_run};
 ghost use Rattle.cap_fm.specs.Entries.{Entry};
 ghost use Rattle.cap_fm.specs.Views.{stage_view, entry_view, entries_view, term_of, entry_of};
 ghost use Rattle.cap_fm.specs.Views.{entries_of, lacking_rows, upper_rows, lower_rows, IsStageOf};

@@ -1,7 +1,7 @@
 ghost use Rattle.std.specs.Prelude.{◌≤◌, ◌<◌, ◌+◌, ◌^◌, ◌++◌, [], ℕ, List, length};
-ghost use Rattle.cap_elim.specs.Elimination.{inputs as inputs_run, by_variable as by_variable_run};
-ghost use Rattle.cap_elim.specs.Elimination.{eliminated as eliminated_run};
-ghost use Rattle.cap_elim.specs.Solving.{RowsAscend, refuted as refuted_log};
+ghost use Rattle.cap_fm_spec.specs.Elimination.{inputs as inputs_run, by_variable as by_variable_run};
+ghost use Rattle.cap_fm_spec.specs.Elimination.{eliminated as eliminated_run};
+ghost use Rattle.cap_fm_spec.specs.Solving.{RowsAscend, refuted as refuted_log};
 ghost use Rattle.cap_fm.specs.Entries.{Entry};
 ghost use Rattle.cap_fm.specs.Views.{stage_view, entries_view, entries_of, IsStageOf};
 ghost use Rattle.cap_fm.specs.Answers.{AllUnits, AllVariables, DoesReach, IsLogged, IsLeast};

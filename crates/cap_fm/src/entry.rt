@@ -1,6 +1,6 @@
 ghost use Rattle.std.specs.Prelude.{◌≡◌};
-ghost use Rattle.cap_elim.specs.Rows.{is_false as is_false_kind};
-ghost use Rattle.cap_elim.specs.Elimination.{strictest as strictest_kind};
+ghost use Rattle.cap_fm_spec.specs.Rows.{is_false as is_false_kind};
+ghost use Rattle.cap_fm_spec.specs.Elimination.{strictest as strictest_kind};
 
 use bumpalo::Bump;
 use cap_lin::Kind;

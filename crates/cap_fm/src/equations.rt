@@ -2,9 +2,9 @@ ghost use Rattle.std.specs.Prelude.{◌≡◌, ◌<◌, ◌++◌, ◌∷◌, [],
 ghost use Rattle.std.specs.Prelude.{Some, None, false, IfSome};
 ghost use Rattle.cap_lin.specs.Linear.{is_zero, coefficient};
 ghost use Rattle.cap_lin.specs.Steps.{product_of};
-ghost use Rattle.cap_elim.specs.Elimination.{chosen, unit_variable as unit_variable_in};
-ghost use Rattle.cap_elim.specs.Elimination.{is_unit as is_unit_number, occurring, replacement};
-ghost use Rattle.cap_elim.specs.Elimination.{replace_all as replace_all_run};
+ghost use Rattle.cap_fm_spec.specs.Elimination.{chosen, unit_variable as unit_variable_in};
+ghost use Rattle.cap_fm_spec.specs.Elimination.{is_unit as is_unit_number, occurring, replacement};
+ghost use Rattle.cap_fm_spec.specs.Elimination.{replace_all as replace_all_run};
 ghost use Rattle.cap_fm.specs.Entries.{Entry};
 ghost use Rattle.cap_fm.specs.Views.{stage_view, entry_view, entries_view, term_of, entry_of};
 ghost use Rattle.cap_fm.specs.Views.{entries_of, lacking_rows, IsStageOf, AreNumbered, IsNumbered};

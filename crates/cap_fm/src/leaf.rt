@@ -1,8 +1,8 @@
 ghost use Rattle.std.specs.Prelude.{◌≡◌, ◌<◌, ◌+◌, ◌++◌, map, length, IfOk, pos};
 ghost use Rattle.cap_lin.specs.Linear.{number, IsBelow};
-ghost use Rattle.cap_elim.specs.Leaf.{leaf as leaf_of, leaf_steps};
-ghost use Rattle.cap_elim.specs.Leaf.{multipliers as multipliers_at, multipliers_of, own_steps};
-ghost use Rattle.cap_elim.specs.Leaf.{is_turned, turned as turned_of, turned_steps, check_steps};
+ghost use Rattle.cap_fm_spec.specs.Leaf.{leaf as leaf_of, leaf_steps};
+ghost use Rattle.cap_fm_spec.specs.Leaf.{multipliers as multipliers_at, multipliers_of, own_steps};
+ghost use Rattle.cap_fm_spec.specs.Leaf.{is_turned, turned as turned_of, turned_steps, check_steps};
 ghost use Rattle.cap_fm.specs.Views.{origin_view, history_view, false_view, IsHistory};
 ghost use Rattle.cap_fm.specs.Answers.{IsMadeBy};
 ghost use Rattle.cap_fm.specs.Way.{IsWay, AreEarlier, RowsBelow, steps_of, with_rows, term_at};

@@ -1,7 +1,7 @@
 ghost use Rattle.std.specs.Prelude.{◌≡◌, ◌<◌, ◌-◌, ◌^◌, ◌++◌, ◌∷◌, [], IfOk, length, slice_get};
 ghost use Rattle.std.specs.Prelude.{Some};
-ghost use Rattle.cap_elim.specs.Solving.{RowsAscend, solved as solved_log, split as split_log};
-ghost use Rattle.cap_elim.specs.Solving.{refuted as refuted_log};
+ghost use Rattle.cap_fm_spec.specs.Solving.{RowsAscend, solved as solved_log, split as split_log};
+ghost use Rattle.cap_fm_spec.specs.Solving.{refuted as refuted_log};
 ghost use Rattle.cap_fm.specs.Answers.{IsLogged};
 ghost use Rattle.cap_fm.specs.Solved.{IsSolved, IsCertified, IsTrueOf, HasSolution};
 

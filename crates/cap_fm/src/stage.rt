@@ -1,5 +1,5 @@
 ghost use Rattle.std.specs.Prelude.{◌≡◌, ◌<◌, [], ℕ, List, get_or, false, true, IfOk};
-ghost use Rattle.cap_elim.specs.Runs.{at_first};
+ghost use Rattle.cap_fm_spec.specs.Runs.{at_first};
 ghost use Rattle.cap_fm.specs.Entries.{Entry};
 ghost use Rattle.cap_fm.specs.Forms.{digest_of, low_word, mixed, with_part};
 ghost use Rattle.cap_fm.specs.Views.{stage_view, term_of, IsStageOf};

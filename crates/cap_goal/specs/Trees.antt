@@ -1,6 +1,6 @@
 -- What contracts see of trees and bundles.
 use Rattle.std.specs.Prelude.{List, [], ◌∷◌, map, option_map, Option}
-use Rattle.cap_logic.specs.Choices.{PlainTree, node, PlainTrees, no_trees, tree}
+use Rattle.cap_goal_spec.specs.Choices.{PlainTree, node, PlainTrees, no_trees, tree}
 use Rattle.cap_goal.specs.declared.choice.Node.{Node, fold-Node}
 use Rattle.cap_goal.specs.declared.choice.Node.TheOpen.{Node-F}
 use Rattle.cap_goal.specs.declared.choice.Bundle.{Bundle}

@@ -5,9 +5,9 @@ use Rattle.cap_prog.specs.declared.assertion.Item.{Item}
 use Rattle.cap_prog.specs.declared.function.Statement.{Statement}
 use Rattle.cap_prog.specs.Program.{Items, none, item, items_of, append_items, Block, done, append, PlainAct, read, write, cas}
 use Rattle.cap_prog.specs.Views.{item_view, block_view}
-use Rattle.cap_logic.specs.States.{Home, PlainTask, to_run, to_turn, to_give, to_take, to_make, to_close, to_shift, to_rest, PlainGoal}
-use Rattle.cap_logic.specs.Choices.{PlainChoice, by_absurd, by_clash, by_set, by_alloc, by_assert, by_if, by_loop, by_turn, by_call, by_fork, by_return, by_enter, by_act, by_pick, by_shift, by_settle, by_keep, by_give, by_fact, by_cases, by_cell, by_region, by_guard, by_convert, by_create, by_made, PlainTree, node, PlainTrees, no_trees, tree}
-use Rattle.cap_logic.specs.Roots.{PlainUnit, region_unit, function_unit}
+use Rattle.cap_goal_spec.specs.States.{Home, PlainTask, to_run, to_turn, to_give, to_take, to_make, to_close, to_shift, to_rest, PlainGoal}
+use Rattle.cap_goal_spec.specs.Choices.{PlainChoice, by_absurd, by_clash, by_set, by_alloc, by_assert, by_if, by_loop, by_turn, by_call, by_fork, by_return, by_enter, by_act, by_pick, by_shift, by_settle, by_keep, by_give, by_fact, by_cases, by_cell, by_region, by_guard, by_convert, by_create, by_made, PlainTree, node, PlainTrees, no_trees, tree}
+use Rattle.cap_goal_spec.specs.Roots.{PlainUnit, region_unit, function_unit}
 use Rattle.cap_goal.specs.declared.task.Home as code
 use Rattle.cap_goal.specs.declared.task.Task.{Task}
 use Rattle.cap_goal.specs.declared.task.Task.TheVariants as task

@@ -16,7 +16,7 @@ pub struct Fact {
 }
 
 impl Model for Fact {
-    ghost use Rattle.cap_logic.specs.States.{PlainFact};
+    ghost use Rattle.cap_goal_spec.specs.States.{PlainFact};
 
     ghost Value = { PlainFact };
 
@@ -62,7 +62,7 @@ pub struct Env {
 }
 
 impl Model for Env {
-    ghost use Rattle.cap_logic.specs.States.{PlainEnv};
+    ghost use Rattle.cap_goal_spec.specs.States.{PlainEnv};
 
     ghost Value = { PlainEnv };
 

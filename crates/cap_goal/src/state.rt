@@ -1,8 +1,8 @@
 ghost use Rattle.std.specs.Prelude.{◌≡◌, ◌<◌, [], ◌∷◌, ◌++◌, length, IfOk, if◌then◌else◌, remove};
 ghost use Rattle.std.specs.Prelude.{slice_set};
 ghost use Rattle.std.specs.Result.{is_ok};
-ghost use Rattle.cap_logic.specs.States.{longest_list};
-ghost use Rattle.cap_logic.specs.Roots.{empty_state};
+ghost use Rattle.cap_goal_spec.specs.States.{longest_list};
+ghost use Rattle.cap_goal_spec.specs.Roots.{empty_state};
 
 use crate::fact::{Env, Fact};
 use crate::shared::Shared;
@@ -28,7 +28,7 @@ pub struct State {
 }
 
 impl Model for State {
-    ghost use Rattle.cap_logic.specs.States.{PlainState};
+    ghost use Rattle.cap_goal_spec.specs.States.{PlainState};
 
     ghost Value = { PlainState };
 

@@ -1,22 +1,22 @@
 //! The rules, by their choices: what each leaves of a goal, and what its certificates have to
 //! refute.
 ghost use Rattle.cap_prog.specs.Views.{program_view};
-ghost use Rattle.cap_logic.specs.Choices.{certs_of as certs_in};
-ghost use Rattle.cap_logic.specs.Fits.{HasRoom};
+ghost use Rattle.cap_goal_spec.specs.Choices.{certs_of as certs_in};
+ghost use Rattle.cap_goal_spec.specs.Fits.{HasRoom};
 ghost use Rattle.cap_rules.specs.Answers.{marks_of, proofs as owed_proofs};
 ghost use Rattle.cap_rules.specs.Rules.{rule};
 ghost use Rattle.cap_goal.specs.Views.{goal_view, choice_view};
-ghost use Rattle.cap_steps.specs.Goals.{goals_view};
-ghost use Rattle.cap_steps.specs.Judging.{Answered, IsTold, lists_view};
-ghost use Rattle.cap_steps.specs.Walks.{seen};
+ghost use Rattle.cap_rules_steps.specs.Goals.{goals_view};
+ghost use Rattle.cap_rules_steps.specs.Judging.{Answered, IsTold, lists_view};
+ghost use Rattle.cap_rules_steps.specs.Walks.{seen};
 
 use cap_goal::{Choice, Goal};
 use cap_lin::Row;
 use cap_open::{open_proofs, open_subgoals};
 use cap_prog::Program;
 use cap_pure::{pure_proofs, pure_subgoals};
+use cap_rules_steps::RuleError;
 use cap_stab::{stab_proofs, stab_subgoals};
-use cap_steps::RuleError;
 use cap_take::{take_proofs, take_subgoals};
 use std::alloc::Global;
 

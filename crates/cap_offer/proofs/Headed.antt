@@ -1,8 +1,8 @@
 -- What is offered at a statement.
 use Rattle.std.proofs.Common.{◌≡◌, List, [], ◌∷◌, Option, Some, None, refl}
 use Rattle.cap_prog.specs.Program.{PlainAct, set, read, write, cas, alloc, call, fork, branch, loop, check, give_back, PlainProgram}
-use Rattle.cap_logic.specs.States.{PlainGoal}
-use Rattle.cap_offering.specs.Offering.{at_statement}
+use Rattle.cap_goal_spec.specs.States.{PlainGoal}
+use Rattle.cap_offer_spec.specs.Offering.{at_statement}
 use Rattle.cap_offer.specs.Heads.{rule_of, by_rule}
 
 pub statement-choices : (p : PlainProgram) (g : PlainGoal) (a : PlainAct) → at_statement p g a ≡ by_rule p g a (rule_of a)

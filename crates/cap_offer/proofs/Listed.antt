@@ -3,7 +3,7 @@ use Rattle.std.proofs.Common.{◌≡◌, ℕ, ◌+◌, List, [], ◌∷◌, ◌+
 use Rattle.std.specs.List.{range_with_len, flat_map}
 use Rattle.std.proofs.lemmas.List.{map-append, reverse-append}
 use Rattle.std.proofs.lemmas.List.Concat.{flat_map-append}
-use Rattle.cap_logic.specs.Choices.{PlainChoice}
+use Rattle.cap_goal_spec.specs.Choices.{PlainChoice}
 use Rattle.cap_goal.specs.Views.{choice_view}
 use Rattle.cap_goal.specs.declared.choice.Choice.{Choice}
 use Rattle.cap_offer.specs.Views.{choices_view}

@@ -8,12 +8,12 @@ use Rattle.cap_lin.specs.Linear.{Linear}
 use Rattle.cap_lin.specs.declared.row.Row.{Row}
 use Rattle.cap_farkas.specs.declared.cert.Cert.{Cert}
 use Rattle.cap_prog.specs.Program.{PlainProgram}
-use Rattle.cap_logic.specs.States.{PlainState, longest_list, PlainFact, PlainGoal}
-use Rattle.cap_logic.specs.Choices.{PlainChoice}
+use Rattle.cap_goal_spec.specs.States.{PlainState, longest_list, PlainFact, PlainGoal}
+use Rattle.cap_goal_spec.specs.Choices.{PlainChoice}
 use Rattle.cap_rules.specs.Making.{is_empty}
-use Rattle.cap_offering.specs.Deciding.{PlainNotes, Outcome, Noted, done, ◌>>=◌}
-use Rattle.cap_offering.specs.Scanning.{Scan, finds, ends, goes_on, unless_over, has_room_for, tried, tried_all}
-use Rattle.cap_decide.specs.Noting.{Adds}
+use Rattle.cap_offer_spec.specs.Deciding.{PlainNotes, Outcome, Noted, done, ◌>>=◌}
+use Rattle.cap_offer_spec.specs.Scanning.{Scan, finds, ends, goes_on, unless_over, has_room_for, tried, tried_all}
+use Rattle.cap_closure_decide.specs.Noting.{Adds}
 use Rattle.cap_offer.specs.Seeking.{PlainSought, sought_scan, first_sought}
 use Rattle.cap_offer.specs.Views.{lists_in}
 use Rattle.cap_offer.proofs.Trials.{alone-tried}

@@ -5,9 +5,9 @@ use Rattle.std.proofs.lemmas.List.{map-append}
 use Rattle.std.proofs.lemmas.List.Concat.{flat_map-append}
 use Rattle.std.proofs.lemmas.Bool.Decides.{nat_tests}
 use Rattle.cap_galg.specs.Algebras.{PlainAlgebra, unique, divisible, counting, product, sum as either, atoms}
-use Rattle.cap_logic.specs.Choices.{PlainChoice}
+use Rattle.cap_goal_spec.specs.Choices.{PlainChoice}
 use Rattle.cap_rules.specs.Taking.{sum_count, sum_in, sides_of}
-use Rattle.cap_offering.specs.Listing.{numbers_below, conversion}
+use Rattle.cap_offer_spec.specs.Listing.{numbers_below, conversion}
 use Rattle.cap_offer.specs.Sums.{conversion_at, conversions_in}
 
 range-append : (a m k : ℕ) → range_with_len a (m + k) ≡ range_with_len a m ++ range_with_len (a + m) k

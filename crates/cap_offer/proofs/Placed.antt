@@ -7,11 +7,11 @@ use Rattle.cap_farkas.specs.declared.cert.Cert.{Cert}
 use Rattle.cap_prog.specs.declared.assertion.Item.{Item}
 use Rattle.cap_prog.specs.Views.{item_view}
 use Rattle.cap_goal.specs.Views.{items_in}
-use Rattle.cap_decide.specs.Noting.{certs_seen}
+use Rattle.cap_closure_decide.specs.Noting.{certs_seen}
 use Rattle.cap_offer.specs.Views.{first_of_items}
 use Rattle.cap_prog.specs.Program.{Items, none, items_of, append_items, PlainRegionType, PlainProgram}
-use Rattle.cap_logic.specs.States.{PlainFact}
-use Rattle.cap_offering.specs.Listing.{type_of_opened}
+use Rattle.cap_goal_spec.specs.States.{PlainFact}
+use Rattle.cap_offer_spec.specs.Listing.{type_of_opened}
 
 pub at-place : {A : Type 0} (xs : List A) (i : ℕ) (x : A) → i < length xs → x ≡ get_or xs i x → slice_get xs i ≡ Some x
 at-place [] i x h e = absurd (omega arith)

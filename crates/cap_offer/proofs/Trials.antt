@@ -4,12 +4,12 @@ use Rattle.std.specs.Prelude.{option_to_list, flat_map, ◌-◌}
 use Rattle.std.specs.List.{range_with_len}
 use Rattle.cap_lin.specs.Linear.{Linear}
 use Rattle.cap_prog.specs.Program.{PlainAct, PlainProgram}
-use Rattle.cap_logic.specs.States.{PlainGoal}
-use Rattle.cap_logic.specs.Choices.{PlainChoice, by_clash}
-use Rattle.cap_offering.specs.Deciding.{PlainNotes, Outcome, Noted, done, ◌>>=◌}
-use Rattle.cap_offering.specs.Listing.{clashes_with}
-use Rattle.cap_offering.specs.Claims.{has_address, has_item_address}
-use Rattle.cap_offering.specs.Scanning.{tried, tried_all, first_tried, or_later, unless_over, first_cell, first_act}
+use Rattle.cap_goal_spec.specs.States.{PlainGoal}
+use Rattle.cap_goal_spec.specs.Choices.{PlainChoice, by_clash}
+use Rattle.cap_offer_spec.specs.Deciding.{PlainNotes, Outcome, Noted, done, ◌>>=◌}
+use Rattle.cap_offer_spec.specs.Listing.{clashes_with}
+use Rattle.cap_offer_spec.specs.Claims.{has_address, has_item_address}
+use Rattle.cap_offer_spec.specs.Scanning.{tried, tried_all, first_tried, or_later, unless_over, first_cell, first_act}
 use Rattle.cap_offer.specs.Seeking.{of_act, of_item, sought_scan, first_sought}
 
 pub act-sought : (p : PlainProgram) (g : PlainGoal) (a : PlainAct) (j : ℕ) (cs : List (Linear × Linear)) → first_sought p g (of_act a) j cs ≡ first_act p g (has_address g.state a) j cs

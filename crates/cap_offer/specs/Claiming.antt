@@ -1,6 +1,6 @@
 -- What has to be proved of a cell that has the address of a heap statement.
 use Rattle.cap_lin.specs.Linear.{Linear}
-use Rattle.cap_logic.specs.States.{PlainState}
+use Rattle.cap_goal_spec.specs.States.{PlainState}
 use Rattle.cap_rules.specs.Attempts.{Attempt, ◌>>=◌}
 use Rattle.cap_rules.specs.Making.{value_here, prove_equal}
 

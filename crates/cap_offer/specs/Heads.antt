@@ -1,13 +1,13 @@
 -- What is offered at a head.
 use Rattle.std.specs.Prelude.{ℕ, ◌&&◌, is_some, List, [], ◌∷◌, ◌++◌, option_map, option_to_list, slice_get, Option, Some, None}
 use Rattle.cap_prog.specs.Program.{PlainAct, set, alloc, call, fork, branch, loop, check, give_back, Items, none, item, Block, done as no_statement, first, PlainProgram}
-use Rattle.cap_logic.specs.States.{PlainTask, PlainGoal}
-use Rattle.cap_logic.specs.Choices.{PlainChoice, by_absurd, by_set, by_alloc, by_assert, by_if, by_loop, by_call, by_fork, by_return}
+use Rattle.cap_goal_spec.specs.States.{PlainTask, PlainGoal}
+use Rattle.cap_goal_spec.specs.Choices.{PlainChoice, by_absurd, by_set, by_alloc, by_assert, by_if, by_loop, by_call, by_fork, by_return}
 use Rattle.cap_rules.specs.Making.{is_empty}
-use Rattle.cap_offering.specs.Deciding.{Noted, done, ◌>>=◌, decided}
-use Rattle.cap_offering.specs.Listing.{known_regions, new_regions}
-use Rattle.cap_offering.specs.Scanning.{tried_all, or_else}
-use Rattle.cap_offering.specs.Offering.{openings_unless, at_heap, at_statement, at_item, at_task}
+use Rattle.cap_offer_spec.specs.Deciding.{Noted, done, ◌>>=◌, decided}
+use Rattle.cap_offer_spec.specs.Listing.{known_regions, new_regions}
+use Rattle.cap_offer_spec.specs.Scanning.{tried_all, or_else}
+use Rattle.cap_offer_spec.specs.Offering.{openings_unless, at_heap, at_statement, at_item, at_task}
 
 -- at a fact of this type that is to be given up
 abbrev pub at_region : PlainProgram → PlainGoal → ℕ → Noted (List PlainChoice)

@@ -4,13 +4,13 @@ use Rattle.cap_lin.specs.Linear.{Linear}
 use Rattle.cap_lin.specs.declared.row.Row.{Row}
 use Rattle.cap_farkas.specs.declared.cert.Cert.{Cert}
 use Rattle.cap_prog.specs.Program.{PlainAct, PlainProgram}
-use Rattle.cap_logic.specs.States.{PlainState, PlainGoal}
-use Rattle.cap_logic.specs.Choices.{PlainChoice, by_act, by_cell}
+use Rattle.cap_goal_spec.specs.States.{PlainState, PlainGoal}
+use Rattle.cap_goal_spec.specs.Choices.{PlainChoice, by_act, by_cell}
 use Rattle.cap_rules.specs.Attempts.{Attempt}
 use Rattle.cap_rules.specs.Answers.{proofs}
-use Rattle.cap_offering.specs.Deciding.{Noted, done, ◌>>=◌, decided_all}
-use Rattle.cap_offering.specs.Claims.{has_address, has_item_address}
-use Rattle.cap_offering.specs.Scanning.{Scan, scanned_cell, parted, at_address, unless_over, finished_cell, finished_act}
+use Rattle.cap_offer_spec.specs.Deciding.{Noted, done, ◌>>=◌, decided_all}
+use Rattle.cap_offer_spec.specs.Claims.{has_address, has_item_address}
+use Rattle.cap_offer_spec.specs.Scanning.{Scan, scanned_cell, parted, at_address, unless_over, finished_cell, finished_act}
 
 -- the one on which a heap statement acts, or that of an item, by its environment and address
 pub data PlainSought : Type 0 where

@@ -8,11 +8,11 @@ use Rattle.cap_prog.specs.declared.function.Act.{Act}
 use Rattle.cap_prog.specs.declared.region.RegionType.{RegionType}
 use Rattle.cap_prog.specs.Program.{PlainItem, Items, none, item, PlainAct, PlainRegionType}
 use Rattle.cap_prog.specs.Views.{item_view, act_view, region_view}
-use Rattle.cap_logic.specs.Choices.{PlainChoice}
+use Rattle.cap_goal_spec.specs.Choices.{PlainChoice}
 use Rattle.cap_goal.specs.Views.{choice_view}
 use Rattle.cap_goal.specs.declared.choice.Choice.{Choice}
-use Rattle.cap_offering.specs.Deciding.{Outcome}
-use Rattle.cap_offering.specs.Scanning.{Scan, finds, ends, goes_on}
+use Rattle.cap_offer_spec.specs.Deciding.{Outcome}
+use Rattle.cap_offer_spec.specs.Scanning.{Scan, finds, ends, goes_on}
 use Rattle.cap_offer.specs.declared.offers.Offers.{Offers}
 use Rattle.cap_offer.specs.declared.scanning.Scan as code
 use Rattle.cap_offer.specs.declared.scanning.Sought as sought

@@ -4,21 +4,21 @@ ghost use Rattle.std.specs.Option.{option_copied};
 ghost use Rattle.cap_prog.specs.Views.{act_view};
 ghost use Rattle.cap_rules.specs.Closing.{address_of as address_in};
 ghost use Rattle.cap_rules.specs.Making.{env_at as env_of, determined};
-ghost use Rattle.cap_steps.specs.Walks.{Makes, Claims, giving};
-ghost use Rattle.cap_offering.specs.Claims.{has_address as address_claim};
-ghost use Rattle.cap_offering.specs.Claims.{has_item_address as item_address_claim};
-ghost use Rattle.cap_offering.specs.Deciding.{succeeds as is_proved};
-ghost use Rattle.cap_decide.specs.Noting.{Adds};
+ghost use Rattle.cap_rules_steps.specs.Walks.{Makes, Claims, giving};
+ghost use Rattle.cap_offer_spec.specs.Claims.{has_address as address_claim};
+ghost use Rattle.cap_offer_spec.specs.Claims.{has_item_address as item_address_claim};
+ghost use Rattle.cap_offer_spec.specs.Deciding.{succeeds as is_proved};
+ghost use Rattle.cap_closure_decide.specs.Noting.{Adds};
 ghost use Rattle.cap_offer.specs.Claiming.{value_claim};
 ghost use Rattle.cap_offer.specs.Seeking.{sought_address};
 ghost use Rattle.cap_offer.specs.Views.{sought_view};
 
 use crate::scanning::Sought;
-use cap_decide::{Notes, certified};
+use cap_closure_decide::{Notes, certified};
 use cap_goal::{Env, State};
 use cap_lin::Term;
 use cap_prog::Act;
-use cap_steps::{Ledger, RuleError, determined, prove_equal, value_here};
+use cap_rules_steps::{Ledger, RuleError, determined, prove_equal, value_here};
 use std::alloc::{AllocError, Global};
 
 // The address of a heap statement.

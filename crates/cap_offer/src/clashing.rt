@@ -1,21 +1,21 @@
 //! Pairs of cells that have one address.
 ghost use Rattle.std.specs.Prelude.{◌<◌, IfOk, option_map};
 ghost use Rattle.cap_prog.specs.Views.{program_view};
-ghost use Rattle.cap_logic.specs.Fits.{HasRoom};
+ghost use Rattle.cap_goal_spec.specs.Fits.{HasRoom};
 ghost use Rattle.cap_goal.specs.Views.{goal_view, choice_view};
-ghost use Rattle.cap_offering.specs.Listing.{clashes_with, clashes};
-ghost use Rattle.cap_offering.specs.Scanning.{first_tried};
-ghost use Rattle.cap_decide.specs.Noting.{Adds};
+ghost use Rattle.cap_offer_spec.specs.Listing.{clashes_with, clashes};
+ghost use Rattle.cap_offer_spec.specs.Scanning.{first_tried};
+ghost use Rattle.cap_closure_decide.specs.Noting.{Adds};
 
 use crate::listing::count;
 use crate::trying::tried;
-use cap_decide::Notes;
+use cap_closure_decide::Notes;
 use cap_goal::{Choice, Goal};
 use cap_prog::Program;
 use std::alloc::{AllocError, Global};
 
 // The first of the later cells, of so many, that clashes with a cell.
-#[tactic(auto, unfolding(cap_offering::specs::Scanning::first_tried))]
+#[tactic(auto, unfolding(cap_offer_spec::specs::Scanning::first_tried))]
 fn first_clash_with(
     alloc: Global,
     program: &Program,

@@ -1,19 +1,19 @@
 //! At facts that are to be settled.
 ghost use Rattle.std.specs.Prelude.{◌≡◌, ◌<◌, IfOk, length, slice_get, option_map, option_to_list};
 ghost use Rattle.cap_prog.specs.Views.{program_view};
-ghost use Rattle.cap_logic.specs.Fits.{HasRoom};
+ghost use Rattle.cap_goal_spec.specs.Fits.{HasRoom};
 ghost use Rattle.cap_goal.specs.Views.{choice_view};
 ghost use Rattle.cap_closure.specs.Views.{closure_view};
-ghost use Rattle.cap_offering.specs.Offering.{of_closure, at_fact as fact_at};
-ghost use Rattle.cap_offering.specs.Offering.{at_fact_of as fact_of_type};
-ghost use Rattle.cap_offering.specs.Closures.{settles};
-ghost use Rattle.cap_decide.specs.Noting.{Adds, certs_seen};
+ghost use Rattle.cap_offer_spec.specs.Offering.{of_closure, at_fact as fact_at};
+ghost use Rattle.cap_offer_spec.specs.Offering.{at_fact_of as fact_of_type};
+ghost use Rattle.cap_offer_spec.specs.Closures.{settles};
+ghost use Rattle.cap_closure_decide.specs.Noting.{Adds, certs_seen};
 ghost use Rattle.cap_offer.specs.Views.{choices_view, region_in};
 
 use crate::listing::type_at;
 use crate::trying::only;
 use cap_closure::{Closure, closure_of};
-use cap_decide::Notes;
+use cap_closure_decide::Notes;
 use cap_farkas::Cert;
 use cap_goal::{Choice, Fact, State};
 use cap_prog::{Program, RegionType};

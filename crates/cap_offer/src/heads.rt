@@ -2,13 +2,13 @@
 ghost use Rattle.std.specs.Prelude.{IfOk};
 ghost use Rattle.cap_prog.specs.Program.{none};
 ghost use Rattle.cap_prog.specs.Views.{program_view};
-ghost use Rattle.cap_logic.specs.Fits.{HasRoom};
+ghost use Rattle.cap_goal_spec.specs.Fits.{HasRoom};
 ghost use Rattle.cap_goal.specs.Views.{goal_view, items_in, task_view, tasks_view};
-ghost use Rattle.cap_steps.specs.Goals.{point_view};
-ghost use Rattle.cap_offering.specs.Listing.{closings as closings_in};
-ghost use Rattle.cap_offering.specs.Scanning.{tried_all as all_tried};
-ghost use Rattle.cap_offering.specs.Offering.{at_task as task_at, at_tasks as tasks_at};
-ghost use Rattle.cap_decide.specs.Noting.{Adds};
+ghost use Rattle.cap_rules_steps.specs.Goals.{point_view};
+ghost use Rattle.cap_offer_spec.specs.Listing.{closings as closings_in};
+ghost use Rattle.cap_offer_spec.specs.Scanning.{tried_all as all_tried};
+ghost use Rattle.cap_offer_spec.specs.Offering.{at_task as task_at, at_tasks as tasks_at};
+ghost use Rattle.cap_closure_decide.specs.Noting.{Adds};
 ghost use Rattle.cap_offer.specs.Heads.{at_block, at_items, at_head};
 ghost use Rattle.cap_offer.specs.Views.{choices_view};
 
@@ -17,10 +17,10 @@ use crate::heap::at_statement;
 use crate::items::{at_item, first_item};
 use crate::listing::closings;
 use crate::trying::{only, tried_all, tried_alone};
-use cap_decide::{Notes, decided};
+use cap_closure_decide::{Notes, decided};
 use cap_goal::{Choice, Goal, Items, Point, Task};
 use cap_prog::Program;
-use cap_steps::next_statement;
+use cap_rules_steps::next_statement;
 use std::alloc::{AllocError, Global};
 
 // At the statement that comes first.

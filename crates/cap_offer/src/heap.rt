@@ -2,12 +2,12 @@
 //! rule.
 ghost use Rattle.std.specs.Prelude.{◌≡◌, ◌++◌, ◌&&◌, IfOk, is_some, option_map, option_to_list};
 ghost use Rattle.cap_prog.specs.Views.{act_view, program_view};
-ghost use Rattle.cap_logic.specs.Fits.{HasRoom};
+ghost use Rattle.cap_goal_spec.specs.Fits.{HasRoom};
 ghost use Rattle.cap_goal.specs.Views.{goal_view, choice_view};
 ghost use Rattle.cap_rules.specs.Making.{is_empty};
-ghost use Rattle.cap_offering.specs.Offering.{openings_unless as openings_if, by_cells as cells_by};
-ghost use Rattle.cap_offering.specs.Offering.{at_heap as heap_at, at_statement as statement_at};
-ghost use Rattle.cap_decide.specs.Noting.{Adds};
+ghost use Rattle.cap_offer_spec.specs.Offering.{openings_unless as openings_if, by_cells as cells_by};
+ghost use Rattle.cap_offer_spec.specs.Offering.{at_heap as heap_at, at_statement as statement_at};
+ghost use Rattle.cap_closure_decide.specs.Noting.{Adds};
 ghost use Rattle.cap_offer.specs.Heads.{after_act, rule_of};
 ghost use Rattle.cap_offer.specs.Views.{choices_view};
 
@@ -15,7 +15,7 @@ use crate::clashing::first_clash;
 use crate::listing::openings;
 use crate::scanning::{Sought, first_sought};
 use crate::trying::{only, tried_all, tried_alone};
-use cap_decide::Notes;
+use cap_closure_decide::Notes;
 use cap_goal::{Choice, Goal, State};
 use cap_prog::{Act, Program};
 use std::alloc::{AllocError, Global};

@@ -2,11 +2,11 @@
 ghost use Rattle.std.specs.Prelude.{◌≡◌, IfOk};
 ghost use Rattle.cap_prog.specs.Program.{none};
 ghost use Rattle.cap_prog.specs.Views.{item_view, program_view};
-ghost use Rattle.cap_logic.specs.Fits.{HasRoom};
+ghost use Rattle.cap_goal_spec.specs.Fits.{HasRoom};
 ghost use Rattle.cap_goal.specs.Views.{items_in, goal_view};
-ghost use Rattle.cap_offering.specs.Offering.{at_cell as cell_at, at_atom as atom_at};
-ghost use Rattle.cap_offering.specs.Offering.{at_item as item_at};
-ghost use Rattle.cap_decide.specs.Noting.{Adds};
+ghost use Rattle.cap_offer_spec.specs.Offering.{at_cell as cell_at, at_atom as atom_at};
+ghost use Rattle.cap_offer_spec.specs.Offering.{at_item as item_at};
+ghost use Rattle.cap_closure_decide.specs.Noting.{Adds};
 ghost use Rattle.cap_offer.specs.Heads.{at_region as region_at};
 ghost use Rattle.cap_offer.specs.Views.{choices_view, first_of_items, item_in};
 
@@ -14,7 +14,7 @@ use crate::listing::{cuts, regions, type_at};
 use crate::scanning::{Sought, first_sought};
 use crate::sums::conversions;
 use crate::trying::{first_tried, only, tried_all, tried_alone};
-use cap_decide::Notes;
+use cap_closure_decide::Notes;
 use cap_goal::{Choice, Goal, Items};
 use cap_lin::Term;
 use cap_prog::{Item, Program};

@@ -1,10 +1,10 @@
 //! The choices that come into question, in order, without certificates.
 ghost use Rattle.std.specs.Prelude.{◌≡◌, ◌++◌, IfOk, OnOk, slice_get};
 ghost use Rattle.cap_prog.specs.Views.{region_view, program_view};
-ghost use Rattle.cap_offering.specs.Listing.{openings as openings_of, known_regions, new_regions};
-ghost use Rattle.cap_offering.specs.Listing.{cuts as cuts_of, moves_of, closings_of};
-ghost use Rattle.cap_offering.specs.Listing.{type_of_opened as opened_type};
-ghost use Rattle.cap_offering.specs.Listing.{closings as closings_in};
+ghost use Rattle.cap_offer_spec.specs.Listing.{openings as openings_of, known_regions, new_regions};
+ghost use Rattle.cap_offer_spec.specs.Listing.{cuts as cuts_of, moves_of, closings_of};
+ghost use Rattle.cap_offer_spec.specs.Listing.{type_of_opened as opened_type};
+ghost use Rattle.cap_offer_spec.specs.Listing.{closings as closings_in};
 ghost use Rattle.cap_offer.specs.Views.{choices_view, region_in};
 
 use cap_goal::{Choice, State};

@@ -1,12 +1,12 @@
 ghost use Rattle.std.specs.Prelude.{◌≡◌, IfOk};
 ghost use Rattle.cap_prog.specs.Views.{program_view};
-ghost use Rattle.cap_logic.specs.Fits.{HasRoom};
+ghost use Rattle.cap_goal_spec.specs.Fits.{HasRoom};
 ghost use Rattle.cap_goal.specs.Views.{goal_view};
-ghost use Rattle.cap_offering.specs.Offering.{offered as offered_at};
+ghost use Rattle.cap_offer_spec.specs.Offering.{offered as offered_at};
 ghost use Rattle.cap_offer.specs.Views.{offers_view};
 
 use crate::heads::at_tasks;
-use cap_decide::Notes;
+use cap_closure_decide::Notes;
 use cap_goal::{Choice, Goal};
 use cap_prog::Program;
 use std::alloc::{AllocError, Global};
@@ -23,7 +23,7 @@ pub struct Offers {
 /// and of which elimination refutes each list that is owed, within its limits; marks that it
 /// doesn't refute are left without a certificate. A contradiction among the goal's rows is offered
 /// alone.
-#[tactic(auto, unfolding(cap_offering::specs::Offering::offered, cap_offering::specs::Offering::offering))]
+#[tactic(auto, unfolding(cap_offer_spec::specs::Offering::offered, cap_offer_spec::specs::Offering::offering))]
 #[inline(never)]
 pub fn offered(alloc: Global, program: &Program, goal: &Goal<'_>) -> Result<Offers, AllocError>
     requires { HasRoom goal.now.state }

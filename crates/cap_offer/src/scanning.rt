@@ -1,16 +1,16 @@
 //! The first cell that has the wanted address.
 ghost use Rattle.std.specs.Prelude.{◌≡◌, IfOk, option_map, is_none, count_by};
 ghost use Rattle.cap_prog.specs.Views.{program_view};
-ghost use Rattle.cap_logic.specs.Fits.{HasRoom};
+ghost use Rattle.cap_goal_spec.specs.Fits.{HasRoom};
 ghost use Rattle.cap_goal.specs.Views.{goal_view, choice_view};
 ghost use Rattle.cap_rules.specs.Answers.{proofs as proofs_of_choice};
-ghost use Rattle.cap_steps.specs.Judging.{IsTold, lists_view};
-ghost use Rattle.cap_steps.specs.Walks.{seen};
-ghost use Rattle.cap_offering.specs.Scanning.{finished_cell, finished_act};
-ghost use Rattle.cap_offering.specs.Scanning.{has_room_for as room_for};
-ghost use Rattle.cap_offering.specs.Scanning.{at_address as address_scan, choice_if};
-ghost use Rattle.cap_offering.specs.Scanning.{ends_if as over_if, found_or_ends, parted};
-ghost use Rattle.cap_decide.specs.Noting.{Adds, certs_seen};
+ghost use Rattle.cap_rules_steps.specs.Judging.{IsTold, lists_view};
+ghost use Rattle.cap_rules_steps.specs.Walks.{seen};
+ghost use Rattle.cap_offer_spec.specs.Scanning.{finished_cell, finished_act};
+ghost use Rattle.cap_offer_spec.specs.Scanning.{has_room_for as room_for};
+ghost use Rattle.cap_offer_spec.specs.Scanning.{at_address as address_scan, choice_if};
+ghost use Rattle.cap_offer_spec.specs.Scanning.{ends_if as over_if, found_or_ends, parted};
+ghost use Rattle.cap_closure_decide.specs.Noting.{Adds, certs_seen};
 ghost use Rattle.cap_offer.specs.Seeking.{sought_choice, sought_finish, sought_scan};
 ghost use Rattle.cap_offer.specs.Seeking.{scan_lists};
 ghost use Rattle.cap_offer.specs.Seeking.{first_sought as sought_from};
@@ -18,13 +18,13 @@ ghost use Rattle.cap_offer.specs.Views.{lists_in, scan_view, sought_view};
 
 use crate::claims::has_sought_address;
 use crate::listing::count;
-use cap_decide::{Notes, decided_all, decided_each};
+use cap_closure_decide::{Notes, decided_all, decided_each};
 use cap_farkas::Cert;
 use cap_goal::{Choice, Goal, State};
 use cap_kernel::proofs;
 use cap_lin::{Row, Term};
 use cap_prog::{Act, Program};
-use cap_steps::RuleError;
+use cap_rules_steps::RuleError;
 use std::alloc::{AllocError, Global};
 
 // The most members of a list of a state.
@@ -211,7 +211,7 @@ fn by_lists(
 }
 
 // What the scan comes to at a cell.
-#[tactic(auto, unfolding(cap_offering::specs::Scanning::scanned_cell))]
+#[tactic(auto, unfolding(cap_offer_spec::specs::Scanning::scanned_cell))]
 fn scan_cell(
     alloc: Global,
     program: &Program,

@@ -3,7 +3,7 @@ ghost use Rattle.std.specs.Prelude.{◌≡◌, ◌+◌, ◌++◌, IfOk, OnOk};
 ghost use Rattle.cap_galg.specs.Algebras.{atoms};
 ghost use Rattle.cap_galg.specs.Views.{algebra_view};
 ghost use Rattle.cap_rules.specs.Taking.{sum_count};
-ghost use Rattle.cap_offering.specs.Listing.{conversions as conversions_to};
+ghost use Rattle.cap_offer_spec.specs.Listing.{conversions as conversions_to};
 ghost use Rattle.cap_offer.specs.Sums.{conversion_at, conversions_in};
 ghost use Rattle.cap_offer.specs.Views.{choices_view, region_in};
 

@@ -3,7 +3,7 @@ ghost use Rattle.cap_prog.specs.Empty.{closing};
 ghost use Rattle.cap_prog.specs.Program.{none, PlainProgram};
 ghost use Rattle.cap_prog.specs.Views.{assertion_view, function_view, statement_view};
 ghost use Rattle.cap_prog.specs.WellFormed.{FunctionFits};
-ghost use Rattle.cap_logic.specs.Fits.{HasRoom};
+ghost use Rattle.cap_goal_spec.specs.Fits.{HasRoom};
 
 use crate::offered;
 use cap_goal::{Choice, Goal, Home, Point, State, Task};

@@ -1,14 +1,14 @@
 //! Choices are tried: each in its turn, or the first that succeeds.
 ghost use Rattle.std.specs.Prelude.{◌≡◌, [], ◌∷◌, IfOk, option_map, option_to_list};
 ghost use Rattle.cap_prog.specs.Views.{program_view};
-ghost use Rattle.cap_logic.specs.Fits.{HasRoom};
+ghost use Rattle.cap_goal_spec.specs.Fits.{HasRoom};
 ghost use Rattle.cap_goal.specs.Views.{goal_view, choice_view};
-ghost use Rattle.cap_offering.specs.Scanning.{with_certs as choice_with_certs, tried as tried_at};
-ghost use Rattle.cap_offering.specs.Scanning.{tried_all as all_tried, first_tried as first_of};
-ghost use Rattle.cap_decide.specs.Noting.{Adds, certs_seen};
+ghost use Rattle.cap_offer_spec.specs.Scanning.{with_certs as choice_with_certs, tried as tried_at};
+ghost use Rattle.cap_offer_spec.specs.Scanning.{tried_all as all_tried, first_tried as first_of};
+ghost use Rattle.cap_closure_decide.specs.Noting.{Adds, certs_seen};
 ghost use Rattle.cap_offer.specs.Views.{choices_view};
 
-use cap_decide::{Notes, certified_by};
+use cap_closure_decide::{Notes, certified_by};
 use cap_farkas::Cert;
 use cap_goal::{Choice, Goal};
 use cap_kernel::proofs;
@@ -64,7 +64,7 @@ fn proved(choice: Choice, certs: Option<Vec<Cert>>) -> Option<Choice>
 }
 
 /// The choice with the certificates of its proofs, where it applies and each proof has one.
-#[tactic(auto, unfolding(cap_offering::specs::Scanning::tried))]
+#[tactic(auto, unfolding(cap_offer_spec::specs::Scanning::tried))]
 pub(crate) fn tried(
     alloc: Global,
     program: &Program,
@@ -82,7 +82,7 @@ pub(crate) fn tried(
 }
 
 /// Each of the choices that succeeds.
-#[tactic(auto, unfolding(cap_offering::specs::Scanning::tried_all))]
+#[tactic(auto, unfolding(cap_offer_spec::specs::Scanning::tried_all))]
 pub(crate) fn tried_all(
     alloc: Global,
     program: &Program,
@@ -104,7 +104,7 @@ pub(crate) fn tried_all(
 }
 
 /// The first of the choices that succeeds.
-#[tactic(auto, unfolding(cap_offering::specs::Scanning::first_tried))]
+#[tactic(auto, unfolding(cap_offer_spec::specs::Scanning::first_tried))]
 pub(crate) fn first_tried(
     alloc: Global,
     program: &Program,

@@ -4,9 +4,9 @@ use Rattle.cap_farkas.specs.declared.cert.Cert.{Cert}
 use Rattle.cap_prog.specs.Program.{none, item, done, first, Block, PlainProgram}
 use Rattle.cap_prog.specs.declared.function.Statement.{Statement}
 use Rattle.cap_goal.specs.declared.task.Point.{Point}
-use Rattle.cap_steps.specs.Goals.{ahead, point_view}
-use Rattle.cap_logic.specs.States.{Home, PlainState, PlainTask, to_run, to_turn, to_give, to_take, to_make, to_close, to_shift, to_rest, PlainGoal}
-use Rattle.cap_logic.specs.Choices.{PlainChoice, by_enter, by_act, by_pick, by_shift}
+use Rattle.cap_rules_steps.specs.Goals.{ahead, point_view}
+use Rattle.cap_goal_spec.specs.States.{Home, PlainState, PlainTask, to_run, to_turn, to_give, to_take, to_make, to_close, to_shift, to_rest, PlainGoal}
+use Rattle.cap_goal_spec.specs.Choices.{PlainChoice, by_enter, by_act, by_pick, by_shift}
 use Rattle.cap_rules.specs.Rules.{at_tasks, rule}
 use Rattle.std.specs.Prelude.{Ok, Err}
 use Rattle.std.specs.Borrow.{Bor}
@@ -14,9 +14,9 @@ use Rattle.cap_lin.specs.declared.row.Row.{Row}
 use Rattle.cap_goal.specs.declared.task.Task.{Task}
 use Rattle.cap_goal.specs.Views.{tasks_view}
 use Rattle.cap_rules.specs.Attempts.{not_applicable}
-use Rattle.cap_steps.specs.Walks.{Makes, Claims}
-use Rattle.cap_steps.specs.declared.error.RuleError.TheVariants.{NotApplicable}
-use Rattle.cap_steps.proofs.Walking.{inapplicable, weaker, done_as}
+use Rattle.cap_rules_steps.specs.Walks.{Makes, Claims}
+use Rattle.cap_rules_steps.specs.declared.error.RuleError.TheVariants.{NotApplicable}
+use Rattle.cap_rules_steps.proofs.Walking.{inapplicable, weaker, done_as}
 use Rattle.cap_open.specs.Heads.{IsOpening, Ahead, statement_ahead, ahead_in, ahead_at, ahead_of, run_at, enter_first, act_first, closing_of, pick_first, shifting_of, shift_first, Taken, rule_in, taken}
 
 pub enters : (p : PlainProgram) (s : PlainState) (marks : List Bool) (i : ℕ) (cs : List Cert) (ts : List PlainTask) → enter_first p s i ts ≡ at_tasks p s marks (by_enter i cs) ts

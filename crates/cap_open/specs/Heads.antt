@@ -6,20 +6,20 @@ use Rattle.cap_farkas.specs.declared.cert.Cert.{Cert}
 use Rattle.cap_prog.specs.Program.{PlainAct, Block, done, first, PlainProgram}
 use Rattle.cap_prog.specs.Views.{act_view, statement_view}
 use Rattle.cap_prog.specs.declared.function.Statement.{Statement}
-use Rattle.cap_logic.specs.States.{PlainState, Home, PlainTask, to_run, to_close, to_shift, PlainGoal}
-use Rattle.cap_logic.specs.Choices.{PlainChoice, by_enter, by_act, by_pick, by_shift}
+use Rattle.cap_goal_spec.specs.States.{PlainState, Home, PlainTask, to_run, to_close, to_shift, PlainGoal}
+use Rattle.cap_goal_spec.specs.Choices.{PlainChoice, by_enter, by_act, by_pick, by_shift}
 use Rattle.cap_goal.specs.declared.task.Home as code_home
 use Rattle.cap_goal.specs.declared.task.Point.{Point}
 use Rattle.cap_goal.specs.Views.{home_view}
 use Rattle.cap_rules.specs.Attempts.{Attempt, unit, ◌>>=◌, not_applicable}
 use Rattle.cap_rules.specs.Rules.{at_close, at_shift}
-use Rattle.cap_steps.specs.Goals.{point_view}
+use Rattle.cap_rules_steps.specs.Goals.{point_view}
 use Rattle.cap_open.specs.declared.opening.Rule.{Rule}
 use Rattle.cap_open.specs.declared.opening.Rule.TheVariants.{Enter, Act, Pick, Shift}
 use Rattle.cap_open.specs.declared.heads.Ahead as code
 use Rattle.cap_open.specs.declared.heads.Closing as code_closing
 use Rattle.cap_open.specs.declared.heads.Shifting as code_shifting
-use Rattle.cap_acts.specs.Steps.{enter_at, act_at}
+use Rattle.cap_open_acts.specs.Steps.{enter_at, act_at}
 
 -- to open a region, to act on a cell, to choose how a region is closed, or to check that
 abbrev pub IsOpening : PlainChoice → Type 0

@@ -1,9 +1,9 @@
 //! The heads of goals at which a region is opened or closed, or a statement acts on a cell.
 ghost use Rattle.std.specs.Prelude.{◌≡◌, ◌∷◌, drop, IfOk, option_map};
 ghost use Rattle.cap_goal.specs.Views.{home_view, task_view, tasks_view};
-ghost use Rattle.cap_logic.specs.States.{to_run};
-ghost use Rattle.cap_steps.specs.Goals.{point_view};
-ghost use Rattle.cap_steps.specs.Walks.{Makes, seen};
+ghost use Rattle.cap_goal_spec.specs.States.{to_run};
+ghost use Rattle.cap_rules_steps.specs.Goals.{point_view};
+ghost use Rattle.cap_rules_steps.specs.Walks.{Makes, seen};
 ghost use Rattle.cap_open.specs.Heads.{ahead_view, ahead_in, ahead_at, ahead_of};
 ghost use Rattle.cap_open.specs.Heads.{run_at, run_view, statement_ahead};
 ghost use Rattle.cap_open.specs.Heads.{closing_view, closing_at as closing_in, closing_of};
@@ -11,7 +11,7 @@ ghost use Rattle.cap_open.specs.Heads.{shifting_view, shifting_at as shifting_in
 
 use cap_goal::{Home, Point, Task};
 use cap_prog::{Act, Statement};
-use cap_steps::{RuleError, copy_point, copy_tasks, next_statement};
+use cap_rules_steps::{RuleError, copy_point, copy_tasks, next_statement};
 use std::alloc::{AllocError, Global};
 
 /// The statement that comes first, with its number, and the point behind it.
@@ -37,7 +37,7 @@ fn with_statement<'a>(home: Home, statement: &'a Statement, rest: Point<'a>) -> 
 }
 
 // The statement that comes first at a point of a body.
-#[tactic(auto, using(cap_steps::proofs::Walking::making))]
+#[tactic(auto, using(cap_rules_steps::proofs::Walking::making))]
 fn ahead_in<'a>(alloc: Global, home: Home, point: &Point<'a>) -> Result<Ahead<'a>, RuleError>
     ensures { Makes (seen ahead_view result) (ahead_in (home_view home) (point_view point.now)) }
 {

@@ -2,27 +2,27 @@
 ghost use Rattle.std.specs.Prelude.{◌≡◌, IfOk, is_some, map, option_map};
 ghost use Rattle.cap_prog.specs.Views.{program_view};
 ghost use Rattle.cap_goal.specs.Views.{choice_view, goal_view, tasks_view};
-ghost use Rattle.cap_logic.specs.Choices.{certs_of as certs_in};
-ghost use Rattle.cap_logic.specs.Fits.{HasRoom};
+ghost use Rattle.cap_goal_spec.specs.Choices.{certs_of as certs_in};
+ghost use Rattle.cap_goal_spec.specs.Fits.{HasRoom};
 ghost use Rattle.cap_rules.specs.Answers.{marks_of as choice_marks, proofs};
 ghost use Rattle.cap_rules.specs.Answers.{full_marks as all_marks};
 ghost use Rattle.cap_rules.specs.Rules.{rule};
-ghost use Rattle.cap_steps.specs.Goals.{goals_view};
-ghost use Rattle.cap_steps.specs.Judging.{Answered, IsTold, lists_view};
-ghost use Rattle.cap_steps.specs.Walks.{Makes, Claims, seen};
+ghost use Rattle.cap_rules_steps.specs.Goals.{goals_view};
+ghost use Rattle.cap_rules_steps.specs.Judging.{Answered, IsTold, lists_view};
+ghost use Rattle.cap_rules_steps.specs.Walks.{Makes, Claims, seen};
 ghost use Rattle.cap_open.specs.Heads.{IsOpening, enter_first, act_first, marks_seen};
 ghost use Rattle.cap_open.specs.Heads.{pick_first, shift_first};
 ghost use Rattle.cap_open.specs.Heads.{marks_in as marks_there, rule_view, rule_in};
 ghost use Rattle.cap_open.specs.Heads.{taken_by, taken};
 
 use crate::heads::{ahead_of, behind, closing_of, shifting_of, with_run};
-use cap_acts::{act, enter, full_marks};
 use cap_farkas::Cert;
 use cap_goal::{Choice, Goal, State, Task};
 use cap_lin::Row;
-use cap_moves::{pick, shift};
+use cap_open_acts::{act, enter, full_marks};
+use cap_open_moves::{pick, shift};
 use cap_prog::Program;
-use cap_steps::{Ledger, RuleError, certs_of, judged, told};
+use cap_rules_steps::{Ledger, RuleError, certs_of, judged, told};
 use std::alloc::{AllocError, Global};
 
 /// A rule by which a region is opened, a statement acts on a cell, or a region is closed: the fact,

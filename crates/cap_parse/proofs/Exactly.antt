@@ -2,14 +2,14 @@
 use Rattle.std.proofs.Common.{◌≡◌, ◌↔◌, ◌-◌, List, [], ◌∷◌, ◌++◌, length, take, get_or, Result, Ok, Err, refl, sym, ap, ◌∙◌, subst, arith, length-append}
 use Rattle.cap_syntax.specs.declared.place.Place.{Place}
 use Rattle.cap_syntax.specs.declared.token.Token.{Token}
-use Rattle.cap_tree.specs.declared.tree.Tree.{Tree}
-use Rattle.cap_tree.specs.Tree.{ProgramTree}
-use Rattle.cap_tree.specs.Spelling.{spelling}
-use Rattle.cap_tree.specs.Nesting.{max_nesting, Nests}
-use Rattle.cap_tree.specs.Texts.{IsUnexpectedAt, IsTooDeepAt}
-use Rattle.cap_tree.specs.Views.{tree_view}
-use Rattle.cap_grammar.specs.Readers.{Fault, unexpected, too_deep}
-use Rattle.cap_grammar.specs.Grammar.{read_program}
+use Rattle.cap_parse_tree.specs.declared.tree.Tree.{Tree}
+use Rattle.cap_parse_tree.specs.Tree.{ProgramTree}
+use Rattle.cap_parse_tree.specs.Spelling.{spelling}
+use Rattle.cap_parse_tree.specs.Nesting.{max_nesting, Nests}
+use Rattle.cap_parse_tree.specs.Texts.{IsUnexpectedAt, IsTooDeepAt}
+use Rattle.cap_parse_tree.specs.Views.{tree_view}
+use Rattle.cap_parse_laws.specs.Readers.{Fault, unexpected, too_deep}
+use Rattle.cap_parse_laws.specs.Grammar.{read_program}
 use Rattle.cap_parse.specs.declared.text.ParseError.{ParseError}
 use Rattle.cap_parse.specs.declared.text.ParseError.TheVariants.{Unexpected, TooDeep, OutOfMemory}
 use Rattle.cap_parse.specs.Parsing.{first_place, IsTreeOf, IsParseOf, GivesTree, Refuses, IsOnlyParseOf}

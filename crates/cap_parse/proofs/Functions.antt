@@ -1,8 +1,8 @@
 -- A function is read as its head, and then the rest.
 use Rattle.std.proofs.Common.{◌≡◌, ℕ, List, Result, Ok, Err, refl, ap}
 use Rattle.cap_syntax.specs.declared.token.Token.{Token}
-use Rattle.cap_grammar.specs.Readers.{Fault, Outcome, ◌>>=◌, next_place, read_name, read_listed}
-use Rattle.cap_grammar.specs.Grammar.{read_function}
+use Rattle.cap_parse_laws.specs.Readers.{Fault, Outcome, ◌>>=◌, next_place, read_name, read_listed}
+use Rattle.cap_parse_laws.specs.Grammar.{read_function}
 use Rattle.cap_parse.specs.declared.cursor.Stop.{Stop}
 use Rattle.cap_parse.specs.declared.cursor.Stop.TheVariants.{Unexpected, TooDeep, OutOfMemory}
 use Rattle.cap_parse.specs.Reads.{IsRead}

@@ -1,14 +1,14 @@
 -- The heads of region types and functions. Only private functions cite this.
 use Rattle.std.specs.Prelude.{ℕ, List, Option, Ok}
 use Rattle.cap_syntax.specs.declared.place.Place.{Place}
-use Rattle.cap_tree.specs.declared.word.Word.{Word}
-use Rattle.cap_tree.specs.Tree.{InParentheses, ClauseTree, BlockTree, FunctionTree}
-use Rattle.cap_tree.specs.Views.{several_view, listed_view, word_view}
-use Rattle.cap_grammar.specs.declared.class.Class.{Class}
-use Rattle.cap_grammar.specs.declared.class.Class.TheVariants.{Requires, Ensures}
-use Rattle.cap_grammar.specs.Classes.{are_same}
-use Rattle.cap_grammar.specs.Readers.{Reader, ◌>>=◌, next_place, read_name, read_listed, read_optional}
-use Rattle.cap_grammar.specs.Grammar.{HeadTree, read_clause, block_at}
+use Rattle.cap_parse_tree.specs.declared.word.Word.{Word}
+use Rattle.cap_parse_tree.specs.Tree.{InParentheses, ClauseTree, BlockTree, FunctionTree}
+use Rattle.cap_parse_tree.specs.Views.{several_view, listed_view, word_view}
+use Rattle.cap_parse_laws.specs.declared.class.Class.{Class}
+use Rattle.cap_parse_laws.specs.declared.class.Class.TheVariants.{Requires, Ensures}
+use Rattle.cap_parse_laws.specs.Classes.{are_same}
+use Rattle.cap_parse_laws.specs.Readers.{Reader, ◌>>=◌, next_place, read_name, read_listed, read_optional}
+use Rattle.cap_parse_laws.specs.Grammar.{HeadTree, read_clause, block_at}
 use Rattle.cap_parse.specs.declared.region.Head.{Head}
 use Rattle.cap_parse.specs.declared.program.FunctionHead.{FunctionHead}
 

@@ -2,12 +2,12 @@
 use Rattle.std.specs.Prelude.{◌≡◌, List, [], ◌∷◌, ◌++◌, Result, Ok, Err}
 use Rattle.cap_syntax.specs.declared.place.Place.{Place}
 use Rattle.cap_syntax.specs.declared.token.Token.{Token}
-use Rattle.cap_tree.specs.declared.tree.Tree.{Tree}
-use Rattle.cap_tree.specs.Tree.{ProgramTree}
-use Rattle.cap_tree.specs.Spelling.{spelling}
-use Rattle.cap_tree.specs.Nesting.{Nests}
-use Rattle.cap_tree.specs.Texts.{IsUnexpectedAt, IsTooDeepAt}
-use Rattle.cap_tree.specs.Views.{tree_view}
+use Rattle.cap_parse_tree.specs.declared.tree.Tree.{Tree}
+use Rattle.cap_parse_tree.specs.Tree.{ProgramTree}
+use Rattle.cap_parse_tree.specs.Spelling.{spelling}
+use Rattle.cap_parse_tree.specs.Nesting.{Nests}
+use Rattle.cap_parse_tree.specs.Texts.{IsUnexpectedAt, IsTooDeepAt}
+use Rattle.cap_parse_tree.specs.Views.{tree_view}
 use Rattle.cap_parse.specs.declared.text.ParseError.{ParseError}
 use Rattle.cap_parse.specs.declared.text.ParseError.TheVariants.{Unexpected, TooDeep, OutOfMemory}
 

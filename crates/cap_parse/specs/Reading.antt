@@ -2,11 +2,11 @@
 use Rattle.std.specs.Prelude.{◌≡◌, List, Result, Ok, Err}
 use Rattle.cap_syntax.specs.declared.place.Place.{Place}
 use Rattle.cap_syntax.specs.declared.token.Token.{Token}
-use Rattle.cap_tree.specs.declared.tree.Tree.{Tree}
-use Rattle.cap_tree.specs.Nesting.{max_nesting}
-use Rattle.cap_tree.specs.Views.{tree_view}
-use Rattle.cap_grammar.specs.Readers.{unexpected, too_deep}
-use Rattle.cap_grammar.specs.Grammar.{read_program}
+use Rattle.cap_parse_tree.specs.declared.tree.Tree.{Tree}
+use Rattle.cap_parse_tree.specs.Nesting.{max_nesting}
+use Rattle.cap_parse_tree.specs.Views.{tree_view}
+use Rattle.cap_parse_laws.specs.Readers.{unexpected, too_deep}
+use Rattle.cap_parse_laws.specs.Grammar.{read_program}
 use Rattle.cap_parse.specs.declared.text.ParseError.{ParseError}
 use Rattle.cap_parse.specs.declared.text.ParseError.TheVariants.{Unexpected, TooDeep, OutOfMemory}
 use Rattle.cap_parse.specs.Parsing.{first_place}

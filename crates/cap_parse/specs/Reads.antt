@@ -2,7 +2,7 @@
 -- cite this.
 use Rattle.std.specs.Prelude.{◌≡◌, List, Result, Ok, Err}
 use Rattle.cap_syntax.specs.declared.token.Token.{Token}
-use Rattle.cap_grammar.specs.Readers.{Fault, unexpected, too_deep}
+use Rattle.cap_parse_laws.specs.Readers.{Fault, unexpected, too_deep}
 use Rattle.cap_parse.specs.declared.cursor.Stop.{Stop}
 use Rattle.cap_parse.specs.declared.cursor.Stop.TheVariants.{Unexpected, TooDeep, OutOfMemory}
 

@@ -1,24 +1,24 @@
 // Guards and assertions. `room` is how many more brackets may open.
 
 ghost use Rattle.std.specs.Prelude.{◌≡◌, Ok, map};
-ghost use Rattle.cap_tree.specs.Views.{term_view, comparison_view, slot_view, guard_view};
-ghost use Rattle.cap_tree.specs.Views.{held_view, several_view, behind_view, item_view, and_view};
-ghost use Rattle.cap_tree.specs.Views.{assertion_view, side_view, clause_view};
-ghost use Rattle.cap_grammar.specs.Grammar.{read_slot, read_amount, read_counted, read_guard};
-ghost use Rattle.cap_grammar.specs.Grammar.{read_guards, read_held, read_choice, read_item_from};
-ghost use Rattle.cap_grammar.specs.Grammar.{read_fact, read_named_item, read_item, read_assertion};
-ghost use Rattle.cap_grammar.specs.Grammar.{read_assertion_with, read_side, side_at, read_clause};
-ghost use Rattle.cap_grammar.specs.Readers.{read_more};
-ghost use Rattle.cap_grammar.specs.declared.class.Class.TheVariants.{Star, Comma, And as Joins};
+ghost use Rattle.cap_parse_tree.specs.Views.{term_view, comparison_view, slot_view, guard_view};
+ghost use Rattle.cap_parse_tree.specs.Views.{held_view, several_view, behind_view, item_view, and_view};
+ghost use Rattle.cap_parse_tree.specs.Views.{assertion_view, side_view, clause_view};
+ghost use Rattle.cap_parse_laws.specs.Grammar.{read_slot, read_amount, read_counted, read_guard};
+ghost use Rattle.cap_parse_laws.specs.Grammar.{read_guards, read_held, read_choice, read_item_from};
+ghost use Rattle.cap_parse_laws.specs.Grammar.{read_fact, read_named_item, read_item, read_assertion};
+ghost use Rattle.cap_parse_laws.specs.Grammar.{read_assertion_with, read_side, side_at, read_clause};
+ghost use Rattle.cap_parse_laws.specs.Readers.{read_more};
+ghost use Rattle.cap_parse_laws.specs.declared.class.Class.TheVariants.{Star, Comma, And as Joins};
 ghost use Rattle.cap_parse.specs.Reads.{IsRead};
 
 use crate::cursor::{Cursor, Stop};
-use cap_grammar::Class;
-use cap_syntax::Place;
-use cap_tree::{
+use cap_parse_laws::Class;
+use cap_parse_tree::{
     And, Assertion, Clause, Comparison, Counted, GuardAtom, Guards, Item, Separated, Side, Slot,
     Term, Word,
 };
+use cap_syntax::Place;
 
 impl<'a> Cursor<'a> {
     /// A guard's name, behind which an amount may come.

@@ -1,15 +1,15 @@
 // The tokens that are still to be read, and the steps that every production takes.
 
 ghost use Rattle.std.specs.Prelude.{◌≡◌, Ok};
-ghost use Rattle.cap_grammar.specs.Classes.{are_same};
-ghost use Rattle.cap_grammar.specs.Readers.{ahead, next_token, next_place, next_word, next_literal};
-ghost use Rattle.cap_grammar.specs.Readers.{expect, read_name, read_number, read_opening};
+ghost use Rattle.cap_parse_laws.specs.Classes.{are_same};
+ghost use Rattle.cap_parse_laws.specs.Readers.{ahead, next_token, next_place, next_word, next_literal};
+ghost use Rattle.cap_parse_laws.specs.Readers.{expect, read_name, read_number, read_opening};
 ghost use Rattle.cap_parse.specs.Reads.{IsRead};
 ghost use Rattle.cap_parse.specs.declared.cursor.Stop.TheVariants.{OutOfMemory};
 
-use cap_grammar::{Class, are_same, class_of};
+use cap_parse_laws::{Class, are_same, class_of};
+use cap_parse_tree::{Literal, Word};
 use cap_syntax::{Place, Token};
-use cap_tree::{Literal, Word};
 use std::alloc::{AllocError, AllocFailed, Global};
 
 /// Why there is no tree. The cursor then stands at the token at fault, or at the end.

@@ -1,22 +1,22 @@
 // Functions and whole texts. `room` is how many more brackets may open.
 
 ghost use Rattle.std.specs.Prelude.{◌≡◌, Ok, map, not, option_map};
-ghost use Rattle.cap_tree.specs.Views.{several_view, listed_view, word_view, clause_view};
-ghost use Rattle.cap_tree.specs.Views.{block_view, function_view, declaration_view, tree_view};
-ghost use Rattle.cap_grammar.specs.Classes.{are_same};
-ghost use Rattle.cap_grammar.specs.Grammar.{read_function, read_declaration};
-ghost use Rattle.cap_grammar.specs.Readers.{read_name, read_several, read_optional, read_until};
-ghost use Rattle.cap_grammar.specs.Readers.{read_listed};
-ghost use Rattle.cap_grammar.specs.declared.class.Class.TheVariants.{Comma, Close, End};
+ghost use Rattle.cap_parse_tree.specs.Views.{several_view, listed_view, word_view, clause_view};
+ghost use Rattle.cap_parse_tree.specs.Views.{block_view, function_view, declaration_view, tree_view};
+ghost use Rattle.cap_parse_laws.specs.Classes.{are_same};
+ghost use Rattle.cap_parse_laws.specs.Grammar.{read_function, read_declaration};
+ghost use Rattle.cap_parse_laws.specs.Readers.{read_name, read_several, read_optional, read_until};
+ghost use Rattle.cap_parse_laws.specs.Readers.{read_listed};
+ghost use Rattle.cap_parse_laws.specs.declared.class.Class.TheVariants.{Comma, Close, End};
 ghost use Rattle.cap_parse.specs.Heads.{function_head_view, read_whole_clause, read_whole_block};
 ghost use Rattle.cap_parse.specs.Heads.{read_function_head, read_function_body, read_postcondition};
 ghost use Rattle.cap_parse.specs.Heads.{read_function_from};
 ghost use Rattle.cap_parse.specs.Reads.{IsRead};
 
 use crate::cursor::{Cursor, Stop};
-use cap_grammar::Class;
+use cap_parse_laws::Class;
+use cap_parse_tree::{Block, Clause, Declaration, Function, Listed, Separated, Word};
 use cap_syntax::Place;
-use cap_tree::{Block, Clause, Declaration, Function, Listed, Separated, Word};
 
 /// A function's keyword, name and parameters.
 #[derive(Drop)]

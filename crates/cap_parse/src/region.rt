@@ -1,30 +1,30 @@
 // Region types. `room` is how many more brackets may open.
 
 ghost use Rattle.std.specs.Prelude.{◌≡◌, Ok, map, option_map};
-ghost use Rattle.cap_tree.specs.Views.{comparison_view, several_view, group_view, behind_view};
-ghost use Rattle.cap_tree.specs.Views.{word_view, declared_view, both_view, joint_view};
-ghost use Rattle.cap_tree.specs.Views.{either_view, algebra_view, when_view, case_view};
-ghost use Rattle.cap_tree.specs.Views.{action_view, region_view};
-ghost use Rattle.cap_grammar.specs.Classes.{are_same};
-ghost use Rattle.cap_grammar.specs.Grammar.{read_comparison, read_declared, read_joint};
-ghost use Rattle.cap_grammar.specs.Grammar.{read_grouped, grouped_at, read_algebra, read_when};
-ghost use Rattle.cap_grammar.specs.Grammar.{read_optional_when, read_case, read_action, read_head};
-ghost use Rattle.cap_grammar.specs.Grammar.{read_region_body, read_region};
-ghost use Rattle.cap_grammar.specs.Readers.{read_name, read_more, read_several, read_optional};
-ghost use Rattle.cap_grammar.specs.Readers.{read_until, read_group};
-ghost use Rattle.cap_grammar.specs.declared.class.Class.TheVariants.{Comma, Star, Plus};
-ghost use Rattle.cap_grammar.specs.declared.class.Class.TheVariants.{When as Under, CloseBrace};
-ghost use Rattle.cap_grammar.specs.declared.class.Class.TheVariants.{Interpretation, Actions};
+ghost use Rattle.cap_parse_tree.specs.Views.{comparison_view, several_view, group_view, behind_view};
+ghost use Rattle.cap_parse_tree.specs.Views.{word_view, declared_view, both_view, joint_view};
+ghost use Rattle.cap_parse_tree.specs.Views.{either_view, algebra_view, when_view, case_view};
+ghost use Rattle.cap_parse_tree.specs.Views.{action_view, region_view};
+ghost use Rattle.cap_parse_laws.specs.Classes.{are_same};
+ghost use Rattle.cap_parse_laws.specs.Grammar.{read_comparison, read_declared, read_joint};
+ghost use Rattle.cap_parse_laws.specs.Grammar.{read_grouped, grouped_at, read_algebra, read_when};
+ghost use Rattle.cap_parse_laws.specs.Grammar.{read_optional_when, read_case, read_action, read_head};
+ghost use Rattle.cap_parse_laws.specs.Grammar.{read_region_body, read_region};
+ghost use Rattle.cap_parse_laws.specs.Readers.{read_name, read_more, read_several, read_optional};
+ghost use Rattle.cap_parse_laws.specs.Readers.{read_until, read_group};
+ghost use Rattle.cap_parse_laws.specs.declared.class.Class.TheVariants.{Comma, Star, Plus};
+ghost use Rattle.cap_parse_laws.specs.declared.class.Class.TheVariants.{When as Under, CloseBrace};
+ghost use Rattle.cap_parse_laws.specs.declared.class.Class.TheVariants.{Interpretation, Actions};
 ghost use Rattle.cap_parse.specs.Reads.{IsRead};
 ghost use Rattle.cap_parse.specs.Heads.{head_view};
 
 use crate::cursor::{Cursor, Stop};
-use cap_grammar::Class;
-use cap_syntax::Place;
-use cap_tree::{
+use cap_parse_laws::Class;
+use cap_parse_tree::{
     Action, Algebra, Both, Case, Comparison, Declared, Either, Group, Joint, Region, Separated,
     When, Word,
 };
+use cap_syntax::Place;
 
 /// A region type's name and parameters.
 #[derive(Drop)]

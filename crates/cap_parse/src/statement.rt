@@ -1,25 +1,25 @@
 // Statements. `room` is how many more brackets may open.
 
 ghost use Rattle.std.specs.Prelude.{◌≡◌, Ok, map, not, option_map};
-ghost use Rattle.cap_tree.specs.Views.{term_view, comparison_view, several_view, listed_view};
-ghost use Rattle.cap_tree.specs.Views.{behind_view, clause_view, value_view, statement_view};
-ghost use Rattle.cap_tree.specs.Views.{block_view, else_view};
-ghost use Rattle.cap_grammar.specs.Classes.{are_same};
-ghost use Rattle.cap_grammar.specs.Grammar.{read_term, read_terms, read_load, read_alloc, read_cas};
-ghost use Rattle.cap_grammar.specs.Grammar.{read_named_value, read_value, read_named_statement};
-ghost use Rattle.cap_grammar.specs.Grammar.{read_store, read_fork, read_else, read_branch};
-ghost use Rattle.cap_grammar.specs.Grammar.{read_loop, read_check, read_give_back, read_statement};
-ghost use Rattle.cap_grammar.specs.Grammar.{read_block_with, block_at, read_clause};
-ghost use Rattle.cap_grammar.specs.Readers.{read_more, read_several, read_optional, read_until};
-ghost use Rattle.cap_grammar.specs.declared.class.Class.TheVariants.{Comma, Close, Semicolon};
-ghost use Rattle.cap_grammar.specs.declared.class.Class.TheVariants.{Invariant, Else as Otherwise};
-ghost use Rattle.cap_grammar.specs.declared.class.Class.TheVariants.{CloseBrace};
+ghost use Rattle.cap_parse_tree.specs.Views.{term_view, comparison_view, several_view, listed_view};
+ghost use Rattle.cap_parse_tree.specs.Views.{behind_view, clause_view, value_view, statement_view};
+ghost use Rattle.cap_parse_tree.specs.Views.{block_view, else_view};
+ghost use Rattle.cap_parse_laws.specs.Classes.{are_same};
+ghost use Rattle.cap_parse_laws.specs.Grammar.{read_term, read_terms, read_load, read_alloc, read_cas};
+ghost use Rattle.cap_parse_laws.specs.Grammar.{read_named_value, read_value, read_named_statement};
+ghost use Rattle.cap_parse_laws.specs.Grammar.{read_store, read_fork, read_else, read_branch};
+ghost use Rattle.cap_parse_laws.specs.Grammar.{read_loop, read_check, read_give_back, read_statement};
+ghost use Rattle.cap_parse_laws.specs.Grammar.{read_block_with, block_at, read_clause};
+ghost use Rattle.cap_parse_laws.specs.Readers.{read_more, read_several, read_optional, read_until};
+ghost use Rattle.cap_parse_laws.specs.declared.class.Class.TheVariants.{Comma, Close, Semicolon};
+ghost use Rattle.cap_parse_laws.specs.declared.class.Class.TheVariants.{Invariant, Else as Otherwise};
+ghost use Rattle.cap_parse_laws.specs.declared.class.Class.TheVariants.{CloseBrace};
 ghost use Rattle.cap_parse.specs.Reads.{IsRead};
 
 use crate::cursor::{Cursor, Stop};
-use cap_grammar::Class;
+use cap_parse_laws::Class;
+use cap_parse_tree::{Block, Clause, Else, Listed, Separated, Statement, Term, Value, Word};
 use cap_syntax::Place;
-use cap_tree::{Block, Clause, Else, Listed, Separated, Statement, Term, Value, Word};
 
 impl<'a> Cursor<'a> {
     fn more_terms(&mut self, room: u32) -> Result<Vec<(Place, Term)>, Stop>

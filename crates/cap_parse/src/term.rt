@@ -1,24 +1,26 @@
 // Terms and comparisons. `room` is how many more brackets may open.
 
 ghost use Rattle.std.specs.Prelude.{◌≡◌, Ok, None, map};
-ghost use Rattle.cap_tree.specs.Tree.{named};
-ghost use Rattle.cap_tree.specs.Views.{factor_view, times_view, product_view, addend_view};
-ghost use Rattle.cap_tree.specs.Views.{term_view, comparison_view, slot_view};
-ghost use Rattle.cap_grammar.specs.Grammar.{read_factor, bracketed_at, read_bracketed};
-ghost use Rattle.cap_grammar.specs.Grammar.{read_product, read_product_from, read_addend};
-ghost use Rattle.cap_grammar.specs.Grammar.{read_term, read_term_from, read_sign, read_relation};
-ghost use Rattle.cap_grammar.specs.Grammar.{read_comparison, read_comparison_from, read_slot};
-ghost use Rattle.cap_grammar.specs.Grammar.{is_sign};
-ghost use Rattle.cap_grammar.specs.Classes.{are_same};
-ghost use Rattle.cap_grammar.specs.Readers.{ahead, next_place, read_more, read_optional};
-ghost use Rattle.cap_grammar.specs.Readers.{read_while, read_behind};
-ghost use Rattle.cap_grammar.specs.declared.class.Class.TheVariants.{Star, Minus};
+ghost use Rattle.cap_parse_tree.specs.Tree.{named};
+ghost use Rattle.cap_parse_tree.specs.Views.{factor_view, times_view, product_view, addend_view};
+ghost use Rattle.cap_parse_tree.specs.Views.{term_view, comparison_view, slot_view};
+ghost use Rattle.cap_parse_laws.specs.Grammar.{read_factor, bracketed_at, read_bracketed};
+ghost use Rattle.cap_parse_laws.specs.Grammar.{read_product, read_product_from, read_addend};
+ghost use Rattle.cap_parse_laws.specs.Grammar.{read_term, read_term_from, read_sign, read_relation};
+ghost use Rattle.cap_parse_laws.specs.Grammar.{read_comparison, read_comparison_from, read_slot};
+ghost use Rattle.cap_parse_laws.specs.Grammar.{is_sign};
+ghost use Rattle.cap_parse_laws.specs.Classes.{are_same};
+ghost use Rattle.cap_parse_laws.specs.Readers.{ahead, next_place, read_more, read_optional};
+ghost use Rattle.cap_parse_laws.specs.Readers.{read_while, read_behind};
+ghost use Rattle.cap_parse_laws.specs.declared.class.Class.TheVariants.{Star, Minus};
 ghost use Rattle.cap_parse.specs.Reads.{IsRead};
 
 use crate::cursor::{Cursor, Stop};
-use cap_grammar::Class;
+use cap_parse_laws::Class;
+use cap_parse_tree::{
+    Addend, Comparison, Factor, Product, Relation, Sign, Slot, Term, Times, Word,
+};
 use cap_syntax::Place;
-use cap_tree::{Addend, Comparison, Factor, Product, Relation, Sign, Slot, Term, Times, Word};
 
 impl<'a> Cursor<'a> {
     #[cycle(terms)]

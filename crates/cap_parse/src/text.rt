@@ -6,9 +6,9 @@ ghost use Rattle.cap_parse.specs.Reading.{IsReadingOf};
 ghost use Rattle.cap_parse.specs.declared.text.ParseError.TheVariants.{OutOfMemory};
 
 use crate::cursor::{Cursor, Stop};
-use cap_grammar::{texts_are_read_as_spelled, texts_go_wrong_at_one_token};
+use cap_parse_laws::{texts_are_read_as_spelled, texts_go_wrong_at_one_token};
+use cap_parse_tree::Tree;
 use cap_syntax::{Place, Token};
-use cap_tree::Tree;
 use std::alloc::Global;
 use thiserror::Error;
 

@@ -11,12 +11,12 @@ use Rattle.cap_prog.specs.Views.{item_view, items_view}
 use Rattle.std.proofs.Common.{ℕ}
 use Rattle.std.proofs.lemmas.List.{map-append, reverse-append}
 use Rattle.cap_lin.specs.Linear.{Linear}
-use Rattle.cap_logic.specs.States.{PlainState, longest_list}
+use Rattle.cap_goal_spec.specs.States.{PlainState, longest_list}
 use Rattle.cap_goal.specs.declared.task.Task.{Task}
 use Rattle.cap_goal.specs.Views.{items_in, task_view, tasks_view}
 use Rattle.cap_rules.specs.Attempts.{need, unit, ◌>>=◌}
 use Rattle.cap_rules.specs.Making.{with_sort, with_destination}
-use Rattle.cap_steps.specs.Walks.{Makes}
+use Rattle.cap_rules_steps.specs.Walks.{Makes}
 
 append-none : (is : Items) → append_items is none ≡ is
 append-none none = refl

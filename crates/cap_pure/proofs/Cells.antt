@@ -5,15 +5,15 @@ use Rattle.std.proofs.lemmas.Option.{slice_get_past, slice_get-get_or}
 use Rattle.std.specs.Prelude.{Result, Ok, Err, slice_get}
 use Rattle.cap_lin.specs.Linear.{Linear, number, plus}
 use Rattle.cap_lin.specs.Steps.{plus_steps}
-use Rattle.cap_logic.specs.States.{PlainState}
-use Rattle.cap_logic.specs.Environments.{zero_value}
+use Rattle.cap_goal_spec.specs.States.{PlainState}
+use Rattle.cap_goal_spec.specs.Environments.{zero_value}
 use Rattle.cap_rules.specs.Attempts.{Attempt, Event, makes, go_on, behind, found}
 use Rattle.cap_rules.specs.Making.{with_cell}
 use Rattle.cap_rules.specs.Rules.{with_new_cells}
-use Rattle.cap_steps.specs.Walks.{Makes}
-use Rattle.cap_steps.specs.declared.error.RuleError.{RuleError}
-use Rattle.cap_steps.specs.declared.error.RuleError.TheVariants.{NotApplicable}
-use Rattle.cap_steps.proofs.Walking.{Leads, then_made, unmade, done, there, lacking}
+use Rattle.cap_rules_steps.specs.Walks.{Makes}
+use Rattle.cap_rules_steps.specs.declared.error.RuleError.{RuleError}
+use Rattle.cap_rules_steps.specs.declared.error.RuleError.TheVariants.{NotApplicable}
+use Rattle.cap_rules_steps.proofs.Walking.{Leads, then_made, unmade, done, there, lacking}
 use Rattle.cap_pure.specs.Statements.{with_new_cell}
 
 left : (n i : ℕ) → i < n → n - i ≡ suc (n - (i + 1))

@@ -4,16 +4,16 @@ use Rattle.std.specs.Prelude.{Err}
 use Rattle.cap_lin.specs.declared.row.Row.{Row}
 use Rattle.cap_farkas.specs.declared.cert.Cert.{Cert}
 use Rattle.cap_prog.specs.Program.{none, item, done, first, PlainProgram}
-use Rattle.cap_logic.specs.States.{PlainState, PlainTask, to_run, to_turn, to_give, to_take, to_make, to_close, to_shift, to_rest, PlainGoal}
-use Rattle.cap_logic.specs.Choices.{PlainChoice, by_absurd, by_clash, by_set, by_alloc, by_assert, by_if, by_loop, by_turn, by_call, by_fork, by_return}
+use Rattle.cap_goal_spec.specs.States.{PlainState, PlainTask, to_run, to_turn, to_give, to_take, to_make, to_close, to_shift, to_rest, PlainGoal}
+use Rattle.cap_goal_spec.specs.Choices.{PlainChoice, by_absurd, by_clash, by_set, by_alloc, by_assert, by_if, by_loop, by_turn, by_call, by_fork, by_return}
 use Rattle.cap_goal.specs.declared.task.Task.{Task}
 use Rattle.cap_goal.specs.Views.{tasks_view}
 use Rattle.cap_rules.specs.Attempts.{not_applicable}
 use Rattle.cap_rules.specs.Answers.{marks_of, full_marks}
 use Rattle.cap_rules.specs.Rules.{rule}
-use Rattle.cap_steps.specs.Walks.{Claims}
-use Rattle.cap_steps.specs.declared.error.RuleError.TheVariants.{NotApplicable}
-use Rattle.cap_steps.proofs.Walking.{inapplicable, weaker}
+use Rattle.cap_rules_steps.specs.Walks.{Claims}
+use Rattle.cap_rules_steps.specs.declared.error.RuleError.TheVariants.{NotApplicable}
+use Rattle.cap_rules_steps.proofs.Walking.{inapplicable, weaker}
 use Rattle.cap_pure.specs.Heads.{IsAtStatement, IsPure, running, run_rule, turning, turn_rule, tasks_rule}
 
 clashes : (p : PlainProgram) (s : PlainState) (i j : ℕ) (cs : List Cert) (t : PlainTask) (ts : List PlainTask) → run_rule p s (by_clash i j cs) (running t ts) ≡ tasks_rule p s (by_clash i j cs) (t ∷ ts)

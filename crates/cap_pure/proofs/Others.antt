@@ -12,8 +12,8 @@ use Rattle.cap_prog.specs.declared.function.Act.TheVariants as act
 use Rattle.cap_prog.specs.declared.function.Act.TheFolds.{the_lemmas}
 use Rattle.cap_prog.specs.Program.{PlainProgram, Label, Block, PlainAct, set, read, write, cas, alloc, call, fork, branch, loop, check, give_back}
 use Rattle.cap_prog.specs.Views.{act_view, statement_view}
-use Rattle.cap_logic.specs.States.{PlainState, Home, PlainTask}
-use Rattle.cap_logic.specs.Choices.{by_set, by_alloc, by_assert, by_if, by_loop, by_turn, by_call, by_fork, by_return}
+use Rattle.cap_goal_spec.specs.States.{PlainState, Home, PlainTask}
+use Rattle.cap_goal_spec.specs.Choices.{by_set, by_alloc, by_assert, by_if, by_loop, by_turn, by_call, by_fork, by_return}
 use Rattle.cap_goal.specs.Views.{is_heap_act, task_view}
 use Rattle.cap_goal.specs.declared.task.Task.{Task}
 use Rattle.cap_goal.specs.declared.task.Task.TheVariants as task
@@ -22,9 +22,9 @@ use Rattle.cap_goal.specs.declared.task.Point.{Point}
 use Rattle.cap_rules.specs.Attempts.{Attempt, not_applicable}
 use Rattle.cap_rules.specs.Closing.{address_of}
 use Rattle.cap_rules.specs.Rules.{at_statement, at_turn, at_clash}
-use Rattle.cap_steps.specs.Walks.{Makes}
-use Rattle.cap_steps.specs.declared.error.RuleError.TheVariants.{NotApplicable}
-use Rattle.cap_steps.proofs.Walking.{inapplicable}
+use Rattle.cap_rules_steps.specs.Walks.{Makes}
+use Rattle.cap_rules_steps.specs.declared.error.RuleError.TheVariants.{NotApplicable}
+use Rattle.cap_rules_steps.proofs.Walking.{inapplicable}
 use Rattle.cap_pure.specs.declared.upcoming.Upcoming as next
 use Rattle.cap_pure.specs.Statements.{two_cells}
 use Rattle.cap_pure.specs.Heads.{Upcoming, upcoming_view, statement_rule, loop_rule, turning, turn_rule}

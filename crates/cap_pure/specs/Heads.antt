@@ -4,11 +4,11 @@ use Rattle.std.specs.Prelude.{List, [], ◌∷◌, Option, Some, None}
 use Rattle.cap_prog.specs.Program.{Label, PlainAct, Block, done, first, PlainProgram}
 use Rattle.cap_prog.specs.Views.{statement_view}
 use Rattle.cap_goal.specs.Views.{home_view, tasks_view}
-use Rattle.cap_logic.specs.States.{PlainState, Home, PlainTask, to_run, to_turn, PlainGoal}
-use Rattle.cap_logic.specs.Choices.{PlainChoice, by_absurd, by_clash, by_set, by_alloc, by_assert, by_if, by_loop, by_turn, by_call, by_fork, by_return}
+use Rattle.cap_goal_spec.specs.States.{PlainState, Home, PlainTask, to_run, to_turn, PlainGoal}
+use Rattle.cap_goal_spec.specs.Choices.{PlainChoice, by_absurd, by_clash, by_set, by_alloc, by_assert, by_if, by_loop, by_turn, by_call, by_fork, by_return}
 use Rattle.cap_rules.specs.Attempts.{Attempt, not_applicable}
 use Rattle.cap_rules.specs.Rules.{at_statement, at_turn, at_tasks}
-use Rattle.cap_steps.specs.Goals.{point_view}
+use Rattle.cap_rules_steps.specs.Goals.{point_view}
 use Rattle.cap_pure.specs.declared.upcoming.Upcoming as code
 
 -- a rule at a statement that neither opens a region nor acts on a cell

@@ -4,8 +4,8 @@ use Rattle.std.specs.Borrow.{Bor}
 use Rattle.cap_lin.specs.Linear.{Linear, number}
 use Rattle.cap_prog.specs.declared.assertion.Comp.{Comp}
 use Rattle.cap_prog.specs.Program.{PlainProgram, PlainAssertion}
-use Rattle.cap_logic.specs.States.{PlainState, Home, PlainTask, to_take, to_rest, to_give, PlainGoal}
-use Rattle.cap_logic.specs.Environments.{zero_value, bound, unbound, own_env}
+use Rattle.cap_goal_spec.specs.States.{PlainState, Home, PlainTask, to_take, to_rest, to_give, PlainGoal}
+use Rattle.cap_goal_spec.specs.Environments.{zero_value, bound, unbound, own_env}
 use Rattle.cap_rules.specs.Attempts.{Attempt, unit, ◌>>=◌, found, need, prove}
 use Rattle.cap_rules.specs.Making.{sum, value_here, row_here, prove_equal, with_local, with_cell, with_env}
 use Rattle.cap_rules.specs.Rules.{leaves, called, own_params}

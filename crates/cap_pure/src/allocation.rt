@@ -3,13 +3,13 @@ ghost use Rattle.std.specs.Prelude.{◌≡◌, pos};
 ghost use Rattle.cap_lin.specs.Linear.{number};
 ghost use Rattle.cap_goal.specs.Views.{tasks_view};
 ghost use Rattle.cap_rules.specs.Rules.{with_new_cells, at_alloc};
-ghost use Rattle.cap_steps.specs.Goals.{goals_view};
-ghost use Rattle.cap_steps.specs.Walks.{Makes, giving, seen};
+ghost use Rattle.cap_rules_steps.specs.Goals.{goals_view};
+ghost use Rattle.cap_rules_steps.specs.Walks.{Makes, giving, seen};
 ghost use Rattle.cap_pure.specs.Statements.{with_new_cell};
 
 use cap_goal::{Goal, State, Task};
 use cap_lin::{Op, Sort, Term};
-use cap_steps::{RuleError, leaves, with_cell, with_comparison, with_local, with_sort};
+use cap_rules_steps::{RuleError, leaves, with_cell, with_comparison, with_local, with_sort};
 use std::alloc::Global;
 
 // A number.

@@ -1,12 +1,12 @@
 //! Two subgoals: one in which a comparison holds, and one in which it doesn't.
 ghost use Rattle.cap_goal.specs.Views.{tasks_view};
 ghost use Rattle.cap_rules.specs.Rules.{branches};
-ghost use Rattle.cap_steps.specs.Goals.{goals_view};
-ghost use Rattle.cap_steps.specs.Walks.{Makes, seen};
+ghost use Rattle.cap_rules_steps.specs.Goals.{goals_view};
+ghost use Rattle.cap_rules_steps.specs.Walks.{Makes, seen};
 
 use cap_goal::{Goal, State, Task};
 use cap_prog::Comp;
-use cap_steps::{RuleError, add_goal, copy_with_row, opposite, row_here};
+use cap_rules_steps::{RuleError, add_goal, copy_with_row, opposite, row_here};
 use std::alloc::Global;
 
 /// A subgoal in which the comparison holds, and one in which its opposite does.

@@ -3,18 +3,18 @@ ghost use Rattle.std.specs.Prelude.{◌≡◌, [], ◌∷◌, IfOk, length, take
 ghost use Rattle.cap_prog.specs.Program.{none};
 ghost use Rattle.cap_prog.specs.Views.{items_view, function_view, program_view};
 ghost use Rattle.cap_goal.specs.Views.{items_in, home_view, tasks_view};
-ghost use Rattle.cap_logic.specs.Environments.{own_env, unbound};
-ghost use Rattle.cap_logic.specs.States.{to_take, to_rest, to_give};
+ghost use Rattle.cap_goal_spec.specs.Environments.{own_env, unbound};
+ghost use Rattle.cap_goal_spec.specs.States.{to_take, to_rest, to_give};
 ghost use Rattle.cap_rules.specs.Making.{with_env};
 ghost use Rattle.cap_rules.specs.Rules.{called, own_params};
-ghost use Rattle.cap_steps.specs.Goals.{goals_view};
+ghost use Rattle.cap_rules_steps.specs.Goals.{goals_view};
 ghost use Rattle.cap_pure.specs.Statements.{at_call, at_fork, at_return};
-ghost use Rattle.cap_steps.specs.Walks.{Makes, giving, seen};
+ghost use Rattle.cap_rules_steps.specs.Walks.{Makes, giving, seen};
 
 use cap_goal::{Env, Goal, Home, Items, State, Task};
 use cap_lin::{Sort, Term};
 use cap_prog::{Assertion, Function, Program};
-use cap_steps::{
+use cap_rules_steps::{
     RuleError, callee_env, function_at, leaves, own_env, value_here, values_here, with_destination,
     with_env, with_sort,
 };

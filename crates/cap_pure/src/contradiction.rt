@@ -2,13 +2,13 @@
 ghost use Rattle.std.specs.Prelude.{slice_get};
 ghost use Rattle.cap_rules.specs.Attempts.{found};
 ghost use Rattle.cap_rules.specs.Rules.{at_absurd};
-ghost use Rattle.cap_steps.specs.Goals.{goals_view};
-ghost use Rattle.cap_steps.specs.Walks.{Makes, Claims, seen};
+ghost use Rattle.cap_rules_steps.specs.Goals.{goals_view};
+ghost use Rattle.cap_rules_steps.specs.Walks.{Makes, Claims, seen};
 ghost use Rattle.cap_pure.specs.Statements.{two_cells, cell_view};
 
 use cap_goal::{Goal, State};
 use cap_lin::Term;
-use cap_steps::{Ledger, RuleError, prove_equal, refute};
+use cap_rules_steps::{Ledger, RuleError, prove_equal, refute};
 use std::alloc::Global;
 
 /// The rows contradict each other.
@@ -24,7 +24,7 @@ pub(crate) fn absurd<'a>(
 }
 
 // A cell, where there is one of this number.
-#[tactic(auto, using(cap_steps::proofs::Walking::making))]
+#[tactic(auto, using(cap_rules_steps::proofs::Walking::making))]
 fn cell_at(state: &State, number: u32) -> Result<&(Term, Term), RuleError>
     ensures { Makes (seen cell_view result) (found (slice_get state.now.cells number)) }
 {

@@ -2,10 +2,10 @@
 //! head in that tree it is entered or left.
 ghost use Rattle.std.specs.Prelude.{◌≡◌, IfOk, drop};
 ghost use Rattle.cap_prog.specs.Views.{assertion_view, program_view};
-ghost use Rattle.cap_logic.specs.Environments.{bound};
+ghost use Rattle.cap_goal_spec.specs.Environments.{bound};
 ghost use Rattle.cap_goal.specs.Views.{home_view};
-ghost use Rattle.cap_steps.specs.Goals.{goals_view, point_view};
-ghost use Rattle.cap_steps.specs.Walks.{Makes, seen};
+ghost use Rattle.cap_rules_steps.specs.Goals.{goals_view, point_view};
+ghost use Rattle.cap_rules_steps.specs.Walks.{Makes, seen};
 ghost use Rattle.cap_pure.specs.Statements.{at_loop};
 ghost use Rattle.cap_pure.specs.Heads.{upcoming_view, all_ahead, loop_rule};
 
@@ -15,7 +15,7 @@ use crate::upcoming::{Upcoming, entered, run_before, tasks_behind};
 use cap_goal::{Env, Goal, Home, Point, State};
 use cap_lin::Term;
 use cap_prog::{Act, Assertion, Program};
-use cap_steps::{RuleError, function_at, leaves};
+use cap_rules_steps::{RuleError, function_at, leaves};
 use std::alloc::{AllocError, Global};
 
 // The terms from a number on.

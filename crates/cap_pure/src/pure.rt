@@ -1,13 +1,13 @@
 //! What a choice at a statement, at a loop's head or at contradictory rows leaves of a goal.
 ghost use Rattle.cap_prog.specs.Views.{program_view};
-ghost use Rattle.cap_logic.specs.Choices.{certs_of as certs_in};
+ghost use Rattle.cap_goal_spec.specs.Choices.{certs_of as certs_in};
 ghost use Rattle.cap_rules.specs.Answers.{marks_of, proofs};
 ghost use Rattle.cap_rules.specs.Rules.{rule};
 ghost use Rattle.std.specs.Prelude.{◌∷◌};
 ghost use Rattle.cap_goal.specs.Views.{home_view, task_view, tasks_view, goal_view, choice_view};
-ghost use Rattle.cap_steps.specs.Goals.{goals_view, point_view};
-ghost use Rattle.cap_steps.specs.Judging.{Answered, IsTold, lists_view};
-ghost use Rattle.cap_steps.specs.Walks.{Makes, Claims, seen};
+ghost use Rattle.cap_rules_steps.specs.Goals.{goals_view, point_view};
+ghost use Rattle.cap_rules_steps.specs.Judging.{Answered, IsTold, lists_view};
+ghost use Rattle.cap_rules_steps.specs.Walks.{Makes, Claims, seen};
 ghost use Rattle.cap_pure.specs.Heads.{IsAtStatement, IsPure, turning, turn_rule};
 ghost use Rattle.cap_pure.specs.Heads.{upcoming_in, running, run_rule, tasks_rule};
 
@@ -18,7 +18,7 @@ use crate::upcoming::{running, upcoming_in};
 use cap_goal::{Choice, Goal, Home, Point, State, Task};
 use cap_lin::Row;
 use cap_prog::Program;
-use cap_steps::{Ledger, RuleError, certs_of, judged, told};
+use cap_rules_steps::{Ledger, RuleError, certs_of, judged, told};
 use std::alloc::Global;
 
 // At the statement that is run first.

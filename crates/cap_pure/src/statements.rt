@@ -2,12 +2,12 @@
 ghost use Rattle.std.specs.Prelude.{List};
 ghost use Rattle.cap_farkas.specs.declared.cert.Cert.{Cert};
 ghost use Rattle.cap_prog.specs.Views.{program_view};
-ghost use Rattle.cap_logic.specs.Choices.{by_set, by_alloc, by_assert, by_if, by_loop, by_call};
-ghost use Rattle.cap_logic.specs.Choices.{by_fork, by_return};
+ghost use Rattle.cap_goal_spec.specs.Choices.{by_set, by_alloc, by_assert, by_if, by_loop, by_call};
+ghost use Rattle.cap_goal_spec.specs.Choices.{by_fork, by_return};
 ghost use Rattle.cap_goal.specs.Views.{choice_view};
 ghost use Rattle.cap_rules.specs.Rules.{at_clash};
-ghost use Rattle.cap_steps.specs.Goals.{goals_view};
-ghost use Rattle.cap_steps.specs.Walks.{Makes, Claims, seen};
+ghost use Rattle.cap_rules_steps.specs.Goals.{goals_view};
+ghost use Rattle.cap_rules_steps.specs.Walks.{Makes, Claims, seen};
 ghost use Rattle.cap_pure.specs.Heads.{IsAtStatement, upcoming_view, statement_rule};
 
 use crate::allocation::allocate;
@@ -19,7 +19,7 @@ use crate::straight::{check, set};
 use crate::upcoming::{Upcoming, tasks_behind, tasks_within};
 use cap_goal::{Choice, Goal, State, is_heap};
 use cap_prog::{Act, Program};
-use cap_steps::{Ledger, RuleError};
+use cap_rules_steps::{Ledger, RuleError};
 use std::alloc::Global;
 
 fn at_cells<'t, 'a>(

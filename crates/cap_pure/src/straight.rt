@@ -1,13 +1,13 @@
 //! Assignments and assertions.
 ghost use Rattle.cap_goal.specs.Views.{tasks_view};
 ghost use Rattle.cap_pure.specs.Statements.{at_set, at_assert};
-ghost use Rattle.cap_steps.specs.Goals.{goals_view};
-ghost use Rattle.cap_steps.specs.Walks.{Makes, Claims, seen};
+ghost use Rattle.cap_rules_steps.specs.Goals.{goals_view};
+ghost use Rattle.cap_rules_steps.specs.Walks.{Makes, Claims, seen};
 
 use cap_goal::{Goal, State, Task};
 use cap_lin::Term;
 use cap_prog::Comp;
-use cap_steps::{Ledger, RuleError, leaves, prove, row_here, value_here, with_local};
+use cap_rules_steps::{Ledger, RuleError, leaves, prove, row_here, value_here, with_local};
 use std::alloc::Global;
 
 /// The local becomes the term's value.

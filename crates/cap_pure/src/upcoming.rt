@@ -2,15 +2,15 @@
 ghost use Rattle.std.specs.Prelude.{◌≡◌, ◌∷◌, IfOk};
 ghost use Rattle.cap_prog.specs.Program.{append};
 ghost use Rattle.cap_prog.specs.Views.{block_view};
-ghost use Rattle.cap_logic.specs.States.{to_run};
+ghost use Rattle.cap_goal_spec.specs.States.{to_run};
 ghost use Rattle.cap_goal.specs.Views.{home_view, task_view, tasks_view};
-ghost use Rattle.cap_steps.specs.Goals.{point_view};
+ghost use Rattle.cap_rules_steps.specs.Goals.{point_view};
 ghost use Rattle.cap_pure.specs.Heads.{upcoming_view, upcoming_seen, upcoming_in, running};
 ghost use Rattle.cap_pure.specs.Heads.{tasks_behind};
 
 use cap_goal::{Home, Point, Task};
 use cap_prog::Statement;
-use cap_steps::{copy_point, copy_tasks, next_statement};
+use cap_rules_steps::{copy_point, copy_tasks, next_statement};
 use std::alloc::{AllocError, Global};
 
 /// The statement that comes first in a tree of this home, the statements behind it, and the tasks

@@ -3,8 +3,8 @@ use Rattle.std.proofs.Common.{◌≡◌, sym, refl, subst, ℕ, suc, ◌+◌, �
 use Rattle.std.specs.Prelude.{ℤ, pos, ◌<ℤ◌, int_lt, Option, Some, None, Result, Ok, Err, IfOk, bytes_eq, codes}
 use Rattle.std.proofs.lemmas.Int.{ints}
 use Rattle.std.proofs.lemmas.Bool.Decides.{nat_tests}
-use Rattle.cap_run.specs.declared.event.Entry.{Entry}
-use Rattle.cap_run.specs.Cells.{AscendsFrom}
+use Rattle.cap_machine.specs.declared.event.Entry.{Entry}
+use Rattle.cap_machine.specs.Cells.{AscendsFrom}
 use Rattle.cap_replay.specs.declared.entries.Schedule.{Schedule}
 use Rattle.cap_replay.specs.declared.reading.ScheduleError.{ScheduleError}
 use Rattle.cap_replay.specs.declared.reading.ScheduleError.TheVariants.{BadLine, TooMany}

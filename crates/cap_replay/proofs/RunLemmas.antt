@@ -5,18 +5,18 @@ use Rattle.std.specs.FinMap.{get}
 use Rattle.std.proofs.lemmas.List.{get_or_default}
 use Rattle.cap_lin.specs.declared.row.Op.TheVariants.{Eq as Equal}
 use Rattle.cap_prog.specs.Program.{Label, PlainAct, set, read, write, cas, alloc, call, fork, branch, loop, check, give_back, Block, done, first, PlainFunction, PlainProgram}
-use Rattle.cap_run.specs.declared.event.Ahead.{Ahead}
-use Rattle.cap_run.specs.declared.event.Entry.{Entry}
-use Rattle.cap_run.specs.declared.event.Event.{Event}
-use Rattle.cap_run.specs.declared.event.Event.TheVariants.{Failed}
-use Rattle.cap_run.specs.declared.event.StepError.{StepError}
-use Rattle.cap_run.specs.declared.event.StepError.TheVariants.{NotEnabled as IsNotEnabled}
-use Rattle.cap_run.specs.declared.machine.Machine.{Machine}
-use Rattle.cap_run.specs.Machine.{Frame, Thread, Configuration, Outcome, next, fault, disabled, Spot, at_cell, swaps, may_be_at, allocates, calls, forks, returns, does, takes_base, statement_step, thread_step, step, value_in, holds, compared}
-use Rattle.cap_run.specs.Laws.{is_step}
-use Rattle.cap_run.specs.Ready.{ahead}
-use Rattle.cap_run.specs.Results.{entry_steps, are_narrow}
-use Rattle.cap_run.specs.View.{configuration, is_stopped, RunsProgram, LeavesMachine, Steps, is_enabled}
+use Rattle.cap_machine.specs.declared.event.Ahead.{Ahead}
+use Rattle.cap_machine.specs.declared.event.Entry.{Entry}
+use Rattle.cap_machine.specs.declared.event.Event.{Event}
+use Rattle.cap_machine.specs.declared.event.Event.TheVariants.{Failed}
+use Rattle.cap_machine.specs.declared.event.StepError.{StepError}
+use Rattle.cap_machine.specs.declared.event.StepError.TheVariants.{NotEnabled as IsNotEnabled}
+use Rattle.cap_machine.specs.declared.machine.Machine.{Machine}
+use Rattle.cap_machine.specs.Machine.{Frame, Thread, Configuration, Outcome, next, fault, disabled, Spot, at_cell, swaps, may_be_at, allocates, calls, forks, returns, does, takes_base, statement_step, thread_step, step, value_in, holds, compared}
+use Rattle.cap_machine.specs.Laws.{is_step}
+use Rattle.cap_machine.specs.Ready.{ahead}
+use Rattle.cap_machine.specs.Results.{entry_steps, are_narrow}
+use Rattle.cap_machine.specs.View.{configuration, is_stopped, RunsProgram, LeavesMachine, Steps, is_enabled}
 use Rattle.cap_replay.specs.declared.playing.End.{End}
 use Rattle.cap_replay.specs.declared.playing.End.TheVariants.{Stopped, NotEnabled}
 use Rattle.cap_replay.specs.declared.playing.Played.{Played}

@@ -7,8 +7,8 @@ use Rattle.std.proofs.lemmas.Fmt.{decimal_by_steps_wide}
 use Rattle.std.proofs.lemmas.Int.{ints}
 use Rattle.std.proofs.lemmas.Bool.Decides.{nat_tests}
 use Rattle.cap_lin.specs.Steps.{fits}
-use Rattle.cap_run.specs.declared.event.Entry.{Entry}
-use Rattle.cap_run.specs.Cells.{AscendsFrom}
+use Rattle.cap_machine.specs.declared.event.Entry.{Entry}
+use Rattle.cap_machine.specs.Cells.{AscendsFrom}
 use Rattle.cap_replay.specs.declared.entries.Schedule.{Schedule}
 use Rattle.cap_replay.specs.declared.reading.ScheduleError.{ScheduleError}
 use Rattle.cap_replay.specs.declared.reading.ScheduleError.TheVariants.{TooMany}

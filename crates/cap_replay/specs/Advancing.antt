@@ -1,11 +1,11 @@
 -- One step of a run, as the work that remains.
 use Rattle.std.specs.Prelude.{◌≡◌, ℕ, suc, Bool, true, false, List, ◌∷◌, Option, Some, None}
 use Rattle.cap_prog.specs.Program.{PlainProgram}
-use Rattle.cap_run.specs.declared.event.Entry.{Entry}
-use Rattle.cap_run.specs.declared.event.Event.{Event}
-use Rattle.cap_run.specs.declared.event.Event.TheVariants.{Bad, Failed}
-use Rattle.cap_run.specs.declared.machine.Machine.{Machine}
-use Rattle.cap_run.specs.View.{configuration, is_stopped}
+use Rattle.cap_machine.specs.declared.event.Entry.{Entry}
+use Rattle.cap_machine.specs.declared.event.Event.{Event}
+use Rattle.cap_machine.specs.declared.event.Event.TheVariants.{Bad, Failed}
+use Rattle.cap_machine.specs.declared.machine.Machine.{Machine}
+use Rattle.cap_machine.specs.View.{configuration, is_stopped}
 use Rattle.cap_replay.specs.declared.playing.End.{End}
 use Rattle.cap_replay.specs.RunText.{ends, in_front, run_from}
 

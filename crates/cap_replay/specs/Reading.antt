@@ -1,6 +1,6 @@
 -- How the lines of a schedule are read, one after the other.
 use Rattle.std.specs.Prelude.{◌≡◌, ℕ, suc, ◌^◌, ◌-◌, ℤ, pos, int_lt, nat_lt, if◌then◌else◌, List, [], ◌∷◌, ◌++◌, length, Option, Some, None, option_map, Result, Ok, Err, bytes_eq, codes}
-use Rattle.cap_run.specs.declared.event.Entry.{Entry}
+use Rattle.cap_machine.specs.declared.event.Entry.{Entry}
 use Rattle.cap_replay.specs.declared.entries.Schedule.{Schedule}
 use Rattle.cap_replay.specs.declared.reading.Reader.{Reader}
 use Rattle.cap_replay.specs.declared.reading.ScheduleError.{ScheduleError}

@@ -5,13 +5,13 @@ use Rattle.std.specs.FinMap.{from_entries}
 use Rattle.cap_syntax.specs.declared.place.Place.{Place}
 use Rattle.cap_syntax.specs.Place.{place_text}
 use Rattle.cap_prog.specs.Program.{PlainProgram}
-use Rattle.cap_run.specs.declared.event.Ahead.{Ahead}
-use Rattle.cap_run.specs.declared.event.Entry.{Entry}
-use Rattle.cap_run.specs.declared.event.Event.{Event}
-use Rattle.cap_run.specs.declared.event.Event.TheVariants.{Set, Read, Write, Cas, Alloc, Call, Fork, Branch, Assert, Return, End as Ends, Bad, Failed}
-use Rattle.cap_run.specs.Machine.{Configuration, Outcome, next, fault, disabled, step, start}
-use Rattle.cap_run.specs.Ready.{ahead}
-use Rattle.cap_run.specs.Results.{entry_steps, are_narrow}
+use Rattle.cap_machine.specs.declared.event.Ahead.{Ahead}
+use Rattle.cap_machine.specs.declared.event.Entry.{Entry}
+use Rattle.cap_machine.specs.declared.event.Event.{Event}
+use Rattle.cap_machine.specs.declared.event.Event.TheVariants.{Set, Read, Write, Cas, Alloc, Call, Fork, Branch, Assert, Return, End as Ends, Bad, Failed}
+use Rattle.cap_machine.specs.Machine.{Configuration, Outcome, next, fault, disabled, step, start}
+use Rattle.cap_machine.specs.Ready.{ahead}
+use Rattle.cap_machine.specs.Results.{entry_steps, are_narrow}
 use Rattle.cap_replay.specs.declared.playing.End.{End}
 use Rattle.cap_replay.specs.declared.playing.End.TheVariants.{Ended, Stopped, NotEnabled, Wide}
 use Rattle.cap_replay.specs.declared.playing.Played.{Played}

@@ -1,8 +1,8 @@
 ghost use Rattle.std.specs.Prelude.{◌≡◌, ◌↔◌, length, slice_get, IsSomeAnd, IsTrue};
 ghost use Rattle.cap_prog.specs.Views.{program_view};
 
+use cap_machine::Entry;
 use cap_prog::Program;
-use cap_run::Entry;
 
 /// A schedule: the arguments of `main`, the cells of the heap as pairs of an address and its value,
 /// and the entries, one for each step.

@@ -2,16 +2,16 @@ ghost use Rattle.std.specs.Prelude.{◌≡◌, ◌≤◌, ◌<◌, ◌++◌, ◌
 ghost use Rattle.std.specs.Prelude.{◌^◌, suc, pos, false};
 ghost use Rattle.std.specs.Prelude.{length, slice_get, string_bytes, IfOk, IsSomeAnd, OnOk};
 ghost use Rattle.cap_prog.specs.Views.{program_view};
-ghost use Rattle.cap_run.specs.Cells.{AscendsFrom};
-ghost use Rattle.cap_run.specs.View.{configuration, is_stopped, RunsProgram};
+ghost use Rattle.cap_machine.specs.Cells.{AscendsFrom};
+ghost use Rattle.cap_machine.specs.View.{configuration, is_stopped, RunsProgram};
 ghost use Rattle.cap_replay.specs.RunText.{pair_text, event_text};
 ghost use Rattle.cap_replay.specs.RunText.{head_text, step_line as the_step_line};
 ghost use Rattle.cap_replay.specs.RunText.{last_line as the_last_line, run_text, played_view};
 ghost use Rattle.cap_replay.specs.Advancing.{is_fault as fault_event, Advances};
 
 use crate::entries::Schedule;
+use cap_machine::{Ahead, Entry, Event, Machine, StepError};
 use cap_prog::Program;
-use cap_run::{Ahead, Entry, Event, Machine, StepError};
 use cap_syntax::Place;
 use std::alloc::{AllocError, Global};
 

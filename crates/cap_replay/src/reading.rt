@@ -1,6 +1,6 @@
 //! Schedules are read line by line.
 ghost use Rattle.std.specs.Prelude.{◌≡◌, ◌≤◌, length, pos, IfOk, option_map};
-ghost use Rattle.cap_run.specs.Cells.{AscendsFrom};
+ghost use Rattle.cap_machine.specs.Cells.{AscendsFrom};
 ghost use Rattle.cap_replay.specs.declared.reading.ScheduleError.TheVariants.{OutOfMemory};
 ghost use Rattle.cap_replay.specs.Pieces.{pieces, pieces_behind};
 ghost use Rattle.cap_replay.specs.Reading.{numbers_of, last_number as the_last_number, address_of};
@@ -13,7 +13,7 @@ ghost use Rattle.cap_replay.specs.Reading.{GivesProgress, IsReadAs};
 
 use crate::entries::Schedule;
 use crate::numbers::{cut, natural, number};
-use cap_run::Entry;
+use cap_machine::Entry;
 use std::alloc::{AllocError, AllocFailed, Global};
 use thiserror::Error;
 

@@ -2,12 +2,12 @@ ghost use Rattle.std.specs.Prelude.{◌≡◌, [], length, slice_get, IfOk, IsSo
 ghost use Rattle.cap_prog.specs.Program.{none, PlainProgram};
 ghost use Rattle.cap_prog.specs.Views.{assertion_view, block_view, function_view, program_view};
 ghost use Rattle.cap_prog.specs.WellFormed.{FunctionFits};
-ghost use Rattle.cap_run.specs.Example.{at};
+ghost use Rattle.cap_machine.specs.Example.{at};
 
 use super::*;
 use cap_lin::Term;
+use cap_machine::Entry;
 use cap_prog::{Act, Assertion, Function, Name, Program, Statement};
-use cap_run::Entry;
 use cap_syntax::Place;
 use std::alloc::{AllocError, Global};
 use std::test::Fail;

@@ -3,10 +3,10 @@ use Rattle.std.specs.Prelude.{◌≡◌, Option, Some, None, Result, Ok, Err}
 use Rattle.cap_syntax.specs.declared.place.Place.{Place}
 use Rattle.cap_prog.specs.declared.program.Program.{Program}
 use Rattle.cap_prog.specs.Views.{program_view}
-use Rattle.cap_tree.specs.Tree.{ProgramTree}
-use Rattle.cap_stands.specs.Finding as plain
-use Rattle.cap_stands.specs.Stands.{refusal, Stands}
-use Rattle.cap_terms.specs.Views.{limit_view}
+use Rattle.cap_parse_tree.specs.Tree.{ProgramTree}
+use Rattle.cap_resolve_spec.specs.Finding as plain
+use Rattle.cap_resolve_spec.specs.Stands.{refusal, Stands}
+use Rattle.cap_resolve_terms.specs.Views.{limit_view}
 use Rattle.cap_resolve.specs.declared.error.ResolveError.{ResolveError}
 use Rattle.cap_resolve.specs.declared.error.ResolveError.TheVariants as error
 

@@ -1,9 +1,9 @@
 ghost use Rattle.std.specs.Prelude.{◌≡◌};
 ghost use Rattle.cap_resolve.specs.declared.error.ResolveError.TheVariants.{OutOfMemory};
 
-use cap_build::BuildError;
+use cap_resolve_functions::BuildError;
+use cap_resolve_terms::Limit;
 use cap_syntax::{Place, Text};
-use cap_terms::Limit;
 use std::alloc::AllocError;
 use thiserror::Error;
 

@@ -1,17 +1,17 @@
 ghost use Rattle.std.specs.Prelude.{◌≡◌, ◌≤◌, length, IfOk, Some};
 ghost use Rattle.cap_prog.specs.WellFormed.{most_members};
-ghost use Rattle.cap_tree.specs.Spelling.{spelling};
-ghost use Rattle.cap_tree.specs.Views.{tree_view};
-ghost use Rattle.cap_terms.specs.Views.{finding_view};
+ghost use Rattle.cap_parse_tree.specs.Spelling.{spelling};
+ghost use Rattle.cap_parse_tree.specs.Views.{tree_view};
+ghost use Rattle.cap_resolve_terms.specs.Views.{finding_view};
 ghost use Rattle.cap_resolve.specs.Errors.{IsResolved, error_view};
 
 use crate::error::ResolveError;
+use cap_parse_tree::Tree;
 use cap_prog::Program;
+use cap_resolve_program::build_program;
+use cap_resolve_terms::{Cause, Finding, Noted};
+use cap_resolve_text::{has_main, note_tree};
 use cap_syntax::{Place, Text};
-use cap_terms::{Cause, Finding, Noted};
-use cap_tree::Tree;
-use cap_whole::build_program;
-use cap_wrong::{has_main, note_tree};
 use std::alloc::{AllocError, Global};
 
 /// Where it is said that there is no `main`.

@@ -10,9 +10,9 @@ use Rattle.cap_farkas.specs.Farkas.{Names, column_sum, column_steps, HasStrict, 
 use Rattle.cap_gsolve.specs.Merge.{merge_rows, merge_steps}
 use Rattle.std.specs.Prelude.{slice_get, unwrap_or, ◌<ℤ◌}
 use Rattle.cap_farkas.specs.declared.cert.Cert.TheVariants.{Leaf}
-use Rattle.cap_logic.specs.States.{PlainGoal, goal}
-use Rattle.cap_logic.specs.Choices.{by_set, by_assert, by_return, node, no_trees}
-use Rattle.cap_logic.specs.Roots.{empty_state, roots, function_unit}
+use Rattle.cap_goal_spec.specs.States.{PlainGoal, goal}
+use Rattle.cap_goal_spec.specs.Choices.{by_set, by_assert, by_return, node, no_trees}
+use Rattle.cap_goal_spec.specs.Roots.{empty_state, roots, function_unit}
 use Rattle.cap_rules.specs.Rules.{rule}
 use Rattle.cap_rules.proofs.Answering.{answers-succeed}
 use Rattle.cap_rules.specs.Answers.{Subgoals, too_wide, Answer, applies, inapplicable, Ending, passed, refused, stopped, answer_at}

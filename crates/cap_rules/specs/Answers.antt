@@ -5,8 +5,8 @@ use Rattle.cap_lin.specs.declared.row.Row.{Row}
 use Rattle.cap_farkas.specs.declared.cert.Cert.{Cert}
 use Rattle.cap_farkas.specs.Refutes.{Refutes}
 use Rattle.cap_prog.specs.Program.{PlainProgram}
-use Rattle.cap_logic.specs.States.{PlainState, PlainGoal}
-use Rattle.cap_logic.specs.Choices.{PlainChoice, by_act, certs_of}
+use Rattle.cap_goal_spec.specs.States.{PlainState, PlainGoal}
+use Rattle.cap_goal_spec.specs.Choices.{PlainChoice, by_act, certs_of}
 use Rattle.cap_rules.specs.Attempts.{Claim, owed, Event, makes, claims, Attempt}
 use Rattle.cap_rules.specs.Closing.{rivals}
 use Rattle.cap_rules.specs.Rules.{rule}

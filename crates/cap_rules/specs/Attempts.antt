@@ -7,7 +7,7 @@ use Rattle.cap_lin.specs.Solves.{HasNone, Proves}
 use Rattle.cap_lin.specs.declared.row.Row.{Row}
 use Rattle.cap_lin.specs.declared.row.Sort.{Sort}
 use Rattle.cap_lin.specs.declared.row.Op.{Op}
-use Rattle.cap_logic.specs.States.{longest_list}
+use Rattle.cap_goal_spec.specs.States.{longest_list}
 
 -- what a rule asks to be proved: that no valuation solves the rows, or that they prove a row
 pub data Claim : Type 0 where

@@ -11,7 +11,7 @@ use Rattle.cap_prog.specs.declared.assertion.Comp.{Comp}
 use Rattle.cap_prog.specs.declared.assertion.Slot.TheVariants.{Any, Is}
 use Rattle.cap_prog.specs.declared.assertion.Asked.TheVariants.{Share}
 use Rattle.cap_prog.specs.Program.{fact, atom, cell, none, item, PlainAssertion, PlainCase, PlainAction, PlainRegionType, Label, set, alloc, check, give_back, Block, done, first, PlainFunction, PlainProgram}
-use Rattle.cap_logic.specs.Choices.{by_set, by_alloc, by_assert, by_return, by_cell, by_region, by_guard, by_create, by_made, PlainTree, node, PlainTrees, no_trees, tree}
+use Rattle.cap_goal_spec.specs.Choices.{by_set, by_alloc, by_assert, by_return, by_cell, by_region, by_guard, by_create, by_made, PlainTree, node, PlainTrees, no_trees, tree}
 
 abbrev pub nowhere : Place
 nowhere = record { line = 1; column = 1 }

@@ -1,8 +1,8 @@
 -- Which trees of the examples are valid, and which aren't.
 use Rattle.std.specs.Prelude.{List, [], ◌∷◌, slice_get, unwrap_or, Option, Some, None}
 use Rattle.cap_farkas.specs.declared.cert.Cert.TheVariants.{Leaf}
-use Rattle.cap_logic.specs.Choices.{by_set, by_return, PlainTree, node, no_trees}
-use Rattle.cap_logic.specs.Roots.{roots, function_unit}
+use Rattle.cap_goal_spec.specs.Choices.{by_set, by_return, PlainTree, node, no_trees}
+use Rattle.cap_goal_spec.specs.Roots.{roots, function_unit}
 use Rattle.cap_rules.specs.Valid.{RootDerives, Valid}
 use Rattle.cap_rules.specs.Example.{empty_program, assert_program, trees_of, leaf, above, once, assert_tree, counter_program, make_tree}
 

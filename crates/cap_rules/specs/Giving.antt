@@ -13,8 +13,8 @@ use Rattle.cap_prog.specs.declared.assertion.Slot.TheVariants.{Any, Is}
 use Rattle.cap_prog.specs.declared.assertion.Asked.{Asked}
 use Rattle.cap_prog.specs.declared.assertion.Asked.TheVariants.{One, Share, Src, Tok}
 use Rattle.cap_prog.specs.Program.{PlainItem, compare, choose, fact, atom, cell, Items, none, item, append_items, PlainProgram}
-use Rattle.cap_logic.specs.States.{PlainState, PlainTask, to_give, PlainGoal, goals_of}
-use Rattle.cap_logic.specs.Environments.{one_value, term_of, with_name}
+use Rattle.cap_goal_spec.specs.States.{PlainState, PlainTask, to_give, PlainGoal, goals_of}
+use Rattle.cap_goal_spec.specs.Environments.{one_value, term_of, with_name}
 use Rattle.cap_rules.specs.Attempts.{Attempt, unit, ◌>>=◌}
 use Rattle.cap_rules.specs.Making.{value_by, fresh, with_sort, with_comparison, with_cell, env_at, with_env_at, fact_of, with_fact, with_piece, opposite}
 

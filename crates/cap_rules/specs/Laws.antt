@@ -6,8 +6,8 @@ use Rattle.cap_lin.specs.Steps.{first_wide}
 use Rattle.cap_farkas.specs.declared.cert.Cert.{Cert}
 use Rattle.cap_farkas.specs.Refutes.{Refutes}
 use Rattle.cap_prog.specs.Program.{PlainProgram}
-use Rattle.cap_logic.specs.States.{PlainGoal}
-use Rattle.cap_logic.specs.Choices.{PlainChoice, certs_of}
+use Rattle.cap_goal_spec.specs.States.{PlainGoal}
+use Rattle.cap_goal_spec.specs.Choices.{PlainChoice, certs_of}
 use Rattle.cap_rules.specs.Attempts.{Attempt}
 use Rattle.cap_rules.specs.Answers.{Answer, marks_of, steps_of, owed_lists, IsAnswer, Subgoals}
 use Rattle.cap_rules.specs.Rules.{rule}

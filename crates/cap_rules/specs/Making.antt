@@ -14,9 +14,9 @@ use Rattle.cap_prog.specs.declared.assertion.Comp.{Comp}
 use Rattle.cap_prog.specs.declared.assertion.Slot.{Slot}
 use Rattle.cap_prog.specs.declared.assertion.Slot.TheVariants.{Any, Is}
 use Rattle.cap_prog.specs.Program.{PlainProgram}
-use Rattle.cap_logic.specs.Terms.{term_over, term_over_steps}
-use Rattle.cap_logic.specs.States.{PlainFact, PlainEnv, PlainState}
-use Rattle.cap_logic.specs.Environments.{zero_value, one_value, is_determined, term_in, term_in_steps, Reading, settled, open_to, stuck, reading, bind_open}
+use Rattle.cap_goal_spec.specs.Terms.{term_over, term_over_steps}
+use Rattle.cap_goal_spec.specs.States.{PlainFact, PlainEnv, PlainState}
+use Rattle.cap_goal_spec.specs.Environments.{zero_value, one_value, is_determined, term_in, term_in_steps, Reading, settled, open_to, stuck, reading, bind_open}
 use Rattle.cap_rules.specs.Attempts.{Attempt, unit, ◌>>=◌, computed, found, not_applicable, need, appended, comparison_row, prove, prove_that}
 
 abbrev pub is_empty : {A : Type 0} → List A → Bool

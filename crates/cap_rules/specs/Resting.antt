@@ -14,10 +14,10 @@ use Rattle.cap_prog.specs.declared.assertion.Slot.TheVariants.{Any, Is}
 use Rattle.cap_prog.specs.declared.assertion.Asked.{Asked}
 use Rattle.cap_prog.specs.declared.assertion.Asked.TheVariants.{One, Share, Src, Tok}
 use Rattle.cap_prog.specs.Program.{PlainAction, PlainRegionType}
-use Rattle.cap_logic.specs.Terms.{term_over, term_over_steps, variables_from}
-use Rattle.cap_logic.specs.States.{PlainFact, PlainState}
-use Rattle.cap_logic.specs.Environments.{zero_value}
-use Rattle.cap_logic.specs.Candidates.{MadeRow, candidates, later_state}
+use Rattle.cap_goal_spec.specs.Terms.{term_over, term_over_steps, variables_from}
+use Rattle.cap_goal_spec.specs.States.{PlainFact, PlainState}
+use Rattle.cap_goal_spec.specs.Environments.{zero_value}
+use Rattle.cap_goal_spec.specs.Candidates.{MadeRow, candidates, later_state}
 use Rattle.cap_rules.specs.Attempts.{Attempt, unit, ◌>>=◌, computed, found, need, comparison_row, prove, prove_that}
 use Rattle.cap_rules.specs.Making.{with_sort, with_rows, with_state}
 

@@ -10,9 +10,9 @@ use Rattle.cap_prog.specs.declared.assertion.Slot.TheVariants.{Is}
 use Rattle.cap_prog.specs.declared.assertion.Asked.{Asked}
 use Rattle.cap_prog.specs.declared.assertion.Asked.TheVariants.{Tok}
 use Rattle.cap_prog.specs.Program.{PlainItem, compare, choose, fact, atom, cell, Items, item, append_items, Label, PlainAct, set, alloc, call, fork, branch, loop, check, give_back, Block, first, append, PlainFunction, PlainProgram}
-use Rattle.cap_logic.specs.States.{PlainEnv, PlainState, Home, PlainTask, to_run, to_turn, to_give, to_take, to_make, to_close, to_shift, to_rest, PlainGoal, goals_of}
-use Rattle.cap_logic.specs.Choices.{PlainChoice, by_absurd, by_clash, by_set, by_alloc, by_assert, by_if, by_loop, by_turn, by_call, by_fork, by_return, by_enter, by_act, by_pick, by_shift, by_settle, by_keep, by_give, by_fact, by_cases, by_cell, by_region, by_guard, by_convert, by_create, by_made}
-use Rattle.cap_logic.specs.Environments.{zero_value, one_value, term_of, bound, unbound, callee_env, own_env}
+use Rattle.cap_goal_spec.specs.States.{PlainEnv, PlainState, Home, PlainTask, to_run, to_turn, to_give, to_take, to_make, to_close, to_shift, to_rest, PlainGoal, goals_of}
+use Rattle.cap_goal_spec.specs.Choices.{PlainChoice, by_absurd, by_clash, by_set, by_alloc, by_assert, by_if, by_loop, by_turn, by_call, by_fork, by_return, by_enter, by_act, by_pick, by_shift, by_settle, by_keep, by_give, by_fact, by_cases, by_cell, by_region, by_guard, by_convert, by_create, by_made}
+use Rattle.cap_goal_spec.specs.Environments.{zero_value, one_value, term_of, bound, unbound, callee_env, own_env}
 use Rattle.cap_rules.specs.Attempts.{refuted, claims, Attempt, unit, ◌>>=◌, found, not_applicable, need, each, prove}
 use Rattle.cap_rules.specs.Making.{value_here, values_here, row_here, determined, determined_slot, row_by, prove_comparisons, prove_equal, match_slot, match_slots, opposite, fresh, with_sort, with_row, with_comparison, with_local, with_destination, with_cell, with_env, env_at, with_env_at, fact_of, with_fact, with_pieces, sum}
 use Rattle.cap_rules.specs.Giving.{give}

@@ -13,8 +13,8 @@ use Rattle.cap_gsolve.specs.Pieces.{piece, same_part, full_forms, full_pieces}
 use Rattle.cap_prog.specs.declared.assertion.Asked.{Asked}
 use Rattle.cap_prog.specs.declared.assertion.Asked.TheVariants.{One, Share, Src, Tok}
 use Rattle.cap_prog.specs.Program.{PlainCase, PlainRegionType, PlainProgram}
-use Rattle.cap_logic.specs.States.{PlainFact, PlainEnv, PlainState}
-use Rattle.cap_logic.specs.Environments.{zero_value, one_value, Reading, settled, open_to, reading, bind_open, is_bound_by, unbound, region_env}
+use Rattle.cap_goal_spec.specs.States.{PlainFact, PlainEnv, PlainState}
+use Rattle.cap_goal_spec.specs.Environments.{zero_value, one_value, Reading, settled, open_to, reading, bind_open, is_bound_by, unbound, region_env}
 use Rattle.cap_rules.specs.Attempts.{Attempt, unit, ◌>>=◌, found, not_applicable, prove_that}
 use Rattle.cap_rules.specs.Making.{sum, difference, value_by, fresh, with_sort, with_comparison, with_differing, with_env_at, without_first, with_pieces}
 

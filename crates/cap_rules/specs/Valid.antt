@@ -4,9 +4,9 @@ use Rattle.std.specs.Prelude.{◌≡◌, ℕ, suc, ◌≤◌, List, [], ◌∷�
 use Rattle.std.specs.List.{AllZip}
 use Rattle.cap_lin.specs.Steps.{first_wide}
 use Rattle.cap_prog.specs.Program.{PlainProgram}
-use Rattle.cap_logic.specs.States.{PlainGoal}
-use Rattle.cap_logic.specs.Choices.{PlainChoice, PlainTree, node, PlainTrees, no_trees, tree}
-use Rattle.cap_logic.specs.Roots.{all_roots, all_roots_steps}
+use Rattle.cap_goal_spec.specs.States.{PlainGoal}
+use Rattle.cap_goal_spec.specs.Choices.{PlainChoice, PlainTree, node, PlainTrees, no_trees, tree}
+use Rattle.cap_goal_spec.specs.Roots.{all_roots, all_roots_steps}
 use Rattle.cap_rules.specs.Answers.{Subgoals}
 
 -- a node may stand so deep; the root of a tree is at depth 1

@@ -2,14 +2,14 @@
 use Rattle.std.proofs.Common.{◌≡◌, List, [], ◌∷◌, Option, Some, None, refl, ap, sym, ◌∙◌}
 use Rattle.cap_farkas.specs.declared.cert.Cert.{Cert}
 use Rattle.cap_prog.specs.Program.{PlainProgram}
-use Rattle.cap_logic.specs.States.{PlainGoal}
-use Rattle.cap_logic.specs.Choices.{PlainChoice, certs_of, PlainTree, PlainTrees, no_trees, tree}
+use Rattle.cap_goal_spec.specs.States.{PlainGoal}
+use Rattle.cap_goal_spec.specs.Choices.{PlainChoice, certs_of, PlainTree, PlainTrees, no_trees, tree}
 use Rattle.cap_rules.specs.Attempts.{Attempt}
 use Rattle.cap_rules.specs.Answers.{Answer, applies, inapplicable, too_wide, answer_or, answer_at, Ending, passed, refused, stopped, Answers, marks_of}
 use Rattle.cap_rules.specs.Rules.{rule}
 use Rattle.cap_goal.specs.Trees.{trees_of}
-use Rattle.cap_seek.specs.Seeking.{left_by}
-use Rattle.cap_seek.specs.Seeking.{trees_of as trees_found}
+use Rattle.cap_search_spec.specs.Seeking.{left_by}
+use Rattle.cap_search_spec.specs.Seeking.{trees_of as trees_found}
 
 some-applies : {A : Type 0} (o : Option A) (x : A) → applies x ≡ answer_or o → o ≡ Some x
 some-applies None x e = absurd (let k : applies x ≡ inapplicable = e in cc)

@@ -12,8 +12,8 @@ use Rattle.cap_prog.specs.declared.function.Statement.{Statement}
 use Rattle.cap_prog.specs.Views.{act_view, statement_view, block_view}
 use Rattle.cap_prog.specs.declared.function.Act.TheFolds.{the_lemmas}
 use Rattle.cap_prog.specs.Parts.{all_statements, block_statements}
-use Rattle.cap_logic.specs.Roots.{PlainUnit, loops_of, loops_in}
-use Rattle.cap_seek.specs.Leaves.{loop_places, first_place, nowhere, statements_of, statement_place}
+use Rattle.cap_goal_spec.specs.Roots.{PlainUnit, loops_of, loops_in}
+use Rattle.cap_search_spec.specs.Leaves.{loop_places, first_place, nowhere, statements_of, statement_place}
 use Rattle.cap_search.specs.Places.{act_places, block_places, numbered}
 
 -- ---- loops, whatever runs behind them

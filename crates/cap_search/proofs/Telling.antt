@@ -1,8 +1,8 @@
 -- The verdict by the record at the end of a search, and by what was found.
 use Rattle.std.proofs.Common.{◌≡◌, ℕ, List, Option, Some, None, refl, ap, sym, ◌∙◌}
-use Rattle.cap_logic.specs.Choices.{PlainTree}
-use Rattle.cap_seek.specs.Verdicts.{Finding, proved, spent, unproved}
-use Rattle.cap_seek.specs.Walks.{PlainWalk, found_by}
+use Rattle.cap_goal_spec.specs.Choices.{PlainTree}
+use Rattle.cap_search_spec.specs.Verdicts.{Finding, proved, spent, unproved}
+use Rattle.cap_search_spec.specs.Walks.{PlainWalk, found_by}
 
 pub proved-told : (f : Finding) (n : ℕ) (w : Option PlainWalk) (t : Option (List (Option PlainTree))) (u : PlainWalk) (ts : List (Option PlainTree)) → f ≡ found_by n w t → w ≡ Some u → Some ts ≡ t → f ≡ proved ts
 proved-told f n w t u ts e h k = e ∙ (ap (λ x. found_by n x t) h ∙ ap (λ x. found_by n (Some u) x) (sym k))

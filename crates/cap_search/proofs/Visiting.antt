@@ -1,12 +1,12 @@
 -- A goal below which there is room is visited, and then its offered choices are tried.
 use Rattle.std.proofs.Common.{◌≡◌, ℕ, zero, suc, ◌-◌, false, List, Option, Some, None, option_map, refl, ap, sym, subst, ◌∙◌, arith}
 use Rattle.cap_prog.specs.Program.{PlainProgram}
-use Rattle.cap_logic.specs.States.{PlainGoal}
-use Rattle.cap_logic.specs.Choices.{PlainChoice}
-use Rattle.cap_offering.specs.Deciding.{PlainNotes}
-use Rattle.cap_offering.specs.Offering.{offered}
-use Rattle.cap_seek.specs.Seeking.{◌>>=◌, first_tree, tree_within}
-use Rattle.cap_seek.specs.Walks.{PlainWalk, met, seen, counted, choices_walked, walked_within}
+use Rattle.cap_goal_spec.specs.States.{PlainGoal}
+use Rattle.cap_goal_spec.specs.Choices.{PlainChoice}
+use Rattle.cap_offer_spec.specs.Deciding.{PlainNotes}
+use Rattle.cap_offer_spec.specs.Offering.{offered}
+use Rattle.cap_search_spec.specs.Seeking.{◌>>=◌, first_tree, tree_within}
+use Rattle.cap_search_spec.specs.Walks.{PlainWalk, met, seen, counted, choices_walked, walked_within}
 
 -- with room for so many levels below its subgoals
 tree-below : (p : PlainProgram) (g : PlainGoal) (room : ℕ) (cs : List PlainChoice) → cs ≡ (offered p g).value → tree_within p (suc room) g ≡ first_tree p (tree_within p room) g cs

@@ -6,8 +6,8 @@ use Rattle.cap_prog.specs.declared.function.Statement.{Statement}
 use Rattle.cap_prog.specs.Program.{PlainItem, Items, none, item, Block, done, first, PlainStatement, PlainProgram}
 use Rattle.cap_prog.specs.Views.{item_view, statement_view}
 use Rattle.cap_syntax.specs.declared.place.Place.{Place}
-use Rattle.cap_logic.specs.States.{PlainState}
-use Rattle.cap_seek.specs.Leaves.{Leaf, other_leaf, leaf_at_act, leaf_at_item, leaf_at_shift, place_of_case}
+use Rattle.cap_goal_spec.specs.States.{PlainState}
+use Rattle.cap_search_spec.specs.Leaves.{Leaf, other_leaf, leaf_at_act, leaf_at_item, leaf_at_shift, place_of_case}
 
 abbrev pub head_statement : Block → Option PlainStatement
 head_statement done = None

@@ -5,7 +5,7 @@ use Rattle.cap_lin.specs.Linear.{Linear}
 use Rattle.cap_lin.specs.Steps.{Step}
 use Rattle.cap_lin.specs.Rows.{row_of, row_of_steps}
 use Rattle.cap_lin.specs.declared.row.Row.{Row}
-use Rattle.cap_logic.specs.Candidates.{MadeRow}
+use Rattle.cap_goal_spec.specs.Candidates.{MadeRow}
 use Rattle.cap_search.specs.declared.start.Claim.{Claim}
 
 abbrev pub claim_view : Claim → MadeRow

@@ -1,12 +1,12 @@
 -- What contracts see of obligations, leaves, the record of a search and verdicts.
 use Rattle.std.specs.Prelude.{ℕ, List, map, option_map, Option}
 use Rattle.std.specs.Global.{Vec}
-use Rattle.cap_logic.specs.Choices.{PlainTree}
+use Rattle.cap_goal_spec.specs.Choices.{PlainTree}
 use Rattle.cap_goal.specs.declared.choice.Node.{Node}
 use Rattle.cap_goal.specs.Trees.{node_view}
-use Rattle.cap_seek.specs.Leaves.{Need, lacks_fact, lacks_cell, lacks_region, lacks_guard, lacks_move, lacks_state, Leaf, PlainObligation}
-use Rattle.cap_seek.specs.Walks.{PlainWalk}
-use Rattle.cap_seek.specs.Verdicts.{PlainVerdict, is_proved, is_spent, is_deep, is_wide, is_rows, is_stuck}
+use Rattle.cap_search_spec.specs.Leaves.{Need, lacks_fact, lacks_cell, lacks_region, lacks_guard, lacks_move, lacks_state, Leaf, PlainObligation}
+use Rattle.cap_search_spec.specs.Walks.{PlainWalk}
+use Rattle.cap_search_spec.specs.Verdicts.{PlainVerdict, is_proved, is_spent, is_deep, is_wide, is_rows, is_stuck}
 use Rattle.cap_search.specs.declared.obligation.Need as code
 use Rattle.cap_search.specs.declared.obligation.Need.TheVariants as need
 use Rattle.cap_search.specs.declared.obligation.Obligation.{Obligation}

@@ -2,11 +2,11 @@
 ghost use Rattle.std.specs.Prelude.{◌≡◌, IfOk};
 ghost use Rattle.cap_prog.specs.Views.{program_view};
 ghost use Rattle.cap_goal.specs.Views.{unit_view};
-ghost use Rattle.cap_roots.specs.Units.{HasUnit};
-ghost use Rattle.cap_roots.specs.Views.{root_view, roots_view};
-ghost use Rattle.cap_seek.specs.Seeking.{root_tree, unit_trees};
-ghost use Rattle.cap_seek.specs.Verdicts.{found, verdict, verdict_of, unproved as unproved_by};
-ghost use Rattle.cap_seek.specs.Walks.{root_walked, unit_walked};
+ghost use Rattle.cap_goal_roots.specs.Units.{HasUnit};
+ghost use Rattle.cap_goal_roots.specs.Views.{root_view, roots_view};
+ghost use Rattle.cap_search_spec.specs.Seeking.{root_tree, unit_trees};
+ghost use Rattle.cap_search_spec.specs.Verdicts.{found, verdict, verdict_of, unproved as unproved_by};
+ghost use Rattle.cap_search_spec.specs.Walks.{root_walked, unit_walked};
 ghost use Rattle.cap_search.specs.Searching.{Searched};
 ghost use Rattle.cap_search.specs.Views.{tree_seen, trees_seen, verdict_view, walk_view};
 
@@ -15,10 +15,10 @@ use crate::seeking::prove;
 use crate::verdict::Verdict;
 use crate::walk::{Stop, Walk};
 use cap_goal::{Goal, Node, Unit};
+use cap_goal_roots::roots;
 use cap_lin::LinError;
 use cap_prog::Program;
-use cap_roots::roots;
-use cap_seek::walks_tell_verdicts;
+use cap_search_spec::walks_tell_verdicts;
 use std::alloc::{AllocError, Global};
 
 /// No node of a tree stands deeper, its root being at depth 1.
@@ -45,7 +45,7 @@ fn prove_root<'a>(
 }
 
 // Trees of all roots, up to the first that has none.
-#[tactic(auto, unfolding(cap_seek::specs::Seeking::unit_trees, cap_seek::specs::Walks::unit_walked))]
+#[tactic(auto, unfolding(cap_search_spec::specs::Seeking::unit_trees, cap_search_spec::specs::Walks::unit_walked))]
 fn prove_roots<'a>(
     alloc: Global,
     program: &'a Program,
@@ -123,7 +123,7 @@ fn judge<'a>(
 /// its offered choices in order, and for each the subgoals in order until one fails. The first
 /// choice all of whose subgoals have trees gives the tree; a goal deeper than a thousand has none.
 /// It ends at the first visit that passes the budget. The only error is want of memory.
-#[tactic(auto, unfolding(cap_seek::specs::Verdicts::verdict))]
+#[tactic(auto, unfolding(cap_search_spec::specs::Verdicts::verdict))]
 pub fn search(
     alloc: Global,
     program: &Program,

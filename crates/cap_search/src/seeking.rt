@@ -1,13 +1,13 @@
 //! Trees by the first choice all of whose goals have trees.
 ghost use Rattle.std.specs.Prelude.{◌≡◌, ◌↔◌, IfOk, IsTrue, Some, map};
 ghost use Rattle.cap_prog.specs.Views.{program_view};
-ghost use Rattle.cap_logic.specs.Fits.{HasRoom};
+ghost use Rattle.cap_goal_spec.specs.Fits.{HasRoom};
 ghost use Rattle.cap_goal.specs.Trees.{node_view};
 ghost use Rattle.cap_goal.specs.Views.{choice_view, goal_view};
-ghost use Rattle.cap_offering.specs.Offering.{offered as offered_at};
+ghost use Rattle.cap_offer_spec.specs.Offering.{offered as offered_at};
 ghost use Rattle.cap_offer.specs.Views.{offers_view};
-ghost use Rattle.cap_seek.specs.Seeking.{left_by as goals_left, all_trees, first_tree, tree_within};
-ghost use Rattle.cap_seek.specs.Walks.{choices_walked, goals_walked, walked_within};
+ghost use Rattle.cap_search_spec.specs.Seeking.{left_by as goals_left, all_trees, first_tree, tree_within};
+ghost use Rattle.cap_search_spec.specs.Walks.{choices_walked, goals_walked, walked_within};
 ghost use Rattle.cap_search.specs.Searching.{Searched};
 ghost use Rattle.cap_search.specs.Views.{nodes_seen, walk_view};
 
@@ -73,7 +73,7 @@ fn left_by<'a>(
 /// all of whose subgoals have trees is taken at each node. The record goes on over the goals that
 /// are visited. Spent comes at the first visit for which nothing is left of the budget.
 #[cycle(walk)]
-#[tactic(auto, unfolding(cap_seek::specs::Seeking::tree_within, cap_seek::specs::Walks::walked_within))]
+#[tactic(auto, unfolding(cap_search_spec::specs::Seeking::tree_within, cap_search_spec::specs::Walks::walked_within))]
 pub(crate) fn prove<'a>(
     alloc: Global,
     program: &'a Program,
@@ -97,7 +97,7 @@ pub(crate) fn prove<'a>(
 
 // By the first choice all of whose goals have trees.
 #[cycle(walk)]
-#[tactic(auto, unfolding(cap_seek::specs::Seeking::first_tree, cap_seek::specs::Walks::choices_walked))]
+#[tactic(auto, unfolding(cap_search_spec::specs::Seeking::first_tree, cap_search_spec::specs::Walks::choices_walked))]
 fn by_choices<'a>(
     alloc: Global,
     program: &'a Program,
@@ -125,7 +125,7 @@ fn by_choices<'a>(
 
 // Trees of all goals, up to the first that has none.
 #[cycle(walk)]
-#[tactic(auto, unfolding(cap_seek::specs::Seeking::all_trees, cap_seek::specs::Walks::goals_walked))]
+#[tactic(auto, unfolding(cap_search_spec::specs::Seeking::all_trees, cap_search_spec::specs::Walks::goals_walked))]
 fn prove_all<'a>(
     alloc: Global,
     program: &'a Program,

@@ -4,14 +4,14 @@ ghost use Rattle.cap_lin.specs.Exact.{IsExactBy};
 ghost use Rattle.cap_lin.specs.declared.row.Op.TheVariants.{Ge as AtLeast, Ne as Unequal};
 ghost use Rattle.cap_prog.specs.Program.{items_of};
 ghost use Rattle.cap_prog.specs.Views.{function_view, item_view, program_view};
-ghost use Rattle.cap_logic.specs.Environments.{one_value};
-ghost use Rattle.cap_seek.specs.Starts.{addresses as addresses_in, comparisons, different, made};
-ghost use Rattle.cap_seek.specs.Starts.{empty_by, empty_start as is_empty_start, start_rows};
-ghost use Rattle.cap_seek.specs.Starts.{refuted_rows};
-ghost use Rattle.cap_offering.specs.Deciding.{clean, decided as decision_of};
+ghost use Rattle.cap_goal_spec.specs.Environments.{one_value};
+ghost use Rattle.cap_search_spec.specs.Starts.{addresses as addresses_in, comparisons, different, made};
+ghost use Rattle.cap_search_spec.specs.Starts.{empty_by, empty_start as is_empty_start, start_rows};
+ghost use Rattle.cap_search_spec.specs.Starts.{refuted_rows};
+ghost use Rattle.cap_offer_spec.specs.Deciding.{clean, decided as decision_of};
 ghost use Rattle.cap_search.specs.Starts.{claims_view, terms_lent, made_rows, made_steps};
 
-use cap_decide::{Notes, decided};
+use cap_closure_decide::{Notes, decided};
 use cap_lin::{LinError, Op, Row, Sort, Term};
 use cap_prog::{Function, Item, Program};
 use std::alloc::{AllocError, Global};
@@ -173,7 +173,7 @@ fn is_empty_before(alloc: Global, function: &Function) -> Result<bool, AllocErro
 /// elimination refutes the rows of its comparisons, that each address is at least 1, and that no
 /// two are one, and neither they nor the elimination pass a limit. The only error is want of
 /// memory.
-#[tactic(auto, unfolding(cap_seek::specs::Starts::empty_start))]
+#[tactic(auto, unfolding(cap_search_spec::specs::Starts::empty_start))]
 pub fn empty_start(alloc: Global, program: &Program) -> Result<bool, AllocError>
     ensures { IfOk result (λ yes. yes ≡ is_empty_start (program_view program.now)) }
 {

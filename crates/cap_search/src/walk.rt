@@ -2,15 +2,15 @@
 ghost use Rattle.std.specs.Prelude.{◌≡◌, map, option_map};
 ghost use Rattle.cap_prog.specs.Views.{program_view};
 ghost use Rattle.cap_goal.specs.Views.{choice_view, goal_view};
-ghost use Rattle.cap_seek.specs.Leaves.{further};
-ghost use Rattle.cap_seek.specs.Verdicts.{joined};
-ghost use Rattle.cap_seek.specs.Walks.{at_root, fresh_walk, met};
+ghost use Rattle.cap_search_spec.specs.Leaves.{further};
+ghost use Rattle.cap_search_spec.specs.Verdicts.{joined};
+ghost use Rattle.cap_search_spec.specs.Walks.{at_root, fresh_walk, met};
 ghost use Rattle.cap_search.specs.Searching.{Counts};
 ghost use Rattle.cap_search.specs.Views.{leaf_view, walk_view};
 ghost use Rattle.cap_search.specs.declared.walk.Stop.TheVariants.{OutOfMemory};
 
 use crate::leaf::{Leaf, leaf_at};
-use cap_decide::Notes;
+use cap_closure_decide::Notes;
 use cap_goal::{Choice, Goal};
 use cap_prog::Program;
 use std::alloc::{AllocError, AllocFailed};

@@ -3,7 +3,7 @@ use Rattle.std.proofs.Common.{◌≡◌, ℕ, suc, ℤ, ◌+◌, ◌-◌, ◌<�
 use Rattle.std.proofs.lemmas.List.{drop_all}
 use Rattle.cap_lin.specs.Linear.{Linear, variable}
 use Rattle.cap_prog.specs.declared.assertion.Asked.{Asked}
-use Rattle.cap_logic.specs.Terms.{variables_from}
+use Rattle.cap_goal_spec.specs.Terms.{variables_from}
 use Rattle.cap_rules.specs.Resting.{Names, names_below, end_of, ask, ask_all}
 use Rattle.cap_stab.specs.Asking.{starts_of}
 

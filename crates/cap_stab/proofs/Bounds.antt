@@ -12,11 +12,11 @@ use Rattle.cap_lin.specs.declared.row.Op.TheVariants.{Le as AtMost}
 use Rattle.cap_lin.specs.declared.row.Sort.TheVariants.{Int}
 use Rattle.cap_lin.proofs.Results.{first-wide, first-narrow}
 use Rattle.cap_prog.specs.Program.{PlainCase, PlainAction, PlainRegionType}
-use Rattle.cap_logic.specs.Terms.{with_multiples, with_multiples_steps, term_over, term_over_steps}
-use Rattle.cap_logic.specs.States.{PlainFact}
-use Rattle.cap_logic.specs.Environments.{zero_value, bound, bound_term, region_env, term_in}
-use Rattle.cap_logic.specs.Candidates.{MadeRow, made_row, bounds, bounds_by, action_bounds, PlainCandidate, past, candidate_as, candidate_of}
-use Rattle.cap_steps.specs.Places.{term_among}
+use Rattle.cap_goal_spec.specs.Terms.{with_multiples, with_multiples_steps, term_over, term_over_steps}
+use Rattle.cap_goal_spec.specs.States.{PlainFact}
+use Rattle.cap_goal_spec.specs.Environments.{zero_value, bound, bound_term, region_env, term_in}
+use Rattle.cap_goal_spec.specs.Candidates.{MadeRow, made_row, bounds, bounds_by, action_bounds, PlainCandidate, past, candidate_as, candidate_of}
+use Rattle.cap_rules_steps.specs.Places.{term_among}
 use Rattle.cap_lin.specs.Exact.{Explains}
 use Rattle.cap_lin.specs.declared.error.LinError.{LinError}
 use Rattle.cap_lin.specs.declared.error.LinError.TheVariants.{Wide, OutOfMemory}

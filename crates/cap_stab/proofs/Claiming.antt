@@ -8,20 +8,20 @@ use Rattle.cap_lin.specs.Exact.{Explains}
 use Rattle.cap_lin.specs.declared.error.LinError.{LinError}
 use Rattle.cap_lin.specs.Rows.{row_of, row_of_steps}
 use Rattle.cap_lin.specs.declared.row.Row.{Row}
-use Rattle.cap_logic.specs.Candidates.{later_state}
+use Rattle.cap_goal_spec.specs.Candidates.{later_state}
 use Rattle.cap_rules.specs.Making.{with_state}
 use Rattle.cap_prog.specs.Program.{PlainAction, PlainRegionType}
-use Rattle.cap_logic.specs.Terms.{term_over, term_over_steps}
-use Rattle.cap_logic.specs.States.{PlainFact, PlainState}
-use Rattle.cap_steps.specs.Errors.{rule_error}
-use Rattle.cap_steps.specs.Places.{term_among}
+use Rattle.cap_goal_spec.specs.Terms.{term_over, term_over_steps}
+use Rattle.cap_goal_spec.specs.States.{PlainFact, PlainState}
+use Rattle.cap_rules_steps.specs.Errors.{rule_error}
+use Rattle.cap_rules_steps.specs.Places.{term_among}
 use Rattle.cap_rules.specs.Attempts.{Event, makes, Attempt, unit, behind, go_on, prove, prove_that}
 use Rattle.cap_lin.specs.declared.row.Op.TheVariants.{Eq as Equal}
 use Rattle.cap_lin.specs.declared.row.Sort.TheVariants.{Int}
 use Rattle.cap_rules.specs.Resting.{action_names, system, prove_closed, prove_same, prove_at, prove_stable, prove_kept, keep}
-use Rattle.cap_steps.specs.Walks.{Claims}
-use Rattle.cap_steps.specs.declared.error.RuleError.{RuleError}
-use Rattle.cap_steps.proofs.Walking.{done, weaker, claims_then, claims_fail, wide_claims, narrow_claims}
+use Rattle.cap_rules_steps.specs.Walks.{Claims}
+use Rattle.cap_rules_steps.specs.declared.error.RuleError.{RuleError}
+use Rattle.cap_rules_steps.proofs.Walking.{done, weaker, claims_then, claims_fail, wide_claims, narrow_claims}
 use Rattle.cap_stab.specs.Proving.{proved_one, stable_for, kept_for}
 
 abbrev Lists : Type 0

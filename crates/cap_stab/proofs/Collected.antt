@@ -6,13 +6,13 @@ use Rattle.cap_lin.specs.Rows.{row_of, row_of_steps}
 use Rattle.cap_lin.specs.declared.row.Row.{Row}
 use Rattle.cap_gsolve.specs.declared.piece.Form.{Form}
 use Rattle.cap_prog.specs.declared.assertion.Asked.{Asked}
-use Rattle.cap_logic.specs.Terms.{term_over, term_over_steps}
+use Rattle.cap_goal_spec.specs.Terms.{term_over, term_over_steps}
 use Rattle.cap_rules.specs.Attempts.{Event, makes, Attempt, unit, go_on}
 use Rattle.cap_rules.specs.Resting.{Names, ask, rows_over, want_form, want_all}
-use Rattle.cap_steps.specs.Places.{term_among}
-use Rattle.cap_steps.specs.Walks.{Makes}
-use Rattle.cap_steps.specs.declared.error.RuleError.{RuleError}
-use Rattle.cap_steps.proofs.Walking.{then_made, unmade, done}
+use Rattle.cap_rules_steps.specs.Places.{term_among}
+use Rattle.cap_rules_steps.specs.Walks.{Makes}
+use Rattle.cap_rules_steps.specs.declared.error.RuleError.{RuleError}
+use Rattle.cap_rules_steps.proofs.Walking.{then_made, unmade, done}
 use Rattle.cap_stab.specs.Asking.{starts_of, row_among, wanted_one, wanted_from}
 use Rattle.cap_stab.proofs.Collecting.{Collects}
 

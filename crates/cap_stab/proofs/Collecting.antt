@@ -3,9 +3,9 @@ use Rattle.std.proofs.Common.{◌≡◌, ℕ, suc, ◌+◌, ◌<◌, ◌≤◌, 
 use Rattle.std.specs.Prelude.{option_map, Ok, Err}
 use Rattle.std.proofs.lemmas.List.{drop_all}
 use Rattle.cap_rules.specs.Attempts.{Event, Attempt, unit, go_on}
-use Rattle.cap_steps.specs.Walks.{Makes}
-use Rattle.cap_steps.specs.declared.error.RuleError.{RuleError}
-use Rattle.cap_steps.proofs.Walking.{Leads, then_made, unmade, done}
+use Rattle.cap_rules_steps.specs.Walks.{Makes}
+use Rattle.cap_rules_steps.specs.declared.error.RuleError.{RuleError}
+use Rattle.cap_rules_steps.proofs.Walking.{Leads, then_made, unmade, done}
 
 -- these members, and behind them what the attempt makes
 abbrev pub behind_these : {B : Type 0} → List B → Attempt (List B) → Attempt (List B)

@@ -4,8 +4,8 @@ use Rattle.std.specs.List.{flat_map}
 use Rattle.cap_lin.specs.Linear.{Linear}
 use Rattle.cap_lin.specs.declared.row.Op.TheVariants.{Eq as Equal}
 use Rattle.cap_prog.specs.Program.{PlainRegionType}
-use Rattle.cap_logic.specs.States.{PlainFact, PlainState}
-use Rattle.cap_logic.specs.Candidates.{MadeRow, made_row, bounds, bounds_by, all_candidates, later_state, PlainCandidate, candidate_of}
+use Rattle.cap_goal_spec.specs.States.{PlainFact, PlainState}
+use Rattle.cap_goal_spec.specs.Candidates.{MadeRow, made_row, bounds, bounds_by, all_candidates, later_state, PlainCandidate, candidate_of}
 use Rattle.cap_stab.specs.Finding.{candidates_seen, added, bounds_among, action_bounds_among}
 use Rattle.cap_stab.proofs.Repeats.{found}
 use Rattle.cap_stab.proofs.Bounds.{case-bounds, all-action-bounds, added-two}

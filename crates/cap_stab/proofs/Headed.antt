@@ -5,16 +5,16 @@ use Rattle.std.proofs.lemmas.List.{map-append, reverse-append}
 use Rattle.cap_lin.specs.declared.row.Row.{Row}
 use Rattle.cap_farkas.specs.declared.cert.Cert.{Cert}
 use Rattle.cap_prog.specs.Program.{none, item, done, first, PlainRegionType, PlainProgram}
-use Rattle.cap_logic.specs.States.{PlainFact, PlainState, PlainTask, to_run, to_turn, to_give, to_take, to_make, to_close, to_shift, to_rest, PlainGoal, goals_of}
-use Rattle.cap_logic.specs.Choices.{PlainChoice, by_settle, by_keep}
+use Rattle.cap_goal_spec.specs.States.{PlainFact, PlainState, PlainTask, to_run, to_turn, to_give, to_take, to_make, to_close, to_shift, to_rest, PlainGoal, goals_of}
+use Rattle.cap_goal_spec.specs.Choices.{PlainChoice, by_settle, by_keep}
 use Rattle.cap_goal.specs.declared.task.Task.{Task}
 use Rattle.cap_goal.specs.Views.{task_view, tasks_view}
 use Rattle.cap_rules.specs.Attempts.{found, not_applicable}
 use Rattle.cap_rules.specs.Rules.{at_tasks, rule}
-use Rattle.cap_steps.specs.Walks.{Makes, Claims}
-use Rattle.cap_steps.specs.declared.error.RuleError.{RuleError}
-use Rattle.cap_steps.specs.declared.error.RuleError.TheVariants.{NotApplicable}
-use Rattle.cap_steps.proofs.Walking.{there, lacking, inapplicable, weaker, made_claims, unmade_claims, claims_then, claims_fail, done_as}
+use Rattle.cap_rules_steps.specs.Walks.{Makes, Claims}
+use Rattle.cap_rules_steps.specs.declared.error.RuleError.{RuleError}
+use Rattle.cap_rules_steps.specs.declared.error.RuleError.TheVariants.{NotApplicable}
+use Rattle.cap_rules_steps.proofs.Walking.{there, lacking, inapplicable, weaker, made_claims, unmade_claims, claims_then, claims_fail, done_as}
 use Rattle.cap_stab.proofs.Named.{beyond}
 use Rattle.cap_stab.specs.Heads.{IsSettling, numbers_of, settled_by, rest_at, rest_by, rest_tasks}
 

@@ -7,15 +7,15 @@ use Rattle.cap_lin.specs.declared.row.Row.{Row}
 use Rattle.cap_lin.specs.declared.error.LinError.{LinError}
 use Rattle.cap_lin.specs.declared.error.LinError.TheVariants.{Wide, OutOfMemory}
 use Rattle.cap_prog.specs.Program.{PlainRegionType}
-use Rattle.cap_logic.specs.States.{PlainFact, PlainState}
-use Rattle.cap_logic.specs.Candidates.{MadeRow, candidates, PlainCandidate, known, past, candidate_as, candidate_of}
+use Rattle.cap_goal_spec.specs.States.{PlainFact, PlainState}
+use Rattle.cap_goal_spec.specs.Candidates.{MadeRow, candidates, PlainCandidate, known, past, candidate_as, candidate_of}
 use Rattle.cap_rules.specs.Attempts.{Attempt, unit, computed, found, need, go_on}
 use Rattle.cap_rules.specs.Resting.{named_candidates}
-use Rattle.cap_steps.specs.Errors.{rule_error}
-use Rattle.cap_steps.specs.Walks.{Makes}
-use Rattle.cap_steps.specs.declared.error.RuleError.{RuleError}
-use Rattle.cap_steps.specs.declared.error.RuleError.TheVariants as rule
-use Rattle.cap_steps.proofs.Walking.{then_made, unmade, needed, unneeded, there, lacking, all_narrow, last_wide, no_memory}
+use Rattle.cap_rules_steps.specs.Errors.{rule_error}
+use Rattle.cap_rules_steps.specs.Walks.{Makes}
+use Rattle.cap_rules_steps.specs.declared.error.RuleError.{RuleError}
+use Rattle.cap_rules_steps.specs.declared.error.RuleError.TheVariants as rule
+use Rattle.cap_rules_steps.proofs.Walking.{then_made, unmade, needed, unneeded, there, lacking, all_narrow, last_wide, no_memory}
 use Rattle.cap_stab.specs.Finding.{IsRowOf, candidates_seen}
 use Rattle.cap_stab.specs.Views.{candidates_view}
 use Rattle.cap_stab.specs.declared.candidate.Candidate.{Candidate}

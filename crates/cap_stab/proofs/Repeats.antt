@@ -4,8 +4,8 @@ use Rattle.std.specs.Prelude.{◌&&◌, ◌||◌, is_none, if◌then◌else◌}
 use Rattle.std.specs.List.{list_any}
 use Rattle.cap_lin.specs.Steps.{first_wide}
 use Rattle.cap_lin.specs.declared.row.Row.{Row}
-use Rattle.cap_elim.specs.Rows.{same_row}
-use Rattle.cap_logic.specs.Candidates.{MadeRow, is_made, repeats, without_repeats, PlainCandidate, known, past, candidate_as, candidate_of}
+use Rattle.cap_fm_spec.specs.Rows.{same_row}
+use Rattle.cap_goal_spec.specs.Candidates.{MadeRow, is_made, repeats, without_repeats, PlainCandidate, known, past, candidate_as, candidate_of}
 use Rattle.cap_stab.specs.Finding.{is_row, is_repeat, added}
 
 -- the candidates, without those that repeat earlier ones

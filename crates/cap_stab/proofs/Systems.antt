@@ -12,15 +12,15 @@ use Rattle.cap_lin.specs.declared.row.Sort.TheVariants.{Int}
 use Rattle.cap_gsolve.specs.declared.piece.Form.{Form}
 use Rattle.cap_gsolve.specs.Compat.{compat, compat_steps}
 use Rattle.cap_prog.specs.Program.{PlainAction, PlainRegionType}
-use Rattle.cap_logic.specs.Terms.{term_over, term_over_steps}
-use Rattle.cap_logic.specs.States.{PlainFact, PlainState}
-use Rattle.cap_logic.specs.Candidates.{later_state}
+use Rattle.cap_goal_spec.specs.Terms.{term_over, term_over_steps}
+use Rattle.cap_goal_spec.specs.States.{PlainFact, PlainState}
+use Rattle.cap_goal_spec.specs.Candidates.{later_state}
 use Rattle.cap_rules.specs.Resting.{first_names, rows_over, want_all, joined_rows, system}
-use Rattle.cap_steps.specs.Errors.{rule_error}
-use Rattle.cap_steps.specs.Places.{term_among}
-use Rattle.cap_steps.specs.Walks.{Makes}
-use Rattle.cap_steps.specs.declared.error.RuleError.{RuleError}
-use Rattle.cap_steps.proofs.Walking.{then_made, unmade, then_narrow, wide, done}
+use Rattle.cap_rules_steps.specs.Errors.{rule_error}
+use Rattle.cap_rules_steps.specs.Places.{term_among}
+use Rattle.cap_rules_steps.specs.Walks.{Makes}
+use Rattle.cap_rules_steps.specs.declared.error.RuleError.{RuleError}
+use Rattle.cap_rules_steps.proofs.Walking.{then_made, unmade, then_narrow, wide, done}
 
 -- the source, and the row that it is the later state
 abbrev pub source_of : PlainAction → List Linear → Linear

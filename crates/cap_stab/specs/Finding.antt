@@ -5,12 +5,12 @@ use Rattle.cap_lin.specs.Linear.{Linear}
 use Rattle.cap_lin.specs.declared.row.Row.{Row}
 use Rattle.cap_lin.specs.declared.error.LinError.{LinError}
 use Rattle.cap_lin.specs.declared.error.LinError.TheVariants.{Wide, OutOfMemory}
-use Rattle.cap_elim.specs.Rows.{same_row}
+use Rattle.cap_fm_spec.specs.Rows.{same_row}
 use Rattle.cap_prog.specs.Program.{PlainAction, PlainRegionType, PlainProgram}
-use Rattle.cap_logic.specs.Terms.{term_over, term_over_steps}
-use Rattle.cap_logic.specs.States.{PlainFact, PlainState}
-use Rattle.cap_logic.specs.Candidates.{MadeRow, bounds, candidates, PlainCandidate, known, past, candidate_of}
-use Rattle.cap_steps.specs.Places.{term_among}
+use Rattle.cap_goal_spec.specs.Terms.{term_over, term_over_steps}
+use Rattle.cap_goal_spec.specs.States.{PlainFact, PlainState}
+use Rattle.cap_goal_spec.specs.Candidates.{MadeRow, bounds, candidates, PlainCandidate, known, past, candidate_of}
+use Rattle.cap_rules_steps.specs.Places.{term_among}
 
 -- ---- the candidates of a fact by its number
 

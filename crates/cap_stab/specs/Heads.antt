@@ -2,8 +2,8 @@
 use Rattle.std.specs.Prelude.{ℕ, ◌+◌, List, [], ◌∷◌, slice_get, Option, Some, None, option_map}
 use Rattle.std.specs.Borrow.{Bor}
 use Rattle.cap_prog.specs.Program.{PlainRegionType, PlainProgram}
-use Rattle.cap_logic.specs.States.{PlainFact, PlainState, PlainTask, to_rest, PlainGoal}
-use Rattle.cap_logic.specs.Choices.{PlainChoice, by_settle, by_keep}
+use Rattle.cap_goal_spec.specs.States.{PlainFact, PlainState, PlainTask, to_rest, PlainGoal}
+use Rattle.cap_goal_spec.specs.Choices.{PlainChoice, by_settle, by_keep}
 use Rattle.cap_rules.specs.Attempts.{Attempt, ◌>>=◌, found, not_applicable}
 use Rattle.cap_rules.specs.Resting.{settle, keep}
 use Rattle.cap_rules.specs.Rules.{leaves}

@@ -4,9 +4,9 @@ use Rattle.cap_lin.specs.Linear.{Linear, replaced}
 use Rattle.cap_lin.specs.Steps.{replaced_steps}
 use Rattle.cap_lin.specs.declared.row.Row.{Row}
 use Rattle.cap_prog.specs.Program.{PlainAction, PlainRegionType}
-use Rattle.cap_logic.specs.States.{PlainFact, PlainState}
+use Rattle.cap_goal_spec.specs.States.{PlainFact, PlainState}
 use Rattle.cap_rules.specs.Attempts.{Attempt, ◌>>=◌, computed, found, need, prove}
-use Rattle.cap_logic.specs.Candidates.{MadeRow}
+use Rattle.cap_goal_spec.specs.Candidates.{MadeRow}
 use Rattle.cap_rules.specs.Resting.{action_names, system, prove_closed, prove_same}
 
 -- the rows prove the candidate, with this term for the later state

@@ -1,6 +1,6 @@
 -- What contracts see of candidates.
 use Rattle.std.specs.Prelude.{List, map}
-use Rattle.cap_logic.specs.Candidates.{PlainCandidate, known, past}
+use Rattle.cap_goal_spec.specs.Candidates.{PlainCandidate, known, past}
 use Rattle.cap_stab.specs.declared.candidate.Candidate.{Candidate}
 use Rattle.cap_stab.specs.declared.candidate.Candidate.TheVariants.{Known, Past}
 

@@ -1,13 +1,13 @@
 ghost use Rattle.std.specs.Prelude.{◌≡◌, [], fold, map, OnOk, IfOk};
 ghost use Rattle.std.specs.List.{list_any};
-ghost use Rattle.cap_elim.specs.Rows.{same_kind as is_same_kind};
-ghost use Rattle.cap_logic.specs.Candidates.{made_row, candidate_of, bounds};
+ghost use Rattle.cap_fm_spec.specs.Rows.{same_kind as is_same_kind};
+ghost use Rattle.cap_goal_spec.specs.Candidates.{made_row, candidate_of, bounds};
 ghost use Rattle.cap_stab.specs.Finding.{is_row, is_repeat, is_over, added, bounds_among};
 ghost use Rattle.cap_stab.specs.Finding.{IsPast};
 ghost use Rattle.cap_stab.specs.Views.{candidate_view, candidates_view};
 
 use cap_lin::{Kind, LinError, Op, Row, Sort, Term};
-use cap_steps::value_over;
+use cap_rules_steps::value_over;
 use std::alloc::{AllocError, Global};
 
 /// What may be known of a fact's state after steps of others: a row over its later state.

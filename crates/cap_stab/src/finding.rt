@@ -2,9 +2,9 @@ ghost use Rattle.std.specs.Prelude.{◌≡◌, ◌<◌, ◌≤◌, ◌∷◌, le
 ghost use Rattle.std.specs.Prelude.{fold, map, flat_map, OnOk, IfOk};
 ghost use Rattle.cap_lin.specs.Linear.{variable};
 ghost use Rattle.cap_prog.specs.Views.{case_view, action_view, region_view, program_view};
-ghost use Rattle.cap_logic.specs.States.{longest_list};
-ghost use Rattle.cap_logic.specs.Candidates.{candidate_of, later_state as later_of};
-ghost use Rattle.cap_logic.specs.Fits.{StateFits};
+ghost use Rattle.cap_goal_spec.specs.States.{longest_list};
+ghost use Rattle.cap_goal_spec.specs.Candidates.{candidate_of, later_state as later_of};
+ghost use Rattle.cap_goal_spec.specs.Fits.{StateFits};
 ghost use Rattle.cap_stab.specs.Finding.{added, bounds_among, action_bounds_among};
 ghost use Rattle.cap_stab.specs.Finding.{candidates_seen, candidates_at};
 ghost use Rattle.cap_stab.specs.Views.{candidates_view};

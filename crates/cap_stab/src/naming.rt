@@ -2,7 +2,7 @@ ghost use Rattle.std.specs.Prelude.{◌≡◌, ◌+◌, ◌≤◌, ◌++◌, ◌
 ghost use Rattle.std.specs.Prelude.{[], length, OnOk, IfOk};
 ghost use Rattle.cap_lin.specs.Linear.{variable as plain_variable};
 ghost use Rattle.cap_prog.specs.Views.{action_view, region_view};
-ghost use Rattle.cap_logic.specs.States.{longest_list};
+ghost use Rattle.cap_goal_spec.specs.States.{longest_list};
 ghost use Rattle.cap_rules.specs.Resting.{names_below};
 ghost use Rattle.cap_rules.specs.Resting.{end_of as end_of_parts, ask_slot as slot_asked};
 ghost use Rattle.cap_rules.specs.Resting.{ask as asked_names, ask_all as all_asked, first_names};

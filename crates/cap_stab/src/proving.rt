@@ -1,11 +1,11 @@
 ghost use Rattle.std.specs.Prelude.{◌≡◌, ◌≤◌, [], ◌∷◌, length};
 ghost use Rattle.cap_prog.specs.Views.{action_view, region_view};
-ghost use Rattle.cap_logic.specs.States.{longest_list};
-ghost use Rattle.cap_logic.specs.Candidates.{later_state as later_of};
+ghost use Rattle.cap_goal_spec.specs.States.{longest_list};
+ghost use Rattle.cap_goal_spec.specs.Candidates.{later_state as later_of};
 ghost use Rattle.cap_rules.specs.Resting.{prove_at as proved_at, prove_closed as proved_closed};
 ghost use Rattle.cap_rules.specs.Resting.{prove_stable as proved_stable, action_names as names_of};
 ghost use Rattle.cap_rules.specs.Resting.{prove_same as proved_same, prove_kept as proved_kept};
-ghost use Rattle.cap_steps.specs.Walks.{Claims, giving};
+ghost use Rattle.cap_rules_steps.specs.Walks.{Claims, giving};
 ghost use Rattle.cap_stab.specs.Asking.{rows_seen};
 ghost use Rattle.cap_stab.specs.Proving.{proved_one, stable_for, kept_for};
 
@@ -14,11 +14,11 @@ use crate::system::system;
 use cap_goal::{Fact, State};
 use cap_lin::{Op, Row, Sort, Term};
 use cap_prog::{Action, RegionType};
-use cap_steps::{Ledger, RuleError, prove, prove_that, value_over};
+use cap_rules_steps::{Ledger, RuleError, prove, prove_that, value_over};
 use std::alloc::Global;
 
 // Claims that the rows prove a candidate, with this term for the later state.
-#[tactic(auto, using(cap_steps::proofs::Walking::claiming))]
+#[tactic(auto, using(cap_rules_steps::proofs::Walking::claiming))]
 fn prove_one(
     alloc: Global,
     ledger: &mut Ledger,
@@ -62,7 +62,7 @@ pub(crate) fn prove_at(
 
 // Claims that the candidates hold after an action from a system; its target is made only where
 // there is a candidate.
-#[tactic(auto, using(cap_steps::proofs::Walking::claiming))]
+#[tactic(auto, using(cap_rules_steps::proofs::Walking::claiming))]
 fn prove_closed(
     alloc: Global,
     ledger: &mut Ledger,
@@ -141,7 +141,7 @@ pub(crate) fn prove_stable(
 }
 
 // Claims that the state is the same after an action from a system.
-#[tactic(auto, using(cap_steps::proofs::Walking::claiming))]
+#[tactic(auto, using(cap_rules_steps::proofs::Walking::claiming))]
 fn prove_same(
     alloc: Global,
     ledger: &mut Ledger,

@@ -1,13 +1,13 @@
 ghost use Rattle.std.specs.Prelude.{◌≡◌, ◌<◌, ◌≤◌, List, length, map, IfOk};
 ghost use Rattle.cap_prog.specs.Views.{region_view};
-ghost use Rattle.cap_logic.specs.States.{longest_list};
+ghost use Rattle.cap_goal_spec.specs.States.{longest_list};
 ghost use Rattle.cap_rules.specs.Making.{with_state as at_state};
-ghost use Rattle.cap_logic.specs.Candidates.{MadeRow, candidate_of};
-ghost use Rattle.cap_logic.specs.Candidates.{candidates as candidates_of_fact};
+ghost use Rattle.cap_goal_spec.specs.Candidates.{MadeRow, candidate_of};
+ghost use Rattle.cap_goal_spec.specs.Candidates.{candidates as candidates_of_fact};
 ghost use Rattle.cap_rules.specs.Resting.{keep as kept, settle as settled};
 ghost use Rattle.cap_rules.specs.Resting.{named_candidates as named_rows};
 ghost use Rattle.cap_rules.specs.Resting.{with_settled as settled_state};
-ghost use Rattle.cap_steps.specs.Walks.{Makes, Claims, giving, seen};
+ghost use Rattle.cap_rules_steps.specs.Walks.{Makes, Claims, giving, seen};
 ghost use Rattle.cap_stab.specs.Finding.{IsRowOf};
 ghost use Rattle.cap_stab.specs.Proving.{named_row};
 ghost use Rattle.cap_stab.specs.Views.{candidate_view, candidates_view};
@@ -18,7 +18,7 @@ use crate::proving::{prove_at, prove_kept, prove_stable};
 use cap_goal::{Fact, State, copy_terms};
 use cap_lin::{LinError, Op, Row, Sort, Term};
 use cap_prog::RegionType;
-use cap_steps::{Ledger, RuleError, with_rows, with_sort};
+use cap_rules_steps::{Ledger, RuleError, with_rows, with_sort};
 use std::alloc::{AllocError, Global};
 
 // The fact in another state, no longer loose.

@@ -1,14 +1,14 @@
 ghost use Rattle.std.specs.Prelude.{◌≡◌, ◌<◌, ◌≤◌, ◌+◌, ◌∷◌, length, IfOk};
 ghost use Rattle.cap_prog.specs.Views.{region_view, program_view};
-ghost use Rattle.cap_logic.specs.States.{longest_list, to_rest};
-ghost use Rattle.cap_logic.specs.Choices.{certs_of as certs_in};
-ghost use Rattle.cap_logic.specs.Fits.{HasRoom};
+ghost use Rattle.cap_goal_spec.specs.States.{longest_list, to_rest};
+ghost use Rattle.cap_goal_spec.specs.Choices.{certs_of as certs_in};
+ghost use Rattle.cap_goal_spec.specs.Fits.{HasRoom};
 ghost use Rattle.cap_rules.specs.Answers.{marks_of, proofs};
 ghost use Rattle.cap_rules.specs.Rules.{rule};
 ghost use Rattle.cap_goal.specs.Views.{task_view, tasks_view, goal_view, choice_view};
-ghost use Rattle.cap_steps.specs.Goals.{goals_view};
-ghost use Rattle.cap_steps.specs.Judging.{Answered, IsTold, lists_view};
-ghost use Rattle.cap_steps.specs.Walks.{Claims, giving, seen};
+ghost use Rattle.cap_rules_steps.specs.Goals.{goals_view};
+ghost use Rattle.cap_rules_steps.specs.Judging.{Answered, IsTold, lists_view};
+ghost use Rattle.cap_rules_steps.specs.Walks.{Claims, giving, seen};
 ghost use Rattle.cap_stab.specs.Heads.{IsSettling, numbers_of, numbers_seen, settled_by};
 ghost use Rattle.cap_stab.specs.Heads.{rest_at, rest_from, rest_by, rest_tasks};
 
@@ -16,7 +16,7 @@ use crate::settling::{keep, settle};
 use cap_goal::{Choice, Fact, Goal, State, Task};
 use cap_lin::Row;
 use cap_prog::{Program, RegionType};
-use cap_steps::{Ledger, RuleError, certs_of, copy_tasks, judged, leaves, region_at, told};
+use cap_rules_steps::{Ledger, RuleError, certs_of, copy_tasks, judged, leaves, region_at, told};
 use std::alloc::{AllocError, Global};
 
 // The numbers of the candidates of a choice; none where it has none.

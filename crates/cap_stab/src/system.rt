@@ -1,8 +1,8 @@
 ghost use Rattle.std.specs.Prelude.{◌≡◌, ◌∷◌, ◌++◌, length, option_map, IfOk};
 ghost use Rattle.cap_prog.specs.Views.{action_view, region_view};
-ghost use Rattle.cap_logic.specs.Candidates.{later_state as later_of};
+ghost use Rattle.cap_goal_spec.specs.Candidates.{later_state as later_of};
 ghost use Rattle.cap_rules.specs.Resting.{first_names, joined_rows, system as system_of};
-ghost use Rattle.cap_steps.specs.Walks.{Makes, seen};
+ghost use Rattle.cap_rules_steps.specs.Walks.{Makes, seen};
 ghost use Rattle.cap_stab.specs.Asking.{starts_of, rows_seen};
 
 use crate::wanting::{rows_over, wanted};
@@ -10,7 +10,7 @@ use cap_goal::{Fact, State};
 use cap_gsolve::compat;
 use cap_lin::{Op, Row, Sort, Term};
 use cap_prog::{Action, RegionType};
-use cap_steps::{RuleError, value_over};
+use cap_rules_steps::{RuleError, value_over};
 use std::alloc::{AllocError, Global};
 
 // Appends copies of rows.

@@ -1,13 +1,13 @@
 ghost use Rattle.std.specs.Prelude.{◌≡◌, length};
 ghost use Rattle.cap_rules.specs.Resting.{rows_over as rows_among, want_slot as slot_wanted};
 ghost use Rattle.cap_rules.specs.Resting.{want_form as form_wanted};
-ghost use Rattle.cap_steps.specs.Walks.{Makes, seen};
+ghost use Rattle.cap_rules_steps.specs.Walks.{Makes, seen};
 ghost use Rattle.cap_stab.specs.Asking.{row_among, wanted_from};
 
 use cap_gsolve::Form;
 use cap_lin::{Row, Term};
 use cap_prog::{Asked, Comp, Slot};
-use cap_steps::{RuleError, value_over};
+use cap_rules_steps::{RuleError, value_over};
 use std::alloc::Global;
 
 // The row of a comparison of an action, by the terms of its names.
@@ -35,7 +35,7 @@ pub(crate) fn rows_over(
 }
 
 // The amount that an action wants; this variable stands for `_`.
-#[tactic(auto, using(cap_steps::proofs::Walking::making))]
+#[tactic(auto, using(cap_rules_steps::proofs::Walking::making))]
 fn want_slot(alloc: Global, names: &[Term], wildcard: u32, slot: &Slot) -> Result<Term, RuleError>
     ensures { Makes result (slot_wanted names.now wildcard slot.now) }
 {
@@ -45,7 +45,7 @@ fn want_slot(alloc: Global, names: &[Term], wildcard: u32, slot: &Slot) -> Resul
     }
 }
 
-#[tactic(auto, using(cap_steps::proofs::Walking::making))]
+#[tactic(auto, using(cap_rules_steps::proofs::Walking::making))]
 fn want_form(alloc: Global, names: &[Term], wildcard: u32, asked: &Asked) -> Result<Form, RuleError>
     ensures { Makes result (form_wanted names.now wildcard asked.now) }
 {

@@ -7,15 +7,15 @@ use Rattle.cap_prog.specs.declared.assertion.Comp.{Comp}
 use Rattle.cap_prog.specs.declared.assertion.Slot.{Slot}
 use Rattle.cap_prog.specs.declared.assertion.Asked.{Asked}
 use Rattle.cap_prog.specs.Program.{PlainItem, Items, none, PlainProgram}
-use Rattle.cap_logic.specs.States.{PlainState, PlainTask}
+use Rattle.cap_goal_spec.specs.States.{PlainState, PlainTask}
 use Rattle.cap_goal.specs.declared.task.Task.{Task}
 use Rattle.cap_goal.specs.declared.task.Task.TheVariants as task
 use Rattle.cap_goal.specs.declared.task.Items as code
 use Rattle.cap_goal.specs.Views.{task_view, tasks_view}
 use Rattle.cap_rules.specs.Rules.{Remaining}
-use Rattle.cap_steps.specs.Walks.{Makes, Claims}
-use Rattle.cap_steps.specs.declared.error.RuleError.TheVariants.{NotApplicable}
-use Rattle.cap_steps.proofs.Walking.{inapplicable, weaker}
+use Rattle.cap_rules_steps.specs.Walks.{Makes, Claims}
+use Rattle.cap_rules_steps.specs.declared.error.RuleError.TheVariants.{NotApplicable}
+use Rattle.cap_rules_steps.proofs.Walking.{inapplicable, weaker}
 use Rattle.cap_take.specs.declared.heads.Taking.{Taking}
 use Rattle.cap_take.specs.declared.heads.Taking.TheVariants as rule
 use Rattle.cap_take.specs.Heads.{comparison_taken, conditional_taken, cell_taken, fact_taken, atom_taken, items_taken, items_given, region_stated, head_taken, tasks_taken, taken_by}

@@ -2,8 +2,8 @@
 use Rattle.std.proofs.Common.{◌≡◌, ℕ, Bool, List, [], ◌∷◌, refl}
 use Rattle.cap_farkas.specs.declared.cert.Cert.{Cert}
 use Rattle.cap_prog.specs.Program.{compare, choose, fact, atom, cell, none, item, done, first, PlainProgram}
-use Rattle.cap_logic.specs.States.{PlainState, PlainTask, to_run, to_turn, to_give, to_take, to_make, to_close, to_shift, to_rest, PlainGoal}
-use Rattle.cap_logic.specs.Choices.{PlainChoice, by_give, by_fact, by_cases, by_cell, by_region, by_guard, by_convert, by_create, by_made}
+use Rattle.cap_goal_spec.specs.States.{PlainState, PlainTask, to_run, to_turn, to_give, to_take, to_make, to_close, to_shift, to_rest, PlainGoal}
+use Rattle.cap_goal_spec.specs.Choices.{PlainChoice, by_give, by_fact, by_cases, by_cell, by_region, by_guard, by_convert, by_create, by_made}
 use Rattle.cap_rules.specs.Rules.{at_tasks, rule}
 use Rattle.cap_take.specs.Heads.{IsTaking, taking_of, tasks_taken, taken_by}
 use Rattle.cap_take.specs.declared.heads.Taking.TheVariants as rule

@@ -5,8 +5,8 @@ use Rattle.cap_prog.specs.declared.assertion.Comp.{Comp}
 use Rattle.cap_prog.specs.declared.assertion.Slot.{Slot}
 use Rattle.cap_prog.specs.declared.assertion.Asked.{Asked}
 use Rattle.cap_prog.specs.Program.{PlainItem, compare, choose, fact, atom, cell, Items, none, item, PlainProgram}
-use Rattle.cap_logic.specs.States.{PlainState, PlainTask, to_give, to_take, to_make, PlainGoal}
-use Rattle.cap_logic.specs.Choices.{PlainChoice, by_give, by_fact, by_cases, by_cell, by_region, by_guard, by_convert, by_create, by_made}
+use Rattle.cap_goal_spec.specs.States.{PlainState, PlainTask, to_give, to_take, to_make, PlainGoal}
+use Rattle.cap_goal_spec.specs.Choices.{PlainChoice, by_give, by_fact, by_cases, by_cell, by_region, by_guard, by_convert, by_create, by_made}
 use Rattle.cap_rules.specs.Attempts.{Attempt, not_applicable}
 use Rattle.cap_rules.specs.Giving.{give}
 use Rattle.cap_rules.specs.Rules.{Remaining, at_fact, at_cases, at_cell, at_region, creates, at_guard, at_convert, at_made}

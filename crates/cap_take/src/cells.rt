@@ -3,17 +3,17 @@ ghost use Rattle.std.specs.Prelude.{◌≡◌, IfOk, remove, slice_get};
 ghost use Rattle.cap_rules.specs.Attempts.{found};
 ghost use Rattle.cap_rules.specs.Making.{env_at, match_slot, with_env_at};
 ghost use Rattle.cap_rules.specs.Rules.{at_cell};
-ghost use Rattle.cap_steps.specs.Goals.{goals_view};
-ghost use Rattle.cap_steps.specs.Walks.{Makes, Claims, seen};
-ghost use Rattle.cap_items.specs.Views.{remaining_view};
+ghost use Rattle.cap_rules_steps.specs.Goals.{goals_view};
+ghost use Rattle.cap_rules_steps.specs.Walks.{Makes, Claims, seen};
+ghost use Rattle.cap_take_items.specs.Views.{remaining_view};
 ghost use Rattle.cap_take.specs.Views.{cell_view};
 
 use cap_goal::{Env, Goal, State};
-use cap_holdings::{copy_env, determined_at, match_slot};
-use cap_items::{Remaining, goes};
 use cap_lin::Term;
 use cap_prog::Slot;
-use cap_steps::{Ledger, RuleError, prove_equal, with_env_at};
+use cap_rules_steps::{Ledger, RuleError, prove_equal, with_env_at};
+use cap_take_holdings::{copy_env, determined_at, match_slot};
+use cap_take_items::{Remaining, goes};
 use std::alloc::{AllocError, Global};
 
 // A cell, where there is one of this number.

@@ -2,17 +2,17 @@
 ghost use Rattle.std.specs.Prelude.{◌≡◌, ◌++◌, IfOk, OnOk, map};
 ghost use Rattle.cap_prog.specs.Views.{items_view};
 ghost use Rattle.cap_goal.specs.Views.{goal_view};
-ghost use Rattle.cap_logic.specs.States.{goals_of};
+ghost use Rattle.cap_goal_spec.specs.States.{goals_of};
 ghost use Rattle.cap_rules.specs.Rules.{at_fact, at_cases};
-ghost use Rattle.cap_steps.specs.Goals.{goals_view};
-ghost use Rattle.cap_steps.specs.Walks.{Makes, Claims, seen};
-ghost use Rattle.cap_items.specs.Views.{remaining_view, side_tasks};
+ghost use Rattle.cap_rules_steps.specs.Goals.{goals_view};
+ghost use Rattle.cap_rules_steps.specs.Walks.{Makes, Claims, seen};
+ghost use Rattle.cap_take_items.specs.Views.{remaining_view, side_tasks};
 
 use cap_goal::{Goal, State};
-use cap_holdings::row_at;
-use cap_items::{Remaining, goes, tasks_after};
 use cap_prog::{Assertion, Comp};
-use cap_steps::{Ledger, RuleError, add_goal, copy_with_row, opposite, prove};
+use cap_rules_steps::{Ledger, RuleError, add_goal, copy_with_row, opposite, prove};
+use cap_take_holdings::row_at;
+use cap_take_items::{Remaining, goes, tasks_after};
 use std::alloc::{AllocError, Global};
 
 /// The comparison is claimed.

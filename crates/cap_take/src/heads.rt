@@ -3,9 +3,9 @@ ghost use Rattle.std.specs.Prelude.{◌≡◌};
 ghost use Rattle.cap_prog.specs.Program.{none};
 ghost use Rattle.cap_prog.specs.Views.{item_view, items_view, program_view};
 ghost use Rattle.cap_goal.specs.Views.{items_in, task_view, tasks_view, choice_view};
-ghost use Rattle.cap_steps.specs.Goals.{goals_view};
-ghost use Rattle.cap_steps.specs.Walks.{Makes, Claims, seen};
-ghost use Rattle.cap_items.specs.Views.{remaining_view};
+ghost use Rattle.cap_rules_steps.specs.Goals.{goals_view};
+ghost use Rattle.cap_rules_steps.specs.Walks.{Makes, Claims, seen};
+ghost use Rattle.cap_take_items.specs.Views.{remaining_view};
 ghost use Rattle.cap_take.specs.Heads.{taking_of, comparison_taken, conditional_taken};
 ghost use Rattle.cap_take.specs.Heads.{cell_taken, item_taken, items_taken, items_given};
 ghost use Rattle.cap_take.specs.Heads.{fact_taken, atom_taken, region_stated};
@@ -13,14 +13,14 @@ ghost use Rattle.cap_take.specs.Heads.{head_taken, tasks_taken};
 
 use crate::cells::cell;
 use crate::comparing::{cases, fact};
-use cap_create::{create, made, region as match_region};
-use cap_give::give;
 use cap_goal::{Choice, Goal, Items, State, Task};
-use cap_guards::{convert, guard};
-use cap_items::{Remaining, next_item};
 use cap_lin::Term;
 use cap_prog::{Asked, Assertion, Comp, Item, Program, Slot};
-use cap_steps::{Ledger, RuleError};
+use cap_rules_steps::{Ledger, RuleError};
+use cap_take_create::{create, made, region as match_region};
+use cap_take_give::give;
+use cap_take_guards::{convert, guard};
+use cap_take_items::{Remaining, next_item};
 use std::alloc::Global;
 
 /// A rule on an assertion, without its certificates.

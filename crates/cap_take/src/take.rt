@@ -1,18 +1,18 @@
 ghost use Rattle.cap_prog.specs.Views.{program_view};
-ghost use Rattle.cap_logic.specs.Choices.{certs_of as certs_in};
+ghost use Rattle.cap_goal_spec.specs.Choices.{certs_of as certs_in};
 ghost use Rattle.cap_rules.specs.Answers.{marks_of, proofs};
 ghost use Rattle.cap_rules.specs.Rules.{rule};
 ghost use Rattle.cap_goal.specs.Views.{tasks_view, goal_view, choice_view};
-ghost use Rattle.cap_steps.specs.Goals.{goals_view};
-ghost use Rattle.cap_steps.specs.Judging.{Answered, IsTold, lists_view};
-ghost use Rattle.cap_steps.specs.Walks.{Claims, seen};
+ghost use Rattle.cap_rules_steps.specs.Goals.{goals_view};
+ghost use Rattle.cap_rules_steps.specs.Judging.{Answered, IsTold, lists_view};
+ghost use Rattle.cap_rules_steps.specs.Walks.{Claims, seen};
 ghost use Rattle.cap_take.specs.Heads.{IsTaking, taken_by};
 
 use crate::heads::{Taking, rule_of, take_first};
 use cap_goal::{Choice, Goal, State, Task};
 use cap_lin::Row;
 use cap_prog::Program;
-use cap_steps::{Ledger, RuleError, certs_of, judged, told};
+use cap_rules_steps::{Ledger, RuleError, certs_of, judged, told};
 use std::alloc::Global;
 
 // What is left of these tasks, where a rule on an assertion is taken.

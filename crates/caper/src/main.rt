@@ -3,8 +3,8 @@
 //! `caper replay FILE SCHEDULE`.
 #![tactic(auto)]
 
-use cap_front::{Status, run};
 use cap_io::{FileShelf, StdSink};
+use cap_top::{Status, run};
 use std::alloc::AllocError;
 use std::env;
 use std::io::ErrorKind;

@@ -7,7 +7,7 @@ use Rattle.cap_lin.specs.Linear.{Linear, same_term}
 use Rattle.cap_lin.specs.Laws.Sameness.{same_term-decides}
 use Rattle.cap_lin.specs.declared.row.Kind.{Kind}
 use Rattle.cap_lin.specs.declared.row.Kind.TheVariants.{Le, Lt, Eq, Ne}
-use Rattle.cap_elim.specs.Rows.{same_kind}
+use Rattle.cap_fm_spec.specs.Rows.{same_kind}
 use Rattle.cap_fm.specs.Forms.{same_form}
 
 kind-is : (k l : Kind) → same_kind k l ≡ true → k ≡ l

@@ -1,4 +1,4 @@
-use Rattle.cap_logic.specs.Choices.{certs_of}
+use Rattle.cap_goal_spec.specs.Choices.{certs_of}
 use Rattle.cap_rules.specs.Answers.{marks_of}
 use Rattle.cap_rules.specs.Rules.{rule}
 use Rattle.cap_rules.proofs.Answering.{succeeds-answer}

@@ -1,5 +1,5 @@
 use Rattle.std.proofs.Common.{◌≡◌, ◌++◌, drop}
-use Rattle.cap_offering.specs.Closures.{numbers_of}
+use Rattle.cap_offer_spec.specs.Closures.{numbers_of}
 use Rattle.cap_closure.specs.Views.{list_view}
 use Rattle.cap_closure.proofs.closing.numbers_of.Given as goal
 

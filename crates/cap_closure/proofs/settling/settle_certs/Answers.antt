@@ -1,7 +1,7 @@
 use Rattle.cap_prog.specs.Views.{region_view}
 use Rattle.cap_rules.specs.Resting.{settle}
-use Rattle.cap_offering.specs.Deciding.{certified}
-use Rattle.cap_decide.specs.Noting.{certs_seen}
+use Rattle.cap_offer_spec.specs.Deciding.{certified}
+use Rattle.cap_closure_decide.specs.Noting.{certs_seen}
 use Rattle.cap_closure.specs.Tested.{without_value}
 use Rattle.cap_closure.proofs.Attempts.{without-certified}
 use Rattle.cap_closure.proofs.Starts.{adds-as}

@@ -1,7 +1,7 @@
 use Rattle.std.proofs.Common.{◌≡◌, ◌≢◌, ℕ, suc, ◌+◌, ◌-◌, length, sym, ◌∙◌, rules, arith}
 use Rattle.std.specs.Vec.{vec_len}
 use Rattle.cap_prog.specs.Views.{region_view}
-use Rattle.cap_offering.specs.Closures.{rounds}
+use Rattle.cap_offer_spec.specs.Closures.{rounds}
 use Rattle.cap_closure.specs.Views.{list_view}
 use Rattle.cap_closure.proofs.Starts.{rounds-stop, rounds-go, rounds-over}
 use Rattle.cap_closure.proofs.surviving.rounds.Goals as goal

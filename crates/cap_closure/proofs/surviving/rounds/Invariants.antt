@@ -1,7 +1,7 @@
 use Rattle.std.proofs.Common.{◌≡◌, ◌-◌}
 use Rattle.cap_prog.specs.Views.{region_view}
 use Rattle.std.proofs.Common.{length}
-use Rattle.cap_offering.specs.Closures.{rounds}
+use Rattle.cap_offer_spec.specs.Closures.{rounds}
 use Rattle.cap_closure.specs.Views.{list_view}
 use Rattle.cap_closure.proofs.surviving.rounds.Given as goal
 

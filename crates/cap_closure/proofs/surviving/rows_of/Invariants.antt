@@ -1,5 +1,5 @@
 use Rattle.std.proofs.Common.{◌≡◌, ◌++◌, drop}
-use Rattle.cap_offering.specs.Closures.{rows_of}
+use Rattle.cap_offer_spec.specs.Closures.{rows_of}
 use Rattle.cap_closure.specs.Views.{list_view}
 use Rattle.cap_closure.proofs.surviving.rows_of.Given as goal
 

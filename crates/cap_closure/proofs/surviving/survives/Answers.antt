@@ -1,6 +1,6 @@
 use Rattle.std.proofs.Common.{rules, arith, map}
 use Rattle.cap_prog.specs.Views.{action_view, region_view}
-use Rattle.cap_offering.specs.Closures.{survives}
+use Rattle.cap_offer_spec.specs.Closures.{survives}
 use Rattle.cap_closure.proofs.Starts.{survives-goes, survives-stops}
 use Rattle.cap_closure.proofs.surviving.survives.Goals as goal
 

@@ -1,6 +1,6 @@
 use Rattle.std.proofs.Common.{◌≡◌, map, drop}
 use Rattle.cap_prog.specs.Views.{action_view, region_view}
-use Rattle.cap_offering.specs.Closures.{survives}
+use Rattle.cap_offer_spec.specs.Closures.{survives}
 use Rattle.cap_closure.proofs.surviving.survives.Given as goal
 
 abbrev pub invariant-loop-action : goal.invariant-loop-action

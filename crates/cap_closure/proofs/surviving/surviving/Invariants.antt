@@ -1,7 +1,7 @@
 use Rattle.std.proofs.Common.{◌≡◌, ◌++◌}
 use Rattle.std.specs.Vec.Iter.{into_iter_items}
 use Rattle.cap_prog.specs.Views.{region_view}
-use Rattle.cap_offering.specs.Closures.{surviving}
+use Rattle.cap_offer_spec.specs.Closures.{surviving}
 use Rattle.cap_closure.specs.Views.{list_view}
 use Rattle.cap_closure.proofs.surviving.surviving.Given as goal
 

@@ -3,12 +3,12 @@ use Rattle.std.specs.Prelude.{IfOk, Ok, Err}
 use Rattle.cap_lin.specs.Linear.{Linear}
 use Rattle.cap_prog.specs.Views.{action_view, region_view}
 use Rattle.cap_rules.specs.Resting.{action_names, system, prove_closed}
-use Rattle.cap_offering.specs.Claims.{keeps_after}
-use Rattle.cap_offering.specs.Deciding.{succeeds}
-use Rattle.cap_steps.specs.Walks.{Makes}
+use Rattle.cap_offer_spec.specs.Claims.{keeps_after}
+use Rattle.cap_offer_spec.specs.Deciding.{succeeds}
+use Rattle.cap_rules_steps.specs.Walks.{Makes}
 use Rattle.cap_stab.specs.Asking.{rows_seen}
-use Rattle.cap_decide.specs.Noting.{Adds}
-use Rattle.cap_decide.proofs.Refuting.{adds-same, failure-fails}
+use Rattle.cap_closure_decide.specs.Noting.{Adds}
+use Rattle.cap_closure_decide.proofs.Refuting.{adds-same, failure-fails}
 use Rattle.cap_closure.proofs.Attempts.{made-succeeds, made-fails}
 use Rattle.cap_closure.proofs.testing.keeps_after.Goals as goal
 

@@ -4,9 +4,9 @@ use Rattle.cap_lin.specs.Linear.{replaced}
 use Rattle.cap_lin.specs.declared.row.Row.{Row}
 use Rattle.cap_rules.specs.Attempts.{prove}
 use Rattle.cap_rules.specs.Resting.{prove_at}
-use Rattle.cap_offering.specs.Deciding.{succeeds}
-use Rattle.cap_decide.specs.Noting.{Adds}
-use Rattle.cap_decide.proofs.Refuting.{adds-same, failure-fails}
+use Rattle.cap_offer_spec.specs.Deciding.{succeeds}
+use Rattle.cap_closure_decide.specs.Noting.{Adds}
+use Rattle.cap_closure_decide.proofs.Refuting.{adds-same, failure-fails}
 use Rattle.cap_closure.proofs.Attempts.{at-succeeds, at-fails}
 use Rattle.cap_closure.proofs.testing.proves_at.Goals as goal
 

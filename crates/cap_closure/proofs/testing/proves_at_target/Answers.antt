@@ -2,13 +2,13 @@ use Rattle.std.proofs.Common.{[], ◌∷◌, get_or, subst, sym, Some}
 use Rattle.std.specs.Prelude.{IfOk}
 use Rattle.cap_lin.specs.Linear.{Linear}
 use Rattle.cap_prog.specs.Views.{action_view}
-use Rattle.cap_logic.specs.Terms.{term_over, term_over_steps}
-use Rattle.cap_logic.specs.Environments.{zero_value}
+use Rattle.cap_goal_spec.specs.Terms.{term_over, term_over_steps}
+use Rattle.cap_goal_spec.specs.Environments.{zero_value}
 use Rattle.cap_rules.specs.Resting.{value_over, prove_at, prove_closed}
-use Rattle.cap_offering.specs.Deciding.{succeeds}
-use Rattle.cap_steps.proofs.Walking.{all_narrow}
-use Rattle.cap_decide.specs.Noting.{Adds}
-use Rattle.cap_decide.proofs.Refuting.{adds-same, failure-fails}
+use Rattle.cap_offer_spec.specs.Deciding.{succeeds}
+use Rattle.cap_rules_steps.proofs.Walking.{all_narrow}
+use Rattle.cap_closure_decide.specs.Noting.{Adds}
+use Rattle.cap_closure_decide.proofs.Refuting.{adds-same, failure-fails}
 use Rattle.cap_closure.proofs.Attempts.{made-succeeds, wide-fails}
 use Rattle.cap_closure.proofs.testing.proves_at_target.Goals as goal
 

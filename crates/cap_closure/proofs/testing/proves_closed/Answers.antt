@@ -1,5 +1,5 @@
 use Rattle.std.proofs.Common.{sym, ap, Bool}
-use Rattle.cap_offering.specs.Deciding.{Outcome}
+use Rattle.cap_offer_spec.specs.Deciding.{Outcome}
 use Rattle.cap_closure.proofs.Attempts.{unit-succeeds}
 use Rattle.cap_closure.proofs.testing.proves_closed.Goals as goal
 

@@ -2,7 +2,7 @@ use Rattle.std.proofs.Common.{◌≡◌, ℕ, List, [], ◌∷◌, Bool, true, f
 use Rattle.std.specs.Prelude.{⊤, bytes_eq}
 use Rattle.std.proofs.lemmas.Slice.Eq.{bytes_eq-Decides}
 use Rattle.json.specs.Token.{Token}
-use Rattle.cap_logic.specs.Choices.{PlainChoice}
+use Rattle.cap_goal_spec.specs.Choices.{PlainChoice}
 use Rattle.cap_goal.specs.Views.{choice_view}
 use Rattle.cap_deriv.specs.Taking.{row_or, rows_of_one, take_by_two, take_by_one}
 use Rattle.cap_deriv.specs.Views.{Takes}

@@ -2,8 +2,8 @@ use Rattle.std.proofs.Common.{◌≡◌, [], refl, true, false, subst, sym, ap, 
 use Rattle.std.proofs.lemmas.Int.{to_z-of_z}
 use mir.Syntax.{w128}
 use Rattle.cap_lin.specs.Linear.{number}
-use Rattle.cap_elim.specs.Runs.{contradiction}
-use Rattle.cap_elim.specs.Rows.{is_false, fail}
+use Rattle.cap_fm_spec.specs.Runs.{contradiction}
+use Rattle.cap_fm_spec.specs.Rows.{is_false, fail}
 use Rattle.cap_fm.specs.Views.{stage_view, origin_view, false_view}
 use Rattle.cap_fm.specs.Answers.{Is}
 use Rattle.cap_fm.specs.declared.entry.FalseRow.{FalseRow}

@@ -2,7 +2,7 @@ use Rattle.std.proofs.Common.{rules, ◌≡◌, ◌∙◌, false}
 use Rattle.std.proofs.lemmas.Int.{to_z-of_z}
 use mir.Syntax.{w128}
 use mir.Val.{SFits}
-use Rattle.cap_elim.specs.Rows.{has_parts}
+use Rattle.cap_fm_spec.specs.Rows.{has_parts}
 use Rattle.cap_fm.specs.Views.{stage_view, entry_view, entries_view, entry_of}
 use Rattle.cap_fm.proofs.NewRows.{combine-wide, then-combined, bare-combined, bare-number, does-err}
 use Rattle.cap_fm.proofs.arising.combine.Goals as goal

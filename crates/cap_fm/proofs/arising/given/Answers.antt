@@ -2,7 +2,7 @@ use Rattle.std.proofs.Common.{rules, ◌≡◌, ◌∙◌, refl, false, true}
 use Rattle.std.proofs.lemmas.Int.{to_z-of_z}
 use mir.Syntax.{w128}
 use mir.Val.{SFits}
-use Rattle.cap_elim.specs.Rows.{has_parts, arise_given}
+use Rattle.cap_fm_spec.specs.Rows.{has_parts, arise_given}
 use Rattle.cap_fm.specs.Views.{entries_view, origin_view}
 use Rattle.cap_fm.specs.declared.entry.Origin.TheVariants.{Given}
 use Rattle.cap_fm.proofs.NewRows.{counted-present, keep-look, then-look, bare-number}

@@ -1,6 +1,6 @@
 use Rattle.std.proofs.Common.{sym, subst, []}
-use Rattle.cap_elim.specs.Runs.{going}
-use Rattle.cap_elim.specs.Elimination.{input}
+use Rattle.cap_fm_spec.specs.Runs.{going}
+use Rattle.cap_fm_spec.specs.Elimination.{input}
 use Rattle.cap_fm.specs.Views.{stage_view, entries_view}
 use Rattle.cap_fm.specs.Answers.{Is}
 use Rattle.cap_fm.proofs.Runs.{done-is}

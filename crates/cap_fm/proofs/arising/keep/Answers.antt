@@ -1,6 +1,6 @@
 use Rattle.std.proofs.Common.{◌∷◌, [], ◌++◌, length, ap, ◌∙◌, subst, sym}
-use Rattle.cap_elim.specs.Runs.{going}
-use Rattle.cap_elim.specs.Rows.{keep}
+use Rattle.cap_fm_spec.specs.Runs.{going}
+use Rattle.cap_fm_spec.specs.Rows.{keep}
 use Rattle.cap_fm.specs.Views.{stage_view, entry_view, origin_view, IsStageOf}
 use Rattle.cap_fm.specs.Answers.{Is}
 use Rattle.cap_fm.specs.declared.entry.Present.{Present}

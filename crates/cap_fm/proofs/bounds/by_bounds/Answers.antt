@@ -1,7 +1,7 @@
 use Rattle.std.proofs.Common.{◌∙◌, List, get_or, subst, sym, ap}
 use Rattle.std.proofs.lemmas.Result.{err_from_is_err_and}
-use Rattle.cap_elim.specs.Runs as plain
-use Rattle.cap_elim.specs.Runs.{Run, going, contradiction}
+use Rattle.cap_fm_spec.specs.Runs as plain
+use Rattle.cap_fm_spec.specs.Runs.{Run, going, contradiction}
 use Rattle.cap_fm.specs.Views.{stage_view, entries_view, entry_of, entries_of, false_view, lacking_rows, upper_rows, lower_rows, IsStageOf, IsLast, Grows}
 use Rattle.cap_fm.specs.Answers.{Explains, Is}
 use Rattle.cap_fm.proofs.Terms.{no_row, entry-in, below-of, past-of, same-entry, same-entries, numbered-now, numbered-all, entries-by}

@@ -1,6 +1,6 @@
 use Rattle.std.proofs.Common.{◌≡◌, ◌+◌, ◌-◌, suc, length, arith, subst, None}
 use Rattle.std.proofs.lemmas.Result.{err_from_is_err_and}
-use Rattle.cap_elim.specs.Elimination.{by_units, unit_variable, first_pivot}
+use Rattle.cap_fm_spec.specs.Elimination.{by_units, unit_variable, first_pivot}
 use Rattle.cap_fm.specs.Answers.{AllUnits, Same, IsPivotAt}
 use Rattle.cap_fm.specs.Views.{stage_view, entries_view, entries_of}
 use Rattle.cap_fm.proofs.Runs.{same-is, same-then, same-refl}

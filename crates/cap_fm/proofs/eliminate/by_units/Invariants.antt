@@ -1,5 +1,5 @@
 use Rattle.std.proofs.Common.{ℕ, length, ◌-◌}
-use Rattle.cap_elim.specs.Elimination.{by_units}
+use Rattle.cap_fm_spec.specs.Elimination.{by_units}
 use Rattle.cap_fm.specs.Views.{stage_view, entries_view, entries_of, IsStageOf}
 use Rattle.cap_fm.specs.Answers.{AllUnits, Same}
 use Rattle.cap_fm.proofs.eliminate.by_units.Given as goal

@@ -1,6 +1,6 @@
 use Rattle.std.proofs.Common.{arith, refl, subst, Some, None}
 use Rattle.std.proofs.lemmas.Result.{err_from_is_err_and}
-use Rattle.cap_elim.specs.Elimination.{width}
+use Rattle.cap_fm_spec.specs.Elimination.{width}
 use Rattle.cap_fm.specs.Answers.{AllVariables, IsLeast}
 use Rattle.cap_fm.specs.Views.{entries_view, entries_of}
 use Rattle.cap_fm.proofs.Runs.{same-is, same-then, same-refl}

@@ -1,7 +1,7 @@
 use Rattle.std.proofs.Common.{length, ◌++◌}
 use Rattle.std.proofs.lemmas.Result.{err_from_is_err_and}
-use Rattle.cap_elim.specs.Elimination.{eliminated}
-use Rattle.cap_elim.proofs.Lists.{each-join}
+use Rattle.cap_fm_spec.specs.Elimination.{eliminated}
+use Rattle.cap_fm_spec.proofs.Lists.{each-join}
 use Rattle.cap_fm.specs.Views.{stage_view, entries_of}
 use Rattle.cap_fm.proofs.Walks.{reach-err}
 use Rattle.cap_fm.proofs.Wholes.{inputs-explain, inputs-contradict, units-explain, units-contradict, variables-reach, are-rows}

@@ -1,7 +1,7 @@
 use Rattle.std.proofs.Common.{◌≡◌, ◌<◌, ◌≤◌, length, length-append, [], ◌∷◌, ◌++◌, arith, sym, ap, ◌∙◌, subst}
 use Rattle.std.proofs.lemmas.List.{append-nil}
 use Rattle.std.proofs.lemmas.Result.{err_from_is_err_and}
-use Rattle.cap_elim.specs.Elimination.{inputs}
+use Rattle.cap_fm_spec.specs.Elimination.{inputs}
 use Rattle.cap_fm.specs.Views.{stage_view, entry_view, entry_of, entries_of, IsStageOf}
 use Rattle.cap_fm.proofs.Terms.{grown-entries, entries-more}
 use Rattle.cap_fm.proofs.Walks.{reach-err, inputs-fail, inputs-contradict, inputs-go, inputs-end, view-more}

@@ -1,5 +1,5 @@
 use Rattle.std.proofs.Common.{[], ◌++◌, length, drop}
-use Rattle.cap_elim.specs.Elimination.{inputs}
+use Rattle.cap_fm_spec.specs.Elimination.{inputs}
 use Rattle.cap_fm.specs.Views.{stage_view, entries_view, entries_of, IsStageOf}
 use Rattle.cap_fm.specs.Answers.{Same}
 use Rattle.cap_fm.proofs.eliminate.inputs.Given as goal

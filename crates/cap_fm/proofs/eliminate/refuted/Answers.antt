@@ -1,6 +1,6 @@
 use Rattle.std.proofs.Common.{◌++◌}
 use Rattle.std.proofs.lemmas.Result.{err_from_is_err_and}
-use Rattle.cap_elim.specs.Solving.{refuted}
+use Rattle.cap_fm_spec.specs.Solving.{refuted}
 use Rattle.cap_fm.specs.Views.{stage_view, false_view}
 use Rattle.cap_fm.proofs.Wholes.{logged-err, code-explains, code-none, code-some, code-wide}
 use Rattle.cap_fm.proofs.eliminate.refuted.Goals as goal

@@ -1,5 +1,5 @@
 use Rattle.std.proofs.Common.{take}
-use Rattle.cap_elim.specs.Solving.{RowsAscend}
+use Rattle.cap_fm_spec.specs.Solving.{RowsAscend}
 use Rattle.cap_fm.proofs.eliminate.terms_ascend.Given as goal
 
 abbrev pub invariant-loop-row : goal.invariant-loop-row

@@ -1,5 +1,5 @@
 use Rattle.std.proofs.Common.{◌≡◌, [], ◌++◌, ◌∙◌, ap, subst, sym}
-use Rattle.cap_elim.specs.Elimination.{replace_all}
+use Rattle.cap_fm_spec.specs.Elimination.{replace_all}
 use Rattle.cap_fm.specs.Views.{stage_view, entry_view, entries_view, entry_of, entries_of, lacking_rows, IsStageOf, IsNumbered, AreNumbered}
 use Rattle.cap_fm.specs.Answers.{DoesReach, OnlyLeaves}
 use Rattle.cap_fm.proofs.Taken.{taken-item, taken-rest, taken, reaches-from}

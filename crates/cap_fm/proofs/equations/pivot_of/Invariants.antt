@@ -1,6 +1,6 @@
 use Rattle.std.proofs.Common.{take}
 use Rattle.std.specs.List.{AllByRecursion}
-use Rattle.cap_elim.specs.Elimination.{occurring}
+use Rattle.cap_fm_spec.specs.Elimination.{occurring}
 use Rattle.cap_fm.specs.Views.{entries_of}
 use Rattle.cap_fm.proofs.Pivots.{IsPassed}
 use Rattle.cap_fm.proofs.equations.pivot_of.Given as goal

@@ -5,9 +5,9 @@ use mir.Val.{SFits}
 use mir.Syntax.{w128}
 use Rattle.cap_lin.specs.Linear.{Linear, coefficient}
 use Rattle.cap_lin.proofs.Results.{is_zero-yes, is_zero-no}
-use Rattle.cap_elim.specs.Runs as plain
-use Rattle.cap_elim.specs.Runs.{Run}
-use Rattle.cap_elim.proofs.Lists.{each-left}
+use Rattle.cap_fm_spec.specs.Runs as plain
+use Rattle.cap_fm_spec.specs.Runs.{Run}
+use Rattle.cap_fm_spec.proofs.Lists.{each-left}
 use Rattle.cap_fm.specs.Views.{entry_of, entries_of, lacking_rows}
 use Rattle.cap_fm.specs.Answers.{Explains, Arises}
 use Rattle.cap_fm.specs.declared.entry.Arisen.TheVariants.{LeftOut, Kept, False}

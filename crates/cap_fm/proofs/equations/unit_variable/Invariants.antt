@@ -1,5 +1,5 @@
 use Rattle.std.proofs.Common.{◌≡◌, drop}
-use Rattle.cap_elim.specs.Elimination.{unit_variable}
+use Rattle.cap_fm_spec.specs.Elimination.{unit_variable}
 use Rattle.cap_fm.proofs.equations.unit_variable.Given as goal
 
 abbrev pub invariant-loop-part : goal.invariant-loop-part

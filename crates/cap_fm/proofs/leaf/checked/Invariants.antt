@@ -1,7 +1,7 @@
 use Rattle.std.proofs.Common.{◌≡◌, ◌++◌, drop, pos}
 use Rattle.cap_lin.specs.Linear.{number}
 use Rattle.cap_lin.specs.Steps.{first_wide}
-use Rattle.cap_elim.specs.Leaf.{check_steps}
+use Rattle.cap_fm_spec.specs.Leaf.{check_steps}
 use Rattle.cap_fm.proofs.leaf.checked.Given as goal
 
 abbrev pub invariant-loop-entry : goal.invariant-loop-entry

@@ -1,6 +1,6 @@
 use Rattle.std.proofs.Common.{map}
 use Rattle.cap_lin.specs.Steps.{first_wide}
-use Rattle.cap_elim.specs.Leaf.{multipliers}
+use Rattle.cap_fm_spec.specs.Leaf.{multipliers}
 use Rattle.cap_fm.specs.Views.{origin_view, history_view}
 use Rattle.cap_fm.specs.Way.{is_marked, rising_steps}
 use Rattle.cap_fm.proofs.LeavesUp.{IsUp}

@@ -3,8 +3,8 @@ use Rattle.std.proofs.lemmas.Result.{err_from_is_err_and}
 use Rattle.cap_lin.specs.Rows.{below_zero, below_zero_steps, above_zero, above_zero_steps}
 use Rattle.cap_lin.specs.declared.row.Kind.TheVariants.{Ne}
 use Rattle.cap_farkas.specs.declared.cert.Cert.TheVariants as cert
-use Rattle.cap_elim.specs.Events.{first_limit}
-use Rattle.cap_elim.specs.Solving.{split}
+use Rattle.cap_fm_spec.specs.Events.{first_limit}
+use Rattle.cap_fm_spec.specs.Solving.{split}
 use Rattle.cap_fm.specs.Answers.{IsLogged}
 use Rattle.cap_fm.proofs.Splits.{for-row, log-lin, below-wide, above-wide, below-fails, below-none, above-explains, above-is, side-is, side-explains}
 use Rattle.cap_fm.proofs.Wholes.{logged-err}

@@ -1,6 +1,6 @@
 use Rattle.std.proofs.Common.{◌<◌, length, arith}
 use Rattle.std.proofs.lemmas.Result.{err_from_is_err_and}
-use Rattle.cap_elim.specs.Solving.{solved}
+use Rattle.cap_fm_spec.specs.Solving.{solved}
 use Rattle.cap_fm.proofs.Splits.{solved-err, solved-fails, solved-leaf, solved-goes, loop-fails, loop-found, loop-goes, splits-end}
 use Rattle.cap_fm.proofs.solver.searched.Goals as goal
 

@@ -1,5 +1,5 @@
 use Rattle.std.proofs.Common.{drop}
-use Rattle.cap_elim.specs.Solving.{solved, splits}
+use Rattle.cap_fm_spec.specs.Solving.{solved, splits}
 use Rattle.cap_fm.proofs.Splits.{SameLog}
 use Rattle.cap_fm.proofs.solver.searched.Given as goal
 

@@ -1,5 +1,5 @@
-use Rattle.cap_elim.specs.Events.{first_limit}
-use Rattle.cap_elim.specs.Solving.{split}
+use Rattle.cap_fm_spec.specs.Events.{first_limit}
+use Rattle.cap_fm_spec.specs.Solving.{split}
 use Rattle.std.proofs.Common.{◌≡◌, None}
 use Rattle.cap_fm.proofs.Splits.{for-row, no-split}
 use Rattle.cap_fm.proofs.solver.split.Goals as goal

@@ -1,5 +1,5 @@
 use Rattle.std.proofs.Common.{sym}
-use Rattle.cap_steps.proofs.Walking.{made_claims, unmade_claims, there, lacking}
+use Rattle.cap_rules_steps.proofs.Walking.{made_claims, unmade_claims, there, lacking}
 use Rattle.cap_offer.proofs.claims.has_address.Goals as goal
 
 pub returns-in-None : goal.returns-in-None

@@ -1,5 +1,5 @@
 use Rattle.std.proofs.lemmas.Result.{err_from_is_err_and}
-use Rattle.cap_steps.proofs.Walking.{made_claims, unmade_claims}
+use Rattle.cap_rules_steps.proofs.Walking.{made_claims, unmade_claims}
 use Rattle.cap_offer.proofs.claims.has_item_address.Goals as goal
 
 pub returns-in_err-value : goal.returns-in_err-value

@@ -1,6 +1,6 @@
 use Rattle.std.proofs.Common.{◌≡◌, List, sym, ap, subst, ◌∙◌}
 use Rattle.cap_lin.specs.declared.row.Row.{Row}
-use Rattle.cap_steps.specs.Walks.{Claims, giving}
+use Rattle.cap_rules_steps.specs.Walks.{Claims, giving}
 use Rattle.cap_offer.specs.Seeking.{sought_address}
 use Rattle.cap_offer.specs.Views.{sought_view}
 use Rattle.std.specs.Prelude.{is_some}

@@ -1,7 +1,7 @@
 use Rattle.std.proofs.Common.{arith}
 use Rattle.cap_prog.specs.Views.{program_view}
 use Rattle.cap_goal.specs.Views.{goal_view, choice_view}
-use Rattle.cap_offering.specs.Listing.{clashes_with}
+use Rattle.cap_offer_spec.specs.Listing.{clashes_with}
 use Rattle.cap_offer.proofs.Trials.{part-fails, part-succeeds, no-part-left, found-so, found-first}
 use Rattle.cap_offer.proofs.clashing.first_clash.Goals as goal
 

@@ -2,8 +2,8 @@ use Rattle.std.proofs.Common.{◌≡◌, ◌-◌}
 use Rattle.std.specs.List.{range_with_len, flat_map}
 use Rattle.cap_prog.specs.Views.{program_view}
 use Rattle.cap_goal.specs.Views.{goal_view}
-use Rattle.cap_offering.specs.Listing.{clashes_with, clashes}
-use Rattle.cap_offering.specs.Scanning.{first_tried}
+use Rattle.cap_offer_spec.specs.Listing.{clashes_with, clashes}
+use Rattle.cap_offer_spec.specs.Scanning.{first_tried}
 use Rattle.cap_offer.proofs.clashing.first_clash.Given as goal
 
 abbrev pub invariant-loop-first : goal.invariant-loop-first

@@ -1,8 +1,8 @@
 use Rattle.std.proofs.Common.{ℕ, [], ap}
 use Rattle.cap_prog.specs.Views.{program_view}
 use Rattle.cap_goal.specs.Views.{goal_view}
-use Rattle.cap_logic.specs.Choices.{PlainChoice, by_clash}
-use Rattle.cap_offering.specs.Scanning.{first_tried}
+use Rattle.cap_goal_spec.specs.Choices.{PlainChoice, by_clash}
+use Rattle.cap_offer_spec.specs.Scanning.{first_tried}
 use Rattle.cap_offer.proofs.Trials.{later-cells, next-fails, found-so}
 use Rattle.cap_offer.proofs.clashing.first_clash_with.Goals as goal
 

@@ -2,9 +2,9 @@ use Rattle.std.proofs.Common.{◌≡◌, ◌+◌, ◌-◌, [], suc, map}
 use Rattle.std.specs.List.{range_with_len}
 use Rattle.cap_prog.specs.Views.{program_view}
 use Rattle.cap_goal.specs.Views.{goal_view}
-use Rattle.cap_logic.specs.Choices.{by_clash}
-use Rattle.cap_offering.specs.Listing.{clashes_with}
-use Rattle.cap_offering.specs.Scanning.{first_tried}
+use Rattle.cap_goal_spec.specs.Choices.{by_clash}
+use Rattle.cap_offer_spec.specs.Listing.{clashes_with}
+use Rattle.cap_offer_spec.specs.Scanning.{first_tried}
 use Rattle.cap_offer.proofs.clashing.first_clash_with.Given as goal
 
 abbrev pub invariant-loop-second : goal.invariant-loop-second

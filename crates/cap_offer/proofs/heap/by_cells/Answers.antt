@@ -2,11 +2,11 @@ use Rattle.std.proofs.Common.{◌≡◌, [], ap, subst}
 use Rattle.std.specs.Prelude.{Option, option_map}
 use Rattle.cap_prog.specs.Views.{act_view, program_view}
 use Rattle.cap_goal.specs.Views.{goal_view, choice_view}
-use Rattle.cap_logic.specs.Choices.{PlainChoice}
-use Rattle.cap_offering.specs.Claims.{has_address}
-use Rattle.cap_offering.specs.Deciding.{Noted}
-use Rattle.cap_offering.specs.Scanning.{first_act}
-use Rattle.cap_decide.specs.Noting.{Adds}
+use Rattle.cap_goal_spec.specs.Choices.{PlainChoice}
+use Rattle.cap_offer_spec.specs.Claims.{has_address}
+use Rattle.cap_offer_spec.specs.Deciding.{Noted}
+use Rattle.cap_offer_spec.specs.Scanning.{first_act}
+use Rattle.cap_closure_decide.specs.Noting.{Adds}
 use Rattle.cap_offer.specs.Heads.{after_act}
 use Rattle.cap_offer.specs.Views.{choices_view}
 use Rattle.cap_offer.proofs.Noted.{then-noted}

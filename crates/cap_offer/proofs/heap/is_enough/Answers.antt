@@ -1,6 +1,6 @@
 use Rattle.std.proofs.Common.{◌≡◌, List, length, ap, ◌∙◌}
 use Rattle.std.specs.Prelude.{◌==◌}
-use Rattle.cap_logic.specs.States.{PlainFact}
+use Rattle.cap_goal_spec.specs.States.{PlainFact}
 use Rattle.cap_offer.proofs.Noted.{no-opened}
 use Rattle.cap_offer.proofs.heap.is_enough.Goals as goal
 

@@ -3,7 +3,7 @@ use Rattle.std.specs.Prelude.{is_some, option_map, option_to_list}
 use Rattle.cap_prog.specs.Views.{program_view}
 use Rattle.cap_goal.specs.Views.{goal_view, choice_view}
 use Rattle.cap_rules.specs.Making.{is_empty}
-use Rattle.cap_offering.specs.Offering.{openings_unless}
+use Rattle.cap_offer_spec.specs.Offering.{openings_unless}
 use Rattle.cap_offer.specs.Views.{choices_view}
 use Rattle.cap_offer.proofs.Noted.{made-noted}
 use Rattle.cap_offer.proofs.heap.with_openings.Goals as goal

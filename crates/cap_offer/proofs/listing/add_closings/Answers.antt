@@ -1,5 +1,5 @@
 use Rattle.cap_prog.specs.Views.{region_view}
-use Rattle.cap_offering.specs.Listing.{moves_of}
+use Rattle.cap_offer_spec.specs.Listing.{moves_of}
 use Rattle.cap_offer.proofs.Listed.{part-more}
 use Rattle.cap_offer.proofs.listing.add_closings.Goals as goal
 

@@ -1,7 +1,7 @@
 use Rattle.std.proofs.Common.{◌≡◌, ◌++◌}
 use Rattle.std.specs.List.{range_with_len, flat_map}
 use Rattle.cap_prog.specs.Views.{region_view}
-use Rattle.cap_offering.specs.Listing.{moves_of}
+use Rattle.cap_offer_spec.specs.Listing.{moves_of}
 use Rattle.cap_offer.specs.Views.{choices_view}
 use Rattle.cap_offer.proofs.listing.add_closings.Given as goal
 

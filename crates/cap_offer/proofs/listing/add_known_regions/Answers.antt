@@ -1,5 +1,5 @@
 use Rattle.std.proofs.Common.{[], ap}
-use Rattle.cap_logic.specs.Choices.{by_region}
+use Rattle.cap_goal_spec.specs.Choices.{by_region}
 use Rattle.cap_offer.proofs.Listed.{one-more}
 use Rattle.cap_offer.proofs.listing.add_known_regions.Goals as goal
 

@@ -2,7 +2,7 @@ use Rattle.std.proofs.Common.{◌≡◌, suc, ◌++◌, map, length, refl, ap, �
 use Rattle.std.specs.List.{range_with_len}
 use Rattle.std.proofs.lemmas.List.{length-map}
 use Rattle.cap_prog.specs.Views.{action_view, region_view}
-use Rattle.cap_logic.specs.Choices.{by_pick}
+use Rattle.cap_goal_spec.specs.Choices.{by_pick}
 use Rattle.cap_offer.specs.Views.{choices_view}
 use Rattle.cap_offer.proofs.Listed.{one-more}
 use Rattle.cap_offer.proofs.listing.add_moves.Goals as goal

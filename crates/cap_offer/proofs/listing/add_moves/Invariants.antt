@@ -1,6 +1,6 @@
 use Rattle.std.proofs.Common.{◌≡◌, ◌++◌, map}
 use Rattle.std.specs.List.{range_with_len}
-use Rattle.cap_logic.specs.Choices.{by_pick}
+use Rattle.cap_goal_spec.specs.Choices.{by_pick}
 use Rattle.cap_offer.specs.Views.{choices_view}
 use Rattle.cap_offer.proofs.listing.add_moves.Given as goal
 

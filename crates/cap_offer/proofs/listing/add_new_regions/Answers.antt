@@ -1,5 +1,5 @@
 use Rattle.std.proofs.Common.{refl}
-use Rattle.cap_logic.specs.Choices.{by_create}
+use Rattle.cap_goal_spec.specs.Choices.{by_create}
 use Rattle.cap_offer.proofs.Listed.{one-more}
 use Rattle.cap_offer.proofs.listing.add_new_regions.Goals as goal
 

@@ -2,7 +2,7 @@ use Rattle.std.proofs.Common.{◌≡◌, ◌++◌, reverse, length}
 use Rattle.std.specs.Prelude.{slice_get}
 use Rattle.std.specs.List.{range_with_len, flat_map}
 use Rattle.cap_prog.specs.Views.{program_view}
-use Rattle.cap_offering.specs.Listing.{closings, closings_of, type_of_opened}
+use Rattle.cap_offer_spec.specs.Listing.{closings, closings_of, type_of_opened}
 use Rattle.cap_offer.specs.Views.{choices_view}
 use Rattle.cap_offer.proofs.listing.closings.Given as goal
 

@@ -1,6 +1,6 @@
 use Rattle.std.proofs.Common.{◌≡◌, [], ◌∷◌}
 use Rattle.std.specs.List.{range_with_len, flat_map}
-use Rattle.cap_logic.specs.Choices.{by_guard}
+use Rattle.cap_goal_spec.specs.Choices.{by_guard}
 use Rattle.cap_offer.specs.Views.{choices_view}
 use Rattle.cap_offer.proofs.listing.cuts.Given as goal
 

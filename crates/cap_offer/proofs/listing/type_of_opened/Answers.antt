@@ -1,7 +1,7 @@
 use Rattle.std.proofs.Common.{◌≡◌, ℕ, ◌≤◌, List, length, Some, ap, sym, subst, ◌∙◌, arith}
 use Rattle.std.specs.Prelude.{slice_get}
 use Rattle.cap_prog.specs.Views.{program_view}
-use Rattle.cap_logic.specs.States.{PlainFact}
+use Rattle.cap_goal_spec.specs.States.{PlainFact}
 use Rattle.cap_offer.specs.Views.{region_in}
 use Rattle.cap_offer.proofs.Placed.{at-place, opened-type, no-opened-type}
 use Rattle.cap_offer.proofs.listing.type_of_opened.Goals as goal

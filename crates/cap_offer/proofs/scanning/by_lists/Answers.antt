@@ -1,7 +1,7 @@
 use Rattle.std.proofs.Common.{take, drop, ap, ◌∙◌, arith}
-use Rattle.cap_offering.specs.Deciding.{decided_all}
-use Rattle.cap_offering.specs.Scanning.{at_address}
-use Rattle.cap_decide.specs.Noting.{certs_seen}
+use Rattle.cap_offer_spec.specs.Deciding.{decided_all}
+use Rattle.cap_offer_spec.specs.Scanning.{at_address}
+use Rattle.cap_closure_decide.specs.Noting.{certs_seen}
 use Rattle.cap_offer.specs.Seeking.{sought_finish}
 use Rattle.cap_offer.specs.Views.{lists_in, scan_view, sought_view}
 use Rattle.cap_offer.proofs.Noted.{then-noted, front-lists, back-lists}

@@ -2,9 +2,9 @@ use Rattle.std.proofs.Common.{sym, ap, subst}
 use Rattle.std.specs.Prelude.{IfOk}
 use Rattle.cap_prog.specs.Views.{program_view}
 use Rattle.cap_goal.specs.Views.{goal_view}
-use Rattle.cap_offering.specs.Deciding.{Noted}
-use Rattle.cap_offering.specs.Scanning.{Scan, scanned_cell}
-use Rattle.cap_decide.specs.Noting.{Adds}
+use Rattle.cap_offer_spec.specs.Deciding.{Noted}
+use Rattle.cap_offer_spec.specs.Scanning.{Scan, scanned_cell}
+use Rattle.cap_closure_decide.specs.Noting.{Adds}
 use Rattle.cap_offer.specs.Seeking.{sought_finish, sought_address}
 use Rattle.cap_offer.specs.Views.{scan_view, sought_view}
 use Rattle.cap_offer.proofs.scanning.scan_cell.Goals as goal

@@ -2,7 +2,7 @@ use Rattle.std.proofs.Common.{◌≡◌}
 use Rattle.std.specs.Vec.Iter.{into_iter_items}
 use Rattle.cap_prog.specs.Views.{program_view}
 use Rattle.cap_goal.specs.Views.{goal_view}
-use Rattle.cap_offering.specs.Scanning.{first_tried}
+use Rattle.cap_offer_spec.specs.Scanning.{first_tried}
 use Rattle.cap_offer.specs.Views.{choices_view}
 use Rattle.cap_offer.proofs.trying.first_tried.Given as goal
 

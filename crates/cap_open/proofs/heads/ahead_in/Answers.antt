@@ -1,6 +1,6 @@
 use Rattle.std.proofs.Common.{ap, ◌∙◌}
 use Rattle.cap_goal.specs.Views.{home_view}
-use Rattle.cap_steps.specs.Goals.{ahead, point_view}
+use Rattle.cap_rules_steps.specs.Goals.{ahead, point_view}
 use Rattle.cap_open.specs.Heads.{ahead_view}
 use Rattle.cap_open.proofs.Heading.{first_ahead}
 use Rattle.cap_open.proofs.heads.ahead_in.Goals as goal

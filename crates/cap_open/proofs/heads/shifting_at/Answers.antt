@@ -1,4 +1,4 @@
-use Rattle.cap_steps.proofs.Walking.{done, inapplicable}
+use Rattle.cap_rules_steps.proofs.Walking.{done, inapplicable}
 use Rattle.cap_open.proofs.heads.shifting_at.Goals as goal
 
 pub returns-in-Shift : goal.returns-in-Shift

@@ -1,4 +1,4 @@
-use Rattle.cap_steps.proofs.Walking.{weaker}
+use Rattle.cap_rules_steps.proofs.Walking.{weaker}
 use Rattle.cap_open.proofs.opening.followed.Goals as goal
 
 pub returns-in-Enter : goal.returns-in-Enter

@@ -1,13 +1,13 @@
 use Rattle.std.proofs.Common.{List, subst}
 use Rattle.cap_lin.specs.declared.row.Row.{Row}
 use Rattle.cap_prog.specs.Views.{program_view}
-use Rattle.cap_logic.specs.States.{PlainGoal}
+use Rattle.cap_goal_spec.specs.States.{PlainGoal}
 use Rattle.cap_goal.specs.Views.{goal_view, choice_view}
 use Rattle.cap_rules.specs.Answers.{marks_of}
 use Rattle.cap_rules.specs.Attempts.{Attempt}
 use Rattle.cap_rules.specs.Rules.{rule}
-use Rattle.cap_steps.specs.Goals.{goals_view}
-use Rattle.cap_steps.specs.Walks.{Claims, seen}
+use Rattle.cap_rules_steps.specs.Goals.{goals_view}
+use Rattle.cap_rules_steps.specs.Walks.{Claims, seen}
 use Rattle.cap_open.proofs.Heading.{by_rule}
 use Rattle.cap_open.proofs.opening.open_subgoals.Goals as goal
 

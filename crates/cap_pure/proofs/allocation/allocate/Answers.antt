@@ -1,6 +1,6 @@
 use Rattle.std.proofs.Common.{refl}
 use Rattle.std.proofs.lemmas.Result.{err_from_is_err_and}
-use Rattle.cap_steps.proofs.Walking.{then_made, unmade, done_as}
+use Rattle.cap_rules_steps.proofs.Walking.{then_made, unmade, done_as}
 use Rattle.cap_pure.proofs.allocation.allocate.Goals as goal
 
 pub returns-in_err-base : goal.returns-in_err-base

@@ -1,5 +1,5 @@
 use Rattle.std.proofs.lemmas.Result.{err_from_is_err_and}
-use Rattle.cap_steps.proofs.Walking.{then_narrow, wide}
+use Rattle.cap_rules_steps.proofs.Walking.{then_narrow, wide}
 use Rattle.cap_pure.proofs.allocation.with_new_cell.Goals as goal
 
 pub returns-in_err-address : goal.returns-in_err-address

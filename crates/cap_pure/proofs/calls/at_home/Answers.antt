@@ -1,5 +1,5 @@
 use Rattle.std.proofs.lemmas.Result.{err_from_is_err_and}
-use Rattle.cap_steps.proofs.Walking.{no_memory}
+use Rattle.cap_rules_steps.proofs.Walking.{no_memory}
 use Rattle.cap_pure.proofs.calls.at_home.Goals as goal
 
 pub returns-in_err-env-clause-makes : goal.returns-in_err-env-clause-makes

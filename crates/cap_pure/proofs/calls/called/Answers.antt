@@ -1,7 +1,7 @@
 use Rattle.std.proofs.lemmas.Result.{err_from_is_err_and}
-use Rattle.cap_steps.proofs.Walking.{then_made, unmade, no_memory}
+use Rattle.cap_rules_steps.proofs.Walking.{then_made, unmade, no_memory}
 use Rattle.std.proofs.Common.{ap, ◌∙◌, length}
-use Rattle.cap_logic.specs.States.{PlainState}
+use Rattle.cap_goal_spec.specs.States.{PlainState}
 use Rattle.cap_pure.proofs.Calling.{destination-envs, sort-envs}
 use Rattle.cap_pure.proofs.calls.called.Goals as goal
 

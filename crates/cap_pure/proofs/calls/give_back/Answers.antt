@@ -1,7 +1,7 @@
 use Rattle.std.proofs.Common.{refl, rules, ap, ◌≡◌, ◌∙◌, sym, length}
 use Rattle.std.proofs.lemmas.Result.{err_from_is_err_and}
-use Rattle.cap_steps.proofs.Naming.{names-seen}
-use Rattle.cap_steps.proofs.Walking.{then_made, unmade, then_narrow, wide, done_as}
+use Rattle.cap_rules_steps.proofs.Naming.{names-seen}
+use Rattle.cap_rules_steps.proofs.Walking.{then_made, unmade, then_narrow, wide, done_as}
 use Rattle.cap_pure.proofs.calls.give_back.Goals as goal
 
 pub returns-in_err-function : goal.returns-in_err-function

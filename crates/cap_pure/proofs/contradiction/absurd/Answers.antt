@@ -1,6 +1,6 @@
 use Rattle.std.proofs.Common.{ap, ◌∙◌, ◌++◌, ◌∷◌, []}
 use Rattle.cap_rules.specs.Attempts.{refuted}
-use Rattle.cap_steps.proofs.Walking.{one_claim}
+use Rattle.cap_rules_steps.proofs.Walking.{one_claim}
 use Rattle.cap_pure.proofs.contradiction.absurd.Goals as goal
 
 pub returns : goal.returns

@@ -3,8 +3,8 @@ use Rattle.cap_goal.specs.Views.{goal_view}
 use Rattle.std.proofs.lemmas.Bool.Decides.{nat_tests}
 use Rattle.std.proofs.lemmas.Result.{err_from_is_err_and}
 use Rattle.cap_rules.specs.Attempts.{need}
-use Rattle.cap_steps.specs.declared.error.RuleError.TheVariants.{NotApplicable}
-use Rattle.cap_steps.proofs.Walking.{needed, unneeded, made_claims, unmade_claims, claims_value, claims_no_value, weaker, done_as}
+use Rattle.cap_rules_steps.specs.declared.error.RuleError.TheVariants.{NotApplicable}
+use Rattle.cap_rules_steps.proofs.Walking.{needed, unneeded, made_claims, unmade_claims, claims_value, claims_no_value, weaker, done_as}
 use Rattle.cap_pure.proofs.contradiction.clash.Goals as goal
 
 pub returns-then-first-second : goal.returns-then-first-second

@@ -1,7 +1,7 @@
 use Rattle.std.proofs.Common.{sym, ap, ◌∙◌}
 use Rattle.cap_prog.specs.Views.{program_view}
 use Rattle.cap_goal.specs.Views.{choice_view}
-use Rattle.cap_steps.proofs.Walking.{weaker}
+use Rattle.cap_rules_steps.proofs.Walking.{weaker}
 use Rattle.cap_pure.specs.Heads.{upcoming_seen, run_rule}
 use Rattle.cap_pure.proofs.Others.{made-none}
 use Rattle.cap_pure.proofs.pure.at_run.Goals as goal

@@ -1,5 +1,5 @@
 use Rattle.cap_prog.specs.Views.{program_view}
-use Rattle.cap_steps.proofs.Walking.{weaker}
+use Rattle.cap_rules_steps.proofs.Walking.{weaker}
 use Rattle.cap_pure.proofs.Others.{no-assert}
 use Rattle.cap_pure.proofs.statements.at_assertion.Goals as goal
 

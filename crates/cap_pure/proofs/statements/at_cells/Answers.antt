@@ -1,8 +1,8 @@
 use Rattle.cap_prog.specs.Views.{statement_view}
 use Rattle.cap_rules.specs.Attempts.{found}
 use Rattle.cap_rules.specs.Closing.{address_of}
-use Rattle.cap_steps.specs.declared.error.RuleError.TheVariants.{NotApplicable}
-use Rattle.cap_steps.proofs.Walking.{lacking, unmade_claims}
+use Rattle.cap_rules_steps.specs.declared.error.RuleError.TheVariants.{NotApplicable}
+use Rattle.cap_rules_steps.proofs.Walking.{lacking, unmade_claims}
 use Rattle.cap_pure.proofs.Others.{no-address}
 use Rattle.cap_pure.proofs.statements.at_cells.Goals as goal
 

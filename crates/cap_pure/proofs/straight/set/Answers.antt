@@ -1,6 +1,6 @@
 use Rattle.std.proofs.Common.{refl}
 use Rattle.std.proofs.lemmas.Result.{err_from_is_err_and}
-use Rattle.cap_steps.proofs.Walking.{then_narrow, wide, done_as}
+use Rattle.cap_rules_steps.proofs.Walking.{then_narrow, wide, done_as}
 use Rattle.cap_pure.proofs.straight.set.Goals as goal
 
 pub returns-in_err-value : goal.returns-in_err-value

@@ -2,7 +2,7 @@ use Rattle.std.proofs.Common.{ap, ◌∙◌}
 use Rattle.cap_prog.specs.Program.{done, append}
 use Rattle.cap_prog.specs.Views.{block_view}
 use Rattle.cap_goal.specs.Views.{block_in}
-use Rattle.cap_steps.proofs.Blocks.{block-last}
+use Rattle.cap_rules_steps.proofs.Blocks.{block-last}
 use Rattle.cap_pure.proofs.upcoming.entered.Goals as goal
 
 pub returns : goal.returns

@@ -1,6 +1,6 @@
 use Rattle.std.proofs.Common.{refl, arith}
 use Rattle.cap_prog.proofs.EmptyLemmas.{nothing-fits, nothing-ensured}
-use Rattle.cap_run.proofs.ExampleLemmas.{example-fits}
+use Rattle.cap_machine.proofs.ExampleLemmas.{example-fits}
 use Rattle.cap_replay.proofs.tests.main_function.Goals as goal
 
 pub returns-clause-fits : goal.returns-clause-fits

@@ -1,8 +1,8 @@
 use Rattle.std.proofs.Common.{◌≡◌, drop}
 use Rattle.cap_prog.specs.Views.{program_view}
-use Rattle.cap_roots.specs.Views.{roots_view}
-use Rattle.cap_seek.specs.Seeking.{unit_trees}
-use Rattle.cap_seek.specs.Walks.{unit_walked}
+use Rattle.cap_goal_roots.specs.Views.{roots_view}
+use Rattle.cap_search_spec.specs.Seeking.{unit_trees}
+use Rattle.cap_search_spec.specs.Walks.{unit_walked}
 use Rattle.cap_search.specs.Searching.{behind}
 use Rattle.cap_search.specs.Views.{trees_seen, walk_view}
 use Rattle.cap_search.proofs.finding.prove_roots.Given as goal

@@ -1,10 +1,10 @@
 use Rattle.std.proofs.Common.{◌≡◌, map, ap}
 use Rattle.std.specs.Prelude.{List}
 use Rattle.cap_prog.specs.Views.{program_view}
-use Rattle.cap_logic.specs.Choices.{PlainChoice}
+use Rattle.cap_goal_spec.specs.Choices.{PlainChoice}
 use Rattle.cap_goal.specs.Views.{choice_view, goal_view}
-use Rattle.cap_offering.specs.Deciding.{Outcome}
-use Rattle.cap_offering.specs.Offering.{offered}
+use Rattle.cap_offer_spec.specs.Deciding.{Outcome}
+use Rattle.cap_offer_spec.specs.Offering.{offered}
 use Rattle.cap_search.specs.Views.{walk_view}
 use Rattle.cap_search.proofs.Visiting.{tree-visited, walk-visited}
 use Rattle.cap_search.proofs.seeking.+walk.Goals as goal

@@ -3,8 +3,8 @@ use Rattle.std.specs.Vec.Iter.{into_iter_items}
 use Rattle.cap_prog.specs.Views.{program_view}
 use Rattle.cap_goal.specs.Trees.{node_view}
 use Rattle.cap_goal.specs.Views.{choice_view, goal_view}
-use Rattle.cap_seek.specs.Seeking.{tree_within, first_tree, all_trees}
-use Rattle.cap_seek.specs.Walks.{walked_within, choices_walked, goals_walked}
+use Rattle.cap_search_spec.specs.Seeking.{tree_within, first_tree, all_trees}
+use Rattle.cap_search_spec.specs.Walks.{walked_within, choices_walked, goals_walked}
 use Rattle.cap_search.specs.Searching.{behind}
 use Rattle.cap_search.specs.Views.{walk_view}
 use Rattle.cap_search.proofs.seeking.+walk.Given as goal

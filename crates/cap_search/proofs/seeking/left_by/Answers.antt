@@ -1,6 +1,6 @@
 use Rattle.cap_prog.specs.Views.{program_view}
 use Rattle.cap_goal.specs.Views.{choice_view, goal_view}
-use Rattle.cap_steps.specs.Goals.{goals_view}
+use Rattle.cap_rules_steps.specs.Goals.{goals_view}
 use Rattle.cap_search.proofs.Kernel.{answers-left}
 use Rattle.cap_search.proofs.seeking.left_by.Goals as goal
 

@@ -1,7 +1,7 @@
 use Rattle.std.proofs.Common.{◌≡◌, ◌++◌, map, drop}
 use Rattle.cap_prog.specs.Program.{items_of}
 use Rattle.cap_prog.specs.Views.{item_view}
-use Rattle.cap_seek.specs.Starts.{addresses}
+use Rattle.cap_search_spec.specs.Starts.{addresses}
 use Rattle.cap_search.specs.Starts.{terms_lent}
 use Rattle.cap_search.proofs.start.addresses.Given as goal
 

@@ -1,7 +1,7 @@
 use Rattle.std.proofs.Common.{◌≡◌, ◌++◌, map, drop}
 use Rattle.cap_prog.specs.Program.{items_of}
 use Rattle.cap_prog.specs.Views.{item_view}
-use Rattle.cap_seek.specs.Starts.{comparisons}
+use Rattle.cap_search_spec.specs.Starts.{comparisons}
 use Rattle.cap_search.specs.Starts.{claims_view}
 use Rattle.cap_search.proofs.start.push_comparisons.Given as goal
 

@@ -1,5 +1,5 @@
 use Rattle.std.proofs.Common.{◌≡◌, ◌++◌, drop}
-use Rattle.cap_seek.specs.Starts.{different}
+use Rattle.cap_search_spec.specs.Starts.{different}
 use Rattle.cap_search.specs.Starts.{claims_view, terms_lent}
 use Rattle.cap_search.proofs.start.push_different.Given as goal
 

@@ -1,6 +1,6 @@
 use Rattle.std.proofs.Common.{◌≡◌, ◌++◌, map, drop}
 use Rattle.cap_lin.specs.declared.row.Op.TheVariants.{Ne as Unequal}
-use Rattle.cap_seek.specs.Starts.{made}
+use Rattle.cap_search_spec.specs.Starts.{made}
 use Rattle.cap_search.specs.Starts.{claims_view, terms_lent}
 use Rattle.cap_search.proofs.start.push_different_from.Given as goal
 

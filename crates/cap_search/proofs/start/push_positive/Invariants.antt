@@ -1,7 +1,7 @@
 use Rattle.std.proofs.Common.{◌≡◌, ◌++◌, map, drop}
 use Rattle.cap_lin.specs.declared.row.Op.TheVariants.{Ge as AtLeast}
-use Rattle.cap_logic.specs.Environments.{one_value}
-use Rattle.cap_seek.specs.Starts.{made}
+use Rattle.cap_goal_spec.specs.Environments.{one_value}
+use Rattle.cap_search_spec.specs.Starts.{made}
 use Rattle.cap_search.specs.Starts.{claims_view, terms_lent}
 use Rattle.cap_search.proofs.start.push_positive.Given as goal
 

@@ -1,5 +1,5 @@
 use Rattle.std.proofs.Common.{[], map, fold, ap, sym, ◌∙◌}
-use Rattle.cap_logic.specs.Candidates.{candidate_of, bounds}
+use Rattle.cap_goal_spec.specs.Candidates.{candidate_of, bounds}
 use Rattle.cap_stab.specs.Finding.{added}
 use Rattle.cap_stab.specs.Views.{candidate_view, candidates_view}
 use Rattle.cap_stab.proofs.Bounds.{known-among, past-either, ok-then}

@@ -1,6 +1,6 @@
 use Rattle.std.proofs.Common.{◌<◌, ◌≤◌, List, length, ◌∙◌, arith}
 use Rattle.cap_prog.specs.Views.{action_view}
-use Rattle.cap_logic.specs.Candidates.{MadeRow}
+use Rattle.cap_goal_spec.specs.Candidates.{MadeRow}
 use Rattle.cap_stab.specs.Finding.{bounds_among, action_bounds_among}
 use Rattle.cap_stab.proofs.Bounds.{added-more, added-done, added-two}
 use Rattle.cap_stab.proofs.finding.add_action_bounds.Goals as goal

@@ -1,7 +1,7 @@
 use Rattle.std.proofs.Common.{◌≡◌, map, fold, drop}
 use Rattle.std.specs.List.{flat_map}
 use Rattle.cap_prog.specs.Views.{action_view}
-use Rattle.cap_logic.specs.Candidates.{candidate_of}
+use Rattle.cap_goal_spec.specs.Candidates.{candidate_of}
 use Rattle.cap_stab.specs.Finding.{added, action_bounds_among}
 use Rattle.cap_stab.specs.Views.{candidates_view}
 use Rattle.cap_stab.proofs.finding.add_action_bounds.Given as goal

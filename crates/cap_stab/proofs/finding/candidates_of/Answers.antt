@@ -5,8 +5,8 @@ use Rattle.cap_lin.specs.declared.row.Op.TheVariants.{Eq as Equal}
 use Rattle.cap_prog.specs.declared.region.Case.{Case}
 use Rattle.cap_prog.specs.declared.region.Action.{Action}
 use Rattle.cap_prog.specs.Views.{case_view, action_view, region_view}
-use Rattle.cap_logic.specs.States.{PlainFact}
-use Rattle.cap_logic.specs.Candidates.{made_row, bounds, later_state, PlainCandidate, candidate_of}
+use Rattle.cap_goal_spec.specs.States.{PlainFact}
+use Rattle.cap_goal_spec.specs.Candidates.{made_row, bounds, later_state, PlainCandidate, candidate_of}
 use Rattle.cap_stab.specs.Finding.{added, bounds_among, action_bounds_among}
 use Rattle.cap_stab.specs.Views.{candidates_view}
 use Rattle.cap_stab.proofs.Found.{all-found}

@@ -1,5 +1,5 @@
 use Rattle.std.proofs.lemmas.Result.{err_from_is_err_and}
-use Rattle.cap_steps.proofs.Walking.{wide_claims, narrow_claims}
+use Rattle.cap_rules_steps.proofs.Walking.{wide_claims, narrow_claims}
 use Rattle.cap_stab.proofs.proving.prove_one.Goals as goal
 
 pub returns-in_err-replaced : goal.returns-in_err-replaced

@@ -1,7 +1,7 @@
 use Rattle.std.proofs.Common.{◌≡◌, ap}
 use Rattle.std.proofs.lemmas.Result.{err_from_is_err_and}
 use Rattle.cap_prog.specs.Views.{action_view}
-use Rattle.cap_logic.specs.States.{PlainFact}
+use Rattle.cap_goal_spec.specs.States.{PlainFact}
 use Rattle.cap_stab.proofs.Claiming.{same_alone, same_fails, same_made}
 use Rattle.cap_stab.proofs.proving.prove_same.Goals as goal
 

@@ -2,9 +2,9 @@ use Rattle.std.proofs.Common.{◌+◌, ◌<◌, List, drop, length, get_or, sym,
 use Rattle.std.proofs.lemmas.Result.{err_from_is_err_and}
 use Rattle.cap_lin.specs.declared.row.Row.{Row}
 use Rattle.cap_prog.specs.Views.{region_view}
-use Rattle.cap_logic.specs.Candidates.{candidates}
+use Rattle.cap_goal_spec.specs.Candidates.{candidates}
 use Rattle.cap_rules.specs.Resting.{named_candidates}
-use Rattle.cap_steps.proofs.Walking.{Leads}
+use Rattle.cap_rules_steps.proofs.Walking.{Leads}
 use Rattle.cap_stab.specs.Proving.{named_row}
 use Rattle.cap_stab.proofs.Collecting.{behind_these, collect_starts, collect_more, collect_fails, collect_ends}
 use Rattle.cap_stab.proofs.Named.{next_low, named_collect, seen_as, any_else}

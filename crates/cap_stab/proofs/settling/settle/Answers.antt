@@ -3,9 +3,9 @@ use Rattle.std.specs.Prelude.{Ok, Err}
 use Rattle.std.proofs.lemmas.Result.{err_from_is_err_and}
 use Rattle.cap_lin.specs.declared.row.Row.{Row}
 use Rattle.cap_prog.specs.Views.{region_view}
-use Rattle.cap_logic.specs.States.{PlainFact}
+use Rattle.cap_goal_spec.specs.States.{PlainFact}
 use Rattle.cap_rules.specs.Resting.{prove_stable}
-use Rattle.cap_steps.specs.Walks.{Claims}
+use Rattle.cap_rules_steps.specs.Walks.{Claims}
 use Rattle.cap_stab.proofs.Settled.{settle_unnamed, settle_unproved, settle_unstable, settle_made}
 use Rattle.cap_stab.proofs.settling.settle.Goals as goal
 

@@ -2,10 +2,10 @@ use Rattle.std.proofs.Common.{◌≡◌, ℕ, ◌≤◌, List, length, Some, ap,
 use Rattle.std.specs.Prelude.{slice_get, Ok, Err}
 use Rattle.std.proofs.lemmas.Result.{err_from_is_err_and}
 use Rattle.cap_prog.specs.Views.{region_view, program_view}
-use Rattle.cap_logic.specs.States.{PlainFact, PlainState, goals_of}
+use Rattle.cap_goal_spec.specs.States.{PlainFact, PlainState, goals_of}
 use Rattle.cap_goal.specs.Views.{tasks_view}
 use Rattle.cap_rules.specs.Attempts.{found}
-use Rattle.cap_steps.specs.Walks.{Makes, Claims}
+use Rattle.cap_rules_steps.specs.Walks.{Makes, Claims}
 use Rattle.cap_stab.specs.Heads.{numbers_seen, settled_by}
 use Rattle.cap_stab.proofs.Headed.{at_place, no_fact, no_region, not_settled, next_settled}
 use Rattle.cap_stab.proofs.stab.settle_next.Goals as goal

@@ -1,5 +1,5 @@
 use Rattle.std.proofs.Common.{◌∷◌, reverse, ap}
-use Rattle.cap_logic.specs.States.{to_rest}
+use Rattle.cap_goal_spec.specs.States.{to_rest}
 use Rattle.cap_stab.proofs.Headed.{pushed}
 use Rattle.cap_stab.proofs.stab.with_rest.Goals as goal
 

@@ -1,7 +1,7 @@
 use Rattle.std.proofs.Common.{◌≡◌, length, sym, ap, ◌∙◌}
 use Rattle.std.proofs.lemmas.Result.{err_from_is_err_and}
 use Rattle.cap_prog.specs.Views.{action_view, region_view}
-use Rattle.cap_logic.specs.States.{PlainFact}
+use Rattle.cap_goal_spec.specs.States.{PlainFact}
 use Rattle.cap_rules.specs.Resting.{first_names}
 use Rattle.cap_stab.proofs.Collected.{want_all_from, starts_length}
 use Rattle.cap_stab.proofs.Systems.{source_fails, same_fails, conditions_fail, wanted_fail, compat_fails, system_made}

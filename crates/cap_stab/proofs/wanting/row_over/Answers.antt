@@ -1,5 +1,5 @@
 use Rattle.std.proofs.lemmas.Result.{err_from_is_err_and}
-use Rattle.cap_steps.proofs.Walking.{then_narrow, wide, last_wide, all_narrow}
+use Rattle.cap_rules_steps.proofs.Walking.{then_narrow, wide, last_wide, all_narrow}
 use Rattle.cap_stab.proofs.wanting.row_over.Goals as goal
 
 pub returns-in_err-left : goal.returns-in_err-left

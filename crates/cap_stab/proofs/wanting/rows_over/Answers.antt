@@ -2,7 +2,7 @@ use Rattle.std.proofs.Common.{◌+◌, List, drop, sym, subst, arith}
 use Rattle.std.proofs.lemmas.Result.{err_from_is_err_and}
 use Rattle.cap_lin.specs.declared.row.Row.{Row}
 use Rattle.cap_rules.specs.Resting.{rows_over}
-use Rattle.cap_steps.proofs.Walking.{Leads}
+use Rattle.cap_rules_steps.proofs.Walking.{Leads}
 use Rattle.cap_stab.specs.Asking.{row_among}
 use Rattle.cap_stab.proofs.Collecting.{behind_these, collect_starts, collect_more, collect_fails, collect_ends}
 use Rattle.cap_stab.proofs.Collected.{rows_collect}

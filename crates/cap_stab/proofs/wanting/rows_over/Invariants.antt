@@ -1,6 +1,6 @@
 use Rattle.std.proofs.Common.{drop}
 use Rattle.cap_rules.specs.Resting.{rows_over}
-use Rattle.cap_steps.proofs.Walking.{Leads}
+use Rattle.cap_rules_steps.proofs.Walking.{Leads}
 use Rattle.cap_stab.proofs.Collecting.{behind_these}
 use Rattle.cap_stab.proofs.wanting.rows_over.Given as goal
 

@@ -1,7 +1,7 @@
 use Rattle.std.proofs.Common.{ℕ, ◌+◌, [], ◌∷◌, ◌++◌, List, drop, get_or, sym, subst, arith}
 use Rattle.std.proofs.lemmas.Result.{err_from_is_err_and}
 use Rattle.cap_gsolve.specs.declared.piece.Form.{Form}
-use Rattle.cap_steps.proofs.Walking.{Leads}
+use Rattle.cap_rules_steps.proofs.Walking.{Leads}
 use Rattle.cap_stab.specs.Asking.{wanted_one, wanted_from}
 use Rattle.cap_stab.proofs.Collecting.{behind_these, collect_starts, collect_more, collect_fails, collect_ends}
 use Rattle.cap_stab.proofs.Collected.{wanted_collect, one_behind, wanted_made, wanted_fails}

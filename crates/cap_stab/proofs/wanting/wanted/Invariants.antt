@@ -1,5 +1,5 @@
 use Rattle.std.proofs.Common.{drop}
-use Rattle.cap_steps.proofs.Walking.{Leads}
+use Rattle.cap_rules_steps.proofs.Walking.{Leads}
 use Rattle.cap_stab.specs.Asking.{wanted_from}
 use Rattle.cap_stab.proofs.Collecting.{behind_these}
 use Rattle.cap_stab.proofs.wanting.wanted.Given as goal

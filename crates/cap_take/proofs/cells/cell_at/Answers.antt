@@ -1,5 +1,5 @@
 use Rattle.std.proofs.Common.{arith, ◌≤◌, ◌<◌, length}
-use Rattle.cap_items.proofs.Members.{member-there, member-lacking}
+use Rattle.cap_take_items.proofs.Members.{member-there, member-lacking}
 use Rattle.cap_take.proofs.cells.cell_at.Goals as goal
 
 pub returns-then-number-cells : goal.returns-then-number-cells

@@ -1,5 +1,5 @@
 use Rattle.std.proofs.lemmas.Result.{err_from_is_err_and}
-use Rattle.cap_steps.proofs.Walking.{no_memory_claims}
+use Rattle.cap_rules_steps.proofs.Walking.{no_memory_claims}
 use Rattle.cap_take.proofs.cells.matched.Goals as goal
 
 pub returns-in_err-names : goal.returns-in_err-names

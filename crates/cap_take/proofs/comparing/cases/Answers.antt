@@ -1,5 +1,5 @@
 use Rattle.std.proofs.lemmas.Result.{err_from_is_err_and}
-use Rattle.cap_steps.proofs.Walking.{then_made, unmade, done_as}
+use Rattle.cap_rules_steps.proofs.Walking.{then_made, unmade, done_as}
 use Rattle.cap_take.proofs.comparing.cases.Goals as goal
 
 pub returns-in_err-row : goal.returns-in_err-row

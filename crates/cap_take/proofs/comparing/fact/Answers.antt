@@ -1,8 +1,8 @@
 use Rattle.std.proofs.Common.{refl, ap, ◌∙◌}
-use Rattle.cap_logic.specs.States.{goals_of}
-use Rattle.cap_items.specs.Views.{remaining_view, tasks_ahead}
+use Rattle.cap_goal_spec.specs.States.{goals_of}
+use Rattle.cap_take_items.specs.Views.{remaining_view, tasks_ahead}
 use Rattle.std.proofs.lemmas.Result.{err_from_is_err_and}
-use Rattle.cap_steps.proofs.Walking.{made_claims, unmade_claims, claims_value, claims_no_value, weaker, done_as}
+use Rattle.cap_rules_steps.proofs.Walking.{made_claims, unmade_claims, claims_value, claims_no_value, weaker, done_as}
 use Rattle.cap_take.proofs.comparing.fact.Goals as goal
 
 pub returns-in_err-row : goal.returns-in_err-row

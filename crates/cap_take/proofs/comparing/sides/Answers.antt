@@ -1,4 +1,4 @@
-use Rattle.cap_items.proofs.Remains.{two-goals}
+use Rattle.cap_take_items.proofs.Remains.{two-goals}
 use Rattle.cap_take.proofs.comparing.sides.Goals as goal
 
 pub returns : goal.returns

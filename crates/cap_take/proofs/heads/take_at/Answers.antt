@@ -2,7 +2,7 @@ use Rattle.std.proofs.Common.{ap, ◌∙◌}
 use Rattle.cap_prog.specs.Program.{none}
 use Rattle.cap_prog.specs.Views.{program_view}
 use Rattle.cap_goal.specs.Views.{items_in, tasks_view}
-use Rattle.cap_items.specs.Views.{items_ahead}
+use Rattle.cap_take_items.specs.Views.{items_ahead}
 use Rattle.cap_take.proofs.Others.{no-items}
 use Rattle.cap_take.proofs.heads.take_at.Goals as goal
 

@@ -1,5 +1,5 @@
 use Rattle.cap_prog.specs.Views.{item_view, program_view}
-use Rattle.cap_items.specs.Views.{remaining_view}
+use Rattle.cap_take_items.specs.Views.{remaining_view}
 use Rattle.cap_take.proofs.Others.{no-atom}
 use Rattle.cap_take.proofs.heads.take_atom.Goals as goal
 

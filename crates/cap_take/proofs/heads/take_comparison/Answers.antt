@@ -1,4 +1,4 @@
-use Rattle.cap_items.specs.Views.{remaining_view}
+use Rattle.cap_take_items.specs.Views.{remaining_view}
 use Rattle.cap_take.proofs.Others.{no-comparison}
 use Rattle.cap_take.proofs.heads.take_comparison.Goals as goal
 

@@ -1,12 +1,12 @@
 use Rattle.std.proofs.Common.{rules, refl, not, ap, sym, ◌∙◌, arith}
-use Rattle.cap_tree.specs.declared.region.Declared.TheFolds.{the_lemmas}
+use Rattle.cap_parse_tree.specs.declared.region.Declared.TheFolds.{the_lemmas}
 use Rattle.std.proofs.lemmas.Bool.Decides.{nat_tests}
 use Rattle.cap_parse.proofs.Inside.{grouped-inside}
-use Rattle.cap_tree.specs.Views.{declared_view, both_view, joint_view, either_view}
-use Rattle.cap_grammar.specs.Grammar.{read_declared, grouped_at, read_joint}
-use Rattle.cap_grammar.specs.Readers.{read_more}
-use Rattle.cap_grammar.specs.declared.class.Class.TheVariants.{Star, Plus}
-use Rattle.cap_grammar.specs.Laws.Taking.{declared-takes, joint-takes}
+use Rattle.cap_parse_tree.specs.Views.{declared_view, both_view, joint_view, either_view}
+use Rattle.cap_parse_laws.specs.Grammar.{read_declared, grouped_at, read_joint}
+use Rattle.cap_parse_laws.specs.Readers.{read_more}
+use Rattle.cap_parse_laws.specs.declared.class.Class.TheVariants.{Star, Plus}
+use Rattle.cap_parse_laws.specs.Laws.Taking.{declared-takes, joint-takes}
 use Rattle.cap_parse.proofs.Loops.{more-pushed, more-smaller}
 use Rattle.cap_parse.proofs.cursor.Cursor.+algebras.Goals as goal
 

@@ -1,9 +1,9 @@
 use Rattle.std.proofs.Common.{◌≡◌, map, ◌+◌, ◌*◌, length}
-use Rattle.cap_tree.specs.Views.{both_view, either_view}
-use Rattle.cap_grammar.specs.Grammar.{read_declared, grouped_at, read_joint}
-use Rattle.cap_grammar.specs.Readers.{read_more}
-use Rattle.cap_grammar.specs.declared.class.Class.TheVariants.{Star, Plus}
-use Rattle.cap_grammar.specs.Laws.Taking.{with_front}
+use Rattle.cap_parse_tree.specs.Views.{both_view, either_view}
+use Rattle.cap_parse_laws.specs.Grammar.{read_declared, grouped_at, read_joint}
+use Rattle.cap_parse_laws.specs.Readers.{read_more}
+use Rattle.cap_parse_laws.specs.declared.class.Class.TheVariants.{Star, Plus}
+use Rattle.cap_parse_laws.specs.Laws.Taking.{with_front}
 use Rattle.cap_parse.proofs.cursor.Cursor.+algebras.Given as goal
 
 abbrev pub decreases-grouped : goal.decreases-grouped

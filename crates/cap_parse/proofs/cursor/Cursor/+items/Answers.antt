@@ -1,12 +1,12 @@
 use Rattle.std.proofs.Common.{rules, refl, not, ap, sym, ◌∙◌, arith}
-use Rattle.cap_tree.specs.declared.assertion.Item.TheFolds.{the_lemmas}
+use Rattle.cap_parse_tree.specs.declared.assertion.Item.TheFolds.{the_lemmas}
 use Rattle.std.proofs.lemmas.Bool.Decides.{nat_tests}
 use Rattle.cap_parse.proofs.Inside.{side-inside}
-use Rattle.cap_tree.specs.Views.{item_view, and_view}
-use Rattle.cap_grammar.specs.Grammar.{read_item, side_at}
-use Rattle.cap_grammar.specs.Readers.{read_more}
-use Rattle.cap_grammar.specs.declared.class.Class.TheVariants.{And}
-use Rattle.cap_grammar.specs.Laws.Taking.{item-takes}
+use Rattle.cap_parse_tree.specs.Views.{item_view, and_view}
+use Rattle.cap_parse_laws.specs.Grammar.{read_item, side_at}
+use Rattle.cap_parse_laws.specs.Readers.{read_more}
+use Rattle.cap_parse_laws.specs.declared.class.Class.TheVariants.{And}
+use Rattle.cap_parse_laws.specs.Laws.Taking.{item-takes}
 use Rattle.cap_parse.proofs.Loops.{more-pushed, more-smaller}
 use Rattle.cap_parse.proofs.cursor.Cursor.+items.Goals as goal
 

@@ -1,9 +1,9 @@
 use Rattle.std.proofs.Common.{◌≡◌, map, ◌+◌, ◌*◌, length}
-use Rattle.cap_tree.specs.Views.{and_view}
-use Rattle.cap_grammar.specs.Grammar.{read_item, side_at}
-use Rattle.cap_grammar.specs.Readers.{read_more}
-use Rattle.cap_grammar.specs.declared.class.Class.TheVariants.{And}
-use Rattle.cap_grammar.specs.Laws.Taking.{with_front}
+use Rattle.cap_parse_tree.specs.Views.{and_view}
+use Rattle.cap_parse_laws.specs.Grammar.{read_item, side_at}
+use Rattle.cap_parse_laws.specs.Readers.{read_more}
+use Rattle.cap_parse_laws.specs.declared.class.Class.TheVariants.{And}
+use Rattle.cap_parse_laws.specs.Laws.Taking.{with_front}
 use Rattle.cap_parse.proofs.cursor.Cursor.+items.Given as goal
 
 abbrev pub decreases-side : goal.decreases-side

@@ -1,14 +1,14 @@
 use Rattle.std.proofs.lemmas.Result.{err_from_is_err_and}
-use Rattle.cap_tree.specs.declared.statement.Statement.{Statement}
+use Rattle.cap_parse_tree.specs.declared.statement.Statement.{Statement}
 use Rattle.std.proofs.Common.{Vec, Global, map, rules, refl, not, ap, sym, ◌∙◌, arith}
-use Rattle.cap_grammar.specs.Classes.{are_same}
+use Rattle.cap_parse_laws.specs.Classes.{are_same}
 use Rattle.std.proofs.lemmas.Bool.Decides.{nat_tests}
 use Rattle.cap_parse.proofs.Inside.{block-inside}
-use Rattle.cap_tree.specs.Views.{statement_view}
-use Rattle.cap_grammar.specs.Grammar.{read_statement, block_at}
-use Rattle.cap_grammar.specs.Readers.{read_while}
-use Rattle.cap_grammar.specs.declared.class.Class.TheVariants.{CloseBrace}
-use Rattle.cap_grammar.specs.Laws.Taking.{statement-takes, statement-ends}
+use Rattle.cap_parse_tree.specs.Views.{statement_view}
+use Rattle.cap_parse_laws.specs.Grammar.{read_statement, block_at}
+use Rattle.cap_parse_laws.specs.Readers.{read_while}
+use Rattle.cap_parse_laws.specs.declared.class.Class.TheVariants.{CloseBrace}
+use Rattle.cap_parse_laws.specs.Laws.Taking.{statement-takes, statement-ends}
 use Rattle.cap_parse.proofs.Loops.{while-pushed, while-refuses}
 use Rattle.cap_parse.proofs.cursor.Cursor.+statements.Goals as goal
 

@@ -1,12 +1,12 @@
 use Rattle.std.proofs.Common.{rules, refl, not, ap, sym, ◌∙◌, arith}
-use Rattle.cap_tree.specs.declared.term.Factor.TheFolds.{the_lemmas}
+use Rattle.cap_parse_tree.specs.declared.term.Factor.TheFolds.{the_lemmas}
 use Rattle.std.proofs.lemmas.Bool.Decides.{nat_tests}
 use Rattle.cap_parse.proofs.Inside.{bracketed-inside}
-use Rattle.cap_tree.specs.Views.{factor_view, times_view, addend_view}
-use Rattle.cap_grammar.specs.Grammar.{read_factor, bracketed_at, read_addend, is_sign}
-use Rattle.cap_grammar.specs.Readers.{read_more, read_while}
-use Rattle.cap_grammar.specs.declared.class.Class.TheVariants.{Star}
-use Rattle.cap_grammar.specs.Laws.Taking.{factor-takes, addend-takes}
+use Rattle.cap_parse_tree.specs.Views.{factor_view, times_view, addend_view}
+use Rattle.cap_parse_laws.specs.Grammar.{read_factor, bracketed_at, read_addend, is_sign}
+use Rattle.cap_parse_laws.specs.Readers.{read_more, read_while}
+use Rattle.cap_parse_laws.specs.declared.class.Class.TheVariants.{Star}
+use Rattle.cap_parse_laws.specs.Laws.Taking.{factor-takes, addend-takes}
 use Rattle.cap_parse.proofs.Loops.{more-pushed, more-smaller, while-pushed}
 use Rattle.cap_parse.proofs.cursor.Cursor.+terms.Goals as goal
 

@@ -1,9 +1,9 @@
 use Rattle.std.proofs.Common.{◌≡◌, map, ◌+◌, ◌*◌, length}
-use Rattle.cap_tree.specs.Views.{times_view, addend_view}
-use Rattle.cap_grammar.specs.Grammar.{read_factor, bracketed_at, read_addend, is_sign}
-use Rattle.cap_grammar.specs.Readers.{read_more, read_while}
-use Rattle.cap_grammar.specs.declared.class.Class.TheVariants.{Star}
-use Rattle.cap_grammar.specs.Laws.Taking.{with_front}
+use Rattle.cap_parse_tree.specs.Views.{times_view, addend_view}
+use Rattle.cap_parse_laws.specs.Grammar.{read_factor, bracketed_at, read_addend, is_sign}
+use Rattle.cap_parse_laws.specs.Readers.{read_more, read_while}
+use Rattle.cap_parse_laws.specs.declared.class.Class.TheVariants.{Star}
+use Rattle.cap_parse_laws.specs.Laws.Taking.{with_front}
 use Rattle.cap_parse.proofs.cursor.Cursor.+terms.Given as goal
 
 abbrev pub decreases-bracketed : goal.decreases-bracketed

@@ -1,12 +1,12 @@
 use Rattle.std.proofs.lemmas.Result.{err_from_is_err_and}
-use Rattle.cap_tree.specs.declared.tree.Declaration.{Declaration}
+use Rattle.cap_parse_tree.specs.declared.tree.Declaration.{Declaration}
 use Rattle.std.proofs.Common.{Vec, Global, map, rules, refl, not, ap, sym, ◌∙◌, arith}
-use Rattle.cap_grammar.specs.Classes.{are_same}
-use Rattle.cap_tree.specs.Views.{declaration_view}
-use Rattle.cap_grammar.specs.Grammar.{read_declaration}
-use Rattle.cap_grammar.specs.Readers.{read_while}
-use Rattle.cap_grammar.specs.declared.class.Class.TheVariants.{End}
-use Rattle.cap_grammar.specs.Laws.Taking.{declaration-takes}
+use Rattle.cap_parse_laws.specs.Classes.{are_same}
+use Rattle.cap_parse_tree.specs.Views.{declaration_view}
+use Rattle.cap_parse_laws.specs.Grammar.{read_declaration}
+use Rattle.cap_parse_laws.specs.Readers.{read_while}
+use Rattle.cap_parse_laws.specs.declared.class.Class.TheVariants.{End}
+use Rattle.cap_parse_laws.specs.Laws.Taking.{declaration-takes}
 use Rattle.cap_parse.proofs.Loops.{while-pushed, while-refuses}
 use Rattle.cap_parse.proofs.cursor.Cursor.declarations.Goals as goal
 

@@ -1,6 +1,6 @@
 use Rattle.std.proofs.Common.{option_map, Ok}
 use Rattle.std.proofs.lemmas.Result.{err_from_is_err_and}
-use Rattle.cap_tree.specs.Views.{listed_view, word_view, clause_view, block_view, function_view}
+use Rattle.cap_parse_tree.specs.Views.{listed_view, word_view, clause_view, block_view, function_view}
 use Rattle.cap_parse.specs.Heads.{read_whole_block}
 use Rattle.cap_parse.proofs.Functions.{then-stops}
 use Rattle.cap_parse.proofs.cursor.Cursor.function_body.Goals as goal

@@ -1,9 +1,9 @@
 use Rattle.std.proofs.Common.{rules, refl, not, ap, sym, ◌∙◌, arith}
-use Rattle.cap_tree.specs.Views.{behind_view, comparison_view}
-use Rattle.cap_grammar.specs.Grammar.{read_comparison}
-use Rattle.cap_grammar.specs.Readers.{read_more}
-use Rattle.cap_grammar.specs.declared.class.Class.TheVariants.{Comma}
-use Rattle.cap_grammar.specs.Laws.Taking.{comparison-takes}
+use Rattle.cap_parse_tree.specs.Views.{behind_view, comparison_view}
+use Rattle.cap_parse_laws.specs.Grammar.{read_comparison}
+use Rattle.cap_parse_laws.specs.Readers.{read_more}
+use Rattle.cap_parse_laws.specs.declared.class.Class.TheVariants.{Comma}
+use Rattle.cap_parse_laws.specs.Laws.Taking.{comparison-takes}
 use Rattle.cap_parse.proofs.Loops.{more-pushed, more-smaller}
 use Rattle.cap_parse.proofs.cursor.Cursor.more_comparisons.Goals as goal
 

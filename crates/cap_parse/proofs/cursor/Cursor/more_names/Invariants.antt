@@ -1,8 +1,8 @@
 use Rattle.std.proofs.Common.{◌≡◌, map, length}
-use Rattle.cap_tree.specs.Views.{behind_view, word_view}
-use Rattle.cap_grammar.specs.Readers.{read_more, read_name}
-use Rattle.cap_grammar.specs.declared.class.Class.TheVariants.{Comma}
-use Rattle.cap_grammar.specs.Laws.Taking.{with_front}
+use Rattle.cap_parse_tree.specs.Views.{behind_view, word_view}
+use Rattle.cap_parse_laws.specs.Readers.{read_more, read_name}
+use Rattle.cap_parse_laws.specs.declared.class.Class.TheVariants.{Comma}
+use Rattle.cap_parse_laws.specs.Laws.Taking.{with_front}
 use Rattle.cap_parse.proofs.cursor.Cursor.more_names.Given as goal
 
 abbrev pub invariant-loop-self : goal.invariant-loop-self

@@ -1,7 +1,0 @@
-use Rattle.std.proofs.Common.{◌≡◌, ◌++◌, drop}
-use Rattle.cap_rules.specs.Closing.{rivals_from}
-use Rattle.cap_acts.specs.Views.{rivals_view}
-use Rattle.cap_acts.proofs.marking.push_rivals.Given as goal
-
-abbrev pub invariant-loop-number : goal.invariant-loop-number
-invariant-loop-number l = rivals_view l.all.items ++ rivals_from l.opened l.number (drop l.number l.facts) ≡ rivals_view l.fn.all.items ++ rivals_from l.opened 0 l.facts

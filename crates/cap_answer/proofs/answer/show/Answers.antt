@@ -1,5 +1,0 @@
-use Rattle.cap_answer.proofs.Answering.{show_answers}
-use Rattle.cap_answer.proofs.answer.show.Goals as goal
-
-pub returns-in-Err : goal.returns-in-Err
-returns-in-Err c = show_answers c.args.bytes.now c.in-Err.refusal c.refuse.result c.in-Err.ensures c.refuse.ensures

@@ -1,7 +1,0 @@
-use Rattle.cap_answer.proofs.Good.{good_answer}
-use Rattle.cap_answer.proofs.laws.good_answers_are_safe.Goals as goal
-
-pub returns : goal.returns
-returns c =
-    good_answer c.found_trees_are_valid.ensures c.good_programs_have_no_regions.ensures
-    c.derivations_are_sound.ensures c.programs_of_texts_are_well_formed.ensures

@@ -1,9 +1,0 @@
--- What is said of a program's search.
-use Rattle.std.specs.Prelude.{◌≡◌, ℕ}
-use Rattle.cap_prog.specs.Program.{PlainProgram}
-use Rattle.cap_report.specs.Report.{report_text, is_good}
-use Rattle.cap_answer.specs.Output.{Output, report_output}
-
--- the report, within a budget
-abbrev pub IsReport : ℕ → PlainProgram → Output → Type 0
-IsReport budget p o = o ≡ report_output (is_good p budget) (report_text p budget)

@@ -1,5 +1,0 @@
-use Rattle.cap_ascending.proofs.Rules.{subgoals-ascend}
-use Rattle.cap_ascending.proofs.subgoals_ascend.Goals as goal
-
-pub returns : goal.returns
-returns c = subgoals-ascend

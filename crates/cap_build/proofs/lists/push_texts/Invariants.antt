@@ -1,8 +1,0 @@
-use Rattle.std.proofs.Common.{◌≡◌, ◌++◌, drop, map}
-use Rattle.cap_stands.specs.Names.{word_text}
-use Rattle.cap_parts.specs.Views.{words_view}
-use Rattle.cap_build.proofs.lists.push_texts.Given as goal
-
-abbrev pub invariant-loop-word : goal.invariant-loop-word
-invariant-loop-word l =
-    l.names.items ++ map word_text (words_view (drop l.word-index l.words)) ≡ l.fn.names.items ++ map word_text (words_view l.words)

@@ -1,0 +1,9 @@
+use Rattle.std.proofs.Common.{◌≡◌, ◌++◌, drop, map}
+use Rattle.cap_offer_spec.specs.Deciding.{decided_each}
+use Rattle.cap_closure_decide.proofs.deciding.decided_each.Given as goal
+
+abbrev pub invariant-loop-rows : goal.invariant-loop-rows
+invariant-loop-rows l =
+    let whole = decided_each (map (λ rows. rows.items) l.fn.lists) l.fn.notes in
+    let rest = decided_each (map (λ rows. rows.items) (drop l.rows-index l.fn.lists)) l.notes in
+    (whole.value ≡ l.marks.items ++ rest.value) × (whole.notes ≡ rest.notes)

@@ -1,4 +1,0 @@
-use Rattle.cap_create.proofs.created.created_env.Goals as goal
-
-pub returns : goal.returns
-returns c = rw (c.fact_of-fact.ensures, c.in_ok-copy.ensures) at c.new_env.ensures

@@ -1,5 +1,0 @@
-use Rattle.cap_fits.proofs.KeptRoots.{roots-kept}
-use Rattle.cap_fits.proofs.roots_are_kept.Goals as goal
-
-pub returns : goal.returns
-returns c = roots-kept

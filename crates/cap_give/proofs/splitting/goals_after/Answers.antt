@@ -1,5 +1,0 @@
-use Rattle.cap_items.proofs.Remains.{two-goals}
-use Rattle.cap_give.proofs.splitting.goals_after.Goals as goal
-
-pub returns : goal.returns
-returns c = two-goals _ _ _ _ _ c.new-goals.ensures.items c.in_ok-add_side.ensures c.in_ok-add_side-2.ensures

@@ -1,6 +1,0 @@
-use Rattle.std.proofs.Common.{rules}
-use Rattle.cap_items.proofs.Remains.{items-before}
-use Rattle.cap_give.proofs.splitting.items_after.Goals as goal
-
-pub returns : goal.returns
-returns c = items-before c.args.assertion.now c.args.behind.now.items.lists.items c.push.new.self.items c.as_slice.result (search rules) (search rules)

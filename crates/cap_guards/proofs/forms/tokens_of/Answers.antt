@@ -1,8 +1,0 @@
-use Rattle.cap_steps.proofs.Walking.{inapplicable, weaker}
-use Rattle.cap_guards.proofs.forms.tokens_of.Goals as goal
-
-pub returns-in-One : goal.returns-in-One
-returns-in-One c = rw c.in-One.is (weaker _ _ _ inapplicable)
-
-pub returns-in-Share : goal.returns-in-Share
-returns-in-Share c = rw c.in-Share.is (weaker _ _ _ inapplicable)

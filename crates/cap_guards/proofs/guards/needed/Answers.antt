@@ -1,8 +1,0 @@
-use Rattle.cap_steps.proofs.Walking.{needed, unneeded}
-use Rattle.cap_guards.proofs.guards.needed.Goals as goal
-
-pub returns-then-holds : goal.returns-then-holds
-returns-then-holds c = needed c.args.holds c.if-holds.true
-
-pub returns-else-holds : goal.returns-else-holds
-returns-else-holds c = unneeded c.args.holds c.if-holds.false

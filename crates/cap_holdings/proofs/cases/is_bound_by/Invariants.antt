@@ -1,8 +1,0 @@
-use Rattle.std.proofs.Common.{◌≡◌, drop}
-use Rattle.cap_logic.specs.Environments.{is_bound_by}
-use Rattle.cap_prog.specs.Views.{items_view}
-use Rattle.cap_holdings.proofs.Names.{bound-from}
-use Rattle.cap_holdings.proofs.cases.is_bound_by.Given as goal
-
-abbrev pub invariant-loop-item : goal.invariant-loop-item
-invariant-loop-item l = bound-from l.name (drop l.item-index l.assertion.items.items) ≡ is_bound_by l.name (items_view l.assertion)

@@ -1,0 +1,103 @@
+//! How far a walk over trees has come.
+ghost use Rattle.std.specs.Prelude.{◌≡◌, IfOk};
+ghost use Rattle.cap_kernel_check.specs.Views.{Walked, walk_view};
+ghost use Rattle.cap_kernel_check.specs.Walks.{at_node, at_shape, ended, entered, lacking, next_of};
+ghost use Rattle.cap_kernel_check.specs.Walks.{passed, stray as stray_at, unrooted_at};
+
+use crate::error::CheckError;
+use std::alloc::AllocError;
+
+/// How many nodes were passed, and whether one is missing behind them.
+#[derive(Clone, Copy, Debug)]
+pub(crate) struct Walk {
+    pub before: u64,
+    pub lacks: bool,
+}
+
+impl Walk {
+    /// Nothing is passed yet.
+    pub fn new() -> Walk
+        ensures { walk_view result ≡ passed 0 }
+    {
+        Walk {
+            before: 0,
+            lacks: false,
+        }
+    }
+
+    // The number of the next node; one past 64 bits counts as want of memory.
+    fn next(&self) -> Result<u64, AllocError>
+        ensures { IfOk result (λ k. k ≡ next_of (walk_view self.now)) }
+    {
+        match self.before.checked_add(1) {
+            Some(number) => Ok(number),
+            None => Err(AllocError),
+        }
+    }
+
+    /// The next node fails.
+    pub fn fail(&self) -> Result<(), CheckError>
+        ensures { Walked self.now result (λ o. o ≡ at_node (next_of (walk_view self.now))) }
+    {
+        let number = self.next()?;
+        Err(CheckError::Node(number))
+    }
+
+    /// The shape is wrong at the next node.
+    pub fn misfit(&self) -> Result<(), CheckError>
+        ensures { Walked self.now result (λ o. o ≡ at_shape (next_of (walk_view self.now))) }
+    {
+        let number = self.next()?;
+        Err(CheckError::Shape(number))
+    }
+
+    /// The next node has no goal; below it there would be room for so many levels.
+    pub fn stray(&self, room: usize) -> Result<(), CheckError>
+        ensures { Walked self.now result (λ o. o ≡ stray_at room (walk_view self.now)) }
+    {
+        if room == 0 {
+            self.fail()
+        } else {
+            self.misfit()
+        }
+    }
+
+    /// The choice of the next node applies.
+    pub fn enter(&mut self) -> Result<(), CheckError>
+        ensures { Walked self.new result (λ o. o ≡ entered (walk_view self.old)) }
+    {
+        if self.lacks {
+            return self.misfit();
+        }
+        self.before = self.next()?;
+        Ok(())
+    }
+
+    /// A node is missing here.
+    pub fn lack(&mut self)
+        ensures { walk_view self.new ≡ lacking (walk_view self.old) }
+    {
+        self.lacks = true;
+    }
+
+    /// No choice applies at a root.
+    pub fn bar(&self) -> Result<(), CheckError>
+        ensures { Walked self.now result (λ o. o ≡ unrooted_at (walk_view self.now)) }
+    {
+        if self.lacks {
+            self.misfit()
+        } else {
+            self.fail()
+        }
+    }
+
+    /// All trees are passed.
+    pub fn end(&self) -> Result<(), CheckError>
+        ensures { Walked self.now result (λ o. o ≡ ended (walk_view self.now)) }
+    {
+        if self.lacks {
+            return self.misfit();
+        }
+        Ok(())
+    }
+}

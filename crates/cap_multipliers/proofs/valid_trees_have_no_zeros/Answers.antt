@@ -1,5 +1,0 @@
-use Rattle.cap_multipliers.proofs.Multipliers.{no-zeros}
-use Rattle.cap_multipliers.proofs.valid_trees_have_no_zeros.Goals as goal
-
-pub returns : goal.returns
-returns c = no-zeros c.subgoals_succeed.ensures

@@ -1,0 +1,23 @@
+use Rattle.std.proofs.Common.{◌∙◌, ap, refl, [], ◌∷◌}
+use Rattle.std.proofs.lemmas.Result.{err_from_is_err_and}
+use Rattle.cap_rules_steps.proofs.Walking.{then_value, no_value, value_is, no_memory, done_as}
+use Rattle.cap_open_acts.proofs.acting.acted_by.Goals as goal
+
+pub returns-in_err-done-in-Read : goal.returns-in_err-done-in-Read
+returns-in_err-done-in-Read c =
+    let p = err_from_is_err_and c.from_residual.result c.from_residual.ensures.1 in
+    rw (p.1, p.2) (no_memory _)
+
+pub returns-in_ok-done-in-Read : goal.returns-in_ok-done-in-Read
+returns-in_ok-done-in-Read c = rw c.in-Read.is (done_as _ _ (rw c.in_ok-done-in-Read.ensures at c.only.ensures))
+
+pub returns-in_err-done-in-Write : goal.returns-in_err-done-in-Write
+returns-in_err-done-in-Write c =
+    let p = err_from_is_err_and c.from_residual-in_err-done-in-Write.result c.from_residual-in_err-done-in-Write.ensures.1 in
+    rw (p.1, p.2, c.in-Write.is) (no_value _ _ _ _ refl c.in_err-done-in-Write.ensures)
+
+pub returns-in_ok-done-in-Write : goal.returns-in_ok-done-in-Write
+returns-in_ok-done-in-Write c = rw c.in-Write.is (then_value _ _ _ _ c.in_ok-done-in-Write.ensures (done_as _ _ (c.only-in-Write.ensures ∙ ap (λ s. s ∷ []) (value_is _ _ _ refl c.in_ok-done-in-Write.ensures))))
+
+pub returns-in-Cas : goal.returns-in-Cas
+returns-in-Cas c = rw c.in-Cas.is c.swap.ensures

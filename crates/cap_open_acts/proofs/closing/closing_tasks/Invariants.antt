@@ -1,0 +1,8 @@
+use Rattle.std.proofs.Common.{◌≡◌, ◌++◌, map, drop, true}
+use Rattle.cap_goal.specs.Views.{tasks_view}
+use Rattle.cap_goal_spec.specs.States.{to_close}
+use Rattle.cap_rules.specs.Closing.{closing}
+use Rattle.cap_open_acts.proofs.closing.closing_tasks.Given as goal
+
+abbrev pub invariant-loop-region : goal.invariant-loop-region
+invariant-loop-region l = map (λ f. to_close true l.at) (drop l.region-index l.opened) ++ tasks_view l.tasks.items ≡ closing l.opened l.at (tasks_view l.behind)

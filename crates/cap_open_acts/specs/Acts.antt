@@ -1,0 +1,38 @@
+-- What a statement does to a cell.
+use Rattle.std.specs.Prelude.{ℕ, List, [], ◌∷◌, Option, Some, None}
+use Rattle.cap_lin.specs.Linear.{Linear}
+use Rattle.cap_prog.specs.Program.{PlainAct, read, write, cas}
+use Rattle.cap_goal_spec.specs.States.{PlainState}
+use Rattle.cap_rules.specs.Attempts.{Attempt, unit, ◌>>=◌, not_applicable}
+use Rattle.cap_rules.specs.Making.{with_local}
+use Rattle.cap_open_acts.specs.declared.acting.HeapAct.{HeapAct}
+use Rattle.cap_open_acts.specs.declared.acting.HeapAct.TheVariants.{Read, Write, Cas}
+use Rattle.cap_open_acts.specs.Steps.{written, swapped}
+
+-- it reads it into a local, writes a term's value, or swaps a new value in for an old one
+pub data CellAct : Type 0 where
+  reads : ℕ → CellAct
+  writes : Linear → CellAct
+  swaps : ℕ → Linear → Linear → CellAct
+
+abbrev pub heap_act_view : HeapAct → CellAct
+heap_act_view (Read x) = reads x
+heap_act_view (Write t) = writes t.now
+heap_act_view (Cas x old new) = swaps x old.now new.now
+
+abbrev pub heap_act_of : PlainAct → Option CellAct
+heap_act_of (read x a) = Some (reads x)
+heap_act_of (write a t) = Some (writes t)
+heap_act_of (cas x a old new) = Some (swaps x old new)
+heap_act_of a = None
+
+-- the states after it, on cell c, number j
+abbrev pub heap_acted : PlainState → ℕ → Linear × Linear → CellAct → Attempt (List PlainState)
+heap_acted s j c (reads x) = unit (with_local s x c.1 ∷ [])
+heap_acted s j c (writes t) = written s j c t >>= λ s'. unit (s' ∷ [])
+heap_acted s j c (swaps x old new) = swapped s j c x old new
+
+abbrev pub heap_acted_if :
+    PlainState → ℕ → Linear × Linear → Option CellAct → Attempt (List PlainState)
+heap_acted_if s j c None = not_applicable
+heap_acted_if s j c (Some a) = heap_acted s j c a

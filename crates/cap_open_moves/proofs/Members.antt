@@ -1,0 +1,11 @@
+-- Members of lists that are seen by a view, by their numbers.
+use Rattle.std.proofs.Common.{◌≡◌, ℕ, List, map, Some, sym, ap, ◌∙◌, ◌<◌, length, get_or}
+use Rattle.std.proofs.lemmas.List.{get_or-map, length-map}
+use Rattle.std.proofs.lemmas.Option.{slice_get-get_or}
+use Rattle.std.specs.Prelude.{Ok, slice_get}
+use Rattle.cap_rules.specs.Attempts.{found}
+use Rattle.cap_rules_steps.specs.Walks.{Makes}
+use Rattle.cap_rules_steps.proofs.Walking.{there}
+
+pub view-there : {X Y : Type 0} (f : X → Y) (xs : List X) (i : ℕ) (x : X) → i < length xs → x ≡ get_or xs i x → Makes (Ok (f x)) (found (slice_get (map f xs) i))
+view-there f xs i x h e = there (slice_get (map f xs) i) (f x) (slice_get-get_or (map f xs) i (f x) (rw (length-map xs f) h) ∙ ap Some (get_or-map f xs i x (f x) h ∙ ap f (sym e)))

@@ -1,0 +1,8 @@
+use Rattle.std.proofs.Common.{drop}
+use Rattle.cap_prog.specs.Views.{action_view}
+use Rattle.cap_rules_steps.proofs.Listing.{LeadsClaims}
+use Rattle.cap_open_moves.proofs.Matches.{all_seen}
+use Rattle.cap_open_moves.proofs.moving.match_all.Given as goal
+
+abbrev pub invariant-loop-part : goal.invariant-loop-part
+invariant-loop-part l = LeadsClaims l.fn.ledger l.ledger (all_seen l.state l.fact l.new (action_view l.action) l.env (drop l.part-index l.parts)) (all_seen l.state l.fact l.new (action_view l.action) l.fn.env l.parts)

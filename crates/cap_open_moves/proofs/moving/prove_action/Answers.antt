@@ -1,0 +1,22 @@
+use Rattle.std.proofs.lemmas.Result.{err_from_is_err_and}
+use Rattle.cap_rules_steps.proofs.Walking.{claims_then, claims_fail}
+use Rattle.cap_open_moves.proofs.moving.prove_action.Goals as goal
+
+pub returns-in_err-waiting : goal.returns-in_err-waiting
+returns-in_err-waiting c =
+    let p = err_from_is_err_and c.from_residual-in_err-waiting.result c.from_residual-in_err-waiting.ensures.1 in
+    let h = rw (c.in_ok-env.ensures, c.deref.ensures.value, c.in_ok-parts.ensures) at c.in_err-waiting.ensures in
+    rw (p.1, p.2) (claims_fail _ _ _ _ _ h)
+
+pub returns-in_err-match_all : goal.returns-in_err-match_all
+returns-in_err-match_all c =
+    let p = err_from_is_err_and c.from_residual-in_err-match_all.result c.from_residual-in_err-match_all.ensures.1 in
+    let h = rw (c.in_ok-env.ensures, c.deref.ensures.value, c.in_ok-parts.ensures) at c.in_ok-waiting.ensures in
+    let k = rw c.deref-2.ensures.value at c.in_err-match_all.ensures in
+    rw (p.1, p.2) (claims_then _ _ _ _ _ _ _ h (claims_fail _ _ _ _ _ k))
+
+pub returns : goal.returns
+returns c =
+    let h = rw (c.in_ok-env.ensures, c.deref.ensures.value, c.in_ok-parts.ensures) at c.in_ok-waiting.ensures in
+    let k = rw c.deref-2.ensures.value at c.in_ok-match_all.ensures in
+    claims_then _ _ _ _ _ _ _ h (claims_then _ _ _ _ _ _ _ k c.prove_when.ensures)

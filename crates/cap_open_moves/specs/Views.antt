@@ -1,0 +1,37 @@
+-- What contracts see of cases, actions and pieces that are lent, and of the parts of a move.
+use Rattle.std.specs.Prelude.{List, map, Result, Ok, Err}
+use Rattle.std.specs.Borrow.{Bor}
+use Rattle.std.specs.Global.{Vec}
+use Rattle.cap_gsolve.specs.declared.piece.Piece.{Piece}
+use Rattle.cap_prog.specs.declared.region.Case.{Case}
+use Rattle.cap_prog.specs.declared.region.Action.{Action}
+use Rattle.cap_prog.specs.Program.{PlainCase, PlainAction}
+use Rattle.cap_prog.specs.Views.{case_view, action_view}
+use Rattle.cap_goal_spec.specs.States.{PlainEnv}
+use Rattle.cap_rules.specs.Closing as closing
+use Rattle.cap_rules_steps.specs.declared.error.RuleError.{RuleError}
+use Rattle.cap_open_moves.specs.declared.matching.MovePart.{MovePart}
+use Rattle.cap_open_moves.specs.declared.matching.MovePart.TheVariants as part
+
+abbrev pub case_lent : Bor Case → PlainCase
+case_lent c = case_view c.now
+
+abbrev pub action_lent : Bor Action → PlainAction
+action_lent a = action_view a.now
+
+abbrev pub piece_lent : Bor Piece → Piece
+piece_lent q = q.now
+
+abbrev pub part_view : MovePart → closing.MovePart
+part_view (part.Guard i asked) = closing.guard i asked.now
+part_view part.Source = closing.source
+part_view part.Target = closing.target
+
+abbrev pub parts_view : List MovePart → List closing.MovePart
+parts_view xs = map part_view xs
+
+-- a call gives the parts that wait, and what the environment becomes
+abbrev pub matched_with :
+    Result (Vec MovePart) RuleError → PlainEnv → Result closing.Matched RuleError
+matched_with (Ok v) env = Ok (record { env = env; waiting = parts_view v.items })
+matched_with (Err e) env = Err e

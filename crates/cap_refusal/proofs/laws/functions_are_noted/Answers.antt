@@ -1,5 +1,0 @@
-use Rattle.cap_refusal.proofs.Same.{function_same}
-use Rattle.cap_refusal.proofs.laws.functions_are_noted.Goals as goal
-
-pub returns : goal.returns
-returns c = function_same

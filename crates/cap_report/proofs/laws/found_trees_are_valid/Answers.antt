@@ -1,5 +1,0 @@
-use Rattle.cap_report.proofs.Good.{found-valid}
-use Rattle.cap_report.proofs.laws.found_trees_are_valid.Goals as goal
-
-pub returns : goal.returns
-returns c = found-valid c.proved_units_are_valid.ensures

@@ -1,0 +1,11 @@
+use Rattle.std.proofs.Common.{◌≡◌, drop, fold, map, filter, not}
+use Rattle.cap_resolve_spec.specs.Finding.{note, unknown_word}
+use Rattle.cap_resolve_spec.specs.Items.{occurrence_words}
+use Rattle.cap_resolve_terms.specs.Views.{noted_view}
+use Rattle.cap_resolve_tables.specs.Views.{occurrences_view}
+use Rattle.cap_resolve_findings.proofs.clauses.note_unbound.Given as goal
+
+abbrev pub invariant-loop-name : goal.invariant-loop-name
+invariant-loop-name l =
+    fold note (noted_view l.noted) (map unknown_word (occurrence_words (filter (λ o. not o.bound) (occurrences_view (drop l.name-index l.names)))))
+    ≡ fold note (noted_view l.fn.noted) (map unknown_word (occurrence_words (filter (λ o. not o.bound) (occurrences_view l.names))))

@@ -1,0 +1,11 @@
+use Rattle.std.proofs.Common.{◌≡◌, drop, fold, map, filter, not, flat_map}
+use Rattle.cap_resolve_tables.specs.Views.{occurrences_view}
+use Rattle.cap_resolve_spec.specs.Items.{ret_findings}
+use Rattle.cap_resolve_spec.specs.Finding.{note}
+use Rattle.cap_resolve_terms.specs.Views.{noted_view}
+use Rattle.cap_resolve_findings.proofs.names.note_ret.Given as goal
+
+abbrev pub invariant-loop-name : goal.invariant-loop-name
+invariant-loop-name l =
+    fold note (noted_view l.noted) (ret_findings (occurrences_view (drop l.name-index l.names)))
+    ≡ fold note (noted_view l.fn.noted) (ret_findings (occurrences_view l.names))

@@ -1,0 +1,37 @@
+ghost use Rattle.std.specs.Prelude.{◌≡◌, IfOk, map};
+ghost use Rattle.cap_parse_tree.specs.Views.{behind_view, slot_view};
+ghost use Rattle.cap_resolve_spec.specs.Program.{slot_program};
+
+use crate::error::BuildError;
+use crate::terms::build_term;
+use cap_parse_tree::Slot as SlotTree;
+use cap_prog::Slot;
+use cap_resolve_terms::Scope;
+use cap_syntax::Place;
+use std::alloc::Global;
+
+/// The slot of a tree.
+pub fn build_slot(alloc: Global, scope: &Scope<'_>, slot: &SlotTree) -> Result<Slot, BuildError>
+    ensures { IfOk result (λ s. s ≡ slot_program scope.now (slot_view slot.now)) }
+{
+    match slot {
+        SlotTree::Any(_) => Ok(Slot::Any),
+        SlotTree::Is(given) => Ok(Slot::Is(build_term(alloc, scope, given)?)),
+    }
+}
+
+/// The slots of a list, each behind its comma.
+pub fn build_slots(
+    alloc: Global,
+    scope: &Scope<'_>,
+    list: &[(Place, SlotTree)],
+) -> Result<Vec<Slot>, BuildError>
+    ensures { IfOk result (λ made. made.items
+        ≡ map (λ a. slot_program scope.now a.1) (map (behind_view slot_view) list.now)) }
+{
+    let mut made = Vec::new(alloc);
+    for part in list {
+        made.push(build_slot(alloc, scope, &part.1)?)?;
+    }
+    Ok(made)
+}

@@ -1,0 +1,56 @@
+ghost use Rattle.std.specs.Prelude.{◌≡◌, ◌+◌, IfOk, map};
+ghost use Rattle.cap_prog.specs.Views.{region_view as region_seen, function_view as function_seen};
+ghost use Rattle.cap_resolve_spec.specs.Items.{numbered_regions};
+ghost use Rattle.cap_resolve_spec.specs.Program.{region_program, function_program};
+ghost use Rattle.cap_resolve_tables.specs.Tables.{regions_of, functions_of};
+
+use cap_prog::{Function, RegionType};
+use cap_resolve_functions::{BuildError, build_function};
+use cap_resolve_regions::build_region;
+use cap_resolve_tables::{FunctionTable, Numbered, RegionTable};
+use std::alloc::Global;
+
+fn next(number: u32) -> Result<u32, BuildError>
+    ensures { IfOk result (λ n. n ≡ number + 1) }
+{
+    match number.checked_add(1) {
+        Some(next) => Ok(next),
+        None => Err(BuildError::OutOfMemory),
+    }
+}
+
+/// The region types of a tree, in the order of the table.
+pub(crate) fn build_regions(
+    alloc: Global,
+    regions: &RegionTable<'_>,
+) -> Result<Vec<RegionType>, BuildError>
+    ensures { IfOk result (λ built. map region_seen built.items
+        ≡ map (region_program (regions_of regions.now))
+        (numbered_regions (regions_of regions.now))) }
+{
+    let mut built = Vec::new(alloc);
+    let mut number = 0;
+    for region in &regions.types {
+        let numbered = Numbered { number, region };
+        built.push(build_region(alloc, regions, numbered)?)?;
+        number = next(number)?;
+    }
+    Ok(built)
+}
+
+/// The functions of a tree, in the order of the table.
+pub(crate) fn build_functions(
+    alloc: Global,
+    regions: &RegionTable<'_>,
+    functions: &FunctionTable<'_>,
+) -> Result<Vec<Function>, BuildError>
+    ensures { IfOk result (λ built. map function_seen built.items
+        ≡ map (function_program (regions_of regions.now) (functions_of functions.now))
+        (functions_of functions.now)) }
+{
+    let mut built = Vec::new(alloc);
+    for function in &functions.functions {
+        built.push(build_function(alloc, regions, functions, function)?)?;
+    }
+    Ok(built)
+}

@@ -1,0 +1,10 @@
+use Rattle.std.proofs.Common.{◌≡◌, ◌++◌, drop, filter, not}
+use Rattle.cap_resolve_parts.specs.Views.{word_seen}
+use Rattle.cap_resolve_tables.specs.Views.{occurrences_view}
+use Rattle.cap_resolve_scopes.specs.Lists.{is_known_with, is_whole_with, is_late_with}
+use Rattle.cap_resolve_scopes.proofs.regions.unknown_in_case.Given as goal
+
+abbrev pub invariant-loop-name : goal.invariant-loop-name
+invariant-loop-name l =
+    occurrences_view l.kept.items ++ filter (λ o. not (is_known_with l.bound (word_seen l.whole) o)) (occurrences_view (drop l.name-index l.names))
+    ≡ filter (λ o. not (is_known_with l.bound (word_seen l.whole) o)) (occurrences_view l.names)

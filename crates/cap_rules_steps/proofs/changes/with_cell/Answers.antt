@@ -1,0 +1,12 @@
+use Rattle.std.proofs.Common.{rules}
+use Rattle.cap_rules_steps.specs.Walks.{walk}
+use Rattle.cap_rules_steps.proofs.Walking.{making}
+use Rattle.cap_rules_steps.proofs.changes.with_cell.Goals as goal
+
+pub returns-then-cells-ge-LONGEST : goal.returns-then-cells-ge-LONGEST
+unfolding walk
+returns-then-cells-ge-LONGEST c = search (rules, making)
+
+pub returns : goal.returns
+unfolding walk
+returns c = search (rules, making)

@@ -1,4 +1,0 @@
-use Rattle.cap_run.proofs.heap.Heap.+allocate.Given as goal
-
-abbrev pub decreases-allocate : goal.decreases-allocate
-decreases-allocate l = l.count

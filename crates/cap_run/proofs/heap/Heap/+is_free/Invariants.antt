@@ -1,4 +1,0 @@
-use Rattle.cap_run.proofs.heap.Heap.+is_free.Given as goal
-
-abbrev pub decreases-is_free : goal.decreases-is_free
-decreases-is_free l = l.count

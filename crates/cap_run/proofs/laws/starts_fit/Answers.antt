@@ -1,5 +1,0 @@
-use Rattle.cap_run.proofs.Keeping.{starts_keep}
-use Rattle.cap_run.proofs.laws.starts_fit.Goals as goal
-
-pub returns : goal.returns
-returns c = starts_keep

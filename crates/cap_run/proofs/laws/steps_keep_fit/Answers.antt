@@ -1,5 +1,0 @@
-use Rattle.cap_run.proofs.Keeping.{steps_keep}
-use Rattle.cap_run.proofs.laws.steps_keep_fit.Goals as goal
-
-pub returns : goal.returns
-returns c = steps_keep

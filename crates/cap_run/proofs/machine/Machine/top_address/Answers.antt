@@ -1,5 +1,0 @@
-use Rattle.cap_run.proofs.ReadyLemmas.{top_heap}
-use Rattle.cap_run.proofs.machine.Machine.top_address.Goals as goal
-
-pub returns : goal.returns
-returns c p = top_heap p c.args.self.now _ c.top.ensures

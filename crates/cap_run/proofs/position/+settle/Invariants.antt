@@ -1,5 +1,0 @@
-use Rattle.std.specs.Vec.{vec_len}
-use Rattle.cap_run.proofs.position.+settle.Given as goal
-
-abbrev pub decreases-settle : goal.decreases-settle
-decreases-settle l = vec_len l.levels.now

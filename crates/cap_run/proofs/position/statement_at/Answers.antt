@@ -1,5 +1,0 @@
-use Rattle.cap_run.proofs.PlaceLemmas.{skip_view}
-use Rattle.cap_run.proofs.position.statement_at.Goals as goal
-
-pub returns-clause-is : goal.returns-clause-is
-returns-clause-is c = rw c.get.ensures.is (skip_view c.args.block.now c.args.index)

@@ -1,5 +1,0 @@
-use Rattle.cap_seek.proofs.Lawful.{first-are-unique}
-use Rattle.cap_seek.proofs.first_trees_are_unique.Goals as goal
-
-pub returns : goal.returns
-returns c = first-are-unique

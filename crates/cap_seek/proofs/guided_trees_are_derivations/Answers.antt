@@ -1,5 +1,0 @@
-use Rattle.cap_seek.proofs.Lawful.{guided-are-derivations}
-use Rattle.cap_seek.proofs.guided_trees_are_derivations.Goals as goal
-
-pub returns : goal.returns
-returns c = guided-are-derivations

@@ -1,5 +1,0 @@
-use Rattle.cap_seek.proofs.Lawful.{guided-are-found}
-use Rattle.cap_seek.proofs.guided_trees_are_found.Goals as goal
-
-pub returns : goal.returns
-returns c = guided-are-found

@@ -1,5 +1,0 @@
-use Rattle.cap_stands.proofs.Values.{has-value}
-use Rattle.cap_stands.proofs.laws.linear_forms_have_the_values_of_their_terms.Goals as goal
-
-pub returns : goal.returns
-returns c = has-value

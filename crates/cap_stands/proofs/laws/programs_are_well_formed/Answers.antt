@@ -1,5 +1,0 @@
-use Rattle.cap_stands.proofs.WellFormed.{stands-well_formed}
-use Rattle.cap_stands.proofs.laws.programs_are_well_formed.Goals as goal
-
-pub returns : goal.returns
-returns c = stands-well_formed

@@ -1,6 +1,0 @@
-use Rattle.std.proofs.Common.{rules}
-use Rattle.cap_steps.proofs.Walking.{making}
-use Rattle.cap_steps.proofs.changes.with_row.Goals as goal
-
-pub returns : goal.returns
-returns c = search (rules, making)

@@ -1,6 +1,0 @@
-use Rattle.std.proofs.Common.{rules}
-use Rattle.cap_steps.proofs.Walking.{making}
-use Rattle.cap_steps.proofs.changes.with_sort.Goals as goal
-
-pub returns-clause-makes : goal.returns-clause-makes
-returns-clause-makes c = search (rules, making)

@@ -1,6 +1,0 @@
-use Rattle.std.proofs.Common.{◌≡◌, ◌++◌, drop}
-use Rattle.cap_logic.specs.Environments.{bound}
-use Rattle.cap_steps.proofs.envs.push_bound.Given as goal
-
-abbrev pub invariant-loop-term : goal.invariant-loop-term
-invariant-loop-term l = l.names.items ++ bound (drop l.term-index l.terms) ≡ l.fn.names.items ++ bound l.terms

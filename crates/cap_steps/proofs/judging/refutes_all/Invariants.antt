@@ -1,6 +1,0 @@
-use Rattle.cap_steps.specs.Judging.{certs_in}
-use Rattle.cap_steps.proofs.Judges.{LeftAt}
-use Rattle.cap_steps.proofs.judging.refutes_all.Given as goal
-
-abbrev pub invariant-loop-number : goal.invariant-loop-number
-invariant-loop-number l = LeftAt l.ledger (certs_in l.certs) l.number

@@ -1,0 +1,38 @@
+use Rattle.std.proofs.Common.{refl, ap, ◌∙◌}
+use Rattle.std.proofs.lemmas.Result.{err_from_is_err_and}
+use Rattle.cap_goal_spec.specs.States.{goals_of}
+use Rattle.cap_take_items.specs.Views.{remaining_view, tasks_ahead}
+use Rattle.cap_rules_steps.proofs.Walking.{made_claims, unmade_claims, claims_value, claims_no_value, no_memory_claims, weaker, done_as}
+use Rattle.cap_take_guards.proofs.guards.no_tokens.Goals as goal
+
+pub returns-in_err-needed : goal.returns-in_err-needed
+returns-in_err-needed c =
+    let p = err_from_is_err_and c.from_residual.result c.from_residual.ensures.1 in
+    rw (p.1, p.2) (unmade_claims _ _ _ _ c.in_err-needed.ensures)
+
+pub returns-in_err-count : goal.returns-in_err-count
+returns-in_err-count c =
+    let p = err_from_is_err_and c.from_residual-in_err-count.result c.from_residual-in_err-count.ensures.1 in
+    rw (p.1, p.2) (made_claims _ _ _ _ _ _ c.in_ok-needed.ensures (unmade_claims _ _ _ _ c.in_err-count.ensures))
+
+pub returns-in_err-prove_equal : goal.returns-in_err-prove_equal
+returns-in_err-prove_equal c =
+    let p = err_from_is_err_and c.from_residual-in_err-prove_equal.result c.from_residual-in_err-prove_equal.ensures.1 in
+    let k = rw c.constant-zero.ensures at c.in_err-prove_equal.ensures in
+    rw (p.1, p.2) (made_claims _ _ _ _ _ _ c.in_ok-needed.ensures (made_claims _ _ _ _ _ _ c.in_ok-count.ensures (claims_no_value _ _ _ _ _ _ refl k)))
+
+pub returns-in_err-next : goal.returns-in_err-next
+returns-in_err-next c =
+    let p = err_from_is_err_and c.from_residual-in_err-next.result c.from_residual-in_err-next.ensures.1 in
+    rw (p.1, p.2) (no_memory_claims _ _ _)
+
+pub returns-in_err-goes : goal.returns-in_err-goes
+returns-in_err-goes c =
+    let p = err_from_is_err_and c.from_residual-in_err-goes.result c.from_residual-in_err-goes.ensures.1 in
+    rw (p.1, p.2) (no_memory_claims _ _ _)
+
+pub returns : goal.returns
+returns c =
+    let k = rw c.constant-zero.ensures at c.in_ok-prove_equal.ensures in
+    let e = c.in_ok-goes.ensures ∙ ap (λ s. goals_of s (tasks_ahead (remaining_view c.args.rest.now))) c.in_ok-next.ensures in
+    made_claims _ _ _ _ _ _ c.in_ok-needed.ensures (made_claims _ _ _ _ _ _ c.in_ok-count.ensures (claims_value _ _ _ _ _ _ _ k (weaker _ _ _ (done_as _ _ e))))

@@ -1,0 +1,12 @@
+use Rattle.std.proofs.Common.{rules}
+use Rattle.cap_rules_steps.specs.Walks.{walk}
+use Rattle.cap_rules_steps.proofs.Walking.{making}
+use Rattle.cap_take_holdings.proofs.pieces.push_piece.Goals as goal
+
+pub returns-then-guards-ge-LONGEST : goal.returns-then-guards-ge-LONGEST
+unfolding walk
+returns-then-guards-ge-LONGEST c = search (rules, making)
+
+pub returns : goal.returns
+unfolding walk
+returns c = search (rules, making)

@@ -1,0 +1,660 @@
+-- What a run promises, by what was found and put.
+use Rattle.std.proofs.Common.{◌≡◌, ◌≢◌, ℕ, ◌≤◌, ◌⊎◌, inl, inr, Bool, true, false, List, [], ◌∷◌, length, Option, Some, None, IfSome, Result, Ok, Err, refl, sym, ap, ◌∙◌, subst, arith}
+use Rattle.cap_io.specs.Outside.{Files, content, longest, Rose, Gains}
+use Rattle.cap_parse_tree.specs.Tree.{ProgramTree}
+use Rattle.cap_parse_tree.specs.Canonical.{canonical_text}
+use Rattle.cap_parse_tree.specs.Texts.{Spells}
+use Rattle.cap_top_reading.specs.Refused.{SpellNone, IsRefused, IsTextOf}
+use Rattle.cap_top_reading.specs.declared.refusal.Refusal.{Refusal}
+use Rattle.cap_top_commands.specs.declared.status.Status.{Status}
+use Rattle.cap_top_commands.specs.declared.status.Status.TheVariants.{Good, Bad, Refused, Usage, ReadFault, WriteFault, NoMemory, NotEnabled, Wide}
+use Rattle.cap_prog.specs.Program.{PlainProgram}
+use Rattle.cap_replay.specs.declared.playing.End.{End}
+use Rattle.cap_replay.specs.declared.playing.End.TheVariants as ends
+use Rattle.cap_kernel_check.specs.declared.error.CheckError.{CheckError}
+use Rattle.cap_deriv_write.specs.Written.{derivation_text}
+use Rattle.cap_top_report.specs.Found.{found_trees}
+use Rattle.cap_top_commands.specs.Derivations.{IsDerivation, IsChecked}
+use Rattle.cap_top_commands.specs.Answers.{Fetched, held, unread, long, After, SaysCause, SaysRefusal, IsVerified, IsDerived, IsUnjudged, IsShown, IsPlayed, IsOutput, GoodAnswersAreSafe, AcceptedAreSafe, DerivedAreAccepted}
+use Rattle.cap_top_report.specs.Report.{report_text, is_good}
+use Rattle.cap_top_commands.specs.Task.{Task, verify, derive, check, show, replay, files_of}
+use Rattle.cap_top_commands.specs.Output.{Output, usage_output, unreadable_output, long_output, refusal_output, report_output, derivation_output, long_derivation_output, bad_derivation_output, later_output, judged_output, judged_status, tree_output, schedule_output, run_output, report_status, end_status}
+use Rattle.cap_top.specs.Reads.{IsFetched, AreFetched, given_by, AreGiven}
+use Rattle.cap_top.specs.Run.{IsSaid, IsRun}
+use Rattle.cap_top.specs.Promise.{VerifiesFile, DerivesFile, ChecksFiles, IsShownAs, ShowsFile, EndsRun, ReplaysFiles, Ends, Says, AnswersFiles, HoldsGood, HoldAccepted, HoldsTree, IsTextFor, Refuses, IsOneOf, ReadFails}
+use Rattle.cap_top.proofs.Reading.{held-given, agree-given, first-given, given-held, given-unread}
+
+-- ---- the statuses of outputs
+
+-- the status of what was said of a text or a schedule
+abbrev IsAnswer : Status → Type 0
+IsAnswer Good = Unit {0}
+IsAnswer Bad = Unit {0}
+IsAnswer Refused = Unit {0}
+IsAnswer NotEnabled = Unit {0}
+IsAnswer Wide = Unit {0}
+IsAnswer Usage = ⊥
+IsAnswer ReadFault = ⊥
+IsAnswer WriteFault = ⊥
+IsAnswer NoMemory = ⊥
+
+same_status : (o p : Output) → o ≡ p → o.status ≡ p.status
+same_status o p e = ap (λ (q : Output). q.status) e
+
+same_text : (o p : Output) → o ≡ p → o.text ≡ p.text
+same_text o p e = ap (λ (q : Output). q.text) e
+
+answer_as : (o p : Output) → o ≡ p → IsAnswer p.status → IsAnswer o.status
+answer_as o p e h = subst IsAnswer (sym (same_status o p e)) h
+
+report_answers : (b : Bool) → IsAnswer (report_status b)
+report_answers true = tt
+report_answers false = tt
+
+end_answers : (x : End) → IsAnswer (end_status x)
+end_answers (ends.Ended k) = tt
+end_answers (ends.Stopped k) = tt
+end_answers (ends.NotEnabled k) = tt
+end_answers (ends.Wide k) = tt
+
+cause_answers : (IsCaused : Refusal → Type 0) (o : Output) → SaysCause IsCaused o → IsAnswer o.status
+cause_answers IsCaused o c = answer_as o (refusal_output c.cause) c.whole tt
+
+verified_answers : (budget : ℕ) (bytes : List ℕ) (o : Output) → IsVerified budget bytes o → IsAnswer o.status
+verified_answers budget bytes o (inl c) = cause_answers (IsRefused bytes) o c
+verified_answers budget bytes o (inr s) =
+    answer_as o (report_output (is_good s.thing budget) (report_text s.thing budget)) s.said (report_answers (is_good s.thing budget))
+
+derivation_answers : (budget : ℕ) (p : PlainProgram) (o : Output) → IsDerivation budget p o → IsAnswer o.status
+derivation_answers budget p o (inl s) =
+    answer_as o (report_output (is_good p budget) (report_text p budget)) s.report (report_answers (is_good p budget))
+derivation_answers budget p o (inr (inl s)) = answer_as o long_derivation_output s.whole tt
+derivation_answers budget p o (inr (inr s)) = answer_as o (derivation_output (derivation_text (found_trees p budget))) s.whole tt
+
+derived_answers : (budget : ℕ) (bytes : List ℕ) (o : Output) → IsDerived budget bytes o → IsAnswer o.status
+derived_answers budget bytes o (inl c) = cause_answers (IsRefused bytes) o c
+derived_answers budget bytes o (inr s) = derivation_answers budget s.thing o s.said
+
+unjudged_answers : (bytes : List ℕ) (o : Output) → IsUnjudged bytes o → IsAnswer o.status
+unjudged_answers bytes o (inl c) = cause_answers (IsRefused bytes) o c
+unjudged_answers bytes o (inr s) = answer_as o later_output s.said.whole tt
+
+judged_answers : (r : Result ℕ CheckError) → IsAnswer (judged_status r)
+judged_answers (Ok n) = tt
+judged_answers (Err e) = tt
+
+checked_answers : (p : PlainProgram) (bytes : List ℕ) (o : Output) → IsChecked p bytes o → IsAnswer o.status
+checked_answers p bytes o (inl k) = answer_as o (bad_derivation_output k.error) k.whole tt
+checked_answers p bytes o (inr k) = answer_as o (judged_output k.answer) k.whole (judged_answers k.answer)
+
+shown_answers : (bytes : List ℕ) (o : Output) → IsShown bytes o → IsAnswer o.status
+shown_answers bytes o (inl c) = cause_answers (SpellNone bytes) o c
+shown_answers bytes o (inr s) = answer_as o (tree_output (canonical_text s.thing)) s.said tt
+
+played_answers : (p : PlainProgram) (bytes : List ℕ) (o : Output) → IsPlayed p bytes o → IsAnswer o.status
+played_answers p bytes o (inl b) = answer_as o (schedule_output b.error) b.whole tt
+played_answers p bytes o (inr r) = answer_as o (run_output r.text r.end) r.whole (end_answers r.end)
+
+-- a file was read and this is an answer, or it could not be read
+abbrev IsEnded : Fetched → Status → Type 0
+IsEnded x s = IsAnswer s ⊎ ((s ≡ ReadFault) × (x ≡ unread))
+
+after_ended : (IsSaid : List ℕ → Output → Type 0) → ((bytes : List ℕ) (o : Output) → IsSaid bytes o → IsAnswer o.status)
+    → (name : List ℕ) (x : Fetched) (o : Output) → After name x IsSaid o → IsEnded x o.status
+after_ended IsSaid f name (held bytes) o h = inl (f bytes o h)
+after_ended IsSaid f name unread o h = inr (same_status o (unreadable_output name) h, refl)
+after_ended IsSaid f name long o h = inl (answer_as o long_output h tt)
+
+module _ (told : Option Files) (reads reads_now : ℕ) (blamed : Option (List ℕ)) where
+  -- an answer, or a fault of reading
+  abbrev IsSettled : Option Task → Status → Type 0
+  IsSettled task s = IsAnswer s ⊎ ((s ≡ ReadFault) × ReadFails told task reads reads_now blamed)
+
+  settled_by : (task : Option Task) (name : List ℕ) (x : Fetched) (s : Status) → IsOneOf name (files_of task)
+      → IsFetched told reads reads_now blamed name x → IsEnded x s → IsSettled task s
+  settled_by task name x s i f (inl a) = inl a
+  settled_by task name x s i f (inr r) =
+      inr (r.0, (name, i, subst (IsFetched told reads reads_now blamed name) r.1 f))
+
+  settled : (t : Task) (got : List Fetched) (o : Output) → AreFetched told reads reads_now blamed (files_of (Some t)) got
+      → IsOutput (Some t) got o → IsSettled (Some t) o.status
+  settled (verify name budget) (x ∷ []) o f h =
+      settled_by (Some (verify name budget)) name x o.status (inl refl) f.0 (after_ended (IsVerified budget) (verified_answers budget) name x o h)
+  settled (verify name budget) [] o f h = absurd h
+  settled (verify name budget) (x ∷ (y ∷ ys)) o f h = absurd h
+  settled (derive name budget) (x ∷ []) o f h =
+      settled_by (Some (derive name budget)) name x o.status (inl refl) f.0 (after_ended (IsDerived budget) (derived_answers budget) name x o h)
+  settled (derive name budget) [] o f h = absurd h
+  settled (derive name budget) (x ∷ (y ∷ ys)) o f h = absurd h
+  settled (check name s) (x ∷ []) o f h =
+      settled_by (Some (check name s)) name x o.status (inl refl) f.0 (after_ended IsUnjudged unjudged_answers name x o h)
+  settled (check name s) (x ∷ (y ∷ [])) o f h =
+      settled_by (Some (check name s)) s y o.status (inr (inl refl)) f.1.0
+      (after_ended (IsChecked h.program) (checked_answers h.program) s y o h.said.1)
+  settled (check name s) [] o f h = absurd h
+  settled (check name s) (x ∷ (y ∷ (z ∷ zs))) o f h = absurd h
+  settled (show name) (x ∷ []) o f h =
+      settled_by (Some (show name)) name x o.status (inl refl) f.0 (after_ended IsShown shown_answers name x o h)
+  settled (show name) [] o f h = absurd h
+  settled (show name) (x ∷ (y ∷ ys)) o f h = absurd h
+  settled (replay name s) (x ∷ []) o f h =
+      settled_by (Some (replay name s)) name x o.status (inl refl) f.0
+      (after_ended SaysRefusal (λ bytes q c. cause_answers (IsRefused bytes) q c) name x o h)
+  settled (replay name s) (x ∷ (y ∷ [])) o f h =
+      settled_by (Some (replay name s)) s y o.status (inr (inl refl)) f.1.0
+      (after_ended (IsPlayed h.program) (played_answers h.program) s y o h.said)
+  settled (replay name s) [] o f h = absurd h
+  settled (replay name s) (x ∷ (y ∷ (z ∷ zs))) o f h = absurd h
+
+  -- of words too, where usage is an answer
+  abbrev IsFinal : Option Task → Status → Type 0
+  IsFinal None s = s ≡ Usage
+  IsFinal (Some t) s = IsSettled (Some t) s
+
+  final : (task : Option Task) (got : List Fetched) (o : Output) → AreFetched told reads reads_now blamed (files_of task) got
+      → IsOutput task got o → IsFinal task o.status
+  final None [] o f h = same_status o usage_output h
+  final None (x ∷ xs) o f h = absurd h
+  final (Some t) got o f h = settled t got o f h
+
+  final_usage : (task : Option Task) (s : Status) → IsFinal task s → s ≡ Usage → task ≡ None
+  final_usage None s h e = refl
+  final_usage (Some t) s (inl a) e = absurd (subst IsAnswer e a)
+  final_usage (Some t) s (inr r) e = let g : ReadFault ≡ Usage = sym r.0 ∙ e in absurd cc
+
+  final_read : (task : Option Task) (s : Status) → IsFinal task s → s ≡ ReadFault → ReadFails told task reads reads_now blamed
+  final_read None s h e = let g : Usage ≡ ReadFault = sym h ∙ e in absurd cc
+  final_read (Some t) s (inl a) e = absurd (subst IsAnswer e a)
+  final_read (Some t) s (inr r) e = r.1
+
+  final_writes : (task : Option Task) (s : Status) → IsFinal task s → s ≢ WriteFault
+  final_writes None s h e = let g : Usage ≡ WriteFault = sym h ∙ e in cc
+  final_writes (Some t) s (inl a) e = subst IsAnswer e a
+  final_writes (Some t) s (inr r) e = let g : ReadFault ≡ WriteFault = sym r.0 ∙ e in cc
+
+  final_memory : (task : Option Task) (s : Status) → IsFinal task s → s ≢ NoMemory
+  final_memory None s h e = let g : Usage ≡ NoMemory = sym h ∙ e in cc
+  final_memory (Some t) s (inl a) e = subst IsAnswer e a
+  final_memory (Some t) s (inr r) e = let g : ReadFault ≡ NoMemory = sym r.0 ∙ e in cc
+
+-- ---- what is said of one file
+
+bad_good : (b : Bool) → b ≡ false → report_status b ≡ Good → ⊥
+bad_good false e f = cc
+bad_good true e f = cc
+
+module _ (told : Option Files) (reads reads_now : ℕ) (blamed : Option (List ℕ)) (name : List ℕ) (o : Output) where
+  good_by : GoodAnswersAreSafe → (budget : ℕ) (got : List Fetched) → AreFetched told reads reads_now blamed (name ∷ []) got
+      → IsOutput (Some (verify name budget)) got o → o.status ≡ Good → VerifiesFile told budget name
+  good_by safe budget (held bytes ∷ []) f h e = record { bytes = bytes; held = f.0.1; good = safe budget bytes o h e }
+  good_by safe budget (unread ∷ []) f h e =
+      let g : ReadFault ≡ Good = sym (same_status o (unreadable_output name) h) ∙ e in absurd cc
+  good_by safe budget (long ∷ []) f h e = let g : Refused ≡ Good = sym (same_status o long_output h) ∙ e in absurd cc
+  good_by safe budget [] f h e = absurd h
+  good_by safe budget (x ∷ (y ∷ ys)) f h e = absurd h
+
+  derived_bytes : DerivedAreAccepted → (budget : ℕ) (written gained : Option (List ℕ)) (bytes : List ℕ)
+      → IfSome told (λ files. content files name ≡ Some bytes) → IsDerived budget bytes o → o.status ≡ Good
+      → Gains written gained o.text → DerivesFile told budget name written gained
+  derived_bytes accepts budget written gained bytes c (inl k) e g =
+      let f : Refused ≡ Good = sym (same_status o (refusal_output k.cause) k.whole) ∙ e in absurd cc
+  derived_bytes accepts budget written gained bytes c (inr s) e g = by s.said
+    where
+      lines_proved : IsDerivation budget s.thing o → is_good s.thing budget ≡ true
+      lines_proved (inl k) =
+          absurd (bad_good (is_good s.thing budget) k.bad
+          (sym (same_status o (report_output (is_good s.thing budget) (report_text s.thing budget)) k.report) ∙ e))
+      lines_proved (inr (inl k)) = k.good
+      lines_proved (inr (inr k)) = k.good
+
+      lines_whole : IsDerivation budget s.thing o → o.text ≡ derivation_text (found_trees s.thing budget)
+      lines_whole (inl k) =
+          absurd (bad_good (is_good s.thing budget) k.bad
+          (sym (same_status o (report_output (is_good s.thing budget) (report_text s.thing budget)) k.report) ∙ e))
+      lines_whole (inr (inl k)) = let f : Bad ≡ Good = sym (same_status o long_derivation_output k.whole) ∙ e in absurd cc
+      lines_whole (inr (inr k)) = same_text o (derivation_output (derivation_text (found_trees s.thing budget))) k.whole
+
+      by : IsDerivation budget s.thing o → DerivesFile told budget name written gained
+      by d = record {
+        bytes = bytes;
+        held = c;
+        program = s.thing;
+        text_of_it = s.is_so;
+        proved = lines_proved d;
+        lines = o.text;
+        whole = lines_whole d;
+        accepted = accepts budget s.thing o d e;
+        gains = g;
+      }
+
+  derived_by : DerivedAreAccepted → (budget : ℕ) (written gained : Option (List ℕ)) (got : List Fetched)
+      → AreFetched told reads reads_now blamed (name ∷ []) got
+      → IsOutput (Some (derive name budget)) got o → o.status ≡ Good
+      → Gains written gained o.text → DerivesFile told budget name written gained
+  derived_by accepts budget written gained (held bytes ∷ []) f h e g = derived_bytes accepts budget written gained bytes f.0.1 h e g
+  derived_by accepts budget written gained (unread ∷ []) f h e g =
+      let k : ReadFault ≡ Good = sym (same_status o (unreadable_output name) h) ∙ e in absurd cc
+  derived_by accepts budget written gained (long ∷ []) f h e g =
+      let k : Refused ≡ Good = sym (same_status o long_output h) ∙ e in absurd cc
+  derived_by accepts budget written gained [] f h e g = absurd h
+  derived_by accepts budget written gained (x ∷ (y ∷ ys)) f h e g = absurd h
+
+  shown_bytes : (bytes : List ℕ) → IsShown bytes o → o.status ≡ Good → IsShownAs bytes o.text
+  shown_bytes bytes (inl c) e = let g : Refused ≡ Good = sym (same_status o (refusal_output c.cause) c.whole) ∙ e in absurd cc
+  shown_bytes bytes (inr s) e =
+      record { tree = s.thing; spelled = s.is_so; canonical = same_text o (tree_output (canonical_text s.thing)) s.said }
+
+  shown_by : (written gained : Option (List ℕ)) → (got : List Fetched)
+      → AreFetched told reads reads_now blamed (name ∷ []) got
+      → IsOutput (Some (show name)) got o → o.status ≡ Good
+      → Gains written gained o.text → ShowsFile told name written gained
+  shown_by written gained (held bytes ∷ []) f h e g =
+      record { bytes = bytes; held = f.0.1; text = o.text; shown = shown_bytes bytes h e; gains = g }
+  shown_by written gained (unread ∷ []) f h e g =
+      let k : ReadFault ≡ Good = sym (same_status o (unreadable_output name) h) ∙ e in absurd cc
+  shown_by written gained (long ∷ []) f h e g = let k : Refused ≡ Good = sym (same_status o long_output h) ∙ e in absurd cc
+  shown_by written gained [] f h e g = absurd h
+  shown_by written gained (x ∷ (y ∷ ys)) f h e g = absurd h
+
+-- ---- derivations that are judged
+
+module _ (told : Option Files) (reads reads_now : ℕ) (blamed : Option (List ℕ)) (file derivation : List ℕ) (o : Output) where
+  unjudged_bad : (bytes : List ℕ) → IsUnjudged bytes o → o.status ≡ Good → ⊥
+  unjudged_bad bytes (inl c) e = let g : Refused ≡ Good = sym (same_status o (refusal_output c.cause) c.whole) ∙ e in cc
+  unjudged_bad bytes (inr s) e = let g : Bad ≡ Good = sym (same_status o later_output s.said.whole) ∙ e in cc
+
+  accepted_late : AcceptedAreSafe → (bytes : List ℕ) (p : PlainProgram) (y : Fetched)
+      → IfSome told (λ files. content files file ≡ Some bytes) → IsTextOf bytes p → p.regions ≡ []
+      → IsFetched told reads reads_now blamed derivation y → After derivation y (IsChecked p) o → o.status ≡ Good
+      → ChecksFiles told file derivation
+  accepted_late safe bytes p (held lines) c t none f h e = record {
+    bytes = bytes;
+    held = c;
+    lines = lines;
+    lines_held = f.1;
+    accepted = safe bytes lines p o t none h e;
+  }
+  accepted_late safe bytes p unread c t none f h e =
+      let g : ReadFault ≡ Good = sym (same_status o (unreadable_output derivation) h) ∙ e in absurd cc
+  accepted_late safe bytes p long c t none f h e =
+      let g : Refused ≡ Good = sym (same_status o long_output h) ∙ e in absurd cc
+
+  accepted_by : AcceptedAreSafe → (got : List Fetched) → AreFetched told reads reads_now blamed (file ∷ (derivation ∷ [])) got
+      → IsOutput (Some (check file derivation)) got o → o.status ≡ Good → ChecksFiles told file derivation
+  accepted_by safe (x ∷ (y ∷ [])) f h e =
+      let first : IsFetched told reads reads_now blamed file (held h.bytes) =
+      subst (IsFetched told reads reads_now blamed file) h.gave f.0 in
+      accepted_late safe h.bytes h.program y first.1 h.text_of_it h.said.0 f.1.0 h.said.1 e
+  accepted_by safe (held bytes ∷ []) f h e = absurd (unjudged_bad bytes h e)
+  accepted_by safe (unread ∷ []) f h e =
+      let g : ReadFault ≡ Good = sym (same_status o (unreadable_output file) h) ∙ e in absurd cc
+  accepted_by safe (long ∷ []) f h e = let g : Refused ≡ Good = sym (same_status o long_output h) ∙ e in absurd cc
+  accepted_by safe [] f h e = absurd h
+  accepted_by safe (x ∷ (y ∷ (z ∷ zs))) f h e = absurd h
+
+-- ---- replays
+
+module _ (told : Option Files) (reads reads_now : ℕ) (blamed written gained : Option (List ℕ)) (file schedule : List ℕ) where
+  no_run : (o p : Output) → o ≡ p → EndsRun o.status → EndsRun p.status
+  no_run o p e r = subst EndsRun (same_status o p e) r
+
+  played_by : (bytes : List ℕ) (p : PlainProgram) (y : Fetched) (o : Output)
+      → IfSome told (λ files. content files file ≡ Some bytes) → IsTextOf bytes p
+      → IsFetched told reads reads_now blamed schedule y → After schedule y (IsPlayed p) o
+      → EndsRun o.status → Gains written gained o.text
+      → ReplaysFiles told file schedule written gained o.status
+  played_by bytes p (held entries) o c t f (inr k) r g = record {
+    bytes = bytes;
+    held = c;
+    program = p;
+    text_of_it = t;
+    entries = entries;
+    entries_held = f.1;
+    text = k.text;
+    end = k.end;
+    played = k.played;
+    ended = same_status o (run_output k.text k.end) k.whole;
+    gains = subst (Gains written gained) (same_text o (run_output k.text k.end) k.whole) g;
+  }
+  played_by bytes p (held entries) o c t f (inl k) r g = absurd (no_run o (schedule_output k.error) k.whole r)
+  played_by bytes p unread o c t f h r g = absurd (no_run o (unreadable_output schedule) h r)
+  played_by bytes p long o c t f h r g = absurd (no_run o long_output h r)
+
+  replays_by : (got : List Fetched) (o : Output) → AreFetched told reads reads_now blamed (file ∷ (schedule ∷ [])) got
+      → IsOutput (Some (replay file schedule)) got o → EndsRun o.status → Gains written gained o.text
+      → ReplaysFiles told file schedule written gained o.status
+  replays_by (x ∷ (y ∷ [])) o f h r g =
+      let first : IsFetched told reads reads_now blamed file (held h.bytes) =
+      subst (IsFetched told reads reads_now blamed file) h.gave f.0 in
+      played_by h.bytes h.program y o first.1 h.text_of_it f.1.0 h.said r g
+  replays_by (held bytes ∷ []) o f h r g = absurd (no_run o (refusal_output h.cause) h.whole r)
+  replays_by (unread ∷ []) o f h r g = absurd (no_run o (unreadable_output file) h r)
+  replays_by (long ∷ []) o f h r g = absurd (no_run o long_output h r)
+  replays_by [] o f h r g = absurd h
+  replays_by (x ∷ (y ∷ (z ∷ zs))) o f h r g = absurd h
+
+-- ---- the whole run
+
+module _ (told : Option Files) (task : Option Task) (reads reads_now : ℕ) (blamed : Option (List ℕ))
+    (fetches fetches_now : Option ℕ) (written gained : Option (List ℕ))
+    (writes writes_now : ℕ) (status : Status)
+    (run : IsRun told task reads reads_now blamed fetches fetches_now written gained writes writes_now status) where
+  abbrev Runs : Type 0
+  Runs = IsRun told task reads reads_now blamed fetches fetches_now written gained writes writes_now status
+
+  ended_as : (o : Output) → IsSaid told task reads reads_now blamed fetches fetches_now o → IsFinal told reads reads_now blamed task o.status
+  ended_as o said = final told reads reads_now blamed task said.got o said.fetched said.output.said
+
+  pub good_run : GoodAnswersAreSafe → (name : List ℕ) (budget : ℕ) → task ≡ Some (verify name budget) → status ≡ Good → VerifiesFile told budget name
+  good_run safe name budget t e = by run
+    where
+      by : Runs → VerifiesFile told budget name
+      by (inr m) = let f : NoMemory ≡ Good = sym m.0 ∙ e in absurd cc
+      by (inl (o, said, inl p)) =
+          good_by told reads reads_now blamed name o safe budget said.got
+          (subst (λ x. AreFetched told reads reads_now blamed (files_of x) said.got) t said.fetched)
+          (subst (λ x. IsOutput x said.got o) t said.output.said) (sym p.0 ∙ e)
+      by (inl (o, said, inr p)) = let f : WriteFault ≡ Good = sym p.0 ∙ e in absurd cc
+
+  pub derived_run : DerivedAreAccepted → (name : List ℕ) (budget : ℕ) → task ≡ Some (derive name budget) → status ≡ Good
+      → DerivesFile told budget name written gained
+  derived_run accepts name budget t e = by run
+    where
+      by : Runs → DerivesFile told budget name written gained
+      by (inr m) = let f : NoMemory ≡ Good = sym m.0 ∙ e in absurd cc
+      by (inl (o, said, inl p)) =
+          derived_by told reads reads_now blamed name o accepts budget written gained said.got
+          (subst (λ x. AreFetched told reads reads_now blamed (files_of x) said.got) t said.fetched)
+          (subst (λ x. IsOutput x said.got o) t said.output.said) (sym p.0 ∙ e) p.1
+      by (inl (o, said, inr p)) = let f : WriteFault ≡ Good = sym p.0 ∙ e in absurd cc
+
+  pub accepted_run : AcceptedAreSafe → (file derivation : List ℕ) → task ≡ Some (check file derivation) → status ≡ Good
+      → ChecksFiles told file derivation
+  accepted_run safe file derivation t e = by run
+    where
+      by : Runs → ChecksFiles told file derivation
+      by (inr m) = let f : NoMemory ≡ Good = sym m.0 ∙ e in absurd cc
+      by (inl (o, said, inl p)) =
+          accepted_by told reads reads_now blamed file derivation o safe said.got
+          (subst (λ x. AreFetched told reads reads_now blamed (files_of x) said.got) t said.fetched)
+          (subst (λ x. IsOutput x said.got o) t said.output.said) (sym p.0 ∙ e)
+      by (inl (o, said, inr p)) = let f : WriteFault ≡ Good = sym p.0 ∙ e in absurd cc
+
+  pub shown_run : (name : List ℕ) → task ≡ Some (show name) → status ≡ Good → ShowsFile told name written gained
+  shown_run name t e = by run
+    where
+      by : Runs → ShowsFile told name written gained
+      by (inr m) = let f : NoMemory ≡ Good = sym m.0 ∙ e in absurd cc
+      by (inl (o, said, inl p)) =
+          shown_by told reads reads_now blamed name o written gained said.got
+          (subst (λ x. AreFetched told reads reads_now blamed (files_of x) said.got) t said.fetched)
+          (subst (λ x. IsOutput x said.got o) t said.output.said) (sym p.0 ∙ e) p.1
+      by (inl (o, said, inr p)) = let f : WriteFault ≡ Good = sym p.0 ∙ e in absurd cc
+
+  pub replayed_run : (file schedule : List ℕ) → task ≡ Some (replay file schedule) → EndsRun status
+      → ReplaysFiles told file schedule written gained status
+  replayed_run file schedule t r = by run
+    where
+      by : Runs → ReplaysFiles told file schedule written gained status
+      by (inr m) = absurd (subst EndsRun m.0 r)
+      by (inl (o, said, inl p)) =
+          subst (ReplaysFiles told file schedule written gained) (sym p.0)
+          (replays_by told reads reads_now blamed written gained file schedule said.got o
+          (subst (λ x. AreFetched told reads reads_now blamed (files_of x) said.got) t said.fetched)
+          (subst (λ x. IsOutput x said.got o) t said.output.said) (subst EndsRun p.0 r) p.1)
+      by (inl (o, said, inr p)) = absurd (subst EndsRun p.0 r)
+
+  pub ends_run : Ends told task reads reads_now blamed fetches fetches_now written gained writes writes_now status
+  ends_run = by run
+    where
+      by : Runs → Ends told task reads reads_now blamed fetches fetches_now written gained writes writes_now status
+      by (inr m) = inr m
+      by (inl (o, said, p)) = inl (said.got, said.fetched, said.counted, (o, said.output.said, p))
+
+  pub usage_run : status ≡ Usage → task ≡ None
+  usage_run e = by run
+    where
+      by : Runs → task ≡ None
+      by (inr m) = let f : NoMemory ≡ Usage = sym m.0 ∙ e in absurd cc
+      by (inl (o, said, inl p)) = final_usage told reads reads_now blamed task o.status (ended_as o said) (sym p.0 ∙ e)
+      by (inl (o, said, inr p)) = let f : WriteFault ≡ Usage = sym p.0 ∙ e in absurd cc
+
+  pub command_run : task ≡ None → (status ≡ Usage) ⊎ ((status ≡ WriteFault) ⊎ (status ≡ NoMemory))
+  command_run t = by run
+    where
+      by : Runs → (status ≡ Usage) ⊎ ((status ≡ WriteFault) ⊎ (status ≡ NoMemory))
+      by (inr m) = inr (inr m.0)
+      by (inl (o, said, inl p)) =
+          inl (p.0 ∙ subst (λ x. IsFinal told reads reads_now blamed x o.status) t (ended_as o said))
+      by (inl (o, said, inr p)) = inr (inl p.0)
+
+  pub read_run : status ≡ ReadFault → ReadFails told task reads reads_now blamed
+  read_run e = by run
+    where
+      by : Runs → ReadFails told task reads reads_now blamed
+      by (inr m) = let f : NoMemory ≡ ReadFault = sym m.0 ∙ e in absurd cc
+      by (inl (o, said, inl p)) = final_read told reads reads_now blamed task o.status (ended_as o said) (sym p.0 ∙ e)
+      by (inl (o, said, inr p)) = let f : WriteFault ≡ ReadFault = sym p.0 ∙ e in absurd cc
+
+  pub write_run : status ≡ WriteFault → Rose writes writes_now
+  write_run e = by run
+    where
+      by : Runs → Rose writes writes_now
+      by (inr m) = let f : NoMemory ≡ WriteFault = sym m.0 ∙ e in absurd cc
+      by (inl (o, said, inl p)) = absurd (final_writes told reads reads_now blamed task o.status (ended_as o said) (sym p.0 ∙ e))
+      by (inl (o, said, inr p)) = p.1
+
+  pub memory_run : status ≡ NoMemory → gained ≡ written
+  memory_run e = by run
+    where
+      by : Runs → gained ≡ written
+      by (inr m) = m.1
+      by (inl (o, said, inl p)) = absurd (final_memory told reads reads_now blamed task o.status (ended_as o said) (sym p.0 ∙ e))
+      by (inl (o, said, inr p)) = let f : WriteFault ≡ NoMemory = sym p.0 ∙ e in absurd cc
+
+-- ---- over files that are told, where no fault comes
+
+module _ (files : Files) (task : Option Task) (reads reads_now : ℕ) (blamed : Option (List ℕ))
+    (fetches fetches_now : Option ℕ) (written gained : Option (List ℕ))
+    (writes writes_now : ℕ) (status : Status)
+    (run : IsRun (Some files) task reads reads_now blamed fetches fetches_now written gained writes writes_now status)
+    (read : ¬ Rose reads reads_now) (wrote : ¬ Rose writes writes_now) where
+  abbrev RunsOver : Type 0
+  RunsOver = IsRun (Some files) task reads reads_now blamed fetches fetches_now written gained writes writes_now status
+
+  answers_told : AnswersFiles task files written gained status
+  answers_told got o g h = by run
+    where
+      by : RunsOver → Says written gained status o ⊎ (status ≡ NoMemory)
+      by (inr m) = inr m.0
+      by (inl (p, said, inl put)) =
+          let agree = agree-given files reads reads_now blamed read (files_of task) said.got got said.fetched g in
+          inl (subst (Says written gained status) (said.output.only got o agree h) put)
+      by (inl (p, said, inr put)) = absurd (wrote put.1)
+
+  one-file : (name bytes : List ℕ) → content files name ≡ Some bytes → length bytes ≤ longest
+      → AreGiven files (name ∷ []) (held bytes ∷ [])
+  one-file name bytes e l = (held-given (content files name) bytes e l, tt)
+
+  short : (bytes : List ℕ) (t : ProgramTree) → Spells bytes t → length bytes ≤ longest
+  short bytes t s = omega (arith, s.fits)
+
+  good_status : (o : Output) → o.status ≡ Good → Says written gained status o ⊎ (status ≡ NoMemory)
+      → (status ≡ Good) ⊎ (status ≡ NoMemory)
+  good_status o e (inl s) = inl (s.0 ∙ e)
+  good_status o e (inr m) = inr m
+
+  proved_told : (name : List ℕ) (budget : ℕ) → task ≡ Some (verify name budget) → HoldsGood budget name files → (status ≡ Good) ⊎ (status ≡ NoMemory)
+  proved_told name budget t h =
+      let o : Output = report_output true (report_text h.good.program budget) in
+      let is : IsVerified budget h.bytes o = inr (record {
+        thing = h.good.program;
+        is_so = record { tree = h.good.tree; spelled = h.good.spelled; stands = h.good.stands };
+        said = ap (λ b. report_output b (report_text h.good.program budget)) (sym h.good.proved);
+      }) in
+      good_status o refl
+      (answers_told (held h.bytes ∷ []) o
+      (subst (λ x. AreGiven files (files_of x) (held h.bytes ∷ [])) (sym t) (one-file name h.bytes h.held (short h.bytes h.good.tree h.good.spelled)))
+      (subst (λ x. IsOutput x (held h.bytes ∷ []) o) (sym t) is))
+
+  shows_told : (name text : List ℕ) → task ≡ Some (show name) → HoldsTree name text files → (status ≡ Good) ⊎ (status ≡ NoMemory)
+  shows_told name text t h =
+      let o : Output = tree_output (canonical_text h.shown.tree) in
+      let is : IsShown h.bytes o = inr (record { thing = h.shown.tree; is_so = h.shown.spelled; said = refl }) in
+      good_status o refl
+      (answers_told (held h.bytes ∷ []) o
+      (subst (λ x. AreGiven files (files_of x) (held h.bytes ∷ [])) (sym t) (one-file name h.bytes h.held (short h.bytes h.shown.tree h.shown.spelled)))
+      (subst (λ x. IsOutput x (held h.bytes ∷ []) o) (sym t) is))
+
+  accepts_told : (file derivation : List ℕ) → task ≡ Some (check file derivation) → HoldAccepted file derivation files
+      → (status ≡ Good) ⊎ (status ≡ NoMemory)
+  accepts_told file derivation t h =
+      let o : Output = judged_output (Ok h.accepted.nodes) in
+      let got : List Fetched = held h.bytes ∷ (held h.lines ∷ []) in
+      let given : AreGiven files (file ∷ (derivation ∷ [])) got = (
+        held-given (content files file) h.bytes h.held (short h.bytes h.text_of_it.tree h.text_of_it.spelled),
+        (held-given (content files derivation) h.lines h.lines_held h.short, tt),
+      ) in
+      let is : IsOutput (Some (check file derivation)) got o = record {
+        bytes = h.bytes;
+        gave = refl;
+        program = h.program;
+        text_of_it = record { tree = h.text_of_it.tree; spelled = h.text_of_it.spelled; stands = h.text_of_it.stands };
+        said = (h.accepted.regions, h.accepted.checked.said);
+      } in
+      good_status o refl
+      (answers_told got o
+      (subst (λ x. AreGiven files (files_of x) got) (sym t) given)
+      (subst (λ x. IsOutput x got o) (sym t) is))
+
+  -- ---- what is said of bytes that are no text for the task
+
+  -- what is said of a file that gives such bytes, or more than a file may have
+  refused_after : (IsSaid : List ℕ → Output → Type 0) (name bytes : List ℕ) (x : Fetched) (o : Output)
+      → (IsSaid bytes o → o.status ≡ Refused) → given_by (Some bytes) ≡ x → After name x IsSaid o → o.status ≡ Refused
+  refused_after IsSaid name bytes (held other) o f e h =
+      f (subst (λ b. IsSaid b o) (sym (given-held bytes other e)) h)
+  refused_after IsSaid name bytes unread o f e h = absurd (given-unread bytes e)
+  refused_after IsSaid name bytes long o f e h = same_status o long_output h
+
+  refused_cause : (IsCaused : Refusal → Type 0) (o : Output) → SaysCause IsCaused o → o.status ≡ Refused
+  refused_cause IsCaused o c = same_status o (refusal_output c.cause) c.whole
+
+  refused_program : (budget : ℕ) (bytes : List ℕ) (o : Output) → ((p : PlainProgram) → IsTextOf bytes p → ⊥)
+      → IsVerified budget bytes o → o.status ≡ Refused
+  refused_program budget bytes o n (inl c) = refused_cause (IsRefused bytes) o c
+  refused_program budget bytes o n (inr s) = absurd (n s.thing s.is_so)
+
+  refused_derived : (budget : ℕ) (bytes : List ℕ) (o : Output) → ((p : PlainProgram) → IsTextOf bytes p → ⊥)
+      → IsDerived budget bytes o → o.status ≡ Refused
+  refused_derived budget bytes o n (inl c) = refused_cause (IsRefused bytes) o c
+  refused_derived budget bytes o n (inr s) = absurd (n s.thing s.is_so)
+
+  refused_unjudged : (bytes : List ℕ) (o : Output) → ((p : PlainProgram) → IsTextOf bytes p → ⊥)
+      → IsUnjudged bytes o → o.status ≡ Refused
+  refused_unjudged bytes o n (inl c) = refused_cause (IsRefused bytes) o c
+  refused_unjudged bytes o n (inr s) = absurd (n s.thing s.is_so)
+
+  refused_tree : (bytes : List ℕ) (o : Output) → ((t : ProgramTree) → Spells bytes t → ⊥)
+      → IsShown bytes o → o.status ≡ Refused
+  refused_tree bytes o n (inl c) = refused_cause (SpellNone bytes) o c
+  refused_tree bytes o n (inr s) = absurd (n s.thing s.is_so)
+
+  first_gives : (a b : List ℕ) (ns ms : List (List ℕ)) (x : Fetched) (xs : List Fetched) → a ∷ ns ≡ b ∷ ms
+      → (bytes : List ℕ) → content files b ≡ Some bytes
+      → AreFetched (Some files) reads reads_now blamed (a ∷ ns) (x ∷ xs) → given_by (Some bytes) ≡ x
+  first_gives a b ns ms x xs e bytes c f =
+      let same : a ≡ b = cc in
+      sym (ap given_by c) ∙ (ap (λ n. given_by (content files n)) (sym same) ∙ first-given files reads reads_now blamed read a ns x xs f)
+
+  refused_output : (t : Task) (name : List ℕ) (names : List (List ℕ)) (bytes : List ℕ) (got : List Fetched) (o : Output)
+      → files_of (Some t) ≡ name ∷ names → content files name ≡ Some bytes → (IsTextFor t bytes → ⊥)
+      → AreFetched (Some files) reads reads_now blamed (files_of (Some t)) got
+      → IsOutput (Some t) got o → o.status ≡ Refused
+  refused_output (verify file budget) name names bytes (x ∷ []) o e c n f h =
+      refused_after (IsVerified budget) file bytes x o
+      (refused_program budget bytes o (λ p t. n (p, t)))
+      (first_gives file name [] names x [] e bytes c f) h
+  refused_output (derive file budget) name names bytes (x ∷ []) o e c n f h =
+      refused_after (IsDerived budget) file bytes x o
+      (refused_derived budget bytes o (λ p t. n (p, t)))
+      (first_gives file name [] names x [] e bytes c f) h
+  refused_output (check file s) name names bytes (x ∷ []) o e c n f h =
+      refused_after IsUnjudged file bytes x o (refused_unjudged bytes o (λ p t. n (p, t)))
+      (first_gives file name (s ∷ []) names x [] e bytes c f) h
+  refused_output (check file s) name names bytes (x ∷ (y ∷ [])) o e c n f h =
+      let g : given_by (Some bytes) ≡ held h.bytes = first_gives file name (s ∷ []) names x (y ∷ []) e bytes c f ∙ h.gave in
+      let same : bytes ≡ h.bytes = given-held bytes h.bytes g in
+      absurd (n (h.program, subst (λ b. IsTextOf b h.program) (sym same) h.text_of_it))
+  refused_output (derive file budget) name names bytes [] o e c n f h = absurd h
+  refused_output (derive file budget) name names bytes (x ∷ (y ∷ ys)) o e c n f h = absurd h
+  refused_output (check file s) name names bytes [] o e c n f h = absurd h
+  refused_output (check file s) name names bytes (x ∷ (y ∷ (z ∷ zs))) o e c n f h = absurd h
+  refused_output (show file) name names bytes (x ∷ []) o e c n f h =
+      refused_after IsShown file bytes x o
+      (refused_tree bytes o (λ p t. n (p, t)))
+      (first_gives file name [] names x [] e bytes c f) h
+  refused_output (replay file s) name names bytes (x ∷ []) o e c n f h =
+      refused_after SaysRefusal file bytes x o (λ k. refused_cause (IsRefused bytes) o k)
+      (first_gives file name (s ∷ []) names x [] e bytes c f) h
+  refused_output (replay file s) name names bytes (x ∷ (y ∷ [])) o e c n f h =
+      let g : given_by (Some bytes) ≡ held h.bytes = first_gives file name (s ∷ []) names x (y ∷ []) e bytes c f ∙ h.gave in
+      let same : bytes ≡ h.bytes = given-held bytes h.bytes g in
+      absurd (n (h.program, subst (λ b. IsTextOf b h.program) (sym same) h.text_of_it))
+  refused_output (verify file budget) name names bytes [] o e c n f h = absurd h
+  refused_output (verify file budget) name names bytes (x ∷ (y ∷ ys)) o e c n f h = absurd h
+  refused_output (show file) name names bytes [] o e c n f h = absurd h
+  refused_output (show file) name names bytes (x ∷ (y ∷ ys)) o e c n f h = absurd h
+  refused_output (replay file s) name names bytes [] o e c n f h = absurd h
+  refused_output (replay file s) name names bytes (x ∷ (y ∷ (z ∷ zs))) o e c n f h = absurd h
+
+  refuses_told : Refuses task files status
+  refuses_told t name names bytes e f c n = by run
+    where
+      by : RunsOver → (status ≡ Refused) ⊎ (status ≡ NoMemory)
+      by (inr m) = inr m.0
+      by (inl (p, said, inl put)) =
+          inl (put.0 ∙ refused_output t name names bytes said.got p (ap files_of (sym e) ∙ f) c n
+          (subst (λ y. AreFetched (Some files) reads reads_now blamed (files_of y) said.got) e said.fetched)
+          (subst (λ y. IsOutput y said.got p) e said.output.said))
+      by (inl (p, said, inr put)) = absurd (wrote put.1)
+
+-- the same over any shelf
+module _ (told : Option Files) (task : Option Task) (reads reads_now : ℕ) (blamed : Option (List ℕ))
+    (fetches fetches_now : Option ℕ) (written gained : Option (List ℕ))
+    (writes writes_now : ℕ) (status : Status) where
+  -- what is said where the shelf tells its files, and no fault comes
+  abbrev Over : (Files → Type 0) → Type 0
+  Over P = IfSome told (λ files. ¬ Rose reads reads_now → ¬ Rose writes writes_now → P files)
+
+  over : (P : Files → Type 0)
+      → ((files : Files) → IsRun (Some files) task reads reads_now blamed fetches fetches_now written gained writes writes_now status
+      → ¬ Rose reads reads_now → ¬ Rose writes writes_now → P files)
+      → (x : Option Files) → IsRun x task reads reads_now blamed fetches fetches_now written gained writes writes_now status
+      → IfSome x (λ files. ¬ Rose reads reads_now → ¬ Rose writes writes_now → P files)
+  over P f None h = tt
+  over P f (Some files) h = λ r w. f files h r w
+
+  module _ (run : IsRun told task reads reads_now blamed fetches fetches_now written gained writes writes_now status) where
+    pub answers_run : Over (λ files. AnswersFiles task files written gained status)
+    answers_run = over (λ files. AnswersFiles task files written gained status)
+        (λ files h r w. answers_told files task reads reads_now blamed fetches fetches_now written gained writes writes_now status h r w) told run
+
+    pub proved_run : Over (λ files. (name : List ℕ) (budget : ℕ) → task ≡ Some (verify name budget) → HoldsGood budget name files → (status ≡ Good) ⊎ (status ≡ NoMemory))
+    proved_run = over
+        (λ files. (name : List ℕ) (budget : ℕ) → task ≡ Some (verify name budget) → HoldsGood budget name files → (status ≡ Good) ⊎ (status ≡ NoMemory))
+        (λ files h r w. proved_told files task reads reads_now blamed fetches fetches_now written gained writes writes_now status h r w) told run
+
+    pub accepts_run : Over (λ files. (file derivation : List ℕ) → task ≡ Some (check file derivation) → HoldAccepted file derivation files → (status ≡ Good) ⊎ (status ≡ NoMemory))
+    accepts_run = over
+        (λ files. (file derivation : List ℕ) → task ≡ Some (check file derivation) → HoldAccepted file derivation files → (status ≡ Good) ⊎ (status ≡ NoMemory))
+        (λ files h r w. accepts_told files task reads reads_now blamed fetches fetches_now written gained writes writes_now status h r w) told run
+
+    pub shows_run : Over (λ files. (name text : List ℕ) → task ≡ Some (show name) → HoldsTree name text files → (status ≡ Good) ⊎ (status ≡ NoMemory))
+    shows_run = over
+        (λ files. (name text : List ℕ) → task ≡ Some (show name) → HoldsTree name text files → (status ≡ Good) ⊎ (status ≡ NoMemory))
+        (λ files h r w. shows_told files task reads reads_now blamed fetches fetches_now written gained writes writes_now status h r w) told run
+
+    pub refuses_run : Over (λ files. Refuses task files status)
+    refuses_run = over (λ files. Refuses task files status)
+        (λ files h r w. refuses_told files task reads reads_now blamed fetches fetches_now written gained writes writes_now status h r w) told run

@@ -1,0 +1,159 @@
+-- What a run of the whole program promises.
+use Rattle.std.specs.Prelude.{◌≡◌, ℕ, ◌⊎◌, ◌≤◌, true, List, [], ◌∷◌, length, Option, Some, None, IfSome, IsSomeAnd}
+use Rattle.cap_io.specs.Outside.{Files, content, longest, Rose, Gains}
+use Rattle.cap_prog.specs.Program.{PlainProgram}
+use Rattle.cap_parse_tree.specs.Tree.{ProgramTree}
+use Rattle.cap_parse_tree.specs.Texts.{Spells}
+use Rattle.cap_top_reading.specs.Refused.{IsTextOf}
+use Rattle.cap_top_commands.specs.declared.status.Status.{Status}
+use Rattle.cap_top_commands.specs.declared.status.Status.TheVariants.{Good, Bad, Refused, NoMemory, NotEnabled, Wide}
+use Rattle.cap_replay.specs.declared.playing.End.{End}
+use Rattle.cap_top_report.specs.Report.{is_good}
+use Rattle.cap_top_report.specs.Found.{found_trees}
+use Rattle.cap_deriv_write.specs.Written.{derivation_text}
+use Rattle.cap_parse_tree.specs.Canonical.{canonical_text}
+use Rattle.cap_top_commands.specs.Answers.{Fetched, IsPlayedAs, IsOutput, IsGood, IsAccepted, AreAccepted}
+use Rattle.cap_top_commands.specs.Task.{Task, verify, derive, check, show, replay, files_of}
+use Rattle.cap_top_commands.specs.Output.{Output, end_status}
+use Rattle.cap_top.specs.Reads.{AreFetched, AreCounted, AreGiven}
+use Rattle.cap_top.specs.Run.{IsPut, IsNothing}
+
+-- The bytes that were read of the file of this name, which are those that it holds where the shelf
+-- tells its files, are the text of a safe program.
+pub record VerifiesFile (told : Option Files) (budget : ℕ) (name : List ℕ) : Type 0 where
+  pub bytes : List ℕ
+  pub held : IfSome told (λ files. content files name ≡ Some bytes)
+  pub good : IsGood budget bytes
+
+-- The bytes that were read of the file of this name are the text of a program, and the sink has gained
+-- the lines of a valid derivation of all its units, which `check` accepts.
+pub record DerivesFile (told : Option Files) (budget : ℕ) (name : List ℕ)
+    (written gained : Option (List ℕ)) : Type 0 where
+  pub bytes : List ℕ
+  pub held : IfSome told (λ files. content files name ≡ Some bytes)
+  pub program : PlainProgram
+  pub text_of_it : IsTextOf bytes program
+  pub proved : is_good program budget ≡ true
+  pub lines : List ℕ
+  pub whole : lines ≡ derivation_text (found_trees program budget)
+  pub accepted : AreAccepted program lines
+  pub gains : Gains written gained lines
+
+-- The bytes that were read of the first file are the text of a safe program, those of the second the
+-- lines of a valid derivation of it.
+pub record ChecksFiles (told : Option Files) (file derivation : List ℕ) : Type 0 where
+  pub bytes : List ℕ
+  pub held : IfSome told (λ files. content files file ≡ Some bytes)
+  pub lines : List ℕ
+  pub lines_held : IfSome told (λ files. content files derivation ≡ Some lines)
+  pub accepted : IsAccepted bytes lines
+
+-- the bytes spell a tree, of which this is the canonical text
+pub record IsShownAs (bytes text : List ℕ) : Type 0 where
+  pub tree : ProgramTree
+  pub spelled : Spells bytes tree
+  pub canonical : text ≡ canonical_text tree
+
+-- The sink has gained the canonical text of the tree that those bytes spell.
+pub record ShowsFile (told : Option Files) (name : List ℕ) (written gained : Option (List ℕ))
+    : Type 0 where
+  pub bytes : List ℕ
+  pub held : IfSome told (λ files. content files name ≡ Some bytes)
+  pub text : List ℕ
+  pub shown : IsShownAs bytes text
+  pub gains : Gains written gained text
+
+-- The statuses of a run that took some entries or all: it ended, it came to a fault, or to an entry
+-- that is not enabled or too wide.
+abbrev pub EndsRun : Status → Type 0
+EndsRun Good = Unit {0}
+EndsRun Bad = Unit {0}
+EndsRun NotEnabled = Unit {0}
+EndsRun Wide = Unit {0}
+EndsRun _ = ⊥
+
+-- The bytes that were read of the first file are the text of a program, those of the second a
+-- schedule for it, and the sink has gained what the program's run along it writes, which ends with
+-- this status.
+pub record ReplaysFiles (told : Option Files) (file schedule : List ℕ)
+    (written gained : Option (List ℕ)) (status : Status) : Type 0 where
+  pub bytes : List ℕ
+  pub held : IfSome told (λ files. content files file ≡ Some bytes)
+  pub program : PlainProgram
+  pub text_of_it : IsTextOf bytes program
+  pub entries : List ℕ
+  pub entries_held : IfSome told (λ files. content files schedule ≡ Some entries)
+  pub text : List ℕ
+  pub end : End
+  pub played : IsPlayedAs program entries text end
+  pub ended : status ≡ end_status end
+  pub gains : Gains written gained text
+
+-- The ways to end: an output by what the files that were read gave, whole or, where the put failed,
+-- the first of it; or no memory, with nothing. No file is read but those.
+abbrev pub Ends : Option Files → Option Task → ℕ → ℕ → Option (List ℕ) → Option ℕ → Option ℕ
+    → Option (List ℕ) → Option (List ℕ) → ℕ → ℕ → Status → Type 0
+Ends told task reads reads_now blamed fetches fetches_now written gained writes writes_now status =
+    ((got : List Fetched) × AreFetched told reads reads_now blamed (files_of task) got
+    × AreCounted fetches fetches_now got
+    × ((o : Output) × IsOutput task got o × IsPut written gained writes writes_now status o))
+    ⊎ IsNothing written gained status
+
+-- the sink has gained this output's text, and the status is its
+abbrev pub Says : Option (List ℕ) → Option (List ℕ) → Status → Output → Type 0
+Says written gained status o = (status ≡ o.status) × Gains written gained o.text
+
+-- each output over these files is the one that is said, unless memory ran out
+abbrev pub AnswersFiles : Option Task → Files → Option (List ℕ) → Option (List ℕ) → Status → Type 0
+AnswersFiles task files written gained status =
+    (got : List Fetched) (o : Output) → AreGiven files (files_of task) got → IsOutput task got o
+    → Says written gained status o ⊎ (status ≡ NoMemory)
+
+-- the file holds the text of a safe program, all of which is proved within the budget
+pub record HoldsGood (budget : ℕ) (name : List ℕ) (files : Files) : Type 0 where
+  pub bytes : List ℕ
+  pub held : content files name ≡ Some bytes
+  pub good : IsGood budget bytes
+
+-- the first file holds the text of a program, the second lines that are accepted of it
+pub record HoldAccepted (file derivation : List ℕ) (files : Files) : Type 0 where
+  pub bytes : List ℕ
+  pub held : content files file ≡ Some bytes
+  pub program : PlainProgram
+  pub text_of_it : IsTextOf bytes program
+  pub lines : List ℕ
+  pub lines_held : content files derivation ≡ Some lines
+  pub short : length lines ≤ longest
+  pub accepted : AreAccepted program lines
+
+-- the file holds the text of a tree, of which this is the canonical text
+pub record HoldsTree (name text : List ℕ) (files : Files) : Type 0 where
+  pub bytes : List ℕ
+  pub held : content files name ≡ Some bytes
+  pub shown : IsShownAs bytes text
+
+-- the bytes are a text that the task can take
+abbrev pub IsTextFor : Task → List ℕ → Type 0
+IsTextFor (verify name budget) bytes = (p : PlainProgram) × IsTextOf bytes p
+IsTextFor (derive name budget) bytes = (p : PlainProgram) × IsTextOf bytes p
+IsTextFor (check name derivation) bytes = (p : PlainProgram) × IsTextOf bytes p
+IsTextFor (show name) bytes = (t : ProgramTree) × Spells bytes t
+IsTextFor (replay name schedule) bytes = (p : PlainProgram) × IsTextOf bytes p
+
+-- a first file that is no text for the task is refused, unless memory ran out
+abbrev pub Refuses : Option Task → Files → Status → Type 0
+Refuses task files status =
+    (t : Task) (name : List ℕ) (names : List (List ℕ)) (bytes : List ℕ)
+    → task ≡ Some t → files_of task ≡ name ∷ names → content files name ≡ Some bytes
+    → (IsTextFor t bytes → ⊥) → (status ≡ Refused) ⊎ (status ≡ NoMemory)
+
+abbrev pub IsOneOf : List ℕ → List (List ℕ) → Type 0
+IsOneOf name [] = ⊥
+IsOneOf name (n ∷ ns) = (name ≡ n) ⊎ IsOneOf name ns
+
+-- a fault came in the read of a file of the task, which is then blamed, or the told files lack it
+abbrev pub ReadFails : Option Files → Option Task → ℕ → ℕ → Option (List ℕ) → Type 0
+ReadFails told task reads reads_now blamed =
+    (name : List ℕ) × IsOneOf name (files_of task)
+    × ((Rose reads reads_now × (blamed ≡ Some name))
+    ⊎ IsSomeAnd told (λ files. content files name ≡ None))

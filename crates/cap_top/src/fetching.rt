@@ -1,0 +1,157 @@
+ghost use Rattle.std.specs.Prelude.{◌≡◌, ◌≤◌, IfOk};
+ghost use Rattle.cap_prog.specs.Views.{program_view};
+ghost use Rattle.cap_top_commands.specs.Answers.{After, IsVerified, IsDerived, IsUnjudged, IsShown};
+ghost use Rattle.cap_top_commands.specs.Answers.{SaysRefusal, IsPlayed, IsOnly};
+ghost use Rattle.cap_top_commands.specs.Derivations.{IsChecked};
+ghost use Rattle.cap_top_commands.specs.Replaying.{IsAny, HasNoRegions};
+ghost use Rattle.cap_top_commands.specs.Views.{output_view};
+ghost use Rattle.cap_io.specs.Outside.{IsCounted};
+ghost use Rattle.cap_top.specs.Reads.{IsFetched};
+ghost use Rattle.cap_top.specs.Views.{fetched_view, BeginsAfter};
+
+use cap_io::{FetchError, Shelf};
+use cap_prog::Program;
+use cap_top_commands::{
+    Begun, Output, begin_check, begin_replay, check, derive, play, show, verify,
+};
+use std::alloc::{AllocError, Global};
+
+/// What a file gave: its bytes, nothing, or more bytes than a file may have.
+#[derive(Debug, Drop)]
+pub(crate) enum Fetched {
+    Held(Vec<u8>),
+    Unread,
+    Long,
+}
+
+/// Reads a file. The only error is want of memory.
+pub(crate) fn fetch<S: Shelf>(shelf: &mut S, name: &str) -> Result<Fetched, AllocError>
+    ensures kept { S.holds shelf.new ≡ S.holds shelf.old }
+    ensures later { S.faults shelf.old ≤ S.faults shelf.new }
+    ensures fetched { IfOk result (λ x. IsFetched (S.holds shelf.old)
+        (S.faults shelf.old) (S.faults shelf.new) (S.blamed shelf.new) name.now (fetched_view x)) }
+    ensures counted { IfOk result (λ _. IsCounted (S.fetches shelf.old) (S.fetches shelf.new)) }
+{
+    match shelf.fetch(name) {
+        Ok(bytes) => Ok(Fetched::Held(bytes)),
+        Err(FetchError::TooLong(_)) => Ok(Fetched::Long),
+        Err(FetchError::OutOfMemory) => Err(AllocError),
+        Err(FetchError::Failed | FetchError::Absent) => Ok(Fetched::Unread),
+    }
+}
+
+/// What `verify` says of a file that gave this, within a budget of visits.
+pub(crate) fn verify_file<'a>(
+    alloc: Global,
+    name: &'a str,
+    file: Fetched,
+    budget: u64,
+) -> Result<Output<'a>, AllocError>
+    ensures { IfOk result (λ o. IsOnly (After name.now (fetched_view file) (IsVerified budget))
+        (output_view o)) }
+{
+    match file {
+        Fetched::Held(bytes) => verify(alloc, bytes.as_slice(), budget),
+        Fetched::Unread => Ok(Output::Unreadable(name)),
+        Fetched::Long => Ok(Output::TooLong),
+    }
+}
+
+/// What `derive` says of a file that gave this, within a budget of visits.
+pub(crate) fn derive_file<'a>(
+    alloc: Global,
+    name: &'a str,
+    file: Fetched,
+    budget: u64,
+) -> Result<Output<'a>, AllocError>
+    ensures { IfOk result (λ o. IsOnly (After name.now (fetched_view file) (IsDerived budget))
+        (output_view o)) }
+{
+    match file {
+        Fetched::Held(bytes) => derive(alloc, bytes.as_slice(), budget),
+        Fetched::Unread => Ok(Output::Unreadable(name)),
+        Fetched::Long => Ok(Output::TooLong),
+    }
+}
+
+/// What is known once the file of a program whose derivation is judged gave this.
+pub(crate) fn begin_checked_file<'a>(
+    alloc: Global,
+    name: &'a str,
+    file: Fetched,
+) -> Result<Begun<'a>, AllocError>
+    ensures { IfOk result (BeginsAfter IsUnjudged HasNoRegions name.now (fetched_view file)) }
+{
+    match file {
+        Fetched::Held(bytes) => begin_check(alloc, bytes.as_slice()),
+        Fetched::Unread => Ok(Begun::Said(Output::Unreadable(name))),
+        Fetched::Long => Ok(Begun::Said(Output::TooLong)),
+    }
+}
+
+/// What is said of a derivation's file that gave this.
+pub(crate) fn check_file<'a>(
+    alloc: Global,
+    program: &Program,
+    name: &'a str,
+    file: Fetched,
+) -> Result<Output<'a>, AllocError>
+    ensures { IfOk result (λ o.
+        IsOnly (After name.now (fetched_view file) (IsChecked (program_view program.now)))
+        (output_view o)) }
+{
+    match file {
+        Fetched::Held(bytes) => check(alloc, program, bytes.as_slice()),
+        Fetched::Unread => Ok(Output::Unreadable(name)),
+        Fetched::Long => Ok(Output::TooLong),
+    }
+}
+
+/// What `show` says of a file that gave this.
+pub(crate) fn show_file<'a>(
+    alloc: Global,
+    name: &'a str,
+    file: Fetched,
+) -> Result<Output<'a>, AllocError>
+    ensures { IfOk result (λ o. IsOnly (After name.now (fetched_view file) IsShown)
+        (output_view o)) }
+{
+    match file {
+        Fetched::Held(bytes) => show(alloc, bytes.as_slice()),
+        Fetched::Unread => Ok(Output::Unreadable(name)),
+        Fetched::Long => Ok(Output::TooLong),
+    }
+}
+
+/// What is known once the file of a program to be replayed gave this.
+pub(crate) fn begin_file<'a>(
+    alloc: Global,
+    name: &'a str,
+    file: Fetched,
+) -> Result<Begun<'a>, AllocError>
+    ensures { IfOk result (BeginsAfter SaysRefusal IsAny name.now (fetched_view file)) }
+{
+    match file {
+        Fetched::Held(bytes) => begin_replay(alloc, bytes.as_slice()),
+        Fetched::Unread => Ok(Begun::Said(Output::Unreadable(name))),
+        Fetched::Long => Ok(Begun::Said(Output::TooLong)),
+    }
+}
+
+/// What is said of a schedule's file that gave this.
+pub(crate) fn play_file<'a>(
+    alloc: Global,
+    program: &Program,
+    name: &'a str,
+    file: Fetched,
+) -> Result<Output<'a>, AllocError>
+    ensures { IfOk result (λ o.
+        IsOnly (After name.now (fetched_view file) (IsPlayed (program_view program.now)))
+        (output_view o)) }
+{
+    match file {
+        Fetched::Held(bytes) => play(alloc, program, bytes.as_slice()),
+        Fetched::Unread => Ok(Output::Unreadable(name)),
+        Fetched::Long => Ok(Output::TooLong),
+    }
+}

@@ -1,0 +1,11 @@
+use Rattle.cap_top_commands.proofs.Deriving.{derives_program, derives_refusal}
+use Rattle.cap_top_commands.proofs.derivation.derive.Goals as goal
+
+pub returns-in-Ok : goal.returns-in-Ok
+returns-in-Ok c =
+    derives_program c.args.budget c.args.bytes.now c.in-Ok.program c.derivation_of.result c.in-Ok.ensures
+    c.derivation_of.ensures
+
+pub returns-in-Err : goal.returns-in-Err
+returns-in-Err c =
+    derives_refusal c.args.budget c.args.bytes.now c.in-Err.refusal c.refuse.result c.in-Err.ensures c.refuse.ensures

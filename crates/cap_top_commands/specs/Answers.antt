@@ -1,0 +1,242 @@
+-- What is answered to a task, by what its files gave.
+use Rattle.std.specs.Prelude.{◌≡◌, ℕ, true, List, [], ◌∷◌, Option, Some, None}
+use Rattle.std.specs.Prelude.{◌⊎◌, length, slice_get, IsSomeAnd, Ok, Err}
+use Rattle.std.specs.FinMap.{from_entries}
+use Rattle.cap_prog.specs.Program.{PlainProgram}
+use Rattle.cap_goal_spec.specs.Choices.{PlainTree}
+use Rattle.cap_rules.specs.Valid.{Valid}
+use Rattle.cap_kernel_check.specs.Owed.{preorder}
+use Rattle.cap_deriv_write.specs.Spelled.{AreLines}
+use Rattle.cap_parse_tree.specs.Tree.{ProgramTree}
+use Rattle.cap_parse_tree.specs.Canonical.{canonical_text}
+use Rattle.cap_parse_tree.specs.Texts.{Spells}
+use Rattle.cap_machine_accounts.specs.Safety.{Safe}
+use Rattle.cap_resolve_spec.specs.Stands.{Stands}
+use Rattle.cap_machine.specs.Machine.{start}
+use Rattle.cap_replay.specs.declared.playing.End.{End}
+use Rattle.cap_replay.specs.declared.reading.ScheduleError.{ScheduleError}
+use Rattle.cap_replay.specs.declared.reading.ScheduleError.TheVariants.{BadLine}
+use Rattle.cap_replay.specs.Reading.{Progress, read}
+use Rattle.cap_replay.specs.RunText.{RunText, run_from}
+use Rattle.cap_top_reading.specs.declared.refusal.Refusal.{Refusal}
+use Rattle.cap_top_reading.specs.Refused.{SpellNone, IsRefused, IsTextOf}
+use Rattle.cap_top_report.specs.Report.{is_good}
+use Rattle.cap_top_commands.specs.declared.status.Status.TheVariants.{Good}
+use Rattle.cap_top_commands.specs.Task.{Task, verify, derive, check, show, replay}
+use Rattle.cap_top_commands.specs.Report.{IsReport}
+use Rattle.cap_top_commands.specs.Derivations.{IsDerivation, SaysLater, IsChecked}
+use Rattle.cap_top_commands.specs.Output.{Output, usage_output, unreadable_output, long_output, refusal_output, tree_output, schedule_output, run_output, judged_output}
+
+-- ---- by the bytes of a text
+
+-- there is such a cause, and it is said
+pub record SaysCause (IsCaused : Refusal → Type 0) (o : Output) : Type 0 where
+  pub cause : Refusal
+  pub caused : IsCaused cause
+  pub whole : o ≡ refusal_output cause
+
+-- there is such a thing, and this is said of it
+pub record SaysOf {X : Type 0} (IsSo : X → Type 0) (IsSaid : X → Output → Type 0) (o : Output)
+    : Type 0 where
+  pub thing : X
+  pub is_so : IsSo thing
+  pub said : IsSaid thing o
+
+-- the bytes are refused
+abbrev pub SaysRefusal : List ℕ → Output → Type 0
+SaysRefusal bytes o = SaysCause (IsRefused bytes) o
+
+-- the bytes are a program's text, of which this is said, or they are refused
+abbrev pub OfProgram : List ℕ → (PlainProgram → Output → Type 0) → Output → Type 0
+OfProgram bytes IsSaid o = SaysRefusal bytes o ⊎ SaysOf (IsTextOf bytes) IsSaid o
+
+abbrev pub IsVerified : ℕ → List ℕ → Output → Type 0
+IsVerified budget bytes o = OfProgram bytes (IsReport budget) o
+
+abbrev pub IsDerived : ℕ → List ℕ → Output → Type 0
+IsDerived budget bytes o = OfProgram bytes (IsDerivation budget) o
+
+-- the bytes are a program's text that is not judged yet, or they are refused
+abbrev pub IsUnjudged : List ℕ → Output → Type 0
+IsUnjudged bytes o = OfProgram bytes SaysLater o
+
+abbrev pub IsCanonical : ProgramTree → Output → Type 0
+IsCanonical t o = o ≡ tree_output (canonical_text t)
+
+-- the bytes spell a tree, of which this is the canonical text, or they spell none
+abbrev pub IsShown : List ℕ → Output → Type 0
+IsShown bytes o = SaysCause (SpellNone bytes) o ⊎ SaysOf (Spells bytes) IsCanonical o
+
+-- ---- by the bytes of a schedule
+
+-- the schedule has as many arguments as `main` has parameters
+abbrev pub TakesArguments : PlainProgram → Progress → Type 0
+TakesArguments p s =
+    IsSomeAnd (slice_get p.functions p.main) (λ f. length s.args ≡ f.params)
+
+-- what the program's run along the schedule writes
+abbrev pub run_along : PlainProgram → Progress → RunText
+run_along p s = run_from p 0 (start p s.args (from_entries s.heap)) s.entries
+
+-- the bytes are a schedule for the program, along which its run writes this and ends so
+pub record IsPlayedAs (p : PlainProgram) (bytes text : List ℕ) (end : End) : Type 0 where
+  pub schedule : Progress
+  pub reads : read bytes ≡ Ok schedule
+  pub takes : TakesArguments p schedule
+  pub runs : run_along p schedule ≡ record { text = text; end = end }
+
+-- the bytes are a schedule with another number of arguments
+pub record HasOtherArguments (p : PlainProgram) (bytes : List ℕ) : Type 0 where
+  pub schedule : Progress
+  pub reads : read bytes ≡ Ok schedule
+  pub others : TakesArguments p schedule → ⊥
+
+-- the bytes are no schedule for the program; another number of arguments stands in the first line
+abbrev pub IsBadSchedule : PlainProgram → List ℕ → ScheduleError → Type 0
+IsBadSchedule p bytes e = (read bytes ≡ Err e) ⊎ (HasOtherArguments p bytes × (e ≡ BadLine 1))
+
+pub record SaysBadSchedule (p : PlainProgram) (bytes : List ℕ) (o : Output) : Type 0 where
+  pub error : ScheduleError
+  pub bad : IsBadSchedule p bytes error
+  pub whole : o ≡ schedule_output error
+
+pub record SaysRun (p : PlainProgram) (bytes : List ℕ) (o : Output) : Type 0 where
+  pub text : List ℕ
+  pub end : End
+  pub played : IsPlayedAs p bytes text end
+  pub whole : o ≡ run_output text end
+
+abbrev pub IsPlayed : PlainProgram → List ℕ → Output → Type 0
+IsPlayed p bytes o = SaysBadSchedule p bytes o ⊎ SaysRun p bytes o
+
+-- ---- by what the files gave
+
+-- what a file gave: its bytes, or nothing, or more bytes than a file may have
+pub data Fetched : Type 0 where
+  held : List ℕ → Fetched
+  unread : Fetched
+  long : Fetched
+
+-- what is said once the file of this name gave this, where its bytes are answered so
+abbrev pub After : List ℕ → Fetched → (List ℕ → Output → Type 0) → Output → Type 0
+After name (held bytes) IsSaid o = IsSaid bytes o
+After name unread IsSaid o = o ≡ unreadable_output name
+After name long IsSaid o = o ≡ long_output
+
+-- the file gave a program's text, of which this is said
+pub record HoldsProgram (x : Fetched) (IsSaid : PlainProgram → Output → Type 0) (o : Output)
+    : Type 0 where
+  pub bytes : List ℕ
+  pub gave : x ≡ held bytes
+  pub program : PlainProgram
+  pub text_of_it : IsTextOf bytes program
+  pub said : IsSaid program o
+
+-- one file is read, whose bytes are answered so
+abbrev pub ByOne : List ℕ → (List ℕ → Output → Type 0) → List Fetched → Output → Type 0
+ByOne name IsSaid (x ∷ []) o = After name x IsSaid o
+ByOne name IsSaid _ o = ⊥
+
+-- One file is read, whose bytes are answered early; or a second one too, as the first gave a
+-- program's text, by which the second is answered.
+abbrev pub ByTwo : List ℕ → (List ℕ → Output → Type 0) → (PlainProgram → Fetched → Output → Type 0)
+    → List Fetched → Output → Type 0
+ByTwo name IsEarly IsLate (x ∷ []) o = After name x IsEarly o
+ByTwo name IsEarly IsLate (x ∷ (y ∷ [])) o = HoldsProgram x (λ p. IsLate p y) o
+ByTwo name IsEarly IsLate _ o = ⊥
+
+-- what is said once the schedule's file gave this
+abbrev pub IsReplayed : List ℕ → PlainProgram → Fetched → Output → Type 0
+IsReplayed name p x o = After name x (IsPlayed p) o
+
+-- what is said once the derivation's file gave this
+abbrev pub IsJudged : List ℕ → PlainProgram → Fetched → Output → Type 0
+IsJudged name p x o = (p.regions ≡ []) × After name x (IsChecked p) o
+
+abbrev pub IsUsage : List Fetched → Output → Type 0
+IsUsage [] o = o ≡ usage_output
+IsUsage (x ∷ xs) o = ⊥
+
+-- the output, where the files of the task that were read gave these, in the order of the words
+abbrev pub IsOutput : Option Task → List Fetched → Output → Type 0
+IsOutput None = IsUsage
+IsOutput (Some (verify file budget)) = ByOne file (IsVerified budget)
+IsOutput (Some (derive file budget)) = ByOne file (IsDerived budget)
+IsOutput (Some (check file derivation)) = ByTwo file IsUnjudged (IsJudged derivation)
+IsOutput (Some (show file)) = ByOne file IsShown
+IsOutput (Some (replay file schedule)) = ByTwo file SaysRefusal (IsReplayed schedule)
+
+-- it is so of this output, and of no other
+pub record IsOnly (IsSaid : Output → Type 0) (o : Output) : Type 0 where
+  pub said : IsSaid o
+  pub only : (p : Output) → IsSaid p → o ≡ p
+
+-- as many files as both have gave the same
+abbrev pub Agree : List Fetched → List Fetched → Type 0
+Agree [] ys = Unit {0}
+Agree (x ∷ xs) [] = Unit {0}
+Agree (x ∷ xs) (y ∷ ys) = (x ≡ y) × Agree xs ys
+
+-- The output by what these files gave. There is no other, whether more of the task's files are read
+-- or fewer.
+pub record IsOnlyOutput (IsSaid : List Fetched → Output → Type 0) (got : List Fetched) (o : Output)
+    : Type 0 where
+  pub said : IsSaid got o
+  pub only : (other : List Fetched) (p : Output) → Agree got other → IsSaid other p → o ≡ p
+
+-- the bytes are the text of this program, and of no other, and are not refused
+pub record IsOnlyTextOf (bytes : List ℕ) (p : PlainProgram) : Type 0 where
+  pub text_of_it : IsTextOf bytes p
+  pub only : (q : PlainProgram) → IsTextOf bytes q → p ≡ q
+  pub unrefused : (r : Refusal) → IsRefused bytes r → ⊥
+
+-- ---- what a good answer means
+
+-- The bytes spell a tree that stands for a program, all of which is proved within a budget, and
+-- every run of it, of every length and along every schedule, from every state that meets the
+-- precondition of `main`, makes no memory fault, fails no assertion and keeps the contracts of its
+-- functions.
+pub record IsGood (budget : ℕ) (bytes : List ℕ) : Type 0 where
+  pub tree : ProgramTree
+  pub spelled : Spells bytes tree
+  pub program : PlainProgram
+  pub stands : Stands tree program
+  pub proved : is_good program budget ≡ true
+  pub safe : Safe program
+
+-- The bytes of the first file spell a tree that stands for a program, those of the second are the
+-- lines of a valid derivation of all its units, and every run of it is as said above.
+pub record IsAccepted (bytes lines : List ℕ) : Type 0 where
+  pub tree : ProgramTree
+  pub spelled : Spells bytes tree
+  pub program : PlainProgram
+  pub stands : Stands tree program
+  pub trees : List (Option PlainTree)
+  pub told : AreLines (length trees) (preorder trees) lines
+  pub valid : Valid program trees
+  pub safe : Safe program
+
+-- what `check` says with a good status is said of a valid derivation of a safe program
+abbrev pub AcceptedAreSafe : Type 0
+AcceptedAreSafe =
+    (bytes lines : List ℕ) (p : PlainProgram) (o : Output) →
+    IsTextOf bytes p → p.regions ≡ [] → IsChecked p lines o → o.status ≡ Good →
+    IsAccepted bytes lines
+
+-- `check` says of these lines, and of the program, that they are accepted, and nothing else
+pub record AreAccepted (p : PlainProgram) (lines : List ℕ) : Type 0 where
+  pub regions : p.regions ≡ []
+  pub nodes : ℕ
+  pub checked : IsOnly (IsChecked p lines) (judged_output (Ok nodes))
+
+-- what `derive` says with a good status is accepted by `check`, of the same program
+abbrev pub DerivedAreAccepted : Type 0
+DerivedAreAccepted =
+    (budget : ℕ) (p : PlainProgram) (o : Output) →
+    IsDerivation budget p o → o.status ≡ Good → AreAccepted p o.text
+
+-- what `verify` says with a good status is said of the text of a safe program
+abbrev pub GoodAnswersAreSafe : Type 0
+GoodAnswersAreSafe =
+    (budget : ℕ) (bytes : List ℕ) (o : Output) →
+    IsVerified budget bytes o → o.status ≡ Good → IsGood budget bytes

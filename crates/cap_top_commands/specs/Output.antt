@@ -1,0 +1,108 @@
+-- What the tool says, and with which status.
+use Rattle.std.specs.Prelude.{ℕ, Bool, if◌then◌else◌, List, [], ◌++◌, codes, Result, Ok, Err}
+use Rattle.std.specs.Fmt.{decimal}
+use Rattle.cap_replay.specs.declared.playing.End.{End}
+use Rattle.cap_replay.specs.declared.playing.End.TheVariants.{Ended, Stopped, NotEnabled, Wide}
+use Rattle.cap_replay.specs.declared.reading.ScheduleError.{ScheduleError}
+use Rattle.cap_replay.specs.declared.reading.ScheduleError.TheVariants.{BadLine, TooMany, OutOfMemory}
+use Rattle.cap_deriv.specs.declared.cursor.DerivError.{DerivError}
+use Rattle.cap_deriv.specs.declared.cursor.DerivError.TheVariants as deriv
+use Rattle.cap_kernel_check.specs.declared.error.CheckError.{CheckError}
+use Rattle.cap_kernel_check.specs.declared.error.CheckError.TheVariants as judge
+use Rattle.cap_top_reading.specs.declared.refusal.Refusal.{Refusal}
+use Rattle.cap_top_reading.specs.Texts.{refusal_line}
+use Rattle.cap_top_commands.specs.declared.status.Status.{Status}
+use Rattle.cap_top_commands.specs.declared.status.Status.TheVariants.{Good, Bad, Refused, Usage, ReadFault}
+use Rattle.cap_top_commands.specs.declared.status.Status.TheVariants.{NotEnabled as not_enabled, Wide as wide}
+
+pub record Output : Type 0 where
+  pub status : Status
+  pub text : List ℕ
+
+-- ---- of words and files
+
+abbrev pub usage_line : List ℕ
+usage_line =
+    codes "usage: caper verify FILE [--budget N] | derive FILE [--budget N] | check FILE DERIVATION | replay FILE SCHEDULE | show FILE | trial N\n"
+
+abbrev pub usage_output : Output
+usage_output = record { status = Usage; text = usage_line }
+
+abbrev pub unreadable_line : List ℕ → List ℕ
+unreadable_line name = codes "cannot read " ++ (name ++ codes "\n")
+
+abbrev pub unreadable_output : List ℕ → Output
+unreadable_output name = record { status = ReadFault; text = unreadable_line name }
+
+abbrev pub long_output : Output
+long_output = record { status = Refused; text = codes "refused: file too long\n" }
+
+abbrev pub refusal_output : Refusal → Output
+refusal_output r = record { status = Refused; text = refusal_line r }
+
+-- ---- of a program and of a tree
+
+-- a report says whether it is good: all of the program is proved, and its `main` can begin
+abbrev pub report_status : Bool → Status
+report_status good = if good then Good else Bad
+
+abbrev pub report_output : Bool → List ℕ → Output
+report_output good text = record { status = report_status good; text = text }
+
+abbrev pub tree_output : List ℕ → Output
+tree_output text = record { status = Good; text = text }
+
+-- ---- of a derivation
+
+abbrev pub derivation_output : List ℕ → Output
+derivation_output text = record { status = Good; text = text }
+
+abbrev pub long_derivation_output : Output
+long_derivation_output = record { status = Bad; text = codes "derivation too long\n" }
+
+-- want of memory has no line
+abbrev pub derivation_line : DerivError → List ℕ
+derivation_line (deriv.BadLine n) =
+    codes "refused derivation line " ++ (decimal n ++ codes "\n")
+derivation_line deriv.Unended = codes "refused derivation: no end\n"
+derivation_line deriv.TooMany = codes "refused derivation: more than 1000000 nodes\n"
+derivation_line deriv.OutOfMemory = []
+
+abbrev pub bad_derivation_output : DerivError → Output
+bad_derivation_output e = record { status = Refused; text = derivation_line e }
+
+abbrev pub later_output : Output
+later_output = record { status = Bad; text = codes "later\n" }
+
+abbrev pub judged_status : Result ℕ CheckError → Status
+judged_status (Ok n) = Good
+judged_status (Err e) = Bad
+
+abbrev pub judged_line : Result ℕ CheckError → List ℕ
+judged_line (Ok n) = codes "accepted " ++ (decimal n ++ codes "\n")
+judged_line (Err (judge.Node k)) = codes "rejected node " ++ (decimal k ++ codes "\n")
+judged_line (Err (judge.Shape k)) = codes "rejected shape " ++ (decimal k ++ codes "\n")
+judged_line (Err judge.OutOfMemory) = []
+
+abbrev pub judged_output : Result ℕ CheckError → Output
+judged_output r = record { status = judged_status r; text = judged_line r }
+
+-- ---- of a schedule
+
+-- want of memory has no line
+abbrev pub schedule_line : ScheduleError → List ℕ
+schedule_line (BadLine n) = codes "refused schedule line " ++ (decimal n ++ codes "\n")
+schedule_line TooMany = codes "refused schedule: more than 100000 entries\n"
+schedule_line OutOfMemory = []
+
+abbrev pub schedule_output : ScheduleError → Output
+schedule_output e = record { status = Refused; text = schedule_line e }
+
+abbrev pub end_status : End → Status
+end_status (Ended k) = Good
+end_status (Stopped k) = Bad
+end_status (NotEnabled k) = not_enabled
+end_status (Wide k) = wide
+
+abbrev pub run_output : List ℕ → End → Output
+run_output text end = record { status = end_status end; text = text }

@@ -1,0 +1,69 @@
+//! The derivation of a program, as lines.
+ghost use Rattle.std.specs.Prelude.{IfOk};
+ghost use Rattle.cap_prog.specs.Views.{program_view};
+ghost use Rattle.cap_goal.specs.Trees.{bundle_view};
+ghost use Rattle.cap_top_commands.specs.Answers.{IsDerived, IsOnly};
+ghost use Rattle.cap_top_commands.specs.Derivations.{IsDerivation};
+ghost use Rattle.cap_top_commands.specs.Deriving.{FindsText};
+ghost use Rattle.cap_top_commands.specs.Views.{output_view};
+
+use crate::answer::refuse;
+use crate::output::Output;
+use cap_deriv_laws::valid_trees_have_no_zeros;
+use cap_deriv_write::{node_count, write};
+use cap_goal::Bundle;
+use cap_prog::Program;
+use cap_top_reading::read_program;
+use cap_top_report::{Conclusion, derive_on, found_trees_are_valid};
+use std::alloc::{AllocError, Global};
+
+/// The most nodes that a derivation may have.
+const MOST_NODES: usize = 1_000_000;
+
+/// The most bytes that its text may have.
+const LONGEST: usize = 67_108_864;
+
+/// The lines of a bundle's trees, unless they are too many or too long.
+fn text_of(alloc: Global, bundle: &Bundle) -> Result<Option<Vec<u8>>, AllocError>
+    ensures { IfOk result (FindsText (bundle_view bundle.now)) }
+{
+    if bundle.trees.len() > u32::MAX as usize || node_count(alloc, bundle)? > MOST_NODES {
+        return Ok(None);
+    }
+    let text = write(alloc, bundle)?;
+    if text.len() > LONGEST {
+        return Ok(None);
+    }
+    Ok(Some(text))
+}
+
+/// What `derive` says of a program, each unit of which is searched within a budget of visits.
+fn derivation_of<'a>(
+    alloc: Global,
+    program: &Program,
+    budget: u64,
+) -> Result<Output<'a>, AllocError>
+    ensures { IfOk result
+        (λ o. IsOnly (IsDerivation budget (program_view program.now)) (output_view o)) }
+{
+    found_trees_are_valid();
+    valid_trees_have_no_zeros();
+    match derive_on(alloc, program, budget)? {
+        Conclusion::Reported(report) => Ok(Output::Reported(report)),
+        Conclusion::Proved(bundle) => match text_of(alloc, &bundle)? {
+            Some(text) => Ok(Output::Derived(text)),
+            None => Ok(Output::DerivedTooLong),
+        },
+    }
+}
+
+/// What `derive` answers to a file of these bytes: the lines of the derivation where `verify` would
+/// end well, and otherwise what `verify` says. The only error is want of memory.
+pub fn derive<'a>(alloc: Global, bytes: &[u8], budget: u64) -> Result<Output<'a>, AllocError>
+    ensures { IfOk result (λ o. IsOnly (IsDerived budget bytes.now) (output_view o)) }
+{
+    match read_program(alloc, bytes) {
+        Ok(program) => derivation_of(alloc, &program, budget),
+        Err(refusal) => refuse(refusal),
+    }
+}

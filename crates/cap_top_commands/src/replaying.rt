@@ -1,0 +1,52 @@
+ghost use Rattle.std.specs.Prelude.{IfOk, MatchResult, List, ℕ};
+ghost use Rattle.cap_prog.specs.Views.{program_view};
+ghost use Rattle.cap_top_commands.specs.Answers.{IsPlayed, IsOnly};
+ghost use Rattle.cap_top_commands.specs.Replaying.{BeginsReplay};
+ghost use Rattle.cap_top_commands.specs.Views.{output_view};
+
+use crate::answer::refuse;
+use crate::output::Output;
+use cap_prog::Program;
+use cap_replay::{ScheduleError, fits, read_schedule, replay as run_along};
+use cap_top_reading::read_program;
+use std::alloc::{AllocError, Global};
+
+/// What is known once a program's file was read: the program, whose second file is read next, or
+/// what is said without one.
+#[derive(Drop)]
+pub enum Begun<'a> {
+    Program(Program),
+    Said(Output<'a>),
+}
+
+/// Reads the program whose run is replayed. The only error is want of memory.
+pub fn begin_replay<'a>(alloc: Global, bytes: &[u8]) -> Result<Begun<'a>, AllocError>
+    ensures { IfOk result (BeginsReplay bytes.now) }
+{
+    match read_program(alloc, bytes) {
+        Ok(program) => Ok(Begun::Program(program)),
+        Err(refusal) => Ok(Begun::Said(refuse(refusal)?)),
+    }
+}
+
+/// What is said of a schedule of these bytes: what the run along it writes, or why it is none. The
+/// only error is want of memory.
+pub fn play<'a>(alloc: Global, program: &Program, bytes: &[u8]) -> Result<Output<'a>, AllocError>
+    ensures { IfOk result (λ o.
+        IsOnly (IsPlayed (program_view program.now) bytes.now) (output_view o)) }
+{
+    match read_schedule(alloc, bytes) {
+        Ok(schedule) => {
+            if fits(program, &schedule) {
+                Ok(Output::Played(run_along(alloc, program, &schedule)?))
+            } else {
+                Ok(Output::BadSchedule(ScheduleError::BadLine(1)))
+            }
+        }
+        Err(ScheduleError::BadLine(line)) => {
+            Ok(Output::BadSchedule(ScheduleError::BadLine(line)))
+        }
+        Err(ScheduleError::TooMany) => Ok(Output::BadSchedule(ScheduleError::TooMany)),
+        Err(ScheduleError::OutOfMemory) => Err(AllocError),
+    }
+}

@@ -1,9 +1,0 @@
-use Rattle.std.proofs.Common.{ap, ◌∙◌, fold}
-use Rattle.cap_tree.specs.Views.{tree_view}
-use Rattle.cap_stands.specs.Finding.{note}
-use Rattle.cap_terms.specs.Views.{noted_view}
-use Rattle.cap_wrong.proofs.Joined.{text_is}
-use Rattle.cap_wrong.proofs.trees.note_tree.Goals as goal
-
-pub returns : goal.returns
-returns c = c.in_ok-note_declarations.ensures ∙ ap (fold note (noted_view c.args.noted.now)) (text_is (tree_view c.args.tree.now))
