@@ -10,5 +10,3 @@ mod testing;
 
 pub use closing::{Closed, Closure, closure_at, closure_of};
 
-#[cfg(test)]
-mod tests;

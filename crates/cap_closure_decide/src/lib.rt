@@ -12,5 +12,3 @@ pub use deciding::{decided, decided_all, decided_each};
 pub use notes::Notes;
 pub use proving::proves;
 
-#[cfg(test)]
-mod tests;

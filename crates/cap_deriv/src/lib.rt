@@ -12,5 +12,3 @@ mod values;
 pub use cursor::{Cursor, DerivError};
 pub use entire::{Lines, read};
 
-#[cfg(test)]
-mod tests;

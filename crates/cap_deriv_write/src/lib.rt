@@ -13,5 +13,3 @@ pub use laws::{lines_are_forms, readings_are_lines, writings_are_lines, writings
 pub use preorder::node_count;
 pub use writing::write;
 
-#[cfg(test)]
-mod tests;

@@ -4,7 +4,5 @@
 mod cert;
 mod leaf;
 mod system;
-#[cfg(test)]
-mod tests;
 
 pub use cert::{Cert, Multipliers, refutes};

@@ -11,8 +11,6 @@ mod leaf;
 mod numbered;
 mod solver;
 mod stage;
-#[cfg(test)]
-mod tests;
 
 pub use error::SolveError;
 pub use solver::{Answer, solve};

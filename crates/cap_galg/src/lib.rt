@@ -30,5 +30,3 @@ pub use laws::{fulls_of_both_sides, parts_are_associative, portions_compose};
 pub use pair::Pair;
 pub use unique::Unique;
 
-#[cfg(test)]
-mod tests;

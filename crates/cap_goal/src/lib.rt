@@ -16,5 +16,3 @@ pub use goal::Goal;
 pub use state::State;
 pub use task::{Home, Items, Point, Task, is_heap};
 
-#[cfg(test)]
-mod tests;

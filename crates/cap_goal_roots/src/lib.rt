@@ -12,5 +12,3 @@ mod unit;
 pub use goal::goal_of;
 pub use unit::roots;
 
-#[cfg(test)]
-mod tests;

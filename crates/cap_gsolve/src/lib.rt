@@ -16,5 +16,3 @@ pub use laws::{composed_parts_hold_both, right_full_pieces_compose, wanted_atoms
 pub use merging::merge;
 pub use piece::{Form, Piece};
 
-#[cfg(test)]
-mod tests;

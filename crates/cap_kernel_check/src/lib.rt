@@ -15,8 +15,6 @@ mod owing;
 mod preorder;
 mod shaping;
 mod start;
-#[cfg(test)]
-mod tests;
 mod tree;
 mod walk;
 

@@ -4,8 +4,6 @@
 mod error;
 mod row;
 mod term;
-#[cfg(test)]
-mod tests;
 
 pub use error::LinError;
 pub use row::{Kind, Op, Row, Sort};

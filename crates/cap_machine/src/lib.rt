@@ -10,8 +10,6 @@ mod laws;
 mod machine;
 mod position;
 mod step;
-#[cfg(test)]
-mod tests;
 mod thread;
 
 pub use event::{Ahead, Entry, Event, StepError};

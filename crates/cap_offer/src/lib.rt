@@ -16,5 +16,3 @@ mod trying;
 
 pub use offers::{Offers, offered};
 
-#[cfg(test)]
-mod tests;

@@ -3,8 +3,6 @@
 
 mod class;
 mod laws;
-#[cfg(test)]
-mod tests;
 
 pub use class::{Class, are_same, class_of};
 pub use laws::{canonical_texts_read_back, texts_are_read_as_spelled, texts_go_wrong_at_one_token};

@@ -8,8 +8,6 @@ mod region;
 mod statement;
 mod tail;
 mod term;
-#[cfg(test)]
-mod tests;
 mod text;
 
 pub use program::print;

@@ -5,8 +5,6 @@ mod assertion;
 mod function;
 mod program;
 mod region;
-#[cfg(test)]
-mod tests;
 
 pub use assertion::{Asked, Assertion, Comp, Item, Slot};
 pub use cap_syntax::Text as Name;

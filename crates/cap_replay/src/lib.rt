@@ -6,8 +6,6 @@ mod laws;
 mod numbers;
 mod playing;
 mod reading;
-#[cfg(test)]
-mod tests;
 
 pub use entries::{Schedule, fits};
 pub use laws::written_schedules_are_read_back;

@@ -34,5 +34,3 @@ pub use rows::{opposite, row_here};
 pub use tasks::{add_goal, copy_point, copy_tasks, leaves};
 pub use terms::{value_here, value_over, values_here};
 
-#[cfg(test)]
-mod tests;

@@ -16,5 +16,3 @@ pub use obligation::{Need, Obligation};
 pub use start::empty_start;
 pub use verdict::Verdict;
 
-#[cfg(test)]
-mod tests;

@@ -5,8 +5,6 @@ mod laws;
 mod place;
 mod scan;
 mod spelling;
-#[cfg(test)]
-mod tests;
 mod text;
 mod token;
 

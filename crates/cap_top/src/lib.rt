@@ -3,8 +3,6 @@
 
 mod fetching;
 mod program;
-#[cfg(test)]
-mod tests;
 
 pub use cap_top_commands::Status;
 pub use program::run;

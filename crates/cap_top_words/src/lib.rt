@@ -6,8 +6,6 @@ mod laws;
 mod numeral;
 mod parser;
 mod reading;
-#[cfg(test)]
-mod tests;
 
 pub use command::Command;
 pub use laws::commands_are_written;

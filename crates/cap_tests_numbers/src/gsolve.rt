@@ -1,4 +1,4 @@
-use crate::{Form, Piece, compat, full_pieces, merge};
+use cap_gsolve::{Form, Piece, compat, full_pieces, merge};
 use cap_galg::Algebra;
 use cap_lin::{Kind, LinError, Row, Sort, Term};
 use std::alloc::{AllocError, Global};

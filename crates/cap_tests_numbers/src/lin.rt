@@ -1,4 +1,4 @@
-use crate::{Kind, LinError, Op, Row, Sort, Term};
+use cap_lin::{Kind, LinError, Op, Row, Sort, Term};
 use std::alloc::Global;
 use std::collections::HashSet;
 use std::test::Fail;

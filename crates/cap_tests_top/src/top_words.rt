@@ -1,4 +1,4 @@
-use crate::{Command, read_command};
+use cap_top_words::{Command, read_command};
 use std::test::Fail;
 
 // The words of a line, cut at its blanks.

@@ -1,6 +1,6 @@
 ghost use Rattle.std.specs.Prelude.{◌≡◌, length, IfOk};
 
-use crate::State;
+use cap_goal::State;
 use cap_lin::{LinError, Term};
 use std::alloc::Global;
 

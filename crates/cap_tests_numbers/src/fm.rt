@@ -2,7 +2,7 @@ mod compared;
 mod limits;
 mod plain;
 
-use crate::{Answer, SolveError, solve};
+use cap_fm::{Answer, SolveError, solve};
 use cap_farkas::{Cert, refutes};
 use cap_lin::{Kind, LinError, Row, Sort, Term};
 use std::alloc::Global;

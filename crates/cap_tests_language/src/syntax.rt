@@ -1,4 +1,4 @@
-use crate::{Place, Text, TokenError, tokens};
+use cap_syntax::{Place, Text, TokenError, tokens};
 use std::test::Fail;
 
 // The tokens of a text: kind, text, value and place of each.

@@ -1,6 +1,6 @@
 ghost use Rattle.std.specs.Prelude.{◌≡◌, length, IfOk};
 
-use crate::{Closure, closure_of};
+use cap_closure::{Closure, closure_of};
 use cap_closure_decide::Notes;
 use cap_galg::Algebra;
 use cap_goal::{Fact, State};

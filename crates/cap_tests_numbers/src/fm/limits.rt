@@ -1,7 +1,7 @@
 //! What happens at the limits: 128 bits of a number, and 4,096 rows of an elimination.
 
-use crate::tests::{expect_leaf, expect_solvable, row, rows, solved};
-use crate::{Answer, SolveError};
+use crate::fm::{expect_leaf, expect_solvable, row, rows, solved};
+use cap_fm::{Answer, SolveError};
 use cap_lin::{Kind, LinError, Row, Sort};
 use std::alloc::Global;
 use std::process::Abort;

@@ -1,4 +1,4 @@
-use crate::print;
+use cap_parse_print::print;
 use cap_parse_tree::{
     Assertion, Block, Clause, Declaration, Factor, Function, Item, Listed, Literal, Product, Slot,
     Statement, Term, Tree, Value, Word,

@@ -2,9 +2,9 @@
 
 ghost use Rattle.std.specs.Prelude.{◌<◌};
 
-use crate::Answer;
-use crate::tests::plain::{Finding, Given, found};
-use crate::tests::solved;
+use cap_fm::Answer;
+use crate::fm::plain::{Finding, Given, found};
+use crate::fm::solved;
 use cap_farkas::Cert;
 use cap_lin::{Kind, LinError, Row, Sort, Term};
 use rand_core::Rng;

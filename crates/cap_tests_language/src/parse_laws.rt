@@ -1,4 +1,4 @@
-use crate::{Class, are_same, class_of};
+use cap_parse_laws::{Class, are_same, class_of};
 use cap_syntax::tokens;
 use std::test::Fail;
 

@@ -1,4 +1,4 @@
-use crate::{Status, run};
+use cap_top::{Status, run};
 use cap_io::{FetchError, MemoryShelf, MemorySink, Shelf};
 use std::alloc::{AllocError, Global};
 use std::process::Abort;

@@ -1,4 +1,4 @@
-use crate::{Ledger, RuleError, leaves, prove_equal, told, with_row, with_sort};
+use cap_rules_steps::{Ledger, RuleError, leaves, prove_equal, told, with_row, with_sort};
 use cap_goal::State;
 use cap_lin::{Op, Row, Sort, Term};
 use std::alloc::Global;

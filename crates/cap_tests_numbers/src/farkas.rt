@@ -1,4 +1,4 @@
-use crate::{Cert, Multipliers, refutes};
+use cap_farkas::{Cert, Multipliers, refutes};
 use cap_lin::{Kind, LinError, Row, Sort, Term};
 use std::alloc::{AllocError, Global};
 use std::test::Fail;
