@@ -1,6 +1,6 @@
 -- Success of an attempt is that of what comes after results that are within 128 bits.
 use Rattle.std.proofs.Common.{◌≡◌, true, List, [], ◌∷◌, ◌++◌, map, length, Option, Some, None, refl, sym, ap, ◌∙◌, append-nil, append_assoc}
-use Rattle.std.specs.Prelude.{option_map, Result, Ok, Err}
+use Rattle.std.specs.Prelude.{option_map, Ok, Err}
 use Rattle.cap_lin.specs.Exact.{Explains}
 use Rattle.cap_lin.specs.Linear.{Linear, replaced}
 use Rattle.cap_lin.specs.Steps.{Step, first_wide, replaced_steps}
@@ -14,10 +14,10 @@ use Rattle.cap_rules.specs.Resting.{prove_at}
 use Rattle.cap_offer_spec.specs.Deciding.{PlainNotes, decided_all, certified_by, certified, succeeds}
 use Rattle.cap_offer_spec.proofs.Trying.{Runs, proofs-come}
 use Rattle.cap_rules_steps.specs.declared.error.RuleError.{RuleError}
-use Rattle.cap_rules_steps.specs.declared.error.RuleError.TheVariants.{NotApplicable, Wide, OutOfMemory}
+
 use Rattle.cap_rules_steps.specs.Errors.{rule_error}
 use Rattle.cap_rules_steps.specs.Judging.{IsTold}
-use Rattle.cap_rules_steps.specs.Walks.{Makes, Claims, giving, Ends, Standing, walk, owing}
+use Rattle.cap_rules_steps.specs.Walks.{Makes}
 use Rattle.cap_rules_steps.proofs.Walking.{weaker, unmade_claims, wide_claims, all_narrow}
 use Rattle.cap_rules_steps.proofs.Judges.{told-ok, told-error}
 use Rattle.cap_closure.specs.Tested.{without_value}
@@ -101,15 +101,6 @@ value-lost ls (Some x) = refl
 pub without-certified : {A : Type 0} (o : Attempt A) (n : PlainNotes) → certified (without_value o) n ≡ certified o n
 unfolding certified
 without-certified o n = ap (λ l. certified_by (answer_unless (first_wide (steps_of o.events)) l) n) (value-lost (owed_lists o.events) o.value)
-
-ends-without : {A : Type 0} (r : Result (Unit {0}) RuleError) (x : A) (v : Option A) (w : Standing) (ls : Lists) → Ends (giving r x) v w ls → Ends (giving r (tt {0})) (option_map (λ y. tt {0}) v) w ls
-ends-without (Ok y) x v w ls h = (h.0, ap (option_map (λ y. tt {0})) h.1)
-ends-without (Err NotApplicable) x v w ls h = (h.0, ap (option_map (λ y. tt {0})) h.1)
-ends-without (Err (Wide a b)) x v w ls h = h
-ends-without (Err OutOfMemory) x v w ls h = tt
-
-pub claims-without : {A : Type 0} (r : Result (Unit {0}) RuleError) (x : A) (o : Attempt A) (before after : Lists) → Claims (giving r x) before after o → Claims (giving r tt) before after (without_value o)
-claims-without r x o before after h = record { ends = ends-without r x o.value (walk (owing before) o.events) after h.ends }
 
 -- ---- an attempt that does nothing
 

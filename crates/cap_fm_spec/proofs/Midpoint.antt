@@ -79,12 +79,6 @@ tightest Q b (d ∷ ds) p q =
 
 -- ---- kinds
 
-weak : (k : Kind) (z : ℤ) → IsOrder k → HoldsAs k z → z ≤ℤ pos 0
-weak Le z o h = h
-weak Lt z o h = omega (arith, ints)
-weak Eq z o h = absurd o
-weak Ne z o h = absurd o
-
 strictly : (k : Kind) (z : ℤ) → IsOrder k → z <ℤ pos 0 → HoldsAs k z
 strictly Le z o h = omega (arith, ints)
 strictly Lt z o h = h

@@ -115,9 +115,6 @@ both-unit a b e = let t = and-true (is_unit a) (is_unit b) e in (unit-is a t.0, 
 pair-some : (a b : Element) → (is_unit a && is_unit b) ≡ false → pair_of a b ≡ both a b
 pair-some a b e = rw e refl
 
-pair-none : (a b : Element) → (is_unit a && is_unit b) ≡ true → pair_of a b ≡ nothing
-pair-none a b e = rw e refl
-
 pairs-made : (a b c d : Element) (r s : Option Element) → (is_unit a && is_unit b) ≡ false → compose a c ≡ r → compose b d ≡ s
     → bind r (λ x. bind s (λ y. Some (both x y))) ≡ bind r (λ x. bind s (λ y. Some (pair_of x y)))
 pairs-made a b c d None s h p q = refl
@@ -230,10 +227,6 @@ below-full a x y h k g = ap (at_most x) (full-only a y k g) ∙ at_most-full a x
 on-left-at_most-nothing : (x : Element) → at_most (on_left x) nothing ≡ false
 on-left-at_most-nothing x = elim (is_full x) as (λ b. at_most (if b then whole else left x) nothing ≡ false) [ true ↦ refl | false ↦ refl ]
 
-not-unit-of-full : (a : PlainAlgebra) (y : Element) → is_full y ≡ true → is_unit y ≡ false
-not-unit-of-full a y g = elim (true_or_false (is_unit y)) [
-  | inl u ↦ absurd (let c : false ≡ true = sym (ap is_full (unit-is y u)) ∙ g in cc)
-  | inr u ↦ u
 ]
 
 pub at_most-in-left : (x y : Element) → AreKin x y → at_most x y ≡ at_most (in_left x) (in_left y)

@@ -1,5 +1,5 @@
 -- Lists of items, and tasks that are done.
-use Rattle.std.proofs.Common.{◌≡◌, ℕ, true, false, List, [], ◌∷◌, ◌++◌, map, reverse, Option, Some, None, refl, ap, sym, ◌∙◌, length}
+use Rattle.std.proofs.Common.{◌≡◌, false, List, [], ◌∷◌, map, refl}
 use Rattle.std.specs.Borrow.{Bor}
 use Rattle.cap_prog.specs.declared.assertion.Item.{Item}
 use Rattle.cap_prog.specs.Program.{Items, none, item, items_of, append_items}
@@ -21,7 +21,3 @@ some-items (x ∷ xs) h = refl
 -- the first list has items
 pub some-first : (l : Bor (List Item)) (ls : List (Bor (List Item))) → (l.now ≡ [] → ⊥) → has_no_items (items_in (l ∷ ls) none) ≡ false
 some-first l ls h = some-in ls (append_items (items_of (map item_view l.now)) none) (some-items l.now h)
-
--- the first list has none
-pub none-first : (l : Bor (List Item)) (ls : List (Bor (List Item))) → l.now ≡ [] → items_in (l ∷ ls) none ≡ items_in ls none
-none-first l ls e = ap (λ xs. items_in ls (append_items (items_of (map item_view xs)) none)) e

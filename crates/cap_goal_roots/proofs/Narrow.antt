@@ -6,14 +6,11 @@ use Rattle.cap_lin.specs.Steps.{Step}
 use Rattle.cap_lin.specs.Exact.{IsExactBy}
 use Rattle.cap_lin.specs.declared.error.LinError.{LinError}
 use Rattle.cap_fm_spec.proofs.Lists.{each-map}
-use Rattle.cap_prog.specs.Program.{done, PlainRegionType, PlainFunction, PlainProgram}
-use Rattle.cap_prog.specs.WellFormed.{RegionFits, FunctionFits}
+use Rattle.cap_prog.specs.Program.{done, PlainFunction, PlainProgram}
+use Rattle.cap_prog.specs.WellFormed.{FunctionFits}
 use Rattle.cap_goal_spec.specs.Roots.{loops_in}
 use Rattle.cap_rules_fits.proofs.Functions.{function_loops}
-use Rattle.cap_goal_roots.specs.Units.{CaseIsNarrow, LoopIsNarrow}
-
-pub narrow_cases : (p : PlainProgram) (k : PlainRegionType) → RegionFits p k → AllByRecursion (CaseIsNarrow k) k.cases
-narrow_cases p k h = each-map _ _ k.cases h.cases (λ c f. (f.variables, f.comparisons))
+use Rattle.cap_goal_roots.specs.Units.{LoopIsNarrow}
 
 pub narrow_loops : (p : PlainProgram) (f : PlainFunction) → FunctionFits p f → AllByRecursion (LoopIsNarrow f) (loops_in f.body done)
 narrow_loops p f h = each-map _ _ (loops_in f.body done) (function_loops p f h) (λ w l. l.invariant.variables)

@@ -1,11 +1,11 @@
 -- Choices that trees pass over, and where the choices that are left stop.
 use Rattle.std.proofs.Common.{◌≡◌, ◌≢◌, inl, inr, ℕ, suc, ◌+◌, ◌<◌, List, [], ◌∷◌, ◌++◌, length, map, Option, Some, None, refl, sym, ap, subst, ◌∙◌, append_assoc, arith, length-append}
-use Rattle.std.specs.Prelude.{Result, Ok, Err}
+use Rattle.std.specs.Prelude.{Err}
 use Rattle.std.specs.List.{AllZip}
 use Rattle.std.proofs.lemmas.List.{append-nil}
 use Rattle.cap_prog.specs.Program.{PlainProgram}
 use Rattle.cap_goal_spec.specs.States.{PlainGoal}
-use Rattle.cap_goal_spec.specs.Choices.{PlainChoice, PlainTree, node, PlainTrees, no_trees, tree}
+use Rattle.cap_goal_spec.specs.Choices.{PlainChoice, PlainTree, node, PlainTrees}
 use Rattle.cap_goal_spec.specs.Roots.{all_roots}
 use Rattle.cap_rules.specs.Answers.{Subgoals}
 use Rattle.cap_rules.specs.Valid.{deepest, Derives, AllDerive}
@@ -19,9 +19,6 @@ use Rattle.cap_kernel_check.specs.Walks.{Leaves}
 use Rattle.cap_kernel_check.proofs.Judging.{derives-owed, all-owed}
 
 -- ---- choices that are passed over
-
-pub over-none : (w : PlainPreorder) → PassesOver w [] w
-over-none w = (refl, omega arith)
 
 pub over-then : (u v w : PlainPreorder) (xs ys : List PlainChoice) → PassesOver u xs v → PassesOver v ys w → PassesOver u (xs ++ ys) w
 over-then u v w xs ys (r, n) (s, m) =
@@ -59,10 +56,6 @@ stops-here p ds w P h =
 
 some-goal : (g : PlainGoal) → Some g ≢ None
 some-goal g e = let k : Some g ≡ None = e in cc
-
-pub node-lacks : (p : PlainProgram) (n : ℕ) (g : PlainGoal) (ds : List PlainDebt) (w : PlainPreorder) → w.rest ≡ [] → Halts p (owes n g ∷ ds) w (Shape (suc w.passed))
-node-lacks p n g ds w e =
-    stops-here p (owes n g ∷ ds) w MisfitsNext (subst (λ z. MisfitsNext (owes n g ∷ ds) z) (sym e) (some-goal g))
 
 pub node-fails : (p : PlainProgram) (n : ℕ) (g : PlainGoal) (ds : List PlainDebt) (w v : PlainPreorder) (c : PlainChoice) → PassesOver w (c ∷ []) v → ((gs : List PlainGoal) → ¬ Pays p (owes n g) c gs) → Halts p (owes n g ∷ ds) w (Node v.passed)
 node-fails p n g ds w v c (r, m) never =
@@ -102,13 +95,6 @@ all-lead p n gs ts ds d ys end h = all-owed ts p n gs ds end ys d h
 
 -- ---- roots
 
-pub root-barred : (p : PlainProgram) (ds : List PlainDebt) (w : PlainPreorder) → Halts p (debts_of (barred ∷ []) ++ ds) w (Node (suc w.passed))
-root-barred p ds w = stops-here p (debts_of (barred ∷ []) ++ ds) w (FailsNext p) (none-pays w.rest)
-  where
-    none-pays : (cs : List PlainChoice) → FailsNext p (debts_of (barred ∷ []) ++ ds) cs
-    none-pays [] = refl
-    none-pays (c ∷ cs) = λ gs h. h
-
 pub roots-lead : (ts : List (Option PlainTree)) (ss : List PlainStart) (p : PlainProgram) (ds : List PlainDebt) → AllZip (StartDerives p) ts ss → Leads p (debts_of ss ++ ds) (preorder ts) ds
 roots-lead [] [] p ds z ys end h = h
 roots-lead [] (s ∷ ss) p ds z ys end h = absurd z
@@ -122,9 +108,6 @@ roots-lead (Some t ∷ ts) (at_goal g ∷ ss) p ds z ys end h =
     (derives-owed t p 0 g (debts_of ss ++ ds) end (preorder ts ++ ys) z.0 (roots-lead ts ss p ds z.1 ys end h))
 
 -- ---- all roots
-
-pub all-passed : (cs ys : List PlainChoice) (w : PlainPreorder) → PassesOver (record { passed = 0; rest = cs }) ys w → w.rest ≡ [] → ys ≡ cs
-all-passed cs ys w (r, n) e = sym (r ∙ (ap (λ z. ys ++ z) e ∙ append-nil ys))
 
 pub halts-at-roots : (p : PlainProgram) (ds : List PlainDebt) (w : PlainPreorder) (e : CheckError) → Halts p (ds ++ []) w e → Halts p ds w e
 halts-at-roots p ds w e h = subst (λ z. Halts p z w e) (append-nil ds) h

@@ -6,7 +6,7 @@ use Rattle.std.proofs.lemmas.List.{append-nil, length-append}
 use Rattle.cap_prog.specs.Program.{PlainProgram}
 use Rattle.cap_goal_spec.specs.States.{PlainGoal}
 use Rattle.cap_goal_spec.specs.Choices.{PlainChoice}
-use Rattle.cap_goal_spec.specs.Roots.{all_roots}
+
 use Rattle.cap_kernel_check.specs.declared.error.CheckError.{CheckError}
 use Rattle.cap_kernel_check.specs.declared.error.CheckError.TheVariants.{Node, Shape}
 use Rattle.cap_kernel_check.specs.Starts.{PlainStart, no_tasks, at_goal, barred, starts}
@@ -65,12 +65,6 @@ next-stops p trees cs more c j P a h = record {
   follows = a.follows;
   stops = h;
 }
-
-pub next-strays : (j new : PlainJudge) (c : PlainChoice) → j.fault ≡ None → j.owed ≡ [] → new ≡ with_fault j (Shape j.next) → JudgesNext j c new
-next-strays j new c f o e p trees cs h =
-    let a : AreOwed p trees cs j.next j.owed = stands-open p trees cs j f h in
-    let s : StaysJudged p trees (cs ++ c ∷ []) (Shape j.next) = λ more. inr (a.many, next-stops p trees cs more c j MisfitsNext a (subst (λ z. MisfitsNext z (c ∷ more)) (sym o) tt)) in
-    subst (Judges p trees (cs ++ c ∷ [])) (sym e) (record { program = h.program; stands = s })
 
 pub next-fails : (j new : PlainJudge) (c : PlainChoice) (d : PlainDebt) (ds : List PlainDebt) → j.fault ≡ None → j.owed ≡ d ∷ ds → LeavesOwed j.program d c None → new ≡ with_fault j (Node j.next) → JudgesNext j c new
 next-fails j new c d ds f o l e p trees cs h =

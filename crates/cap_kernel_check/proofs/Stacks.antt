@@ -8,8 +8,8 @@ use Rattle.cap_goal_spec.specs.Choices.{PlainChoice}
 use Rattle.cap_rules.specs.Valid.{deepest}
 use Rattle.cap_rules_fits.specs.Kept.{IsKept}
 use Rattle.cap_kernel_check.specs.declared.debt.Debt.{Debt}
-use Rattle.cap_kernel_check.specs.Starts.{PlainStart, no_tasks, at_goal, barred}
-use Rattle.cap_kernel_check.specs.Owed.{PlainDebt, owes, debts_of}
+
+use Rattle.cap_kernel_check.specs.Owed.{PlainDebt, owes}
 use Rattle.cap_kernel_check.specs.Walks.{Leaves}
 use Rattle.cap_kernel_check.specs.Debts.{debt_view, owed_view, DebtsAreKept, LeavesOwed}
 
@@ -23,11 +23,6 @@ map-reversed f (x ∷ xs) =
 
 pub reversed-view : (xs : List Debt) → owed_view (reverse xs) ≡ map debt_view xs
 reversed-view xs = ap reverse (map-reversed debt_view xs) ∙ reverse-reverse (map debt_view xs)
-
-pub debts-first : (s : PlainStart) (ss : List PlainStart) → debts_of (s ∷ ss) ≡ debts_of (s ∷ []) ++ debts_of ss
-debts-first no_tasks ss = refl
-debts-first (at_goal g) ss = refl
-debts-first barred ss = refl
 
 pub kept-join : (p : PlainProgram) (xs ys : List PlainDebt) → DebtsAreKept p xs → DebtsAreKept p ys → DebtsAreKept p (xs ++ ys)
 kept-join p [] ys a b = b

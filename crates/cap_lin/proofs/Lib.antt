@@ -14,4 +14,3 @@ pub mod Replace
 pub mod Rows
 pub mod Infeasible
 pub mod Proves
-pub mod Sameness

@@ -104,12 +104,6 @@ product_is-wide a b x y e d n = rw (← e, ← d) (product-wide a b [] n)
 pub product_is-narrow : (a b x y : ℤ) → a ≡ x → b ≡ y → FitsSigned w128 (a *ℤ b) → first_wide (product_of x y ∷ []) ≡ None
 product_is-narrow a b x y e d n = rw (← e, ← d) (product-fits a b [] n ∙ first_wide-nil)
 
-pub put-more : (x : ℕ) (k : ℤ) → (k ≡ pos 0 → ⊥) → put_part x k [] ≡ (x, k) ∷ []
-put-more x k n = rw (is_zero-no k n) refl
-
-pub put-none : (x : ℕ) (k : ℤ) → k ≡ pos 0 → put_part x k [] ≡ []
-put-none x k e = rw (is_zero-yes k e) refl
-
 pub put-append : (x : ℕ) (k : ℤ) (ps : List (ℕ × ℤ)) → put_part x k ps ≡ put_part x k [] ++ ps
 put-append x (pos zero) ps = refl
 put-append x (pos (suc n)) ps = refl

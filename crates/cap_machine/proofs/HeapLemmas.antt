@@ -1,5 +1,5 @@
 -- Maps of the code and finite maps.
-use Rattle.std.proofs.Common.{◌≡◌, ◌∙◌, ap, refl, sym, subst, ℕ, zero, suc, ◌+◌, ◌-◌, ◌^◌, ◌<◌, ◌≤◌, Bool, true, false, cond, not, ◌&&◌, List, [], ◌∷◌, length, get_or, take, arith, rules}
+use Rattle.std.proofs.Common.{◌≡◌, ◌∙◌, ap, refl, sym, subst, ℕ, zero, suc, ◌+◌, ◌-◌, ◌^◌, ◌<◌, ◌≤◌, Bool, true, false, cond, not, List, [], ◌∷◌, length, get_or, take, arith, rules}
 use Rattle.std.proofs.lemmas.List.{take_more}
 use Rattle.std.specs.Prelude.{ℤ, pos, negsuc, ◌+ℤ◌, ◌<ℤ◌, ◌≤ℤ◌, int_lt, Option, Some, None, IsSome, is_some, is_none, Result, Ok, Err, OnOk, OnErr}
 use Rattle.std.specs.Ordering.{int_cmp, is_eq, is_lt, MatchOrdering}
@@ -15,7 +15,7 @@ use Rattle.std.proofs.lemmas.Bool.Decides.{nat_tests}
 use mir.Val.{SFits, to_z, of_z}
 use mir.Syntax.{w128}
 use Rattle.cap_lin.specs.Steps.{fits}
-use Rattle.cap_machine.specs.Machine.{Heap, are_free, with_cells}
+use Rattle.cap_machine.specs.Machine.{Heap, are_free}
 use Rattle.cap_machine.specs.Cells.{AscendsFrom, IsTop, IsNarrow}
 use Rattle.cap_machine.proofs.Enabled.{and_first, and_second, and_both, none_is}
 
@@ -152,14 +152,6 @@ free_front h base (suc n) l e =
     let i : n ≡ suc n - 1 = omega arith in
     let P : ℕ → Type 0 = λ k. (are_free h base k ≡ true) × (get h (base +ℤ pos k) ≡ None) in
     subst P i (and_first (are_free h base n) _ e, none_is _ (and_second (are_free h base n) _ e))
-
-pub cells_front : (h : Heap) (base : ℤ) (n : ℕ) → 0 < n → with_cells h base n ≡ with_cells (insert h (base +ℤ pos (n - 1)) (pos 0)) base (n - 1)
-cells_front h base zero l = absurd (omega arith)
-cells_front h base (suc n) l = let i : n ≡ suc n - 1 = omega arith in ap (λ k. with_cells (insert h (base +ℤ pos k) (pos 0)) base k) i
-
-pub free_front_is : (h : Heap) (base : ℤ) (n : ℕ) → 0 < n → are_free h base n ≡ (are_free h base (n - 1) && is_none (get h (base +ℤ pos (n - 1))))
-free_front_is h base zero l = absurd (omega arith)
-free_front_is h base (suc n) l = let i : n ≡ suc n - 1 = omega arith in ap (λ k. are_free h base k && is_none (get h (base +ℤ pos k))) i
 
 pub fits_low : (z : ℤ) → fits z ≡ true → negsuc (2 ^ 127 - 1) ≤ℤ z
 fits_low (pos n) h = grind (arith, ints)

@@ -1,6 +1,6 @@
 -- Which statement is ready, and when none is.
 use Rattle.std.proofs.Common.{◌≡◌, ◌∙◌, ap, sym, refl, subst, rules, ℕ, zero, suc, ◌+◌, ◌-◌, ◌<◌, ◌≤◌, Bool, true, false, cond, not, ◌&&◌, List, [], ◌∷◌, ◌++◌, map, get_or, length, length-set, length-append, arith}
-use Rattle.std.specs.Prelude.{ℤ, pos, ◌≤ℤ◌, int_le, ◌+ℤ◌, slice_get, slice_set, Option, Some, None, is_none, is_some, option_map, MatchOption, IsTrue, IsSomeAnd, Result, Ok, Err, ◌↔◌, option_and_then}
+use Rattle.std.specs.Prelude.{ℤ, pos, ◌≤ℤ◌, int_le, ◌+ℤ◌, slice_get, slice_set, Option, Some, None, is_none, is_some, option_map, MatchOption, IsTrue, IsSomeAnd, Result, Ok, Err, ◌↔◌}
 use Rattle.std.specs.Global.{Vec}
 use Rattle.std.specs.Option.{SomeIff}
 use Rattle.std.specs.Result.{OkIff, result_unwrap_or}
@@ -29,10 +29,10 @@ use Rattle.cap_machine.specs.declared.machine.Machine.{Machine}
 use Rattle.cap_machine.specs.Cells.{IsTop}
 use Rattle.cap_machine.specs.Machine.{Heap, Frame, Thread, Configuration, Outcome, next, fault, disabled, Spot, with_rest, new_frame, at_cell, swaps, may_be_at, allocates, sets, with_cells, calls, forks, returns, does, value_in, holds, compared, takes_base, statement_step, thread_step, step, top_frame, are_free}
 use Rattle.cap_machine.specs.Fits.{FrameFits, ThreadFits, ConfigurationFits}
-use Rattle.cap_machine.specs.Laws.{is_step, running, first_statement, AreFree, BaseFits}
+use Rattle.cap_machine.specs.Laws.{is_step, running, AreFree, BaseFits}
 use Rattle.cap_machine.specs.Results.{allocation_steps, are_narrow}
 use Rattle.cap_machine.specs.View.{body_of, thread_view, configuration, is_stopped, ArePlaced, AllArePlaced, RunsProgram, IsSame, LeavesMachine, Steps, is_enabled}
-use Rattle.cap_machine.specs.Ready.{IsReady, IsReadyTo, statement_ahead, ahead}
+use Rattle.cap_machine.specs.Ready.{IsReady, IsReadyTo}
 use Rattle.cap_machine.proofs.Lists.{all_at}
 use Rattle.cap_machine.proofs.Keeping.{Runs, runs, step-kept, KeepsFit}
 use Rattle.cap_machine.proofs.MachineLemmas.{thread_count}
@@ -116,22 +116,8 @@ and_false false b e = refl
 pub stopped_disabled : (p : PlainProgram) (m : Machine) (e : Entry) → is_stopped m ≡ true → is_enabled p m e ≡ false
 stopped_disabled p m e h = ap (λ b. not b && is_step (step p (configuration p m) e)) h
 
-pub thread_disabled : (p : PlainProgram) (m : Machine) (e : Entry) → running (configuration p m) e.thread ≡ None → is_enabled p m e ≡ false
-thread_disabled p m e h = and_false (not (is_stopped m)) _ (go (slice_get (configuration p m).threads e.thread) h)
-  where
-    go : (o : Option Thread) → top_frame o ≡ None → is_step (thread_step p (configuration p m) e o) ≡ false
-    go None i = refl
-    go (Some []) i = refl
-    go (Some (f ∷ fs)) i = absurd (cc)
-
 spot_of : (p : PlainProgram) (m : Machine) (e : Entry) (f : Frame) → List Frame → Spot
 spot_of p m e f fs = record { thread = e.thread; frame = f; below = fs; configuration = configuration p m }
-
-pub block_disabled : (p : PlainProgram) (m : Machine) (e : Entry) (f : Frame) → running (configuration p m) e.thread ≡ Some f → f.rest ≡ done → is_enabled p m e ≡ false
-block_disabled p m e f t i =
-    let fs = running_is (slice_get (configuration p m).threads e.thread) f t in
-    let s : Spot = record { thread = e.thread; frame = f; below = fs.0; configuration = configuration p m } in
-    and_false (not (is_stopped m)) _ (ap is_step (ap (thread_step p (configuration p m) e) fs.1 ∙ ap (statement_step p s e.base) i))
 
 pub base_disabled : (p : PlainProgram) (m : Machine) (e : Entry) (s : PlainStatement) (f : Frame) (rest : Block) → IsWellFormed p → RunsProgram p m → running (configuration p m) e.thread ≡ Some f → f.rest ≡ first s.label s.act rest → (BaseFits (configuration p m).heap s.act e.base → ⊥) → is_enabled p m e ≡ false
 base_disabled p m e s f rest w h t i b =
@@ -145,29 +131,11 @@ base_disabled p m e s f rest w h t i b =
 
 -- ---- the base of an allocation
 
-pub base_is_free : (h : Heap) (base : ℤ) (n : ℕ) → (pos 1 ≤ℤ base) × AreFree h base n → are_free h base n ≡ true
-base_is_free h base n b = is_free h base n b.1
-
 -- ---- what is ahead
 
 never_done : (o : Option PlainFunction) (f : Frame) → IsSomeAnd o (λ g. FrameFits g (with_rest f done)) → ⊥
 never_done None f h = h
 never_done (Some g) f h = h.closing
-
-pub never_ends : (p : PlainProgram) (m : Machine) (thread : ℕ) (f : Frame) → RunsProgram p m → running (configuration p m) thread ≡ Some f → f.rest ≡ done → ⊥
-never_ends p m thread f h t i =
-    let fs = running_is (slice_get (configuration p m).threads thread) f t in
-    let k : ThreadFits p (f ∷ fs.0) = all_at (ThreadFits p) (configuration p m).threads thread (f ∷ fs.0) h.frames fs.1 in
-    let P : Block → Type 0 = λ q. IsSomeAnd (slice_get p.functions f.function) (λ g. FrameFits g (with_rest f q)) in
-    never_done (slice_get p.functions f.function) f (subst P i k.0)
-
-pub ahead_none : (c : Configuration) (thread : ℕ) → running c thread ≡ None → ahead c thread ≡ None
-ahead_none c thread e = ap (λ o. option_and_then (λ (f : Frame). option_map (statement_ahead f.function) (first_statement f.rest)) o) e
-
-pub ahead_some : (c : Configuration) (thread : ℕ) (f : Frame) (s : PlainStatement) (rest : Block) → running c thread ≡ Some f → f.rest ≡ first s.label s.act rest → ahead c thread ≡ Some (statement_ahead f.function s)
-ahead_some c thread f s rest e i =
-    ap (λ o. option_and_then (λ (f : Frame). option_map (statement_ahead f.function) (first_statement f.rest)) o) e
-    ∙ ap (λ b. option_map (statement_ahead f.function) (first_statement b)) i
 
 pub act_of : (s : Statement) → (statement_view s).act ≡ act_view s.act
 act_of s = search (rules, acts.the_lemmas)

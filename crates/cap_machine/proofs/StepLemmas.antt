@@ -1,6 +1,6 @@
 -- What the definition does at each statement, by what the code found.
-use Rattle.std.proofs.Common.{◌≡◌, ◌∙◌, ap, sym, refl, ℕ, zero, suc, Bool, true, false, not, cond, ◌&&◌, List, [], ◌∷◌, ◌++◌, length, arith}
-use Rattle.std.specs.Prelude.{ℤ, pos, ◌<ℤ◌, ◌≤ℤ◌, slice_get, slice_set, Option, Some, None, Result, Ok, Err, OnErr, int_le}
+use Rattle.std.proofs.Common.{◌≡◌, ◌∙◌, ap, sym, refl, ℕ, zero, suc, Bool, true, false, cond, ◌&&◌, List, [], ◌∷◌, ◌++◌, length, arith}
+use Rattle.std.specs.Prelude.{ℤ, pos, ◌≤ℤ◌, slice_get, slice_set, Option, Some, None, Result, Ok, Err, OnErr, int_le}
 use Rattle.std.specs.FinMap.{get}
 use Rattle.std.proofs.lemmas.Int.{ints, to_z-of_z}
 use mir.Val.{SFits, to_z, of_z}
@@ -10,15 +10,15 @@ use Rattle.cap_prog.specs.Program.{PlainStatement, PlainFunction, PlainProgram}
 use Rattle.cap_machine.specs.declared.event.Entry.{Entry}
 use Rattle.cap_machine.specs.declared.event.Event.{Event}
 use Rattle.cap_machine.specs.declared.event.Event.TheVariants.{Bad, Call, Fork}
-use Rattle.cap_machine.specs.declared.event.StepError.TheVariants.{NotEnabled}
+
 use Rattle.cap_machine.specs.declared.machine.Machine.{Machine}
-use Rattle.cap_machine.specs.Machine.{Heap, Frame, Thread, Configuration, Outcome, next, fault, disabled, Spot, with_rest, new_frame, calls, forks, at_cell, compared, returns, may_be_at, are_free}
-use Rattle.cap_machine.specs.Laws.{is_step}
+use Rattle.cap_machine.specs.Machine.{Heap, Frame, Thread, Configuration, Outcome, next, fault, Spot, with_rest, new_frame, calls, forks, at_cell, compared, returns, may_be_at, are_free}
+
 use Rattle.cap_machine.specs.Results.{act_steps, are_narrow}
 use Rattle.cap_machine.specs.Changes.{passed, with_top, received, returned, return_event}
-use Rattle.cap_machine.specs.View.{configuration, is_stopped, Steps}
+use Rattle.cap_machine.specs.View.{configuration, Steps}
 use Rattle.cap_machine.specs.Ready.{IsReady, CanChange, HasChanged, HasThread, update, with_thread}
-use Rattle.cap_machine.proofs.ActLemmas.{spot, now, step_is, ok_next, update_is, passed_to}
+use Rattle.cap_machine.proofs.ActLemmas.{spot, now, ok_next, update_is, passed_to}
 use Rattle.cap_machine.proofs.MachineLemmas.{has_top}
 
 pub cell_absent : (a cell : ℤ) (h k : Heap) (f : ℤ → Outcome) → cell ≡ a → None ≡ get h cell → k ≡ h → at_cell a (get k a) f ≡ fault (Bad cell)
@@ -96,26 +96,12 @@ forked_ok p m more after e s r first n k g vs w o i j h c l =
 
 -- ---- entries that are not enabled
 
-pub disabled_now : (p : PlainProgram) (m : Machine) (e : Entry) (s : PlainStatement) (r : IsReady p m e s) → now p m e s r ≡ disabled → Steps p e m m (Err NotEnabled)
-disabled_now p m e s r d =
-    (ap (λ o. not (is_stopped m) && is_step o) (step_is p m e s r ∙ d) ∙ ap (λ b. not b && false) r.runs, record { same_configuration = refl; same_stop = refl })
-
 -- ---- numbers of 128 bits that are the same
 
 pub same_number : (a b : ℤ) → SFits w128 a → SFits w128 b → of_z w128 a ≡ of_z w128 b → a ≡ b
 same_number a b f g e = sym (to_z-of_z w128 a f) ∙ (ap (to_z w128) e ∙ to_z-of_z w128 b g)
 
 -- ---- allocations
-
-pub not_at_low : (h : Heap) (b : ℤ) (n : ℕ) → b <ℤ pos 1 → may_be_at h b n ≡ false
-not_at_low h b n l = let e : int_le (pos 1) b ≡ false = grind (arith, ints) in ap (λ x. x && are_free h b n) e
-
-pub not_at_taken : (h k : Heap) (b : ℤ) (n : ℕ) → are_free h b n ≡ false → k ≡ h → may_be_at k b n ≡ false
-not_at_taken h k b n e i = ap (λ x. may_be_at x b n) i ∙ (ap (λ x. int_le (pos 1) b && x) e ∙ neither (int_le (pos 1) b))
-  where
-    neither : (x : Bool) → x && false ≡ false
-    neither true = refl
-    neither false = refl
 
 pub at_free : (h k : Heap) (b : ℤ) (n : ℕ) → pos 1 ≤ℤ b → are_free h b n ≡ true → k ≡ h → may_be_at k b n ≡ true
 at_free h k b n l e i = let f : int_le (pos 1) b ≡ true = grind (arith, ints) in ap (λ x. may_be_at x b n) i ∙ (ap (λ x. x && are_free h b n) f ∙ e)

@@ -91,7 +91,3 @@ returns_value p xs ys z v h s =
     let f = get_or xs n z in
     let top : f ≡ get_or xs n f = get_or_default xs n z f (omega arith) in
     ap (return_event v) (sym (ap (thread_view p) s ∙ two_on_top p xs n f z e top))
-
-pub ends_thread : (p : PlainProgram) (xs ys : List code.Frame) (z : code.Frame) (v : ℤ) → length xs ≡ 0 → ys ≡ xs ++ z ∷ [] → thread_view p xs ≡ returned v (thread_view p ys)
-ends_thread p [] ys z v h s = ap (returned v) (sym (ap (thread_view p) s))
-ends_thread p (x ∷ xs) ys z v h s = absurd (omega arith)

@@ -1,12 +1,12 @@
 -- Choices that are tried, and the cell that is sought.
-use Rattle.std.proofs.Common.{◌≡◌, ℕ, zero, suc, ◌+◌, ◌<◌, ◌≤◌, List, [], ◌∷◌, ◌++◌, map, Option, Some, None, refl, sym, ap, ◌∙◌, arith, append-nil, drop, length}
+use Rattle.std.proofs.Common.{◌≡◌, ℕ, zero, suc, ◌+◌, ◌<◌, ◌≤◌, List, [], ◌∷◌, ◌++◌, map, Option, Some, None, refl, sym, ap, ◌∙◌, arith, append-nil}
 use Rattle.std.specs.Prelude.{option_to_list, flat_map, ◌-◌}
 use Rattle.std.specs.List.{range_with_len}
 use Rattle.cap_lin.specs.Linear.{Linear}
 use Rattle.cap_prog.specs.Program.{PlainAct, PlainProgram}
 use Rattle.cap_goal_spec.specs.States.{PlainGoal}
 use Rattle.cap_goal_spec.specs.Choices.{PlainChoice, by_clash}
-use Rattle.cap_offer_spec.specs.Deciding.{PlainNotes, Outcome, Noted, done, ◌>>=◌}
+use Rattle.cap_offer_spec.specs.Deciding.{PlainNotes, Outcome, Noted, ◌>>=◌}
 use Rattle.cap_offer_spec.specs.Listing.{clashes_with}
 use Rattle.cap_offer_spec.specs.Claims.{has_address, has_item_address}
 use Rattle.cap_offer_spec.specs.Scanning.{tried, tried_all, first_tried, or_later, unless_over, first_cell, first_act}
@@ -59,7 +59,6 @@ next-fails p g f i n old new h e =
     ap (λ ns. first_tried p g (map f ns) old) (range-next i n h)
     ∙ (ap (λ v. or_later v rest (tried p g (f i) old).notes) (sym e.0) ∙ ap rest (sym e.1))
 
-pub next-succeeds : (p : PlainProgram) (g : PlainGoal) (f : ℕ → PlainChoice) (i n : ℕ) (c : PlainChoice) (old new : PlainNotes) → i < n → (Some c ≡ (tried p g (f i) old).value) × (new ≡ (tried p g (f i) old).notes) → first_tried p g (map f (range_with_len i (n - i))) old ≡ record { value = Some c; notes = new }
 unfolding first_tried
 next-succeeds p g f i n c old new h e =
     let rest : Noted (Option PlainChoice) = first_tried p g (map f (range_with_len (i + 1) (n - (i + 1)))) in

@@ -1,5 +1,5 @@
 -- Members of lists by their numbers.
-use Rattle.std.proofs.Common.{◌≡◌, ℕ, suc, ◌+◌, Bool, true, false, List, [], ◌∷◌, map, Option, Some, None, refl, sym, ap, subst, ◌∙◌, ◌<◌, ◌≤◌, length, get_or, drop}
+use Rattle.std.proofs.Common.{◌≡◌, ℕ, suc, Bool, true, List, ◌∷◌, map, Some, refl, sym, ap, ◌∙◌, ◌<◌, ◌≤◌, length, get_or, drop}
 use Rattle.std.proofs.lemmas.List.{get_or-map, length-map}
 use Rattle.std.proofs.lemmas.Option.{slice_get_past, slice_get-get_or}
 use Rattle.std.specs.Prelude.{Ok, Err, slice_get, find}
@@ -21,9 +21,6 @@ member-seen f xs i b h e = ap f e ∙ sym (get_or-map f xs i b (f b) h)
 pub view-there : {X Y : Type 0} (f : X → Y) (xs : List X) (i : ℕ) (x : X) → i < length xs → x ≡ get_or xs i x → Makes (Ok (f x)) (found (slice_get (map f xs) i))
 view-there f xs i x h e = member-there (map f xs) i (f x) (rw (length-map xs f) h) (member-seen f xs i x h e)
 
-pub view-lacking : {X Y : Type 0} (f : X → Y) (xs : List X) (i : ℕ) → length xs ≤ i → Makes {A = Y} (Err NotApplicable) (found (slice_get (map f xs) i))
-view-lacking f xs i h = member-lacking (map f xs) i (rw (length-map xs f) h)
-
 -- ---- the first one that passes a test
 
 pub found-first : {X : Type 0} (p : X → Bool) (xs : List X) (i : ℕ) (x : X) → i < length xs → x ≡ get_or xs i x → p x ≡ true → find p (drop i xs) ≡ Some x
@@ -31,9 +28,3 @@ found-first p xs i x h e t = ap (find p) (split-at xs i x h e) ∙ first p x (dr
   where
     first : {X : Type 0} (p : X → Bool) (x : X) (xs : List X) → p x ≡ true → find p (x ∷ xs) ≡ Some x
     first p x xs t = rw t refl
-
-pub found-later : {X : Type 0} (p : X → Bool) (xs : List X) (i : ℕ) (x : X) → i < length xs → x ≡ get_or xs i x → p x ≡ false → find p (drop i xs) ≡ find p (drop (suc i) xs)
-found-later p xs i x h e t = ap (find p) (split-at xs i x h e) ∙ later p x (drop (suc i) xs) t
-  where
-    later : {X : Type 0} (p : X → Bool) (x : X) (xs : List X) → p x ≡ false → find p (x ∷ xs) ≡ find p xs
-    later p x xs t = rw t refl

@@ -1,6 +1,6 @@
 -- Attempts that go through a list and claim something at each step.
-use Rattle.std.proofs.Common.{◌≡◌, ℕ, suc, ◌+◌, List, [], ◌∷◌, ◌++◌, map, refl, sym, ap, subst, ◌∙◌, ◌<◌, ◌≤◌, length, get_or, drop, add-one}
-use Rattle.std.proofs.lemmas.List.{drop_all, get_or-map, drop-map, append_assoc, append-nil}
+use Rattle.std.proofs.Common.{◌≡◌, ℕ, suc, ◌+◌, List, [], ◌∷◌, ◌++◌, map, sym, ap, subst, ◌∙◌, ◌<◌, ◌≤◌, length, get_or, drop, add-one}
+use Rattle.std.proofs.lemmas.List.{drop_all, append_assoc, append-nil}
 use Rattle.std.specs.Prelude.{Ok, Err, Result}
 use Rattle.cap_lin.specs.declared.row.Row.{Row}
 use Rattle.cap_rules.specs.Attempts.{Attempt, unit, go_on}
@@ -29,7 +29,6 @@ claims-end F s xs i before middle whole r h m l = l.leads r middle (rw (drop_all
 
 -- ---- a list that is seen by its members
 
-pub mapped-goes : {S X Y A : Type 0} (F : S → List Y → Attempt A) (step : S → Y → Attempt S) (v : X → Y) → Goes F step → Goes (λ s xs. F s (map v xs)) (λ s x. step s (v x))
 unfolding Goes
 mapped-goes F step v g = λ s x xs. g s (v x) (map v xs)
 
@@ -38,9 +37,6 @@ mapped-goes F step v g = λ s x xs. g s (v x) (map v xs)
 -- what the step makes comes before what the rest makes
 unfoldable pub Chunks : {X S Y : Type 0} (G : List X → Attempt (List Y)) (step : X → Attempt S) (made : S → X → List Y) → Type 0
 Chunks {X} {S} {Y} G step made = (x : X) (xs : List X) → G (x ∷ xs) ≡ go_on (step x).events (step x).value (λ s. go_on (G xs).events (G xs).value (λ ys. unit (made s x ++ ys)))
-
-pub chunks-first : {X Y : Type 0} (G : List X → Attempt (List Y)) (xs : List X) → LeadsBehind [] (G xs) (G xs)
-chunks-first G xs = record { ok = λ ys k. k; fails = λ e k. k }
 
 pub chunks-next : {X S Y : Type 0} (G : List X → Attempt (List Y)) (step : X → Attempt S) (made : S → X → List Y) → Chunks G step made → (xs : List X) (i : ℕ) (x : X) (s : S) (ys zs : List Y) (whole : Attempt (List Y)) → i < length xs → x ≡ get_or xs i x → Makes (Ok s) (step x) → zs ≡ ys ++ made s x → LeadsBehind ys (G (drop i xs)) whole → LeadsBehind zs (G (drop (i + 1) xs)) whole
 unfolding Chunks

@@ -34,10 +34,6 @@ result_name f = fixed_start f + length f.fixed
 abbrev pub names_start : PlainFunction → ℕ
 names_start f = result_name f + 1
 
--- the sorts of a function's variables, with those of an assertion's names
-abbrev pub function_sorts : PlainFunction → List Sort → List Sort
-function_sorts f names = replicate (fixed_start f) Int ++ (f.fixed ++ Int ∷ names)
-
 -- the sorts of a region type's variables, with those of a case's or an action's names
 abbrev pub region_sorts : PlainRegionType → List Sort → List Sort
 region_sorts k names = replicate k.params Int ++ names

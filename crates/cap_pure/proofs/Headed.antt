@@ -9,12 +9,12 @@ use Rattle.cap_goal_spec.specs.Choices.{PlainChoice, by_absurd, by_clash, by_set
 use Rattle.cap_goal.specs.declared.task.Task.{Task}
 use Rattle.cap_goal.specs.Views.{tasks_view}
 use Rattle.cap_rules.specs.Attempts.{not_applicable}
-use Rattle.cap_rules.specs.Answers.{marks_of, full_marks}
+use Rattle.cap_rules.specs.Answers.{marks_of}
 use Rattle.cap_rules.specs.Rules.{rule}
 use Rattle.cap_rules_steps.specs.Walks.{Claims}
 use Rattle.cap_rules_steps.specs.declared.error.RuleError.TheVariants.{NotApplicable}
 use Rattle.cap_rules_steps.proofs.Walking.{inapplicable, weaker}
-use Rattle.cap_pure.specs.Heads.{IsAtStatement, IsPure, running, run_rule, turning, turn_rule, tasks_rule}
+use Rattle.cap_pure.specs.Heads.{IsPure, running, run_rule, tasks_rule}
 
 clashes : (p : PlainProgram) (s : PlainState) (i j : ℕ) (cs : List Cert) (t : PlainTask) (ts : List PlainTask) → run_rule p s (by_clash i j cs) (running t ts) ≡ tasks_rule p s (by_clash i j cs) (t ∷ ts)
 clashes p s i j cs (to_run h done) ts = refl
@@ -68,32 +68,6 @@ asserts p s cs (to_close any n) ts = refl
 asserts p s cs (to_shift o c m e n) ts = refl
 asserts p s cs (to_rest j' n) ts = refl
 
-branches-off : (p : PlainProgram) (s : PlainState) (t : PlainTask) (ts : List PlainTask) → run_rule p s by_if (running t ts) ≡ tasks_rule p s by_if (t ∷ ts)
-branches-off p s (to_run h done) ts = refl
-branches-off p s (to_run h (first l a rest)) ts = refl
-branches-off p s (to_turn h done) ts = refl
-branches-off p s (to_turn h (first l a rest)) ts = refl
-branches-off p s (to_give items e n) ts = refl
-branches-off p s (to_take none e left n) ts = refl
-branches-off p s (to_take (item i' more) e left n) ts = refl
-branches-off p s (to_make k c e t n) ts = refl
-branches-off p s (to_close any n) ts = refl
-branches-off p s (to_shift o c m e n) ts = refl
-branches-off p s (to_rest j' n) ts = refl
-
-leaves-loop : (p : PlainProgram) (s : PlainState) (t : PlainTask) (ts : List PlainTask) → run_rule p s by_loop (running t ts) ≡ tasks_rule p s by_loop (t ∷ ts)
-leaves-loop p s (to_run h done) ts = refl
-leaves-loop p s (to_run h (first l a rest)) ts = refl
-leaves-loop p s (to_turn h done) ts = refl
-leaves-loop p s (to_turn h (first l a rest)) ts = refl
-leaves-loop p s (to_give items e n) ts = refl
-leaves-loop p s (to_take none e left n) ts = refl
-leaves-loop p s (to_take (item i' more) e left n) ts = refl
-leaves-loop p s (to_make k c e t n) ts = refl
-leaves-loop p s (to_close any n) ts = refl
-leaves-loop p s (to_shift o c m e n) ts = refl
-leaves-loop p s (to_rest j' n) ts = refl
-
 calls : (p : PlainProgram) (s : PlainState) (t : PlainTask) (ts : List PlainTask) → run_rule p s by_call (running t ts) ≡ tasks_rule p s by_call (t ∷ ts)
 calls p s (to_run h done) ts = refl
 calls p s (to_run h (first l a rest)) ts = refl
@@ -133,31 +107,6 @@ returns p s (to_close any n) ts = refl
 returns p s (to_shift o c m e n) ts = refl
 returns p s (to_rest j' n) ts = refl
 
-pub run-by-rule : (p : PlainProgram) (s : PlainState) (c : PlainChoice) (t : PlainTask) (ts : List PlainTask) → IsAtStatement c → run_rule p s c (running t ts) ≡ tasks_rule p s c (t ∷ ts)
-run-by-rule p s (by_clash i j cs) t ts h = clashes p s i j cs t ts
-run-by-rule p s by_set t ts h = sets p s t ts
-run-by-rule p s by_alloc t ts h = allocates p s t ts
-run-by-rule p s (by_assert cs) t ts h = asserts p s cs t ts
-run-by-rule p s by_if t ts h = branches-off p s t ts
-run-by-rule p s by_loop t ts h = leaves-loop p s t ts
-run-by-rule p s by_call t ts h = calls p s t ts
-run-by-rule p s by_fork t ts h = forks p s t ts
-run-by-rule p s by_return t ts h = returns p s t ts
-run-by-rule p s c t ts h = absurd h
-
-pub turn-by-rule : (p : PlainProgram) (s : PlainState) (t : PlainTask) (ts : List PlainTask) → turn_rule s (turning t ts) ≡ tasks_rule p s by_turn (t ∷ ts)
-turn-by-rule p s (to_run h done) ts = refl
-turn-by-rule p s (to_run h (first l a rest)) ts = refl
-turn-by-rule p s (to_turn h done) ts = refl
-turn-by-rule p s (to_turn h (first l a rest)) ts = refl
-turn-by-rule p s (to_give items e n) ts = refl
-turn-by-rule p s (to_take none e left n) ts = refl
-turn-by-rule p s (to_take (item i' more) e left n) ts = refl
-turn-by-rule p s (to_make k c e t n) ts = refl
-turn-by-rule p s (to_close any n) ts = refl
-turn-by-rule p s (to_shift o c m e n) ts = refl
-turn-by-rule p s (to_rest j' n) ts = refl
-
 -- no such choice has marks
 pub by_rule : (p : PlainProgram) (g : PlainGoal) (c : PlainChoice) → IsPure c → tasks_rule p g.state c g.tasks ≡ rule p g c (marks_of c)
 by_rule p g (by_absurd c) h = refl
@@ -172,20 +121,6 @@ by_rule p g by_fork h = refl
 by_rule p g by_return h = refl
 by_rule p g by_turn h = refl
 by_rule p g c h = absurd h
-
-pub by_full_rule : (p : PlainProgram) (g : PlainGoal) (c : PlainChoice) → IsPure c → tasks_rule p g.state c g.tasks ≡ rule p g c (full_marks g.state c)
-by_full_rule p g (by_absurd c) h = refl
-by_full_rule p g (by_clash i j cs) h = refl
-by_full_rule p g by_set h = refl
-by_full_rule p g by_alloc h = refl
-by_full_rule p g (by_assert cs) h = refl
-by_full_rule p g by_if h = refl
-by_full_rule p g by_loop h = refl
-by_full_rule p g by_call h = refl
-by_full_rule p g by_fork h = refl
-by_full_rule p g by_return h = refl
-by_full_rule p g by_turn h = refl
-by_full_rule p g c h = absurd h
 
 -- ---- without a head
 

@@ -21,12 +21,12 @@ use Rattle.cap_goal.specs.declared.task.Home as home
 use Rattle.cap_goal.specs.declared.task.Point.{Point}
 use Rattle.cap_rules.specs.Attempts.{Attempt, not_applicable}
 use Rattle.cap_rules.specs.Closing.{address_of}
-use Rattle.cap_rules.specs.Rules.{at_statement, at_turn, at_clash}
+use Rattle.cap_rules.specs.Rules.{at_statement, at_turn}
 use Rattle.cap_rules_steps.specs.Walks.{Makes}
 use Rattle.cap_rules_steps.specs.declared.error.RuleError.TheVariants.{NotApplicable}
 use Rattle.cap_rules_steps.proofs.Walking.{inapplicable}
 use Rattle.cap_pure.specs.declared.upcoming.Upcoming as next
-use Rattle.cap_pure.specs.Statements.{two_cells}
+
 use Rattle.cap_pure.specs.Heads.{Upcoming, upcoming_view, statement_rule, loop_rule, turning, turn_rule}
 
 seen-act : (s : Statement) → (statement_view s).act ≡ act_view s.act
@@ -135,19 +135,6 @@ no-address (give_back t) h = refl
 
 true-false : true ≡ false → ⊥
 true-false e = cc
-
-pub heap-clash : (s : PlainState) (i j : ℕ) (a : PlainAct) → true ≡ is_heap_act a → at_clash s i j a ≡ two_cells s i j
-heap-clash s i j (set x t) h = absurd (true-false h)
-heap-clash s i j (read x a) h = refl
-heap-clash s i j (write a t) h = refl
-heap-clash s i j (cas x a old new) h = refl
-heap-clash s i j (alloc x n) h = absurd (true-false h)
-heap-clash s i j (call x f args) h = absurd (true-false h)
-heap-clash s i j (fork f args) h = absurd (true-false h)
-heap-clash s i j (branch c a b) h = absurd (true-false h)
-heap-clash s i j (loop c i' a) h = absurd (true-false h)
-heap-clash s i j (check c) h = absurd (true-false h)
-heap-clash s i j (give_back t) h = absurd (true-false h)
 
 -- ---- other tasks than at a loop's head
 

@@ -1,6 +1,6 @@
 -- The first piece of a text, found from left to right.
-use Rattle.std.proofs.Common.{◌≡◌, ◌∙◌, ap, sym, refl, ℕ, zero, suc, ◌+◌, ◌<◌, ◌≤◌, Bool, true, false, nat_eq, List, [], ◌∷◌, ◌++◌, take, drop, length, get_or, append_assoc, drop-cons, add-one, take_all, arith}
-use Rattle.std.proofs.lemmas.List.{take_more}
+use Rattle.std.proofs.Common.{◌≡◌, ◌∙◌, ap, sym, refl, ℕ, zero, suc, ◌+◌, ◌≤◌, Bool, true, false, nat_eq, List, [], ◌∷◌, ◌++◌, take, drop, length, append_assoc, take_all, arith}
+
 use Rattle.std.proofs.lemmas.Bool.Decides.{nat_tests}
 use Rattle.cap_replay.specs.Pieces.{grow, put, pieces}
 
@@ -32,28 +32,9 @@ first_whole separator (b ∷ bs) = go (nat_eq b separator) (pieces separator bs)
     go false [] = refl
     go false (p ∷ ps) = refl
 
-pub first_cut : (separator : ℕ) (bytes : List ℕ) (i : ℕ) → i < length bytes → get_or bytes i 0 ≡ separator → IsFirst separator bytes i → pieces separator bytes ≡ take i bytes ∷ pieces separator (drop (i + 1) bytes)
-first_cut separator bytes i l e h =
-    let d : drop i bytes ≡ get_or bytes i 0 ∷ drop (suc i) bytes = drop-cons bytes i 0 l in
-    h
-    ∙ (ap (λ x. join (take i bytes) (pieces separator x)) d
-    ∙ (ap (λ t. join (take i bytes) (put t (get_or bytes i 0) (pieces separator (drop (suc i) bytes)))) (same (get_or bytes i 0) separator e)
-    ∙ (ap (λ x. x ∷ pieces separator (drop (suc i) bytes)) (append_nil (take i bytes))
-    ∙ ap (λ k. take i bytes ∷ pieces separator (drop k bytes)) (sym (add-one i)))))
-
 joined : (xs : List ℕ) (b : ℕ) (ps : List (List ℕ)) → join xs (grow b ps) ≡ join (xs ++ b ∷ []) ps
 joined xs b [] = refl
 joined xs b (p ∷ ps) = ap (λ x. x ∷ ps) (sym (append_assoc xs (b ∷ []) p))
-
-pub first_more : (separator : ℕ) (bytes : List ℕ) (i : ℕ) → i < length bytes → (get_or bytes i 0 ≡ separator → ⊥) → IsFirst separator bytes i → IsFirst separator bytes (i + 1)
-first_more separator bytes i l n h =
-    let d : drop i bytes ≡ get_or bytes i 0 ∷ drop (suc i) bytes = drop-cons bytes i 0 l in
-    h
-    ∙ (ap (λ x. join (take i bytes) (pieces separator x)) d
-    ∙ (ap (λ t. join (take i bytes) (put t (get_or bytes i 0) (pieces separator (drop (suc i) bytes)))) (other (get_or bytes i 0) separator n)
-    ∙ (joined (take i bytes) (get_or bytes i 0) (pieces separator (drop (suc i) bytes))
-    ∙ (ap (λ x. join x (pieces separator (drop (suc i) bytes))) (sym (take_more bytes i 0 l))
-    ∙ ap (λ k. join (take (i + 1) bytes) (pieces separator (drop k bytes))) (sym (add-one i))))))
 
 pub first_all : (separator : ℕ) (bytes : List ℕ) (i : ℕ) → length bytes ≤ i → IsFirst separator bytes i → pieces separator bytes ≡ bytes ∷ []
 first_all separator bytes i l h =

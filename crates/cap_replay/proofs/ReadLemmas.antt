@@ -1,12 +1,12 @@
 -- Lines that are read one after the other.
-use Rattle.std.proofs.Common.{◌≡◌, ◌∙◌, ap, sym, refl, subst, ℕ, suc, ◌<◌, Bool, true, false, nat_eq, List, [], ◌∷◌, ◌++◌, length, append_assoc, arith}
-use Rattle.std.specs.Prelude.{ℤ, Option, Some, None, option_map, Result, Ok, Err}
-use Rattle.cap_replay.specs.declared.entries.Schedule.{Schedule}
+use Rattle.std.proofs.Common.{◌≡◌, ◌∙◌, ap, sym, refl, ℕ, suc, ◌<◌, Bool, true, false, nat_eq, List, [], ◌∷◌, ◌++◌, length, append_assoc, arith}
+use Rattle.std.specs.Prelude.{ℤ, Option, Some, None, option_map, Err}
+
 use Rattle.cap_replay.specs.declared.reading.ScheduleError.{ScheduleError}
 use Rattle.cap_replay.specs.declared.reading.ScheduleError.TheVariants.{BadLine, TooMany, OutOfMemory}
 use Rattle.cap_replay.specs.Pieces.{put, pieces, pieces_behind}
 use Rattle.cap_replay.specs.Numbers.{number}
-use Rattle.cap_replay.specs.Reading.{put_number, numbers_of, last_number, base_of, Progress, bad_unless, takes_end, take_line, lines_of, or_empty, then_read, ended, read_from, read, GivesProgress, IsReadAs}
+use Rattle.cap_replay.specs.Reading.{put_number, numbers_of, last_number, base_of, Progress, bad_unless, takes_end, take_line, lines_of, or_empty, then_read, read_from, read, GivesProgress, IsReadAs}
 
 -- the numbers so far, in front of those behind
 abbrev pub IsSoFar : List ℤ → List (List ℕ) → List (List ℕ) → Type 0
@@ -29,10 +29,6 @@ so_far_next vs ws v w rest behind all h e n g =
     go : (o : Option (List ℤ)) → option_map (λ xs. (vs ++ v ∷ []) ++ xs) o ≡ option_map (λ xs. vs ++ xs) (put_number (Some v) o)
     go None = refl
     go (Some x) = ap Some (append_assoc vs (v ∷ []) x)
-
-pub so_far_bad : (vs : List ℤ) (w : List ℕ) (rest behind all : List (List ℕ)) → IsSoFar vs rest all → rest ≡ w ∷ behind → None ≡ number w → None ≡ numbers_of all
-so_far_bad vs w rest behind all h e n =
-    ap (λ o. option_map (λ xs. vs ++ xs) (put_number o (numbers_of behind))) n ∙ (ap (λ r. option_map (λ xs. vs ++ xs) (numbers_of r)) (sym e) ∙ h)
 
 pub so_far_all : (vs : List ℤ) (all : List (List ℕ)) → IsSoFar vs [] all → Some vs ≡ numbers_of all
 so_far_all vs all h = ap Some (sym (append_nil vs)) ∙ h
@@ -118,13 +114,6 @@ lines_next rest line behind l e = ap lines_of e ∙ go line behind e
 abbrev pub IsLeft : ℕ → Progress → List ℕ → List ℕ → Type 0
 IsLeft n p rest bytes = read_from n p (lines_of (pieces 10 rest)) ≡ read bytes
 
-pub line_next : (n number : ℕ) (p q : Progress) (rest line more bytes : List ℕ) (behind : Option (List ℕ)) → IsLeft n p rest bytes → 0 < length rest → pieces 10 rest ≡ line ∷ pieces_behind 10 behind → take_line n p line ≡ Ok q → number ≡ suc n → more ≡ or_empty behind → IsLeft number q more bytes
-line_next n number p q rest line more bytes behind h l e t i m =
-    ap (λ k. read_from k q (lines_of (pieces 10 more))) i
-    ∙ (ap (λ x. read_from (suc n) q (lines_of (pieces 10 x))) m
-    ∙ (sym (ap (λ r. then_read r (λ y. read_from (suc n) y (lines_of (pieces 10 (or_empty behind))))) t)
-    ∙ (sym (ap (read_from n p) (lines_next rest line behind l e)) ∙ h)))
-
 line_stops : (n : ℕ) (p : Progress) (rest line bytes : List ℕ) (behind : Option (List ℕ)) (x : ScheduleError) → IsLeft n p rest bytes → 0 < length rest → pieces 10 rest ≡ line ∷ pieces_behind 10 behind → take_line n p line ≡ Err x → read bytes ≡ Err x
 line_stops n p rest line bytes behind x h l e t =
     sym h ∙ (ap (read_from n p) (lines_next rest line behind l e) ∙ ap (λ r. then_read r (λ y. read_from (suc n) y (lines_of (pieces 10 (or_empty behind))))) t)
@@ -134,7 +123,3 @@ pub line_fails : {T : Type 0} (n : ℕ) (p : Progress) (rest line bytes : List �
 line_fails n p rest line bytes behind (BadLine k) view h l e t = line_stops n p rest line bytes behind (BadLine k) h l e t
 line_fails n p rest line bytes behind TooMany view h l e t = line_stops n p rest line bytes behind TooMany h l e t
 line_fails n p rest line bytes behind OutOfMemory view h l e t = tt
-
-pub lines_end : (n : ℕ) (p : Progress) (rest bytes : List ℕ) (r : Result Schedule ScheduleError) → IsLeft n p rest bytes → length rest ≡ 0 → IsReadAs r (ended n p.stage p) → IsReadAs r (read bytes)
-lines_end n p [] bytes r h l a = subst (IsReadAs r) h a
-lines_end n p (b ∷ bs) bytes r h l a = absurd (omega arith)

@@ -1,41 +1,15 @@
 -- Which names are known where, by the lists of names alone.
-use Rattle.std.specs.Prelude.{ℕ, Bool, not, ◌&&◌, ◌||◌, if◌then◌else◌, List, [], ◌∷◌, ◌++◌, map, filter, flat_map, filter_map, Option, Some, None, option_to_list}
-use Rattle.cap_syntax.specs.declared.place.Place.{Place}
+use Rattle.std.specs.Prelude.{Bool, not, ◌&&◌, ◌||◌, if◌then◌else◌, List, [], ◌∷◌, ◌++◌, filter, Option, None}
+
 use Rattle.cap_parse_tree.specs.declared.word.Word.{Word}
-use Rattle.cap_parse_tree.specs.Tree.{StatementTree}
-use Rattle.cap_resolve_spec.specs.Parts.{PlacedItem, is_word, statement_names, destination, invariant, clause_parts}
-use Rattle.cap_resolve_spec.specs.Names.{KnownName, NameScope, known_as, whole_numbers, hidden, is_among, knows, firsts, with_first, word_text}
-use Rattle.cap_resolve_spec.specs.Items.{TypedName, Occurrence, name_of, is_bound, occurs_among, occurrences, occurrence_words, new_names, scope_of}
-use Rattle.cap_resolve_spec.specs.Functions.{statement_words, result_entry}
+
+use Rattle.cap_resolve_spec.specs.Parts.{PlacedItem, is_word}
+use Rattle.cap_resolve_spec.specs.Names.{KnownName, NameScope, known_as, knows, firsts, with_first, word_text}
+use Rattle.cap_resolve_spec.specs.Items.{TypedName, Occurrence, name_of, is_bound, occurrences, new_names, scope_of}
 
 -- the new names of an assertion
 abbrev pub new_in : NameScope → List TypedName → List PlacedItem → List Occurrence
 new_in scope types parts = new_names scope (occurrences types parts)
-
--- destinations that are no parameters and not fixed, by first appearance
-abbrev pub is_local_of : List Word → List Word → List Word → Word → Bool
-is_local_of destinations parameters fixed w =
-    is_among destinations w.text
-    && (not (is_among parameters w.text) && not (is_among fixed w.text))
-
-abbrev pub locals_of : List Word → List Word → List Word → List Word → List Word
-locals_of destinations parameters fixed words =
-    firsts word_text (filter (is_local_of destinations parameters fixed) words)
-
-abbrev pub body_entry : List Word → Occurrence → Option KnownName
-body_entry destinations o =
-    if is_among destinations (name_of o) then known_as o.sort o.word else None
-
--- the new names of a case that it knows
-abbrev pub is_known_by : List Occurrence → Option Word → Occurrence → Bool
-is_known_by inner whole o =
-    occurs_among (filter is_bound inner) (name_of o) || is_word (name_of o) whole
-
--- the new names of an action that it knows
-abbrev pub is_whole_by : List Occurrence → Option Word → Option Word → Occurrence → Bool
-is_whole_by atoms source target o =
-    is_word (name_of o) source
-    || (is_word (name_of o) target || occurs_among (filter is_bound atoms) (name_of o))
 
 -- ---- by scopes that know the names
 

@@ -40,9 +40,6 @@ clause-fit p rs types scope h (Some c) a = assertion-fit p rs None types scope h
 pub all-bound : (os : List Occurrence) → new_findings os ≡ [] → filter is_bound os ≡ os
 all-bound os e = all-kept is_bound os (nothing_kept (λ o. not o.bound) os (nothing_mapped occurrence_word (filter (λ o. not o.bound) os) (nothing_mapped unknown_word (occurrence_words (filter (λ o. not o.bound) os)) (nothing_front _ (ret_findings os) e))))
 
-pub each-subst : {A : Type 0} (P : A → List Occurrence → Type 0) (os vs : List Occurrence) → os ≡ vs → (xs : List A) → AllByRecursion (λ x. P x os) xs → AllByRecursion (λ x. P x vs) xs
-each-subst P os vs e xs a = subst (λ ws. AllByRecursion (λ x. P x ws) xs) e a
-
 -- ---- `requires`
 
 between : (a h b : NameScope) (x : List ℕ) → knows (a ++ b) x ≡ true → knows (a ++ (h ++ b)) x ≡ true

@@ -289,10 +289,6 @@ region-short rs k ts h =
 
 -- ---- the whole
 
-declaration-adds : Adds spell_declaration
-declaration-adds (region r) ts = region-adds r ts
-declaration-adds (function f) ts = function-adds [] [] f ts
-
 -- a region type or function with all that it spells
 pub record IsShortRegion (r : RegionTree) : Type 0 where
   pub behind : List Token

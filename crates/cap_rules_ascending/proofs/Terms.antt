@@ -19,9 +19,6 @@ use Rattle.cap_goal_spec.specs.Environments.{term_of, bound_term, term_in, with_
 use Rattle.cap_rules_ascending.specs.Ascending.{TermAscends, RowAscends, NameAscends, EnvAscends, FactAscends}
 use Rattle.cap_rules_ascending.proofs.Lists.{IfSome, all-join, all-cons, all-get, all-set}
 
-pub number-ascends : (c : ℤ) → TermAscends (number c)
-number-ascends c = tt
-
 pub variable-ascends : (x : ℕ) → TermAscends (variable x)
 variable-ascends x = (omega arith, (λ e. absurd (one-not-zero e)), tt)
   where

@@ -1,5 +1,5 @@
 -- Points of bodies, and lists of tasks.
-use Rattle.std.proofs.Common.{◌≡◌, ◌<◌, List, [], ◌∷◌, ◌++◌, map, length, drop, take, get_or, ◌-◌, Some, None, refl, sym, ap, ◌∙◌, arith}
+use Rattle.std.proofs.Common.{◌≡◌, ◌<◌, List, [], ◌∷◌, ◌++◌, map, length, drop, take, get_or, ◌-◌, Some, refl, sym, ap, ◌∙◌, arith}
 use Rattle.std.specs.Prelude.{option_to_list}
 use Rattle.std.specs.Borrow.{Bor}
 use Rattle.std.proofs.lemmas.List.{length-reverse, length-map, map-append, take_all}
@@ -39,10 +39,6 @@ one-pushed pushed ls l r s p h e q =
 some-goal : (s : PlainState) (ts : List PlainTask) → (length ts ≡ 0 → ⊥) → goal_at s ts ≡ Some (goal s ts)
 some-goal s [] h = absurd (h refl)
 some-goal s (t ∷ ts) h = refl
-
-no-goal : (s : PlainState) (ts : List PlainTask) → length ts ≡ 0 → goal_at s ts ≡ None
-no-goal s [] h = refl
-no-goal s (t ∷ ts) h = absurd (omega arith)
 
 tasks-length : (ts : List Task) → length (tasks_view ts) ≡ length ts
 tasks-length ts = length-reverse (map task_view ts) ∙ length-map ts task_view

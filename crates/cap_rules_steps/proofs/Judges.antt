@@ -96,9 +96,6 @@ pub record LeftAt (ls : Lists) (cs : List Cert) (i : ℕ) : Type 0 where
   pub refuted : Refuted (drop i ls) (drop i cs) → Refuted ls cs
   pub refused : RefutedNot (drop i ls) (drop i cs) → RefutedNot ls cs
 
-pub left-first : (ls : Lists) (cs : List Cert) → LeftAt ls cs 0
-left-first ls cs = record { refuted = λ r. r; refused = λ r. r }
-
 pub left-next : (ls : Lists) (cs : List Cert) (i : ℕ) (l : List Row) (c : Cert) → slice_get ls i ≡ Some l → slice_get cs i ≡ Some c → Refutes l c → LeftAt ls cs i → LeftAt ls cs (i + 1)
 left-next ls cs i l c e f r h =
     rw add-one (record {
@@ -111,9 +108,6 @@ left-refused ls cs i l c e f n h = h.refused (rw (get-drop ls i l e, get-drop cs
 
 pub left-lacking : (ls : Lists) (cs : List Cert) (i : ℕ) (l : List Row) → drop i ls ≡ l ∷ drop (suc i) ls → length cs ≤ i → LeftAt ls cs i → RefutedNot ls cs
 left-lacking ls cs i l e g h = h.refused (rw (e, drop_all i cs g) tt)
-
-pub left-all : (ls : Lists) (cs : List Cert) (i : ℕ) → length ls ≤ i → LeftAt ls cs i → Refuted ls cs
-left-all ls cs i g h = h.refuted (rw (drop_all i ls g) tt)
 
 -- ---- answers
 

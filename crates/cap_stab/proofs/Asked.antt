@@ -1,6 +1,6 @@
 -- Names that get variables one after the other.
 use Rattle.std.proofs.Common.{◌≡◌, ℕ, suc, ℤ, ◌+◌, ◌-◌, ◌<◌, ◌≤◌, List, [], ◌∷◌, ◌++◌, length, drop, get_or, slice_index_or, drop-cons, refl, sym, ap, ◌∙◌, arith, append_assoc, append-nil, length-append}
-use Rattle.std.proofs.lemmas.List.{drop_all}
+
 use Rattle.cap_lin.specs.Linear.{Linear, variable}
 use Rattle.cap_prog.specs.declared.assertion.Asked.{Asked}
 use Rattle.cap_goal_spec.specs.Terms.{variables_from}
@@ -56,13 +56,7 @@ guard_next gs i g h e = drop-cons gs i g h ∙ (ap (λ y. y ∷ drop (suc i) gs)
 pub asked_more : (w w' whole : Names) (gs : List (ℕ × Asked)) (i : ℕ) (g : ℕ × Asked) → w' ≡ ask w g.1 → i < length gs → g ≡ slice_index_or gs i g → ask_all w (drop i gs) ≡ whole → ask_all w' (drop (i + 1) gs) ≡ whole
 asked_more w w' whole gs i g e h at inv = ap (λ v. ask_all v (drop (i + 1) gs)) e ∙ (ap (ask_all w) (sym (guard_next gs i g h at)) ∙ inv)
 
-pub asked_done : (w whole : Names) (gs : List (ℕ × Asked)) (i : ℕ) → length gs ≤ i → ask_all w (drop i gs) ≡ whole → w ≡ whole
-asked_done w whole gs i h inv = ap (ask_all w) (sym (drop_all i gs h)) ∙ inv
-
 pub starts_more : (done whole : List ℕ) (w w' : Names) (gs : List (ℕ × Asked)) (i : ℕ) (g : ℕ × Asked) → w' ≡ ask w g.1 → i < length gs → g ≡ slice_index_or gs i g → done ++ starts_of w (drop i gs) ≡ whole → (done ++ (w.next ∷ [])) ++ starts_of w' (drop (i + 1) gs) ≡ whole
 starts_more done whole w w' gs i g e h at inv =
     append_assoc done (w.next ∷ []) (starts_of w' (drop (i + 1) gs))
     ∙ (ap (λ v. done ++ (w.next ∷ starts_of v (drop (i + 1) gs))) e ∙ (ap (λ l. done ++ starts_of w l) (sym (guard_next gs i g h at)) ∙ inv))
-
-pub starts_done : (done whole : List ℕ) (w : Names) (gs : List (ℕ × Asked)) (i : ℕ) → length gs ≤ i → done ++ starts_of w (drop i gs) ≡ whole → done ≡ whole
-starts_done done whole w gs i h inv = sym (append-nil done) ∙ (ap (λ l. done ++ starts_of w l) (sym (drop_all i gs h)) ∙ inv)

@@ -105,11 +105,6 @@ pub closed_fails : (s : PlainState) (named : List Row) (a : PlainAction) (names 
 closed_fails s [] a names rows ls e h x = absurd (omega arith)
 closed_fails s (r ∷ rs) a names rows ls e h x = wide_claims e (term_over_steps (term_among names) a.target) _ ls x
 
-pub closed_made : (s : PlainState) (named : List Row) (a : PlainAction) (names : List Linear) (rows : List Row) (t : Linear) (before after : Lists) (r : Result (Unit {0}) RuleError) → 1 ≤ length named → first_wide (term_over_steps (term_among names) a.target) ≡ None → t ≡ term_over (term_among names) a.target → Claims r before after (prove_at s rows t named) → Claims r before after (prove_closed s named a names (Some rows))
-closed_made s [] a names rows t before after r h n e c = absurd (omega arith)
-closed_made s (q ∷ qs) a names rows t before after r h n e c =
-    narrow_claims r (term_over_steps (term_among names) a.target) _ before after n (subst (λ u. Claims r before after (prove_at s rows u (q ∷ qs))) e c)
-
 pub same_alone : (f : PlainFact) (a : PlainAction) (names : List Linear) (ls : Lists) → Claims (Ok tt) ls ls (prove_same f a names None)
 same_alone f a names ls = weaker (Ok tt) (unit tt) ls (done tt)
 

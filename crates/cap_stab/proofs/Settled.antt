@@ -8,11 +8,11 @@ use Rattle.cap_prog.specs.Program.{PlainRegionType}
 use Rattle.cap_goal_spec.specs.States.{PlainFact, PlainState, longest_list}
 use Rattle.cap_goal_spec.specs.Candidates.{candidates, later_state}
 use Rattle.cap_rules.specs.Attempts.{unit, need, go_on}
-use Rattle.cap_rules.specs.Making.{with_sort, with_rows, with_state}
+use Rattle.cap_rules.specs.Making.{with_sort, with_state}
 use Rattle.cap_rules.specs.Resting.{named_candidates, prove_at, prove_stable, with_settled, settle}
 use Rattle.cap_rules_steps.specs.Walks.{Makes, Claims}
 use Rattle.cap_rules_steps.specs.declared.error.RuleError.{RuleError}
-use Rattle.cap_rules_steps.proofs.Walking.{then_made, unmade, weaker, made_claims, unmade_claims, claims_then, claims_fail}
+use Rattle.cap_rules_steps.proofs.Walking.{unmade, weaker, made_claims, unmade_claims, claims_then, claims_fail}
 
 abbrev Lists : Type 0
 Lists = List (List Row)
@@ -42,9 +42,6 @@ settled_in s s' j f = record s' { facts = slice_set s.facts j (with_state f (lat
 
 pub settled_fails : (s : PlainState) (j : ℕ) (f : PlainFact) (named : List Row) (e : RuleError) → Makes (Err e) (with_sort s Int) → Makes (Err e) (with_settled s j f named)
 settled_fails s j f named e h = unmade e (with_sort s Int) _ h
-
-pub settled_made : (s s' : PlainState) (j : ℕ) (f : PlainFact) (named : List Row) (r : Result PlainState RuleError) → Makes (Ok s') (with_sort s Int) → Makes r (with_rows (settled_in s s' j f) named) → Makes r (with_settled s j f named)
-settled_made s s' j f named r h k = then_made r (with_sort s Int) (λ x. with_rows (settled_in s x j f) named) s' h k
 
 -- ---- the rule
 

@@ -1,5 +1,5 @@
 -- How the system of an action fails, and what it is.
-use Rattle.std.proofs.Common.{◌≡◌, ℕ, List, ◌∷◌, ◌++◌, None, subst}
+use Rattle.std.proofs.Common.{◌≡◌, ℕ, List, ◌∷◌, ◌++◌, None}
 use Rattle.std.specs.Prelude.{Ok, Err}
 use Rattle.cap_lin.specs.Linear.{Linear}
 use Rattle.cap_lin.specs.Steps.{Step, first_wide}
@@ -66,7 +66,3 @@ compat_fails k s f known a names cs ws e b h =
 pub system_made : (k : PlainRegionType) (s : PlainState) (f : PlainFact) (known : List Row) (a : PlainAction) (names : List Linear) (cs : List Row) (ws : List (ℕ × Form)) → Asked s f a names cs ws → first_wide (compat_steps k.algebra s.guards f.region f.kind ws) ≡ None → Makes (Ok (joined_rows (s.rows ++ (known ++ same_of s a names ∷ cs)) (compat k.algebra s.guards f.region f.kind ws))) (system k s f known a names)
 system_made k s f known a names cs ws b n =
     then_narrow _ (source_steps a names) _ b.begun.source (then_narrow _ (same_steps s a names) _ b.begun.same (then_made _ (rows_over names a.when) _ cs b.conditions (then_made _ (want_all names (first_names s f) a.guards) _ ws b.wanted (then_narrow _ (compat_steps k.algebra s.guards f.region f.kind ws) _ n (done _)))))
-
--- wildcards are given by the variables that come up
-pub as_wanted : {A : Type 0} (P : A → Type 0) (o o' : A) → o ≡ o' → P o → P o'
-as_wanted P o o' e h = subst P e h

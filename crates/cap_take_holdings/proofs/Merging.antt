@@ -1,11 +1,11 @@
 -- A piece is composed with those that are there.
-use Rattle.std.proofs.Common.{◌≡◌, ℕ, ◌<◌, Bool, List, [], ◌∷◌, ◌++◌, length, get_or, Option, Some, None, refl, sym, ap, subst, ◌∙◌}
+use Rattle.std.proofs.Common.{◌≡◌, ℕ, ◌<◌, List, [], ◌++◌, length, get_or, Option, Some, None, refl, sym, ap, subst, ◌∙◌}
 use Rattle.std.specs.Prelude.{slice_get, slice_set, Result, Ok, Err}
 use Rattle.cap_lin.specs.Exact.{Explains}
-use Rattle.cap_lin.specs.Steps.{Step, first_wide}
+use Rattle.cap_lin.specs.Steps.{first_wide}
 use Rattle.cap_lin.specs.declared.row.Row.{Row}
 use Rattle.cap_gsolve.specs.declared.piece.Piece.{Piece}
-use Rattle.cap_gsolve.specs.Merge.{place, joined, merged, merge_rows, merge_steps}
+use Rattle.cap_gsolve.specs.Merge.{place, merged, merge_rows, merge_steps}
 use Rattle.cap_prog.specs.Program.{PlainRegionType, PlainProgram}
 use Rattle.cap_goal_spec.specs.States.{PlainState}
 use Rattle.cap_rules.specs.Attempts.{Attempt, Event, unit, ◌>>=◌, go_on, behind, found, computed}
@@ -18,7 +18,7 @@ use Rattle.cap_lin.specs.declared.error.LinError.{LinError}
 use Rattle.std.proofs.lemmas.List.{append-nil, get_or-set_same}
 use Rattle.cap_gsolve.specs.Pieces.{same_part}
 use Rattle.cap_gsolve.specs.Merge.{merged_at, form_at, combined}
-use Rattle.cap_take_holdings.specs.Holdings.{with_merged, with_last_piece}
+use Rattle.cap_take_holdings.specs.Holdings.{with_merged}
 use Rattle.cap_take_holdings.proofs.Places.{place-below}
 
 -- one piece after the other
@@ -82,6 +82,3 @@ merged-there s t q m ms i e h k w =
     let is : m ≡ new = k ∙ (ap (λ xs. get_or xs i m) all ∙ get_or-set_same s.guards i new m below) in
     let made : Makes (Ok t) (guards_with s.guards q (Some i) >>= λ guards. unit (record s { guards = guards })) = done_as t (record s { guards = slice_set s.guards i new }) (w ∙ ap (λ x. record s { guards = slice_set s.guards i x }) is) in
     subst (λ o. Makes (Ok t) (guards_with s.guards q o >>= λ guards. unit (record s { guards = guards }))) (sym e) made
-
-pub merged-new : (s : PlainState) (q : Piece) (r : Result PlainState RuleError) → place s.guards q ≡ None → Makes r (with_last_piece s q) → Makes r (with_merged s q)
-merged-new s q r e m = subst (λ o. Makes r (guards_with s.guards q o >>= λ guards. unit (record s { guards = guards }))) (sym e) m

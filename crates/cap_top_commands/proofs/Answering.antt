@@ -1,12 +1,10 @@
 -- What is answered to bytes, and nothing else.
 use Rattle.std.proofs.Common.{◌≡◌, ℕ, ◌⊎◌, inl, inr, List, Result, Ok, Err, IfOk, MatchResult, refl, sym, ap, ◌∙◌, subst}
-use Rattle.std.specs.Prelude.{Vec}
-use Rattle.std.specs.Global.{Global}
+
 use Rattle.std.specs.declared.alloc.AllocError.{AllocError}
 use Rattle.cap_prog.specs.declared.program.Program.{Program}
 use Rattle.cap_prog.specs.Views.{program_view}
-use Rattle.cap_parse_tree.specs.declared.tree.Tree.{Tree}
-use Rattle.cap_parse_tree.specs.Canonical.{canonical_text}
+
 use Rattle.cap_parse_tree.specs.Texts.{Spells}
 use Rattle.cap_parse_tree.specs.Views.{tree_view}
 use Rattle.cap_top_reading.specs.declared.refusal.Refusal.{Refusal}
@@ -17,7 +15,7 @@ use Rattle.cap_top_report.specs.declared.report.Report.{Report}
 use Rattle.cap_top_report.specs.Report.{report_text, is_good}
 use Rattle.cap_top_report.specs.Views.{IsReportOf}
 use Rattle.cap_top_commands.specs.declared.output.Output as code
-use Rattle.cap_top_commands.specs.Output.{Output, refusal_output, report_output, tree_output}
+use Rattle.cap_top_commands.specs.Output.{Output, refusal_output, report_output}
 use Rattle.cap_top_commands.specs.Answers.{SaysCause, SaysOf, IsVerified, IsCanonical, IsShown, IsOnly}
 use Rattle.cap_top_commands.specs.Report.{IsReport}
 use Rattle.cap_top_commands.specs.Views.{output_view, IsCause}
@@ -106,14 +104,6 @@ verify_answers budget bytes e (Ok o) f h =
 verify_answers budget bytes e (Err a) f h = tt
 
 -- ---- show
-
-pub show_shows : (bytes : List ℕ) (tree : Tree) (text : Vec ℕ Global) → FindsTree bytes (Ok tree)
-    → text.items ≡ canonical_text (tree_view tree) → IsOnly (IsShown bytes) (tree_output text.items)
-show_shows bytes tree text f h =
-    let t = tree_view tree in
-    let said = found_says tree_view (Spells bytes) (SpellNone bytes) IsCanonical tree (tree_output text.items) f
-    (one_only (IsCanonical t) (tree_output text.items) (tree_output (canonical_text t)) (λ q e. e) refl (ap tree_output h)) in
-    record { said = said.said; only = said.only }
 
 pub show_answers : (bytes : List ℕ) (e : Refusal) (r : Result code.Output AllocError)
     → FindsTree bytes (Err e) → AnswersRefusal e r

@@ -3,7 +3,7 @@ use Rattle.std.proofs.Common.{◌≡◌, ◌≢◌, ℕ, suc, inl, inr, List, []
 use Rattle.std.specs.declared.alloc.AllocError.{AllocError}
 use Rattle.cap_prog.specs.Program.{PlainProgram}
 use Rattle.cap_goal_spec.specs.Choices.{PlainChoice}
-use Rattle.cap_deriv.specs.Told.{Told, all_told, bad_told, unended_told, too_many_told, choice_told, choices_told, Opening, no_opening, bad_opening, opening_told, told_by_bytes}
+use Rattle.cap_deriv.specs.Told.{Told, all_told, bad_told, unended_told, too_many_told, choice_told, choices_told, opening_told, told_by_bytes}
 use Rattle.cap_deriv.specs.Telling.{Opens, Tells}
 use Rattle.cap_deriv.specs.Whole.{told_at_last, end_of_opening}
 use Rattle.cap_deriv.specs.declared.cursor.DerivError.{DerivError}
@@ -30,16 +30,6 @@ in-told : (cs : List PlainChoice) → choices_in (choices_told cs all_told) ≡ 
 unfolding choices_in
 in-told [] = refl
 in-told (c ∷ cs) = ap (λ ds. c ∷ ds) (in-told cs)
-
-trees_in : Opening → ℕ
-trees_in no_opening = 0
-trees_in bad_opening = 0
-trees_in (opening_told n t) = n
-
-told_in : Opening → Told
-told_in no_opening = all_told
-told_in bad_opening = all_told
-told_in (opening_told n t) = t
 
 more-told : (cs : List PlainChoice) (c : PlainChoice) (t : Told) → choices_told (cs ++ c ∷ []) t ≡ choices_told cs (choice_told c t)
 more-told [] c t = refl

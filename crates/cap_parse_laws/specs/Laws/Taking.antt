@@ -1,5 +1,5 @@
 -- Readers take tokens: what is left is shorter.
-use Rattle.std.proofs.Common.{◌≡◌, ℕ, zero, suc, cond, not, ◌<◌, ◌≤◌, Bool, true, false, List, [], ◌∷◌, ◌++◌, length, None, Ok, Err, refl, sym, ap, ◌∙◌, arith, append_assoc, append-nil}
+use Rattle.std.proofs.Common.{◌≡◌, ℕ, zero, suc, cond, not, ◌<◌, ◌≤◌, Bool, true, false, List, [], ◌∷◌, ◌++◌, length, None, Ok, Err, refl, sym, ap, ◌∙◌, arith, append_assoc}
 use Rattle.cap_syntax.specs.declared.token.Token.{Token}
 use Rattle.cap_parse_tree.specs.declared.word.Word.{Word}
 use Rattle.cap_parse_tree.specs.declared.assertion.Counted.{Counted}
@@ -619,11 +619,6 @@ at_most-stops begins one zero ts b = ap (λ o. cond o (Err (unexpected ts)) (Ok 
 at_most-stops begins one (suc n) ts b =
     ap (λ o. cond o (one ts >>= λ a. and_more a.0 (read_at_most begins one n a.1)) (Ok ([], ts))) b
 
--- nothing where none begins
-pub while-stops : {A : Type 0} (begins : Class → Bool) (one : Reader A) (ts : List Token)
-    → begins (ahead ts) ≡ false → read_while begins one ts ≡ Ok ([], ts)
-while-stops begins one ts b = at_most-stops begins one (length ts) ts b
-
 -- what was read before, in front
 abbrev pub with_front : {A : Type 0} → List A → Outcome (List A) → Outcome (List A)
 with_front front (Ok x) = Ok (front ++ x.0, x.1)
@@ -651,9 +646,3 @@ pub while-refused : {A : Type 0} (begins : Class → Bool) (one : Reader A) → 
     → read_while begins one all ≡ Err f
 while-refused begins one h z all f b e =
     while-begins begins one h z all b ∙ ap (λ r. r >>= λ x. and_more x.0 (read_while begins one x.1)) e
-
--- none is left
-pub while-done : {A : Type 0} (begins : Class → Bool) (one : Reader A) (front : List A) (all : List Token)
-    → begins (ahead all) ≡ false → with_front front (read_while begins one all) ≡ Ok (front, all)
-while-done begins one front all b =
-    ap (with_front front) (while-stops begins one all b) ∙ ap (λ l. Ok (l, all)) (append-nil front)
