@@ -14,7 +14,6 @@ use Rattle.cap_rules.specs.Resting.{prove_at}
 use Rattle.cap_offer_spec.specs.Deciding.{PlainNotes, decided_all, certified_by, certified, succeeds}
 use Rattle.cap_offer_spec.proofs.Trying.{Runs, proofs-come}
 use Rattle.cap_rules_steps.specs.declared.error.RuleError.{RuleError}
-
 use Rattle.cap_rules_steps.specs.Errors.{rule_error}
 use Rattle.cap_rules_steps.specs.Judging.{IsTold}
 use Rattle.cap_rules_steps.specs.Walks.{Makes}

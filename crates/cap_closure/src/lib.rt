@@ -9,4 +9,3 @@ mod surviving;
 mod testing;
 
 pub use closing::{Closed, Closure, closure_at, closure_of};
-

@@ -11,4 +11,3 @@ pub use certifying::{certified, certified_by};
 pub use deciding::{decided, decided_all, decided_each};
 pub use notes::Notes;
 pub use proving::proves;
-

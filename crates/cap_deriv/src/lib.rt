@@ -11,4 +11,3 @@ mod values;
 
 pub use cursor::{Cursor, DerivError};
 pub use entire::{Lines, read};
-

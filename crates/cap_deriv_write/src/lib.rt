@@ -12,4 +12,3 @@ mod writing;
 pub use laws::{lines_are_forms, readings_are_lines, writings_are_lines, writings_are_read_back};
 pub use preorder::node_count;
 pub use writing::write;
-

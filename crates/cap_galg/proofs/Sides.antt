@@ -227,8 +227,6 @@ below-full a x y h k g = ap (at_most x) (full-only a y k g) ∙ at_most-full a x
 on-left-at_most-nothing : (x : Element) → at_most (on_left x) nothing ≡ false
 on-left-at_most-nothing x = elim (is_full x) as (λ b. at_most (if b then whole else left x) nothing ≡ false) [ true ↦ refl | false ↦ refl ]
 
-]
-
 pub at_most-in-left : (x y : Element) → AreKin x y → at_most x y ≡ at_most (in_left x) (in_left y)
 at_most-in-left x y k = elim (true_or_false (is_unit x)) [
   | inl u ↦ ap (λ x. at_most x y) (unit-is x u) ∙ sym (ap (λ p. at_most p (in_left y)) (in-left-unit x u))

@@ -29,4 +29,3 @@ pub use guard::Guard;
 pub use laws::{fulls_of_both_sides, parts_are_associative, portions_compose};
 pub use pair::Pair;
 pub use unique::Unique;
-

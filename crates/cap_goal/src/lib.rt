@@ -15,4 +15,3 @@ pub use fact::{Env, Fact, copy_terms};
 pub use goal::Goal;
 pub use state::State;
 pub use task::{Home, Items, Point, Task, is_heap};
-

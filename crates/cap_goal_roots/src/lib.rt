@@ -11,4 +11,3 @@ mod unit;
 
 pub use goal::goal_of;
 pub use unit::roots;
-

@@ -15,4 +15,3 @@ pub use full::full_pieces;
 pub use laws::{composed_parts_hold_both, right_full_pieces_compose, wanted_atoms_are_compatible};
 pub use merging::merge;
 pub use piece::{Form, Piece};
-

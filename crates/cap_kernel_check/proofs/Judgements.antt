@@ -6,7 +6,6 @@ use Rattle.std.proofs.lemmas.List.{append-nil, length-append}
 use Rattle.cap_prog.specs.Program.{PlainProgram}
 use Rattle.cap_goal_spec.specs.States.{PlainGoal}
 use Rattle.cap_goal_spec.specs.Choices.{PlainChoice}
-
 use Rattle.cap_kernel_check.specs.declared.error.CheckError.{CheckError}
 use Rattle.cap_kernel_check.specs.declared.error.CheckError.TheVariants.{Node, Shape}
 use Rattle.cap_kernel_check.specs.Starts.{PlainStart, no_tasks, at_goal, barred, starts}

@@ -8,7 +8,6 @@ use Rattle.cap_goal_spec.specs.Choices.{PlainChoice}
 use Rattle.cap_rules.specs.Valid.{deepest}
 use Rattle.cap_rules_fits.specs.Kept.{IsKept}
 use Rattle.cap_kernel_check.specs.declared.debt.Debt.{Debt}
-
 use Rattle.cap_kernel_check.specs.Owed.{PlainDebt, owes}
 use Rattle.cap_kernel_check.specs.Walks.{Leaves}
 use Rattle.cap_kernel_check.specs.Debts.{debt_view, owed_view, DebtsAreKept, LeavesOwed}

@@ -10,10 +10,8 @@ use Rattle.cap_prog.specs.Program.{PlainStatement, PlainFunction, PlainProgram}
 use Rattle.cap_machine.specs.declared.event.Entry.{Entry}
 use Rattle.cap_machine.specs.declared.event.Event.{Event}
 use Rattle.cap_machine.specs.declared.event.Event.TheVariants.{Bad, Call, Fork}
-
 use Rattle.cap_machine.specs.declared.machine.Machine.{Machine}
 use Rattle.cap_machine.specs.Machine.{Heap, Frame, Thread, Configuration, Outcome, next, fault, Spot, with_rest, new_frame, calls, forks, at_cell, compared, returns, may_be_at, are_free}
-
 use Rattle.cap_machine.specs.Results.{act_steps, are_narrow}
 use Rattle.cap_machine.specs.Changes.{passed, with_top, received, returned, return_event}
 use Rattle.cap_machine.specs.View.{configuration, Steps}

@@ -15,4 +15,3 @@ mod sums;
 mod trying;
 
 pub use offers::{Offers, offered};
-

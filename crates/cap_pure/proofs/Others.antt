@@ -26,7 +26,6 @@ use Rattle.cap_rules_steps.specs.Walks.{Makes}
 use Rattle.cap_rules_steps.specs.declared.error.RuleError.TheVariants.{NotApplicable}
 use Rattle.cap_rules_steps.proofs.Walking.{inapplicable}
 use Rattle.cap_pure.specs.declared.upcoming.Upcoming as next
-
 use Rattle.cap_pure.specs.Heads.{Upcoming, upcoming_view, statement_rule, loop_rule, turning, turn_rule}
 
 seen-act : (s : Statement) → (statement_view s).act ≡ act_view s.act

@@ -1,6 +1,5 @@
 -- The first piece of a text, found from left to right.
 use Rattle.std.proofs.Common.{◌≡◌, ◌∙◌, ap, sym, refl, ℕ, zero, suc, ◌+◌, ◌≤◌, Bool, true, false, nat_eq, List, [], ◌∷◌, ◌++◌, take, drop, length, append_assoc, take_all, arith}
-
 use Rattle.std.proofs.lemmas.Bool.Decides.{nat_tests}
 use Rattle.cap_replay.specs.Pieces.{grow, put, pieces}
 

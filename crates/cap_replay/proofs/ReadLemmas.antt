@@ -1,7 +1,6 @@
 -- Lines that are read one after the other.
 use Rattle.std.proofs.Common.{◌≡◌, ◌∙◌, ap, sym, refl, ℕ, suc, ◌<◌, Bool, true, false, nat_eq, List, [], ◌∷◌, ◌++◌, length, append_assoc, arith}
 use Rattle.std.specs.Prelude.{ℤ, Option, Some, None, option_map, Err}
-
 use Rattle.cap_replay.specs.declared.reading.ScheduleError.{ScheduleError}
 use Rattle.cap_replay.specs.declared.reading.ScheduleError.TheVariants.{BadLine, TooMany, OutOfMemory}
 use Rattle.cap_replay.specs.Pieces.{put, pieces, pieces_behind}

@@ -1,8 +1,6 @@
 -- Which names are known where, by the lists of names alone.
 use Rattle.std.specs.Prelude.{Bool, not, ◌&&◌, ◌||◌, if◌then◌else◌, List, [], ◌∷◌, ◌++◌, filter, Option, None}
-
 use Rattle.cap_parse_tree.specs.declared.word.Word.{Word}
-
 use Rattle.cap_resolve_spec.specs.Parts.{PlacedItem, is_word}
 use Rattle.cap_resolve_spec.specs.Names.{KnownName, NameScope, known_as, knows, firsts, with_first, word_text}
 use Rattle.cap_resolve_spec.specs.Items.{TypedName, Occurrence, name_of, is_bound, occurrences, new_names, scope_of}

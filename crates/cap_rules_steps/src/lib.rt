@@ -33,4 +33,3 @@ pub use points::next_statement;
 pub use rows::{opposite, row_here};
 pub use tasks::{add_goal, copy_point, copy_tasks, leaves};
 pub use terms::{value_here, value_over, values_here};
-

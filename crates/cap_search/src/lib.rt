@@ -15,4 +15,3 @@ pub use finding::search;
 pub use obligation::{Need, Obligation};
 pub use start::empty_start;
 pub use verdict::Verdict;
-

@@ -1,6 +1,5 @@
 -- Names that get variables one after the other.
 use Rattle.std.proofs.Common.{◌≡◌, ℕ, suc, ℤ, ◌+◌, ◌-◌, ◌<◌, ◌≤◌, List, [], ◌∷◌, ◌++◌, length, drop, get_or, slice_index_or, drop-cons, refl, sym, ap, ◌∙◌, arith, append_assoc, append-nil, length-append}
-
 use Rattle.cap_lin.specs.Linear.{Linear, variable}
 use Rattle.cap_prog.specs.declared.assertion.Asked.{Asked}
 use Rattle.cap_goal_spec.specs.Terms.{variables_from}

@@ -2,8 +2,8 @@ mod compared;
 mod limits;
 mod plain;
 
-use cap_fm::{Answer, SolveError, solve};
 use cap_farkas::{Cert, refutes};
+use cap_fm::{Answer, SolveError, solve};
 use cap_lin::{Kind, LinError, Row, Sort, Term};
 use std::alloc::Global;
 use std::process::Abort;

@@ -1,5 +1,5 @@
-use cap_gsolve::{Form, Piece, compat, full_pieces, merge};
 use cap_galg::Algebra;
+use cap_gsolve::{Form, Piece, compat, full_pieces, merge};
 use cap_lin::{Kind, LinError, Row, Sort, Term};
 use std::alloc::{AllocError, Global};
 use std::test::Fail;

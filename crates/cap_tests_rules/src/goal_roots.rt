@@ -4,8 +4,8 @@ ghost use Rattle.cap_prog.specs.Views.{assertion_view, statement_view, function_
 ghost use Rattle.cap_prog.specs.WellFormed.{FunctionFits};
 ghost use Rattle.cap_prog.specs.Empty.{closing};
 
-use cap_goal_roots::roots;
 use cap_goal::{Task, Unit};
+use cap_goal_roots::roots;
 use cap_lin::Term;
 use cap_prog::{Act, Assertion, Function, Name, Program, Statement};
 use cap_syntax::Place;

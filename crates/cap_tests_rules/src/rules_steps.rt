@@ -1,6 +1,6 @@
-use cap_rules_steps::{Ledger, RuleError, leaves, prove_equal, told, with_row, with_sort};
 use cap_goal::State;
 use cap_lin::{Op, Row, Sort, Term};
+use cap_rules_steps::{Ledger, RuleError, leaves, prove_equal, told, with_row, with_sort};
 use std::alloc::Global;
 use std::test::Fail;
 

@@ -1,4 +1,6 @@
-use cap_closure_decide::{Notes, certified, certified_by, decided, decided_all, decided_each, proves};
+use cap_closure_decide::{
+    Notes, certified, certified_by, decided, decided_all, decided_each, proves,
+};
 use cap_lin::{LinError, Op, Row, Sort, Term};
 use cap_rules_steps::{Ledger, RuleError, prove_that};
 use std::alloc::Global;

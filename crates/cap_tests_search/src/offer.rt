@@ -5,9 +5,9 @@ ghost use Rattle.cap_prog.specs.Views.{assertion_view, function_view, statement_
 ghost use Rattle.cap_prog.specs.WellFormed.{FunctionFits};
 ghost use Rattle.cap_goal_spec.specs.Fits.{HasRoom};
 
-use cap_offer::offered;
 use cap_goal::{Choice, Goal, Home, Point, State, Task};
 use cap_lin::{LinError, Op, Row, Sort, Term};
+use cap_offer::offered;
 use cap_prog::{Act, Assertion, Function, Name, Program, Statement};
 use cap_syntax::Place;
 use std::alloc::{AllocError, Global};

@@ -8,10 +8,10 @@ ghost use Rattle.cap_prog.specs.Views.{assertion_view, function_view, statement_
 ghost use Rattle.cap_prog.specs.WellFormed.{FunctionFits};
 ghost use Rattle.cap_prog.specs.Views.{program_view};
 
-use cap_search::{Need, Obligation, Verdict, empty_start, search};
 use cap_goal::{Choice, Node, Unit};
 use cap_lin::{Op, Sort, Term};
 use cap_prog::{Act, Assertion, Comp, Function, Item, Name, Program, Statement};
+use cap_search::{Need, Obligation, Verdict, empty_start, search};
 use cap_syntax::Place;
 use std::alloc::{AllocError, Global};
 use std::test::Fail;

@@ -1,5 +1,5 @@
-use cap_top::{Status, run};
 use cap_io::{FetchError, MemoryShelf, MemorySink, Shelf};
+use cap_top::{Status, run};
 use std::alloc::{AllocError, Global};
 use std::process::Abort;
 use std::test::Fail;

@@ -4,11 +4,11 @@ ghost use Rattle.cap_prog.specs.Program.{none, PlainProgram};
 ghost use Rattle.cap_prog.specs.Views.{assertion_view, function_view, statement_view};
 ghost use Rattle.cap_prog.specs.WellFormed.{FunctionFits};
 
-use cap_top_report::{Conclusion, derive_on, report_on};
 use cap_goal::Choice;
 use cap_lin::Term;
 use cap_prog::{Act, Assertion, Function, Name, Program, Statement};
 use cap_syntax::Place;
+use cap_top_report::{Conclusion, derive_on, report_on};
 use std::alloc::{AllocError, Global};
 use std::test::Fail;
 

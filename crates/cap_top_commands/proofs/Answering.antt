@@ -1,10 +1,8 @@
 -- What is answered to bytes, and nothing else.
 use Rattle.std.proofs.Common.{◌≡◌, ℕ, ◌⊎◌, inl, inr, List, Result, Ok, Err, IfOk, MatchResult, refl, sym, ap, ◌∙◌, subst}
-
 use Rattle.std.specs.declared.alloc.AllocError.{AllocError}
 use Rattle.cap_prog.specs.declared.program.Program.{Program}
 use Rattle.cap_prog.specs.Views.{program_view}
-
 use Rattle.cap_parse_tree.specs.Texts.{Spells}
 use Rattle.cap_parse_tree.specs.Views.{tree_view}
 use Rattle.cap_top_reading.specs.declared.refusal.Refusal.{Refusal}

@@ -11,4 +11,3 @@ mod units;
 pub use derive::{Conclusion, derive_on};
 pub use laws::{found_trees_are_valid, good_programs_have_no_regions};
 pub use report::{Report, report_on};
-

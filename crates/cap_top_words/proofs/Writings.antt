@@ -103,8 +103,6 @@ with_apart n words begins a p = record {
   operands = p.operands;
 }
 
-}
-
 ended : (words : List CommandWord) (ending : Option (List CommandWord)) → words ≡ words_of [] ending → (a : Arguments) → a.budgets ≡ [] → a.operands ≡ operands_of [] ending → AreWrittenBy words a
 ended words ending spelled a budgets operands =
     record { arguments = []; ending = ending; writable = All-nil IsWritable; spelled = spelled; budgets = budgets; operands = operands }

@@ -2,10 +2,10 @@
 
 ghost use Rattle.std.specs.Prelude.{◌<◌};
 
-use cap_fm::Answer;
 use crate::fm::plain::{Finding, Given, found};
 use crate::fm::solved;
 use cap_farkas::Cert;
+use cap_fm::Answer;
 use cap_lin::{Kind, LinError, Row, Sort, Term};
 use rand_core::Rng;
 use rand_pcg::Pcg32;
