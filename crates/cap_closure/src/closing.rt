@@ -1,3 +1,4 @@
+//! The closure of a fact: its state is kept, or settled by the candidates that the rounds leave.
 ghost use Rattle.std.specs.Prelude.{◌≡◌, ◌≤◌, ◌<◌, length, slice_get, Some, IfOk};
 ghost use Rattle.cap_prog.specs.Program.{PlainRegionType};
 ghost use Rattle.cap_prog.specs.Views.{region_view, program_view};

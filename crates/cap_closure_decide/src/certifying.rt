@@ -1,3 +1,4 @@
+//! Certificates for all that an attempt claims, or the first claim that is not decided.
 ghost use Rattle.std.specs.Prelude.{List, [], IfOk};
 ghost use Rattle.cap_lin.specs.declared.row.Row.{Row};
 ghost use Rattle.cap_rules.specs.Attempts.{Attempt};

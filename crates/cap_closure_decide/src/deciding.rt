@@ -1,3 +1,4 @@
+//! What the solver decides of one list of rows, of several, and of each for itself.
 ghost use Rattle.std.specs.Prelude.{IfOk, map};
 ghost use Rattle.cap_offer_spec.specs.Deciding.{decided, decided_all, decided_each};
 ghost use Rattle.cap_closure_decide.specs.Noting.{Adds, certs_seen};

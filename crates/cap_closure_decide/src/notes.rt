@@ -1,3 +1,4 @@
+//! The first limit of each kind that was passed while lists were decided.
 ghost use Rattle.std.specs.Prelude.{◌≡◌};
 ghost use Rattle.cap_fm_spec.specs.Events.{wide as past_bits, many};
 ghost use Rattle.cap_offer_spec.specs.Deciding.{clean, with_note};

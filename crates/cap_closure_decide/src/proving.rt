@@ -1,3 +1,4 @@
+//! Whether rows prove a row.
 ghost use Rattle.std.specs.Prelude.{◌≡◌, ◌++◌, [], ◌∷◌, map, is_some, IfOk};
 ghost use Rattle.cap_rules.specs.Attempts.{prove};
 ghost use Rattle.cap_offer_spec.specs.Deciding.{succeeds};

@@ -1,3 +1,4 @@
+//! Certificates that rows have no solution, and the check of one (Farkas' lemma).
 ghost use Rattle.std.specs.Prelude.{◌≡◌, ◌<◌, ◌↔◌, IsTrue, length};
 ghost use Rattle.cap_lin.specs.Solves.{HasNone, Infeasible};
 ghost use Rattle.cap_farkas.specs.Refutes.{Refutes, Excludes, RefutesSide};

@@ -1,3 +1,4 @@
+//! The check of a leaf: its multipliers combine the rows to a row that nothing solves.
 ghost use Rattle.std.specs.Prelude.{◌≡◌, ◌<◌, ◌↔◌, ℕ, IsTrue, Some};
 ghost use Rattle.cap_farkas.specs.Farkas.{MayMultiply, Names, SumsTo, Cancels, HasStrict};
 ghost use Rattle.cap_farkas.specs.Farkas.{Contradicts, RefutesLeaf};

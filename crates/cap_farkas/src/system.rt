@@ -1,3 +1,4 @@
+//! The rows that a leaf is checked against: the given ones with those of the sides above it.
 ghost use Rattle.std.specs.Prelude.{◌≡◌, ◌<◌, ◌↔◌, IsTrue, None, negsuc};
 ghost use Rattle.std.specs.Option.{SomeIff};
 ghost use Rattle.cap_lin.specs.Linear.{IsLeastFrom};

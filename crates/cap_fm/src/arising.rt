@@ -1,3 +1,4 @@
+//! A row that arises in an elimination: an input row, or a combination of two.
 ghost use Rattle.std.specs.Prelude.{◌≡◌, ◌<◌, ℕ, List, length, false, true};
 ghost use Rattle.cap_fm_spec.specs.Rows.{arise_given, arise_combined, combine as combine_rows};
 ghost use Rattle.cap_fm_spec.specs.Rows.{keep as keep_row, look, has_parts, is_present, has_arisen};

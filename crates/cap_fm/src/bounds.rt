@@ -1,3 +1,4 @@
+//! A variable goes by its bounds: each row below it with each above it (Fourier-Motzkin).
 ghost use Rattle.cap_lin.specs.Linear.{coefficient};
 ghost use Rattle.std.specs.Prelude.{◌≡◌, ℕ, List, IfOk};
 ghost use Rattle.cap_fm_spec.specs.Elimination.{combine_bounds as combine_bounds_run};

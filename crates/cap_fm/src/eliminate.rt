@@ -1,3 +1,4 @@
+//! The elimination of all variables of a list of rows, one after the other.
 ghost use Rattle.std.specs.Prelude.{◌≤◌, ◌<◌, ◌+◌, ◌^◌, ◌++◌, [], ℕ, List, length};
 ghost use Rattle.cap_fm_spec.specs.Elimination.{inputs as inputs_run, by_variable as by_variable_run};
 ghost use Rattle.cap_fm_spec.specs.Elimination.{eliminated as eliminated_run};

@@ -1,3 +1,4 @@
+//! What is known of a row that is present, and how it arose.
 ghost use Rattle.std.specs.Prelude.{◌≡◌};
 ghost use Rattle.cap_fm_spec.specs.Rows.{is_false as is_false_kind};
 ghost use Rattle.cap_fm_spec.specs.Elimination.{strictest as strictest_kind};

@@ -1,3 +1,4 @@
+//! A variable goes by an equation, which replaces it in all other rows.
 ghost use Rattle.std.specs.Prelude.{◌≡◌, ◌<◌, ◌++◌, ◌∷◌, [], ℕ, ℤ, negsuc, ◌*ℤ◌, List, length};
 ghost use Rattle.std.specs.Prelude.{Some, None, false, IfSome};
 ghost use Rattle.cap_lin.specs.Linear.{is_zero, coefficient};

@@ -1,3 +1,4 @@
+//! Why the solver has no answer.
 ghost use Rattle.std.specs.Prelude.{◌≡◌};
 ghost use Rattle.cap_fm.specs.declared.error.SolveError.TheVariants.{OutOfMemory};
 

@@ -1,3 +1,4 @@
+//! The multipliers of a false row, from the history of the rows that led to it.
 ghost use Rattle.std.specs.Prelude.{◌≡◌, ◌<◌, ◌+◌, ◌++◌, map, length, IfOk, pos};
 ghost use Rattle.cap_lin.specs.Linear.{number, IsBelow};
 ghost use Rattle.cap_fm_spec.specs.Leaf.{leaf as leaf_of, leaf_steps};

@@ -1,3 +1,4 @@
+//! The row of a number: one of the given rows, or the one that a side adds behind them.
 ghost use Rattle.std.specs.Prelude.{◌≡◌, ◌<◌, ◌++◌, length, get_or};
 
 use cap_lin::Row;

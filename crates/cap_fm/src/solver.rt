@@ -1,3 +1,4 @@
+//! The solver: a certificate that rows have no solution, or the answer that it finds none.
 ghost use Rattle.std.specs.Prelude.{◌≡◌, ◌<◌, ◌-◌, ◌^◌, ◌++◌, ◌∷◌, [], IfOk, length, slice_get};
 ghost use Rattle.std.specs.Prelude.{Some};
 ghost use Rattle.cap_fm_spec.specs.Solving.{RowsAscend, solved as solved_log, split as split_log};

@@ -1,3 +1,4 @@
+//! The rows that arose in an elimination, each term once, with their history and the count.
 ghost use Rattle.std.specs.Prelude.{◌≡◌, ◌<◌, [], ℕ, List, get_or, false, true, IfOk};
 ghost use Rattle.cap_fm_spec.specs.Runs.{at_first};
 ghost use Rattle.cap_fm.specs.Entries.{Entry};

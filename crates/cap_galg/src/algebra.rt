@@ -1,3 +1,4 @@
+//! Guard algebras as data, and their atoms.
 ghost use Rattle.std.specs.Prelude.{true, false, ◌≡◌, ◌↔◌, ◌≤◌, ◌+◌, ◌-◌, ◌==◌, if◌then◌else◌};
 ghost use Rattle.std.specs.Prelude.{IsTrue, IfOk, Ok, Err, MatchResult, MatchOption};
 ghost use Rattle.cap_galg.specs.Algebras.{are_apart};

@@ -1,3 +1,4 @@
+//! How much of an atom is held.
 ghost use Rattle.std.specs.Prelude.{◌↔◌, IsTrue};
 ghost use Rattle.cap_galg.specs.Views.{atom_view, IsAmountOf};
 

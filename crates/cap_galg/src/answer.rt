@@ -1,3 +1,4 @@
+//! The answer of two parts that compose each for itself.
 ghost use Rattle.std.specs.Prelude.{◌≡◌};
 ghost use Rattle.cap_galg.specs.Answers.{answer_of_both};
 

@@ -1,3 +1,4 @@
+//! Tokens that are counted, and their source.
 ghost use Rattle.std.specs.Prelude.{◌≡◌, Some, None, ◌-◌, nat_le, if◌then◌else◌};
 ghost use Rattle.cap_galg.specs.Views.{counting_element};
 ghost use Rattle.cap_galg.specs.declared.counting.Counting.TheVariants.{Src};

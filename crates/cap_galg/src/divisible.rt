@@ -1,3 +1,4 @@
+//! A part of a guard that can be divided without end.
 ghost use Rattle.std.specs.Prelude.{◌≡◌};
 ghost use Rattle.cap_galg.specs.Fractions.{IsAmount};
 

@@ -1,3 +1,4 @@
+//! The sum of two algebras: one side or the other, which share the full guard.
 use crate::error::GuardError;
 use crate::guard::Guard;
 use std::alloc::{AllocError, Global};

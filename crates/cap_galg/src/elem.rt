@@ -1,3 +1,4 @@
+//! An element together with its algebra, as a guard.
 ghost use Rattle.std.specs.Prelude.{◌≡◌, ◌<◌, ◌-◌, ◌==◌, if◌then◌else◌, IfOk, MatchResult};
 ghost use Rattle.cap_galg.specs.Views.{algebra_view, node_view, amount_element};
 ghost use Rattle.cap_galg.specs.Views.{atom_count, IsAmountOf};

@@ -1,3 +1,4 @@
+//! Why two guards have no composition.
 ghost use Rattle.std.specs.Prelude.{◌≡◌};
 ghost use Rattle.cap_galg.specs.declared.error.GuardError.TheVariants.{OutOfMemory};
 

@@ -1,3 +1,4 @@
+//! Fractions from 0 to 1 within 64 bits.
 ghost use Rattle.std.specs.Prelude.{◌≡◌, ◌+◌, ◌*◌, ◌<◌, ◌≤◌, ◌^◌, nat_le, MatchResult, ◌↔◌, IsTrue};
 ghost use Rattle.std.specs.Int.{IsGcd};
 ghost use Rattle.cap_galg.specs.Fractions.{lowest, IsShare, IsAmount};

@@ -1,3 +1,4 @@
+//! What every guard algebra offers, and the laws that it keeps: a partial commutative monoid.
 ghost use Rattle.std.specs.Prelude.{◌≡◌, IfOk};
 ghost use Rattle.cap_galg.specs.Elements.{Element, is_unit, is_full, at_most};
 ghost use Rattle.cap_galg.specs.Algebras.{AreKin};

@@ -1,3 +1,4 @@
+//! Elements of all algebras, and their composition and order.
 ghost use Rattle.std.specs.Prelude.{◌≡◌, IfOk, Ok};
 ghost use Rattle.cap_galg.specs.Fractions.{IsShare};
 ghost use Rattle.cap_galg.specs.Views.{node_view, HasShares};

@@ -1,3 +1,4 @@
+//! The product of two algebras: a part of each.
 use crate::answer::paired_answer;
 use crate::error::GuardError;
 use crate::guard::Guard;

@@ -1,3 +1,4 @@
+//! A guard that one thread holds.
 ghost use Rattle.cap_galg.specs.Views.{unique_element};
 
 use crate::error::GuardError;

@@ -1,3 +1,4 @@
+//! Choices of rules, trees of choices, and the units that they prove.
 use cap_farkas::Cert;
 
 /// Which rule is taken at a goal, and how. Cells, facts, pieces, opened regions, cases, sums and

@@ -1,3 +1,4 @@
+//! Facts of regions, and environments.
 ghost use Rattle.std.specs.Prelude.{◌≡◌, IfOk};
 
 use cap_lin::Term;

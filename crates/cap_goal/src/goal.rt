@@ -1,3 +1,4 @@
+//! A goal: a state, and what is still to be done.
 use crate::state::State;
 use crate::task::Task;
 

@@ -1,3 +1,4 @@
+//! Types of which a state has lists that states may share.
 use crate::fact::{Env, Fact};
 use crate::shared::Member;
 use cap_gsolve::Piece;

@@ -1,3 +1,4 @@
+//! A state of a derivation: variables, rows, locals, cells, facts of regions and guards.
 ghost use Rattle.std.specs.Prelude.{◌≡◌, ◌<◌, [], ◌∷◌, ◌++◌, length, IfOk, if◌then◌else◌, remove};
 ghost use Rattle.std.specs.Prelude.{slice_set};
 ghost use Rattle.std.specs.Result.{is_ok};

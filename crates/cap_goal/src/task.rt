@@ -1,3 +1,4 @@
+//! What is still to be done at a goal, task by task.
 ghost use Rattle.std.specs.Prelude.{◌≡◌};
 ghost use Rattle.cap_prog.specs.Program.{none};
 ghost use Rattle.cap_prog.specs.Views.{statement_view};

@@ -1,3 +1,4 @@
+//! The roots of a function: its contract, its body, and the invariants of its loops.
 ghost use Rattle.std.specs.Prelude.{◌≡◌, ◌++◌, [], ◌∷◌, length, flat_map, IfOk};
 ghost use Rattle.std.specs.List.{AllByRecursion};
 ghost use Rattle.cap_prog.specs.Program.{done};

@@ -1,3 +1,4 @@
+//! The goal of tasks, where there are any.
 ghost use Rattle.std.specs.Prelude.{◌≡◌, ◌≤◌, length, take, option_map};
 ghost use Rattle.cap_goal_spec.specs.States.{goal_of as goal_of_tasks};
 ghost use Rattle.cap_goal.specs.Views.{tasks_view, goal_view};

@@ -1,3 +1,4 @@
+//! The loops of a body, each with the place at which it stands.
 ghost use Rattle.std.specs.Prelude.{◌≡◌, ◌++◌, ◌∷◌, [], drop, IfOk};
 ghost use Rattle.cap_prog.specs.Program.{done, append, PlainStatement};
 ghost use Rattle.cap_prog.specs.Views.{block_view, statement_view};

@@ -1,3 +1,4 @@
+//! Lists of variables, terms and items from which roots are made.
 ghost use Rattle.std.specs.Prelude.{◌≡◌, ◌+◌, ◌<◌, ◌^◌, ◌++◌, replicate, IfOk};
 ghost use Rattle.cap_lin.specs.Linear.{variable as plain_variable};
 ghost use Rattle.cap_prog.specs.Program.{none};

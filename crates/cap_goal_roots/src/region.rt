@@ -1,3 +1,4 @@
+//! The roots of a region type: that what its cases own is stable.
 ghost use Rattle.std.specs.Prelude.{◌≡◌, ◌+◌, ◌-◌, ◌<◌, ◌++◌};
 ghost use Rattle.std.specs.Prelude.{[], ◌∷◌, length, map, flat_map};
 ghost use Rattle.std.specs.Prelude.{IfOk, OnOk, false};

@@ -1,3 +1,4 @@
+//! The state at a root: its variables, its locals, and the comparisons that hold.
 ghost use Rattle.std.specs.Prelude.{◌≡◌, ◌+◌, ◌≤◌, ◌<◌, ◌^◌};
 ghost use Rattle.std.specs.Prelude.{◌++◌, length, IfOk, flat_map, map};
 ghost use Rattle.cap_gsolve.specs.Made.{IsMade};

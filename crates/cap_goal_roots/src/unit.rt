@@ -1,3 +1,4 @@
+//! The roots of a unit: a region type or a function.
 ghost use Rattle.std.specs.Prelude.{◌≡◌, ◌<◌, length, slice_get, Some, IfOk};
 ghost use Rattle.std.specs.List.{AllByRecursion};
 ghost use Rattle.cap_lin.specs.Exact.{IsExactBy};

@@ -1,3 +1,4 @@
+//! Whether two forms of one part of a guard can't be held together.
 ghost use Rattle.std.specs.Prelude.{◌≡◌};
 ghost use Rattle.cap_galg.specs.Views.{algebra_view};
 ghost use Rattle.cap_gsolve.specs.Merge.{clashes_at as parts_clash, clashes as some_clash};

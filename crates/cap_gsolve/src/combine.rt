@@ -1,3 +1,4 @@
+//! The form that two forms of one part of a guard become, and the rows that it needs.
 ghost use Rattle.std.specs.Prelude.{◌≡◌, ◌++◌, ◌∷◌, [], OnOk};
 ghost use Rattle.cap_lin.specs.Linear.{plus, minus};
 ghost use Rattle.cap_lin.specs.Steps.{plus_steps, minus_steps};

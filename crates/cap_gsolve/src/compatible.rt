@@ -1,3 +1,4 @@
+//! The rows by which wanted guards can be held beside the pieces that are held.
 ghost use Rattle.std.specs.Prelude.{◌≡◌, option_map, Some, None, IfOk};
 ghost use Rattle.cap_galg.specs.Views.{algebra_view};
 ghost use Rattle.cap_gsolve.specs.declared.piece.Form.TheVariants.{Share};

@@ -1,3 +1,4 @@
+//! The pieces that make up all guards of a new region.
 ghost use Rattle.std.specs.Prelude.{◌≡◌, ◌+◌, ◌∷◌, [], IfOk, MatchResult};
 ghost use Rattle.cap_lin.specs.declared.error.LinError.TheVariants.{OutOfMemory};
 ghost use Rattle.cap_galg.specs.Views.{algebra_view, atom_count};

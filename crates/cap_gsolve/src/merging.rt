@@ -1,3 +1,4 @@
+//! A piece is added to those that are held.
 ghost use Rattle.std.specs.Prelude.{◌≡◌, ◌++◌, ◌∷◌, [], ◌<◌, length, slice_set, IfOk, OnOk};
 ghost use Rattle.cap_galg.specs.Views.{algebra_view};
 ghost use Rattle.cap_gsolve.specs.Made.{IsMade, Pushes};

@@ -1,3 +1,4 @@
+//! Pieces of guards whose amounts are terms.
 ghost use Rattle.std.specs.Prelude.{◌≡◌, position, IfOk};
 ghost use Rattle.cap_gsolve.specs.Pieces.{of_guards, of_atom, same_part, is_surely_some};
 

@@ -1,3 +1,4 @@
+//! Rows about amounts, and lists of rows to which they are added.
 ghost use Rattle.std.specs.Prelude.{◌∷◌, []};
 ghost use Rattle.cap_lin.specs.Rows.{row_of, row_of_steps};
 ghost use Rattle.cap_gsolve.specs.Made.{IsMade, Pushes};

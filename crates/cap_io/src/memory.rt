@@ -1,3 +1,4 @@
+//! A shelf and a sink in memory, which meet faults where they are listed.
 ghost use Rattle.std.specs.Map.{lookup};
 ghost use Rattle.std.specs.Prelude.{◌≡◌, ◌≢◌, ◌≤◌, ◌==◌, ◌↔◌, ◌++◌, [], take, Err, Some, None, IsOk, IfOk, OnOk, OnErr, option_map};
 ghost use Rattle.cap_io.specs.declared.shelf.FetchError.TheVariants.{Failed, OutOfMemory};

@@ -1,3 +1,4 @@
+//! What a shelf and a sink are: where files are read by name, and what takes the output.
 ghost use Rattle.std.specs.Prelude.{◌≡◌, ◌≢◌, ◌≤◌, List, ℕ, Option, None, Err, IsOk, OnOk, OnErr};
 ghost use Rattle.cap_io.specs.declared.shelf.FetchError.TheVariants.{Failed, OutOfMemory};
 ghost use Rattle.cap_io.specs.Outside.{Files, FetchAnswers, AnswersAreExact, Blames, Counts, Measures};

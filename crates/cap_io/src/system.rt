@@ -1,3 +1,4 @@
+//! The files of the system as a shelf, and its output as a sink.
 ghost use Rattle.std.specs.Prelude.{◌≡◌, ◌≢◌, ◌↔◌, ◌+◌, ◌≤◌, None, IfOk, IfErr, OnOk, OnErr, length, option_map, string_bytes};
 ghost use Rattle.std.specs.Io.{ReadsAtMost, WritesAtMost};
 ghost use Rattle.std.specs.Io.KnownBytes.{ReadConsumes, WriteAppends, Consumes, IsAtEnd};

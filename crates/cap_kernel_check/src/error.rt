@@ -1,3 +1,4 @@
+//! What is told of a derivation that isn't accepted.
 ghost use Rattle.std.specs.Prelude.{◌≡◌};
 ghost use Rattle.cap_kernel_check.specs.declared.error.CheckError.TheVariants.{OutOfMemory};
 

@@ -1,3 +1,4 @@
+//! Where the tree of a root starts: at a goal, at none, or where none can be made.
 ghost use Rattle.std.specs.Prelude.{◌≡◌, option_map};
 ghost use Rattle.cap_goal.specs.Views.{goal_view};
 ghost use Rattle.cap_kernel_check.specs.Starts.{start_of as start_of_root};

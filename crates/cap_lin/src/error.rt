@@ -1,3 +1,4 @@
+//! Why arithmetic on terms has no result.
 ghost use Rattle.std.specs.Prelude.{◌≡◌};
 ghost use Rattle.cap_lin.specs.declared.error.LinError.TheVariants.{OutOfMemory};
 

@@ -1,3 +1,4 @@
+//! Rows: a term that is compared with 0, and the rows of comparisons and their opposites.
 ghost use Rattle.std.specs.Prelude.{◌≡◌, ◌∷◌, [], ◌↔◌, IfOk, MatchResult};
 ghost use Rattle.cap_lin.specs.Linear.{minus};
 ghost use Rattle.cap_lin.specs.Steps.{minus_steps};

@@ -1,3 +1,4 @@
+//! Entries of a schedule, what a step does, and why one can't be made.
 ghost use Rattle.std.specs.Prelude.{◌≡◌};
 ghost use Rattle.cap_machine.specs.declared.event.StepError.TheVariants.{OutOfMemory};
 ghost use Rattle.cap_machine.specs.Errors.{step_error};

@@ -1,3 +1,4 @@
+//! The machine: a heap and threads of frames, as code has them.
 ghost use Rattle.std.specs.Prelude.{◌≡◌, ◌<◌, ◌∷◌, pos, false, length, List, IfOk, OnOk, OnErr};
 ghost use Rattle.std.specs.Prelude.{slice_get, IsSomeAnd, Some};
 ghost use Rattle.std.specs.FinMap.{from_entries};

@@ -1,3 +1,4 @@
+//! The choices that are offered at a goal, in the order in which a search tries them.
 ghost use Rattle.std.specs.Prelude.{◌≡◌, IfOk};
 ghost use Rattle.cap_prog.specs.Views.{program_view};
 ghost use Rattle.cap_goal_spec.specs.Fits.{HasRoom};

@@ -1,3 +1,4 @@
+//! Readers of guards, items and assertions.
 // Guards and assertions. `room` is how many more brackets may open.
 
 ghost use Rattle.std.specs.Prelude.{◌≡◌, Ok, map};

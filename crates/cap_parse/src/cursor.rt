@@ -1,3 +1,4 @@
+//! A cursor over tokens: what comes next, and the readers of single tokens.
 // The tokens that are still to be read, and the steps that every production takes.
 
 ghost use Rattle.std.specs.Prelude.{◌≡◌, Ok};

@@ -1,3 +1,4 @@
+//! Readers of functions and of whole texts.
 // Functions and whole texts. `room` is how many more brackets may open.
 
 ghost use Rattle.std.specs.Prelude.{◌≡◌, Ok, map, not, option_map};

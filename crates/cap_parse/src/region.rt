@@ -1,3 +1,4 @@
+//! Readers of region types: names, guards, cases and actions.
 // Region types. `room` is how many more brackets may open.
 
 ghost use Rattle.std.specs.Prelude.{◌≡◌, Ok, map, option_map};

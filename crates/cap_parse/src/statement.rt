@@ -1,3 +1,4 @@
+//! Readers of statements, blocks and invariants.
 // Statements. `room` is how many more brackets may open.
 
 ghost use Rattle.std.specs.Prelude.{◌≡◌, Ok, map, not, option_map};

@@ -1,3 +1,4 @@
+//! Readers of terms, comparisons and slots.
 // Terms and comparisons. `room` is how many more brackets may open.
 
 ghost use Rattle.std.specs.Prelude.{◌≡◌, Ok, None, map};

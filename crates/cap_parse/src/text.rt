@@ -1,3 +1,4 @@
+//! The tree that tokens spell, or the first token after which no text goes on so.
 ghost use Rattle.std.specs.Prelude.{◌≡◌, List, [], ◌∷◌, ◌++◌};
 ghost use Rattle.cap_syntax.specs.declared.token.Token.{Token};
 ghost use Rattle.cap_syntax.specs.Layout.{EndsOnce};

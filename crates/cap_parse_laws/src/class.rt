@@ -1,3 +1,4 @@
+//! Classes of tokens, by which a reader knows what comes next.
 ghost use Rattle.std.specs.Prelude.{◌≡◌};
 ghost use Rattle.cap_parse_laws.specs.Classes.{class, keyword_class, symbol_class, class_by, are_same};
 

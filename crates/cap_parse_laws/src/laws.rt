@@ -1,3 +1,4 @@
+//! Laws of the grammar: what is read is what was spelled, and what goes wrong does so at one token.
 ghost use Rattle.std.specs.Prelude.{◌≡◌, ℕ, ◌≤◌, ◌⊎◌, ◌↔◌, List, [], ◌∷◌, ◌++◌, length, All, Ok};
 ghost use Rattle.std.specs.Prelude.{Err};
 ghost use Rattle.cap_syntax.specs.declared.token.Token.{Token};

@@ -1,3 +1,4 @@
+//! The tokens of guards, items and assertions.
 // Guards and assertions, each put in front of the tail from its last token to its first.
 
 ghost use Rattle.std.specs.Prelude.{◌≡◌, IfOk, map, option_map};

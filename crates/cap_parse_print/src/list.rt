@@ -1,3 +1,4 @@
+//! The tokens of lists, of groups, and of what may be left out.
 // Lists of parts, each put in front of the tail from its last part to its first.
 
 ghost use Rattle.std.specs.Prelude.{◌≡◌, IfOk, List, map, option_map};

@@ -1,3 +1,4 @@
+//! The canonical text of a tree.
 // Functions and whole texts, each put in front of the tail from its last token to its first.
 
 ghost use Rattle.std.specs.Prelude.{◌≡◌, IfOk, [], map};

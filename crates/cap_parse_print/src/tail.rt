@@ -1,3 +1,4 @@
+//! Tokens that are put in front of those that are there.
 // The tail of a text, which grows to the front.
 
 ghost use Rattle.std.specs.Prelude.{◌≡◌, ◌∷◌, [], IfOk};

@@ -1,3 +1,4 @@
+//! The tokens of terms, comparisons and slots.
 // Terms and comparisons, each put in front of the tail from its last token to its first.
 
 ghost use Rattle.std.specs.Prelude.{◌≡◌, IfOk, map};

@@ -1,3 +1,4 @@
+//! The text of tokens, in lines.
 // The canonical text of a tail.
 
 ghost use Rattle.std.specs.Prelude.{◌≡◌, ◌∷◌, [], ◌+◌, ◌^◌, ◌<◌, IfOk};

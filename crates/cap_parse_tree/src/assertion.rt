@@ -1,3 +1,4 @@
+//! Trees of guards, items and assertions.
 // Assertions. Each node has, in the order of the text, the places of its own tokens and its parts.
 
 use crate::list::Separated;

@@ -1,3 +1,4 @@
+//! Trees of lists, with their tokens.
 // Lists of parts. Each has, in the order of the text, the places of its own tokens and its parts.
 
 use cap_syntax::Place;

@@ -1,3 +1,4 @@
+//! Trees of region types: guards, cases and actions.
 // Region types. Each node has, in the order of the text, the places of its own tokens and its parts.
 
 use crate::assertion::{Assertion, GuardAtom};

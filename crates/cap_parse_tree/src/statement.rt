@@ -1,3 +1,4 @@
+//! Trees of statements and blocks.
 // Statements. Each node has, in the order of the text, the places of its own tokens and its parts.
 
 use crate::assertion::Clause;

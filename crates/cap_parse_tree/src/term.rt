@@ -1,3 +1,4 @@
+//! Trees of terms, comparisons and slots.
 // Terms and comparisons. Each node has, in the order of the text, the places of its own tokens and
 // its parts.
 

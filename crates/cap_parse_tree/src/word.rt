@@ -1,3 +1,4 @@
+//! Names and literals, each with its place.
 // Tokens whose text varies.
 
 use cap_syntax::{Place, Text};

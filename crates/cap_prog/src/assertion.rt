@@ -1,3 +1,4 @@
+//! Comparisons, slots, guards and assertions over numbered variables.
 use cap_lin::{Op, Sort, Term};
 use cap_syntax::Place;
 

@@ -1,3 +1,4 @@
+//! Functions: contracts, statements and what these do.
 use crate::assertion::{Assertion, Comp};
 use cap_lin::{Sort, Term};
 use cap_syntax::{Place, Text};

@@ -1,3 +1,4 @@
+//! A program: its region types and its functions.
 ghost use Rattle.std.specs.Prelude.{◌≡◌, ◌<◌, length, slice_get, Some};
 ghost use Rattle.cap_prog.specs.Views.{region_view, function_view, program_view};
 ghost use Rattle.cap_prog.specs.WellFormed.{IsWellFormed};

@@ -1,3 +1,4 @@
+//! Region types: parameters, guards, cases and actions.
 use crate::assertion::{Asked, Assertion, Comp};
 use cap_galg::Algebra;
 use cap_lin::{Sort, Term};

@@ -1,3 +1,4 @@
+//! A schedule: the start of a run, and its entries.
 ghost use Rattle.std.specs.Prelude.{◌≡◌, ◌↔◌, length, slice_get, IsSomeAnd, IsTrue};
 ghost use Rattle.cap_prog.specs.Views.{program_view};
 

@@ -1,3 +1,4 @@
+//! A law: what is written of a schedule is read as that schedule.
 ghost use Rattle.cap_replay.specs.Writing.{SchedulesAreReadBack};
 
 /// A law: a schedule whose numbers are within their bits, whose addresses ascend and which has no

@@ -1,3 +1,4 @@
+//! The run of a program along a schedule, with the text that tells it.
 ghost use Rattle.std.specs.Prelude.{◌≡◌, ◌≤◌, ◌<◌, ◌++◌, ◌-◌};
 ghost use Rattle.std.specs.Prelude.{◌^◌, suc, pos, false};
 ghost use Rattle.std.specs.Prelude.{length, slice_get, string_bytes, IfOk, IsSomeAnd, OnOk};

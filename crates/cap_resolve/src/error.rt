@@ -1,3 +1,4 @@
+//! Why a tree stands for no program.
 ghost use Rattle.std.specs.Prelude.{◌≡◌};
 ghost use Rattle.cap_resolve.specs.declared.error.ResolveError.TheVariants.{OutOfMemory};
 

@@ -1,3 +1,4 @@
+//! The program for which a tree stands, or its refusal.
 ghost use Rattle.std.specs.Prelude.{◌≡◌, ◌≤◌, length, IfOk, Some};
 ghost use Rattle.cap_prog.specs.WellFormed.{most_members};
 ghost use Rattle.cap_parse_tree.specs.Spelling.{spelling};

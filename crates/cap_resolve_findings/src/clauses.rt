@@ -1,3 +1,4 @@
+//! What is wrong in a clause: its new names, its contents, its assertion.
 ghost use Rattle.std.specs.Prelude.{◌≡◌, ◌++◌, fold, map, filter, not, OnOk, IfOk};
 ghost use Rattle.cap_resolve_spec.specs.Finding.{note, unknown_word};
 ghost use Rattle.cap_resolve_spec.specs.Names.{word_place};

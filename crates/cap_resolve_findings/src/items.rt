@@ -1,3 +1,4 @@
+//! What is wrong in the items of an assertion.
 ghost use Rattle.std.specs.Prelude.{◌≡◌, ◌++◌, ◌<◌, ◌^◌, fold};
 ghost use Rattle.std.specs.Prelude.{map, flat_map, IfOk, OnOk, option_map};
 ghost use Rattle.cap_galg.specs.Views.{atom_view};

@@ -1,3 +1,4 @@
+//! What is wrong in names: unknown, repeated, reserved, or too many.
 ghost use Rattle.std.specs.Prelude.{◌≡◌, fold, map, filter, not, OnOk, codes};
 ghost use Rattle.cap_syntax.specs.declared.place.Place.{Place as PlaceOfText};
 ghost use Rattle.cap_resolve_spec.specs.Finding.{note, twice_word, unknown_word};

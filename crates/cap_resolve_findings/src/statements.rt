@@ -1,3 +1,4 @@
+//! What is wrong in a statement.
 ghost use Rattle.std.specs.Prelude.{◌≡◌, fold, map, filter, flat_map, option_to_list, OnOk, Some};
 ghost use Rattle.cap_lin.specs.declared.row.Sort.TheVariants.{Int};
 ghost use Rattle.cap_parse_tree.specs.Tree.{listed_parts};

@@ -1,3 +1,4 @@
+//! What is wrong in the terms of comparisons, atoms and items.
 ghost use Rattle.std.specs.Prelude.{◌≡◌, ◌∷◌, ◌++◌, fold, map};
 ghost use Rattle.std.specs.Prelude.{flat_map, option_map, OnOk, Some};
 ghost use Rattle.cap_lin.specs.declared.row.Sort.TheVariants.{Int};

@@ -1,3 +1,4 @@
+//! The linear form of a term.
 ghost use Rattle.cap_lin.specs.Exact.{IsExact};
 ghost use Rattle.cap_parse_tree.specs.Views.{factor_view, product_view, term_view};
 ghost use Rattle.cap_resolve_spec.specs.Linear.{factor_form as form_of_factor, factor_steps};

@@ -1,3 +1,4 @@
+//! Names by their variables, as a linear form asks for them.
 ghost use Rattle.std.specs.Prelude.{◌≡◌, ◌+◌, ◌<◌, ◌^◌, [], ◌++◌};
 ghost use Rattle.std.specs.Prelude.{length, filter_map, OnOk, OnErr, IfOk};
 ghost use Rattle.cap_parse_tree.specs.Views.{factor_view, product_view, term_view};

@@ -1,3 +1,4 @@
+//! Whether a term's form stays within 128 bits, and all that is wrong in a term.
 ghost use Rattle.std.specs.Prelude.{◌≡◌, fold, OnOk, IfOk};
 ghost use Rattle.cap_lin.specs.Exact.{IsExact};
 ghost use Rattle.cap_parse_tree.specs.Views.{term_view};

@@ -1,3 +1,4 @@
+//! The statements of a body.
 ghost use Rattle.std.specs.Prelude.{◌≡◌, ◌+◌, IfOk, OnOk, length, option_map};
 ghost use Rattle.cap_prog.specs.Program as plain;
 ghost use Rattle.cap_prog.specs.Program.{append, first, done};

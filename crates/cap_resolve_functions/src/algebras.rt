@@ -1,3 +1,4 @@
+//! The guard algebra of a region type.
 ghost use Rattle.std.specs.Prelude.{◌≡◌, IfOk};
 ghost use Rattle.cap_galg.specs.Algebras as algebras;
 ghost use Rattle.cap_galg.specs.Views.{algebra_view as seen};

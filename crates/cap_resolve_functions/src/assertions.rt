@@ -1,3 +1,4 @@
+//! Assertions, and the sorts of their new names.
 ghost use Rattle.std.specs.Prelude.{◌≡◌, IfOk, option_map};
 ghost use Rattle.cap_prog.specs.Views.{assertion_view};
 ghost use Rattle.cap_parse_tree.specs.Views.{clause_view};

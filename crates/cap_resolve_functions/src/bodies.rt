@@ -1,3 +1,4 @@
+//! What is known where a body is built.
 use cap_resolve_tables::{FunctionTable, RegionTable, TypedNames};
 use cap_resolve_terms::Scope;
 

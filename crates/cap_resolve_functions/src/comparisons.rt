@@ -1,3 +1,4 @@
+//! Comparisons, with their places.
 ghost use Rattle.std.specs.Prelude.{◌≡◌, IfOk, map, option_map};
 ghost use Rattle.cap_parse_tree.specs.Tree.{parts_of};
 ghost use Rattle.cap_parse_tree.specs.Views.{comparison_view, several_view, when_view};

@@ -1,3 +1,4 @@
+//! Why nothing is built.
 ghost use Rattle.std.specs.Prelude.{◌≡◌};
 ghost use Rattle.cap_lin.specs.declared.error.LinError.TheVariants.{Wide};
 ghost use Rattle.cap_resolve_functions.specs.Errors.{build_error};

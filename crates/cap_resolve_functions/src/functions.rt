@@ -1,3 +1,4 @@
+//! The names of a function: its fixed names, its destinations and its locals.
 ghost use Rattle.std.specs.Prelude.{◌≡◌, ◌++◌, IfOk, filter_map, flat_map};
 ghost use Rattle.cap_resolve_spec.specs.Parts.{destination as word_set};
 ghost use Rattle.cap_resolve_spec.specs.Names.{whole_numbers};

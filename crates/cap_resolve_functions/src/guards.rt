@@ -1,3 +1,4 @@
+//! Guards that an assertion or an action asks for.
 ghost use Rattle.std.specs.Prelude.{◌≡◌, IfOk};
 ghost use Rattle.cap_parse_tree.specs.Views.{guard_view};
 ghost use Rattle.cap_resolve_spec.specs.Program.{asked_program};

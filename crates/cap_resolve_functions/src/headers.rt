@@ -1,3 +1,4 @@
+//! A function's name, parameters and fixed names.
 ghost use Rattle.std.specs.Prelude.{◌≡◌, [], ◌∷◌, ◌++◌, IfOk, length};
 ghost use Rattle.cap_prog.specs.Views.{function_view as seen, assertion_view, items_view};
 ghost use Rattle.cap_prog.specs.Views.{block_view as block_seen};

@@ -1,3 +1,4 @@
+//! The items of an assertion.
 ghost use Rattle.std.specs.Prelude.{◌≡◌, ◌∷◌, ◌++◌, [], IfOk, OnOk, map};
 ghost use Rattle.cap_prog.specs.Program.{append_items};
 ghost use Rattle.cap_prog.specs.Program as plain;

@@ -1,3 +1,4 @@
+//! Lists of sorts and of texts, and the names of a region type's guards.
 ghost use Rattle.std.specs.Prelude.{◌≡◌, ◌++◌, IfOk, OnOk, map, flat_map};
 ghost use Rattle.cap_parse_tree.specs.Views.{region_view, declared_view};
 ghost use Rattle.cap_resolve_spec.specs.Names.{word_text};

@@ -1,3 +1,4 @@
+//! What is known where an assertion is built.
 use cap_resolve_tables::{RegionTable, Types};
 use cap_resolve_terms::Scope;
 

@@ -1,3 +1,4 @@
+//! Slots: a term, a new name, or any value.
 ghost use Rattle.std.specs.Prelude.{◌≡◌, IfOk, map};
 ghost use Rattle.cap_parse_tree.specs.Views.{behind_view, slot_view};
 ghost use Rattle.cap_resolve_spec.specs.Program.{slot_program};

@@ -1,3 +1,4 @@
+//! Linear forms, alone and in lists.
 ghost use Rattle.std.specs.Prelude.{◌≡◌, IfOk, map};
 ghost use Rattle.cap_parse_tree.specs.Tree.{parts_of, listed_parts};
 ghost use Rattle.cap_parse_tree.specs.Views.{term_view, several_view, listed_view};

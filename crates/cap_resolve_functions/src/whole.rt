@@ -1,3 +1,4 @@
+//! A whole function.
 ghost use Rattle.std.specs.Prelude.{◌≡◌, IfOk};
 ghost use Rattle.cap_prog.specs.Views.{function_view as seen};
 ghost use Rattle.cap_parse_tree.specs.Views.{function_view};

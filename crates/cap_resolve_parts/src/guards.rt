@@ -1,3 +1,4 @@
+//! The parts of guards: their algebras and their words.
 ghost use Rattle.std.specs.Prelude.{◌≡◌, ◌++◌, OnOk, option_to_list};
 ghost use Rattle.cap_parse_tree.specs.Views.{declared_view, joint_view, algebra_view};
 ghost use Rattle.cap_resolve_spec.specs.Parts.{declared_guards, joint_guards, algebra_guards};

@@ -1,3 +1,4 @@
+//! The parts of assertions: items, atoms and their places.
 ghost use Rattle.std.specs.Prelude.{◌≡◌, ◌++◌, false, IfOk, OnOk};
 ghost use Rattle.cap_parse_tree.specs.Views.{item_view, assertion_view, side_view, guard_view};
 ghost use Rattle.cap_parse_tree.specs.Views.{held_view};

@@ -1,3 +1,4 @@
+//! The parts of lists: words, atoms, comparisons and counts.
 ghost use Rattle.std.specs.Prelude.{◌≡◌, ◌++◌, IfOk, OnOk, option_map, length};
 ghost use Rattle.cap_parse_tree.specs.Tree.{parts_of, listed_parts};
 ghost use Rattle.cap_parse_tree.specs.Views.{several_view, listed_view, word_view, guard_view};

@@ -1,3 +1,4 @@
+//! The parts of blocks and statements.
 ghost use Rattle.std.specs.Prelude.{◌≡◌, ◌++◌, OnOk, flat_map};
 ghost use Rattle.cap_parse_tree.specs.Views.{statement_view, block_view, else_view, term_view};
 ghost use Rattle.cap_parse_tree.specs.Views.{value_view};

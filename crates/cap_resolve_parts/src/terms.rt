@@ -1,3 +1,4 @@
+//! The parts of terms: their words and their places.
 ghost use Rattle.std.specs.Prelude.{◌≡◌, ◌++◌, OnOk, option_map};
 ghost use Rattle.cap_parse_tree.specs.Views.{factor_view, product_view, term_view, comparison_view};
 ghost use Rattle.cap_resolve_spec.specs.Parts.{factor_leaves, product_leaves, term_leaves};

@@ -1,3 +1,4 @@
+//! All region types and all functions of a tree.
 ghost use Rattle.std.specs.Prelude.{◌≡◌, ◌+◌, IfOk, map};
 ghost use Rattle.cap_prog.specs.Views.{region_view as region_seen, function_view as function_seen};
 ghost use Rattle.cap_resolve_spec.specs.Items.{numbered_regions};

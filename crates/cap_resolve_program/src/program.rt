@@ -1,3 +1,4 @@
+//! The program of a tree that is not refused.
 ghost use Rattle.std.specs.Prelude.{◌≡◌, ◌≤◌, IfOk, None, length, map};
 ghost use Rattle.cap_prog.specs.Views.{program_view, region_view as region_seen};
 ghost use Rattle.cap_prog.specs.WellFormed.{most_members};

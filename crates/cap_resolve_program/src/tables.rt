@@ -1,3 +1,4 @@
+//! The tables of region types and functions of a tree.
 ghost use Rattle.std.specs.Prelude.{◌≡◌, IfOk};
 ghost use Rattle.cap_parse_tree.specs.Views.{tree_view};
 ghost use Rattle.cap_resolve_spec.specs.Parts.{regions, functions};

@@ -1,3 +1,4 @@
+//! Cases and actions, from the names that they know.
 ghost use Rattle.std.specs.Prelude.{◌≡◌, ◌++◌, IfOk, map, option_map};
 ghost use Rattle.cap_prog.specs.Views.{case_view as case_seen, action_view as action_seen};
 ghost use Rattle.cap_prog.specs.Views.{items_view};

@@ -1,3 +1,4 @@
+//! The names that a case or an action knows.
 ghost use Rattle.std.specs.Prelude.{◌≡◌, IfOk};
 ghost use Rattle.cap_parse_tree.specs.Views.{case_view, action_view};
 ghost use Rattle.cap_resolve_parts.specs.Views.{parts_view};

@@ -1,3 +1,4 @@
+//! All cases and all actions of a region type.
 ghost use Rattle.std.specs.Prelude.{◌≡◌, IfOk, map};
 ghost use Rattle.cap_prog.specs.Views.{case_view as case_seen, action_view as action_seen};
 ghost use Rattle.cap_parse_tree.specs.Views.{case_view, action_view};

@@ -1,3 +1,4 @@
+//! A whole region type.
 ghost use Rattle.std.specs.Prelude.{◌≡◌, IfOk, map, length};
 ghost use Rattle.cap_galg.specs.Views.{algebra_view as algebra_seen};
 ghost use Rattle.cap_prog.specs.Views.{case_view as case_seen, action_view as action_seen};

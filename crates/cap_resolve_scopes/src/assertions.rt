@@ -1,3 +1,4 @@
+//! The names that an assertion adds to those around it.
 ghost use Rattle.std.specs.Prelude.{◌≡◌, ◌++◌, IfOk, OnOk, map};
 ghost use Rattle.cap_resolve_spec.specs.Items.{scope_of, occurrence_words};
 ghost use Rattle.cap_resolve_spec.specs.Names.{word_place};

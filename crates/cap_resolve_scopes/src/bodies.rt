@@ -1,3 +1,4 @@
+//! The names that a function's contract, its loops and its body know.
 ghost use Rattle.std.specs.Prelude.{◌≡◌, ◌++◌, filter_map, flat_map, map, IfOk, OnOk};
 ghost use Rattle.cap_parse_tree.specs.Views.{statement_view};
 ghost use Rattle.cap_resolve_spec.specs.Parts.{destination as word_set, clause_parts};

@@ -1,3 +1,4 @@
+//! The names that the cases and actions of a region type know.
 ghost use Rattle.std.specs.Prelude.{◌≡◌, ◌++◌, filter, flat_map, not, false, Some, IfOk};
 ghost use Rattle.std.specs.Prelude.{OnOk};
 ghost use Rattle.cap_parse_tree.specs.Views.{term_view};

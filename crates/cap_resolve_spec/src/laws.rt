@@ -1,3 +1,4 @@
+//! Laws over the definitions of names, sorts, linear forms and refusals.
 ghost use Rattle.std.specs.Prelude.{◌≡◌, ◌↔◌, ◌≤◌, ℕ, true, List, length, Some, None};
 ghost use Rattle.cap_prog.specs.Program.{PlainProgram};
 ghost use Rattle.cap_prog.specs.WellFormed.{most_members, IsWellFormed};

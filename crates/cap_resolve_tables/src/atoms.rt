@@ -1,3 +1,4 @@
+//! Atoms and comparisons, with the region types to which they belong.
 ghost use Rattle.std.specs.Prelude.{◌≡◌, ◌∷◌, ◌++◌, flat_map, false, option_map, OnOk};
 ghost use Rattle.cap_galg.specs.Views.{atom_view};
 ghost use Rattle.cap_lin.specs.declared.row.Sort.TheVariants.{Int};

@@ -1,3 +1,4 @@
+//! The table of functions, in which the first of a name counts.
 ghost use Rattle.std.specs.Prelude.{◌≡◌, IfOk};
 ghost use Rattle.cap_parse_tree.specs.Views.{tree_view};
 ghost use Rattle.cap_resolve_spec.specs.Parts.{regions, functions};

@@ -1,3 +1,4 @@
+//! Names that occur whole or hidden, and scopes of words.
 ghost use Rattle.std.specs.Prelude.{◌≡◌, ◌++◌, IfOk, OnOk};
 ghost use Rattle.cap_resolve_spec.specs.Names.{whole_numbers, hidden};
 ghost use Rattle.cap_resolve_parts.specs.Views.{words_view};

@@ -1,3 +1,4 @@
+//! Where names occur in an assertion, and which of them are new.
 ghost use Rattle.std.specs.Prelude.{◌≡◌, ◌++◌, ◌&&◌, map, filter, not, is_some, IfOk, OnOk};
 ghost use Rattle.cap_parse_tree.specs.Views.{term_view, slot_view};
 ghost use Rattle.cap_resolve_spec.specs.Parts.{term_words};

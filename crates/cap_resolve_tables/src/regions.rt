@@ -1,3 +1,4 @@
+//! The table of region types, in which the first of a name counts.
 ghost use Rattle.std.specs.Prelude.{◌≡◌, map, IfOk, option_map};
 ghost use Rattle.std.specs.List.{position_or_len};
 ghost use Rattle.cap_galg.specs.Views.{atom_view};

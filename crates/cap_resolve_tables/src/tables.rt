@@ -1,3 +1,4 @@
+//! Tables of region types, of functions, and of the types of names.
 ghost use Rattle.std.specs.Prelude.{◌≡◌, map, Some};
 ghost use Rattle.cap_lin.specs.declared.row.Sort.TheVariants.{Int};
 ghost use Rattle.cap_parse_tree.specs.Views.{region_view};

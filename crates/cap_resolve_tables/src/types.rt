@@ -1,3 +1,4 @@
+//! The region types of names, as facts tell them.
 ghost use Rattle.std.specs.Prelude.{◌≡◌, ◌++◌, IfOk, OnOk, option_to_list};
 ghost use Rattle.cap_parse_tree.specs.Views.{item_view};
 ghost use Rattle.cap_resolve_spec.specs.Items.{types_told as types_in, type_of as type_among};

@@ -1,3 +1,4 @@
+//! What may be wrong in a text, where, and which finding counts.
 ghost use Rattle.std.specs.Prelude.{◌≡◌, fold};
 ghost use Rattle.cap_resolve_spec.specs.Finding.{cause_number as variable_in, is_earlier as earlier};
 ghost use Rattle.cap_resolve_spec.specs.Finding.{is_same_place as same_place, is_before as before};

@@ -1,3 +1,4 @@
+//! Whether a factor is a multiplier, and names that are multiplied by names.
 ghost use Rattle.std.specs.Prelude.{◌≡◌, fold};
 ghost use Rattle.std.specs.List.{list_any, list_all};
 ghost use Rattle.cap_parse_tree.specs.Views.{factor_view, product_view, term_view};

@@ -1,3 +1,4 @@
+//! Sorts of terms, and what is wrong in their products.
 ghost use Rattle.std.specs.Prelude.{◌≡◌, fold, flat_map, get_or};
 ghost use Rattle.cap_parse_tree.specs.Views.{factor_view, product_view, term_view};
 ghost use Rattle.cap_resolve_spec.specs.Finding.{note};

@@ -1,3 +1,4 @@
+//! What is wrong in the precondition of `main`.
 ghost use Rattle.std.specs.Prelude.{◌≡◌, fold, filter, take, option_to_list};
 ghost use Rattle.cap_parse_tree.specs.Views.{assertion_view, clause_view, function_view, item_view};
 ghost use Rattle.cap_resolve_spec.specs.Finding.{note};

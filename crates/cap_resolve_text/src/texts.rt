@@ -1,3 +1,4 @@
+//! What is wrong in a text as a whole.
 ghost use Rattle.std.specs.Prelude.{◌≡◌, fold, flat_map, OnOk};
 ghost use Rattle.cap_resolve_spec.specs.Finding.{note};
 ghost use Rattle.cap_resolve_spec.specs.Items.{numbered_regions};

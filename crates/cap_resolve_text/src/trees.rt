@@ -1,3 +1,4 @@
+//! All that is wrong in a tree, and whether it has a `main`.
 ghost use Rattle.std.specs.Prelude.{◌≡◌, fold, codes, is_some, OnOk};
 ghost use Rattle.cap_parse_tree.specs.Views.{function_view, tree_view};
 ghost use Rattle.cap_resolve_spec.specs.Finding.{note};

@@ -1,3 +1,4 @@
+//! What is wrong in the names that a text declares.
 ghost use Rattle.std.specs.Prelude.{◌≡◌, fold, map, IfOk, OnOk};
 ghost use Rattle.cap_resolve_spec.specs.Finding.{note};
 ghost use Rattle.cap_resolve_spec.specs.Stands.{region_word, function_word};

@@ -1,3 +1,4 @@
+//! What is wrong in an action.
 ghost use Rattle.std.specs.Prelude.{◌≡◌, ◌++◌, fold, filter, IfOk, OnOk};
 ghost use Rattle.cap_parse_tree.specs.Views.{term_view};
 ghost use Rattle.cap_resolve_spec.specs.Finding.{note};

@@ -1,3 +1,4 @@
+//! What is wrong in clauses and in the statements of a body.
 ghost use Rattle.std.specs.Prelude.{◌≡◌, fold, flat_map, OnOk};
 ghost use Rattle.cap_parse_tree.specs.Views.{statement_view};
 ghost use Rattle.cap_resolve_spec.specs.Finding.{note};

@@ -1,3 +1,4 @@
+//! What is wrong in a function, part by part.
 ghost use Rattle.std.specs.Prelude.{◌≡◌, ◌++◌, fold, flat_map, filter_map, map, IfOk, OnOk};
 ghost use Rattle.cap_resolve_spec.specs.Finding.{note};
 ghost use Rattle.cap_resolve_spec.specs.Parts.{destination as word_set};

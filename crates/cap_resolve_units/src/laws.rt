@@ -1,3 +1,4 @@
+//! A law: what is noted part by part are the findings of the function.
 ghost use Rattle.std.specs.Prelude.{◌≡◌, List};
 ghost use Rattle.cap_parse_tree.specs.Tree.{RegionTree, FunctionTree};
 ghost use Rattle.cap_resolve_spec.specs.Parts.{parameters, clause_parts};

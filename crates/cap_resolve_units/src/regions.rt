@@ -1,3 +1,4 @@
+//! What is wrong in the names of a region type's cases and actions.
 ghost use Rattle.std.specs.Prelude.{◌≡◌, ◌++◌, fold, flat_map, map, OnOk, IfOk};
 ghost use Rattle.cap_parse_tree.specs.Views.{term_view};
 ghost use Rattle.cap_resolve_spec.specs.Finding.{note};

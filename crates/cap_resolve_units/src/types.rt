@@ -1,3 +1,4 @@
+//! What is wrong in a region type.
 ghost use Rattle.std.specs.Prelude.{◌≡◌, ◌∷◌, ◌++◌, fold, flat_map, map, IfOk, OnOk};
 ghost use Rattle.cap_parse_tree.specs.Views.{case_view, action_view, region_view};
 ghost use Rattle.cap_resolve_spec.specs.Finding.{note, twice_word, guard_count};

@@ -1,3 +1,4 @@
+//! What is wrong in a whole function.
 ghost use Rattle.std.specs.Prelude.{◌≡◌, fold, option_map, IfOk, OnOk};
 ghost use Rattle.cap_parse_tree.specs.Tree.{listed_parts};
 ghost use Rattle.cap_parse_tree.specs.Views.{block_view, clause_view, function_view};

@@ -1,3 +1,4 @@
+//! Why a choice leaves no goals.
 ghost use Rattle.std.specs.Prelude.{◌≡◌};
 ghost use Rattle.cap_rules_steps.specs.declared.error.RuleError.TheVariants.{OutOfMemory};
 ghost use Rattle.cap_rules_steps.specs.Errors.{rule_error};

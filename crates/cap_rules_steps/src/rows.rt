@@ -1,3 +1,4 @@
+//! The row of a comparison in an environment, and its opposite.
 ghost use Rattle.std.specs.Prelude.{◌≡◌};
 ghost use Rattle.cap_rules.specs.Making.{row_here, opposite};
 ghost use Rattle.cap_rules_steps.specs.Walks.{Makes};

@@ -1,3 +1,4 @@
+//! The values of terms in an environment, as terms over a state's variables.
 ghost use Rattle.std.specs.Prelude.{◌≡◌, ◌++◌};
 ghost use Rattle.cap_lin.specs.Exact.{IsExact};
 ghost use Rattle.cap_lin.specs.Linear.{plus, times};

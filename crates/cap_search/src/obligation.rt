@@ -1,3 +1,4 @@
+//! What a search that failed still had to show, and where.
 use cap_syntax::Place;
 
 /// What a goal lacks for which no choice is offered.

@@ -1,3 +1,4 @@
+//! The verdict on a unit.
 use crate::obligation::Obligation;
 use cap_goal::Node;
 

@@ -1,3 +1,4 @@
+//! Candidates: what may be said of a fact's state, as rows.
 ghost use Rattle.std.specs.Prelude.{◌≡◌, [], fold, map, OnOk, IfOk};
 ghost use Rattle.std.specs.List.{list_any};
 ghost use Rattle.cap_fm_spec.specs.Rows.{same_kind as is_same_kind};

@@ -1,3 +1,4 @@
+//! The candidates of a fact, in the order in which they are numbered.
 ghost use Rattle.std.specs.Prelude.{◌≡◌, ◌<◌, ◌≤◌, ◌∷◌, length};
 ghost use Rattle.std.specs.Prelude.{fold, map, flat_map, OnOk, IfOk};
 ghost use Rattle.cap_lin.specs.Linear.{variable};

@@ -1,3 +1,4 @@
+//! The names of an action, with the terms that stand for them.
 ghost use Rattle.std.specs.Prelude.{◌≡◌, ◌+◌, ◌≤◌, ◌++◌, ◌∷◌};
 ghost use Rattle.std.specs.Prelude.{[], length, OnOk, IfOk};
 ghost use Rattle.cap_lin.specs.Linear.{variable as plain_variable};

@@ -1,3 +1,4 @@
+//! What has to hold for a candidate, or a state, to stay under an action of others.
 ghost use Rattle.std.specs.Prelude.{◌≡◌, ◌≤◌, [], ◌∷◌, length};
 ghost use Rattle.cap_prog.specs.Views.{action_view, region_view};
 ghost use Rattle.cap_goal_spec.specs.States.{longest_list};

@@ -1,3 +1,4 @@
+//! A fact keeps its state, or is settled by candidates.
 ghost use Rattle.std.specs.Prelude.{◌≡◌, ◌<◌, ◌≤◌, List, length, map, IfOk};
 ghost use Rattle.cap_prog.specs.Views.{region_view};
 ghost use Rattle.cap_goal_spec.specs.States.{longest_list};

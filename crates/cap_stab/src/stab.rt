@@ -1,3 +1,4 @@
+//! The choices that settle a fact or keep its state: their subgoals, and what they owe.
 ghost use Rattle.std.specs.Prelude.{◌≡◌, ◌<◌, ◌≤◌, ◌+◌, ◌∷◌, length, IfOk};
 ghost use Rattle.cap_prog.specs.Views.{region_view, program_view};
 ghost use Rattle.cap_goal_spec.specs.States.{longest_list, to_rest};

@@ -1,3 +1,4 @@
+//! The rows that hold where others take an action.
 ghost use Rattle.std.specs.Prelude.{◌≡◌, ◌∷◌, ◌++◌, length, option_map, IfOk};
 ghost use Rattle.cap_prog.specs.Views.{action_view, region_view};
 ghost use Rattle.cap_goal_spec.specs.Candidates.{later_state as later_of};

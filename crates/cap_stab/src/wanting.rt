@@ -1,3 +1,4 @@
+//! The guards that an action asks for, and what makes them compatible with those held.
 ghost use Rattle.std.specs.Prelude.{◌≡◌, length};
 ghost use Rattle.cap_rules.specs.Resting.{rows_over as rows_among, want_slot as slot_wanted};
 ghost use Rattle.cap_rules.specs.Resting.{want_form as form_wanted};

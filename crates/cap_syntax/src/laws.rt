@@ -1,3 +1,4 @@
+//! Laws of tokens: each text is read or refused, and printed tokens are read back.
 ghost use Rattle.std.specs.Prelude.{ℕ, ◌≤◌, ◌⊎◌, List, [], ◌∷◌, ◌++◌, length, All};
 ghost use Rattle.cap_syntax.specs.declared.token.Token.{Token};
 ghost use Rattle.cap_syntax.specs.declared.token.TokenError.{TokenError};

@@ -1,3 +1,4 @@
+//! Places in a text: a line and a column, both from 1.
 ghost use Rattle.std.specs.Prelude.{Some};
 ghost use Rattle.cap_syntax.specs.Place.{place_text};
 

@@ -1,3 +1,4 @@
+//! The tokens of a text, or the first place at which there is none.
 ghost use Rattle.std.specs.Prelude.{◌≡◌, ℕ, ◌+◌, ◌^◌, ◌<◌, ◌≤◌, ◌++◌, List, length, drop, IfOk, IfErr, IsOkUnless, MatchResult};
 ghost use Rattle.cap_syntax.specs.Place.{place_after, StandsAt};
 ghost use Rattle.cap_syntax.specs.Refusal.{max_text, IsCause, IsFirstBreak, IsRefusal, UnlessMemory, FailsExactly};

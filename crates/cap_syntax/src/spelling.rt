@@ -1,3 +1,4 @@
+//! The longest token at a place, and its value.
 // The longest token at the front of a text.
 
 ghost use Rattle.std.specs.Prelude.{◌≡◌, ℕ, ◌<◌, ◌≤◌, ◌&&◌, false, length, take, nat_le, IsTrue, MatchOption, slice_index};

@@ -1,3 +1,4 @@
+//! Bytes of a text, as contracts see them.
 ghost use Rattle.std.specs.Prelude.{◌≡◌, IfOk};
 
 use std::alloc::{AllocError, Global};

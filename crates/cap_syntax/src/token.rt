@@ -1,3 +1,4 @@
+//! Tokens, and why a text has none at a place.
 ghost use Rattle.std.specs.Prelude.{◌≡◌};
 ghost use Rattle.cap_syntax.specs.declared.token.TokenError.TheVariants.{OutOfMemory};
 

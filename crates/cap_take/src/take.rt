@@ -1,3 +1,4 @@
+//! The choices on assertions: their subgoals, and what they owe.
 ghost use Rattle.cap_prog.specs.Views.{program_view};
 ghost use Rattle.cap_goal_spec.specs.Choices.{certs_of as certs_in};
 ghost use Rattle.cap_rules.specs.Answers.{marks_of, proofs};

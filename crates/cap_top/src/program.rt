@@ -1,3 +1,4 @@
+//! The top call: from the words to the text that is put out, and the status.
 ghost use Rattle.std.specs.Prelude.{◌≡◌, ◌⊎◌, ℕ, List, IfOk, IfSome, Some, None};
 ghost use Rattle.cap_io.specs.Outside.{Rose};
 ghost use Rattle.cap_top_commands.specs.Task.{task_in, verify, derive, check, show, replay};

@@ -1,3 +1,4 @@
+//! What is answered to `verify` and `show`, and to what is refused.
 ghost use Rattle.std.specs.Prelude.{◌≡◌, IfOk, MatchResult};
 ghost use Rattle.cap_top_reading.specs.declared.refusal.Refusal.TheVariants.{OutOfMemory};
 ghost use Rattle.cap_top_commands.specs.Answers.{IsVerified, IsShown, IsOnly, IsGood};

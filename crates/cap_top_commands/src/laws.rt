@@ -1,3 +1,4 @@
+//! Laws: a good answer means a safe program, and `check` accepts what `derive` writes.
 ghost use Rattle.cap_top_commands.specs.Answers.{AcceptedAreSafe, DerivedAreAccepted, GoodAnswersAreSafe};
 
 use cap_account::derivations_are_sound;

@@ -1,3 +1,4 @@
+//! What was found, as a status and a text.
 ghost use Rattle.std.specs.Prelude.{◌≡◌, IfOk};
 ghost use Rattle.cap_top_commands.specs.Output.{end_status, schedule_line};
 ghost use Rattle.cap_top_commands.specs.Output.{derivation_line, judged_line};

@@ -1,3 +1,4 @@
+//! What is answered to `replay`.
 ghost use Rattle.std.specs.Prelude.{IfOk, MatchResult, List, ℕ};
 ghost use Rattle.cap_prog.specs.Views.{program_view};
 ghost use Rattle.cap_top_commands.specs.Answers.{IsPlayed, IsOnly};

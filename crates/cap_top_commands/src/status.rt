@@ -1,3 +1,4 @@
+//! How a command ends, and the exit codes.
 ghost use Rattle.std.specs.Prelude.{◌≡◌};
 ghost use Rattle.cap_top_commands.specs.Status.{code_of};
 

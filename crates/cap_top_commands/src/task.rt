@@ -1,3 +1,4 @@
+//! A task: a command that is built, with its words.
 ghost use Rattle.std.specs.Prelude.{◌≡◌, IfOk, map, option_map, string_bytes};
 ghost use Rattle.cap_top_words.specs.Views.{command_view};
 ghost use Rattle.cap_top_commands.specs.Task.{task_view, task_by, task_in};

@@ -1,3 +1,4 @@
+//! Which units use region types.
 ghost use Rattle.std.specs.Prelude.{◌≡◌, ◌∷◌, slice_get};
 ghost use Rattle.std.specs.List.{list_any};
 ghost use Rattle.cap_prog.specs.Parts.{all_statements, block_statements, side_items};

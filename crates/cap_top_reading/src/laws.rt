@@ -1,3 +1,4 @@
+//! A law: the programs of texts are well-formed.
 ghost use Rattle.std.specs.Prelude.{ℕ, List};
 ghost use Rattle.cap_prog.specs.Program.{PlainProgram};
 ghost use Rattle.cap_prog.specs.WellFormed.{IsWellFormed};

@@ -1,3 +1,4 @@
+//! The tree and the program that bytes spell.
 ghost use Rattle.std.specs.Prelude.{◌≡◌};
 ghost use Rattle.cap_top_reading.specs.Reading.{FindsTree, FindsProgram};
 ghost use Rattle.cap_top_reading.specs.Reading.{token_refusal, parse_refusal, resolve_refusal};

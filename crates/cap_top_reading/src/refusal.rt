@@ -1,3 +1,4 @@
+//! Why bytes are refused, and the line that says so.
 ghost use Rattle.std.specs.Prelude.{◌≡◌, ◌++◌, IfOk};
 ghost use Rattle.cap_resolve_spec.specs.Finding.{limit_name};
 ghost use Rattle.cap_resolve.specs.Errors.{error_view};

@@ -1,3 +1,4 @@
+//! Laws: the trees that are found are valid.
 ghost use Rattle.cap_top_report.specs.Laws.{FoundAreValid, GoodHaveNoRegions};
 
 use cap_search_spec::proved_units_are_valid;

@@ -1,3 +1,4 @@
+//! The report on a program: a line for each unit, and how many are proved.
 ghost use Rattle.std.specs.Prelude.{◌≡◌, ◌++◌, ◌+◌, ◌==◌, ◌&&◌, not, IfOk, OnOk, string_bytes};
 ghost use Rattle.std.specs.Prelude.{length, map, flat_map};
 ghost use Rattle.std.specs.List.{AllByRecursion};

@@ -1,3 +1,4 @@
+//! The units of a program, in order.
 ghost use Rattle.std.specs.Prelude.{◌≡◌, ◌++◌, IfOk, OnOk, map};
 ghost use Rattle.std.specs.List.{range_with_len};
 ghost use Rattle.cap_prog.specs.Views.{program_view};

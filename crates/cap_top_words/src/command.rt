@@ -1,3 +1,4 @@
+//! Commands, with their words.
 /// A command, with the words and numbers that it was given.
 ///
 /// A budget bounds the cost of the search for each unit's proof: it is from 1 to 1,000,000,000, and

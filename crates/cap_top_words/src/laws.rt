@@ -1,3 +1,4 @@
+//! A law: each command can be written.
 ghost use Rattle.std.specs.Prelude.{◌≡◌, ◌↔◌, List, Some};
 ghost use Rattle.cap_top_words.specs.Meaning.{CommandWord, PlainCommand, command_of};
 ghost use Rattle.cap_top_words.specs.Writing.{IsWritten};

@@ -1,3 +1,4 @@
+//! Numbers in words.
 ghost use Rattle.std.specs.Prelude.{◌≡◌, ◌≤◌, IfSome};
 ghost use Rattle.cap_top_words.specs.Number.{begins_number, number_within};
 

@@ -1,3 +1,4 @@
+//! The words of the command line, as `clap` is told of them.
 ghost use Rattle.std.specs.Prelude.{◌≡◌, ◌∷◌, IfOk, codes, false, map};
 ghost use Rattle.clap.specs.Words.{app_of, rule_of};
 ghost use Rattle.cap_top_words.specs.Parser.{IsSubcommand, budget_rule, budgeted_rules, caper_app};

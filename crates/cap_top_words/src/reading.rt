@@ -1,3 +1,4 @@
+//! The command that words are, if they are one.
 ghost use Rattle.std.specs.Prelude.{◌≡◌, IfOk, map, string_bytes, option_map};
 ghost use Rattle.clap.specs.Words.{found_of, rows_of, first_of};
 ghost use Rattle.cap_top_words.specs.Meaning.{command_of};
