@@ -128,7 +128,7 @@ pub fn closure_of(
 
 /// The closure of a fact of a state of a program, by its number, and what was noted on the way to
 /// it.
-pub fn closure_at(
+pub(crate) fn closure_at(
     alloc: Global,
     program: &Program,
     state: &State,

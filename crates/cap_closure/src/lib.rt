@@ -8,4 +8,4 @@ mod starting;
 mod surviving;
 mod testing;
 
-pub use closing::{Closed, Closure, closure_at, closure_of};
+pub use closing::{Closed, Closure, closure_of};

@@ -9,9 +9,6 @@ mod terms;
 
 pub use clauses::{note_assertion, note_contents, note_counted, note_new};
 pub use items::{Reading, note_atoms, note_atoms_twice, note_items};
-pub use names::{
-    note_parameters, note_past, note_repeated, note_ret, note_ret_words, note_unknown,
-    note_unknown_in, note_variables,
-};
+pub use names::{note_parameters, note_past, note_repeated, note_ret, note_unknown};
 pub use statements::note_statement;
-pub use terms::{note_atom_terms, note_comparison, note_item_terms, note_terms};
+pub use terms::{note_atom_terms, note_comparison, note_item_terms};

@@ -30,7 +30,7 @@ pub fn note_unknown<'a>(noted: &mut Noted<'a>, names: &[Occurrence<'a>])
 }
 
 /// Notes the words that the scope does not know.
-pub fn note_unknown_in<'a>(noted: &mut Noted<'a>, scope: &Scope<'_>, words: &[&'a Word])
+pub(crate) fn note_unknown_in<'a>(noted: &mut Noted<'a>, scope: &Scope<'_>, words: &[&'a Word])
     ensures { noted_view noted.new ≡ fold note (noted_view noted.old)
         (unknown_in scope.now (words_view words.now)) }
 {
@@ -68,7 +68,7 @@ pub(crate) fn is_ret(name: &[u8]) -> bool
 }
 
 /// Notes the words that are `ret`.
-pub fn note_ret_words<'a>(noted: &mut Noted<'a>, words: &[&'a Word])
+pub(crate) fn note_ret_words<'a>(noted: &mut Noted<'a>, words: &[&'a Word])
     ensures { noted_view noted.new ≡ fold note (noted_view noted.old)
         (map twice_word (filter (λ w. is_result w.text) (words_view words.now))) }
 {
@@ -132,7 +132,7 @@ fn passes(places: &[Place], place: Place) -> bool
 }
 
 /// Notes where names that are counted together, of which these are the places, pass the limit.
-pub fn note_variables(noted: &mut Noted<'_>, places: &[Place])
+pub(crate) fn note_variables(noted: &mut Noted<'_>, places: &[Place])
     ensures { noted_view noted.new ≡ fold note (noted_view noted.old)
         (past_variables places.now) }
 {

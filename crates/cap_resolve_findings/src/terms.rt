@@ -62,7 +62,7 @@ pub fn note_comparison<'a>(
 }
 
 /// Notes what is wrong in terms that are wanted as whole numbers.
-pub fn note_terms<'a>(
+pub(crate) fn note_terms<'a>(
     noted: &mut Noted<'_>,
     alloc: Global,
     scope: &Scope<'a>,

@@ -7,4 +7,4 @@ mod widths;
 
 pub use forms::form;
 pub use names::Names;
-pub use widths::{is_wide, linear, note_term, note_width};
+pub use widths::{is_wide, linear, note_term};

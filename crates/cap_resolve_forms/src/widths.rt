@@ -41,7 +41,7 @@ pub fn is_wide<'a>(alloc: Global, scope: &Scope<'a>, term: &'a Term) -> Result<b
 }
 
 /// Notes a term of which some result on the way to its linear form leaves 128 bits.
-pub fn note_width<'a>(
+pub(crate) fn note_width<'a>(
     noted: &mut Noted<'_>,
     alloc: Global,
     scope: &Scope<'a>,

@@ -293,7 +293,7 @@ fn build_block<'a>(
 }
 
 /// The statements of a body, and a closing return of 0 at its last brace.
-pub fn build_body<'a>(
+pub(crate) fn build_body<'a>(
     alloc: Global,
     block: &'a Block,
     body: &Body<'_, '_, 'a>,

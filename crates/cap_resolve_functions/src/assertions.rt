@@ -25,7 +25,7 @@ use cap_resolve_terms::Scope;
 use std::alloc::Global;
 
 /// A clause that may be absent.
-pub fn clause_of(clause: &Option<Clause>) -> Option<&Clause>
+pub(crate) fn clause_of(clause: &Option<Clause>) -> Option<&Clause>
     ensures { clause_seen result ≡ option_map clause_view clause.now }
 {
     match clause {
@@ -54,7 +54,7 @@ fn items_of(
 }
 
 /// An assertion with the sorts of its new names; an absent one is `true`.
-pub fn build_assertion(
+pub(crate) fn build_assertion(
     alloc: Global,
     reading: &Reading<'_, '_, '_>,
     names: Vec<Sort>,
@@ -71,7 +71,7 @@ pub fn build_assertion(
 }
 
 /// `ensures` or an invariant, where these names are known.
-pub fn build_new<'a>(
+pub(crate) fn build_new<'a>(
     alloc: Global,
     body: &Body<'_, '_, 'a>,
     known: &Scope<'a>,

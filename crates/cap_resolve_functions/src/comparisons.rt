@@ -37,7 +37,7 @@ fn sort_or_whole(sort: Option<Sort>) -> Sort
 }
 
 /// A comparison of linear forms. It has the sort of its left side, and its place.
-pub fn build_comparison(
+pub(crate) fn build_comparison(
     alloc: Global,
     scope: &Scope<'_>,
     comparison: &Comparison,

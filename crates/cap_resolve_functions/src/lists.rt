@@ -28,7 +28,11 @@ pub fn build_sorts(alloc: Global, names: &[Occurrence<'_>]) -> Result<Vec<Sort>,
 }
 
 /// Puts copies of the texts of words behind the names.
-pub fn push_texts(alloc: Global, names: &mut Vec<Name>, words: &[&Word]) -> Result<(), AllocError>
+pub(crate) fn push_texts(
+    alloc: Global,
+    names: &mut Vec<Name>,
+    words: &[&Word],
+) -> Result<(), AllocError>
     ensures { OnOk result
         (names.new.items ≡ names.old.items ++ map word_text (words_view words.now)) }
 {

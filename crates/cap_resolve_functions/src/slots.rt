@@ -12,7 +12,11 @@ use cap_syntax::Place;
 use std::alloc::Global;
 
 /// The slot of a tree.
-pub fn build_slot(alloc: Global, scope: &Scope<'_>, slot: &SlotTree) -> Result<Slot, BuildError>
+pub(crate) fn build_slot(
+    alloc: Global,
+    scope: &Scope<'_>,
+    slot: &SlotTree,
+) -> Result<Slot, BuildError>
     ensures { IfOk result (λ s. s ≡ slot_program scope.now (slot_view slot.now)) }
 {
     match slot {
@@ -22,7 +26,7 @@ pub fn build_slot(alloc: Global, scope: &Scope<'_>, slot: &SlotTree) -> Result<S
 }
 
 /// The slots of a list, each behind its comma.
-pub fn build_slots(
+pub(crate) fn build_slots(
     alloc: Global,
     scope: &Scope<'_>,
     list: &[(Place, SlotTree)],

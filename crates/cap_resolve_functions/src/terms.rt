@@ -35,7 +35,7 @@ fn terms_in(
 }
 
 /// The linear forms of the terms of a list in parentheses.
-pub fn build_terms(
+pub(crate) fn build_terms(
     alloc: Global,
     scope: &Scope<'_>,
     list: &Listed<Term>,

@@ -12,8 +12,7 @@ pub use items::{
     Placed, atom_place, atom_word, atoms_held, item_place, items_of_clause, placed_items,
 };
 pub use lists::{
-    atoms_of, comparisons_of, listed_count, listed_word_count, listed_words, push_listed_terms,
-    word_count, words_of,
+    atoms_of, comparisons_of, listed_count, listed_word_count, listed_words, word_count, words_of,
 };
 pub use statements::{
     callee, cells, destination, invariant, push_block, push_statement_names, push_statement_terms,

@@ -79,7 +79,7 @@ pub fn comparisons_of<'a>(
 }
 
 /// Puts the terms of a list in parentheses behind the terms.
-pub fn push_listed_terms<'a>(
+pub(crate) fn push_listed_terms<'a>(
     terms: &mut Vec<&'a Term>,
     list: &'a Listed<Term>,
 ) -> Result<(), AllocError>

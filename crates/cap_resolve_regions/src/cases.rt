@@ -43,7 +43,7 @@ fn case_items(
 }
 
 /// The case of a tree, whose names these are, in the scope that it knows.
-pub fn build_case(
+pub(crate) fn build_case(
     alloc: Global,
     reading: &Reading<'_, '_, '_>,
     known: &[Occurrence<'_>],
@@ -99,7 +99,7 @@ fn build_guards(
 }
 
 /// The action of a tree, whose names these are, in the scope that it knows.
-pub fn build_action(
+pub(crate) fn build_action(
     alloc: Global,
     scope: &Scope<'_>,
     region: Numbered<'_, '_>,

@@ -18,7 +18,7 @@ use cap_resolve_terms::Scope;
 use std::alloc::Global;
 
 /// The action of a region type, of whose parameters this is the scope.
-pub fn action_of<'a>(
+pub(crate) fn action_of<'a>(
     alloc: Global,
     region: Numbered<'_, 'a>,
     parameters: &Scope<'a>,
@@ -35,7 +35,7 @@ pub fn action_of<'a>(
 }
 
 /// The case of a region type, of whose parameters this is the scope.
-pub fn case_of<'a>(
+pub(crate) fn case_of<'a>(
     alloc: Global,
     regions: &RegionTable<'a>,
     region: Numbered<'_, 'a>,

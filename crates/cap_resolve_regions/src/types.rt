@@ -35,7 +35,7 @@ pub fn cases_of<'a>(
 }
 
 /// The actions of a region type, of whose parameters this is the scope.
-pub fn actions_of<'a>(
+pub(crate) fn actions_of<'a>(
     alloc: Global,
     region: Numbered<'_, 'a>,
     parameters: &Scope<'a>,

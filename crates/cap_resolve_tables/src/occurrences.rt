@@ -72,7 +72,7 @@ pub fn push_unbound<'a>(
 
 /// Puts the names of a slot behind the occurrences. One that is the whole slot is bound there, unless
 /// the slot stands in a side of a conditional.
-pub fn push_slot<'a>(
+pub(crate) fn push_slot<'a>(
     alloc: Global,
     list: &mut Vec<Occurrence<'a>>,
     inside: bool,

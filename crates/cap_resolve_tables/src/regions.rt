@@ -63,7 +63,7 @@ fn guard_kinds(alloc: Global, guards: &[&Declared]) -> Result<Vec<Atom>, AllocEr
 }
 
 /// A region type with its table of guards.
-pub fn region_type<'a>(alloc: Global, tree: &'a Region) -> Result<RegionType<'a>, AllocError>
+pub(crate) fn region_type<'a>(alloc: Global, tree: &'a Region) -> Result<RegionType<'a>, AllocError>
     ensures { IfOk result (λ t. type_view t ≡ region_view tree.now) }
 {
     let mut guards = Vec::new(alloc);

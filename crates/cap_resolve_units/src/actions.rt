@@ -91,7 +91,7 @@ fn note_action_of<'a>(
 }
 
 /// Notes what is wrong in an action, where the scope is that of the parameters.
-pub fn note_action<'a>(
+pub(crate) fn note_action<'a>(
     noted: &mut Noted<'a>,
     alloc: Global,
     region: Numbered<'_, '_>,

@@ -30,7 +30,7 @@ pub struct BodyReading<'s, 't, 'a> {
 }
 
 /// Notes what is wrong in `ensures` or an invariant, where these names are known.
-pub fn note_clause<'a>(
+pub(crate) fn note_clause<'a>(
     noted: &mut Noted<'a>,
     alloc: Global,
     reading: BodyReading<'_, '_, 'a>,
@@ -86,7 +86,7 @@ fn note_whole_statement<'a>(
 }
 
 /// Notes what is wrong in the statements.
-pub fn note_statements<'a>(
+pub(crate) fn note_statements<'a>(
     noted: &mut Noted<'a>,
     alloc: Global,
     reading: BodyReading<'_, '_, 'a>,

@@ -105,7 +105,7 @@ fn note_case_of<'a>(
 }
 
 /// Notes what is wrong in a case, where the scope is that of the parameters.
-pub fn note_case<'a>(
+pub(crate) fn note_case<'a>(
     noted: &mut Noted<'a>,
     alloc: Global,
     regions: &RegionTable<'a>,

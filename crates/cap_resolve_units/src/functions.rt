@@ -316,7 +316,7 @@ fn note_with_types<'t, 'a>(
 
 /// Notes what is wrong in a function of these parameters, items of `requires`, `ensures` and
 /// statements.
-pub fn note_function_parts<'t, 'a>(
+pub(crate) fn note_function_parts<'t, 'a>(
     noted: &mut Noted<'a>,
     alloc: Global,
     regions: &'t RegionTable<'a>,

@@ -129,7 +129,7 @@ fn note_case_contents<'a>(
 }
 
 /// Notes what is wrong in a case that knows these names, but for the names themselves.
-pub fn note_known_case<'a>(
+pub(crate) fn note_known_case<'a>(
     noted: &mut Noted<'a>,
     alloc: Global,
     regions: &RegionTable<'a>,
@@ -180,7 +180,7 @@ fn note_action_terms<'a>(
 }
 
 /// Notes what is wrong in an action that knows these names, but for the names themselves.
-pub fn note_known_action<'a>(
+pub(crate) fn note_known_action<'a>(
     noted: &mut Noted<'a>,
     alloc: Global,
     region: Numbered<'_, '_>,
