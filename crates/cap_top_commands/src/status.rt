@@ -5,11 +5,13 @@ ghost use Rattle.cap_top_commands.specs.Status.{code_of};
 /// How a run of the program ended.
 #[derive(Clone, Copy, Debug, PartialEq, Eq)]
 pub enum Status {
-    /// All functions and region types are proved, the text is shown, or the run took all entries.
+    /// All functions and region types are proved, a derivation of them is written or accepted, the
+    /// text is shown, or the run took all entries.
     Good,
-    /// Some function or region type is not proved, or the run came to a fault.
+    /// Some function or region type is not proved, a derivation is rejected, or the run came to a
+    /// fault.
     Bad,
-    /// The text is no program's or no schedule's, or its file is too long.
+    /// A file has no text of a program, a schedule or a derivation, or is too long.
     Refused,
     /// The words are no command.
     Usage,
