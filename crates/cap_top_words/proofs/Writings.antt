@@ -1,5 +1,5 @@
 -- Numbers are written in decimal, and arguments in pieces.
-use Rattle.std.proofs.Common.{◌≡◌, ◌∙◌, ◌<◌, ◌≤◌, ◌^◌, ◌&&◌, ℕ, zero, suc, Bool, cond, true, false, refl, sym, ap, subst, arith, List, [], ◌∷◌, length, get_or, Option, Some, None, true≢false, codes}
+use Rattle.std.proofs.Common.{◌≡◌, ◌∙◌, ◌<◌, ◌≤◌, ◌^◌, ◌&&◌, ◌++◌, ℕ, zero, suc, Bool, cond, true, false, refl, sym, ap, subst, arith, List, [], ◌∷◌, length, get_or, Option, Some, None, true≢false, codes}
 use Rattle.std.specs.Prelude.{nat_le}
 use Rattle.std.specs.List.{All}
 use Rattle.std.specs.Fmt.{decimal}
@@ -10,7 +10,7 @@ use Rattle.std.proofs.lemmas.Fmt.{decimal-digits_value, digits_decimal, digits_v
 use Rattle.std.proofs.lemmas.List.Elements.{All-cons, All-head, All-nil, All-tail}
 use Rattle.clap.proofs.WalkLemmas.{both}
 use Rattle.cap_top_words.specs.Number.{begins_number, number_within}
-use Rattle.cap_top_words.specs.Meaning.{Arguments, CommandWord, arguments_of, arguments_after_option, begins_option, joined_or_operand, with_budget, with_operand}
+use Rattle.cap_top_words.specs.Meaning.{Arguments, CommandWord, arguments_of, arguments_after_option, begins_option, joined_or_operand, rest_after, with_budget, with_operand}
 use Rattle.cap_top_words.specs.Writing.{IsNumber, IsWritable, WrittenArgument, apart, budgets_of, joined, operand, operands_of, words_of}
 use Rattle.cap_top_words.proofs.Classes.{rest_after-Some, same_bytes}
 use Rattle.cap_top_words.proofs.Numbers.{own, unsigned}
@@ -99,6 +99,16 @@ with_apart n words begins a p = record {
   ending = p.ending;
   writable = All-cons IsWritable (apart n) p.arguments begins p.writable;
   spelled = ap (λ (ws : List CommandWord). codes "--budget" ∷ n ∷ ws) p.spelled;
+  budgets = ap (λ (ws : List CommandWord). n ∷ ws) p.budgets;
+  operands = p.operands;
+}
+
+with_joined : (n : CommandWord) (words : List CommandWord) (a : Arguments) → AreWrittenBy words a → AreWrittenBy ((codes "--budget=" ++ n) ∷ words) (budget_added n a)
+with_joined n words a p = record {
+  arguments = joined n ∷ p.arguments;
+  ending = p.ending;
+  writable = All-cons IsWritable (joined n) p.arguments tt p.writable;
+  spelled = ap (λ (ws : List CommandWord). (codes "--budget=" ++ n) ∷ ws) p.spelled;
   budgets = ap (λ (ws : List CommandWord). n ∷ ws) p.budgets;
   operands = p.operands;
 }
