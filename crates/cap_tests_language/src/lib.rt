@@ -1,4 +1,4 @@
-//! Tests by the public calls of the crates of language. It has no other code.
+//! Tests of tokens, their classes, printed trees and programs. It has no other code.
 #![tactic(auto)]
 
 #[cfg(test)]

@@ -1,3 +1,5 @@
+//! The classes by which the grammar sees tokens.
+
 use cap_parse_laws::{Class, are_same, class_of};
 use cap_syntax::tokens;
 use std::test::Fail;

@@ -1,3 +1,5 @@
+//! Trees as they are printed.
+
 use cap_parse_print::print;
 use cap_parse_tree::{
     Assertion, Block, Clause, Declaration, Factor, Function, Item, Listed, Literal, Product, Slot,

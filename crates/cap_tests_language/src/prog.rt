@@ -1,12 +1,14 @@
+//! Programs that are made of their parts.
+
 ghost use Rattle.std.specs.Prelude.{◌≡◌, [], IfOk};
 ghost use Rattle.cap_prog.specs.Program.{none, PlainProgram};
 ghost use Rattle.cap_prog.specs.Views.{assertion_view, statement_view, function_view, region_view};
 ghost use Rattle.cap_prog.specs.WellFormed.{FunctionFits, RegionFits};
 ghost use Rattle.cap_prog.specs.Empty.{closing};
 
-use super::*;
 use cap_galg::Algebra;
 use cap_lin::Term;
+use cap_prog::{Act, Assertion, Function, Name, Program, RegionType, Statement};
 use cap_syntax::Place;
 use std::alloc::{AllocError, Global};
 use std::test::Fail;

@@ -1,3 +1,5 @@
+//! The tokens of texts.
+
 use cap_syntax::{Place, Text, TokenError, tokens};
 use std::test::Fail;
 

@@ -1,3 +1,5 @@
+//! Certificates, and the rows that they refute.
+
 use cap_farkas::{Cert, Multipliers, refutes};
 use cap_lin::{Kind, LinError, Row, Sort, Term};
 use std::alloc::{AllocError, Global};

@@ -1,3 +1,5 @@
+//! What elimination answers at small systems of rows.
+
 mod compared;
 mod limits;
 mod plain;

@@ -1,4 +1,9 @@
-use super::*;
+//! Elements of guard algebras.
+
+use cap_galg::{
+    Algebra, Amount, Atom, Counting, Divisible, Either, Elem, Fraction, Guard, GuardError, Pair,
+    Unique,
+};
 use std::alloc::{AllocError, Global};
 use std::process::Abort;
 use std::test::Fail;

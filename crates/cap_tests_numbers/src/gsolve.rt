@@ -1,3 +1,5 @@
+//! Pieces of guards whose amounts are terms.
+
 use cap_galg::Algebra;
 use cap_gsolve::{Form, Piece, compat, full_pieces, merge};
 use cap_lin::{Kind, LinError, Row, Sort, Term};

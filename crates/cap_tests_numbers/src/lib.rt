@@ -1,4 +1,4 @@
-//! Tests by the public calls of the crates of numbers. It has no other code.
+//! Tests of terms, rows, certificates, elimination and guards. It has no other code.
 #![tactic(auto)]
 
 #[cfg(test)]

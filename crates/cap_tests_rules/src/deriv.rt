@@ -1,4 +1,6 @@
-use super::*;
+//! The lines of derivations, as they are read.
+
+use cap_deriv::{DerivError, read};
 use std::alloc::{AllocError, Global};
 use std::test::Fail;
 

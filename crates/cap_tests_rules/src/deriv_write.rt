@@ -1,4 +1,6 @@
-use super::*;
+//! The lines of derivations, as they are written.
+
+use cap_deriv_write::write;
 use cap_farkas::{Cert, Multipliers};
 use cap_goal::{Bundle, Choice, Node};
 use std::alloc::{AllocError, Global};

@@ -1,3 +1,5 @@
+//! States as they are copied and changed.
+
 ghost use Rattle.std.specs.Prelude.{◌≡◌, length, IfOk};
 
 use cap_goal::State;

@@ -1,79 +1,37 @@
-ghost use Rattle.std.specs.Prelude.{◌≡◌, [], IfOk};
-ghost use Rattle.cap_prog.specs.Program.{none, PlainProgram};
-ghost use Rattle.cap_prog.specs.Views.{assertion_view, statement_view, function_view};
-ghost use Rattle.cap_prog.specs.WellFormed.{FunctionFits};
-ghost use Rattle.cap_prog.specs.Empty.{closing};
+//! The roots of a unit.
 
-use cap_goal::{Task, Unit};
+use cap_goal::{Goal, Task, Unit};
 use cap_goal_roots::roots;
-use cap_lin::Term;
-use cap_prog::{Act, Assertion, Function, Name, Program, Statement};
-use cap_syntax::Place;
-use std::alloc::{AllocError, Global};
+use cap_prog::Program;
+use cap_top_reading::read_program;
+use std::alloc::Global;
 use std::test::Fail;
 
-fn no_items(alloc: Global) -> Assertion
-    ensures { assertion_view result ≡ record { names = []; items = none } }
-{
-    let names = Vec::new(alloc);
-    let items = Vec::new(alloc);
-    Assertion { names, items }
-}
-
-fn closing_return(alloc: Global, place: Place) -> Statement
-    ensures { statement_view result ≡ closing place }
-{
-    let zero = Term::constant(alloc, 0);
-    Statement {
-        number: 1,
-        place,
-        act: Act::Return(zero),
+// How many lists of statements are to be run at a goal whose last task is a run.
+fn run_lists(goal: &Goal<'_>) -> usize {
+    match goal.tasks.last() {
+        Some(Task::Run(_, point)) => point.lists.len(),
+        _ => 0,
     }
 }
 
-// function main() { }
-fn main_function(alloc: Global, place: Place) -> Result<Function, AllocError>
-    ensures { IfOk result (λ f. (p : PlainProgram) → FunctionFits p (function_view f)) }
-{
-    let fixed = Vec::new(alloc);
-    let variables = Vec::new(alloc);
-    let before = no_items(alloc);
-    let after = no_items(alloc);
-    let last = closing_return(alloc, place);
-    let mut body = Vec::new(alloc);
-    body.push(last)?;
-    Ok(Function {
-        name: Name::new(Vec::from_slice(alloc, b"main")?),
-        params: 0,
-        locals: 0,
-        fixed,
-        variables,
-        requires_: before,
-        ensures_: after,
-        body,
-        place,
-    })
+// That number for each root of the first function, and none for a root without tasks.
+fn root_lists(alloc: Global, program: &Program) -> Result<Vec<Option<usize>>, Fail> {
+    if program.functions().is_empty() {
+        Err("no function")?;
+    }
+    let mut lists = Vec::new(alloc);
+    for root in &roots(alloc, program, Unit::Function(0))? {
+        lists.push(root.as_ref().map(run_lists))?;
+    }
+    Ok(lists)
 }
 
-// Two trees without nodes, and the body.
+// The contract has no items, so there is nothing to prove of it; the body is one list.
 #[test]
 fn roots_of_an_empty_function(rt: HostRuntime) -> Result<(), Fail> {
-    let alloc = rt.alloc();
-    let regions = Vec::new(alloc);
-    let mut functions = Vec::new(alloc);
-    let function = main_function(alloc, Place { line: 1, column: 1 })?;
-    functions.push(function)?;
-    let program = Program::new(regions, functions, 0);
-    let found = roots(alloc, &program, Unit::Function(0))?;
-    assert_eq!(rt; found.len(), 3);
-    assert!(rt; found[0].is_none(), "a goal for the precondition");
-    assert!(rt; found[1].is_none(), "a goal for the postcondition");
-    let mut lists = 0;
-    if let Some(goal) = &found[2] {
-        if let Some(Task::Run(_, point)) = goal.tasks.last() {
-            lists = point.lists.len();
-        }
-    }
-    assert_eq!(rt; lists, 1);
+    let program = read_program(rt.alloc(), "function main() { }".as_bytes())?;
+    let lists = root_lists(rt.alloc(), &program)?;
+    assert_eq!(rt; lists.as_slice(), [None, None, Some(1)].as_slice());
     Ok(())
 }

@@ -1,3 +1,5 @@
+//! Steps that the rules share.
+
 use cap_goal::State;
 use cap_lin::{Op, Row, Sort, Term};
 use cap_rules_steps::{Ledger, RuleError, leaves, prove_equal, told, with_row, with_sort};

@@ -1,3 +1,5 @@
+//! What of a state of a region stays, whatever others do.
+
 ghost use Rattle.std.specs.Prelude.{◌≡◌, length, IfOk};
 
 use cap_closure::{Closure, closure_of};

@@ -1,3 +1,5 @@
+//! Certificates that are found, or not, and what is noted of it.
+
 use cap_closure_decide::{
     Notes, certified, certified_by, decided, decided_all, decided_each, proves,
 };

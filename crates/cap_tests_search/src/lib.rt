@@ -1,4 +1,5 @@
-//! Tests by the public calls of the crates of search. It has no other code.
+//! Tests of the search: certificates that are found, closures of states, choices that are offered,
+//! and verdicts. It has no other code.
 #![tactic(auto)]
 
 #[cfg(test)]

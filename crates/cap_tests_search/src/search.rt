@@ -1,200 +1,32 @@
-ghost use Rattle.std.specs.Prelude.{◌≡◌, [], length, pos, IfOk};
-ghost use Rattle.cap_lin.specs.Linear.{number as numeral};
-ghost use Rattle.cap_lin.specs.declared.row.Op.TheVariants.{Le as AtMost};
-ghost use Rattle.cap_lin.specs.declared.row.Sort.TheVariants.{Int};
-ghost use Rattle.cap_prog.specs.Empty.{closing};
-ghost use Rattle.cap_prog.specs.Program.{check, compare, give_back, item, none, PlainProgram};
-ghost use Rattle.cap_prog.specs.Views.{assertion_view, function_view, statement_view};
-ghost use Rattle.cap_prog.specs.WellFormed.{FunctionFits};
-ghost use Rattle.cap_prog.specs.Views.{program_view};
+//! Verdicts on programs of one function.
 
 use cap_goal::{Choice, Node, Unit};
-use cap_lin::{Op, Sort, Term};
-use cap_prog::{Act, Assertion, Comp, Function, Item, Name, Program, Statement};
+use cap_prog::Program;
 use cap_search::{Need, Obligation, Verdict, empty_start, search};
 use cap_syntax::Place;
-use std::alloc::{AllocError, Global};
+use cap_top_reading::read_program;
+use std::alloc::Global;
 use std::test::Fail;
 
-const HERE: Place = Place { line: 1, column: 1 };
+const EMPTY: &str = "function main() { }";
 
-fn no_items(alloc: Global) -> Assertion
-    ensures { assertion_view result ≡ record { names = []; items = none } }
-{
-    let names = Vec::new(alloc);
-    let items = Vec::new(alloc);
-    Assertion { names, items }
-}
-
-fn closing_return(alloc: Global, place: Place) -> Statement
-    ensures { statement_view result ≡ closing place }
-{
-    let zero = Term::constant(alloc, 0);
-    Statement {
-        number: 1,
-        place,
-        act: Act::Return(zero),
+// The verdict on the first function.
+fn verdict_of(alloc: Global, program: &Program, budget: u64) -> Result<Verdict, Fail> {
+    if program.functions().is_empty() {
+        Err("no function")?;
     }
+    Ok(search(alloc, program, Unit::Function(0), budget)?)
 }
 
-// function main() { }
-fn main_function(alloc: Global, place: Place) -> Result<Function, AllocError>
-    ensures { IfOk result (λ f. (p : PlainProgram) → FunctionFits p (function_view f)) }
-{
-    let fixed = Vec::new(alloc);
-    let variables = Vec::new(alloc);
-    let before = no_items(alloc);
-    let after = no_items(alloc);
-    let last = closing_return(alloc, place);
-    let mut body = Vec::new(alloc);
-    body.push(last)?;
-    Ok(Function {
-        name: Name::new(Vec::from_slice(alloc, b"main")?),
-        params: 0,
-        locals: 0,
-        fixed,
-        variables,
-        requires_: before,
-        ensures_: after,
-        body,
-        place,
-    })
+fn verdict_on(alloc: Global, text: &str, budget: u64) -> Result<Verdict, Fail> {
+    let program = read_program(alloc, text.as_bytes())?;
+    verdict_of(alloc, &program, budget)
 }
 
-// 1 <= 0
-fn false_comparison(alloc: Global, place: Place) -> Comp
-    ensures { result ≡ record {
-      left = numeral (pos 1);
-      op = AtMost;
-      right = numeral (pos 0);
-      sort = Int;
-      place = place;
-    } }
-{
-    Comp {
-        left: Term::constant(alloc, 1),
-        op: Op::Le,
-        right: Term::constant(alloc, 0),
-        sort: Sort::Int,
-        place,
-    }
-}
-
-// assert 1 <= 0;
-fn false_assert(alloc: Global, place: Place, side: Place) -> Statement
-    ensures { statement_view result ≡ record {
-      label = record { number = 1; place = place };
-      act = check (record {
-        left = numeral (pos 1);
-        op = AtMost;
-        right = numeral (pos 0);
-        sort = Int;
-        place = side;
-      });
-    } }
-{
-    let comparison = false_comparison(alloc, side);
-    Statement {
-        number: 1,
-        place,
-        act: Act::Assert(comparison),
-    }
-}
-
-// return 0; behind one statement
-fn second_return(alloc: Global, place: Place) -> Statement
-    ensures { statement_view result ≡ record {
-      label = record { number = 2; place = place };
-      act = give_back (numeral (pos 0));
-    } }
-{
-    let zero = Term::constant(alloc, 0);
-    Statement {
-        number: 2,
-        place,
-        act: Act::Return(zero),
-    }
-}
-
-// function main() { assert 1 <= 0; }
-fn failing_function(alloc: Global, place: Place, side: Place) -> Result<Function, AllocError>
-    ensures { IfOk result (λ f. (p : PlainProgram) → FunctionFits p (function_view f)) }
-{
-    let fixed = Vec::new(alloc);
-    let variables = Vec::new(alloc);
-    let before = no_items(alloc);
-    let after = no_items(alloc);
-    let first = false_assert(alloc, place, side);
-    let last = second_return(alloc, place);
-    let mut body = Vec::new(alloc);
-    body.push(first)?;
-    body.push(last)?;
-    Ok(Function {
-        name: Name::new(Vec::from_slice(alloc, b"main")?),
-        params: 0,
-        locals: 0,
-        fixed,
-        variables,
-        requires_: before,
-        ensures_: after,
-        body,
-        place,
-    })
-}
-
-// requires 1 <= 0
-fn false_assertion(alloc: Global, place: Place) -> Result<Assertion, AllocError>
-    ensures { IfOk result (λ a. assertion_view a ≡ record {
-      names = [];
-      items = item (compare (record {
-        left = numeral (pos 1);
-        op = AtMost;
-        right = numeral (pos 0);
-        sort = Int;
-        place = place;
-      })) none;
-    }) }
-{
-    let comparison = false_comparison(alloc, place);
-    let names = Vec::new(alloc);
-    let mut items = Vec::new(alloc);
-    items.push(Item::Compare(comparison))?;
-    Ok(Assertion { names, items })
-}
-
-// function main() requires 1 <= 0; { }
-fn unreachable_function(alloc: Global, place: Place) -> Result<Function, AllocError>
-    ensures { IfOk result (λ f. (p : PlainProgram) → FunctionFits p (function_view f)) }
-{
-    let fixed = Vec::new(alloc);
-    let variables = Vec::new(alloc);
-    let before = false_assertion(alloc, place)?;
-    let after = no_items(alloc);
-    let last = closing_return(alloc, place);
-    let mut body = Vec::new(alloc);
-    body.push(last)?;
-    Ok(Function {
-        name: Name::new(Vec::from_slice(alloc, b"main")?),
-        params: 0,
-        locals: 0,
-        fixed,
-        variables,
-        requires_: before,
-        ensures_: after,
-        body,
-        place,
-    })
-}
-
-// A program of one function.
-fn program_of(alloc: Global, function: Function) -> Result<Program, AllocError>
-    requires { (p : PlainProgram) → FunctionFits p (function_view function) }
-    ensures { IfOk result (λ p. length (program_view p).functions ≡ 1) }
-{
-    let regions = Vec::new(alloc);
-    let mut functions = Vec::new(alloc);
-    functions.push(function)?;
-    Ok(Program::new(regions, functions, 0))
+// Whether no state meets the precondition of `main`.
+fn is_empty(alloc: Global, text: &str) -> Result<bool, Fail> {
+    let program = read_program(alloc, text.as_bytes())?;
+    Ok(empty_start(alloc, &program)?)
 }
 
 // Whether the tree is a return that leaves nothing.
@@ -209,12 +41,9 @@ fn is_return(tree: &Option<Node>) -> bool {
 // visited.
 #[test]
 fn proves_an_empty_function(rt: HostRuntime) -> Result<(), Fail> {
-    let alloc = rt.alloc();
-    let program = program_of(alloc, main_function(alloc, HERE)?)?;
-    let verdict = search(alloc, &program, Unit::Function(0), 1)?;
-    let trees = match verdict {
+    let trees = match verdict_on(rt.alloc(), EMPTY, 1)? {
         Verdict::Proved(trees) => trees,
-        _ => Vec::new(alloc),
+        _ => Vec::new(rt.alloc()),
     };
     assert_eq!(rt; trees.len(), 3);
     assert!(rt; trees[0].is_none() && trees[1].is_none());
@@ -224,9 +53,7 @@ fn proves_an_empty_function(rt: HostRuntime) -> Result<(), Fail> {
 
 #[test]
 fn spends_its_budget(rt: HostRuntime) -> Result<(), Fail> {
-    let alloc = rt.alloc();
-    let program = program_of(alloc, main_function(alloc, HERE)?)?;
-    let verdict = search(alloc, &program, Unit::Function(0), 0)?;
+    let verdict = verdict_on(rt.alloc(), EMPTY, 0)?;
     assert!(rt; matches!(verdict, Verdict::Spent(0)));
     Ok(())
 }
@@ -234,18 +61,21 @@ fn spends_its_budget(rt: HostRuntime) -> Result<(), Fail> {
 // Nothing proves that 1 <= 0: one goal is visited, and the comparison is what it lacks.
 #[test]
 fn a_false_assertion_is_left_open(rt: HostRuntime) -> Result<(), Fail> {
-    let alloc = rt.alloc();
-    let side = Place { line: 1, column: 8 };
-    let program = program_of(alloc, failing_function(alloc, HERE, side)?)?;
-    let verdict = search(alloc, &program, Unit::Function(0), 1)?;
+    let verdict = verdict_on(rt.alloc(), "function main() { assert 1 <= 0; }", 1)?;
     let open = match verdict {
         Verdict::Stuck(open) => Some(open),
         _ => None,
     };
     let lacks = Obligation {
-        statement: HERE,
+        statement: Place {
+            line: 1,
+            column: 19,
+        },
         need: Need::Fact,
-        item: side,
+        item: Place {
+            line: 1,
+            column: 26,
+        },
     };
     assert_eq!(rt; open, Some(lacks));
     Ok(())
@@ -255,9 +85,7 @@ fn a_false_assertion_is_left_open(rt: HostRuntime) -> Result<(), Fail> {
 #[test]
 fn only_a_false_precondition_is_empty(rt: HostRuntime) -> Result<(), Fail> {
     let alloc = rt.alloc();
-    let program = program_of(alloc, main_function(alloc, HERE)?)?;
-    assert!(rt; !empty_start(alloc, &program)?);
-    let program = program_of(alloc, unreachable_function(alloc, HERE)?)?;
-    assert!(rt; empty_start(alloc, &program)?);
+    assert!(rt; !is_empty(alloc, EMPTY)?);
+    assert!(rt; is_empty(alloc, "function main() requires 1 <= 0; { }")?);
     Ok(())
 }

@@ -1,4 +1,4 @@
-//! Tests by the public calls of the crates of top. It has no other code.
+//! Tests of the outside, the words of commands, reports, and whole runs. It has no other code.
 #![tactic(auto)]
 
 #[cfg(test)]

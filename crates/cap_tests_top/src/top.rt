@@ -1,3 +1,5 @@
+//! Whole runs over files in memory: what each command writes, and its status.
+
 use cap_io::{FetchError, MemoryShelf, MemorySink, Shelf};
 use cap_top::{Status, run};
 use std::alloc::{AllocError, Global};

@@ -1,69 +1,15 @@
-ghost use Rattle.std.specs.Prelude.{◌≡◌, [], IfOk};
-ghost use Rattle.cap_prog.specs.Empty.{closing};
-ghost use Rattle.cap_prog.specs.Program.{none, PlainProgram};
-ghost use Rattle.cap_prog.specs.Views.{assertion_view, function_view, statement_view};
-ghost use Rattle.cap_prog.specs.WellFormed.{FunctionFits};
+//! Reports and derivations of one function.
 
-use cap_goal::Choice;
-use cap_lin::Term;
-use cap_prog::{Act, Assertion, Function, Name, Program, Statement};
-use cap_syntax::Place;
+use cap_goal::{Choice, Node};
+use cap_prog::Program;
+use cap_top_reading::{Refusal, read_program};
 use cap_top_report::{Conclusion, derive_on, report_on};
-use std::alloc::{AllocError, Global};
+use std::alloc::Global;
 use std::test::Fail;
 
-const HERE: Place = Place { line: 1, column: 1 };
-
-fn no_items(alloc: Global) -> Assertion
-    ensures { assertion_view result ≡ record { names = []; items = none } }
-{
-    let names = Vec::new(alloc);
-    let items = Vec::new(alloc);
-    Assertion { names, items }
-}
-
-fn closing_return(alloc: Global, place: Place) -> Statement
-    ensures { statement_view result ≡ closing place }
-{
-    let zero = Term::constant(alloc, 0);
-    Statement {
-        number: 1,
-        place,
-        act: Act::Return(zero),
-    }
-}
-
-// function main() { }
-fn main_function(alloc: Global, place: Place) -> Result<Function, AllocError>
-    ensures { IfOk result (λ f. (p : PlainProgram) → FunctionFits p (function_view f)) }
-{
-    let fixed = Vec::new(alloc);
-    let variables = Vec::new(alloc);
-    let before = no_items(alloc);
-    let after = no_items(alloc);
-    let last = closing_return(alloc, place);
-    let mut body = Vec::new(alloc);
-    body.push(last)?;
-    Ok(Function {
-        name: Name::new(Vec::from_slice(alloc, b"main")?),
-        params: 0,
-        locals: 0,
-        fixed,
-        variables,
-        requires_: before,
-        ensures_: after,
-        body,
-        place,
-    })
-}
-
 // It has no region types, and one function.
-fn main_program(alloc: Global) -> Result<Program, AllocError> {
-    let regions = Vec::new(alloc);
-    let mut functions = Vec::new(alloc);
-    let function = main_function(alloc, HERE)?;
-    functions.push(function)?;
-    Ok(Program::new(regions, functions, 0))
+fn main_program(alloc: Global) -> Result<Program, Refusal> {
+    read_program(alloc, "function main() { }".as_bytes())
 }
 
 // Its one unit is proved by one visit, which a budget of 0 doesn't allow.
@@ -82,6 +28,14 @@ fn reports_on_an_empty_function(rt: HostRuntime) -> Result<(), Fail> {
     Ok(())
 }
 
+// Whether the tree is a return that leaves nothing.
+fn is_return(tree: &Option<Node>) -> bool {
+    match tree {
+        Some(node) => matches!(&node.choice, Choice::Return) && node.children.is_empty(),
+        None => false,
+    }
+}
+
 // The contract has no items, so its roots have no tree; the body returns, which leaves nothing.
 #[test]
 fn derives_an_empty_function(rt: HostRuntime) -> Result<(), Fail> {
@@ -93,11 +47,7 @@ fn derives_an_empty_function(rt: HostRuntime) -> Result<(), Fail> {
     };
     assert_eq!(rt; trees.len(), 3);
     assert!(rt; trees[0].is_none() && trees[1].is_none());
-    let returns = match &trees[2] {
-        Some(node) => matches!(&node.choice, Choice::Return) && node.children.is_empty(),
-        None => false,
-    };
-    assert!(rt; returns);
+    assert!(rt; is_return(&trees[2]));
     Ok(())
 }
 

@@ -1,3 +1,5 @@
+//! The words of commands.
+
 use cap_top_words::{Command, read_command};
 use std::test::Fail;
 
