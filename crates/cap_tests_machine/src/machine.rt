@@ -14,7 +14,13 @@ fn allocates_where_nothing_is(rt: HostRuntime) -> Result<(), Fail> {
     assert_eq!(rt; machine.top_address(), Some(3));
     let ahead = machine.ahead(&program, 0).ok_or("none")?;
     assert_eq!(rt; ahead.number, 1);
-    assert_eq!(rt; ahead.place, Place { line: 1, column: 19 });
+    assert_eq!(rt;
+        ahead.place,
+        Place {
+            line: 1,
+            column: 19
+        }
+    );
     assert_eq!(rt; ahead.cells, Some(1));
     let used = Entry {
         thread: 0,

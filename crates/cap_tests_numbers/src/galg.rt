@@ -16,141 +16,241 @@ fn either(alloc: Global, a: Algebra, b: Algebra) -> Result<Algebra, AllocError> 
     Ok(Algebra::Either(Box::new(alloc, a)?, Box::new(alloc, b)?))
 }
 
-fn share(num: u64, den: u64) -> Amount {
+const fn share(num: u64, den: u64) -> Amount {
     Amount::Share(Fraction { num, den })
 }
 
-// The element of an atom.
-fn part(
-    rt: &impl Abort,
-    alloc: Global,
-    algebra: &Algebra,
-    atom: u32,
-    amount: Amount,
-) -> Result<Elem, Fail> {
-    assert!(rt; algebra.accepts(atom, amount));
+// An atom, and how much of it.
+type Part = (u32, Amount);
+
+const HALF: Part = (0, share(1, 2));
+
+const THIRD: Part = (1, share(1, 3));
+
+const TWO_THIRDS: Part = (1, share(2, 3));
+
+const FIRST: Part = (0, Amount::One);
+
+const SECOND: Part = (1, Amount::One);
+
+const THIRD_ONE: Part = (2, Amount::One);
+
+const TOKEN: Part = (2, Amount::Tok(1));
+
+fn element(alloc: Global, algebra: &Algebra, part: Part) -> Result<Elem, Fail> {
+    let (atom, amount) = part;
+    if !algebra.accepts(atom, amount) {
+        Err("no such part")?;
+    }
     Ok(Elem::atom(alloc, algebra, atom, amount)?)
 }
 
 // What two elements compose to, where they do.
-fn join(rt: &impl Abort, alloc: Global, a: &Elem, b: &Elem) -> Result<Option<Elem>, Fail> {
-    assert!(rt; a.algebra().same(b.algebra()));
+fn join(alloc: Global, a: &Elem, b: &Elem) -> Result<Option<Elem>, Fail> {
+    if !a.algebra().same(b.algebra()) {
+        Err("two algebras")?;
+    }
     Ok(a.compose(alloc, b)?)
 }
 
-fn both(rt: &impl Abort, alloc: Global, a: &Elem, b: &Elem) -> Result<Elem, Fail> {
-    Ok(join(rt, alloc, a, b)?.ok_or("they compose")?)
+// What all parts compose to, from the first on, where they do.
+fn composed(alloc: Global, algebra: &Algebra, parts: &[Part]) -> Result<Option<Elem>, Fail> {
+    let mut all = Elem::unit(alloc, algebra)?;
+    for part in parts {
+        let next = element(alloc, algebra, *part)?;
+        match join(alloc, &all, &next)? {
+            Some(sum) => all = sum,
+            None => return Ok(None),
+        }
+    }
+    Ok(Some(all))
 }
 
-fn at_most(rt: &impl Abort, a: &Elem, b: &Elem) -> bool {
-    assert!(rt; a.algebra().same(b.algebra()));
-    a.le(b)
+// What the parts are together, in one word.
+fn word(alloc: Global, algebra: &Algebra, parts: &[Part]) -> Result<&'static str, Fail> {
+    Ok(match composed(alloc, algebra, parts)? {
+        None => "nothing",
+        Some(all) if all.is_unit() => "unit",
+        Some(all) if all.is_full() => "full",
+        Some(_) => "part",
+    })
 }
 
-// Whether two elements are equal: each is at most the other.
-fn equal(rt: &impl Abort, a: &Elem, b: &Elem) -> bool {
-    at_most(rt, a, b) && at_most(rt, b, a)
+fn is_at_most(a: &Elem, b: &Elem) -> Result<bool, Fail> {
+    if !a.algebra().same(b.algebra()) {
+        Err("two algebras")?;
+    }
+    Ok(a.le(b))
+}
+
+// Whether what the first parts compose to is at most what the second do.
+fn at_most(alloc: Global, algebra: &Algebra, a: &[Part], b: &[Part]) -> Result<bool, Fail> {
+    let a = composed(alloc, algebra, a)?.ok_or("they compose")?;
+    let b = composed(alloc, algebra, b)?.ok_or("they compose")?;
+    is_at_most(&a, &b)
+}
+
+// Whether the parts are all: at least the full element, and at most that.
+fn are_all(alloc: Global, algebra: &Algebra, parts: &[Part]) -> Result<(bool, bool), Fail> {
+    let full = Elem::full(alloc, algebra)?;
+    let sum = composed(alloc, algebra, parts)?.ok_or("they compose")?;
+    Ok((is_at_most(&full, &sum)?, is_at_most(&sum, &full)?))
+}
+
+// The parts of an algebra, each list with its word.
+fn words(
+    rt: &impl Abort,
+    alloc: Global,
+    algebra: &Algebra,
+    given: &[(&[Part], &str)],
+) -> Result<(), Fail> {
+    for (parts, want) in given {
+        let found = word(alloc, algebra, parts)?;
+        assert!(rt; found == *want, "{parts:?}");
+    }
+    Ok(())
 }
 
 // A fraction of the divisible guard beside a unique one, of which a thread holds parts of one
 // alone.
 #[test]
-fn halves_make_the_full_element_of_both_sides(rt: HostRuntime) -> Result<(), Fail> {
-    let alloc = rt.alloc();
-    let algebra = either(alloc, Algebra::Divisible, Algebra::Unique)?;
-    let half = part(&rt, alloc, &algebra, 0, share(1, 2))?;
-    let other = part(&rt, alloc, &algebra, 1, Amount::One)?;
-    let full = Elem::full(alloc, &algebra)?;
-    let sum = both(&rt, alloc, &half, &half)?;
-    assert!(rt; equal(&rt, &sum, &other));
-    assert!(rt; equal(&rt, &sum, &full));
-    assert!(rt; sum.is_full());
-    assert!(rt; !half.is_full());
-    Ok(())
+fn sides_do_not_compose(rt: HostRuntime) -> Result<(), Fail> {
+    let algebra = either(rt.alloc(), Algebra::Divisible, Algebra::Unique)?;
+    let given: [(&[Part], &str); 5] = [
+        (&[], "unit"),
+        (&[HALF], "part"),
+        (&[HALF, HALF], "full"),
+        (&[SECOND], "full"),
+        (&[HALF, SECOND], "nothing"),
+    ];
+    words(&rt, rt.alloc(), &algebra, &given)
 }
 
 #[test]
-fn sides_do_not_compose(rt: HostRuntime) -> Result<(), Fail> {
+fn halves_make_the_full_element_of_both_sides(rt: HostRuntime) -> Result<(), Fail> {
     let alloc = rt.alloc();
     let algebra = either(alloc, Algebra::Divisible, Algebra::Unique)?;
-    let half = part(&rt, alloc, &algebra, 0, share(1, 2))?;
-    let other = part(&rt, alloc, &algebra, 1, Amount::One)?;
-    let unit = Elem::unit(alloc, &algebra)?;
-    assert!(rt; join(&rt, alloc, &half, &other)?.is_none());
-    let same = both(&rt, alloc, &half, &unit)?;
-    assert!(rt; equal(&rt, &same, &half));
-    assert!(rt; unit.is_unit());
-    assert!(rt; !half.is_unit());
+    let given: [(&[Part], &[Part], bool); 4] = [
+        (&[HALF, HALF], &[SECOND], true),
+        (&[SECOND], &[HALF, HALF], true),
+        (&[HALF], &[SECOND], true),
+        (&[SECOND], &[HALF], false),
+    ];
+    for (a, b, want) in given {
+        assert!(rt; at_most(alloc, &algebra, a, b)? == want, "{a:?} and {b:?}");
+    }
+    assert!(rt; are_all(alloc, &algebra, &[HALF, HALF])? == (true, true));
+    assert!(rt; are_all(alloc, &algebra, &[HALF])? == (false, true));
     Ok(())
 }
 
 #[test]
 fn tokens_come_back_to_their_source(rt: HostRuntime) -> Result<(), Fail> {
-    let alloc = rt.alloc();
-    let algebra = Algebra::Counting;
-    let three_out = part(&rt, alloc, &algebra, 0, Amount::Src(3))?;
-    let one_out = part(&rt, alloc, &algebra, 0, Amount::Src(1))?;
-    let full = part(&rt, alloc, &algebra, 0, Amount::Src(0))?;
-    let two = part(&rt, alloc, &algebra, 0, Amount::Tok(2))?;
-    let back = both(&rt, alloc, &three_out, &two)?;
-    assert!(rt; equal(&rt, &back, &one_out));
-    assert!(rt; join(&rt, alloc, &one_out, &two)?.is_none());
-    assert!(rt; join(&rt, alloc, &full, &full)?.is_none());
-    assert!(rt; full.is_full());
+    let given: [(&[Part], &str); 5] = [
+        (&[(0, Amount::Src(0))], "full"),
+        (&[(0, Amount::Src(3)), (0, Amount::Tok(2))], "part"),
+        (&[(0, Amount::Src(2)), (0, Amount::Tok(2))], "full"),
+        (&[(0, Amount::Src(1)), (0, Amount::Tok(2))], "nothing"),
+        (&[(0, Amount::Src(0)), (0, Amount::Src(0))], "nothing"),
+    ];
+    words(&rt, rt.alloc(), &Algebra::Counting, &given)
+}
+
+#[test]
+fn two_of_three_tokens_leave_one_out(rt: HostRuntime) -> Result<(), Fail> {
+    let back = [(0, Amount::Src(3)), (0, Amount::Tok(2))];
+    let one_out = [(0, Amount::Src(1))];
+    assert!(rt; at_most(rt.alloc(), &Algebra::Counting, &back, &one_out)?);
+    assert!(rt; at_most(rt.alloc(), &Algebra::Counting, &one_out, &back)?);
     Ok(())
 }
 
 #[test]
 fn a_sum_past_64_bits_is_wide(rt: HostRuntime) -> Result<(), Fail> {
     let alloc = rt.alloc();
-    let algebra = Algebra::Divisible;
-    let a = part(&rt, alloc, &algebra, 0, share(1, 18446744073709551615))?;
-    let b = part(&rt, alloc, &algebra, 0, share(1, 18446744073709551614))?;
-    assert!(rt; a.algebra().same(b.algebra()));
+    let a = element(alloc, &Algebra::Divisible, (0, share(1, u64::MAX)))?;
+    let b = element(alloc, &Algebra::Divisible, (0, share(1, u64::MAX - 1)))?;
+    if !a.algebra().same(b.algebra()) {
+        Err("two algebras")?;
+    }
     assert!(rt; matches!(a.compose(alloc, &b), Err(GuardError::Wide)));
     Ok(())
 }
 
 // A product with a sum in it: the second atom's whole is the third's.
+fn product_of_a_sum(alloc: Global) -> Result<Algebra, AllocError> {
+    let side = either(alloc, Algebra::Divisible, Algebra::Counting)?;
+    pair(alloc, Algebra::Unique, side)
+}
+
 #[test]
 fn composes_in_a_product_of_a_sum(rt: HostRuntime) -> Result<(), Fail> {
-    let alloc = rt.alloc();
-    let side = either(alloc, Algebra::Divisible, Algebra::Counting)?;
-    let algebra = pair(alloc, Algebra::Unique, side)?;
-    let one = part(&rt, alloc, &algebra, 0, Amount::One)?;
-    let third = part(&rt, alloc, &algebra, 1, share(1, 3))?;
-    let rest = part(&rt, alloc, &algebra, 1, share(2, 3))?;
-    let token = part(&rt, alloc, &algebra, 2, Amount::Tok(1))?;
-    let full = Elem::full(alloc, &algebra)?;
-    assert!(rt; join(&rt, alloc, &one, &one)?.is_none());
-    assert!(rt; join(&rt, alloc, &third, &token)?.is_none());
-    let whole = both(&rt, alloc, &third, &rest)?;
-    assert!(rt; join(&rt, alloc, &whole, &token)?.is_none());
-    let all = both(&rt, alloc, &whole, &one)?;
-    assert!(rt; equal(&rt, &all, &full));
-    assert!(rt; !whole.is_full());
-    assert!(rt; at_most(&rt, &third, &full));
-    assert!(rt; !at_most(&rt, &full, &third));
+    let algebra = product_of_a_sum(rt.alloc())?;
+    let given: [(&[Part], &str); 5] = [
+        (&[FIRST, FIRST], "nothing"),
+        (&[THIRD, TOKEN], "nothing"),
+        (&[THIRD, TWO_THIRDS, TOKEN], "nothing"),
+        (&[THIRD, TWO_THIRDS], "part"),
+        (&[THIRD, TWO_THIRDS, FIRST], "full"),
+    ];
+    words(&rt, rt.alloc(), &algebra, &given)
+}
+
+#[test]
+fn all_of_a_product_of_a_sum(rt: HostRuntime) -> Result<(), Fail> {
+    let algebra = product_of_a_sum(rt.alloc())?;
+    let given: [(&[Part], (bool, bool)); 2] = [
+        (&[THIRD, TWO_THIRDS, FIRST], (true, true)),
+        (&[THIRD], (false, true)),
+    ];
+    for (parts, want) in given {
+        assert!(rt; are_all(rt.alloc(), &algebra, parts)? == want, "{parts:?}");
+    }
     Ok(())
 }
 
 // A sum with a product in it: only both atoms together are the third.
+fn sum_of_a_product(alloc: Global) -> Result<Algebra, AllocError> {
+    let product = pair(alloc, Algebra::Unique, Algebra::Counting)?;
+    either(alloc, product, Algebra::Unique)
+}
+
+const NONE_OUT: Part = (1, Amount::Src(0));
+
 #[test]
 fn composes_in_a_sum_of_a_product(rt: HostRuntime) -> Result<(), Fail> {
-    let alloc = rt.alloc();
-    let product = pair(alloc, Algebra::Unique, Algebra::Counting)?;
-    let algebra = either(alloc, product, Algebra::Unique)?;
-    let one = part(&rt, alloc, &algebra, 0, Amount::One)?;
-    let source = part(&rt, alloc, &algebra, 1, Amount::Src(0))?;
-    let other = part(&rt, alloc, &algebra, 2, Amount::One)?;
-    assert!(rt; join(&rt, alloc, &one, &other)?.is_none());
-    assert!(rt; !one.is_full());
-    let sum = both(&rt, alloc, &one, &source)?;
-    assert!(rt; equal(&rt, &sum, &other));
-    assert!(rt; at_most(&rt, &one, &other));
-    let again = one.copy(alloc)?;
-    assert!(rt; equal(&rt, &again, &one));
-    assert!(rt; !equal(&rt, &again, &other));
+    let algebra = sum_of_a_product(rt.alloc())?;
+    let given: [(&[Part], &str); 4] = [
+        (&[FIRST, THIRD_ONE], "nothing"),
+        (&[FIRST], "part"),
+        (&[FIRST, NONE_OUT], "full"),
+        (&[THIRD_ONE], "full"),
+    ];
+    words(&rt, rt.alloc(), &algebra, &given)
+}
+
+#[test]
+fn both_atoms_are_the_third(rt: HostRuntime) -> Result<(), Fail> {
+    let algebra = sum_of_a_product(rt.alloc())?;
+    let given: [(&[Part], &[Part], bool); 4] = [
+        (&[FIRST, NONE_OUT], &[THIRD_ONE], true),
+        (&[THIRD_ONE], &[FIRST, NONE_OUT], true),
+        (&[FIRST], &[THIRD_ONE], true),
+        (&[THIRD_ONE], &[FIRST], false),
+    ];
+    for (a, b, want) in given {
+        let found = at_most(rt.alloc(), &algebra, a, b)?;
+        assert!(rt; found == want, "{a:?} and {b:?}");
+    }
+    Ok(())
+}
+
+#[test]
+fn a_copy_is_equal(rt: HostRuntime) -> Result<(), Fail> {
+    let algebra = sum_of_a_product(rt.alloc())?;
+    let one = element(rt.alloc(), &algebra, FIRST)?;
+    let again = one.copy(rt.alloc())?;
+    assert!(rt; is_at_most(&again, &one)? && is_at_most(&one, &again)?);
     Ok(())
 }
 

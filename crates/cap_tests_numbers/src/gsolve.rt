@@ -1,245 +1,328 @@
 //! Pieces of guards whose amounts are terms.
 
+use crate::texts::{put, put_error, put_rows, put_term, sum};
 use cap_galg::Algebra;
 use cap_gsolve::{Form, Piece, compat, full_pieces, merge};
-use cap_lin::{Kind, LinError, Row, Sort, Term};
+use cap_lin::{LinError, Row, Term};
 use std::alloc::{AllocError, Global};
 use std::test::Fail;
 
-// A piece of the guards of kind 0 of the region that is the variable 9.
-fn piece(alloc: Global, atom: u32, form: Form) -> Result<Piece, LinError> {
+// The form of a piece, without its amount.
+#[derive(Clone, Copy, Debug)]
+enum Shape {
+    One,
+    Share,
+    Src,
+    Tok,
+}
+
+// An atom, a shape, and the constant and the parts of the amount.
+type Part = (u32, Shape, i128, &'static [(u32, i128)]);
+
+const ONE: Part = (0, Shape::One, 0, &[]);
+
+const SHARE: Part = (0, Shape::Share, 0, &[(0, 1)]);
+
+const OTHER_SHARE: Part = (0, Shape::Share, 0, &[(1, 1)]);
+
+const RIGHT_SHARE: Part = (1, Shape::Share, 0, &[(0, 1)]);
+
+const RIGHT_ONE: Part = (1, Shape::One, 0, &[]);
+
+const WHOLE: Part = (0, Shape::Share, 1, &[]);
+
+const MOST: Part = (0, Shape::Share, i128::MAX, &[]);
+
+const SOURCE: Part = (0, Shape::Src, 0, &[(0, 1)]);
+
+const OTHER_SOURCE: Part = (0, Shape::Src, 0, &[(1, 1)]);
+
+const TOKENS: Part = (0, Shape::Tok, 0, &[(0, 1)]);
+
+const OTHER_TOKENS: Part = (0, Shape::Tok, 0, &[(1, 1)]);
+
+const ONE_TOKEN: Part = (0, Shape::Tok, 1, &[]);
+
+fn form(alloc: Global, part: Part) -> Result<Form, LinError> {
+    let amount = sum(alloc, part.2, part.3)?;
+    Ok(match part.1 {
+        Shape::One => Form::One,
+        Shape::Share => Form::Share(amount),
+        Shape::Src => Form::Src(amount),
+        Shape::Tok => Form::Tok(amount),
+    })
+}
+
+// The region is the variable 9, and the guards are those of kind 0.
+fn region(alloc: Global) -> Result<Term, LinError> {
+    Term::var(alloc, 9)
+}
+
+fn piece(alloc: Global, part: Part) -> Result<Piece, LinError> {
+    let form = form(alloc, part)?;
     Ok(Piece {
-        region: Term::var(alloc, 9)?,
+        region: region(alloc)?,
         kind: 0,
-        atom,
+        atom: part.0,
         form,
     })
+}
+
+fn pieces(alloc: Global, parts: &[Part]) -> Result<Vec<Piece>, LinError> {
+    let mut pieces = Vec::new(alloc);
+    for part in parts {
+        pieces.push(piece(alloc, *part)?)?;
+    }
+    Ok(pieces)
+}
+
+fn put_amount(
+    alloc: Global,
+    text: &mut String,
+    word: &str,
+    amount: &Term,
+) -> Result<(), AllocError> {
+    text.push_str(word)?;
+    put_term(alloc, text, amount)
+}
+
+fn put_form(alloc: Global, text: &mut String, form: &Form) -> Result<(), AllocError> {
+    match form {
+        Form::One => text.push_str("one"),
+        Form::Share(amount) => put_amount(alloc, text, "share ", amount),
+        Form::Src(out) => put_amount(alloc, text, "source ", out),
+        Form::Tok(count) => put_amount(alloc, text, "tokens ", count),
+    }
+}
+
+// The region, the kind and the atom, and the form.
+fn put_piece(alloc: Global, text: &mut String, piece: &Piece) -> Result<(), AllocError> {
+    put_term(alloc, text, &piece.region)?;
+    put(alloc, text, "@", piece.kind as i128)?;
+    put(alloc, text, ".", piece.atom as i128)?;
+    text.push_str(" ")?;
+    put_form(alloc, text, &piece.form)
+}
+
+// The pieces, with a semicolon behind each.
+fn put_pieces(alloc: Global, text: &mut String, pieces: &[Piece]) -> Result<(), AllocError> {
+    for piece in pieces {
+        put_piece(alloc, text, piece)?;
+        text.push_str("; ")?;
+    }
+    Ok(())
+}
+
+// The pieces and rows to which a piece is added.
+fn merged(alloc: Global, algebra: &Algebra, there: &[Part], new: Part) -> Result<String, LinError> {
+    let there = pieces(alloc, there)?;
+    let new = piece(alloc, new)?;
+    let (pieces, rows) = merge(alloc, algebra, &there, &new)?;
+    let mut text = String::new(alloc);
+    put_pieces(alloc, &mut text, &pieces)?;
+    put_rows(alloc, &mut text, &rows)?;
+    Ok(text)
 }
 
 fn two(alloc: Global, first: Algebra, second: Algebra) -> Result<Algebra, AllocError> {
     Ok(Algebra::Either(Box::new(alloc, first)?, Box::new(alloc, second)?))
 }
 
-// The row's constant, its coefficients of the variables 0 and 1, its kind and its sort.
-fn is_row(row: &Row, constant: i128, first: i128, second: i128, kind: Kind, sort: Sort) -> bool {
-    is_term(&row.term, constant, first, second) && row.kind == kind && row.sort == sort
-}
-
-fn is_false(row: &Row) -> bool {
-    is_row(row, -1, 0, 0, Kind::Eq, Sort::Int)
-}
-
-// The amount of a share.
-fn share(piece: &Piece) -> Option<&Term> {
-    match &piece.form {
-        Form::Share(amount) => Some(amount),
-        Form::One | Form::Src(_) | Form::Tok(_) => None,
-    }
-}
-
-// How many tokens are out of a source.
-fn out(piece: &Piece) -> Option<&Term> {
-    match &piece.form {
-        Form::Src(out) => Some(out),
-        Form::One | Form::Share(_) | Form::Tok(_) => None,
-    }
-}
-
-// Whether a term is a constant and multiples of the variables 0 and 1.
-fn is_term(term: &Term, constant: i128, first: i128, second: i128) -> bool {
-    term.constant_part() == constant
-        && term.coefficient(0) == first
-        && term.coefficient(1) == second
-        && term.parts().len() == (first != 0) as usize + (second != 0) as usize
-}
-
 #[test]
-fn a_share_alone_is_above_0_and_at_most_1(rt: HostRuntime) -> Result<(), Fail> {
-    let alloc = rt.alloc();
-    let new = piece(alloc, 0, Form::Share(Term::var(alloc, 0)?))?;
-    let (pieces, rows) = merge(alloc, &Algebra::Divisible, &[], &new)?;
-    assert_eq!(rt; pieces.len(), 1);
-    assert!(rt; pieces[0].is_part_of(&new));
-    assert!(rt; is_term(share(&pieces[0]).ok_or("a share")?, 0, 1, 0));
-    assert_eq!(rt; rows.len(), 2);
-    assert!(rt; is_row(&rows[0], 0, -1, 0, Kind::Lt, Sort::Perm));
-    assert!(rt; is_row(&rows[1], -1, 1, 0, Kind::Le, Sort::Perm));
-    let again = new.copy(alloc)?;
-    assert!(rt; again.is_part_of(&new));
-    assert!(rt; is_term(share(&again).ok_or("a share")?, 0, 1, 0));
-    Ok(())
-}
-
-#[test]
-fn two_shares_are_joined(rt: HostRuntime) -> Result<(), Fail> {
-    let alloc = rt.alloc();
-    let there = [piece(alloc, 0, Form::Share(Term::var(alloc, 0)?))?];
-    let new = piece(alloc, 0, Form::Share(Term::var(alloc, 1)?))?;
-    let (pieces, rows) = merge(alloc, &Algebra::Divisible, &there, &new)?;
-    assert_eq!(rt; pieces.len(), 1);
-    assert!(rt; is_term(share(&pieces[0]).ok_or("a share")?, 0, 1, 1));
-    assert_eq!(rt; rows.len(), 2);
-    assert!(rt; is_row(&rows[0], 0, 0, -1, Kind::Lt, Sort::Perm));
-    assert!(rt; is_row(&rows[1], -1, 1, 1, Kind::Le, Sort::Perm));
+fn shares_are_joined(rt: HostRuntime) -> Result<(), Fail> {
+    let given: [(&[Part], Part, &str); 2] = [
+        (
+            &[],
+            SHARE,
+            "v9@0.0 share v0; -1*v0 < 0 (Perm), v0 + -1 <= 0 (Perm)",
+        ),
+        (
+            &[SHARE],
+            OTHER_SHARE,
+            "v9@0.0 share v0 + v1; -1*v1 < 0 (Perm), v0 + v1 + -1 <= 0 (Perm)",
+        ),
+    ];
+    for (there, new, want) in given {
+        let found = merged(rt.alloc(), &Algebra::Divisible, there, new)?;
+        assert_eq!(rt; found.as_str(), want);
+    }
     Ok(())
 }
 
 #[test]
 fn tokens_that_come_back_were_out(rt: HostRuntime) -> Result<(), Fail> {
-    let alloc = rt.alloc();
-    let there = [piece(alloc, 0, Form::Src(Term::var(alloc, 0)?))?];
-    let new = piece(alloc, 0, Form::Tok(Term::constant(alloc, 1)))?;
-    let (pieces, rows) = merge(alloc, &Algebra::Counting, &there, &new)?;
-    assert_eq!(rt; pieces.len(), 1);
-    assert!(rt; is_term(out(&pieces[0]).ok_or("a source")?, -1, 1, 0));
-    assert_eq!(rt; rows.len(), 2);
-    assert!(rt; is_row(&rows[0], -1, 0, 0, Kind::Le, Sort::Int));
-    assert!(rt; is_row(&rows[1], 1, -1, 0, Kind::Le, Sort::Int));
+    let found = merged(rt.alloc(), &Algebra::Counting, &[SOURCE], ONE_TOKEN)?;
+    assert_eq!(rt;
+        found.as_str(),
+        "v9@0.0 source v0 + -1; -1 <= 0, -1*v0 + 1 <= 0"
+    );
+    Ok(())
+}
+
+// The row -1 = 0 is false.
+#[test]
+fn nobody_holds_a_guard_twice(rt: HostRuntime) -> Result<(), Fail> {
+    let found = merged(rt.alloc(), &Algebra::Unique, &[ONE], ONE)?;
+    assert_eq!(rt; found.as_str(), "v9@0.0 one; -1 = 0");
     Ok(())
 }
 
 #[test]
-fn what_nobody_holds_at_once(rt: HostRuntime) -> Result<(), Fail> {
-    let alloc = rt.alloc();
-    let there = [piece(alloc, 0, Form::One)?];
-    let same = piece(alloc, 0, Form::One)?;
-    let (pieces, rows) = merge(alloc, &Algebra::Unique, &there, &same)?;
-    assert_eq!(rt; pieces.len(), 1);
-    assert!(rt; matches!(pieces[0].form, Form::One));
-    assert_eq!(rt; rows.len(), 1);
-    assert!(rt; is_false(&rows[0]));
-    // The two sides of a sum.
-    let sides = two(alloc, Algebra::Unique, Algebra::Divisible)?;
-    let other = piece(alloc, 1, Form::Share(Term::var(alloc, 0)?))?;
-    let (pieces, rows) = merge(alloc, &sides, &there, &other)?;
-    assert_eq!(rt; pieces.len(), 2);
-    assert!(rt; matches!(pieces[0].form, Form::One));
-    assert!(rt; pieces[1].is_part_of(&other));
-    assert!(rt; is_term(share(&pieces[1]).ok_or("a share")?, 0, 1, 0));
-    assert_eq!(rt; rows.len(), 3);
-    assert!(rt; is_row(&rows[0], 0, -1, 0, Kind::Lt, Sort::Perm));
-    assert!(rt; is_row(&rows[1], -1, 1, 0, Kind::Le, Sort::Perm));
-    assert!(rt; is_false(&rows[2]));
+fn nobody_holds_of_both_sides(rt: HostRuntime) -> Result<(), Fail> {
+    let sides = two(rt.alloc(), Algebra::Unique, Algebra::Divisible)?;
+    let found = merged(rt.alloc(), &sides, &[ONE], RIGHT_SHARE)?;
+    let want = "v9@0.0 one; v9@0.1 share v0; -1*v0 < 0 (Perm), v0 + -1 <= 0 (Perm), -1 = 0";
+    assert_eq!(rt; found.as_str(), want);
     Ok(())
+}
+
+#[test]
+fn a_piece_is_part_of_its_copy(rt: HostRuntime) -> Result<(), Fail> {
+    let share = piece(rt.alloc(), SHARE)?;
+    let again = share.copy(rt.alloc())?;
+    assert!(rt; again.is_part_of(&share));
+    Ok(())
+}
+
+// All pieces of an algebra.
+fn full(alloc: Global, algebra: &Algebra) -> Result<String, LinError> {
+    let pieces = full_pieces(alloc, algebra, &region(alloc)?, 0)?;
+    let mut text = String::new(alloc);
+    put_pieces(alloc, &mut text, &pieces)?;
+    Ok(text)
 }
 
 #[test]
 fn all_of_a_sum_is_all_of_its_left_side(rt: HostRuntime) -> Result<(), Fail> {
-    let alloc = rt.alloc();
-    let left = Box::new(alloc, Algebra::Divisible)?;
-    let sides = Algebra::Either(left, Box::new(alloc, Algebra::Unique)?);
-    let pieces = full_pieces(alloc, &sides, &Term::var(alloc, 9)?, 0)?;
-    assert_eq!(rt; pieces.len(), 1);
-    assert_eq!(rt; pieces[0].atom, 0);
-    assert!(rt; is_term(share(&pieces[0]).ok_or("a share")?, 1, 0, 0));
+    let sides = two(rt.alloc(), Algebra::Divisible, Algebra::Unique)?;
+    let found = full(rt.alloc(), &sides)?;
+    assert_eq!(rt; found.as_str(), "v9@0.0 share 1; ");
     Ok(())
 }
 
-// What is wanted of the guards of kind 0 of the region that is the variable 9.
-fn wants(
+fn forms(alloc: Global, parts: &[Part]) -> Result<Vec<(u32, Form)>, LinError> {
+    let mut forms = Vec::new(alloc);
+    for part in parts {
+        let form = form(alloc, *part)?;
+        forms.push((part.0, form))?;
+    }
+    Ok(forms)
+}
+
+// The rows, that it never composes, or the operands of what is wide.
+fn shown(alloc: Global, rows: Result<Option<Vec<Row>>, LinError>) -> Result<String, AllocError> {
+    let mut text = String::new(alloc);
+    match rows {
+        Ok(Some(rows)) => put_rows(alloc, &mut text, &rows)?,
+        Ok(None) => text.push_str("never")?,
+        Err(error) => put_error(alloc, &mut text, error)?,
+    }
+    Ok(text)
+}
+
+// What is wanted of the guards of a region, beside these pieces.
+fn wanted_of(
     alloc: Global,
     algebra: &Algebra,
-    pieces: &[Piece],
-    wanted: &[(u32, Form)],
-) -> Result<Option<Vec<Row>>, LinError> {
-    compat(alloc, algebra, pieces, &Term::var(alloc, 9)?, 0, wanted)
+    there: &[Part],
+    region: &Term,
+    wanted: &[Part],
+) -> Result<String, LinError> {
+    let there = pieces(alloc, there)?;
+    let wanted = forms(alloc, wanted)?;
+    Ok(shown(alloc, compat(alloc, algebra, &there, region, 0, &wanted))?)
+}
+
+// The same of the region of the pieces.
+fn wanted(
+    alloc: Global,
+    algebra: &Algebra,
+    there: &[Part],
+    wanted: &[Part],
+) -> Result<String, LinError> {
+    wanted_of(alloc, algebra, there, &region(alloc)?, wanted)
 }
 
 #[test]
 fn a_wanted_share_and_the_one_there_are_at_most_1(rt: HostRuntime) -> Result<(), Fail> {
-    let alloc = rt.alloc();
-    let wanted = [(0, Form::Share(Term::var(alloc, 0)?))];
-    let rows = wants(alloc, &Algebra::Divisible, &[], &wanted)?.ok_or("rows")?;
-    assert_eq!(rt; rows.len(), 2);
-    assert!(rt; is_row(&rows[0], 0, -1, 0, Kind::Lt, Sort::Perm));
-    assert!(rt; is_row(&rows[1], -1, 1, 0, Kind::Le, Sort::Perm));
-    let there = [piece(alloc, 0, Form::Share(Term::var(alloc, 1)?))?];
-    let rows = wants(alloc, &Algebra::Divisible, &there, &wanted)?.ok_or("rows")?;
-    assert_eq!(rt; rows.len(), 2);
-    assert!(rt; is_row(&rows[0], 0, -1, 0, Kind::Lt, Sort::Perm));
-    assert!(rt; is_row(&rows[1], -1, 1, 1, Kind::Le, Sort::Perm));
+    let given: [(&[Part], &str); 2] = [
+        (&[], "-1*v0 < 0 (Perm), v0 + -1 <= 0 (Perm)"),
+        (&[OTHER_SHARE], "-1*v0 < 0 (Perm), v0 + v1 + -1 <= 0 (Perm)"),
+    ];
+    for (there, want) in given {
+        let found = wanted(rt.alloc(), &Algebra::Divisible, there, &[SHARE])?;
+        assert_eq!(rt; found.as_str(), want);
+    }
     Ok(())
 }
 
 #[test]
-fn a_wanted_source_has_as_many_out_as_are_there(rt: HostRuntime) -> Result<(), Fail> {
-    let alloc = rt.alloc();
-    let wanted = [(0, Form::Src(Term::var(alloc, 0)?))];
-    let there = [piece(alloc, 0, Form::Tok(Term::var(alloc, 1)?))?];
-    let rows = wants(alloc, &Algebra::Counting, &there, &wanted)?.ok_or("rows")?;
-    assert_eq!(rt; rows.len(), 2);
-    assert!(rt; is_row(&rows[0], 0, -1, 0, Kind::Le, Sort::Int));
-    assert!(rt; is_row(&rows[1], 0, -1, 1, Kind::Le, Sort::Int));
+fn wanted_tokens_and_sources_agree_with_those_there(rt: HostRuntime) -> Result<(), Fail> {
+    let given: [(Part, Part, &str); 3] = [
+        // A source has as many out as are there, and tokens that are wanted are out.
+        (OTHER_TOKENS, SOURCE, "-1*v0 <= 0, -1*v0 + v1 <= 0"),
+        (OTHER_SOURCE, TOKENS, "-1*v0 <= 0, v0 + -1*v1 <= 0"),
+        (SOURCE, OTHER_SOURCE, "never"),
+    ];
+    for (there, part, want) in given {
+        let found = wanted(rt.alloc(), &Algebra::Counting, &[there], &[part])?;
+        assert_eq!(rt; found.as_str(), want);
+    }
     Ok(())
 }
 
+// The guard of another region is none of this one's.
 #[test]
-fn wanted_tokens_are_out(rt: HostRuntime) -> Result<(), Fail> {
-    let alloc = rt.alloc();
-    let wanted = [(0, Form::Tok(Term::var(alloc, 0)?))];
-    let there = [piece(alloc, 0, Form::Src(Term::var(alloc, 1)?))?];
-    let rows = wants(alloc, &Algebra::Counting, &there, &wanted)?.ok_or("rows")?;
-    assert_eq!(rt; rows.len(), 2);
-    assert!(rt; is_row(&rows[0], 0, -1, 0, Kind::Le, Sort::Int));
-    assert!(rt; is_row(&rows[1], 0, 1, -1, Kind::Le, Sort::Int));
+fn a_guard_never_composes_with_itself(rt: HostRuntime) -> Result<(), Fail> {
+    for (variable, want) in [(9, "never"), (8, "")] {
+        let region = Term::var(rt.alloc(), variable)?;
+        let found = wanted_of(rt.alloc(), &Algebra::Unique, &[ONE], &region, &[ONE])?;
+        assert_eq!(rt; found.as_str(), want);
+    }
     Ok(())
 }
 
+// A share is surely some part of the other side.
 #[test]
-fn what_never_composes_has_no_rows(rt: HostRuntime) -> Result<(), Fail> {
-    let alloc = rt.alloc();
-    let guard = [piece(alloc, 0, Form::One)?];
-    let all = [(0, Form::One)];
-    assert!(rt; wants(alloc, &Algebra::Unique, &guard, &all)?.is_none());
-    // The guard of another region is none of this one's.
-    let other = Term::var(alloc, 8)?;
-    assert!(rt; compat(alloc, &Algebra::Unique, &guard, &other, 0, &all)?.is_some());
-    let source = [piece(alloc, 0, Form::Src(Term::var(alloc, 0)?))?];
-    let wanted = [(0, Form::Src(Term::var(alloc, 1)?))];
-    assert!(rt; wants(alloc, &Algebra::Counting, &source, &wanted)?.is_none());
-    // The two sides of a sum: a share is surely some part, and so is one token.
-    let sides = two(alloc, Algebra::Unique, Algebra::Divisible)?;
-    let wanted = [(1, Form::Share(Term::var(alloc, 0)?))];
-    assert!(rt; wants(alloc, &sides, &guard, &wanted)?.is_none());
-    let sides = two(alloc, Algebra::Unique, Algebra::Counting)?;
-    let wanted = [(1, Form::Tok(Term::constant(alloc, 1)))];
-    assert!(rt; wants(alloc, &sides, &guard, &wanted)?.is_none());
+fn a_share_never_composes_with_the_other_side(rt: HostRuntime) -> Result<(), Fail> {
+    let sides = two(rt.alloc(), Algebra::Unique, Algebra::Divisible)?;
+    let found = wanted(rt.alloc(), &sides, &[ONE], &[RIGHT_SHARE])?;
+    assert_eq!(rt; found.as_str(), "never");
     Ok(())
 }
 
+// So is one token, but none are no part.
 #[test]
 fn no_tokens_are_no_part(rt: HostRuntime) -> Result<(), Fail> {
-    let alloc = rt.alloc();
-    let sides = two(alloc, Algebra::Unique, Algebra::Counting)?;
-    let guard = [piece(alloc, 0, Form::One)?];
-    let wanted = [(1, Form::Tok(Term::constant(alloc, 0)))];
-    let rows = wants(alloc, &sides, &guard, &wanted)?.ok_or("rows")?;
-    assert_eq!(rt; rows.len(), 1);
-    assert!(rt; is_row(&rows[0], 0, 0, 0, Kind::Le, Sort::Int));
-    let rows = wants(alloc, &sides, &guard, &[])?.ok_or("rows")?;
-    assert!(rt; rows.is_empty());
+    let sides = two(rt.alloc(), Algebra::Unique, Algebra::Counting)?;
+    let given: [(&[Part], &str); 3] = [
+        (&[(1, Shape::Tok, 1, &[])], "never"),
+        (&[(1, Shape::Tok, 0, &[])], "0 <= 0"),
+        (&[], ""),
+    ];
+    for (parts, want) in given {
+        let found = wanted(rt.alloc(), &sides, &[ONE], parts)?;
+        assert_eq!(rt; found.as_str(), want);
+    }
     Ok(())
 }
 
+fn both(alloc: Global) -> Result<Algebra, AllocError> {
+    let left = Box::new(alloc, Algebra::Divisible)?;
+    Ok(Algebra::Pair(left, Box::new(alloc, Algebra::Unique)?))
+}
+
+// The wanted amount is the first operand. That some atom never composes comes before any row.
 #[test]
 fn a_wide_sum_has_the_wanted_amount_first(rt: HostRuntime) -> Result<(), Fail> {
-    let alloc = rt.alloc();
-    let both = Algebra::Pair(
-        Box::new(alloc, Algebra::Divisible)?,
-        Box::new(alloc, Algebra::Unique)?,
-    );
-    let there = [
-        piece(alloc, 0, Form::Share(Term::constant(alloc, 1)))?,
-        piece(alloc, 1, Form::One)?,
+    let both = both(rt.alloc())?;
+    let given: [(&[Part], &str); 2] = [
+        (&[MOST], "wide 170141183460469231731687303715884105727 1"),
+        (&[MOST, RIGHT_ONE], "never"),
     ];
-    let most = Form::Share(Term::constant(alloc, i128::MAX));
-    let wanted = [(0, most.copy(alloc)?)];
-    assert_eq!(rt;
-        wants(alloc, &both, &there, &wanted).err(),
-        Some(LinError::Wide(i128::MAX, 1))
-    );
-    // That some atom never composes comes before any row.
-    let wanted = [(0, most), (1, Form::One)];
-    assert!(rt; wants(alloc, &both, &there, &wanted)?.is_none());
+    for (parts, want) in given {
+        let found = wanted(rt.alloc(), &both, &[WHOLE, RIGHT_ONE], parts)?;
+        assert_eq!(rt; found.as_str(), want);
+    }
     Ok(())
 }

@@ -11,3 +11,5 @@ mod galg;
 mod gsolve;
 #[cfg(test)]
 mod lin;
+#[cfg(test)]
+mod texts;

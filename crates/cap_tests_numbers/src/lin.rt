@@ -1,109 +1,208 @@
 //! Linear terms, and the rows of comparisons.
 
+use crate::texts::{put_error, put_row, put_rows, put_term, sum};
 use cap_lin::{Kind, LinError, Op, Row, Sort, Term};
-use std::alloc::Global;
+use std::alloc::{AllocError, Global};
 use std::collections::HashSet;
 use std::test::Fail;
 
-// The sum of a constant and of multiples of variables.
-fn term(alloc: Global, constant: i128, parts: &[(u32, i128)]) -> Result<Term, LinError> {
-    let mut sum = Term::constant(alloc, constant);
-    for part in parts {
-        let (variable, coefficient) = *part;
-        let multiple = Term::var(alloc, variable)?.scale(alloc, coefficient)?;
-        sum = sum.add(alloc, &multiple)?;
-    }
-    Ok(sum)
+// A constant and the parts that are added to it, in this order.
+type Sum = (i128, &'static [(u32, i128)]);
+
+fn term(alloc: Global, given: Sum) -> Result<Term, LinError> {
+    sum(alloc, given.0, given.1)
 }
+
+// The term, or the operands of what is wide.
+fn shown(alloc: Global, term: Result<Term, LinError>) -> Result<String, AllocError> {
+    let mut text = String::new(alloc);
+    match term {
+        Ok(term) => put_term(alloc, &mut text, &term)?,
+        Err(error) => put_error(alloc, &mut text, error)?,
+    }
+    Ok(text)
+}
+
+fn shown_row(alloc: Global, row: Result<Row, LinError>) -> Result<String, AllocError> {
+    let mut text = String::new(alloc);
+    match row {
+        Ok(row) => put_row(alloc, &mut text, &row)?,
+        Err(error) => put_error(alloc, &mut text, error)?,
+    }
+    Ok(text)
+}
+
+// 1 + 2 v3 - v0 - 2 v3 + 5 v7: the variable 3 disappears, and the others ascend.
+const FOUR: Sum = (1, &[(3, 2), (0, -1), (3, -2), (7, 5)]);
 
 #[test]
 fn terms_are_sums_of_their_parts(rt: HostRuntime) -> Result<(), Fail> {
-    // 1 + 2 v3 - v0 - 2 v3 + 5 v7: the variable 3 disappears, and the others ascend.
-    let sum = term(rt.alloc(), 1, &[(3, 2), (0, -1), (3, -2), (7, 5)])?;
-    assert_eq!(rt; sum.constant_part(), 1);
-    assert_eq!(rt; sum.parts(), [(0, -1), (7, 5)].as_slice());
-    assert_eq!(rt; sum.coefficient(7), 5);
-    assert_eq!(rt; sum.coefficient(3), 0);
-    assert_eq!(rt; sum.variable_from(1), Some(7));
-    assert_eq!(rt; sum.variable_from(8), None);
+    let sum = shown(rt.alloc(), term(rt.alloc(), FOUR))?;
+    assert_eq!(rt; sum.as_str(), "-1*v0 + 5*v7 + 1");
     Ok(())
+}
+
+#[test]
+fn coefficients_and_variables(rt: HostRuntime) -> Result<(), Fail> {
+    let sum = term(rt.alloc(), FOUR)?;
+    for (variable, coefficient) in [(0, -1), (3, 0), (7, 5), (8, 0)] {
+        assert!(rt; sum.coefficient(variable) == coefficient, "of {variable}");
+    }
+    for (variable, next) in [(0, Some(0)), (1, Some(7)), (7, Some(7)), (8, None)] {
+        assert!(rt; sum.variable_from(variable) == next, "from {variable}");
+    }
+    Ok(())
+}
+
+fn difference(alloc: Global, left: Sum, right: Sum) -> Result<Term, LinError> {
+    term(alloc, left)?.minus(alloc, &term(alloc, right)?)
+}
+
+fn negative(alloc: Global, given: Sum) -> Result<Term, LinError> {
+    term(alloc, given)?.negative(alloc)
 }
 
 #[test]
 fn differences(rt: HostRuntime) -> Result<(), Fail> {
     let alloc = rt.alloc();
-    let left = term(alloc, 1, &[(0, -1), (7, 5)])?;
-    let right = term(alloc, 4, &[(0, -1)])?;
-    let difference = left.minus(alloc, &right)?;
-    assert_eq!(rt; difference.parts(), [(7, 5)].as_slice());
-    assert_eq!(rt; difference.constant_part(), -3);
-    assert_eq!(rt; difference.negative(alloc)?.parts(), [(7, -5)].as_slice());
-    assert!(rt; !difference.same(&left));
+    let found = shown(
+        alloc,
+        difference(alloc, (1, &[(0, -1), (7, 5)]), (4, &[(0, -1)])),
+    )?;
+    assert_eq!(rt; found.as_str(), "5*v7 + -3");
+    let found = shown(alloc, negative(alloc, (-3, &[(7, 5)])))?;
+    assert_eq!(rt; found.as_str(), "-5*v7 + 3");
+    Ok(())
+}
+
+// Whether the terms of both sums are the same, and a copy of the first is the second too.
+fn are_same(alloc: Global, first: Sum, second: Sum) -> Result<bool, LinError> {
+    let first = term(alloc, first)?;
+    let second = term(alloc, second)?;
+    Ok(first.same(&second) && first.copy(alloc)?.same(&second))
+}
+
+#[test]
+fn same_terms(rt: HostRuntime) -> Result<(), Fail> {
+    let given: [(Sum, Sum, bool); 4] = [
+        ((1, &[(0, 2), (3, -1)]), (1, &[(3, -1), (0, 2)]), true),
+        ((1, &[(0, 2), (3, -1)]), (1, &[(0, 2), (3, 1)]), false),
+        ((1, &[(7, 5)]), (1, &[(0, -1), (7, 5)]), false),
+        ((1, &[(7, 5)]), (2, &[(7, 5)]), false),
+    ];
+    for (first, second, want) in given {
+        let found = are_same(rt.alloc(), first, second)?;
+        assert!(rt; found == want, "{first:?} and {second:?}");
+    }
     Ok(())
 }
 
 #[test]
 fn terms_as_keys(rt: HostRuntime) -> Result<(), Fail> {
-    let alloc = rt.alloc();
-    let mut terms = HashSet::new(alloc);
-    assert!(rt; terms.insert(term(alloc, 1, &[(0, 2), (3, -1)])?)?);
-    assert!(rt; !terms.insert(term(alloc, 1, &[(3, -1), (0, 2)])?)?);
-    assert!(rt; terms.insert(term(alloc, 1, &[(0, 2), (3, 1)])?)?);
+    let mut terms = HashSet::new(rt.alloc());
+    let given: [(Sum, bool); 3] = [
+        ((1, &[(0, 2), (3, -1)]), true),
+        ((1, &[(3, -1), (0, 2)]), false),
+        ((1, &[(0, 2), (3, 1)]), true),
+    ];
+    for (key, is_new) in given {
+        let key = term(rt.alloc(), key)?;
+        assert!(rt; terms.insert(key)? == is_new);
+    }
     Ok(())
 }
+
+// So many times the first term and so many times the second one.
+fn combination(alloc: Global, a: i128, left: Sum, b: i128, right: Sum) -> Result<Term, LinError> {
+    term(alloc, left)?.combination(alloc, a, &term(alloc, right)?, b)
+}
+
+const MOST: i128 = 170141183460469231731687303715884105727;
 
 #[test]
 fn combinations(rt: HostRuntime) -> Result<(), Fail> {
-    let alloc = rt.alloc();
-    // 2 (1 + 3 v0 - 2 v2) - 3 (4 + 2 v0 + v1): the variable 0 disappears.
-    let left = term(alloc, 1, &[(0, 3), (2, -2)])?;
-    let right = term(alloc, 4, &[(0, 2), (1, 1)])?;
-    let both = left.combination(alloc, 2, &right, -3)?;
-    assert_eq!(rt; both.constant_part(), -10);
-    assert_eq!(rt; both.parts(), [(1, -3), (2, -4)].as_slice());
-    // The sum for the variable 0 comes before the product for the variable 1.
-    let high = term(alloc, 0, &[(0, i128::MAX)])?;
-    let many = term(alloc, 0, &[(0, 1), (1, i128::MAX)])?;
-    assert_eq!(rt;
-        high.combination(alloc, 1, &many, 2).err(),
-        Some(LinError::Wide(i128::MAX, 2))
-    );
+    let given: [(i128, Sum, i128, Sum, &str); 7] = [
+        // 2 (1 + 3 v0 - 2 v2) - 3 (4 + 2 v0 + v1): the variable 0 disappears.
+        (
+            2,
+            (1, &[(0, 3), (2, -2)]),
+            -3,
+            (4, &[(0, 2), (1, 1)]),
+            "-3*v1 + -4*v2 + -10",
+        ),
+        // The sum for the variable 0 comes before the product for the variable 1.
+        (
+            1,
+            (0, &[(0, MOST)]),
+            2,
+            (0, &[(0, 1), (1, MOST)]),
+            "wide 170141183460469231731687303715884105727 2",
+        ),
+        // 2 (v0 + 2 v1 + 3 v3) - (5 v1 + v2 + 7 v4 + v5), and the same terms added the other way
+        // round.
+        (
+            2,
+            (0, &[(0, 1), (1, 2), (3, 3)]),
+            -1,
+            (0, &[(1, 5), (2, 1), (4, 7), (5, 1)]),
+            "2*v0 + -1*v1 + -1*v2 + 6*v3 + -7*v4 + -1*v5",
+        ),
+        (
+            1,
+            (0, &[(1, 5), (2, 1), (4, 7), (5, 1)]),
+            1,
+            (0, &[(0, 1), (1, 2), (3, 3)]),
+            "v0 + 7*v1 + v2 + 3*v3 + 7*v4 + v5",
+        ),
+        // The product with the first number, that with the second one, and the sum of both.
+        (
+            2,
+            (MOST, &[]),
+            3,
+            (MOST, &[]),
+            "wide 2 170141183460469231731687303715884105727",
+        ),
+        (
+            1,
+            (MOST, &[]),
+            3,
+            (i128::MIN, &[]),
+            "wide 3 -170141183460469231731687303715884105728",
+        ),
+        (
+            -1,
+            (MOST, &[]),
+            2,
+            (-1, &[]),
+            "wide -170141183460469231731687303715884105727 -2",
+        ),
+    ];
+    for (a, left, b, right, want) in given {
+        let found = shown(rt.alloc(), combination(rt.alloc(), a, left, b, right))?;
+        assert_eq!(rt; found.as_str(), want);
+    }
     Ok(())
 }
 
-#[test]
-fn combinations_of_many_parts(rt: HostRuntime) -> Result<(), Fail> {
-    let alloc = rt.alloc();
-    // 2 (v0 + 2 v1 + 3 v3) - (5 v1 + v2 + 7 v4 + v5), and the same terms added the other way round.
-    let left = term(alloc, 0, &[(0, 1), (1, 2), (3, 3)])?;
-    let right = term(alloc, 0, &[(1, 5), (2, 1), (4, 7), (5, 1)])?;
-    let both = left.combination(alloc, 2, &right, -1)?;
-    let parts = [(0, 2), (1, -1), (2, -1), (3, 6), (4, -7), (5, -1)];
-    assert_eq!(rt; both.parts(), parts.as_slice());
-    let sum = right.combination(alloc, 1, &left, 1)?;
-    let parts = [(0, 1), (1, 7), (2, 1), (3, 3), (4, 7), (5, 1)];
-    assert_eq!(rt; sum.parts(), parts.as_slice());
-    assert!(rt; sum.copy(alloc)?.same(&sum));
-    Ok(())
+fn replaced(alloc: Global, given: Sum, variable: u32, by: Sum) -> Result<Term, LinError> {
+    term(alloc, given)?.subst(alloc, variable, &term(alloc, by)?)
 }
 
 #[test]
 fn replacements(rt: HostRuntime) -> Result<(), Fail> {
-    let alloc = rt.alloc();
     // 2 v0 + 1, where v0 is v0 + 3, and where v1, which it lacks, is v0 + 3.
-    let line = term(alloc, 1, &[(0, 2)])?;
-    let shift = term(alloc, 3, &[(0, 1)])?;
-    let moved = line.subst(alloc, 0, &shift)?;
-    assert_eq!(rt; moved.constant_part(), 7);
-    assert_eq!(rt; moved.parts(), [(0, 2)].as_slice());
-    assert!(rt; line.subst(alloc, 1, &shift)?.same(&line));
+    for (variable, want) in [(0, "2*v0 + 7"), (1, "2*v0 + 1")] {
+        let moved = replaced(rt.alloc(), (1, &[(0, 2)]), variable, (3, &[(0, 1)]));
+        let found = shown(rt.alloc(), moved)?;
+        assert_eq!(rt; found.as_str(), want);
+    }
     Ok(())
 }
 
 #[test]
 fn values(rt: HostRuntime) -> Result<(), Fail> {
     // 2 v0 - v1 + 5 at 3 and 4
-    let plane = term(rt.alloc(), 5, &[(0, 2), (1, -1)])?;
+    let plane = term(rt.alloc(), (5, &[(0, 2), (1, -1)]))?;
     let values = [3, 4];
     assert!(rt; !plane.is_below(1));
     assert!(rt; plane.is_below(values.len()));
@@ -111,29 +210,48 @@ fn values(rt: HostRuntime) -> Result<(), Fail> {
     Ok(())
 }
 
+fn multiple(alloc: Global, given: Sum, k: i128) -> Result<Term, LinError> {
+    term(alloc, given)?.scale(alloc, k)
+}
+
 #[test]
 fn wide_products(rt: HostRuntime) -> Result<(), Fail> {
-    let alloc = rt.alloc();
-    let most = 170141183460469231731687303715884105727;
-    for (k, constant) in [(2, most), (-1, i128::MIN), (most, 3)] {
-        let multiple = Term::constant(alloc, constant).scale(alloc, k);
-        assert_eq!(rt; multiple.err(), Some(LinError::Wide(k, constant)));
+    let given: [(i128, Sum, &str); 4] = [
+        (
+            2,
+            (MOST, &[]),
+            "wide 2 170141183460469231731687303715884105727",
+        ),
+        (
+            -1,
+            (i128::MIN, &[]),
+            "wide -1 -170141183460469231731687303715884105728",
+        ),
+        (
+            MOST,
+            (3, &[]),
+            "wide 170141183460469231731687303715884105727 3",
+        ),
+        // The constant comes before the coefficients, and those in the order of variables.
+        (
+            MOST,
+            (1, &[(4, MOST), (2, 3)]),
+            "wide 170141183460469231731687303715884105727 3",
+        ),
+    ];
+    for (k, given, want) in given {
+        let found = shown(rt.alloc(), multiple(rt.alloc(), given, k))?;
+        assert_eq!(rt; found.as_str(), want);
     }
-    // The constant comes before the coefficients, and those in the order of variables.
-    let many = term(alloc, 1, &[(4, most), (2, 3)])?;
-    assert_eq!(rt;
-        many.scale(alloc, most).err(),
-        Some(LinError::Wide(most, 3))
-    );
     Ok(())
 }
 
 #[test]
-fn wide_sums(rt: HostRuntime) {
+fn wide_sums(rt: HostRuntime) -> Result<(), Fail> {
     let alloc = rt.alloc();
     for (a, b) in [(i128::MAX, 1), (1, i128::MAX), (i128::MIN, -1)] {
         let sum = Term::constant(alloc, a).add(alloc, &Term::constant(alloc, b));
-        assert_eq!(rt; sum.err(), Some(LinError::Wide(a, b)));
+        assert!(rt; sum.err() == Some(LinError::Wide(a, b)), "{a} and {b}");
     }
     // The negative is made first, though the difference of the second pair would fit.
     for (a, b, first, second) in [
@@ -141,78 +259,77 @@ fn wide_sums(rt: HostRuntime) {
         (-1, i128::MIN, -1, i128::MIN),
     ] {
         let difference = Term::constant(alloc, a).minus(alloc, &Term::constant(alloc, b));
-        assert_eq!(rt; difference.err(), Some(LinError::Wide(first, second)));
+        assert!(rt;
+            difference.err() == Some(LinError::Wide(first, second)),
+            "{a} and {b}"
+        );
     }
-    let most = Term::constant(alloc, i128::MAX);
-    let row = Row::of(alloc, &most, Op::Lt, &Term::constant(alloc, 0), Sort::Int);
-    assert_eq!(rt; row.err(), Some(LinError::Wide(i128::MAX, 1)));
+    Ok(())
 }
 
-#[test]
-fn wide_combinations(rt: HostRuntime) {
-    let alloc = rt.alloc();
-    // The product with the first number, that with the second one, and the sum of both.
-    for (a, left, b, right, first, second) in [
-        (2, i128::MAX, 3, i128::MAX, 2, i128::MAX),
-        (1, i128::MAX, 3, i128::MIN, 3, i128::MIN),
-        (-1, i128::MAX, 2, -1, -i128::MAX, -2),
-    ] {
-        let left = Term::constant(alloc, left);
-        let both = left.combination(alloc, a, &Term::constant(alloc, right), b);
-        assert_eq!(rt; both.err(), Some(LinError::Wide(first, second)));
-    }
+// A comparison of two sums.
+fn compared(alloc: Global, left: Sum, op: Op, right: Sum, sort: Sort) -> Result<Row, LinError> {
+    let left = term(alloc, left)?;
+    let right = term(alloc, right)?;
+    Row::of(alloc, &left, op, &right, sort)
 }
 
 #[test]
 fn rows_of_comparisons(rt: HostRuntime) -> Result<(), Fail> {
-    let alloc = rt.alloc();
-    let left = Term::var(alloc, 0)?;
-    let right = term(alloc, 2, &[(1, 1)])?;
-    // The constant and the coefficient of the variable 0. That of the variable 1 is its negative.
-    let whole = [
-        (Op::Eq, -2, 1, Kind::Eq),
-        (Op::Ne, -2, 1, Kind::Ne),
-        (Op::Lt, -1, 1, Kind::Le),
-        (Op::Le, -2, 1, Kind::Le),
-        (Op::Gt, 3, -1, Kind::Le),
-        (Op::Ge, 2, -1, Kind::Le),
-    ];
-    for (op, constant, coefficient, kind) in whole {
-        let row = Row::of(alloc, &left, op, &right, Sort::Int)?;
-        assert_eq!(rt; row.kind, kind, "at {op:?}");
-        assert_eq!(rt; row.term.constant_part(), constant, "at {op:?}");
-        assert_eq!(rt; row.term.coefficient(0), coefficient, "at {op:?}");
+    // v0 and v1 + 2
+    for (op, sort, want) in [
+        (Op::Eq, Sort::Int, "v0 + -1*v1 + -2 = 0"),
+        (Op::Ne, Sort::Int, "v0 + -1*v1 + -2 != 0"),
+        (Op::Lt, Sort::Int, "v0 + -1*v1 + -1 <= 0"),
+        (Op::Le, Sort::Int, "v0 + -1*v1 + -2 <= 0"),
+        (Op::Gt, Sort::Int, "-1*v0 + v1 + 3 <= 0"),
+        (Op::Ge, Sort::Int, "-1*v0 + v1 + 2 <= 0"),
+        (Op::Gt, Sort::Perm, "-1*v0 + v1 + 2 < 0 (Perm)"),
+    ] {
+        let row = compared(rt.alloc(), (0, &[(0, 1)]), op, (2, &[(1, 1)]), sort);
+        let found = shown_row(rt.alloc(), row)?;
+        assert_eq!(rt; found.as_str(), want);
     }
-    let row = Row::of(alloc, &left, Op::Gt, &right, Sort::Perm)?;
-    assert_eq!(rt; row.kind, Kind::Lt);
-    assert_eq!(rt; row.term.constant_part(), 2);
     Ok(())
 }
 
 #[test]
+fn a_wide_row(rt: HostRuntime) -> Result<(), Fail> {
+    let row = compared(rt.alloc(), (MOST, &[]), Op::Lt, (0, &[]), Sort::Int);
+    let found = shown_row(rt.alloc(), row)?;
+    assert_eq!(rt;
+        found.as_str(),
+        "wide 170141183460469231731687303715884105727 1"
+    );
+    Ok(())
+}
+
+// The negations of a row of v0 + 5.
+fn negations(alloc: Global, kind: Kind, sort: Sort) -> Result<String, LinError> {
+    let term = term(alloc, (5, &[(0, 1)]))?;
+    let rows = Row { term, kind, sort }.copy(alloc)?.negations(alloc)?;
+    let mut text = String::new(alloc);
+    put_rows(alloc, &mut text, &rows)?;
+    Ok(text)
+}
+
+#[test]
 fn negations_of_rows(rt: HostRuntime) -> Result<(), Fail> {
-    let alloc = rt.alloc();
-    // Of v0 + 5: the kinds and constants of the negations, the second one 0 where there is one.
-    let cases = [
-        (Kind::Le, Sort::Int, Kind::Le, -4, 0),
-        (Kind::Le, Sort::Perm, Kind::Lt, -5, 0),
-        (Kind::Lt, Sort::Int, Kind::Le, -5, 0),
-        (Kind::Lt, Sort::Perm, Kind::Le, -5, 0),
-        (Kind::Eq, Sort::Int, Kind::Le, 6, -4),
-        (Kind::Eq, Sort::Perm, Kind::Lt, 5, -5),
-        (Kind::Ne, Sort::Int, Kind::Eq, 5, 0),
-    ];
-    for (kind, sort, negated, first, second) in cases {
-        let row = Row {
-            term: term(alloc, 5, &[(0, 1)])?,
-            kind,
-            sort,
-        };
-        let rows = row.copy(alloc)?.negations(alloc)?;
-        let constant = |i| rows.get(i).map_or(0, |r: &Row| r.term.constant_part());
-        assert_eq!(rt; rows.first().map(|r| r.kind), Some(negated), "at {kind:?}");
-        assert_eq!(rt; constant(0), first, "at {kind:?}");
-        assert_eq!(rt; constant(1), second, "at {kind:?}");
+    for (kind, sort, want) in [
+        (Kind::Le, Sort::Int, "-1*v0 + -4 <= 0"),
+        (Kind::Le, Sort::Perm, "-1*v0 + -5 < 0 (Perm)"),
+        (Kind::Lt, Sort::Int, "-1*v0 + -5 <= 0"),
+        (Kind::Lt, Sort::Perm, "-1*v0 + -5 <= 0 (Perm)"),
+        (Kind::Eq, Sort::Int, "v0 + 6 <= 0, -1*v0 + -4 <= 0"),
+        (
+            Kind::Eq,
+            Sort::Perm,
+            "v0 + 5 < 0 (Perm), -1*v0 + -5 < 0 (Perm)",
+        ),
+        (Kind::Ne, Sort::Int, "v0 + 5 = 0"),
+    ] {
+        let found = negations(rt.alloc(), kind, sort)?;
+        assert_eq!(rt; found.as_str(), want);
     }
     Ok(())
 }

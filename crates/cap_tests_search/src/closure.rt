@@ -67,41 +67,49 @@ fn one_region(alloc: Global, state: i128) -> Result<State, LinError>
     Ok(all)
 }
 
-// From state 2 nothing is done, since the action is at 0.
+// What stays of the region in a state.
+fn found_at(alloc: Global, number: i128, notes: &mut Notes) -> Result<Closure, Fail> {
+    let region = raised_region(alloc)?;
+    let state = one_region(alloc, number)?;
+    let fact = in_state(alloc, number)?;
+    Ok(closure_of(alloc, &region, &state, 0, &fact, notes)?)
+}
+
+// How many certificates there are that the state stays.
+fn kept(closure: &Closure) -> Option<usize> {
+    match closure {
+        Closure::Keeps(certs) => Some(certs.len()),
+        Closure::Settles(_, _) => None,
+    }
+}
+
+// The numbers of the candidates that stay, and how many certificates there are of it.
+fn settled(closure: &Closure) -> Option<(&[u32], usize)> {
+    match closure {
+        Closure::Settles(list, Some(certs)) => Some((list.as_slice(), certs.len())),
+        Closure::Settles(_, None) | Closure::Keeps(_) => None,
+    }
+}
+
+// From state 2 nothing is done, since the action is at 0. An equality has two certificates.
 #[test]
 fn keeps_a_state_that_no_action_leaves(rt: HostRuntime) -> Result<(), Fail> {
-    let alloc = rt.alloc();
-    let region = raised_region(alloc)?;
-    let state = one_region(alloc, 2)?;
-    let fact = in_state(alloc, 2)?;
     let mut notes = Notes::new();
-    let found = closure_of(alloc, &region, &state, 0, &fact, &mut notes)?;
-    let count = match &found {
-        Closure::Keeps(certs) => certs.len(),
-        Closure::Settles(_, _) => 0,
-    };
-    assert_eq!(rt; count, 2, "an equality has two certificates");
+    let found = found_at(rt.alloc(), 2, &mut notes)?;
+    assert_eq!(rt; kept(&found), Some(2));
     assert!(rt; notes.wide().is_none() && !notes.rows());
     Ok(())
 }
 
 // From state 0 others may go to 1. The candidates of the later state u are u = 0, 0 <= u, u <= 0,
 // 1 <= u and u <= 1, the last two by the action's target. Of the present state the second, third
-// and last hold, and the third leaves after one round.
+// and last hold, and the third leaves after one round. Each that stays holds now and after the
+// action.
 #[test]
 fn settles_a_state_that_others_may_raise(rt: HostRuntime) -> Result<(), Fail> {
-    let alloc = rt.alloc();
-    let region = raised_region(alloc)?;
-    let state = one_region(alloc, 0)?;
-    let fact = in_state(alloc, 0)?;
     let mut notes = Notes::new();
-    let found = closure_of(alloc, &region, &state, 0, &fact, &mut notes)?;
-    let mut count = 0;
-    if let Closure::Settles(list, Some(certs)) = &found {
-        assert_eq!(rt; list.as_slice(), [1, 4].as_slice());
-        count = certs.len();
-    }
-    assert_eq!(rt; count, 4, "each holds now and after the action");
+    let found = found_at(rt.alloc(), 0, &mut notes)?;
+    assert!(rt; settled(&found) == Some(([1, 4].as_slice(), 4)));
     assert!(rt; notes.wide().is_none() && !notes.rows());
     Ok(())
 }

@@ -2,6 +2,8 @@
 #![tactic(auto)]
 
 #[cfg(test)]
+mod io;
+#[cfg(test)]
 mod top;
 #[cfg(test)]
 mod top_report;

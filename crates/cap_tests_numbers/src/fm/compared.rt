@@ -160,7 +160,7 @@ fn drawn_systems(rt: HostRuntime) -> Result<(), Fail> {
     for _system in 0..10000 {
         let system = draw.system(alloc)?;
         let finding = found(alloc, &system)?;
-        let answer = solved(&rt, alloc, &rows_of(alloc, &system)?)?;
+        let answer = solved(alloc, &rows_of(alloc, &system)?)??;
         assert!(rt; is_same(&answer, &finding), "at {system:?}");
         match finding {
             Finding::Leaf(_) => leaves = leaves.saturating_add(1),
