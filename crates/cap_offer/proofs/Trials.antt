@@ -59,12 +59,6 @@ next-fails p g f i n old new h e =
     ap (λ ns. first_tried p g (map f ns) old) (range-next i n h)
     ∙ (ap (λ v. or_later v rest (tried p g (f i) old).notes) (sym e.0) ∙ ap rest (sym e.1))
 
-unfolding first_tried
-next-succeeds p g f i n c old new h e =
-    let rest : Noted (Option PlainChoice) = first_tried p g (map f (range_with_len (i + 1) (n - (i + 1)))) in
-    ap (λ ns. first_tried p g (map f ns) old) (range-next i n h)
-    ∙ (ap (λ v. or_later v rest (tried p g (f i) old).notes) (sym e.0) ∙ ap (λ m. record { value = Some c; notes = m }) (sym e.1))
-
 pub none-left : (p : PlainProgram) (g : PlainGoal) (f : ℕ → PlainChoice) (i n : ℕ) (old : PlainNotes) → n ≤ i → first_tried p g (map f (range_with_len i (n - i))) old ≡ record { value = None; notes = old }
 unfolding first_tried
 none-left p g f i n old h = ap (λ ns. first_tried p g (map f ns) old) (range-last i n h)

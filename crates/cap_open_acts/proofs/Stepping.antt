@@ -1,5 +1,5 @@
 -- Attempts that go through a list and claim something at each step.
-use Rattle.std.proofs.Common.{◌≡◌, ℕ, suc, ◌+◌, List, [], ◌∷◌, ◌++◌, map, sym, ap, subst, ◌∙◌, ◌<◌, ◌≤◌, length, get_or, drop, add-one}
+use Rattle.std.proofs.Common.{◌≡◌, ℕ, suc, ◌+◌, List, [], ◌∷◌, ◌++◌, sym, ap, subst, ◌∙◌, ◌<◌, ◌≤◌, length, get_or, drop, add-one}
 use Rattle.std.proofs.lemmas.List.{drop_all, append_assoc, append-nil}
 use Rattle.std.specs.Prelude.{Ok, Err, Result}
 use Rattle.cap_lin.specs.declared.row.Row.{Row}
@@ -28,9 +28,6 @@ pub claims-end : {S X A : Type 0} (F : S → List X → Attempt A) (s : S) (xs :
 claims-end F s xs i before middle whole r h m l = l.leads r middle (rw (drop_all i xs h) m)
 
 -- ---- a list that is seen by its members
-
-unfolding Goes
-mapped-goes F step v g = λ s x xs. g s (v x) (map v xs)
 
 -- ---- attempts that make several members at each step
 
