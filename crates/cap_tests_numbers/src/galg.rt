@@ -16,18 +16,18 @@ fn either(alloc: Global, a: Algebra, b: Algebra) -> Result<Algebra, AllocError> 
     Ok(Algebra::Either(Box::new(alloc, a)?, Box::new(alloc, b)?))
 }
 
-const fn share(num: u64, den: u64) -> Amount {
+fn share(num: u64, den: u64) -> Amount {
     Amount::Share(Fraction { num, den })
 }
 
 // An atom, and how much of it.
 type Part = (u32, Amount);
 
-const HALF: Part = (0, share(1, 2));
+const HALF: Part = (0, Amount::Share(Fraction { num: 1, den: 2 }));
 
-const THIRD: Part = (1, share(1, 3));
+const THIRD: Part = (1, Amount::Share(Fraction { num: 1, den: 3 }));
 
-const TWO_THIRDS: Part = (1, share(2, 3));
+const TWO_THIRDS: Part = (1, Amount::Share(Fraction { num: 2, den: 3 }));
 
 const FIRST: Part = (0, Amount::One);
 
