@@ -90,6 +90,7 @@ impl OpenFile for SlowFile {
 }
 
 // Files that are slow, each of which fails so at last or is at its end. Nothing else is there.
+#[derive(Drop)]
 struct SlowFiles {
     last: Option<ErrorKind>,
 }
