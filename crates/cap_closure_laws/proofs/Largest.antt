@@ -9,11 +9,11 @@ use Rattle.cap_lin.specs.declared.row.Row.{Row}
 use Rattle.cap_lin.specs.declared.row.Sort.TheVariants.{Int}
 use Rattle.cap_farkas.specs.declared.cert.Cert.{Cert}
 use Rattle.cap_prog.specs.Program.{PlainAction, PlainRegionType}
-use Rattle.cap_goal_spec.specs.States.{PlainFact, PlainState, longest_list}
+use Rattle.cap_goal_spec.specs.States.{PlainFact, PlainState, longest_list, with_state}
 use Rattle.cap_goal_spec.specs.Candidates.{MadeRow, candidates, later_state, known, candidate_of}
 use Rattle.cap_rules.specs.Attempts.{Attempt, unit, ◌>>=◌, need, appended}
 use Rattle.cap_rules.specs.Answers.{steps_of}
-use Rattle.cap_rules.specs.Making.{with_sort, with_row, with_rows, with_state}
+use Rattle.cap_rules.specs.Making.{with_sort, with_row, with_rows}
 use Rattle.cap_rules.specs.Resting.{action_names, system, named_candidates, prove_at, prove_stable, with_settled, settle, keep}
 use Rattle.cap_rules_ascending.specs.Ascending.{RowAscends, FactAscends, StateAscends}
 use Rattle.cap_rules_ascending.proofs.Restings.{at-safe}

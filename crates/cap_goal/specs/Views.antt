@@ -1,6 +1,7 @@
 -- What contracts see of tasks, goals, choices and trees.
 use Rattle.std.specs.Prelude.{ℕ, ◌==◌, Bool, true, false, List, [], ◌∷◌, map, reverse}
 use Rattle.std.specs.Borrow.{Bor}
+use Rattle.cap_farkas.specs.declared.cert.Cert.{Cert}
 use Rattle.cap_prog.specs.declared.assertion.Item.{Item}
 use Rattle.cap_prog.specs.declared.function.Statement.{Statement}
 use Rattle.cap_prog.specs.Program.{Items, none, item, items_of, append_items, Block, done, append, PlainAct, read, write, cas}
@@ -73,6 +74,10 @@ choice_view (choice.Guard j way cs) = by_guard j way cs.items
 choice_view (choice.Convert n side cs) = by_convert n side cs.items
 choice_view (choice.Create c) = by_create c
 choice_view (choice.Made cs) = by_made cs.items
+
+-- the certificates that are lent
+abbrev pub certs_in : List (Bor Cert) → List Cert
+certs_in cs = map (λ c. c.now) cs
 
 abbrev pub unit_view : named.Unit → PlainUnit
 unit_view (named.TheVariants.Region n) = region_unit n

@@ -1,5 +1,6 @@
 //! Facts of regions, and environments.
 ghost use Rattle.std.specs.Prelude.{◌≡◌, IfOk};
+ghost use Rattle.cap_goal_spec.specs.States.{with_state};
 
 use cap_lin::Term;
 use std::alloc::{AllocError, Global};
@@ -41,6 +42,19 @@ impl Fact {
             args: copy_terms(alloc, &self.args)?,
             state: self.state.copy(alloc)?,
             loose: self.loose,
+        })
+    }
+
+    /// The fact in another state, no longer loose.
+    pub fn with_state(&self, alloc: Global, state: &Term) -> Result<Fact, AllocError>
+        ensures { IfOk result (λ f. f ≡ with_state self.now state.now) }
+    {
+        Ok(Fact {
+            region: self.region.copy(alloc)?,
+            kind: self.kind,
+            args: copy_terms(alloc, &self.args)?,
+            state: state.copy(alloc)?,
+            loose: false,
         })
     }
 }

@@ -2,7 +2,9 @@
 //! the trees of a unit grow.
 #![tactic(auto)]
 
+mod certs;
 mod choice;
+mod copy;
 mod fact;
 mod goal;
 mod member;
@@ -13,5 +15,5 @@ mod task;
 pub use choice::{Bundle, Choice, Node, Unit};
 pub use fact::{Env, Fact, copy_terms};
 pub use goal::Goal;
-pub use state::State;
+pub use state::{LONGEST_LIST, State};
 pub use task::{Home, Items, Point, Task, is_heap};

@@ -1,9 +1,10 @@
 //! A state of a derivation: variables, rows, locals, cells, facts of regions and guards.
 ghost use Rattle.std.specs.Prelude.{◌≡◌, ◌<◌, [], ◌∷◌, ◌++◌, length, IfOk, if◌then◌else◌, remove};
-ghost use Rattle.std.specs.Prelude.{slice_set};
+ghost use Rattle.std.specs.Prelude.{◌↔◌, IsTrue, slice_set};
 ghost use Rattle.std.specs.Result.{is_ok};
 ghost use Rattle.cap_goal_spec.specs.States.{longest_list};
 ghost use Rattle.cap_goal_spec.specs.Roots.{empty_state};
+ghost use Rattle.cap_goal_spec.specs.Fits.{HasRoom};
 
 use crate::fact::{Env, Fact};
 use crate::shared::Shared;
@@ -11,6 +12,9 @@ use cap_gsolve::Piece;
 use cap_lin::{Row, Sort, Term};
 use std::alloc::{AllocError, Global};
 use std::marker::Model;
+
+/// No list of a state is longer.
+pub const LONGEST_LIST: usize = 100_000_000;
 
 /// A symbolic state: nine lists, each of at most 100,000,000 members. Its copies share the lists
 /// that they have in common. Each list has four calls: one lends it, and three append, replace and
@@ -79,6 +83,21 @@ impl State {
             opened: self.opened.share()?,
             envs: self.envs.share()?,
         })
+    }
+
+    /// Whether no list is longer than `LONGEST_LIST`. It takes no memory.
+    pub fn has_room(&self) -> bool
+        ensures { IsTrue result ↔ HasRoom self.now }
+    {
+        self.sorts().len() <= LONGEST_LIST
+            && self.rows().len() <= LONGEST_LIST
+            && self.store().len() <= LONGEST_LIST
+            && self.cells().len() <= LONGEST_LIST
+            && self.facts().len() <= LONGEST_LIST
+            && self.guards().len() <= LONGEST_LIST
+            && self.before().len() <= LONGEST_LIST
+            && self.opened().len() <= LONGEST_LIST
+            && self.envs().len() <= LONGEST_LIST
     }
 
     /// Lends what sort each variable is of; a fresh variable is the next number. It takes no

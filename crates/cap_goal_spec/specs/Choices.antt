@@ -56,6 +56,22 @@ certs_of (by_convert n side cs) = cs
 certs_of (by_made cs) = cs
 certs_of _ = []
 
+-- with these certificates in place of its own; an absurdity and an act stay as they are
+abbrev pub with_certs : PlainChoice → List Cert → PlainChoice
+with_certs (by_clash i j old) cs = by_clash i j cs
+with_certs (by_assert old) cs = by_assert cs
+with_certs (by_enter i old) cs = by_enter i cs
+with_certs (by_shift old) cs = by_shift cs
+with_certs (by_settle list old) cs = by_settle list cs
+with_certs (by_keep old) cs = by_keep cs
+with_certs (by_fact old) cs = by_fact cs
+with_certs (by_cell j old) cs = by_cell j cs
+with_certs (by_region j old) cs = by_region j cs
+with_certs (by_guard j way old) cs = by_guard j way cs
+with_certs (by_convert n side old) cs = by_convert n side cs
+with_certs (by_made old) cs = by_made cs
+with_certs c cs = c
+
 -- a choice, and a tree for each of its subgoals
 mutual
   pub data PlainTree : Type 0 where

@@ -1,5 +1,5 @@
 -- Symbolic states, and goals: a state with the tasks that are to be done from it.
-use Rattle.std.specs.Prelude.{ℕ, ◌==◌, Bool, if◌then◌else◌, List, [], ◌∷◌, length, option_to_list, Option, Some, None}
+use Rattle.std.specs.Prelude.{ℕ, ◌==◌, Bool, false, if◌then◌else◌, List, [], ◌∷◌, length, option_to_list, Option, Some, None}
 use Rattle.cap_lin.specs.Linear.{Linear}
 use Rattle.cap_lin.specs.declared.row.Row.{Row}
 use Rattle.cap_lin.specs.declared.row.Sort.{Sort}
@@ -14,6 +14,10 @@ pub record PlainFact : Type 0 where
   pub args : List Linear
   pub state : Linear
   pub loose : Bool
+
+-- the fact in another state, no longer loose
+abbrev pub with_state : PlainFact → Linear → PlainFact
+with_state f t = record f { state = t; loose = false }
 
 -- for each name of an assertion a term, or nothing while the name is unbound
 abbrev pub PlainEnv : Type 0

@@ -9,7 +9,6 @@ ghost use Rattle.cap_kernel_check.specs.Views.{StartIsKept, start_view, starts_v
 ghost use Rattle.cap_kernel_check.specs.GrowthViews.{Grows, GrowsAll, GrowsAtRoot, GrowsAtRoots};
 ghost use Rattle.cap_kernel_check.specs.GrowthViews.{preorder_view};
 
-use crate::copy::copy_choice;
 use crate::error::CheckError;
 use crate::left::goals_left;
 use crate::preorder::Preorder;
@@ -46,7 +45,7 @@ fn grow<'a>(
     };
     let children = grow_all(alloc, program, above + 1, &goals, choices)?;
     Ok(Node {
-        choice: copy_choice(alloc, choice)?,
+        choice: choice.copy(alloc)?,
         children,
     })
 }

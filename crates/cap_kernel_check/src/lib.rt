@@ -3,7 +3,6 @@
 #![tactic(auto)]
 
 mod bundle;
-mod copy;
 mod debt;
 mod error;
 mod gather;

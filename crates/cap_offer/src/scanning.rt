@@ -20,15 +20,12 @@ use crate::claims::has_sought_address;
 use crate::listing::count;
 use cap_closure_decide::{Notes, decided_all, decided_each};
 use cap_farkas::Cert;
-use cap_goal::{Choice, Goal, State};
+use cap_goal::{Choice, Goal, LONGEST_LIST, State};
 use cap_kernel::proofs;
 use cap_lin::{Row, Term};
 use cap_prog::{Act, Program};
 use cap_rules_steps::RuleError;
 use std::alloc::{AllocError, Global};
-
-// The most members of a list of a state.
-const LONGEST: usize = 100_000_000;
 
 /// Which cell is sought: the one on which a heap statement acts, or that of an item, by the number
 /// of its environment and its address.
@@ -106,10 +103,10 @@ fn has_room_for(state: &State, marks: &[Option<Cert>]) -> bool
     ensures { result ≡ room_for state.now marks.now }
 {
     let sorts = state.sorts().len();
-    if sorts > LONGEST {
+    if sorts > LONGEST_LIST {
         return false;
     }
-    unmarked(marks) <= LONGEST - sorts
+    unmarked(marks) <= LONGEST_LIST - sorts
 }
 
 // The choice to act on the cell, where there is room for its marks.

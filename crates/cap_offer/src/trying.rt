@@ -3,7 +3,8 @@ ghost use Rattle.std.specs.Prelude.{◌≡◌, [], ◌∷◌, IfOk, option_map, 
 ghost use Rattle.cap_prog.specs.Views.{program_view};
 ghost use Rattle.cap_goal_spec.specs.Fits.{HasRoom};
 ghost use Rattle.cap_goal.specs.Views.{goal_view, choice_view};
-ghost use Rattle.cap_offer_spec.specs.Scanning.{with_certs as choice_with_certs, tried as tried_at};
+ghost use Rattle.cap_goal_spec.specs.Choices.{with_certs};
+ghost use Rattle.cap_offer_spec.specs.Scanning.{tried as tried_at};
 ghost use Rattle.cap_offer_spec.specs.Scanning.{tried_all as all_tried, first_tried as first_of};
 ghost use Rattle.cap_closure_decide.specs.Noting.{Adds, certs_seen};
 ghost use Rattle.cap_offer.specs.Views.{choices_view};
@@ -15,47 +16,13 @@ use cap_kernel::proofs;
 use cap_prog::Program;
 use std::alloc::{AllocError, Global};
 
-// The choice with these certificates. Where a choice has none of its own it stays as it is.
-fn with_certs(choice: Choice, certs: Vec<Cert>) -> Choice
-    ensures { choice_view result ≡ choice_with_certs (choice_view choice) certs.items }
-{
-    match choice {
-        Choice::Clash(i, j, _) => Choice::Clash(i, j, certs),
-        Choice::Assert(_) => Choice::Assert(certs),
-        Choice::Enter(i, _) => Choice::Enter(i, certs),
-        Choice::Shift(_) => Choice::Shift(certs),
-        Choice::Settle(list, _) => Choice::Settle(list, certs),
-        Choice::Keep(_) => Choice::Keep(certs),
-        Choice::Fact(_) => Choice::Fact(certs),
-        Choice::Cell(j, _) => Choice::Cell(j, certs),
-        Choice::Region(j, _) => Choice::Region(j, certs),
-        Choice::Guard(j, way, _) => Choice::Guard(j, way, certs),
-        Choice::Convert(n, side, _) => Choice::Convert(n, side, certs),
-        Choice::Made(_) => Choice::Made(certs),
-        Choice::Absurd(_)
-        | Choice::Set
-        | Choice::Alloc
-        | Choice::If
-        | Choice::Loop
-        | Choice::Turn
-        | Choice::Call
-        | Choice::Fork
-        | Choice::Return
-        | Choice::Act(_, _, _)
-        | Choice::Pick(_, _, _)
-        | Choice::Give
-        | Choice::Cases
-        | Choice::Create(_) => choice,
-    }
-}
-
 // The choice with its certificates, where there are any.
 fn proved(choice: Choice, certs: Option<Vec<Cert>>) -> Option<Choice>
     ensures { option_map choice_view result
-        ≡ option_map (choice_with_certs (choice_view choice)) (certs_seen certs) }
+        ≡ option_map (with_certs (choice_view choice)) (certs_seen certs) }
 {
     match certs {
-        Some(certs) => Some(with_certs(choice, certs)),
+        Some(certs) => Some(choice.with_certs(certs)),
         None => {
             drop(choice);
             None

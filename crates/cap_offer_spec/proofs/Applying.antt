@@ -13,7 +13,7 @@ use Rattle.cap_fm_spec.specs.Solving.{RowsAscend}
 use Rattle.cap_fm_spec.proofs.Certified.{certified as cert-refutes}
 use Rattle.cap_prog.specs.Program.{PlainItem, compare, choose, fact, atom, cell, none, item, PlainAct, set, read, write, cas, alloc, call, fork, branch, loop, check, give_back, done as ended, first, PlainRegionType, PlainProgram}
 use Rattle.cap_goal_spec.specs.States.{PlainFact, PlainState, longest_list, PlainTask, to_run, to_turn, to_give, to_take, to_make, to_close, to_shift, to_rest, PlainGoal, goals_of}
-use Rattle.cap_goal_spec.specs.Choices.{PlainChoice, given_marks, by_absurd, by_clash, by_set, by_alloc, by_assert, by_if, by_loop, by_turn, by_call, by_fork, by_return, by_enter, by_act, by_pick, by_shift, by_settle, by_keep, by_give, by_fact, by_cases, by_cell, by_region, by_guard, by_convert, by_create, by_made, certs_of}
+use Rattle.cap_goal_spec.specs.Choices.{PlainChoice, given_marks, by_absurd, by_clash, by_set, by_alloc, by_assert, by_if, by_loop, by_turn, by_call, by_fork, by_return, by_enter, by_act, by_pick, by_shift, by_settle, by_keep, by_give, by_fact, by_cases, by_cell, by_region, by_guard, by_convert, by_create, by_made, certs_of, with_certs}
 use Rattle.cap_rules.specs.Attempts.{Attempt, ◌>>=◌, found, not_applicable}
 use Rattle.cap_rules.specs.Answers.{Answer, applies, inapplicable, too_wide, marks_of, full_marks, steps_of, owed_lists, proofs, proofs_of}
 use Rattle.cap_rules.proofs.Answering.{succeeds-answer}
@@ -27,7 +27,7 @@ use Rattle.cap_offer_spec.specs.Deciding.{PlainNotes, clean, Outcome, with_note,
 use Rattle.cap_offer_spec.specs.Claims.{has_address, has_item_address}
 use Rattle.cap_offer_spec.specs.Closures.{PlainClosure, keeps, settles, or_settled, settled, closed_list, closure}
 use Rattle.cap_offer_spec.specs.Listing.{own_rule, clashes, clashes_with, numbers_below, openings, known_regions, new_regions, cuts, has_atom, conversion, conversions, moves_of, closings_of, type_of_opened, closings}
-use Rattle.cap_offer_spec.specs.Scanning.{with_certs, tried, tried_all, or_later, first_tried, or_else, Scan, finds, ends, goes_on, found_or_ends, ends_if, at_address, scanned_cell, unless_over, finished_cell, has_room_for, choice_if, finished_act, first_cell, first_act}
+use Rattle.cap_offer_spec.specs.Scanning.{tried, tried_all, or_later, first_tried, or_else, Scan, finds, ends, goes_on, found_or_ends, ends_if, at_address, scanned_cell, unless_over, finished_cell, has_room_for, choice_if, finished_act, first_cell, first_act}
 use Rattle.cap_offer_spec.specs.Offering.{openings_unless, by_cells, at_heap, at_statement, at_item, of_closure, at_fact_of, at_fact, offering, offered, at_task as offers_at_task, at_tasks as offers_at_tasks}
 use Rattle.cap_offer_spec.specs.Members.{IsOneOf}
 use Rattle.cap_offer_spec.specs.Laws.{IsDecided, IsProvedBy, OfferedAreProved, OfferedApply}

@@ -7,27 +7,12 @@ use Rattle.cap_farkas.specs.declared.cert.Cert.{Cert}
 use Rattle.cap_fm_spec.specs.Events.{wide}
 use Rattle.cap_prog.specs.Program.{PlainProgram}
 use Rattle.cap_goal_spec.specs.States.{PlainState, longest_list, PlainGoal}
-use Rattle.cap_goal_spec.specs.Choices.{PlainChoice, by_clash, by_assert, by_enter, by_act, by_shift, by_settle, by_keep, by_fact, by_cell, by_region, by_guard, by_convert, by_made}
+use Rattle.cap_goal_spec.specs.Choices.{PlainChoice, by_act, by_cell, with_certs}
 use Rattle.cap_rules.specs.Attempts.{Attempt}
 use Rattle.cap_rules.specs.Answers.{Answer, applies, inapplicable, too_wide, proofs}
 use Rattle.cap_offer_spec.specs.Deciding.{Noted, done, note, ◌>>=◌, decided_all, decided_each, certified_by, succeeds}
 
 -- ---- a choice with the certificates of its proofs
-
-abbrev pub with_certs : PlainChoice → List Cert → PlainChoice
-with_certs (by_clash i j old) cs = by_clash i j cs
-with_certs (by_assert old) cs = by_assert cs
-with_certs (by_enter i old) cs = by_enter i cs
-with_certs (by_shift old) cs = by_shift cs
-with_certs (by_settle list old) cs = by_settle list cs
-with_certs (by_keep old) cs = by_keep cs
-with_certs (by_fact old) cs = by_fact cs
-with_certs (by_cell j old) cs = by_cell j cs
-with_certs (by_region j old) cs = by_region j cs
-with_certs (by_guard j way old) cs = by_guard j way cs
-with_certs (by_convert n side old) cs = by_convert n side cs
-with_certs (by_made old) cs = by_made cs
-with_certs c cs = c
 
 unfoldable pub tried : PlainProgram → PlainGoal → PlainChoice → Noted (Option PlainChoice)
 tried p g c = do

@@ -22,7 +22,7 @@ use cap_lin::Row;
 use cap_open_acts::{act, enter, full_marks};
 use cap_open_moves::{pick, shift};
 use cap_prog::Program;
-use cap_rules_steps::{Ledger, RuleError, certs_of, judged, told};
+use cap_rules_steps::{Ledger, RuleError, judged, told};
 use std::alloc::{AllocError, Global};
 
 /// A rule by which a region is opened, a statement acts on a cell, or a region is closed: the fact,
@@ -307,7 +307,7 @@ pub fn open_subgoals<'a>(
         (goal_view goal.now) (choice_view choice.now) (choice_marks (choice_view choice.now)))
         (certs_in (choice_view choice.now)) }
 {
-    let certs = certs_of(alloc, choice)?;
+    let certs = choice.certs(alloc)?;
     let marks = marks_of(alloc, choice)?;
     let mut ledger = Ledger::new(alloc);
     let outcome = opened_by(

@@ -16,7 +16,7 @@ use cap_lin::Term;
 use cap_open_acts::{clear_before, fact_at};
 use cap_prog::{Case, Program, RegionType};
 use cap_rules_steps::{Ledger, RuleError, copy_tasks, leaves, region_at};
-use cap_take_holdings::{determined_at, prove_comparisons_at, with_fact, with_state};
+use cap_take_holdings::{determined_at, prove_comparisons_at, with_fact};
 use std::alloc::{AllocError, Global};
 
 // Removes an opened region. Nothing changes where there is none of this number.
@@ -54,7 +54,7 @@ fn with_closed(
 {
     let mut next = state.copy()?;
     remove_opened(&mut next, opened)?;
-    let closed = with_state(alloc, fact, new)?;
+    let closed = fact.with_state(alloc, new)?;
     with_fact(alloc, &mut next, closed)?;
     end_step(&mut next)?;
     Ok(next)

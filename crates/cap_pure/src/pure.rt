@@ -18,7 +18,7 @@ use crate::upcoming::{running, upcoming_in};
 use cap_goal::{Choice, Goal, Home, Point, State, Task};
 use cap_lin::Row;
 use cap_prog::Program;
-use cap_rules_steps::{Ledger, RuleError, certs_of, judged, told};
+use cap_rules_steps::{Ledger, RuleError, judged, told};
 use std::alloc::Global;
 
 // At the statement that is run first.
@@ -157,7 +157,7 @@ pub fn pure_subgoals<'a>(
         (goal_view goal.now) (choice_view choice.now) (marks_of (choice_view choice.now)))
         (certs_in (choice_view choice.now)) }
 {
-    let certs = certs_of(alloc, choice)?;
+    let certs = choice.certs(alloc)?;
     let mut ledger = Ledger::new(alloc);
     let outcome = at_first(
         alloc,

@@ -13,10 +13,10 @@ use Rattle.cap_prog.specs.declared.assertion.Asked.{Asked}
 use Rattle.cap_prog.specs.declared.assertion.Asked.TheVariants.{One, Share, Src, Tok}
 use Rattle.cap_prog.specs.Program.{PlainAct, read, write, cas, PlainCase, PlainAction, PlainRegionType}
 use Rattle.cap_goal_spec.specs.Terms.{lone_variable, variables_from}
-use Rattle.cap_goal_spec.specs.States.{PlainFact, PlainEnv, PlainState, PlainTask, to_give, to_close, to_rest, PlainGoal, goals_of}
+use Rattle.cap_goal_spec.specs.States.{PlainFact, PlainEnv, PlainState, PlainTask, to_give, to_close, to_rest, PlainGoal, goals_of, with_state}
 use Rattle.cap_goal_spec.specs.Environments.{zero_value, one_value, Reading, settled, open_to, stuck, reading, bind_open, asked_slot, bound, unbound, region_env}
 use Rattle.cap_rules.specs.Attempts.{Attempt, unit, ◌>>=◌, found, not_applicable, prove_that, comparison_row}
-use Rattle.cap_rules.specs.Making.{is_empty, value_here, value_by, determined, rows_by, prove_comparisons, prove_equal, prove_differ, match_reading, fresh, with_sort, with_sorts, with_rows, with_comparison, with_local, with_env, with_state, with_fact}
+use Rattle.cap_rules.specs.Making.{is_empty, value_here, value_by, determined, rows_by, prove_comparisons, prove_equal, prove_differ, match_reading, fresh, with_sort, with_sorts, with_rows, with_comparison, with_local, with_env, with_fact}
 
 -- the address of a heap statement
 abbrev pub address_of : PlainAct → Option Linear

@@ -190,9 +190,6 @@ with_env_at s e env = record s { envs = slice_set s.envs e env }
 abbrev pub fact_of : Linear → ℕ → List Linear → Linear → PlainFact
 fact_of r k args t = record { region = r; kind = k; args = args; state = t; loose = false }
 
-abbrev pub with_state : PlainFact → Linear → PlainFact
-with_state f t = record f { state = t; loose = false }
-
 abbrev pub is_of_region : PlainFact → PlainFact → Bool
 is_of_region f g = same_term g.region f.region && (g.kind == f.kind)
 

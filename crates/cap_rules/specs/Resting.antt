@@ -15,11 +15,11 @@ use Rattle.cap_prog.specs.declared.assertion.Asked.{Asked}
 use Rattle.cap_prog.specs.declared.assertion.Asked.TheVariants.{One, Share, Src, Tok}
 use Rattle.cap_prog.specs.Program.{PlainAction, PlainRegionType}
 use Rattle.cap_goal_spec.specs.Terms.{term_over, term_over_steps, variables_from}
-use Rattle.cap_goal_spec.specs.States.{PlainFact, PlainState}
+use Rattle.cap_goal_spec.specs.States.{PlainFact, PlainState, with_state}
 use Rattle.cap_goal_spec.specs.Environments.{zero_value}
 use Rattle.cap_goal_spec.specs.Candidates.{MadeRow, candidates, later_state}
 use Rattle.cap_rules.specs.Attempts.{Attempt, unit, ◌>>=◌, computed, found, need, comparison_row, prove, prove_that}
-use Rattle.cap_rules.specs.Making.{with_sort, with_rows, with_state}
+use Rattle.cap_rules.specs.Making.{with_sort, with_rows}
 
 -- ---- an action of the others, at unknown names
 

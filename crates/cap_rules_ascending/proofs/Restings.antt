@@ -19,10 +19,10 @@ use Rattle.cap_prog.specs.declared.assertion.Asked.{Asked}
 use Rattle.cap_prog.specs.declared.assertion.Asked.TheVariants.{One, Share, Src, Tok}
 use Rattle.cap_prog.specs.Program.{PlainCase, PlainAction, PlainRegionType}
 use Rattle.cap_goal_spec.specs.Terms.{term_over, term_over_steps, variables_from}
-use Rattle.cap_goal_spec.specs.States.{PlainFact, PlainState}
+use Rattle.cap_goal_spec.specs.States.{PlainFact, PlainState, with_state}
 use Rattle.cap_goal_spec.specs.Environments.{zero_value, one_value, region_env}
 use Rattle.cap_rules.specs.Attempts.{unit, ◌>>=◌, computed, found, need, comparison_row, prove, prove_that}
-use Rattle.cap_rules.specs.Making.{with_sort, with_rows, with_state}
+use Rattle.cap_rules.specs.Making.{with_sort, with_rows}
 use Rattle.cap_rules_ascending.specs.Ascending.{TermAscends, RowAscends, FormAscends, PieceAscends, FactAscends, StateAscends}
 use Rattle.cap_rules_ascending.proofs.Lists.{IfSome, all-join, all-cons, all-get-or, all-set, all-flat, all-any}
 use Rattle.cap_rules_ascending.proofs.Terms.{variable-ascends, plus-ascends, over-ascends, replaced-ascends, row-ascends, in-ascends, variables-ascend, region-ascends}

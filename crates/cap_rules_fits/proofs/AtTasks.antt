@@ -13,7 +13,7 @@ use Rattle.cap_lin.specs.declared.row.Op.TheVariants.{Eq as Equal, Le as AtMost}
 use Rattle.cap_fm_spec.proofs.Lists.{each-map}
 use Rattle.cap_prog.specs.Program.{item, Label, PlainAct, Block, first, PlainCase, PlainAction, PlainRegionType, PlainProgram}
 use Rattle.cap_prog.specs.WellFormed.{CaseFits, RegionFits, IsWellFormed}
-use Rattle.cap_goal_spec.specs.States.{PlainFact, PlainEnv, PlainState, Home, PlainTask, to_run, to_turn, to_give, to_take, to_make, to_close, to_shift, to_rest, PlainGoal}
+use Rattle.cap_goal_spec.specs.States.{PlainFact, PlainEnv, PlainState, Home, PlainTask, to_run, to_turn, to_give, to_take, to_make, to_close, to_shift, to_rest, PlainGoal, with_state}
 use Rattle.cap_goal_spec.specs.Choices.{PlainChoice, by_absurd, by_give, by_pick, by_shift, by_settle, by_keep, by_made, certs_of}
 use Rattle.cap_goal_spec.specs.Terms.{lone_variable}
 use Rattle.cap_goal_spec.specs.Environments.{region_env, term_in, term_in_steps}
@@ -21,7 +21,7 @@ use Rattle.cap_goal_spec.specs.Candidates.{MadeRow, bounds, is_over_params, boun
 use Rattle.cap_goal_spec.specs.Fits.{NameIsBelow, KnownFactFits, StateFits, ItemsFitEnv, CaseEnvFits, TaskFits, WaitingFits, TasksFit}
 use Rattle.cap_rules.specs.Answers.{marks_of}
 use Rattle.cap_rules.specs.Attempts.{Attempt, unit, ◌>>=◌, computed, found, need, comparison_row}
-use Rattle.cap_rules.specs.Making.{is_empty, env_at, fact_of, with_state, prove_comparisons}
+use Rattle.cap_rules.specs.Making.{is_empty, env_at, fact_of, prove_comparisons}
 use Rattle.cap_rules.specs.Closing.{may_move, source_name, source_env, move_target, prove_move, with_closed}
 use Rattle.cap_rules.specs.Resting.{named_candidates, prove_at, prove_stable, with_settled, settle, prove_kept, keep}
 use Rattle.cap_rules.specs.Rules.{leaves, creations, at_close, at_shift, args_in, at_made, at_statement, at_task, at_tasks, rule}

@@ -1,6 +1,5 @@
 -- What certificates make of the lists of rows that are owed.
 use Rattle.std.specs.Prelude.{◌≡◌, ◌⊎◌, Bool, true, false, List, [], ◌∷◌, map, Result, Ok, Err}
-use Rattle.std.specs.Borrow.{Bor}
 use Rattle.std.specs.Global.{Vec}
 use Rattle.cap_lin.specs.declared.row.Row.{Row}
 use Rattle.cap_farkas.specs.declared.cert.Cert.{Cert}
@@ -9,9 +8,6 @@ use Rattle.cap_rules.specs.Attempts.{Attempt}
 use Rattle.cap_rules.specs.Answers.{Answer, applies, inapplicable, too_wide, Answers}
 use Rattle.cap_rules_steps.specs.declared.error.RuleError.{RuleError}
 use Rattle.cap_rules_steps.specs.declared.error.RuleError.TheVariants.{NotApplicable, Wide, OutOfMemory}
-
-abbrev pub certs_in : List (Bor Cert) → List Cert
-certs_in cs = map (λ c. c.now) cs
 
 -- the first certificates refute the lists, one each
 abbrev pub Refuted : List (List Row) → List Cert → Type 0

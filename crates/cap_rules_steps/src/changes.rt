@@ -6,12 +6,9 @@ ghost use Rattle.cap_rules.specs.Making.{with_env, with_env_at, with_differing};
 ghost use Rattle.cap_rules_steps.specs.Walks.{Makes, giving};
 
 use crate::error::RuleError;
-use cap_goal::{Env, Fact, State};
+use cap_goal::{Env, Fact, LONGEST_LIST, State};
 use cap_lin::{Op, Row, Sort, Term};
 use std::alloc::{AllocError, Global};
-
-// The most members of a list of a state.
-const LONGEST: usize = 100_000_000;
 
 /// Adds a fresh variable of this sort to the state.
 #[tactic(auto, using(crate::proofs::Walking::making))]
@@ -20,7 +17,7 @@ pub fn with_sort(alloc: Global, state: &mut State, sort: Sort) -> Result<Term, R
     ensures fresh { IfOk result (λ t. t ≡ fresh state.old) }
 {
     let count = state.sorts().len();
-    if count >= LONGEST {
+    if count >= LONGEST_LIST {
         return Err(RuleError::NotApplicable);
     }
     let variable = Term::var(alloc, count as u32)?;
@@ -43,7 +40,7 @@ pub fn with_sorts(alloc: Global, state: &mut State, sorts: &[Sort]) -> Result<()
 pub fn with_row(state: &mut State, row: Row) -> Result<(), RuleError>
     ensures { Makes (giving result state.new) (with_row state.old row) }
 {
-    if state.rows().len() >= LONGEST {
+    if state.rows().len() >= LONGEST_LIST {
         return Err(RuleError::NotApplicable);
     }
     state.add_rows(row)?;
@@ -118,7 +115,7 @@ pub fn with_destination(
 pub fn with_cell(state: &mut State, address: Term, content: Term) -> Result<(), RuleError>
     ensures { Makes (giving result state.new) (with_cell state.old address content) }
 {
-    if state.cells().len() >= LONGEST {
+    if state.cells().len() >= LONGEST_LIST {
         return Err(RuleError::NotApplicable);
     }
     state.add_cells((address, content))?;
@@ -132,7 +129,7 @@ pub fn with_env(state: &mut State, env: Env) -> Result<u32, RuleError>
     ensures place { IfOk result (λ place. place ≡ length state.old.envs) }
 {
     let place = state.envs().len();
-    if place >= LONGEST {
+    if place >= LONGEST_LIST {
         return Err(RuleError::NotApplicable);
     }
     state.add_envs(env)?;

@@ -3,7 +3,6 @@
 #![tactic(auto)]
 
 mod bound;
-mod certs;
 mod changes;
 mod envs;
 mod error;
@@ -19,7 +18,6 @@ pub use bound::{
     determined, determined_slot, is_determined, prove_comparisons, row_by, rows_by, term_of,
     value_by,
 };
-pub use certs::certs_of;
 pub use changes::{
     copy_with_row, with_cell, with_comparison, with_destination, with_differing, with_env,
     with_env_at, with_local, with_row, with_rows, with_sort, with_sorts,

@@ -1,7 +1,6 @@
 //! Trees by the first choice all of whose goals have trees.
-ghost use Rattle.std.specs.Prelude.{◌≡◌, ◌↔◌, IfOk, IsTrue, Some, map};
+ghost use Rattle.std.specs.Prelude.{◌≡◌, IfOk, Some, map};
 ghost use Rattle.cap_prog.specs.Views.{program_view};
-ghost use Rattle.cap_goal_spec.specs.Fits.{HasRoom};
 ghost use Rattle.cap_goal.specs.Trees.{node_view};
 ghost use Rattle.cap_goal.specs.Views.{choice_view, goal_view};
 ghost use Rattle.cap_offer_spec.specs.Offering.{offered as offered_at};
@@ -12,29 +11,11 @@ ghost use Rattle.cap_search.specs.Searching.{Searched};
 ghost use Rattle.cap_search.specs.Views.{nodes_seen, walk_view};
 
 use crate::walk::{Stop, Walk};
-use cap_goal::{Choice, Goal, Node, State};
+use cap_goal::{Choice, Goal, Node};
 use cap_kernel::subgoals;
 use cap_offer::{Offers, offered};
 use cap_prog::Program;
 use std::alloc::{AllocError, Global};
-
-/// No list of a state is longer.
-const LONGEST_LIST: usize = 100_000_000;
-
-// Whether each list of the state is short enough.
-fn has_room(state: &State) -> bool
-    ensures { IsTrue result ↔ HasRoom state.now }
-{
-    state.sorts().len() <= LONGEST_LIST
-        && state.rows().len() <= LONGEST_LIST
-        && state.store().len() <= LONGEST_LIST
-        && state.cells().len() <= LONGEST_LIST
-        && state.facts().len() <= LONGEST_LIST
-        && state.guards().len() <= LONGEST_LIST
-        && state.before().len() <= LONGEST_LIST
-        && state.opened().len() <= LONGEST_LIST
-        && state.envs().len() <= LONGEST_LIST
-}
 
 // What may be tried at a goal. A state with a list that is too long counts as want of memory.
 #[inline(never)]
@@ -42,7 +23,7 @@ fn offers_at(alloc: Global, program: &Program, goal: &Goal<'_>) -> Result<Offers
     ensures { IfOk result
         (λ o. offers_view o ≡ offered_at (program_view program.now) (goal_view goal.now)) }
 {
-    if !has_room(&goal.state) {
+    if !goal.state.has_room() {
         return Err(AllocError);
     }
     offered(alloc, program, goal)
@@ -60,7 +41,7 @@ fn left_by<'a>(
     ensures { IfOk result (λ v. goals_left (program_view program.now) (goal_view goal.now)
         (choice_view choice.now) ≡ Some (map goal_view v.items)) }
 {
-    if !has_room(&goal.state) {
+    if !goal.state.has_room() {
         return Err(AllocError);
     }
     match subgoals(alloc, program, goal, choice) {

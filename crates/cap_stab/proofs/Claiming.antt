@@ -9,10 +9,9 @@ use Rattle.cap_lin.specs.declared.error.LinError.{LinError}
 use Rattle.cap_lin.specs.Rows.{row_of, row_of_steps}
 use Rattle.cap_lin.specs.declared.row.Row.{Row}
 use Rattle.cap_goal_spec.specs.Candidates.{later_state}
-use Rattle.cap_rules.specs.Making.{with_state}
 use Rattle.cap_prog.specs.Program.{PlainAction, PlainRegionType}
 use Rattle.cap_goal_spec.specs.Terms.{term_over, term_over_steps}
-use Rattle.cap_goal_spec.specs.States.{PlainFact, PlainState}
+use Rattle.cap_goal_spec.specs.States.{PlainFact, PlainState, with_state}
 use Rattle.cap_rules_steps.specs.Errors.{rule_error}
 use Rattle.cap_rules_steps.specs.Places.{term_among}
 use Rattle.cap_rules.specs.Attempts.{Event, makes, Attempt, unit, behind, go_on, prove, prove_that}

@@ -5,10 +5,10 @@ use Rattle.cap_lin.specs.declared.row.Row.{Row}
 use Rattle.cap_lin.specs.declared.row.Sort.{Sort}
 use Rattle.cap_lin.specs.declared.row.Sort.TheVariants.{Int}
 use Rattle.cap_prog.specs.Program.{PlainRegionType}
-use Rattle.cap_goal_spec.specs.States.{PlainFact, PlainState, longest_list}
+use Rattle.cap_goal_spec.specs.States.{PlainFact, PlainState, longest_list, with_state}
 use Rattle.cap_goal_spec.specs.Candidates.{candidates, later_state}
 use Rattle.cap_rules.specs.Attempts.{unit, need, go_on}
-use Rattle.cap_rules.specs.Making.{with_sort, with_state}
+use Rattle.cap_rules.specs.Making.{with_sort}
 use Rattle.cap_rules.specs.Resting.{named_candidates, prove_at, prove_stable, with_settled, settle}
 use Rattle.cap_rules_steps.specs.Walks.{Makes, Claims}
 use Rattle.cap_rules_steps.specs.declared.error.RuleError.{RuleError}

@@ -1,8 +1,7 @@
 //! A fact keeps its state, or is settled by candidates.
-ghost use Rattle.std.specs.Prelude.{◌≡◌, ◌<◌, ◌≤◌, List, length, map, IfOk};
+ghost use Rattle.std.specs.Prelude.{◌≡◌, ◌<◌, ◌≤◌, List, length, map};
 ghost use Rattle.cap_prog.specs.Views.{region_view};
 ghost use Rattle.cap_goal_spec.specs.States.{longest_list};
-ghost use Rattle.cap_rules.specs.Making.{with_state as at_state};
 ghost use Rattle.cap_goal_spec.specs.Candidates.{MadeRow, candidate_of};
 ghost use Rattle.cap_goal_spec.specs.Candidates.{candidates as candidates_of_fact};
 ghost use Rattle.cap_rules.specs.Resting.{keep as kept, settle as settled};
@@ -16,24 +15,11 @@ ghost use Rattle.cap_stab.specs.Views.{candidate_view, candidates_view};
 use crate::candidate::Candidate;
 use crate::finding::{candidates_of, later_state};
 use crate::proving::{prove_at, prove_kept, prove_stable};
-use cap_goal::{Fact, State, copy_terms};
+use cap_goal::{Fact, State};
 use cap_lin::{LinError, Op, Row, Sort, Term};
 use cap_prog::RegionType;
 use cap_rules_steps::{Ledger, RuleError, with_rows, with_sort};
-use std::alloc::{AllocError, Global};
-
-// The fact in another state, no longer loose.
-pub(crate) fn with_state(alloc: Global, fact: &Fact, state: &Term) -> Result<Fact, AllocError>
-    ensures { IfOk result (λ f. f ≡ at_state fact.now state.now) }
-{
-    Ok(Fact {
-        region: fact.region.copy(alloc)?,
-        kind: fact.kind,
-        args: copy_terms(alloc, &fact.args)?,
-        state: state.copy(alloc)?,
-        loose: false,
-    })
-}
+use std::alloc::Global;
 
 /// Keeps the state of a fact, by its number: it is claimed to be the same after each action.
 pub fn keep(
@@ -54,7 +40,7 @@ pub fn keep(
     let mut known = Vec::new(alloc);
     known.push(same.copy(alloc)?)?;
     prove_kept(alloc, ledger, region, state, fact, &later, &same, &known)?;
-    state.put_facts(number, with_state(alloc, fact, &fact.state)?)?;
+    state.put_facts(number, fact.with_state(alloc, &fact.state)?)?;
     Ok(())
 }
 
@@ -124,7 +110,7 @@ fn with_settled(
         (settled_state state.old number fact.now named.now) }
 {
     let later = with_sort(alloc, state, Sort::Int)?;
-    state.put_facts(number, with_state(alloc, fact, &later)?)?;
+    state.put_facts(number, fact.with_state(alloc, &later)?)?;
     with_rows(alloc, state, named)
 }
 

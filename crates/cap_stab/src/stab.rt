@@ -17,7 +17,7 @@ use crate::settling::{keep, settle};
 use cap_goal::{Choice, Fact, Goal, State, Task};
 use cap_lin::Row;
 use cap_prog::{Program, RegionType};
-use cap_rules_steps::{Ledger, RuleError, certs_of, copy_tasks, judged, leaves, region_at, told};
+use cap_rules_steps::{Ledger, RuleError, copy_tasks, judged, leaves, region_at, told};
 use std::alloc::{AllocError, Global};
 
 // The numbers of the candidates of a choice; none where it has none.
@@ -193,7 +193,7 @@ pub fn stab_subgoals<'a>(
         (goal_view goal.now) (choice_view choice.now) (marks_of (choice_view choice.now)))
         (certs_in (choice_view choice.now)) }
 {
-    let certs = certs_of(alloc, choice)?;
+    let certs = choice.certs(alloc)?;
     let mut ledger = Ledger::new(alloc);
     let outcome = settle_first(
         alloc,

@@ -13,7 +13,7 @@ use crate::heads::{Taking, rule_of, take_first};
 use cap_goal::{Choice, Goal, State, Task};
 use cap_lin::Row;
 use cap_prog::Program;
-use cap_rules_steps::{Ledger, RuleError, certs_of, judged, told};
+use cap_rules_steps::{Ledger, RuleError, judged, told};
 use std::alloc::Global;
 
 // What is left of these tasks, where a rule on an assertion is taken.
@@ -55,7 +55,7 @@ pub fn take_subgoals<'a>(
         (goal_view goal.now) (choice_view choice.now) (marks_of (choice_view choice.now)))
         (certs_in (choice_view choice.now)) }
 {
-    let certs = certs_of(alloc, choice)?;
+    let certs = choice.certs(alloc)?;
     let mut ledger = Ledger::new(alloc);
     let outcome = take_tasks(
         alloc,

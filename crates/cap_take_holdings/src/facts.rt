@@ -1,20 +1,17 @@
 //! What is known of regions.
 ghost use Rattle.std.specs.Prelude.{◌≡◌, ◌<◌, IfOk, IfSome, Some, length, position, find};
 ghost use Rattle.std.specs.List.{list_any};
-ghost use Rattle.cap_rules.specs.Making.{fact_of as plain_fact, with_state as at_state};
+ghost use Rattle.cap_rules.specs.Making.{fact_of as plain_fact};
 ghost use Rattle.cap_rules.specs.Making.{is_of_region as of_region, is_of_other_type};
 ghost use Rattle.cap_rules.specs.Making.{with_equalities as equated, with_same, with_false};
 ghost use Rattle.cap_rules.specs.Making.{with_fact as fact_added};
 ghost use Rattle.cap_rules_steps.specs.Walks.{Makes, giving};
 ghost use Rattle.cap_take_holdings.specs.Holdings.{with_last_fact, without_place};
 
-use cap_goal::{Fact, State, copy_terms};
+use cap_goal::{Fact, LONGEST_LIST, State};
 use cap_lin::{Op, Sort, Term};
 use cap_rules_steps::{RuleError, with_comparison};
 use std::alloc::{AllocError, Global};
-
-// The most members of a list of a state.
-const LONGEST: usize = 100_000_000;
 
 /// The fact of a region, its type, its arguments and its state, which is not loose.
 pub fn fact_of(region: Term, kind: u32, args: Vec<Term>, state: Term) -> Fact
@@ -27,19 +24,6 @@ pub fn fact_of(region: Term, kind: u32, args: Vec<Term>, state: Term) -> Fact
         state,
         loose: false,
     }
-}
-
-/// The fact in another state, no longer loose.
-pub fn with_state(alloc: Global, fact: &Fact, state: &Term) -> Result<Fact, AllocError>
-    ensures { IfOk result (λ f. f ≡ at_state fact.now state.now) }
-{
-    Ok(Fact {
-        region: fact.region.copy(alloc)?,
-        kind: fact.kind,
-        args: copy_terms(alloc, &fact.args)?,
-        state: state.copy(alloc)?,
-        loose: false,
-    })
 }
 
 // Whether another fact is of the same region, by its term, and type.
@@ -148,7 +132,7 @@ fn remove_fact(state: &mut State, place: Option<usize>) -> Result<(), AllocError
 fn push_fact(state: &mut State, fact: Fact) -> Result<(), RuleError>
     ensures { Makes (giving result state.new) (with_last_fact state.old fact) }
 {
-    if state.facts().len() >= LONGEST {
+    if state.facts().len() >= LONGEST_LIST {
         return Err(RuleError::NotApplicable);
     }
     state.add_facts(fact)?;

@@ -9,7 +9,7 @@ mod numbered;
 mod pieces;
 
 pub use cases::{binds_all, case_env, region_env};
-pub use facts::{fact_of, with_fact, with_state};
+pub use facts::{fact_of, with_fact};
 pub use matching::{
     Reading, bind_open, lone_name, match_slot, match_slots, match_term, read_slot, read_term,
 };

@@ -6,14 +6,11 @@ ghost use Rattle.cap_rules.specs.Making.{with_piece as piece_added, with_pieces 
 ghost use Rattle.cap_rules_steps.specs.Walks.{Makes, giving};
 ghost use Rattle.cap_take_holdings.specs.Holdings.{with_merged, with_last_piece};
 
-use cap_goal::State;
+use cap_goal::{LONGEST_LIST, State};
 use cap_gsolve::{Piece, merge};
 use cap_prog::Program;
 use cap_rules_steps::{RuleError, region_at, with_rows};
 use std::alloc::{AllocError, Global};
-
-// The most members of a list of a state.
-const LONGEST: usize = 100_000_000;
 
 // The place of the piece of a part.
 fn place_of(pieces: &[Piece], piece: &Piece) -> Option<usize>
@@ -41,7 +38,7 @@ fn put_piece(state: &mut State, place: usize, piece: Piece) -> Result<(), AllocE
 fn push_piece(state: &mut State, piece: Piece) -> Result<(), RuleError>
     ensures { Makes (giving result state.new) (with_last_piece state.old piece) }
 {
-    if state.guards().len() >= LONGEST {
+    if state.guards().len() >= LONGEST_LIST {
         return Err(RuleError::NotApplicable);
     }
     state.add_guards(piece)?;

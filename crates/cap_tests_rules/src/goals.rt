@@ -1,11 +1,7 @@
 //! Goals of programs, and what choices make of them.
-ghost use Rattle.std.specs.Prelude.{◌↔◌};
-ghost use Rattle.std.specs.Bool.{IsTrue};
-ghost use Rattle.cap_goal_spec.specs.Fits.{HasRoom};
-
 use crate::spelling;
 use cap_deriv::read;
-use cap_goal::{Choice, Goal, State, Unit};
+use cap_goal::{Choice, Goal, Unit};
 use cap_goal_roots::roots;
 use cap_kernel::{proofs, subgoals};
 use cap_prog::Program;
@@ -20,9 +16,6 @@ pub const BODY: usize = 2;
 
 pub const FIRST_LOOP: usize = 4;
 
-// No list of a state is longer.
-const LONGEST_LIST: usize = 100_000_000;
-
 // A goal: the text of its program, a function by its number, one of its roots, and the choices from
 // there on, as the lines of a derivation say them.
 #[derive(Clone, Copy)]
@@ -31,21 +24,6 @@ pub struct At {
     pub function: u32,
     pub root: usize,
     pub steps: &'static str,
-}
-
-// Whether each list of the state is short enough.
-fn has_room(state: &State) -> bool
-    ensures { IsTrue result ↔ HasRoom state.now }
-{
-    state.sorts().len() <= LONGEST_LIST
-        && state.rows().len() <= LONGEST_LIST
-        && state.store().len() <= LONGEST_LIST
-        && state.cells().len() <= LONGEST_LIST
-        && state.facts().len() <= LONGEST_LIST
-        && state.guards().len() <= LONGEST_LIST
-        && state.before().len() <= LONGEST_LIST
-        && state.opened().len() <= LONGEST_LIST
-        && state.envs().len() <= LONGEST_LIST
 }
 
 fn root<'a>(alloc: Global, program: &'a Program, at: At) -> Result<Goal<'a>, Fail> {
@@ -84,7 +62,7 @@ fn leave<'a>(
     goal: &Goal<'a>,
     choice: &Choice,
 ) -> Result<(), Fail> {
-    if !has_room(&goal.state) {
+    if !goal.state.has_room() {
         Err("too long a list")?;
     }
     let mut left = subgoals(alloc, program, goal, choice)?;
@@ -141,7 +119,7 @@ fn spelled_left(
     goal: &Goal<'_>,
     choice: &Choice,
 ) -> Result<String, Fail> {
-    if !has_room(&goal.state) {
+    if !goal.state.has_room() {
         Err("too long a list")?;
     }
     match subgoals(alloc, program, goal, choice) {
@@ -173,7 +151,7 @@ fn spelled_owed(
     goal: &Goal<'_>,
     choice: &Choice,
 ) -> Result<String, Fail> {
-    if !has_room(&goal.state) {
+    if !goal.state.has_room() {
         Err("too long a list")?;
     }
     match proofs(alloc, program, goal, choice) {

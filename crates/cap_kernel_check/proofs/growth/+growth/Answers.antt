@@ -45,11 +45,11 @@ grow-returns t c =
     let g = goal_view c.args.goal.now in
     let h = choice_view c.in-Some.choice.now in
     let gs = goals_view c.in-Some-2.goals in
-    let made : Node-F Node = record { choice = c.in_ok-copy_choice.field-0; children = c.in_ok-children.children } in
+    let made : Node-F Node = record { choice = c.in_ok-copy.field-0; children = c.in_ok-children.children } in
     let low : c.args.above < deepest = omega (arith, c.requires.shallow, c.if-above-eq-DEEPEST.false) in
     let left : Leaves p g h (Some gs) = subst (λ o. Leaves p g h (option_map goals_view o)) c.in-Some-2.is c.in_ok-goals.ensures.left in
     node-grows p c.args.above g h gs (node_view (roll-Node made)) (nodes_view c.in_ok-children.children.items) (preorder_view c.args.choices.now) (preorder_view c.next.new.self) (preorder_view c.grow_all.new.choices)
-    (node-made made ∙ ap (λ x. node x (nodes_view c.in_ok-children.children.items)) c.in_ok-copy_choice.ensures) low left c.in-Some.ensures
+    (node-made made ∙ ap (λ x. node x (nodes_view c.in_ok-children.children.items)) c.in_ok-copy.ensures) low left c.in-Some.ensures
     (rw c.deref.ensures.value at c.in_ok-children.ensures)
 
 pub grow_all-grow-requires : goal.grow_all-grow-requires

@@ -3,9 +3,9 @@ use Rattle.cap_rules_steps.specs.Walks.{walk}
 use Rattle.cap_rules_steps.proofs.Walking.{making}
 use Rattle.cap_rules_steps.proofs.changes.with_cell.Goals as goal
 
-pub returns-then-cells-ge-LONGEST : goal.returns-then-cells-ge-LONGEST
+pub returns-then-cells-ge-LONGEST_LIST : goal.returns-then-cells-ge-LONGEST_LIST
 unfolding walk
-returns-then-cells-ge-LONGEST c = search (rules, making)
+returns-then-cells-ge-LONGEST_LIST c = search (rules, making)
 
 pub returns : goal.returns
 unfolding walk

@@ -1,7 +1,7 @@
 use Rattle.std.proofs.Common.{◌≡◌, ◌∙◌, length, sym}
 use Rattle.std.proofs.lemmas.List.{length-map}
 use Rattle.cap_rules_steps.specs.Goals.{goals_view}
-use Rattle.cap_rules_steps.specs.Judging.{certs_in}
+use Rattle.cap_goal.specs.Views.{certs_in}
 use Rattle.cap_rules_steps.proofs.Judges.{answers-ok, answers-over, answers-refused, answers-error}
 use Rattle.cap_rules_steps.proofs.judging.judged.Goals as goal
 use Rattle.cap_rules_steps.proofs.judging.judged.Goals.{else-refuted-via-then-refuted+else-used, else-refuted-via-else-refuted}

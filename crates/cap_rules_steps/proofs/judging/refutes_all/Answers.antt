@@ -1,6 +1,6 @@
 use Rattle.std.proofs.Common.{rules, arith, ◌<◌, ◌≤◌, length, get_or, drop-cons, []}
 use Rattle.std.proofs.lemmas.List.{length-map}
-use Rattle.cap_rules_steps.specs.Judging.{certs_in}
+use Rattle.cap_goal.specs.Views.{certs_in}
 use Rattle.cap_rules_steps.proofs.Judges.{left-next, left-refused, left-lacking}
 use Rattle.cap_rules_steps.proofs.judging.refutes_all.Goals as goal
 

@@ -1,4 +1,4 @@
-use Rattle.cap_rules_steps.specs.Judging.{certs_in}
+use Rattle.cap_goal.specs.Views.{certs_in}
 use Rattle.cap_rules_steps.proofs.Judges.{LeftAt}
 use Rattle.cap_rules_steps.proofs.judging.refutes_all.Given as goal
 

@@ -5,12 +5,12 @@ use Rattle.std.specs.Borrow.{Bor}
 use Rattle.cap_prog.specs.Views.{program_view}
 use Rattle.cap_goal_spec.specs.States.{PlainGoal}
 use Rattle.cap_goal.specs.declared.task.Task.{Task}
-use Rattle.cap_goal.specs.Views.{tasks_view, goal_view, choice_view}
+use Rattle.cap_goal.specs.Views.{tasks_view, goal_view, choice_view, certs_in}
 use Rattle.cap_rules.specs.Answers.{marks_of}
 use Rattle.cap_rules.specs.Attempts.{Attempt}
 use Rattle.cap_rules.specs.Rules.{rule}
 use Rattle.cap_rules_steps.specs.Goals.{goals_view}
-use Rattle.cap_rules_steps.specs.Judging.{Answered, certs_in}
+use Rattle.cap_rules_steps.specs.Judging.{Answered}
 use Rattle.cap_rules_steps.specs.Walks.{Claims, seen}
 use Rattle.cap_take.specs.declared.heads.Taking.{Taking}
 use Rattle.cap_take.specs.Heads.{taken_by}

@@ -3,9 +3,9 @@ use Rattle.cap_rules_steps.specs.Walks.{walk}
 use Rattle.cap_rules_steps.proofs.Walking.{making}
 use Rattle.cap_take_holdings.proofs.facts.push_fact.Goals as goal
 
-pub returns-then-facts-ge-LONGEST : goal.returns-then-facts-ge-LONGEST
+pub returns-then-facts-ge-LONGEST_LIST : goal.returns-then-facts-ge-LONGEST_LIST
 unfolding walk
-returns-then-facts-ge-LONGEST c = search (rules, making)
+returns-then-facts-ge-LONGEST_LIST c = search (rules, making)
 
 pub returns : goal.returns
 unfolding walk

@@ -3,9 +3,9 @@ use Rattle.cap_rules_steps.specs.Walks.{walk}
 use Rattle.cap_rules_steps.proofs.Walking.{making}
 use Rattle.cap_take_holdings.proofs.pieces.push_piece.Goals as goal
 
-pub returns-then-guards-ge-LONGEST : goal.returns-then-guards-ge-LONGEST
+pub returns-then-guards-ge-LONGEST_LIST : goal.returns-then-guards-ge-LONGEST_LIST
 unfolding walk
-returns-then-guards-ge-LONGEST c = search (rules, making)
+returns-then-guards-ge-LONGEST_LIST c = search (rules, making)
 
 pub returns : goal.returns
 unfolding walk

@@ -1,5 +1,5 @@
 use Rattle.std.proofs.Common.{◌≡◌, take}
-use Rattle.cap_kernel_check.proofs.copy.copy_marks.Given as goal
+use Rattle.cap_goal.proofs.copy.copy_marks.Given as goal
 
 abbrev pub invariant-loop-mark : goal.invariant-loop-mark
 invariant-loop-mark l = l.copies.items ≡ take l.mark-index l.marks

@@ -1,0 +1,129 @@
+//! The certificates of a choice.
+ghost use Rattle.std.specs.Prelude.{◌≡◌, ◌++◌, [], ◌∷◌, IfOk, OnOk};
+ghost use Rattle.cap_goal_spec.specs.Choices.{certs_of, given_marks, with_certs};
+ghost use Rattle.cap_goal.specs.Views.{certs_in, choice_view};
+
+use crate::choice::Choice;
+use cap_farkas::Cert;
+use std::alloc::{AllocError, Global};
+
+// Adds certificates.
+fn push_certs<'a>(all: &mut Vec<&'a Cert>, certs: &'a [Cert]) -> Result<(), AllocError>
+    ensures { OnOk result (certs_in all.new.items ≡ certs_in all.old.items ++ certs.now) }
+{
+    for cert in certs {
+        all.push(cert)?;
+    }
+    Ok(())
+}
+
+// Adds the marks that are certificates.
+fn push_marks<'a>(all: &mut Vec<&'a Cert>, marks: &'a [Option<Cert>]) -> Result<(), AllocError>
+    ensures { OnOk result (certs_in all.new.items ≡ certs_in all.old.items ++ given_marks marks.now) }
+{
+    for mark in marks {
+        if let Some(cert) = mark {
+            all.push(cert)?;
+        }
+    }
+    Ok(())
+}
+
+fn given<'a>(alloc: Global, certs: &'a [Cert]) -> Result<Vec<&'a Cert>, AllocError>
+    ensures { IfOk result (λ all. certs_in all.items ≡ certs.now) }
+{
+    let mut all = Vec::new(alloc);
+    push_certs(&mut all, certs)?;
+    Ok(all)
+}
+
+fn one<'a>(alloc: Global, cert: &'a Cert) -> Result<Vec<&'a Cert>, AllocError>
+    ensures { IfOk result (λ all. certs_in all.items ≡ cert.now ∷ []) }
+{
+    let mut all = Vec::new(alloc);
+    all.push(cert)?;
+    Ok(all)
+}
+
+fn marked<'a>(
+    alloc: Global,
+    certs: &'a [Cert],
+    marks: &'a [Option<Cert>],
+) -> Result<Vec<&'a Cert>, AllocError>
+    ensures { IfOk result (λ all. certs_in all.items ≡ certs.now ++ given_marks marks.now) }
+{
+    let mut all = given(alloc, certs)?;
+    push_marks(&mut all, marks)?;
+    Ok(all)
+}
+
+impl Choice {
+    /// The choice's certificates, and after them its marks that are certificates.
+    pub fn certs(&self, alloc: Global) -> Result<Vec<&Cert>, AllocError>
+        ensures { IfOk result (λ all. certs_in all.items ≡ certs_of (choice_view self.now)) }
+    {
+        match self {
+            Choice::Absurd(cert) => one(alloc, cert),
+            Choice::Act(_, certs, marks) => marked(alloc, certs, marks),
+            Choice::Clash(_, _, certs) => given(alloc, certs),
+            Choice::Assert(certs) => given(alloc, certs),
+            Choice::Enter(_, certs) => given(alloc, certs),
+            Choice::Shift(certs) => given(alloc, certs),
+            Choice::Settle(_, certs) => given(alloc, certs),
+            Choice::Keep(certs) => given(alloc, certs),
+            Choice::Fact(certs) => given(alloc, certs),
+            Choice::Cell(_, certs) => given(alloc, certs),
+            Choice::Region(_, certs) => given(alloc, certs),
+            Choice::Guard(_, _, certs) => given(alloc, certs),
+            Choice::Convert(_, _, certs) => given(alloc, certs),
+            Choice::Made(certs) => given(alloc, certs),
+            Choice::Set
+            | Choice::Alloc
+            | Choice::If
+            | Choice::Loop
+            | Choice::Turn
+            | Choice::Call
+            | Choice::Fork
+            | Choice::Return
+            | Choice::Pick(_, _, _)
+            | Choice::Give
+            | Choice::Cases
+            | Choice::Create(_) => Ok(Vec::new(alloc)),
+        }
+    }
+
+    /// The choice with these certificates in place of its own. An absurdity and an act stay as they
+    /// are, and so does a choice that has none.
+    pub fn with_certs(self, certs: Vec<Cert>) -> Choice
+        ensures { choice_view result ≡ with_certs (choice_view self) certs.items }
+    {
+        match self {
+            Choice::Clash(i, j, _) => Choice::Clash(i, j, certs),
+            Choice::Assert(_) => Choice::Assert(certs),
+            Choice::Enter(i, _) => Choice::Enter(i, certs),
+            Choice::Shift(_) => Choice::Shift(certs),
+            Choice::Settle(list, _) => Choice::Settle(list, certs),
+            Choice::Keep(_) => Choice::Keep(certs),
+            Choice::Fact(_) => Choice::Fact(certs),
+            Choice::Cell(j, _) => Choice::Cell(j, certs),
+            Choice::Region(j, _) => Choice::Region(j, certs),
+            Choice::Guard(j, way, _) => Choice::Guard(j, way, certs),
+            Choice::Convert(n, side, _) => Choice::Convert(n, side, certs),
+            Choice::Made(_) => Choice::Made(certs),
+            Choice::Absurd(_)
+            | Choice::Set
+            | Choice::Alloc
+            | Choice::If
+            | Choice::Loop
+            | Choice::Turn
+            | Choice::Call
+            | Choice::Fork
+            | Choice::Return
+            | Choice::Act(_, _, _)
+            | Choice::Pick(_, _, _)
+            | Choice::Give
+            | Choice::Cases
+            | Choice::Create(_) => self,
+        }
+    }
+}
