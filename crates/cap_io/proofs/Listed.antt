@@ -16,6 +16,10 @@ listed_hit l n h = grind (arith, suc_hit l n)
 pub listed_miss : (l : List ℕ) (n : ℕ) → is_listed l (n + 1) ≡ false → listed_among l (n + 1) ≡ listed_among l n
 listed_miss l n h = grind (arith, suc_miss l n)
 
+pub listed_zero : (l : List ℕ) → listed_among l 0 ≡ 0
+unfolding listed_among
+listed_zero l = refl
+
 -- an empty list lists no call
 pub listed_none : (n : ℕ) → listed_among [] n ≡ 0
 unfolding listed_among

@@ -1,5 +1,5 @@
 -- What the next fetch of a shelf in memory answers, and how it leaves the shelf, is what every shelf ensures.
-use Rattle.std.proofs.Common.{arith, ◌≡◌, ◌≢◌, ℕ, ◌+◌, ◌≤◌, true, false, Bool, List, [], Option, Some, None, Result, Ok, Err, Vec, ◌⊎◌, inl, inr, refl, sym, ◌∙◌}
+use Rattle.std.proofs.Common.{arith, ◌≡◌, ◌≢◌, ℕ, ◌+◌, ◌≤◌, true, false, Bool, List, [], Option, Some, None, Result, Ok, Err, Vec, ◌⊎◌, inl, inr, refl, sym, subst, ◌∙◌}
 use Rattle.std.specs.Global.{Global}
 use Rattle.cap_io.specs.declared.shelf.FetchError.{FetchError}
 use Rattle.cap_io.specs.declared.shelf.FetchError.TheVariants.{Failed, Absent, TooLong, OutOfMemory}
@@ -125,9 +125,20 @@ pub later_next : (s : ShelfState) (name : List ℕ) (t : ShelfState) (r : Result
     → failed_fetches s ≤ failed_fetches t
 later_next s name t r next = elim (moves s name t r next) [ inl h ↦ rw h (omega arith) | inr h ↦ rw h (never_falls s name) ]
 
+list_failing : (s : ShelfState) (name : List ℕ) (t : ShelfState) (r : Result (Vec ℕ Global) FetchError) → IsNext s name t r → t.failing ≡ s.failing
+list_failing s name t r next = elim (moves s name t r next) [ inl h ↦ rw h refl | inr h ↦ rw h refl ]
+
 -- where no fetch is listed, none fails
 unlisted_passes : (s : ShelfState) → s.failing ≡ [] → fails_next s ≡ false
 unlisted_passes s empty = grind (arith, empty)
+
+unlisted_answer : (s : ShelfState) (name : List ℕ) (t : ShelfState) (r : Result (Vec ℕ Global) FetchError) → IsNext s name t r
+    → s.failing ≡ [] → r ≢ Err Failed
+unlisted_answer s name t r next empty = λ failed.
+    let P : Result (Vec ℕ Global) FetchError → Type 0 = λ q. IsNext s name t q in
+    let fails : fails_next s ≡ true = answer_fails s name ((subst P failed next).answer answered_failed) in
+    let passes : fails_next s ≡ false = unlisted_passes s empty in
+    cc
 
 pub unlisted_next : (s : ShelfState) (name : List ℕ) (t : ShelfState) (r : Result (Vec ℕ Global) FetchError) → IsNext s name t r
     → s.failing ≡ [] → (t.failing ≡ []) × (failed_fetches t ≡ failed_fetches s) × (r ≢ Err Failed)

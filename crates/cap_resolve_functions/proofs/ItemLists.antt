@@ -32,6 +32,12 @@ atoms_list : (k : NumberedRegion) (scope : NameScope) (r : Word) (gs : List Guar
 atoms_list k scope r [] = refl
 atoms_list k scope r (g ∷ gs) = ap (item (atom_built k scope r g)) (atoms_list k scope r gs)
 
+pub atoms_behind : (k : NumberedRegion) (scope : NameScope) (r : Word) (gs : List GuardTree) (old new : List Item) → map item_view new ≡ map item_view old ++ map (atom_built k scope r) gs → items_seen new ≡ append_items (items_seen old) (atoms_program (Some k) scope r gs)
+atoms_behind k scope r gs old new e =
+    ap items_of e
+    ∙ (items_behind (map item_view old) (map (atom_built k scope r) gs)
+    ∙ ap (append_items (items_seen old)) (atoms_list k scope r gs))
+
 -- ---- a loop over items
 
 pub more_stays : (a b x rest whole : Items) → b ≡ append_items a x → append_items a (append_items x rest) ≡ whole → append_items b rest ≡ whole
