@@ -7,7 +7,7 @@ use Rattle.std.specs.FinMap.{get, get-empty}
 use Rattle.cap_prog.specs.Program.{PlainProgram}
 use Rattle.cap_machine.specs.Machine.{Heap, Frame, Thread, Configuration}
 use Rattle.cap_machine.specs.declared.event.Event.{Event}
-use Rattle.cap_machine_accounts.specs.Parts.{Guard, join_with, Part, guard_at, guards_at}
+use Rattle.cap_machine_accounts.specs.Parts.{Guard, join_with, Part, no_part, guard_at, guards_at}
 use Rattle.cap_machine_accounts.specs.Assertions.{NameValue}
 use Rattle.cap_machine_accounts.specs.Accounts.{Held, Account, ThreadHolds, ThreadsHold, EachTwo, CellsApart, CellsWithin, GuardsFit, IsValidAccount}
 use Rattle.cap_machine_accounts.specs.Following.{Stepping, FramesFollow, accesses, SomeHasCell, IsBound, Exchanges, Follows}
@@ -68,14 +68,14 @@ part-apart heap q (r ∷ rs) le = (
   part-apart heap q rs (λ a z. let x = le a z in omega (arith, x)),
 )
 
-all-apart :
+pub all-apart :
     (heap : Heap) (qs : List Part) → ((a z : ℤ) → part_cells qs a z ≤ cells_of heap a z) →
     EachTwo CellsApart qs
 all-apart heap [] le = tt
 all-apart heap (q ∷ qs) le =
     (part-apart heap q qs le, all-apart heap qs (λ a z. let x = le a z in omega (arith, x)))
 
-all-within :
+pub all-within :
     (heap : Heap) (qs : List Part) → ((a z : ℤ) → part_cells qs a z ≤ cells_of heap a z) →
     AllByRecursion (CellsWithin heap) qs
 all-within heap [] le = tt
@@ -236,14 +236,18 @@ no-bound p before n g (inr b) = none-some b.1
 abbrev pub stepping : ℕ → Held → List Held → List (List Held) → Stepping
 stepping i h hs owned = record { thread = i; top = h; below = hs; threads = owned }
 
+pub no-cells : (heap : Heap) → CellsWithin heap no_part
+no-cells heap a z e = absurd (none-some (sym (get-empty int_cmp a) ∙ e))
+
 pub follows :
     (p : PlainProgram) (heap : Heap) (i : ℕ) (event : Event) (owned after : List (List Held))
     (h : Held) (hs : List Held) (handed : Part) (left : List Part) →
     slice_get owned i ≡ Some (h ∷ hs) →
     FramesFollow event (stepping i h hs owned) after handed left → Bare handed →
     ((x : ℤ) → accesses event ≡ Some x → SomeHasCell (h.part ∷ []) x) → Kept heap h.part left →
+    CellsWithin heap handed → EachTwo CellsApart left → AllByRecursion Bare left →
     Follows p heap i event (account owned) (account after) handed
-follows p heap i event owned after h hs handed left eh frames hb access kept = record {
+follows p heap i event owned after h hs handed left eh frames hb access kept within apart bares = record {
   top = h;
   below = hs;
   is_stepping = eh;
@@ -257,6 +261,10 @@ follows p heap i event owned after h hs handed left eh frames hb access kept = r
   left = left;
   frames = frames;
   handed_fits = bare-fit p handed hb;
+  handed_within = within;
+  left_apart = subst (EachTwo CellsApart) (sym (nil-behind left)) apart;
+  left_compose = λ n.
+      (None, ap (λ qs. guards_at qs n) (nil-behind left) ∙ guards-none left bares n);
   access = access;
   exchanges = subst (Exchanges p heap [] [] (h.part ∷ [])) (sym (nil-behind left)) (record {
     cells = kept;

@@ -12,7 +12,7 @@ use Rattle.cap_machine.specs.declared.event.Event.TheVariants.{Set, Read, Write,
 use Rattle.cap_machine.specs.Machine.{Heap, Frame, Configuration, Outcome, next, fault, disabled, Spot, value_in, compared, holds, with_rest, with_value, passes, sets, at_cell, swaps, with_cells, are_free, may_be_at, new_frame, calls, forks, receives, returns, does, statement_step}
 use Rattle.cap_machine_accounts.specs.Parts.{Part, no_part}
 use Rattle.cap_machine_accounts.specs.Assertions.{NameValue, Met}
-use Rattle.cap_machine_accounts.specs.Accounts.{Held}
+use Rattle.cap_machine_accounts.specs.Accounts.{Held, CellsWithin}
 use Rattle.cap_machine_accounts.specs.Following.{FramesFollow, accesses, SomeHasCell, Joins}
 use Rattle.cap_machine_accounts.specs.Safety.{top_of, TopFrame, KeepsContracts}
 use Rattle.cap_account.specs.Parts.{count_of, cells_of, Hold, hold, nothing, joined, Within, Table, no_regions}
@@ -33,7 +33,7 @@ use Rattle.cap_account.proofs.Entering.{AllChecked, body-stands, loop-stands}
 use Rattle.cap_account.proofs.Bridge.{hold_of, requires-out, ensures-out, part_of, part-is}
 use Rattle.cap_account.proofs.Global.{Waiting, Stack, stack_hold, Turn, others, budget, moved, spawn}
 use Rattle.cap_account.proofs.Running.{Advances, spot_of}
-use Rattle.cap_account.proofs.Accounting.{account, bare-guard, guards-none, some-counted, first-has, Kept, kept-less, stepping, follows}
+use Rattle.cap_account.proofs.Accounting.{all-apart, all-within, no-cells, account, bare-guard, guards-none, some-counted, first-has, Kept, kept-less, stepping, follows}
 
 -- ---- greater parts
 
@@ -207,7 +207,7 @@ module _ (p : Checked) (all : AllChecked p) (x : Turn p) where
     after cells,
     no_part,
     follows p.program c.heap i event x.owned (after cells) x.h x.hs no_part (bare_part cells ∷ [])
-        x.is_owned frames refl access kept,
+        x.is_owned frames refl access kept (no-cells c.heap) (tt, tt) (refl, tt),
     keeps,
     moved p x heap nothing (g ∷ x.fs) (bare_held cells fx ∷ x.hs) (st, refl, waiting)
         (λ a z. let q = le a z in omega (arith, q)),
@@ -569,7 +569,16 @@ module _ (p : Checked) (all : AllChecked p) (x : Turn p) where
             let u = qg a z in
             let v = qk a z in
             let w = r.budget a z in
-            omega (arith, u, v, w))),
+            omega (arith, u, v, w)))
+            (no-cells c.heap)
+            (all-apart c.heap left
+            (λ a z.
+            let u = qg a z in
+            let v = qk a z in
+            let w = r.budget a z in
+            let t = inside a z in
+            omega (arith, u, v, w, t)))
+            (refl, (refl, tt)),
         (
           top,
           requires-out p.program all.bare no_regions g r.given callee.part argz r.callee_fx
@@ -657,7 +666,16 @@ module _ (p : Checked) (all : AllChecked p) (x : Turn p) where
             let u = qg a z in
             let v = qk a z in
             let w = r.budget a z in
-            omega (arith, u, v, w))),
+            omega (arith, u, v, w)))
+            (no-cells c.heap)
+            (all-apart c.heap left
+            (λ a z.
+            let u = qg a z in
+            let v = qk a z in
+            let w = r.budget a z in
+            let t = inside a z in
+            omega (arith, u, v, w, t)))
+            (refl, (refl, tt)),
         (
           top,
           requires-out p.program all.bare no_regions g r.given callee.part argz r.callee_fx
@@ -711,6 +729,14 @@ module _ (p : Checked) (all : AllChecked p) (x : Turn p) where
       handed-kept = kept-less c.heap x.h.part (handed ∷ [])
           (λ a z. let y = handed_is a z in let u = r.inside a z in omega (arith, u, y))
 
+      handed-within : CellsWithin c.heap handed
+      handed-within = (all-within c.heap (handed ∷ [])
+          (λ a z.
+          let y = handed_is a z in
+          let u = r.inside a z in
+          let t = inside a z in
+          omega (arith, u, y, t))).0
+
       one-of : (m n : ℕ) → 1 ≤ m + n → (1 ≤ m) ⊎ (1 ≤ n)
       one-of zero n l = inr (omega (arith, l))
       one-of (suc m) n l = inl (omega arith)
@@ -731,7 +757,8 @@ module _ (p : Checked) (all : AllChecked p) (x : Turn p) where
         slice_set x.owned i [],
         handed,
         follows p.program c.heap i (End v) x.owned (slice_set x.owned i []) x.h x.hs handed
-            (handed ∷ []) x.is_owned (eq, refl, refl) refl (no-access (End v) refl) handed-kept,
+            (handed ∷ []) x.is_owned (eq, refl, refl) refl (no-access (End v) refl) handed-kept
+            handed-within (tt, tt) (refl, tt),
         (top, met),
         moved p x c.heap nothing [] [] tt (λ a z. let u = budget p x a z in omega (arith, u)),
       )
@@ -778,7 +805,7 @@ module _ (p : Checked) (all : AllChecked p) (x : Turn p) where
             handed,
             follows p.program c.heap i (Return v) x.owned (slice_set x.owned i (both ∷ qs)) x.h x.hs
                 handed (handed ∷ []) x.is_owned (q, both, qs, eq, refl, refl, joins, refl) refl
-                (no-access (Return v) refl) handed-kept,
+                (no-access (Return v) refl) handed-kept handed-within (tt, tt) (refl, tt),
             (top, met),
             moved p x c.heap nothing (back ∷ gs) (both ∷ qs) (
               stands-more p sum (hold_of both.part) no_regions q.fixed back

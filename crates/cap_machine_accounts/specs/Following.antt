@@ -10,7 +10,7 @@ use Rattle.cap_machine.specs.declared.event.Event.{Event}
 use Rattle.cap_machine.specs.declared.event.Event.TheVariants.{Set, Read, Write, Cas, Alloc, Call, Fork, Branch, Assert, Return, End, Bad, Failed}
 use Rattle.cap_machine_accounts.specs.Parts.{Guard, GuardAtMost, full_guard, Part, HasCell, guard_at, guards_at, Region, region_at}
 use Rattle.cap_machine_accounts.specs.Assertions.{Acts}
-use Rattle.cap_machine_accounts.specs.Accounts.{Held, OwnedRegion, Account, table_of, table, GuardsFit}
+use Rattle.cap_machine_accounts.specs.Accounts.{Held, OwnedRegion, Account, table_of, table, EachTwo, CellsApart, CellsWithin, GuardsFit}
 
 -- ---- regions
 
@@ -148,9 +148,17 @@ pub record Exchanges (p : PlainProgram) (heap : Heap) (old made : List Region)
       (n : ℤ) (g h : Option Guard) → guards_at after n ≡ Some g → IsBound p old made before n h →
       GuardAtMost p g h
 
+-- the parts into which a step puts what the stepping frame and the opened regions had: those that
+-- the frame leaves, of which one may be handed over, and those of the opened and of the new regions
+abbrev pub parts_after : List Part → List ℤ → List OwnedRegion → List OwnedRegion → List Part
+parts_after left opened kept made = left ++ (opened_parts opened kept ++ map (λ r. r.part) made)
+
 -- account `b` follows account `a` by a step of a thread with this event, from this heap. Cells and
 -- guards may pass between the stepping frame and the opened regions, of which there are at most
--- two, and none but at an access; what new regions own comes from these. New regions come last
+-- two, and none but at an access; what new regions own comes from these. New regions come last.
+-- After a thread's last return no account has the part that is handed over, so it is said here that
+-- its cells are in the heap, which a return leaves as it is, with their values, and that the parts
+-- after the step don't overlap
 pub record Follows (p : PlainProgram) (heap : Heap) (thread : ℕ) (event : Event) (a b : Account)
     (handed : Part) : Type 0 where
   pub top : Held
@@ -168,8 +176,11 @@ pub record Follows (p : PlainProgram) (heap : Heap) (thread : ℕ) (event : Even
       (record { thread = thread; top = top; below = below; threads = a.threads })
       b.threads handed left
   pub handed_fits : GuardsFit p (table b) handed
+  pub handed_within : CellsWithin heap handed
+  pub left_apart : EachTwo CellsApart (parts_after left opened kept made)
+  pub left_compose :
+      (n : ℤ) → (g : Option Guard) × (guards_at (parts_after left opened kept made) n ≡ Some g)
   pub access :
       (x : ℤ) → accesses event ≡ Some x → SomeHasCell (top.part ∷ opened_parts opened a.regions) x
   pub exchanges : Exchanges p heap (table a) (table_of made)
-      (top.part ∷ opened_parts opened a.regions)
-      (left ++ (opened_parts opened kept ++ map (λ r. r.part) made))
+      (top.part ∷ opened_parts opened a.regions) (parts_after left opened kept made)

@@ -3,5 +3,3 @@ pub mod Assertions
 pub mod Accounts
 pub mod Following
 pub mod Safety
-pub mod Example
-pub mod Expected

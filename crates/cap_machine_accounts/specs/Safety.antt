@@ -30,7 +30,8 @@ Begins p d b thread =
     (t : TopFrame p d b thread) × MeetsRequires p
     (table b) t.held.part t.function t.frame.arguments t.held.fixed
 
--- the part that the returning frame hands over meets its `ensures`, by the table after the step
+-- the part that the returning frame hands over meets its `ensures`, by the table after the step.
+-- `Follows` says that it is cut out of what the frame had, with what the heap holds
 abbrev pub MeetsAtReturn : PlainProgram → Configuration → Account → Account → ℕ → Part → ℤ → Type 0
 MeetsAtReturn p c a b thread handed v =
     (t : TopFrame p c a thread)
@@ -80,7 +81,9 @@ pub record Start (p : PlainProgram) (main : PlainFunction) (args : List ℤ) (he
   pub meets : MeetsRequires p [] (whole_part heap) main args fixed
 
 -- every run from every start has accounts: it makes no memory fault, no assertion fails, regions
--- change only by actions whose guards the stepping frame held, and contracts are met
+-- change only by actions whose guards the stepping frame held, and contracts are met: where a call,
+-- a fork or a return, also the last one of a thread, promises a cell, the heap has it, with its
+-- value, and promised guards are parts of what their region's owners had
 abbrev pub Safe : PlainProgram → Type 0
 Safe p =
     (main : PlainFunction) (args : List ℤ) (heap : Heap) (fixed : List NameValue) (es : List Entry)

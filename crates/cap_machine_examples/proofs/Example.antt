@@ -13,8 +13,8 @@ use Rattle.cap_machine_accounts.specs.Parts.{Guard, join, join_with, or_none, at
 use Rattle.cap_machine_accounts.specs.Assertions.{TakesGuards, Acts, IsInterpreted}
 use Rattle.cap_machine_accounts.specs.Accounts.{Held, OwnedRegion}
 use Rattle.cap_machine_accounts.specs.Following.{is_opened, opened_parts, SomeHasCell, FollowsRegion, FollowRegions}
-use Rattle.cap_machine_accounts.specs.Example.{flag_case, raise, flag_type, flag_program, cell_at_5, configuration_with, flag_part, the_guard, with_the_guard, flag_in, flag_down, flag_up, has, cell_twice, flag_lost, guard_twice}
-use Rattle.cap_machine_accounts.specs.Expected.{IsRefused, FollowsNot, BrokenAccounts, BrokenSteps, flag_down_for_second, flag_up_by_second, two_cells, with_stray_cell, nothing_held, guard_invented, ThirdRegion, NothingHandedOver}
+use Rattle.cap_machine_examples.specs.Example.{flag_case, raise, flag_type, flag_program, cell_at_5, configuration_with, flag_part, the_guard, with_the_guard, flag_in, flag_down, flag_up, has, cell_twice, flag_lost, guard_twice}
+use Rattle.cap_machine_examples.specs.Expected.{IsRefused, FollowsNot, BrokenAccounts, BrokenSteps, flag_down_for_second, flag_up_by_second, two_cells, with_stray_cell, nothing_held, guard_invented, ThirdRegion, NothingHandedOver}
 
 -- ---- maps
 
@@ -27,7 +27,7 @@ get-nothing q = search (rules, gets)
 pub get-alone : {X : Type 0} (k : ℤ) (x : X) (q : ℤ) → get (insert (empty {R = int_cmp}) k x) q ≡ cond (eq_by_cmp int_cmp q k) (Some x) None
 get-alone k x q = get-insert int_cmp_total empty k x q ∙ ap (cond (eq_by_cmp int_cmp q k) (Some x)) (get-nothing q)
 
-false-true : false ≡ true → ⊥
+pub false-true : false ≡ true → ⊥
 false-true e = cc
 
 -- ---- broken accounts
@@ -65,10 +65,10 @@ value-one w = refl
 zero-not-two : pos 0 ≡ pos 2 → ⊥
 zero-not-two e = let h : 0 ≡ 2 = ap nat_abs e in omega (arith, h)
 
-one-not-two : pos 1 ≡ pos 2 → ⊥
+pub one-not-two : pos 1 ≡ pos 2 → ⊥
 one-not-two e = let h : 1 ≡ 2 = ap nat_abs e in omega (arith, h)
 
-zero-not-one : pos 0 ≡ pos 1 → ⊥
+pub zero-not-one : pos 0 ≡ pos 1 → ⊥
 zero-not-one e = let h : 0 ≡ 1 = ap nat_abs e in omega (arith, h)
 
 refuses-lost : IsRefused (configuration_with (pos 2)) flag_lost
@@ -140,7 +140,7 @@ chosen-none true (left x) e = none-some e
 chosen-none true (right y) e = none-some e
 
 -- with a guard there is a guard
-joined-none : (rest : Option Guard) → join (Some the_guard) rest ≡ Some None → ⊥
+pub joined-none : (rest : Option Guard) → join (Some the_guard) rest ≡ Some None → ⊥
 joined-none None e = cc
 joined-none (Some h) e = chosen-none (0 == h.kind) h.element e
 
@@ -216,7 +216,7 @@ kept-part second q kept below e = ap (part_in q) e
     part_in q ((x ∷ xs) ∷ hs) = x.part
 
 -- without opened regions, their parts are none
-none-opened : (rs : List OwnedRegion) → opened_parts [] rs ≡ []
+pub none-opened : (rs : List OwnedRegion) → opened_parts [] rs ≡ []
 none-opened [] = refl
 none-opened (r ∷ rs) = none-opened rs
 

@@ -13,15 +13,15 @@ use Rattle.cap_machine_accounts.specs.Parts.{Guard, join_all, IsGuard, GuardAtMo
 use Rattle.cap_machine_accounts.specs.Assertions.{IsOwned, IsInterpreted, Acts}
 use Rattle.cap_machine_accounts.specs.Accounts.{GuardsFit, IsValidAccount}
 use Rattle.cap_machine_accounts.specs.Following.{SomeHasCell, IsBound, Follows}
-use Rattle.cap_machine_accounts.specs.Example.{flag_case, raise, flag_type, flag_program, main_function, cell_at_5, configuration_with, flag_part, the_guard, with_the_guard, flag_in, account_with, flag_down, flag_up, flag_values}
-use Rattle.cap_machine_accounts.specs.Expected.{AcceptedStep}
-use Rattle.cap_machine_accounts.proofs.Example.{none-some, some-same, get-nothing, get-alone, value-zero, value-one, guard-there}
+use Rattle.cap_machine_examples.specs.Example.{flag_case, raise, flag_type, flag_program, main_function, cell_at_5, configuration_with, flag_part, the_guard, with_the_guard, flag_in, account_with, flag_down, flag_up, flag_values}
+use Rattle.cap_machine_examples.specs.Expected.{AcceptedStep}
+use Rattle.cap_machine_examples.proofs.Example.{none-some, some-same, get-nothing, get-alone, value-zero, value-one, guard-there}
 
-some-none : {A : Type 0} {x : A} → Some x ≡ None → ⊥
+pub some-none : {A : Type 0} {x : A} → Some x ≡ None → ⊥
 some-none e = cc
 
 -- a map of one key has its value there alone
-alone-key : {X : Type 0} (k : ℤ) (x : X) (q : ℤ) (y : X) → get (insert (empty {R = int_cmp}) k x) q ≡ Some y → (q ≡ k) × (x ≡ y)
+pub alone-key : {X : Type 0} (k : ℤ) (x : X) (q : ℤ) (y : X) → get (insert (empty {R = int_cmp}) k x) q ≡ Some y → (q ≡ k) × (x ≡ y)
 alone-key k x q y e =
     let t = tied (int_cmp q k) x y (sym (get-alone k x q) ∙ e) in
     (int_cmp-IsAntisymmetric q k t.0, t.1)
@@ -34,22 +34,22 @@ alone-key k x q y e =
 cell-in : (z : ℤ) → get (cell_at_5 z) (pos 5) ≡ Some z
 cell-in z = get-alone (pos 5) z (pos 5)
 
-no-cell : (a : ℤ) (q : Part) → q.cells ≡ empty → HasCell q a → ⊥
+pub no-cell : (a : ℤ) (q : Part) → q.cells ≡ empty → HasCell q a → ⊥
 no-cell a q e h = none-some (sym (ap (λ m. get m a) e ∙ get-nothing a) ∙ h.1)
 
-no-guards-fit : (table : List Region) (q : Part) → q.guards ≡ empty → GuardsFit flag_program table q
+pub no-guards-fit : (table : List Region) (q : Part) → q.guards ≡ empty → GuardsFit flag_program table q
 no-guards-fit table q e n g x = absurd (none-some (sym (ap (λ m. get m n) e ∙ get-nothing n) ∙ x))
 
-the-guard-fits : (z : ℤ) → GuardsFit flag_program (flag_in z ∷ []) with_the_guard
+pub the-guard-fits : (z : ℤ) → GuardsFit flag_program (flag_in z ∷ []) with_the_guard
 the-guard-fits z n g x =
     let k = alone-key (pos 1) the_guard n g x in
     ((flag_in z, ap (region_at (flag_in z ∷ [])) k.0, ap (λ h. h.kind) k.1), subst (λ h. IsGuard flag_program (Some h)) k.1 (tt, refl))
 
-three-join : (a g b : Option Guard) → a ≡ None → b ≡ None → join_all (a ∷ g ∷ b ∷ []) ≡ Some g
+pub three-join : (a g b : Option Guard) → a ≡ None → b ≡ None → join_all (a ∷ g ∷ b ∷ []) ≡ Some g
 three-join a None b x y = rw (x, y) refl
 three-join a (Some g) b x y = rw (x, y) refl
 
-two-join : (g b : Option Guard) → b ≡ None → join_all (g ∷ b ∷ []) ≡ Some g
+pub two-join : (g b : Option Guard) → b ≡ None → join_all (g ∷ b ∷ []) ≡ Some g
 two-join None b y = rw y refl
 two-join (Some g) b y = rw y refl
 
@@ -57,7 +57,7 @@ at-five : value flag_values.whole (variable 1) ≡ pos 5
 unfolding value parts_value
 at-five = refl
 
-owned : (z : ℤ) → value flag_values.whole (number z) ≡ z → IsOwned flag_values (variable 1) (Is (number z)) (flag_part z)
+pub owned : (z : ℤ) → value flag_values.whole (number z) ≡ z → IsOwned flag_values (variable 1) (Is (number z)) (flag_part z)
 owned z e = record {
   number = z;
   positive = subst (λ x. pos 0 <ℤ x) (sym at-five) (omega arith);
@@ -65,7 +65,7 @@ owned z e = record {
   content_is = e;
 }
 
-down-interpreted : IsInterpreted flag_program (flag_in (pos 0) ∷ []) (flag_in (pos 0)) (flag_part (pos 0))
+pub down-interpreted : IsInterpreted flag_program (flag_in (pos 0) ∷ []) (flag_in (pos 0)) (flag_part (pos 0))
 down-interpreted = record {
   type = flag_type;
   is_type = refl;
@@ -122,7 +122,7 @@ raised = record {
   guarded = (None, record { element = one; is_asked = refl; of_atom = tt; rest_guard = tt; joined = sym (ap Some guard-there) }, refl);
 }
 
-at-most-same : (g : Option Guard) → GuardAtMost flag_program g g
+pub at-most-same : (g : Option Guard) → GuardAtMost flag_program g g
 at-most-same None = (None, tt, refl)
 at-most-same (Some g) = (None, tt, refl)
 
@@ -141,6 +141,9 @@ follows = record {
   left = with_the_guard ∷ [];
   frames = (record { part = with_the_guard; fixed = [] }, refl, refl, refl);
   handed_fits = no-guards-fit (flag_in (pos 1) ∷ []) no_part refl;
+  handed_within = λ a z e. absurd (none-some (sym (get-nothing a) ∙ e));
+  left_apart = (((λ a h k. no-cell a with_the_guard refl h), tt), (tt, tt));
+  left_compose = λ n. (guard_at with_the_guard n, both (pos 1) n);
   access = λ x e. inr (inl (pos 0, ap (get (cell_at_5 (pos 0))) (sym (some-same (pos 5) x e)) ∙ cell-in (pos 0)));
   exchanges = record { cells = cells; guards = guards };
 }

@@ -8,7 +8,7 @@ use Rattle.cap_machine_accounts.specs.Parts.{Part, no_part}
 use Rattle.cap_machine_accounts.specs.Assertions.{Met}
 use Rattle.cap_machine_accounts.specs.Accounts.{Account, IsValidAccount}
 use Rattle.cap_machine_accounts.specs.Following.{Follows}
-use Rattle.cap_machine_accounts.specs.Example.{flag_program, main_function, cell_at_5, configuration_with, flag_part, with_the_guard, account_with, flag_down, flag_up, cell_twice, flag_lost, guard_twice}
+use Rattle.cap_machine_examples.specs.Example.{flag_program, main_function, cell_at_5, configuration_with, flag_part, with_the_guard, account_with, flag_down, flag_up, cell_twice, flag_lost, guard_twice}
 
 abbrev pub IsRefused : Configuration → Account → Type 0
 IsRefused c a = ¬ IsValidAccount flag_program c a
