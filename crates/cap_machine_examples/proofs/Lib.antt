@@ -1,2 +1,9 @@
 mod Example
+mod Values
 mod Accepted
+mod LastReturns
+mod Holding
+mod Promises
+mod Regions
+mod Validity
+mod Steps

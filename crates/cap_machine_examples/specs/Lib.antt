@@ -1,2 +1,9 @@
 pub mod Example
 pub mod Expected
+pub mod LastReturns
+pub mod Validity
+pub mod Latch
+pub mod Holding
+pub mod Promises
+pub mod Regions
+pub mod Steps
