@@ -66,14 +66,22 @@ fn composed(alloc: Global, algebra: &Algebra, parts: &[Part]) -> Result<Option<E
     Ok(Some(all))
 }
 
+fn word_of(element: &Elem) -> &'static str {
+    if element.is_unit() {
+        "unit"
+    } else if element.is_full() {
+        "full"
+    } else {
+        "part"
+    }
+}
+
 // What the parts are together, in one word.
 fn word(alloc: Global, algebra: &Algebra, parts: &[Part]) -> Result<&'static str, Fail> {
-    Ok(match composed(alloc, algebra, parts)? {
-        None => "nothing",
-        Some(all) if all.is_unit() => "unit",
-        Some(all) if all.is_full() => "full",
-        Some(_) => "part",
-    })
+    match composed(alloc, algebra, parts)? {
+        Some(all) => Ok(word_of(&all)),
+        None => Ok("nothing"),
+    }
 }
 
 fn is_at_most(a: &Elem, b: &Elem) -> Result<bool, Fail> {
