@@ -20,15 +20,15 @@ use Rattle.cap_rules.specs.Closing.{address_of, Rival, rivals, rivals_from, with
 use Rattle.cap_rules.specs.Rules.{at_act, at_clash, at_enter}
 use Rattle.cap_machine.specs.Machine.{Heap, Frame}
 use Rattle.cap_machine_accounts.specs.Assertions.{NameValue}
-use Rattle.cap_account.specs.Nodes.{Comes, Children}
-use Rattle.cap_account.specs.Parts.{one_cell, cells_of, Hold}
-use Rattle.cap_account.proofs.Lists.{some-same, none-some, all-at}
-use Rattle.cap_account.proofs.Terms.{Over, row-over}
-use Rattle.cap_account.proofs.Attempts.{comes-bind, comes-more, after-found, after-need, after-here, after-proved}
-use Rattle.cap_account.proofs.Meets.{Usable, CellOver, Meets, need, solves, proved-holds}
-use Rattle.cap_account.proofs.Checked.{Checked}
+use Rattle.cap_account_states.specs.Nodes.{Comes, Children}
+use Rattle.cap_account_resources.specs.Parts.{one_cell, cells_of, Hold}
+use Rattle.cap_account_resources.proofs.Lists.{some-same, none-some, all-at}
+use Rattle.cap_account_states.proofs.Terms.{Over, row-over}
+use Rattle.cap_account_states.proofs.Attempts.{comes-bind, comes-more, after-found, after-need, after-here, after-proved}
+use Rattle.cap_account_states.proofs.Meets.{Usable, CellOver, Meets, need, solves, proved-holds}
+use Rattle.cap_account_states.proofs.Checked.{Checked}
 use Rattle.cap_account.proofs.Standing.{Node, running, here, here-over}
-use Rattle.cap_account.proofs.Heaps.{one-itself, count-at-most, there-in}
+use Rattle.cap_account_resources.proofs.Heaps.{one-itself, count-at-most, there-in}
 
 abbrev Cell : Type 0
 Cell = Linear × Linear

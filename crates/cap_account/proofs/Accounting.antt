@@ -11,10 +11,10 @@ use Rattle.cap_machine_accounts.specs.Parts.{Guard, join_with, Part, no_part, gu
 use Rattle.cap_machine_accounts.specs.Assertions.{NameValue}
 use Rattle.cap_machine_accounts.specs.Accounts.{Held, Account, ThreadHolds, ThreadsHold, EachTwo, CellsApart, CellsWithin, GuardsFit, IsValidAccount}
 use Rattle.cap_machine_accounts.specs.Following.{Stepping, FramesFollow, accesses, SomeHasCell, IsBound, Exchanges, Follows}
-use Rattle.cap_account.specs.Parts.{Cells, cells_of, nothing}
-use Rattle.cap_account.proofs.Lists.{some-same, none-some, all-both}
-use Rattle.cap_account.proofs.Heaps.{counted-is, count-at-most, count-one}
-use Rattle.cap_account.proofs.Checked.{Checked}
+use Rattle.cap_account_resources.specs.Parts.{Cells, cells_of, nothing}
+use Rattle.cap_account_resources.proofs.Lists.{some-same, none-some, all-both}
+use Rattle.cap_account_resources.proofs.Heaps.{counted-is, count-at-most, count-one}
+use Rattle.cap_account_states.proofs.Checked.{Checked}
 use Rattle.cap_account.proofs.Global.{Bare, Waiting, Stack, stack_hold, total, Sound}
 
 abbrev pub account : List (List Held) → Account

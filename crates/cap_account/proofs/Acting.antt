@@ -23,17 +23,17 @@ use Rattle.cap_rules.specs.Closing.{with_content}
 use Rattle.cap_rules.specs.Rules.{leaves, with_new_cells}
 use Rattle.cap_machine.specs.Machine.{Heap, Frame, value_in, with_rest, with_value}
 use Rattle.cap_machine_accounts.specs.Assertions.{NameValue}
-use Rattle.cap_account.specs.Nodes.{Comes, Children}
-use Rattle.cap_account.specs.Parts.{one_cell, cells_of, Hold, hold, joined, Table}
-use Rattle.cap_account.proofs.Lists.{get-last, map-set, all-at, all-both}
-use Rattle.cap_account.proofs.Terms.{Over, over-plus, row-over, Agree}
-use Rattle.cap_account.proofs.Attempts.{sort_added, row_added, after-computed, after-here, after-sort, after-comparison, after-cell, comes-bind}
-use Rattle.cap_account.proofs.Meets as meets
-use Rattle.cap_account.proofs.Meets.{Usable, usable-old, CellOver, Meets, need, need-agree, Old, Same, new-whole, new-share, with-agrees, meets-fresh, meets-row, same-fresh, solves, variable-value}
-use Rattle.cap_account.proofs.Checked.{Checked, children-split, one-child}
+use Rattle.cap_account_states.specs.Nodes.{Comes, Children}
+use Rattle.cap_account_resources.specs.Parts.{one_cell, cells_of, Hold, hold, joined, Table}
+use Rattle.cap_account_resources.proofs.Lists.{get-last, map-set, all-at, all-both}
+use Rattle.cap_account_states.proofs.Terms.{Over, over-plus, row-over, Agree}
+use Rattle.cap_account_states.proofs.Attempts.{sort_added, row_added, after-computed, after-here, after-sort, after-comparison, after-cell, comes-bind}
+use Rattle.cap_account_states.proofs.Meets as meets
+use Rattle.cap_account_states.proofs.Meets.{Usable, usable-old, CellOver, Meets, need, need-agree, Old, Same, new-whole, new-share, with-agrees, meets-fresh, meets-row, same-fresh, solves, variable-value}
+use Rattle.cap_account_states.proofs.Checked.{Checked, children-split, one-child}
 use Rattle.cap_account.proofs.Standing.{Store, Covers, Node, running, Sits, Stands, here, here-value, here-over, rested, store-same}
-use Rattle.cap_account.proofs.Points.{FrameOk}
-use Rattle.cap_account.proofs.Heaps.{there-in, fresh_cells}
+use Rattle.cap_account_steps.proofs.Points.{FrameOk}
+use Rattle.cap_account_resources.proofs.Heaps.{there-in, fresh_cells}
 use Rattle.cap_account.proofs.Accessing.{all-set, cell_here, need-one, need-set, Access, access}
 
 abbrev Cell : Type 0

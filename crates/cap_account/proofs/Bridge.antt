@@ -18,13 +18,13 @@ use Rattle.cap_machine.specs.Machine.{Heap}
 use Rattle.cap_machine_accounts.specs.Parts.{Part, without_cell}
 use Rattle.cap_machine_accounts.specs.Assertions as Meaning
 use Rattle.cap_machine_accounts.specs.Assertions.{NameValue, MeetsRequires, Met}
-use Rattle.cap_account.specs.Parts.{Cells, once, count_of, cells_of, Hold, hold, Within, Table, SpendsOne, Spends}
+use Rattle.cap_account_resources.specs.Parts.{Cells, once, count_of, cells_of, Hold, hold, Within, Table, SpendsOne, Spends}
 use Rattle.cap_account.specs.Meeting.{HasRequires, HasEnsures}
-use Rattle.cap_account.proofs.Lists.{all-first, all-second}
-use Rattle.cap_account.proofs.Order.{same-int}
-use Rattle.cap_account.proofs.Checked.{no-region}
-use Rattle.cap_account.proofs.Items.{AreFit, fits-more, fits-sides}
-use Rattle.cap_account.proofs.Heaps.{count-at-most, there-in, removed}
+use Rattle.cap_account_resources.proofs.Lists.{all-first, all-second}
+use Rattle.cap_account_resources.proofs.Order.{same-int}
+use Rattle.cap_account_states.proofs.Checked.{no-region}
+use Rattle.cap_account_states.proofs.Items.{AreFit, fits-more, fits-sides}
+use Rattle.cap_account_resources.proofs.Heaps.{count-at-most, there-in, removed}
 
 -- what a part has
 abbrev pub hold_of : Part → Hold

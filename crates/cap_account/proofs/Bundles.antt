@@ -8,10 +8,9 @@ use Rattle.cap_goal_spec.specs.States.{PlainGoal, to_run, to_turn}
 use Rattle.cap_goal_spec.specs.Choices.{PlainTree, PlainTrees, no_trees, tree}
 use Rattle.cap_goal_spec.specs.Roots.{region_unit, function_unit, loops_in, loop_roots, function_roots, optional_roots, roots, units, all_roots, at_entry, at_loop, home_of, from_given}
 use Rattle.cap_rules.specs.Valid.{RootDerives, Valid}
-use Rattle.cap_account.specs.Nodes.{Children, Deriving}
-use Rattle.cap_account.proofs.Lists.{within}
-use Rattle.cap_account.proofs.Checked.{derivations}
-use Rattle.cap_account.proofs.Points.{Among, among-left, among-right}
+use Rattle.cap_account_states.specs.Nodes.{Children, Deriving}
+use Rattle.cap_account_resources.proofs.Lists.{within, Among, among-left, among-right}
+use Rattle.cap_account_states.proofs.Checked.{derivations}
 use Rattle.cap_account.proofs.Entering.{AllChecked}
 
 zip-at :

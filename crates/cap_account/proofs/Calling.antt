@@ -19,24 +19,24 @@ use Rattle.cap_rules.specs.Making.{fresh, env_at, with_env, with_sort, with_dest
 use Rattle.cap_rules.specs.Rules.{leaves, called}
 use Rattle.cap_machine.specs.Machine.{Frame, value_in, with_rest, receives}
 use Rattle.cap_machine_accounts.specs.Assertions.{NameValue, a_number, a_fraction, HasNameSort, ValuesFit, IsNamed, AreNamed, AreWhole}
-use Rattle.cap_account.specs.Nodes.{Comes, Children}
-use Rattle.cap_account.specs.Parts.{one_cell, Hold, hold, nothing, joined, Table}
+use Rattle.cap_account_states.specs.Nodes.{Comes, Children}
+use Rattle.cap_account_resources.specs.Parts.{one_cell, Hold, hold, nothing, joined, Table}
 use Rattle.cap_account.specs.Meeting.{HasRequires, HasEnsures}
-use Rattle.cap_account.proofs.Lists.{some-same, none-some, within, there-is, get-map, get-last, map-length, get-or-push, push-length, map-set, get-first, all-more}
-use Rattle.cap_account.proofs.Terms.{Over, vars-more, RowOver, value-is, Agree, agree-trans, agree-less, sum-agree, value-agree, amount-agree}
-use Rattle.cap_account.proofs.Attempts.{sort_added, env_added, comes-bind, comes-appended, after-found, after-values-here, after-sort}
-use Rattle.cap_account.proofs.Meets as meets
-use Rattle.cap_account.proofs.Meets.{Free, Usable, usable-old, CellOver, row-more, cell-more, Meets, need, need-agree, Old, new-whole, new-share, with-agrees, meets-agree, meets-fresh, solves, variable-value}
-use Rattle.cap_account.proofs.Items.{items_size}
-use Rattle.cap_account.proofs.Checked.{Checked, one-child}
-use Rattle.cap_account.proofs.Naming.{Placed, Means, Ready}
-use Rattle.cap_account.proofs.Giving.{given}
-use Rattle.cap_account.proofs.Taking.{Takeable, Taken, taken}
-use Rattle.cap_account.proofs.Points.{FrameOk, point-act, point-next, ok-rest, ok-store}
+use Rattle.cap_account_resources.proofs.Lists.{some-same, none-some, within, there-is, get-map, get-last, map-length, get-or-push, push-length, map-set, get-first, all-more}
+use Rattle.cap_account_states.proofs.Terms.{Over, vars-more, RowOver, value-is, Agree, agree-trans, agree-less, sum-agree, value-agree, amount-agree}
+use Rattle.cap_account_states.proofs.Attempts.{sort_added, env_added, comes-bind, comes-appended, after-found, after-values-here, after-sort}
+use Rattle.cap_account_states.proofs.Meets as meets
+use Rattle.cap_account_states.proofs.Meets.{Free, Usable, usable-old, CellOver, row-more, cell-more, Meets, need, need-agree, Old, new-whole, new-share, with-agrees, meets-agree, meets-fresh, solves, variable-value}
+use Rattle.cap_account_states.proofs.Items.{items_size}
+use Rattle.cap_account_states.proofs.Checked.{Checked, one-child}
+use Rattle.cap_account_states.proofs.Naming.{Placed, Means, Ready}
+use Rattle.cap_account_assertions.proofs.Giving.{given}
+use Rattle.cap_account_assertions.proofs.Taking.{Takeable, Taken, taken}
+use Rattle.cap_account_steps.proofs.Points.{FrameOk, point-act, point-next, ok-rest, ok-store}
 use Rattle.cap_account.proofs.Standing.{Store, Node, running, Sits, here, here-value, here-over, rested, name-same}
-use Rattle.cap_account.proofs.Values.{scaled, scaled-amount, like-scaled, meets-scaled, named-scaled, spends-like, named-at, named-of, whole-at, whole-of}
-use Rattle.cap_account.proofs.Scopes.{Early, requires-early, early-position, ensures-late, ensures-at, scope-length, position-room, param-requires, fixed-requires, callee-param, callee-fixed, callee-result, callee-new, callee-room}
-use Rattle.cap_account.proofs.Roots.{values-length, function-fits}
+use Rattle.cap_account_states.proofs.Values.{scaled, scaled-amount, like-scaled, meets-scaled, named-scaled, spends-like, named-at, named-of, whole-at, whole-of}
+use Rattle.cap_account_states.proofs.Scopes.{Early, requires-early, early-position, ensures-late, ensures-at, scope-length, position-room, param-requires, fixed-requires, callee-param, callee-fixed, callee-result, callee-new, callee-room}
+use Rattle.cap_account_states.proofs.Roots.{values-length, function-fits}
 use Rattle.cap_account.proofs.Leaving.{canon, canon-means, has-of}
 use Rattle.cap_account.proofs.Waiting.{Called, Forked}
 

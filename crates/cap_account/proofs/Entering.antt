@@ -16,20 +16,20 @@ use Rattle.cap_goal_spec.specs.States.{to_run, to_turn}
 use Rattle.cap_goal_spec.specs.Environments.{zero_value, bound, unbound}
 use Rattle.cap_goal_spec.specs.Choices.{PlainTrees}
 use Rattle.cap_goal_spec.specs.Roots.{LoopPoint, loops_in, at_entry, at_loop, home_of, root_state, root_env, from_given}
-use Rattle.cap_account.specs.Nodes.{Children}
-use Rattle.cap_account.specs.Parts.{Hold, Table}
+use Rattle.cap_account_states.specs.Nodes.{Children}
+use Rattle.cap_account_resources.specs.Parts.{Hold, Table}
 use Rattle.cap_account.specs.Meeting.{HasRequires, HasInvariant}
-use Rattle.cap_account.proofs.Lists.{some-same, none-some, within, map-length, get-first, map-join, all-both}
-use Rattle.cap_account.proofs.Terms.{Over}
-use Rattle.cap_account.proofs.Meets.{Usable}
-use Rattle.cap_account.proofs.Checked.{Checked, one-child}
-use Rattle.cap_account.proofs.Items.{items_size}
-use Rattle.cap_account.proofs.Giving.{given}
-use Rattle.cap_account.proofs.Points.{Among, Point, FrameOk, loop_point, point-next, point-again, point-loop, point-act}
+use Rattle.cap_account_resources.proofs.Lists.{some-same, none-some, within, map-length, get-first, map-join, all-both, Among}
+use Rattle.cap_account_states.proofs.Terms.{Over}
+use Rattle.cap_account_states.proofs.Meets.{Usable}
+use Rattle.cap_account_states.proofs.Checked.{Checked, one-child}
+use Rattle.cap_account_states.proofs.Items.{items_size}
+use Rattle.cap_account_assertions.proofs.Giving.{given}
+use Rattle.cap_account_steps.proofs.Points.{Point, FrameOk, loop_point, point-next, point-again, point-loop, point-act}
 use Rattle.cap_account.proofs.Standing.{Store, Sits, Stands, store-same, turn-sits}
-use Rattle.cap_account.proofs.Values.{like-same, normal, spends-like}
-use Rattle.cap_account.proofs.Scopes.{requires-early, early-position, invariant-at, param-requires, fixed-requires, store-invariant, fixed-invariant, variables-length, variables-at, unbound-none, rep-length, rep-in, length-join}
-use Rattle.cap_account.proofs.Roots.{values-length, function-fits, flat-bound, renamed, sorts_of, Root, fixed-usable, root-ready, root-fixed, root-whole, variables-values, map-zero, variables-join, variables-over, zeros-over, no-sort, no-term}
+use Rattle.cap_account_states.proofs.Values.{like-same, normal, spends-like}
+use Rattle.cap_account_states.proofs.Scopes.{requires-early, early-position, invariant-at, param-requires, fixed-requires, store-invariant, fixed-invariant, variables-length, variables-at, unbound-none, rep-length, rep-in, length-join}
+use Rattle.cap_account_states.proofs.Roots.{values-length, function-fits, flat-bound, renamed, sorts_of, Root, fixed-usable, root-ready, root-fixed, root-whole, variables-values, map-zero, variables-join, variables-over, zeros-over, no-sort, no-term}
 
 -- all roots that bodies and loops need
 pub record AllChecked (p : Checked) : Type 0 where

@@ -7,10 +7,10 @@ use Rattle.cap_machine.specs.Machine.{Heap, Frame, Thread, Configuration}
 use Rattle.cap_machine_accounts.specs.Parts.{Part}
 use Rattle.cap_machine_accounts.specs.Assertions.{NameValue}
 use Rattle.cap_machine_accounts.specs.Accounts.{Held}
-use Rattle.cap_account.specs.Parts.{Hold, hold, nothing, joined, Within, cells_of, no_regions}
-use Rattle.cap_account.proofs.Lists.{some-same, none-some, within, get-set-same, get-set-other, set-length, get-join, push-length}
+use Rattle.cap_account_resources.specs.Parts.{Hold, hold, nothing, joined, Within, cells_of, no_regions}
+use Rattle.cap_account_resources.proofs.Lists.{some-same, none-some, within, get-set-same, get-set-other, set-length, get-join, push-length}
 use Rattle.cap_account.proofs.Bridge.{hold_of}
-use Rattle.cap_account.proofs.Checked.{Checked}
+use Rattle.cap_account_states.proofs.Checked.{Checked}
 use Rattle.cap_account.proofs.Standing.{Stands}
 use Rattle.cap_account.proofs.Waiting.{Waits}
 

@@ -17,20 +17,20 @@ use Rattle.cap_rules.specs.Making.{env_at, with_env, value_here}
 use Rattle.cap_rules.specs.Rules.{leaves, own_params}
 use Rattle.cap_machine.specs.Machine.{Frame, value_in, with_rest}
 use Rattle.cap_machine_accounts.specs.Assertions.{NameValue, a_number, a_fraction, IsNamed, AreNamed}
-use Rattle.cap_account.specs.Nodes.{Comes, Children}
-use Rattle.cap_account.specs.Parts.{Hold, nothing, joined, Table, Has, Spends}
-use Rattle.cap_account.proofs.Lists.{some-same, none-some, within, there-is, get-map, map-length, get-or-push, push-length, all-at}
-use Rattle.cap_account.proofs.Terms.{Over, vars-more, by_terms, Agree, value-agree}
-use Rattle.cap_account.proofs.Attempts.{env_added, after-found, after-here, after-env}
-use Rattle.cap_account.proofs.Meets.{Usable, usable-old, Meets, Old, meets-env, solves, variable-value, variable-amount}
-use Rattle.cap_account.proofs.Items.{items_size, within-same, spends-more}
-use Rattle.cap_account.proofs.Naming.{Placed, Means}
-use Rattle.cap_account.proofs.Checked.{Checked}
-use Rattle.cap_account.proofs.Taking.{Takeable, taken}
-use Rattle.cap_account.proofs.Scopes.{Position, param, local, fixed, result, extra, ensures-at, invariant-at, position-room, param-requires, fixed-requires, requires-ensures, result-ensures, store-invariant, fixed-invariant, own-param, own-local, own-fixed, own-result, own-new, own-room, rep-length, unbound-none, less_or}
-use Rattle.cap_account.proofs.Values.{named-at, named-of, whole-of}
-use Rattle.cap_account.proofs.Roots.{values-length, function-fits, flat-bound}
-use Rattle.cap_account.proofs.Points.{FrameOk, point-act}
+use Rattle.cap_account_states.specs.Nodes.{Comes, Children}
+use Rattle.cap_account_resources.specs.Parts.{Hold, nothing, joined, Table, Has, Spends}
+use Rattle.cap_account_resources.proofs.Lists.{some-same, none-some, within, there-is, get-map, map-length, get-or-push, push-length, all-at}
+use Rattle.cap_account_states.proofs.Terms.{Over, vars-more, by_terms, Agree, value-agree}
+use Rattle.cap_account_states.proofs.Attempts.{env_added, after-found, after-here, after-env}
+use Rattle.cap_account_states.proofs.Meets.{Usable, usable-old, Meets, Old, meets-env, solves, variable-value, variable-amount}
+use Rattle.cap_account_states.proofs.Items.{items_size, within-same, spends-more}
+use Rattle.cap_account_states.proofs.Naming.{Placed, Means}
+use Rattle.cap_account_states.proofs.Checked.{Checked}
+use Rattle.cap_account_assertions.proofs.Taking.{Takeable, taken}
+use Rattle.cap_account_states.proofs.Scopes.{Position, param, local, fixed, result, extra, ensures-at, invariant-at, position-room, param-requires, fixed-requires, requires-ensures, result-ensures, store-invariant, fixed-invariant, own-param, own-local, own-fixed, own-result, own-new, own-room, rep-length, unbound-none, less_or}
+use Rattle.cap_account_states.proofs.Values.{named-at, named-of, whole-of}
+use Rattle.cap_account_states.proofs.Roots.{values-length, function-fits, flat-bound}
+use Rattle.cap_account_steps.proofs.Points.{FrameOk, point-act}
 use Rattle.cap_account.proofs.Standing.{Store, Node, running, Sits, here, here-value, here-over, name-same}
 use Rattle.cap_account.proofs.Waiting.{Returned, Looped}
 

@@ -9,14 +9,14 @@ use Rattle.cap_machine_accounts.specs.Parts.{Part}
 use Rattle.cap_machine_accounts.specs.Accounts.{Held, Account, IsValidAccount}
 use Rattle.cap_machine_accounts.specs.Following.{Follows}
 use Rattle.cap_machine_accounts.specs.Safety.{KeepsContracts, IfStepped, IsTracked, whole_part, Safe}
-use Rattle.cap_account.specs.Parts.{nothing, no_regions}
-use Rattle.cap_account.proofs.Lists.{some-same, none-some}
-use Rattle.cap_account.proofs.Checked.{Checked}
+use Rattle.cap_account_resources.specs.Parts.{nothing, no_regions}
+use Rattle.cap_account_resources.proofs.Lists.{some-same, none-some}
+use Rattle.cap_account_states.proofs.Checked.{Checked}
 use Rattle.cap_account.proofs.Standing.{Sits, stands-now}
 use Rattle.cap_account.proofs.Bridge.{hold_of, requires-in}
 use Rattle.cap_account.proofs.Global.{Stack, Sound, Turn}
 use Rattle.cap_account.proofs.Accounting.{account, account-of}
-use Rattle.cap_account.proofs.Roots.{function-fits}
+use Rattle.cap_account_states.proofs.Roots.{function-fits}
 use Rattle.cap_account.proofs.Entering.{AllChecked, body-stands}
 
 -- what a step leads to: an account that follows, contracts that are met, and the invariant

@@ -1,7 +1,7 @@
 -- Derivations are sound.
 use Rattle.cap_account.specs.Law.{DerivationsAreSound}
 use Rattle.cap_account.proofs.Bundles.{all-checked}
-use Rattle.cap_account.proofs.Checked.{derivations}
+use Rattle.cap_account_states.proofs.Checked.{derivations}
 use Rattle.cap_account.proofs.Running.{safe}
 use Rattle.cap_account.proofs.Steps.{advances}
 

@@ -16,21 +16,21 @@ use Rattle.cap_goal_spec.specs.Choices.{PlainTree, PlainTrees}
 use Rattle.cap_goal_spec.specs.Roots.{at_entry, home_of, root_env, root_state, stability}
 use Rattle.cap_rules.specs.Making.{env_at}
 use Rattle.cap_rules.specs.Valid.{Valid}
-use Rattle.cap_account.specs.Nodes.{Open}
-use Rattle.cap_account.specs.Parts.{Hold, nothing, joined, Table, Has, Spends}
+use Rattle.cap_account_states.specs.Nodes.{Open}
+use Rattle.cap_account_resources.specs.Parts.{Hold, nothing, joined, Table, Has, Spends}
 use Rattle.cap_account.specs.Meeting.{HasRequires}
-use Rattle.cap_account.proofs.Lists.{within, there-is, all-both}
-use Rattle.cap_account.proofs.Terms.{Over, vars-more, Agree, value-agree, amount-agree}
-use Rattle.cap_account.proofs.Meets.{Usable, usable-old, Old, need, agree-on}
-use Rattle.cap_account.proofs.Checked.{Checked, derivations}
-use Rattle.cap_account.proofs.Naming.{Placed, Means, Ready, placed-more, values_in, values-mean}
-use Rattle.cap_account.proofs.Items.{items_size, AreFit, spends-more}
-use Rattle.cap_account.proofs.Giving.{given}
-use Rattle.cap_account.proofs.Taking.{Takeable, taken}
+use Rattle.cap_account_resources.proofs.Lists.{within, there-is, all-both}
+use Rattle.cap_account_states.proofs.Terms.{Over, vars-more, Agree, value-agree, amount-agree}
+use Rattle.cap_account_states.proofs.Meets.{Usable, usable-old, Old, need, agree-on}
+use Rattle.cap_account_states.proofs.Checked.{Checked, derivations}
+use Rattle.cap_account_states.proofs.Naming.{Placed, Means, Ready, placed-more, values_in, values-mean}
+use Rattle.cap_account_states.proofs.Items.{items_size, AreFit, spends-more}
+use Rattle.cap_account_assertions.proofs.Giving.{given}
+use Rattle.cap_account_assertions.proofs.Taking.{Takeable, taken}
 use Rattle.cap_account.proofs.Standing.{rested}
-use Rattle.cap_account.proofs.Values.{normal, named-at, named-of, whole-at, whole-of}
-use Rattle.cap_account.proofs.Scopes.{param-requires, fixed-requires, own-param, own-fixed, variables-length, variables-at, rep-length}
-use Rattle.cap_account.proofs.Roots.{values-length, fits-at, function-fits, renamed, Root, root-ready, root-placed, root-means, variables-over, zeros-over}
+use Rattle.cap_account_states.proofs.Values.{normal, named-at, named-of, whole-at, whole-of}
+use Rattle.cap_account_states.proofs.Scopes.{param-requires, fixed-requires, own-param, own-fixed, variables-length, variables-at, rep-length}
+use Rattle.cap_account_states.proofs.Roots.{values-length, fits-at, function-fits, renamed, Root, root-ready, root-placed, root-means, variables-over, zeros-over}
 use Rattle.cap_account.proofs.Entering.{entry_root, low-variable}
 use Rattle.cap_account.proofs.Bundles.{function-root}
 

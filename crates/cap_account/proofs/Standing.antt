@@ -23,15 +23,15 @@ use Rattle.cap_rules.specs.Rules.{leaves, branches}
 use Rattle.cap_rules.specs.Attempts.{◌>>=◌, unit, prove}
 use Rattle.cap_machine.specs.Machine.{Frame, value_in, holds, with_rest, with_value}
 use Rattle.cap_machine_accounts.specs.Assertions.{NameValue, a_number, a_fraction, IsNamed, AreNamed}
-use Rattle.cap_account.specs.Nodes.{NodePredicate, Comes, Children}
-use Rattle.cap_account.specs.Parts.{Hold, known_as, Table}
-use Rattle.cap_account.proofs.Lists.{some-same, none-some, within, there-is, map-set}
-use Rattle.cap_account.proofs.Terms.{Vars, Over, vars-more, over-over, number-over, RowOver, row-over, Agree, value-agree}
-use Rattle.cap_account.proofs.Order.{met-relates, unmet-relates, not-both, relates-times}
-use Rattle.cap_account.proofs.Attempts.{store_row, row_added, after-here, after-prove, after-row-here, after-with-row}
-use Rattle.cap_account.proofs.Meets.{Usable, usable-old, Old, Meets, need, meets-row, solves, proved-holds}
-use Rattle.cap_account.proofs.Checked.{Checked, children-split, one-child}
-use Rattle.cap_account.proofs.Points.{FrameOk}
+use Rattle.cap_account_states.specs.Nodes.{NodePredicate, Comes, Children}
+use Rattle.cap_account_resources.specs.Parts.{Hold, known_as, Table}
+use Rattle.cap_account_resources.proofs.Lists.{some-same, none-some, within, there-is, map-set}
+use Rattle.cap_account_states.proofs.Terms.{Vars, Over, vars-more, over-over, number-over, RowOver, row-over, Agree, value-agree}
+use Rattle.cap_account_resources.proofs.Order.{met-relates, unmet-relates, not-both, relates-times}
+use Rattle.cap_account_states.proofs.Attempts.{store_row, row_added, after-here, after-prove, after-row-here, after-with-row}
+use Rattle.cap_account_states.proofs.Meets.{Usable, usable-old, Old, Meets, need, meets-row, solves, proved-holds}
+use Rattle.cap_account_states.proofs.Checked.{Checked, children-split, one-child}
+use Rattle.cap_account_steps.proofs.Points.{FrameOk}
 
 -- ---- what others may do
 

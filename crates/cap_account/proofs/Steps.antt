@@ -15,19 +15,19 @@ use Rattle.cap_machine_accounts.specs.Assertions.{NameValue, Met}
 use Rattle.cap_machine_accounts.specs.Accounts.{Held, CellsWithin}
 use Rattle.cap_machine_accounts.specs.Following.{FramesFollow, accesses, SomeHasCell, Joins}
 use Rattle.cap_machine_accounts.specs.Safety.{top_of, TopFrame, KeepsContracts}
-use Rattle.cap_account.specs.Parts.{count_of, cells_of, Hold, hold, nothing, joined, Within, Table, no_regions}
+use Rattle.cap_account_resources.specs.Parts.{count_of, cells_of, Hold, hold, nothing, joined, Within, Table, no_regions}
 use Rattle.cap_account.specs.Meeting.{HasRequires}
-use Rattle.cap_account.proofs.Lists.{some-same, none-some, within, get-set-same, get-last, set-length, map-length}
-use Rattle.cap_account.proofs.Order.{met-relates, unmet-relates}
-use Rattle.cap_account.proofs.Items.{within-same, spends-more}
-use Rattle.cap_account.proofs.Checked.{Checked}
-use Rattle.cap_account.proofs.Points.{Point, point-act, ok-rest, ok-store, point-next, point-then, point-else}
+use Rattle.cap_account_resources.proofs.Lists.{some-same, none-some, within, get-set-same, get-last, set-length, map-length}
+use Rattle.cap_account_resources.proofs.Order.{met-relates, unmet-relates}
+use Rattle.cap_account_states.proofs.Items.{within-same, spends-more}
+use Rattle.cap_account_states.proofs.Checked.{Checked}
+use Rattle.cap_account_steps.proofs.Points.{Point, point-act, ok-rest, ok-store, point-next, point-then, point-else}
 use Rattle.cap_account.proofs.Standing.{Rely, rely-same, Sits, Stands, stands-now, set-sits, check-sits, if-sits}
-use Rattle.cap_account.proofs.Heaps.{insert-other, same-or, counted-is, count-one, there-in, one-other, written, removed, fresh_cells, allocated, both-true}
+use Rattle.cap_account_resources.proofs.Heaps.{insert-other, same-or, counted-is, count-one, there-in, one-other, written, removed, fresh_cells, allocated, both-true}
 use Rattle.cap_account.proofs.Acting.{swapped, with_fresh, Acted, Swaps, read-stands, write-stands, cas-stands, alloc-sits}
 use Rattle.cap_account.proofs.Waiting.{Waits, Returned}
 use Rattle.cap_account.proofs.Leaving.{return-sits, loop-sits}
-use Rattle.cap_account.proofs.Roots.{values-length, function-fits}
+use Rattle.cap_account_states.proofs.Roots.{values-length, function-fits}
 use Rattle.cap_account.proofs.Calling.{call-sits, fork-sits}
 use Rattle.cap_account.proofs.Entering.{AllChecked, body-stands, loop-stands}
 use Rattle.cap_account.proofs.Bridge.{hold_of, requires-out, ensures-out, part_of, part-is}

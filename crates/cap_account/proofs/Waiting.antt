@@ -4,10 +4,10 @@ use Rattle.std.specs.Prelude.{◌≡◌, ℕ, ℤ, List, slice_get, Option, Some
 use Rattle.cap_prog.specs.Program.{PlainAssertion, PlainFunction}
 use Rattle.cap_machine.specs.Machine.{Frame, receives}
 use Rattle.cap_machine_accounts.specs.Assertions.{NameValue, ValuesFit}
-use Rattle.cap_account.specs.Parts.{Hold, joined, Within, Table}
+use Rattle.cap_account_resources.specs.Parts.{Hold, joined, Within, Table}
 use Rattle.cap_account.specs.Meeting.{HasRequires, HasEnsures, HasInvariant}
-use Rattle.cap_account.proofs.Checked.{Checked}
-use Rattle.cap_account.proofs.Points.{FrameOk}
+use Rattle.cap_account_states.proofs.Checked.{Checked}
+use Rattle.cap_account_steps.proofs.Points.{FrameOk}
 use Rattle.cap_account.proofs.Standing.{Rely, rely-trans, Stands}
 
 -- a waiting frame: with whatever the callee hands over and returns, it stands

@@ -7,9 +7,9 @@ use Rattle.cap_goal_spec.specs.Choices.{PlainTree}
 use Rattle.cap_rules.specs.Valid.{Valid}
 use Rattle.cap_machine_accounts.specs.Assertions.{NameValue, ValuesFit}
 use Rattle.cap_machine_accounts.specs.Safety.{Safe}
-use Rattle.cap_account.specs.Parts.{Hold, Table}
+use Rattle.cap_account_resources.specs.Parts.{Hold, Table}
 use Rattle.cap_account.specs.Meeting.{HasRequires}
-use Rattle.cap_account.specs.Nodes.{IsNode, Deriving}
+use Rattle.cap_account_states.specs.Nodes.{IsNode, Deriving}
 
 -- at each node of a valid derivation the choice applies, what its certificates prove is true, and
 -- the trees below it are valid derivations of its subgoals

@@ -1,0 +1,250 @@
+-- The variables of compatibility's rows; and what is held covers the pieces also at values that
+-- agree, and over a multiple of the denominator.
+use Rattle.std.proofs.Common.{◌≡◌, inl, inr, ℕ, ◌+◌, ℤ, pos, ◌*ℤ◌, Bool, true, false, List, [], ◌∷◌, Option, Some, None, refl, sym, ap, ◌∙◌, subst, arith}
+use Rattle.std.specs.Prelude.{if◌then◌else◌}
+use Rattle.std.specs.List.{AllByRecursion}
+use Rattle.std.proofs.lemmas.Int.{ints}
+use Rattle.cap_numbers.proofs.Ring.{expand, product3}
+use Rattle.cap_lin.specs.Linear.{Linear, plus}
+use Rattle.cap_lin.specs.Values.{Valuation, denominator, amount}
+use Rattle.cap_lin.specs.Solves.{IsWholeAt}
+use Rattle.cap_lin.specs.declared.row.Row.{Row}
+use Rattle.cap_lin.specs.declared.row.Sort.{Sort}
+use Rattle.cap_lin.specs.declared.row.Sort.TheVariants.{Int, Perm}
+use Rattle.cap_lin.specs.declared.row.Op.TheVariants.{Le as AtMost, Gt as Greater, Ge as AtLeast}
+use Rattle.cap_galg.specs.Elements.{Element}
+use Rattle.cap_galg.specs.Algebras.{PlainAlgebra}
+use Rattle.cap_galg.specs.Laws.Composition.{true_or_false}
+use Rattle.cap_gsolve.specs.declared.piece.Form.{Form}
+use Rattle.cap_gsolve.specs.declared.piece.Form.TheVariants.{One, Share, Src, Tok}
+use Rattle.cap_gsolve.specs.declared.piece.Piece.{Piece}
+use Rattle.cap_gsolve.specs.Pieces.{piece, same_part}
+use Rattle.cap_gsolve.specs.Merge.{zero_term, one_term, added_rows, there}
+use Rattle.cap_gsolve.specs.Compat.{share_there, fits_rows, one_rows, wanted_rows, clashes_some, compat}
+use Rattle.cap_gsolve.specs.Meaning.{IsFormElement, region_of, IsElementAt, AreElementsAt}
+use Rattle.cap_gsolve.proofs.Held.{there-same, there-other}
+use Rattle.cap_prog.specs.Program.{PlainProgram}
+use Rattle.cap_machine_accounts.specs.Parts.{algebra_of}
+use Rattle.cap_account_resources.proofs.Lists.{all-both}
+use Rattle.cap_account_states.proofs.Terms.{Vars, Over, vars-more, RowOver, row-over, over-plus, Agree, value-agree, amount-agree}
+use Rattle.cap_account_states.proofs.Values.{scaled, scaled-denominator, scaled-amount}
+use Rattle.cap_account_resources.proofs.Marks.{Mark}
+use Rattle.cap_account_resources.proofs.Covering.{Covered}
+use Rattle.cap_account_states.proofs.Guarding.{FormOver}
+use Rattle.cap_account_states.proofs.Adding.{PieceOver}
+use Rattle.cap_account_states.proofs.Asking.{FormWhole}
+
+-- ---- variables
+
+abbrev OptionOver : (Sort → ℕ → Type 0) → Option Form → Type 0
+OptionOver R None = Unit {0}
+OptionOver R (Some f) = FormOver R f
+
+there-over :
+    (R : Sort → ℕ → Type 0) (ps : List Piece) (q : Piece) → AllByRecursion (PieceOver R) ps →
+    OptionOver R (there ps q)
+there-over R [] q h = tt
+there-over R (r ∷ ps) q h = elim (true_or_false (same_part r q)) [
+  | inl t ↦ subst (OptionOver R) (sym (there-same r ps q t)) h.0.1
+  | inr f ↦ subst (OptionOver R) (sym (there-other r ps q f)) (there-over R ps q h.1)
+]
+
+share-over :
+    (R : Sort → ℕ → Type 0) (o : Option Form) → OptionOver R o → Over (R Perm) (share_there o)
+share-over R None h = tt
+share-over R (Some One) h = tt
+share-over R (Some (Share t)) h = h
+share-over R (Some (Src t)) h = tt
+share-over R (Some (Tok t)) h = tt
+
+form-rows-over :
+    (R : Sort → ℕ → Type 0) (f : Form) → FormOver R f →
+    AllByRecursion (RowOver R) (added_rows f)
+form-rows-over R One h = tt
+form-rows-over R (Share t) h = (row-over R t Greater zero_term Perm h tt, tt)
+form-rows-over R (Src t) h = (row-over R t AtLeast zero_term Int h tt, tt)
+form-rows-over R (Tok t) h = (row-over R t AtLeast zero_term Int h tt, tt)
+
+fit-over :
+    (R : Sort → ℕ → Type 0) (o : Option Form) (f : Form) → OptionOver R o → FormOver R f →
+    AllByRecursion (RowOver R) (fits_rows o f)
+fit-over R o (Share e) h k = (
+  row-over R (plus e (share_there o)) AtMost one_term Perm
+      (over-plus (R Perm) e (share_there o) k (share-over R o h)) tt,
+  tt,
+)
+fit-over R None One h k = tt
+fit-over R None (Src n) h k = tt
+fit-over R None (Tok n) h k = tt
+fit-over R (Some One) One h k = tt
+fit-over R (Some One) (Src n) h k = tt
+fit-over R (Some One) (Tok n) h k = tt
+fit-over R (Some (Share t)) One h k = tt
+fit-over R (Some (Share t)) (Src n) h k = tt
+fit-over R (Some (Share t)) (Tok n) h k = tt
+fit-over R (Some (Src t)) One h k = tt
+fit-over R (Some (Src t)) (Src n) h k = tt
+fit-over R (Some (Src t)) (Tok n) h k = (row-over R n AtMost t Int k h, tt)
+fit-over R (Some (Tok t)) One h k = tt
+fit-over R (Some (Tok t)) (Src n) h k = (row-over R t AtMost n Int h k, tt)
+fit-over R (Some (Tok t)) (Tok n) h k = tt
+
+wanted-over :
+    (R : Sort → ℕ → Type 0) (ps : List Piece) (r : Linear) (k : ℕ) (ws : List (ℕ × Form)) →
+    AllByRecursion (PieceOver R) ps → AllByRecursion (λ w. FormOver R w.1) ws →
+    AllByRecursion (RowOver R) (wanted_rows ps r k ws)
+unfolding wanted_rows
+wanted-over R ps r k [] h g = tt
+wanted-over R ps r k (w ∷ ws) h g =
+    all-both (RowOver R) (one_rows ps r k w) (wanted_rows ps r k ws)
+    (all-both (RowOver R) (added_rows w.1) (fits_rows (there ps (piece r k w.0 w.1)) w.1)
+    (form-rows-over R w.1 g.0)
+    (fit-over R (there ps (piece r k w.0 w.1)) w.1 (there-over R ps (piece r k w.0 w.1) h) g.0))
+    (wanted-over R ps r k ws h g.1)
+
+-- where there are rows
+abbrev pub AnswerOver : (Sort → ℕ → Type 0) → Option (List Row) → Type 0
+AnswerOver R None = Unit {0}
+AnswerOver R (Some rows) = AllByRecursion (RowOver R) rows
+
+pub compat-over :
+    (R : Sort → ℕ → Type 0) (a : PlainAlgebra) (ps : List Piece) (r : Linear) (k : ℕ)
+    (ws : List (ℕ × Form)) → AllByRecursion (PieceOver R) ps →
+    AllByRecursion (λ w. FormOver R w.1) ws → AnswerOver R (compat a ps r k ws)
+unfolding compat
+compat-over R a ps r k ws h g = by (clashes_some a ps r k ws) (wanted-over R ps r k ws h g)
+  where
+    by : (b : Bool) → AllByRecursion (RowOver R) (wanted_rows ps r k ws) →
+        AnswerOver R (if b then None else Some (wanted_rows ps r k ws))
+    by true g = tt
+    by false g = g
+
+-- a variable of sort Int is whole
+abbrev pub Whole : Valuation → Sort → ℕ → Type 0
+Whole w Int x = IsWholeAt w x
+Whole w Perm x = Unit {0}
+
+pub form-over-whole : (w : Valuation) (f : Form) → FormWhole w f → FormOver (Whole w) f
+form-over-whole w One h = tt
+form-over-whole w (Share t) h = units t.parts
+  where
+    units : (ps : List (ℕ × ℤ)) → Vars (Whole w Perm) ps
+    units [] = tt
+    units (p ∷ ps) = (tt, units ps)
+form-over-whole w (Src t) h = h
+form-over-whole w (Tok t) h = h
+
+pub form-more :
+    (R S : Sort → ℕ → Type 0) → ((o : Sort) (x : ℕ) → R o x → S o x) → (f : Form) →
+    FormOver R f → FormOver S f
+form-more R S g One h = tt
+form-more R S g (Share t) h = vars-more (R Perm) (S Perm) (g Perm) t.parts h
+form-more R S g (Src t) h = vars-more (R Int) (S Int) (g Int) t.parts h
+form-more R S g (Tok t) h = vars-more (R Int) (S Int) (g Int) t.parts h
+
+pub pieces-more :
+    (R S : Sort → ℕ → Type 0) → ((o : Sort) (x : ℕ) → R o x → S o x) → (ps : List Piece) →
+    AllByRecursion (PieceOver R) ps → AllByRecursion (PieceOver S) ps
+pieces-more R S g [] h = tt
+pieces-more R S g (q ∷ ps) h = (
+  (
+    vars-more (R Int) (S Int) (g Int) q.region.parts h.0.0,
+    form-more R S g q.form h.0.1,
+  ),
+  pieces-more R S g ps h.1,
+)
+
+-- ---- elements at other values
+
+-- the same elements are at the same regions
+pub record Alike (v w : Valuation) (q : Piece) : Type 0 where
+  pub region : region_of w q ≡ region_of v q
+  pub form : (x : Element) → IsFormElement v q.form x → IsFormElement w q.form x
+
+element-alike :
+    (a : PlainAlgebra) (k : ℕ) (v w : Valuation) (n : ℤ) (q : Piece) (x : Element) →
+    Alike v w q → IsElementAt a k v n q x → IsElementAt a k w n q x
+element-alike a k v w n q x h (inl i) =
+    inl (h.region ∙ i.0, (i.1.0, h.form i.1.0 i.1.1, i.1.2), i.2)
+element-alike a k v w n q x h (inr i) = inr (λ e. i.0 (sym h.region ∙ e), i.1)
+
+elements-alike :
+    (a : PlainAlgebra) (k : ℕ) (v w : Valuation) (n : ℤ) (ps : List Piece) (xs : List Element) →
+    AllByRecursion (Alike v w) ps → AreElementsAt a k v n ps xs → AreElementsAt a k w n ps xs
+elements-alike a k v w n [] [] h e = tt
+elements-alike a k v w n [] (x ∷ xs) h e = absurd e
+elements-alike a k v w n (q ∷ ps) [] h e = absurd e
+elements-alike a k v w n (q ∷ ps) (x ∷ xs) h e =
+    (element-alike a k v w n q x h.0 e.0, elements-alike a k v w n ps xs h.1 e.1)
+
+pub covered-alike :
+    (p : PlainProgram) (v w : Valuation) (ps : List Piece) (n : ℤ) (m : Option Mark) →
+    AllByRecursion (Alike v w) ps → Covered p v ps n m → Covered p w ps n m
+covered-alike p v w ps n m h c = record {
+  kind = c.kind;
+  element = c.element;
+  is = (
+    c.is.0,
+    elements-alike (algebra_of p c.kind) c.kind v w n ps c.is.0 h c.is.1,
+    c.is.2,
+  );
+  part = c.part;
+}
+
+pub alike-agree :
+    (P : ℕ → Type 0) (v w : Valuation) → Agree P v w → (f : Form) → FormOver (λ o. P) f →
+    (x : Element) → IsFormElement v f x → IsFormElement w f x
+alike-agree P v w a One o x h = h
+alike-agree P v w a (Share t) o x h = (
+  h.0,
+  h.1,
+  ap (λ u. pos h.0.num *ℤ pos (u + 1)) a.under
+      ∙ (h.2 ∙ ap (λ z. z *ℤ pos h.0.den) (sym (amount-agree P v w a t o))),
+  h.3,
+)
+alike-agree P v w a (Src t) o x h = (h.0, value-agree P v w a t o ∙ h.1, h.2)
+alike-agree P v w a (Tok t) o x h = (h.0, value-agree P v w a t o ∙ h.1, h.2)
+
+pub all-alike-agree :
+    (P : ℕ → Type 0) (v w : Valuation) → Agree P v w → (ps : List Piece) →
+    AllByRecursion (PieceOver (λ o. P)) ps → AllByRecursion (Alike v w) ps
+all-alike-agree P v w a [] h = tt
+all-alike-agree P v w a (q ∷ ps) h = (
+  record {
+    region = value-agree P v w a q.region h.0.0;
+    form = alike-agree P v w a q.form h.0.1;
+  },
+  all-alike-agree P v w a ps h.1,
+)
+
+pub alike-scaled :
+    (m : ℕ) (v : Valuation) (f : Form) (x : Element) → IsFormElement v f x →
+    IsFormElement (scaled m v) f x
+alike-scaled m v One x h = h
+alike-scaled m v (Share t) x h = (
+  h.0,
+  h.1,
+  ap (λ z. pos h.0.num *ℤ z) (scaled-denominator m v)
+      ∙ (sym (grouped (pos h.0.num) (denominator v.fraction) (pos (m + 1)))
+      ∙ (ap (λ z. z *ℤ pos (m + 1)) h.2
+      ∙ (turned (amount v.fraction t) (pos h.0.den) (pos (m + 1))
+      ∙ ap (λ z. z *ℤ pos h.0.den) (sym (scaled-amount m v t))))),
+  h.3,
+)
+  where
+    grouped : (a b c : ℤ) → a *ℤ b *ℤ c ≡ a *ℤ (b *ℤ c)
+    grouped a b c = simp expand (omega (arith, ints, product3))
+
+    exchanged : (a b : ℤ) → a *ℤ b ≡ b *ℤ a
+    exchanged a b = omega (arith, ints)
+
+    turned : (a b c : ℤ) → a *ℤ b *ℤ c ≡ a *ℤ c *ℤ b
+    turned a b c = grouped a b c ∙ (ap (λ z. a *ℤ z) (exchanged b c) ∙ sym (grouped a c b))
+alike-scaled m v (Src t) x h = h
+alike-scaled m v (Tok t) x h = h
+
+pub all-alike-scaled :
+    (m : ℕ) (v : Valuation) (ps : List Piece) → AllByRecursion (Alike v (scaled m v)) ps
+all-alike-scaled m v [] = tt
+all-alike-scaled m v (q ∷ ps) =
+    (record { region = refl; form = alike-scaled m v q.form }, all-alike-scaled m v ps)

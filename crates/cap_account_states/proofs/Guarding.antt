@@ -1,0 +1,450 @@
+-- What an assertion asks of a guard is cut out of a piece's form, but for an open amount.
+use Rattle.std.proofs.Common.{◌≡◌, ℕ, zero, suc, ◌+◌, ℤ, pos, ◌*ℤ◌, ◌≤ℤ◌, ◌<ℤ◌, Bool, true, false, List, [], ◌∷◌, length, Option, Some, None, refl, sym, ap, ◌∙◌, subst}
+use Rattle.std.specs.Prelude.{if◌then◌else◌}
+use Rattle.std.specs.List.{AllByRecursion}
+use Rattle.cap_lin.specs.Linear.{Linear, plus, minus}
+use Rattle.cap_lin.specs.Steps.{plus_steps, minus_steps}
+use Rattle.cap_lin.specs.Rows.{row_of}
+use Rattle.cap_lin.specs.Values.{Valuation, value, amount}
+use Rattle.cap_lin.specs.Solves.{value_by_sort, Relates, Proves}
+use Rattle.cap_lin.specs.declared.row.Sort.{Sort}
+use Rattle.cap_lin.specs.declared.row.Sort.TheVariants.{Int, Perm}
+use Rattle.cap_lin.specs.declared.row.Op.{Op}
+use Rattle.cap_lin.specs.declared.row.Op.TheVariants.{Eq as Equal, Le as AtMost, Lt as Less, Gt as Greater}
+use Rattle.cap_lin.proofs.Rows.{row_of-means}
+use Rattle.cap_galg.specs.declared.fraction.Fraction.{Fraction}
+use Rattle.cap_galg.specs.Elements.{Element, one, share, src, tokens}
+use Rattle.cap_galg.specs.Algebras.{PlainAlgebra, divisible, counting, unique, IsElement}
+use Rattle.cap_galg.specs.Laws.Kin.{tokens-is}
+use Rattle.cap_gsolve.specs.declared.piece.Form.{Form}
+use Rattle.cap_gsolve.specs.declared.piece.Form.TheVariants as form
+use Rattle.cap_gsolve.specs.Meaning.{IsValueOf, IsFormElement, Takes}
+use Rattle.cap_gsolve.proofs.Amounts.{zero-amount, zero-value}
+use Rattle.cap_prog.specs.declared.assertion.Slot.{Slot}
+use Rattle.cap_prog.specs.declared.assertion.Slot.TheVariants.{Any, Is}
+use Rattle.cap_prog.specs.declared.assertion.Asked.{Asked}
+use Rattle.cap_prog.specs.declared.assertion.Asked.TheVariants.{One, Share, Src, Tok}
+use Rattle.cap_prog.specs.Scopes.{Scope, SlotFits}
+use Rattle.cap_machine_accounts.specs.Assertions.{SlotIs, ShareIs, IsAsked}
+use Rattle.cap_goal_spec.specs.Terms.{lone_variable}
+use Rattle.cap_goal_spec.specs.States.{PlainEnv, PlainState}
+use Rattle.cap_goal_spec.specs.Environments.{zero_value, is_determined, term_in, term_in_steps, Reading, settled, open_to, stuck, read_name, reading, bind_open}
+use Rattle.cap_rules.specs.Attempts.{Attempt, unit, ◌>>=◌, prove_that}
+use Rattle.cap_rules.specs.Making.{sum, difference, match_reading}
+use Rattle.cap_rules.specs.Taking.{Cut, cut, cut_share, cut_source, cut_tokens, cut_new_tokens, cut_form}
+use Rattle.cap_account_states.specs.Nodes.{Comes}
+use Rattle.cap_account_states.proofs.Terms.{Over, row-over}
+use Rattle.cap_account_states.proofs.Attempts.{after-computed, after-proved}
+use Rattle.cap_account_states.proofs.Meets.{Usable, Meets, proved-holds}
+use Rattle.cap_account_states.proofs.Naming.{Placed, Means, Stays, term-over, term-number, bound-of}
+use Rattle.cap_account_states.proofs.Matching.{Outside, matching}
+use Rattle.cap_account_states.proofs.Asking.{AskedOver}
+use Rattle.cap_account_states.proofs.Cutting.{Cuts, cut-all}
+use Rattle.cap_account_states.proofs.Cutting as cutting
+
+-- the variables of a form
+abbrev pub FormOver : (Sort → ℕ → Type 0) → Form → Type 0
+FormOver R form.One = Unit {0}
+FormOver R (form.Share t) = Over (R Perm) t
+FormOver R (form.Src t) = Over (R Int) t
+FormOver R (form.Tok t) = Over (R Int) t
+
+-- an amount that is `_` or an unbound name
+abbrev pub is_open_reading : Reading → Bool
+is_open_reading (open_to y) = true
+is_open_reading r = false
+
+abbrev pub is_open : Asked → PlainEnv → Bool
+is_open (Share x) env = is_open_reading (reading env x)
+is_open asked env = false
+
+-- a cut leaves the state but for an environment; the form is what is asked, at all values of the
+-- names, and what stays
+pub record CutOk (ks : List ℕ) (sc : Scope) (v : Valuation) (s : PlainState) (env : PlainEnv)
+    (asked : Asked) (f : Form) (P : Cut → Type 0) : Type 0 where
+  pub later : PlainEnv
+  pub left : List Form
+  pub placed : Placed ks sc s.sorts later
+  pub stays : Stays sc env later
+  pub outside : Outside sc env later
+  pub size : length later ≡ length env
+  pub fits : (b : PlainAlgebra) → Takes b f → AllByRecursion (Takes b) left
+  pub cuts :
+      (own : Element) → IsFormElement v f own →
+      (y : Element)
+      × ((X : Valuation) → Means sc v later X → IsAsked X asked y)
+      × ((b : PlainAlgebra) → Takes b f → IsElement b y)
+      × Cuts v own y left
+  pub comes : P (cut later s left)
+
+-- ---- slots
+
+-- a slot that stands for a term
+pub record IsSettled (ks : List ℕ) (sc : Scope) (v : Valuation) (s : PlainState) (env : PlainEnv)
+    (x : Slot) (o : Sort) (t : Linear) : Type 0 where
+  pub is : x ≡ Is t
+  pub over : Over (Usable ks s.sorts o) (term_in env t)
+  pub number_is :
+      (X : Valuation) → Means sc v env X → value_by_sort o v (term_in env t) ≡ value_by_sort o X t
+
+settled-same : (t u : Linear) → settled t ≡ settled u → t ≡ u
+settled-same t u e = cc
+
+open-settled : (y : Option ℕ) (u : Linear) → open_to y ≡ settled u → ⊥
+open-settled y u e = cc
+
+name-settled : (y : Option ℕ) (u : Linear) → read_name y ≡ settled u → ⊥
+name-settled None u e = absurd (cc)
+name-settled (Some x) u e = absurd (cc)
+
+settled-slot :
+    (ks : List ℕ) (sc : Scope) (v : Valuation) (s : PlainState) (env : PlainEnv) (x : Slot)
+    (o : Sort) (t : Linear) → Placed ks sc s.sorts env → SlotFits sc o x →
+    reading env x ≡ settled t → IsSettled ks sc v s env x o t
+settled-slot ks sc v s env Any o t pl h e = absurd (open-settled None t e)
+settled-slot ks sc v s env (Is u) o t pl h e = by (is_determined env u) refl e
+  where
+    by :
+        (b : Bool) → is_determined env u ≡ b →
+        (if b then settled u else read_name (lone_variable u)) ≡ settled t →
+        IsSettled ks sc v s env (Is u) o t
+    by true d e =
+        let same = settled-same u t e in
+        let b = bound-of env u.parts d in
+        subst (IsSettled ks sc v s env (Is u) o) same (record {
+          is = refl;
+          over = term-over ks sc s.sorts env o u pl h b;
+          number_is = λ X m. term-number sc v env X o u m h b;
+        })
+    by false d e = absurd (name-settled (lone_variable u) t e)
+
+-- what the rows prove of two terms
+pub proved-relates :
+    (ks : List ℕ) (v : Valuation) (s : PlainState) (l : Linear) (op : Op) (r : Linear) (o : Sort) →
+    Meets ks v s → Proves s.rows (row_of l op r o) → Over (Usable ks s.sorts o) l →
+    Over (Usable ks s.sorts o) r → Relates op (value_by_sort o v l) (value_by_sort o v r)
+proved-relates ks v s l op r o m h a b =
+    (row_of-means v l op r o).0
+    (proved-holds ks ks v s (row_of l op r o) m h (row-over (Usable ks s.sorts) l op r o a b))
+
+-- a slot's value
+slot-is :
+    (X : Valuation) (x : Slot) (t : Linear) (z y : ℤ) → x ≡ Is t → z ≡ value X.whole t → z ≡ y →
+    SlotIs X x y
+slot-is X x t z y e a b = subst (λ u. SlotIs X u y) (sym e) (sym a ∙ b)
+
+pub share-is :
+    (X v : Valuation) (x : Slot) (t e : Linear) (f : Fraction) → x ≡ Is t →
+    X.fraction.under ≡ v.fraction.under → amount v.fraction e ≡ amount X.fraction t →
+    IsValueOf v e f → ShareIs X x f
+share-is X v x t e f i u a h =
+    subst (λ w. ShareIs X w f) (sym i)
+    (ap (λ z. z *ℤ pos f.den) (sym a) ∙ sym h ∙ ap (λ n. pos f.num *ℤ pos (n + 1)) (sym u))
+
+counted :
+    (b : PlainAlgebra) (m : Linear) (x : Element) → IsElement counting x → Takes b (form.Src m) →
+    IsElement b x
+counted counting m x h t = h
+counted b m x h t = absurd t
+
+counted-too :
+    (b : PlainAlgebra) (m : Linear) (x : Element) → IsElement counting x → Takes b (form.Tok m) →
+    IsElement b x
+counted-too counting m x h t = h
+counted-too b m x h t = absurd t
+
+pub shared :
+    (b : PlainAlgebra) (a : Linear) (x : Element) → IsElement divisible x → Takes b (form.Share a) →
+    IsElement b x
+shared divisible a x h t = h
+shared b a x h t = absurd t
+
+-- what takes a form takes what stays of it
+pub share-takes :
+    (b : PlainAlgebra) (a e : Linear) → Takes b (form.Share a) → Takes b (form.Share e)
+share-takes divisible a e t = tt
+share-takes b a e t = absurd t
+
+source-tokens : (b : PlainAlgebra) (m n : Linear) → Takes b (form.Src m) → Takes b (form.Tok n)
+source-tokens counting m n t = tt
+source-tokens b m n t = absurd t
+
+source-source : (b : PlainAlgebra) (m n : Linear) → Takes b (form.Src m) → Takes b (form.Src n)
+source-source counting m n t = tt
+source-source b m n t = absurd t
+
+tokens-tokens : (b : PlainAlgebra) (m n : Linear) → Takes b (form.Tok m) → Takes b (form.Tok n)
+tokens-tokens counting m n t = tt
+tokens-tokens b m n t = absurd t
+
+alone : (b : PlainAlgebra) → Takes b form.One → IsElement b one
+alone unique t = tt
+alone b t = absurd t
+
+module _ (ks : List ℕ) (sc : Scope) (v : Valuation) (s : PlainState) (me : Meets ks v s)
+    (env : PlainEnv) (pl : Placed ks sc s.sorts env) (P : Cut → Type 0) where
+  -- the environment stays
+  abbrev kept :
+      (asked : Asked) (f : Form) (left : List Form) →
+      ((b : PlainAlgebra) → Takes b f → AllByRecursion (Takes b) left) →
+      ((own : Element) → IsFormElement v f own → (y : Element) ×
+      ((X : Valuation) → Means sc v env X → IsAsked X asked y) ×
+      ((b : PlainAlgebra) → Takes b f → IsElement b y) × Cuts v own y left) →
+      P (cut env s left) → CutOk ks sc v s env asked f P
+  kept asked f left t g c = record {
+    later = env;
+    left = left;
+    placed = pl;
+    stays = λ x o i t h. h;
+    outside = λ x n. refl;
+    size = refl;
+    fits = t;
+    cuts = g;
+    comes = c;
+  }
+
+  -- the slot is open to a term: its name is bound
+  bound-to :
+      (x : Slot) (y : Option ℕ) (m : Linear) (asked : Asked) (f : Form) →
+      reading env x ≡ open_to y → SlotFits sc Int x → Over (Usable ks s.sorts Int) m →
+      ((later : PlainEnv) → ((X : Valuation) → Means sc v later X → SlotIs X x (value v.whole m)) →
+      (own : Element) → IsFormElement v f own → (w : Element) ×
+      ((X : Valuation) → Means sc v later X → IsAsked X asked w) ×
+      ((b : PlainAlgebra) → Takes b f → IsElement b w) × Cuts v own w []) →
+      P (cut (bind_open env y m) s []) → CutOk ks sc v s env asked f P
+  bound-to x y m asked f e h o g c =
+      let k = matching ks sc v s env x m (λ later. later ≡ bind_open env y m) me pl h o
+      (subst (λ r. Comes (match_reading s.rows env m r) (λ later. later ≡ bind_open env y m))
+      (sym e) (tt, refl)) in
+      record {
+        later = k.later;
+        left = [];
+        placed = k.placed;
+        stays = k.stays;
+        outside = k.outside;
+        size = k.size;
+        fits = λ b tk. tt;
+        cuts = g k.later k.means;
+        comes = subst (λ l. P (cut l s [])) (sym k.comes) c;
+      }
+
+  zero-over : Over (Usable ks s.sorts Int) zero_value
+  zero-over = tt
+
+  low : (e : Linear) → value v.whole zero_value ≤ℤ value v.whole e → pos 0 ≤ℤ value v.whole e
+  low e h = subst (λ z. z ≤ℤ value v.whole e) (zero-value v.whole) h
+
+  share-cut :
+      (x : Slot) (a : Linear) (way : ℕ) (r : Reading) → reading env x ≡ r →
+      is_open_reading r ≡ false → SlotFits sc Perm x → Over (Usable ks s.sorts Perm) a →
+      Comes (cut_share s env a way r) P → CutOk ks sc v s env (Share x) (form.Share a) P
+  share-cut x a zero (settled t) e op h o c =
+      let i = settled-slot ks sc v s env x Perm t pl h e in
+      let u = term_in env t in
+      let k1 = after-computed u (term_in_steps env t)
+      (λ w. prove_that s.rows a Equal w Perm >>= λ _. unit (cut env s [])) P c in
+      let k2 = after-proved s.rows a Equal u Perm (λ _. unit (cut env s [])) P k1 in
+      let eq : amount v.fraction a ≡ amount v.fraction u =
+      proved-relates ks v s a Equal u Perm me k2.0 o i.over in
+      kept (Share x) (form.Share a) [] (λ b tk. tt) (λ own w. (
+        own,
+        (λ X m. (w.0, w.1, share-is X v x t a w.0 i.is m.under (eq ∙ i.number_is X m) w.2, w.3)),
+        (λ b tk. shared b a own (subst (IsElement divisible) (sym w.3) w.1) tk),
+        cut-all v own,
+      )) k2.1.1
+  share-cut x a (suc zero) (settled t) e op h o c =
+      let i = settled-slot ks sc v s env x Perm t pl h e in
+      let u = term_in env t in
+      let last : Linear → Attempt Cut = λ rest. unit (cut env s (form.Share rest ∷ [])) in
+      let fourth : Linear → Attempt Cut = λ w. difference a w >>= last in
+      let third : Linear → Attempt Cut = λ w. prove_that s.rows w Less a Perm >>= λ _. fourth w in
+      let second : Linear → Attempt Cut =
+      λ w. prove_that s.rows w Greater zero_value Perm >>= λ _. third w in
+      let k1 = after-computed u (term_in_steps env t) second P c in
+      let k2 = after-proved s.rows u Greater zero_value Perm (λ _. third u) P k1 in
+      let k3 = after-proved s.rows u Less a Perm (λ _. fourth u) P k2.1 in
+      let k4 = after-computed (minus a u) (minus_steps a u) last P k3.1 in
+      let up : pos 0 <ℤ amount v.fraction u = subst (λ z. z <ℤ amount v.fraction u)
+      (zero-amount v.fraction)
+      (proved-relates ks v s u Greater zero_value Perm me k2.0 i.over tt) in
+      let lt : amount v.fraction u <ℤ amount v.fraction a =
+      proved-relates ks v s u Less a Perm me k3.0 i.over o in
+      kept (Share x) (form.Share a) (form.Share (minus a u) ∷ [])
+      (λ b tk. (share-takes b a (minus a u) tk, tt)) (λ own w.
+      let k = cutting.cut-share v a u w.0 w.1 w.2 up lt in (
+        share k.0,
+        (λ X m. (k.0, k.1, share-is X v x t u k.0 i.is m.under (i.number_is X m) k.2, refl)),
+        (λ b tk. shared b a (share k.0) k.1 tk),
+        subst (λ z. Cuts v z (share k.0) (form.Share (minus a u) ∷ [])) (sym w.3) k.3,
+      )) k4.1
+  share-cut x a (suc (suc way)) (settled t) e op h o c = absurd c.1
+  share-cut x a way (open_to y) e op h o c = absurd (cc)
+  share-cut x a zero stuck e op h o c = absurd c.1
+  share-cut x a (suc zero) stuck e op h o c = absurd c.1
+  share-cut x a (suc (suc way)) stuck e op h o c = absurd c.1
+
+  source-cut :
+      (x : Slot) (m : Linear) (way : ℕ) (r : Reading) → reading env x ≡ r → SlotFits sc Int x →
+      Over (Usable ks s.sorts Int) m → Comes (cut_source s env m way r) P →
+      CutOk ks sc v s env (Src x) (form.Src m) P
+  source-cut x m zero (open_to y) e h o c =
+      bound-to x y m (Src x) (form.Src m) e h o (λ later means own w. (
+        own,
+        (λ X n. (w.0, subst (SlotIs X x) w.1 (means X n), w.2)),
+        (λ b tk. counted b m own (subst (IsElement counting) (sym w.2) tt) tk),
+        cut-all v own,
+      )) c.1
+  source-cut x m zero (settled t) e h o c =
+      let i = settled-slot ks sc v s env x Int t pl h e in
+      let u = term_in env t in
+      let k1 = after-computed u (term_in_steps env t)
+      (λ w. prove_that s.rows m Equal w Int >>= λ _. unit (cut env s [])) P c in
+      let k2 = after-proved s.rows m Equal u Int (λ _. unit (cut env s [])) P k1 in
+      let eq : value v.whole m ≡ value v.whole u =
+      proved-relates ks v s m Equal u Int me k2.0 o i.over in
+      kept (Src x) (form.Src m) [] (λ b tk. tt) (λ own w. (
+        own,
+        (λ X n. (
+          w.0,
+          slot-is X x t (value v.whole u) (pos w.0) i.is (i.number_is X n)
+              (sym eq ∙ w.1),
+          w.2,
+        )),
+        (λ b tk. counted b m own (subst (IsElement counting) (sym w.2) tt) tk),
+        cut-all v own,
+      )) k2.1.1
+  source-cut x m (suc zero) (settled t) e h o c =
+      let i = settled-slot ks sc v s env x Int t pl h e in
+      let u = term_in env t in
+      let last : Linear → Attempt Cut = λ rest. unit (cut env s (form.Tok rest ∷ [])) in
+      let second : Linear → Attempt Cut = λ w. prove_that s.rows m AtMost w Int >>= λ _.
+      (difference w m >>= last) in
+      let k1 = after-computed u (term_in_steps env t) second P c in
+      let k2 = after-proved s.rows m AtMost u Int (λ _. difference u m >>= last) P k1 in
+      let k3 = after-computed (minus u m) (minus_steps u m) last P k2.1 in
+      let le : value v.whole m ≤ℤ value v.whole u =
+      proved-relates ks v s m AtMost u Int me k2.0 o i.over in
+      kept (Src x) (form.Src m) (form.Tok (minus u m) ∷ [])
+      (λ b tk. (source-tokens b m (minus u m) tk, tt)) (λ own w.
+      let k = cutting.cut-source v m u w.0 w.1 le in (
+        src k.0,
+        (λ X n. (k.0, slot-is X x t (value v.whole u) (pos k.0) i.is (i.number_is X n) k.1, refl)),
+        (λ b tk. counted b m (src k.0) tt tk),
+        subst (λ z. Cuts v z (src k.0) (form.Tok (minus u m) ∷ [])) (sym w.2) k.2,
+      )) k3.1
+  source-cut x m (suc zero) (open_to y) e h o c = absurd c.1
+  source-cut x m (suc (suc way)) (settled t) e h o c = absurd c.1
+  source-cut x m (suc (suc way)) (open_to y) e h o c = absurd c.1
+  source-cut x m zero stuck e h o c = absurd c.1
+  source-cut x m (suc zero) stuck e h o c = absurd c.1
+  source-cut x m (suc (suc way)) stuck e h o c = absurd c.1
+
+  tokens-cut :
+      (x : Slot) (m : Linear) (way : ℕ) (r : Reading) → reading env x ≡ r → SlotFits sc Int x →
+      Over (Usable ks s.sorts Int) m → Comes (cut_tokens s env m way r) P →
+      CutOk ks sc v s env (Tok x) (form.Tok m) P
+  tokens-cut x m zero (open_to y) e h o c =
+      bound-to x y m (Tok x) (form.Tok m) e h o (λ later means own w. (
+        own,
+        (λ X n. (w.0, subst (SlotIs X x) w.1 (means X n), w.2)),
+        (λ b tk. counted-too b m own (subst (IsElement counting) (sym w.2) (tokens-is w.0)) tk),
+        cut-all v own,
+      )) c.1
+  tokens-cut x m zero (settled t) e h o c =
+      let i = settled-slot ks sc v s env x Int t pl h e in
+      let u = term_in env t in
+      let k1 = after-computed u (term_in_steps env t)
+      (λ w. prove_that s.rows m Equal w Int >>= λ _. unit (cut env s [])) P c in
+      let k2 = after-proved s.rows m Equal u Int (λ _. unit (cut env s [])) P k1 in
+      let eq : value v.whole m ≡ value v.whole u =
+      proved-relates ks v s m Equal u Int me k2.0 o i.over in
+      kept (Tok x) (form.Tok m) [] (λ b tk. tt) (λ own w. (
+        own,
+        (λ X n. (
+          w.0,
+          slot-is X x t (value v.whole u) (pos w.0) i.is (i.number_is X n)
+              (sym eq ∙ w.1),
+          w.2,
+        )),
+        (λ b tk. counted-too b m own (subst (IsElement counting) (sym w.2) (tokens-is w.0)) tk),
+        cut-all v own,
+      )) k2.1.1
+  tokens-cut x m (suc zero) (settled t) e h o c =
+      let i = settled-slot ks sc v s env x Int t pl h e in
+      let u = term_in env t in
+      let last : Linear → Attempt Cut = λ rest. unit (cut env s (form.Tok rest ∷ [])) in
+      let third : Linear → Attempt Cut = λ w. prove_that s.rows w AtMost m Int >>= λ _.
+      (difference m w >>= last) in
+      let second : Linear → Attempt Cut =
+      λ w. prove_that s.rows zero_value AtMost w Int >>= λ _. third w in
+      let k1 = after-computed u (term_in_steps env t) second P c in
+      let k2 = after-proved s.rows zero_value AtMost u Int (λ _. third u) P k1 in
+      let k3 = after-proved s.rows u AtMost m Int (λ _. difference m u >>= last) P k2.1 in
+      let k4 = after-computed (minus m u) (minus_steps m u) last P k3.1 in
+      let up = low u (proved-relates ks v s zero_value AtMost u Int me k2.0 zero-over i.over) in
+      let le : value v.whole u ≤ℤ value v.whole m =
+      proved-relates ks v s u AtMost m Int me k3.0 i.over o in
+      kept (Tok x) (form.Tok m) (form.Tok (minus m u) ∷ [])
+      (λ b tk. (tokens-tokens b m (minus m u) tk, tt)) (λ own w.
+      let k = cutting.cut-tokens v m u w.0 w.1 up le in (
+        tokens k.0,
+        (λ X n. (k.0, slot-is X x t (value v.whole u) (pos k.0) i.is (i.number_is X n) k.1, refl)),
+        (λ b tk. counted-too b m (tokens k.0) (tokens-is k.0) tk),
+        subst (λ z. Cuts v z (tokens k.0) (form.Tok (minus m u) ∷ [])) (sym w.2) k.2,
+      )) k4.1
+  tokens-cut x m (suc zero) (open_to y) e h o c = absurd c.1
+  tokens-cut x m (suc (suc way)) (settled t) e h o c = absurd c.1
+  tokens-cut x m (suc (suc way)) (open_to y) e h o c = absurd c.1
+  tokens-cut x m zero stuck e h o c = absurd c.1
+  tokens-cut x m (suc zero) stuck e h o c = absurd c.1
+  tokens-cut x m (suc (suc way)) stuck e h o c = absurd c.1
+
+  new-tokens-cut :
+      (x : Slot) (m : Linear) (way : ℕ) (r : Reading) → reading env x ≡ r → SlotFits sc Int x →
+      Over (Usable ks s.sorts Int) m → Comes (cut_new_tokens s env m way r) P →
+      CutOk ks sc v s env (Tok x) (form.Src m) P
+  new-tokens-cut x m (suc zero) (settled t) e h o c =
+      let i = settled-slot ks sc v s env x Int t pl h e in
+      let u = term_in env t in
+      let last : Linear → Attempt Cut = λ rest. unit (cut env s (form.Src rest ∷ [])) in
+      let second : Linear → Attempt Cut = λ w. prove_that s.rows zero_value AtMost w Int >>= λ _.
+      (sum m w >>= last) in
+      let k1 = after-computed u (term_in_steps env t) second P c in
+      let k2 = after-proved s.rows zero_value AtMost u Int (λ _. sum m u >>= last) P k1 in
+      let k3 = after-computed (plus m u) (plus_steps m u) last P k2.1 in
+      let up = low u (proved-relates ks v s zero_value AtMost u Int me k2.0 zero-over i.over) in
+      kept (Tok x) (form.Src m) (form.Src (plus m u) ∷ [])
+      (λ b tk. (source-source b m (plus m u) tk, tt)) (λ own w.
+      let k = cutting.cut-new-tokens v m u w.0 w.1 up in (
+        tokens k.0,
+        (λ X n. (k.0, slot-is X x t (value v.whole u) (pos k.0) i.is (i.number_is X n) k.1, refl)),
+        (λ b tk. counted b m (tokens k.0) (tokens-is k.0) tk),
+        subst (λ z. Cuts v z (tokens k.0) (form.Src (plus m u) ∷ [])) (sym w.2) k.2,
+      )) k3.1
+  new-tokens-cut x m zero (settled t) e h o c = absurd c.1
+  new-tokens-cut x m (suc (suc way)) (settled t) e h o c = absurd c.1
+  new-tokens-cut x m zero (open_to y) e h o c = absurd c.1
+  new-tokens-cut x m (suc zero) (open_to y) e h o c = absurd c.1
+  new-tokens-cut x m (suc (suc way)) (open_to y) e h o c = absurd c.1
+  new-tokens-cut x m zero stuck e h o c = absurd c.1
+  new-tokens-cut x m (suc zero) stuck e h o c = absurd c.1
+  new-tokens-cut x m (suc (suc way)) stuck e h o c = absurd c.1
+
+  pub form-cut :
+      (asked : Asked) (f : Form) (way : ℕ) → AskedOver sc asked → FormOver (Usable ks s.sorts) f →
+      is_open asked env ≡ false → Comes (cut_form s env asked f way) P →
+      CutOk ks sc v s env asked f P
+  form-cut One form.One zero h o op c =
+      kept One form.One [] (λ b tk. tt)
+      (λ own w. (
+        own,
+        (λ X m. w),
+        (λ b tk. subst (IsElement b) (sym w) (alone b tk)),
+        cut-all v own,
+      )) c.1
+  form-cut One form.One (suc way) h o op c = absurd c.1
+  form-cut (Share x) (form.Share a) way h o op c = share-cut x a way (reading env x) refl op h o c
+  form-cut (Src x) (form.Src m) way h o op c = source-cut x m way (reading env x) refl h o c
+  form-cut (Tok x) (form.Tok m) way h o op c = tokens-cut x m way (reading env x) refl h o c
+  form-cut (Tok x) (form.Src m) way h o op c = new-tokens-cut x m way (reading env x) refl h o c
+  form-cut asked f way h o op c = absurd c.1

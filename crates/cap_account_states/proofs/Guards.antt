@@ -1,0 +1,337 @@
+-- Rule `guard` at a piece: what is asked is taken, and the pieces that stay are covered by what is
+-- left.
+use Rattle.std.proofs.Common.{subst, ap, arith, ◌≡◌, ◌≢◌, ℕ, ◌+◌, ℤ, true, false, List, [], ◌∷◌, ◌++◌, map, take, drop, length, Option, Some, sym, ◌∙◌, refl, suc, zero}
+use Rattle.std.specs.Prelude.{slice_get, ◌==◌, ◌&&◌}
+use Rattle.std.specs.List.{AllByRecursion}
+use Rattle.std.proofs.lemmas.Bool.Decides.{nat_tests}
+use Rattle.cap_lin.specs.Linear.{Linear, minus}
+use Rattle.cap_lin.specs.Values.{Valuation, value}
+use Rattle.cap_lin.specs.declared.row.Sort.TheVariants.{Int, Perm}
+use Rattle.cap_lin.specs.declared.row.Op.TheVariants.{Eq as Equal}
+use Rattle.cap_galg.specs.Elements.{Element, share, nothing}
+use Rattle.cap_galg.specs.Algebras.{IsElement, atom_algebra, atom_element}
+use Rattle.cap_gsolve.specs.declared.piece.Form.{Form}
+use Rattle.cap_gsolve.specs.declared.piece.Piece.{Piece}
+use Rattle.cap_gsolve.specs.Meaning.{region_of, Takes, Fits, IsFormElement}
+use Rattle.cap_prog.specs.declared.assertion.Asked.{Asked}
+use Rattle.cap_prog.specs.Program.{PlainProgram}
+use Rattle.cap_prog.specs.Scopes.{Scope, HasSort, SlotFits}
+use Rattle.cap_machine_accounts.specs.Parts.{algebra_of}
+use Rattle.cap_machine_accounts.specs.Assertions.{IsAsked}
+use Rattle.cap_goal_spec.specs.States.{PlainEnv, PlainState, PlainGoal}
+use Rattle.cap_goal_spec.specs.Environments.{Reading, settled, stuck, term_of, reading, open_to, bind_open, zero_value, term_in}
+use Rattle.cap_rules.specs.Attempts.{Attempt, ◌>>=◌, need, found}
+use Rattle.cap_rules.specs.Making.{prove_equal, env_at, fresh, determined_slot}
+use Rattle.cap_rules.specs.Taking.{Cut, cut, cut_form, after_cut, with_form, cut_share}
+use Rattle.cap_rules.specs.Rules.{Remaining, goes, at_piece, at_no_tokens}
+use Rattle.std.proofs.lemmas.Int.{ints}
+use Rattle.cap_prog.specs.declared.assertion.Slot.{Slot}
+use Rattle.cap_prog.specs.declared.assertion.Asked.TheVariants.{One, Share, Src, Tok}
+use Rattle.cap_account_states.proofs.Terms.{Over, Agree, vars-more, value-agree}
+use Rattle.cap_account_states.proofs.Values.{scaled}
+use Rattle.cap_account_states.proofs.Compatible.{pieces-more, covered-alike, all-alike-agree, all-alike-scaled, alike-scaled, alike-agree}
+use Rattle.cap_account_states.proofs.Cutting.{Cuts, one-fraction}
+use Rattle.cap_account_states.proofs.Halving.{halved, half_state, half-cut}
+use Rattle.cap_gsolve.specs.declared.piece.Form.TheVariants as form
+use Rattle.cap_prog.specs.declared.assertion.Slot.TheVariants.{Any, Is}
+use Rattle.cap_gsolve.proofs.Amounts.{zero-value}
+use Rattle.cap_account_states.specs.Nodes.{Comes}
+use Rattle.cap_account_resources.proofs.Lists.{all-at, all-both}
+use Rattle.cap_account_states.proofs.Attempts.{comes-bind, after-found, after-need, after-proved, after-determined}
+use Rattle.cap_account_states.proofs.Meets.{Usable, Meets, Free, Old, Same, same-state, usable-old}
+use Rattle.cap_account_states.proofs.Naming.{Placed, Means, Stays, bound-of, term-over, term-number}
+use Rattle.cap_account_states.proofs.Matching.{Outside}
+use Rattle.cap_account_states.proofs.Asking.{AskedOver}
+use Rattle.cap_account_resources.proofs.Marks.{Mark, free}
+use Rattle.cap_account_resources.proofs.Covering.{mark, Covered}
+use Rattle.cap_account_states.proofs.Pieces.{AllFit, left_pieces, CutAt, cut-away, cut-here, all-take, all-drop}
+use Rattle.cap_account_states.proofs.Adding.{PieceOver}
+use Rattle.cap_account_states.proofs.Guarding.{is_open, is_open_reading, form-cut, proved-relates, FormOver, share-takes}
+
+-- the guard is taken at values over a multiple of the denominator, in a state that goes on
+pub record GuardTaken (p : PlainProgram) (ks : List ℕ) (sc : Scope) (v : Valuation) (s : PlainState)
+    (j n k i : ℕ) (asked : Asked) (r : Remaining) (held : ℤ → Option Mark)
+    (P : List PlainGoal → Type 0) : Type 0 where
+  pub w : Valuation
+  pub times : ℕ
+  pub agree : Agree (Old s) (scaled times v) w
+  pub after : PlainState
+  pub meets : Meets ks w after
+  pub same : Same s after
+  pub guards : after.guards ≡ s.guards
+  pub piece : Piece
+  pub at : slice_get s.guards j ≡ Some piece
+  pub of_kind : piece.kind ≡ k
+  pub of_atom : piece.atom ≡ i
+  pub later : PlainEnv
+  pub left : List Form
+  pub placed : Placed ks sc after.sorts later
+  pub stays : Stays sc (env_at s r.env) later
+  pub outside : Outside sc (env_at s r.env) later
+  pub size : length later ≡ length (env_at s r.env)
+  pub region : (X : Valuation) → Means sc w later X → X.whole n ≡ region_of w piece
+  pub taken : Element
+  pub is_asked : (X : Valuation) → Means sc w later X → IsAsked X asked taken
+  pub is_element : IsElement (atom_algebra (algebra_of p piece.kind) piece.atom) taken
+  pub fit : AllFit p (left_pieces s.guards j piece left)
+  pub here :
+      CutAt p w (left_pieces s.guards j piece left) (region_of w piece)
+      (mark piece.kind (atom_element (algebra_of p piece.kind) piece.atom taken))
+      (held (region_of w piece))
+  pub away :
+      (z : ℤ) → region_of w piece ≢ z →
+      CutAt p w (left_pieces s.guards j piece left) z (Some free) (held z)
+  pub comes : Comes (goes (after_cut r.env j piece (cut later after left)) r) P
+
+-- pieces with other forms that fit the atom
+forms-fit :
+    (p : PlainProgram) (q : Piece) (fs : List Form) → Fits (algebra_of p q.kind) q →
+    AllByRecursion (Takes (atom_algebra (algebra_of p q.kind) q.atom)) fs →
+    AllFit p (map (with_form q) fs)
+forms-fit p q [] f h = tt
+forms-fit p q (x ∷ fs) f h = ((f.0, h.0), forms-fit p q fs f h.1)
+
+pub left-fits :
+    (p : PlainProgram) (ps : List Piece) (j : ℕ) (q : Piece) (fs : List Form) → AllFit p ps →
+    AllFit p (map (with_form q) fs) → AllFit p (left_pieces ps j q fs)
+left-fits p ps j q fs h f =
+    let P = λ (r : Piece). Fits (algebra_of p r.kind) r in
+    all-both P (take j ps) (map (with_form q) fs ++ drop (j + 1) ps) (all-take P ps j h)
+    (all-both P (map (with_form q) fs) (drop (j + 1) ps) f (all-drop P ps (j + 1) h))
+
+scaled-zero : (P : ℕ → Type 0) (v : Valuation) → Agree P (scaled 0 v) v
+scaled-zero P v = record {
+  under = omega arith;
+  whole = λ x h. refl;
+  share = λ x h. omega (arith, ints);
+}
+
+kinds : (a b x y : ℕ) → ((a == b) && (x == y)) ≡ true → (a ≡ b) × (x ≡ y)
+kinds a b x y h = (grind (arith, nat_tests), grind (arith, nat_tests))
+
+closed-taken :
+    (p : PlainProgram) (ks : List ℕ) (sc : Scope) (v : Valuation) (s : PlainState) (j way n k i : ℕ)
+    (asked : Asked) (r : Remaining) (held : ℤ → Option Mark) (P : List PlainGoal → Type 0) →
+    Meets ks v s → AllByRecursion (PieceOver (Usable ks s.sorts)) s.guards → AllFit p s.guards →
+    ((z : ℤ) → Covered p v s.guards z (held z)) → Placed ks sc s.sorts (env_at s r.env) →
+    HasSort sc Int n → AskedOver sc asked → is_open asked (env_at s r.env) ≡ false → Comes
+    (at_piece s j way n k i asked r) P → GuardTaken p ks sc v s j n k i asked r held P
+closed-taken p ks sc v s j way n k i asked r held P me ov fit cover pl hn ao op c =
+    let env = env_at s r.env in
+    let fifth : Piece → Cut → Attempt (List PlainGoal) = λ q x. goes (after_cut r.env j q x) r in
+    let fourth : Piece → Attempt
+    (List PlainGoal) = λ q. cut_form s env asked q.form way >>= fifth q in
+    let third : Piece → Linear → Attempt
+    (List PlainGoal) = λ q t. prove_equal s q.region t >>= λ _. fourth q in
+    let second : Piece → Attempt (List PlainGoal) = λ q. found (term_of env n) >>= third q in
+    let first : Piece → Attempt (List PlainGoal) = λ q. need
+    ((q.kind == k) && (q.atom == i)) >>= λ _. second q in
+    let k1 = after-found (slice_get s.guards j) first P c in
+    let q = k1.0 in
+    let k2 = after-need ((q.kind == k) && (q.atom == i)) (λ _. second q) P k1.2 in
+    let k3 = after-found (term_of env n) (third q) P k2.1 in
+    let t = k3.0 in
+    let k4 = after-proved s.rows q.region Equal t Int (λ _. fourth q) P k3.2 in
+    let o = all-at (PieceOver (Usable ks s.sorts)) s.guards j q ov k1.1 in
+    let f = all-at (λ (x : Piece). Fits (algebra_of p x.kind) x) s.guards j q fit k1.1 in
+    let eq : value v.whole q.region ≡ value v.whole t =
+    proved-relates ks v s q.region Equal t Int me k4.0 o.0 (pl.over n Int hn t k3.1) in
+    let g = form-cut ks sc v s me env pl (λ x. Comes (fifth q x) P) asked q.form way ao o.1 op
+    (comes-bind (cut_form s env asked q.form way) (fifth q) P k4.1) in
+    let h = cut-here p v s.guards j q (region_of v q) (held (region_of v q)) fit k1.1 refl
+    (cover (region_of v q)) in
+    let u = g.cuts h.own h.is_own in
+    let lf = forms-fit p q g.left f (g.fits (atom_algebra (algebra_of p q.kind) q.atom) f.1) in
+    let el = u.2 (atom_algebra (algebra_of p q.kind) q.atom) f.1 in
+    record {
+      w = v;
+      times = 0;
+      agree = scaled-zero (Old s) v;
+      after = s;
+      meets = me;
+      same = same-state s;
+      guards = refl;
+      piece = q;
+      at = k1.1;
+      of_kind = (kinds (q.kind) k (q.atom) i k2.0).0;
+      of_atom = (kinds (q.kind) k (q.atom) i k2.0).1;
+      later = g.later;
+      left = g.left;
+      placed = g.placed;
+      stays = g.stays;
+      outside = g.outside;
+      size = g.size;
+      region = λ X m. sym (eq ∙ m.whole n hn t (g.stays n Int hn t k3.1));
+      taken = u.0;
+      is_asked = u.1;
+      is_element = el;
+      fit = left-fits p s.guards j q g.left fit lf;
+      here = h.cut u.0 g.left el lf u.3;
+      away = λ z ne. cut-away p v s.guards j q g.left z (held z) k1.1 ne (cover z);
+      comes = g.comes;
+    }
+
+-- an open amount is cut out of a share alone
+open-form :
+    (s : PlainState) (env : PlainEnv) (x : Slot) (y : Option ℕ) (f : Form) (way : ℕ)
+    (P : Cut → Type 0) → reading env x ≡ open_to y → Comes (cut_form s env (Share x) f way) P →
+    (a : Linear) × (f ≡ form.Share a) × Comes (cut_share s env a 1 (open_to y)) P
+open-form s env x y (form.Share a) way P e c =
+    by way (subst (λ z. Comes (cut_share s env a way z) P) e c)
+  where
+    by :
+        (n : ℕ) → Comes (cut_share s env a n (open_to y)) P → (b : Linear)
+        × (form.Share a ≡ form.Share b) × Comes (cut_share s env b 1 (open_to y)) P
+    by zero c = absurd c.1
+    by (suc zero) c = (a, refl, c)
+    by (suc (suc n)) c = absurd c.1
+open-form s env x y f way P e c = absurd c.1
+
+open-taken :
+    (p : PlainProgram) (ks : List ℕ) (sc : Scope) (v : Valuation) (s : PlainState) (j way n k i : ℕ)
+    (x : Slot) (y : Option ℕ) (r : Remaining) (held : ℤ → Option Mark)
+    (P : List PlainGoal → Type 0) →
+    Meets ks v s → Free ks (length s.sorts) → AllByRecursion
+    (PieceOver (Usable ks s.sorts)) s.guards → AllFit p s.guards →
+    ((z : ℤ) → Covered p v s.guards z (held z)) → Placed ks sc s.sorts (env_at s r.env) →
+    HasSort sc Int n → SlotFits sc Perm x → reading (env_at s r.env) x ≡ open_to y → Comes
+    (at_piece s j way n k i (Share x) r) P → GuardTaken p ks sc v s j n k i (Share x) r held P
+open-taken p ks sc v s j way n k i x y r held P me apart ov fit cover pl hn ao op c =
+    let env = env_at s r.env in
+    let fifth : Piece → Cut → Attempt (List PlainGoal) = λ q x. goes (after_cut r.env j q x) r in
+    let fourth : Piece → Attempt (List PlainGoal) = λ q. cut_form s env
+    (Share x) q.form way >>= fifth q in
+    let third : Piece → Linear → Attempt
+    (List PlainGoal) = λ q t. prove_equal s q.region t >>= λ _. fourth q in
+    let second : Piece → Attempt (List PlainGoal) = λ q. found (term_of env n) >>= third q in
+    let first : Piece → Attempt (List PlainGoal) = λ q. need
+    ((q.kind == k) && (q.atom == i)) >>= λ _. second q in
+    let k1 = after-found (slice_get s.guards j) first P c in
+    let q = k1.0 in
+    let k2 = after-need ((q.kind == k) && (q.atom == i)) (λ _. second q) P k1.2 in
+    let k3 = after-found (term_of env n) (third q) P k2.1 in
+    let t = k3.0 in
+    let k4 = after-proved s.rows q.region Equal t Int (λ _. fourth q) P k3.2 in
+    let o = all-at (PieceOver (Usable ks s.sorts)) s.guards j q ov k1.1 in
+    let f = all-at (λ (x : Piece). Fits (algebra_of p x.kind) x) s.guards j q fit k1.1 in
+    let tv = pl.over n Int hn t k3.1 in
+    let eq : value v.whole q.region ≡ value v.whole t =
+    proved-relates ks v s q.region Equal t Int me k4.0 o.0 tv in
+    let g = open-form s env x y q.form way (λ x. Comes (fifth q x) P) op
+    (comes-bind (cut_form s env (Share x) q.form way) (fifth q) P k4.1) in
+    let a = g.0 in
+    let w = halved v (length s.sorts) a in
+    let hv = cut-here p v s.guards j q (region_of v q) (held (region_of v q)) fit k1.1 refl
+    (cover (region_of v q)) in
+    let iv : IsFormElement v (form.Share a) hv.own = subst
+    (λ l. IsFormElement v l hv.own) g.1 hv.is_own in
+    let ho = half-cut ks sc v s env x y a hv.own (λ x. Comes (fifth q x) P) me apart pl ao
+    (subst (FormOver (Usable ks s.sorts)) g.1 o.1) op iv g.2 in
+    let old = pieces-more (Usable ks s.sorts) (λ o. Old s) (usable-old ks s.sorts) s.guards ov in
+    let cw : (z : ℤ) → Covered p w s.guards z (held z) = λ z. covered-alike p
+    (scaled 1 v) w s.guards z (held z)
+    (all-alike-agree (Old s) (scaled 1 v) w ho.agree s.guards old)
+    (covered-alike p v (scaled 1 v) s.guards z (held z) (all-alike-scaled 1 v s.guards)
+    (cover z)) in
+    let hw = cut-here p w s.guards j q (region_of w q) (held (region_of w q)) fit k1.1 refl
+    (cw (region_of w q)) in
+    let iw : IsFormElement w (form.Share a) hw.own = subst
+    (λ l. IsFormElement w l hw.own) g.1 hw.is_own in
+    let old-a = vars-more (Usable ks s.sorts Perm) (Old s) (usable-old ks s.sorts Perm) a.parts
+    (subst (FormOver (Usable ks s.sorts)) g.1 o.1) in
+    let jw : IsFormElement w (form.Share a) hv.own = alike-agree (Old s) (scaled 1 v) w ho.agree
+    (form.Share a) old-a hv.own (alike-scaled 1 v (form.Share a) hv.own iv) in
+    let one : hv.own ≡ hw.own = jw.3 ∙ ap share
+    (one-fraction w a a jw.0 iw.0 jw.1 iw.1 jw.2 iw.2 refl) ∙ sym iw.3 in
+    let left = form.Share (minus a (fresh s)) ∷ [] in
+    let takes : Takes (atom_algebra (algebra_of p q.kind) q.atom) (form.Share a) = subst
+    (Takes (atom_algebra (algebra_of p q.kind) q.atom)) g.1 f.1 in
+    let lf = forms-fit p q left f
+    (share-takes (atom_algebra (algebra_of p q.kind) q.atom) a (minus a (fresh s)) takes, tt) in
+    let el = ho.is_element (atom_algebra (algebra_of p q.kind) q.atom) takes in
+    let b = ho.bound in
+    let move = λ (u : Linear) (h : Over (Usable ks s.sorts Int) u). value-agree (Old s)
+    (scaled 1 v) w ho.agree u
+    (vars-more (Usable ks s.sorts Int) (Old s) (usable-old ks s.sorts Int) u.parts h) in
+    record {
+      w = w;
+      times = 1;
+      agree = ho.agree;
+      after = half_state s a;
+      meets = ho.meets;
+      same = ho.same;
+      guards = refl;
+      piece = q;
+      at = k1.1;
+      of_kind = (kinds (q.kind) k (q.atom) i k2.0).0;
+      of_atom = (kinds (q.kind) k (q.atom) i k2.0).1;
+      later = bind_open env y (fresh s);
+      left = left;
+      placed = b.placed;
+      stays = b.stays;
+      outside = b.outside;
+      size = b.size;
+      region =
+          λ X m. sym
+          (move q.region o.0 ∙ eq ∙ sym (move t tv) ∙ m.whole n hn t (b.stays n Int hn t k3.1));
+      taken = ho.taken;
+      is_asked = ho.is_asked;
+      is_element = el;
+      fit = left-fits p s.guards j q left fit lf;
+      here = hw.cut ho.taken left el lf (subst (λ z. Cuts w z ho.taken left) one ho.cuts);
+      away = λ z ne. cut-away p w s.guards j q left z (held z) k1.1 ne (cw z);
+      comes = ho.comes;
+    }
+
+pub guard-taken :
+    (p : PlainProgram) (ks : List ℕ) (sc : Scope) (v : Valuation) (s : PlainState) (j way n k i : ℕ)
+    (asked : Asked) (r : Remaining) (held : ℤ → Option Mark) (P : List PlainGoal → Type 0) →
+    Meets ks v s → Free ks (length s.sorts) → AllByRecursion
+    (PieceOver (Usable ks s.sorts)) s.guards → AllFit p s.guards →
+    ((z : ℤ) → Covered p v s.guards z (held z)) → Placed ks sc s.sorts (env_at s r.env) →
+    HasSort sc Int n → AskedOver sc asked → Comes
+    (at_piece s j way n k i asked r) P → GuardTaken p ks sc v s j n k i asked r held P
+guard-taken p ks sc v s j way n k i One r held P me apart ov fit cover pl hn ao c =
+    closed-taken p ks sc v s j way n k i One r held P me ov fit cover pl hn ao refl c
+guard-taken p ks sc v s j way n k i (Src x) r held P me apart ov fit cover pl hn ao c =
+    closed-taken p ks sc v s j way n k i (Src x) r held P me ov fit cover pl hn ao refl c
+guard-taken p ks sc v s j way n k i (Tok x) r held P me apart ov fit cover pl hn ao c =
+    closed-taken p ks sc v s j way n k i (Tok x) r held P me ov fit cover pl hn ao refl c
+guard-taken p ks sc v s j way n k i (Share x) r held P me apart ov fit cover pl hn ao c =
+    by (reading (env_at s r.env) x) refl
+  where
+    by :
+        (d : Reading) → reading (env_at s r.env) x ≡ d →
+        GuardTaken p ks sc v s j n k i (Share x) r held P
+    by (open_to y) e =
+        open-taken p ks sc v s j way n k i x y r held P me apart ov fit cover pl hn ao e c
+    by (settled t) e =
+        closed-taken p ks sc v s j way n k i (Share x) r held P me ov fit cover pl hn ao
+        (ap is_open_reading e) c
+    by stuck e =
+        closed-taken p ks sc v s j way n k i (Share x) r held P me ov fit cover pl hn ao
+        (ap is_open_reading e) c
+
+-- no tokens are asked for
+pub no-tokens-taken :
+    (ks : List ℕ) (sc : Scope) (v : Valuation) (s : PlainState) (j : ℕ) (x : Slot) (r : Remaining)
+    (P : List PlainGoal → Type 0) → Meets ks v s → Placed ks sc s.sorts (env_at s r.env) →
+    SlotFits sc Int x → Comes (at_no_tokens s j x r) P →
+    ((X : Valuation) → Means sc v (env_at s r.env) X → IsAsked X (Tok x) nothing) × Comes
+    (goes s r) P
+no-tokens-taken ks sc v s j Any r P me pl h c =
+    absurd (after-need (j == 0)
+    (λ _. determined_slot
+    (env_at s r.env) Any >>= λ t. prove_equal s t zero_value >>= λ _. goes s r) P c).1.1
+no-tokens-taken ks sc v s j (Is u) r P me pl h c =
+    let env = env_at s r.env in
+    let second : Linear → Attempt
+    (List PlainGoal) = λ t. prove_equal s t zero_value >>= λ _. goes s r in
+    let k1 = after-need (j == 0) (λ _. determined_slot env (Is u) >>= second) P c in
+    let k2 = after-determined env u second P k1.1 in
+    let b = bound-of env u.parts k2.0 in
+    let k3 = after-proved s.rows (term_in env u) Equal zero_value Int (λ _. goes s r) P k2.1 in
+    let eq : value v.whole (term_in env u) ≡ value v.whole zero_value =
+    proved-relates ks v s (term_in env u) Equal zero_value Int me k3.0
+    (term-over ks sc s.sorts env Int u pl h b) tt in
+    (λ X m. (0, sym (term-number sc v env X Int u m h b) ∙ eq ∙ zero-value v.whole, refl), k3.1)

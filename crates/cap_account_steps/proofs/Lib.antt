@@ -1,0 +1,7 @@
+pub mod Points
+pub mod Fitting
+pub mod Grains
+pub mod Others
+pub mod Solving
+pub mod Keeping
+pub mod Settling
