@@ -23,7 +23,7 @@ use Rattle.cap_gsolve.proofs.Amounts.{one-amount, zero-value}
 use Rattle.cap_gsolve.proofs.Held.{in-a-row}
 
 -- an algebra stands in another one from an atom on: what its elements are there
-record Stands (w a : PlainAlgebra) (i : ℕ) (e : Element → Element) : Type 0 where
+pub record Stands (w a : PlainAlgebra) (i : ℕ) (e : Element → Element) : Type 0 where
   place : (j : ℕ) (x : Element) → j < atoms a → at_atom w (i + j) x ≡ e (at_atom a j x)
   follows : (x y : Element) → IsSome x → IsSome y → compose (e x) (e y) ≡ bind (compose x y) (λ z. Some (e z))
   some : (x : Element) → IsSome x → IsSome (e x)
@@ -31,7 +31,7 @@ record Stands (w a : PlainAlgebra) (i : ℕ) (e : Element → Element) : Type 0 
 full-some : (a : PlainAlgebra) → IsSome (full a)
 full-some a = record { sound = sound-of a (full a) (full-element a); some = full-present a }
 
-itself : (a : PlainAlgebra) → Stands a a 0 (λ x. x)
+pub itself : (a : PlainAlgebra) → Stands a a 0 (λ x. x)
 itself a = record {
   place = λ j x l. ap (λ n. at_atom a n x) (let e : 0 + j ≡ j = omega arith in e);
   follows = λ x y p q. sym (bind-some (compose x y));
@@ -64,14 +64,14 @@ first-part x p = product-some true x x p p
 second-part : (x : Element) → IsSome x → IsSome (both nothing x)
 second-part x p = product-some false x x p p
 
-in-first : (w a b : PlainAlgebra) (i : ℕ) (e : Element → Element) → Stands w (product a b) i e → Stands w a i (λ x. e (both x nothing))
+pub in-first : (w a b : PlainAlgebra) (i : ℕ) (e : Element → Element) → Stands w (product a b) i e → Stands w a i (λ x. e (both x nothing))
 in-first w a b i e s = record {
   place = λ j x l. s.place j x (let m : j < atoms a + atoms b = omega arith in m) ∙ ap e (first-place a b j x l);
   follows = λ x y p q. s.follows (both x nothing) (both y nothing) (first-part x p) (first-part y q) ∙ bind-map (compose x y) (λ u. both u nothing) e;
   some = λ x p. s.some (both x nothing) (first-part x p);
 }
 
-in-second : (w a b : PlainAlgebra) (i : ℕ) (e : Element → Element) → Stands w (product a b) i e → Stands w b (i + atoms a) (λ x. e (both nothing x))
+pub in-second : (w a b : PlainAlgebra) (i : ℕ) (e : Element → Element) → Stands w (product a b) i e → Stands w b (i + atoms a) (λ x. e (both nothing x))
 in-second w a b i e s = record {
   place = λ j x l.
       ap (λ n. at_atom w n x) (let d : i + atoms a + j ≡ i + (atoms a + j) = omega arith in d)
@@ -80,7 +80,7 @@ in-second w a b i e s = record {
   some = λ x p. s.some (both nothing x) (second-part x p);
 }
 
-in-side : (w a b : PlainAlgebra) (i : ℕ) (e : Element → Element) → Stands w (sum a b) i e → Stands w a i (λ x. e (on_left x))
+pub in-side : (w a b : PlainAlgebra) (i : ℕ) (e : Element → Element) → Stands w (sum a b) i e → Stands w a i (λ x. e (on_left x))
 in-side w a b i e s = record {
   place = λ j x l. s.place j x (let m : j < atoms a + atoms b = omega arith in m) ∙ ap e (side-place a b j x l);
   follows = λ x y p q.
@@ -90,7 +90,7 @@ in-side w a b i e s = record {
   some = λ x p. s.some (on_left x) (left-some (is_full x) x refl p);
 }
 
-in-other-side : (w a b : PlainAlgebra) (i : ℕ) (e : Element → Element) → Stands w (sum a b) i e → Stands w b (i + atoms a) (λ x. e (on_right x))
+pub in-other-side : (w a b : PlainAlgebra) (i : ℕ) (e : Element → Element) → Stands w (sum a b) i e → Stands w b (i + atoms a) (λ x. e (on_right x))
 in-other-side w a b i e s = record {
   place = λ j x l.
       ap (λ n. at_atom w n x) (let d : i + atoms a + j ≡ i + (atoms a + j) = omega arith in d)
@@ -103,7 +103,7 @@ in-other-side w a b i e s = record {
 }
 
 -- one piece
-lone : (w a : PlainAlgebra) (k : ℕ) (v : Valuation) (r : Linear) (i : ℕ) (e : Element → Element) (f : Form) (x : Element) → 0 < atoms a → Stands w a i e → at_atom a 0 x ≡ x → IsSome x → IsFormElement v f x
+pub lone : (w a : PlainAlgebra) (k : ℕ) (v : Valuation) (r : Linear) (i : ℕ) (e : Element → Element) (f : Form) (x : Element) → 0 < atoms a → Stands w a i e → at_atom a 0 x ≡ x → IsSome x → IsFormElement v f x
     → ComposeAt w k v (value v.whole r) (piece r k i f ∷ []) (e x)
 lone w a k v r i e f x l s t p h =
     let n : i ≡ i + 0 = omega arith in
@@ -111,7 +111,7 @@ lone w a k v r i e f x l s t p h =
     let g : e x ≡ atom_element w i x = q ∙ sym (ap (λ b. if b then nothing else at_atom w i x) p.some) in
     (e x ∷ [], (inl (refl, (x, h, g), inl refl), tt), compose-nothing (e x))
 
-full-from : (a w : PlainAlgebra) (k : ℕ) (v : Valuation) (r : Linear) (i : ℕ) (e : Element → Element) → Stands w a i e → ComposeAt w k v (value v.whole r) (pieces_of r k (full_forms a i)) (e (full a))
+pub full-from : (a w : PlainAlgebra) (k : ℕ) (v : Valuation) (r : Linear) (i : ℕ) (e : Element → Element) → Stands w a i e → ComposeAt w k v (value v.whole r) (pieces_of r k (full_forms a i)) (e (full a))
 full-from unique w k v r i e s = lone w unique k v r i e One one (omega arith) s refl (full-some unique) refl
 full-from divisible w k v r i e s =
     let m : pos 1 *ℤ denominator v.fraction ≡ amount v.fraction one_term *ℤ pos 1 = rw (one-amount v.fraction) (omega (arith, ints)) in

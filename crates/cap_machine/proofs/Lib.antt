@@ -12,4 +12,3 @@ pub mod StartLemmas
 pub mod ActLemmas
 pub mod StepLemmas
 pub mod ReadyLemmas
-pub mod ExampleLemmas

@@ -8,4 +8,3 @@ pub mod View
 pub mod Changes
 pub mod Errors
 pub mod Ready
-pub mod Example
