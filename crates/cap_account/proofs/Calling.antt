@@ -144,7 +144,7 @@ meets-reserve v s m =
     }
   where
     apart : (o : Sort) (x : ℕ) → Usable [] s.sorts o x → Usable (length s.sorts ∷ []) s.sorts o x
-    apart o x h = (h.0, ((λ e. let q = within s.sorts x o h.0 in omega (arith, q, e)), tt))
+    apart o x h = (h.0, ((λ e. let q = usable-old [] s.sorts o x h in omega (arith, q, e)), tt))
 
 meets-free : (ks : List ℕ) (v : Valuation) (s : PlainState) → Meets ks v s → Meets [] v s
 meets-free ks v s m =

@@ -22,7 +22,7 @@ use Rattle.cap_account_resources.specs.Parts.{Hold, nothing, joined, Table, Has,
 use Rattle.cap_account_resources.proofs.Lists.{some-same, none-some, within, there-is, get-map, map-length, get-or-push, push-length, all-at}
 use Rattle.cap_account_states.proofs.Terms.{Over, vars-more, by_terms, Agree, value-agree}
 use Rattle.cap_account_states.proofs.Attempts.{env_added, after-found, after-here, after-env}
-use Rattle.cap_account_states.proofs.Meets.{Usable, usable-old, Meets, Old, meets-env, solves, variable-value, variable-amount}
+use Rattle.cap_account_states.proofs.Meets.{Usable, usable-old, Meets, Old, meets-env, solves, variable-value, variable-amount, is-of}
 use Rattle.cap_account_states.proofs.Items.{items_size, within-same, spends-more}
 use Rattle.cap_account_states.proofs.Naming.{Placed, Means}
 use Rattle.cap_account_states.proofs.Checked.{Checked}
@@ -147,7 +147,7 @@ own-placed s v fn h fx f ls r new sc m st size hl fl fr at_position = record {
         let look = own-fixed fn h ps ls r (length new) hp hl i (within fn.fixed i o y) in
         let u : variable (h.fixed + i) ≡ t =
         some-same (variable (h.fixed + i)) t (sym look ∙ (ap (term_of env) (sym q) ∙ e)) in
-        subst (Over (Usable [] s.sorts o)) u ((st.fixed_known i o y, tt), tt)
+        subst (Over (Usable [] s.sorts o)) u ((is-of s.sorts o (h.fixed + i) (st.fixed_known i o y), tt), tt)
     over x o t (result q y) e =
         subst (λ z. Over (Usable [] s.sorts z) t) y
         (fr t (sym (own-result fn h ps ls r (length new) hp hl) ∙ (ap (term_of env) (sym q) ∙ e)))

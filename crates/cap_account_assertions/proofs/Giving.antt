@@ -33,7 +33,7 @@ use Rattle.cap_account_resources.proofs.Lists.{get-last, all-first, all-second, 
 use Rattle.cap_account_states.proofs.Terms.{Over, vars-more, RowOver, row-over, value-number, Agree, agree-same, number-agree, relates-same}
 use Rattle.cap_account_resources.proofs.Order.{unless-relates}
 use Rattle.cap_account_states.proofs.Attempts.{comes-bind, comes-more, after-computed, after-sort, comes-comparison, after-comparison, after-cell, sort_added, row_added, cell_added}
-use Rattle.cap_account_states.proofs.Meets.{Usable, usable-old, CellOver, Meets, need, need-agree, Old, Same, same-state, same-trans, agree-on, with_value, new-whole, new-share, variable-value, meets-row, same-row, solves}
+use Rattle.cap_account_states.proofs.Meets.{Usable, usable-old, CellOver, Meets, need, need-agree, Old, Same, same-state, same-trans, agree-on, with_value, new-whole, new-share, variable-value, meets-row, same-row, solves, usable-on}
 use Rattle.cap_account_states.proofs.Checked.{Checked, children-split, one-child, no-region}
 use Rattle.cap_account_states.proofs.Naming.{Others, Ready, Step, step-trans, step-fresh, parts-named, term-over, term-number}
 use Rattle.cap_account_states.proofs.Items.{items_size, size-positive, append-size, AreFit, fits-append, fits-more, fits-sides, within-same, spends-append}
@@ -141,7 +141,8 @@ pub over-later :
     (s t : PlainState) (o : Sort) (u : Linear) → Same s t → Over (Usable [] s.sorts o) u →
     Over (Usable [] t.sorts o) u
 over-later s t o u m h =
-    vars-more (Usable [] s.sorts o) (Usable [] t.sorts o) (λ x q. (m.sorts x o q.0, q.1)) u.parts h
+    vars-more (Usable [] s.sorts o) (Usable [] t.sorts o)
+    (usable-on [] s.sorts t.sorts m.sorts o) u.parts h
 
 pub number-later :
     (s : PlainState) (v w : Valuation) (o : Sort) (u : Linear) → Agree (Old s) v w →

@@ -32,7 +32,7 @@ use Rattle.cap_account_states.specs.Nodes.{Comes}
 use Rattle.cap_account_resources.proofs.Lists.{some-same, set-length, get-last}
 use Rattle.cap_account_states.proofs.Terms.{Vars, Over, vars-more, row-over, Agree, amount-agree}
 use Rattle.cap_account_states.proofs.Attempts.{sort_added, row_added, after-sort, after-comparison, after-computed}
-use Rattle.cap_account_states.proofs.Meets.{Free, Usable, usable-old, Meets, Old, Same, same-trans, meets-fresh, meets-row, same-fresh, same-row, with-agrees, variable-amount, with_value, new-share}
+use Rattle.cap_account_states.proofs.Meets.{Free, Usable, usable-on, usable-old, Meets, Old, Same, same-trans, meets-fresh, meets-row, same-fresh, same-row, with-agrees, variable-amount, with_value, new-share}
 use Rattle.cap_account_states.proofs.Naming.{Placed, Means, Stays, term-same, term-other, placed-set, placed-more, stays-set}
 use Rattle.cap_account_states.proofs.Matching.{Outside, lone-is}
 use Rattle.cap_account_states.proofs.Values.{scaled, meets-scaled, scaled-amount}
@@ -185,9 +185,10 @@ half-cut ks sc v s env x y a own P me free pl h o e i c =
     let ag : Agree (Old s) (scaled 1 v) w = with-agrees (Old s) (scaled 1 v) n (pos 0)
     (amount v.fraction a) (λ z l q. omega (arith, l, q)) in
     let m1 = meets-fresh ks (scaled 1 v) w s Perm ag tt (meets-scaled ks 1 v s me) in
-    let new : Over (Usable ks s1.sorts Perm) (fresh s) = ((get-last s.sorts Perm, free), tt) in
+    let new : Over (Usable ks s1.sorts Perm) (fresh s) = (((Perm, get-last s.sorts Perm), free), tt) in
     let a1 : Over (Usable ks s1.sorts Perm) a = vars-more (Usable ks s.sorts Perm)
-    (Usable ks s1.sorts Perm) (λ z q. ((same-fresh s Perm).sorts z Perm q.0, q.1)) a.parts o in
+    (Usable ks s1.sorts Perm)
+    (usable-on ks s.sorts s1.sorts (same-fresh s Perm).sorts Perm) a.parts o in
     let up : amount w.fraction zero_value <ℤ amount w.fraction (fresh s) = subst
     (λ z. z <ℤ amount w.fraction (fresh s)) (sym (zero-amount w.fraction)) hf.above in
     let m2 = meets-row ks w s1 r1 m1 ((row_of-means w (fresh s) Greater zero_value Perm).1 up)

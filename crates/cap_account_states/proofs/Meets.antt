@@ -22,9 +22,32 @@ use Rattle.cap_account_states.proofs.Attempts.{sort_added, row_added}
 abbrev pub Free : List ℕ → ℕ → Type 0
 Free ks x = AllByRecursion (λ k. x ≢ k) ks
 
+-- a variable of sort Int is a fraction too
+abbrev pub IsOf : List Sort → Sort → ℕ → Type 0
+IsOf sorts Int x = slice_get sorts x ≡ Some Int
+IsOf sorts Perm x = (o : Sort) × (slice_get sorts x ≡ Some o)
+
 -- of this sort, and not kept free
 abbrev pub Usable : List ℕ → List Sort → Sort → ℕ → Type 0
-Usable ks sorts o x = (slice_get sorts x ≡ Some o) × Free ks x
+Usable ks sorts o x = IsOf sorts o x × Free ks x
+
+pub is-of : (sorts : List Sort) (o : Sort) (x : ℕ) → slice_get sorts x ≡ Some o → IsOf sorts o x
+is-of sorts Int x e = e
+is-of sorts Perm x e = (Perm, e)
+
+-- a variable of sort Int is usable where a fraction is wanted
+pub int-usable :
+    (ks : List ℕ) (sorts : List Sort) (o : Sort) (x : ℕ) → Usable ks sorts Int x →
+    Usable ks sorts o x
+int-usable ks sorts Int x h = h
+int-usable ks sorts Perm x h = ((Int, h.0), h.1)
+
+pub usable-on :
+    (ks : List ℕ) (ss us : List Sort) →
+    ((x : ℕ) (o : Sort) → slice_get ss x ≡ Some o → slice_get us x ≡ Some o) → (o : Sort) (x : ℕ) →
+    Usable ks ss o x → Usable ks us o x
+usable-on ks ss us f Int x h = (f x Int h.0, h.1)
+usable-on ks ss us f Perm x h = ((h.0.0, f x h.0.0 h.0.1), h.1)
 
 abbrev pub CellOver : (Sort → ℕ → Type 0) → Linear × Linear → Type 0
 CellOver R c = Over (R Int) c.0 × Over (R Int) c.1
@@ -49,7 +72,8 @@ Old s x = x < length s.sorts
 
 pub usable-old :
     (ks : List ℕ) (sorts : List Sort) (o : Sort) (x : ℕ) → Usable ks sorts o x → x < length sorts
-usable-old ks sorts o x h = within sorts x o h.0
+usable-old ks sorts Int x h = within sorts x Int h.0
+usable-old ks sorts Perm x h = within sorts x h.0.0 h.0.1
 
 fits-rows :
     (R : Sort → ℕ → Type 0) (v : Valuation) → ((x : ℕ) → R Int x → IsWholeAt v x) →
@@ -185,7 +209,7 @@ meets-agree ks v w s a so m = record {
   sorted = so;
   rows =
       rows-agree (Usable ks s.sorts) (λ x. (x < length s.sorts) × Free ks x) v w
-      (λ o x h. (within s.sorts x o h.0, h.1)) a s.rows m.rows_over m.rows;
+      (λ o x h. (usable-old ks s.sorts o x h, h.1)) a s.rows m.rows_over m.rows;
   rows_over = m.rows_over;
   cells_over = m.cells_over;
   positive =
@@ -204,7 +228,8 @@ SortOk v x Perm = Unit {0}
 usable-more :
     (ks : List ℕ) (sorts : List Sort) (o p : Sort) (x : ℕ) → Usable ks sorts p x →
     Usable ks (sorts ++ o ∷ []) p x
-usable-more ks sorts o p x h = (get-first sorts (o ∷ []) x p h.0, h.1)
+usable-more ks sorts o p x h =
+    usable-on ks sorts (sorts ++ o ∷ []) (λ y q e. get-first sorts (o ∷ []) y q e) p x h
 
 pub cell-more :
     (R S : Sort → ℕ → Type 0) → ((o : Sort) (x : ℕ) → R o x → S o x) → (c : Linear × Linear) →

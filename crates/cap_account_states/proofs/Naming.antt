@@ -21,7 +21,7 @@ use Rattle.cap_account_states.specs.Nodes.{Comes}
 use Rattle.cap_account_resources.proofs.Lists.{get-first, get-last, get-set-same, get-set-other, set-length, get-or-set, get-or-other, none-some, some-same}
 use Rattle.cap_account_states.proofs.Terms.{Vars, Over, vars-more, over-over, RowOver, row-over, by_terms, value-is, amount-is, number-over, Agree, agree-same, value-agree, amount-agree, sum-agree, relates-same}
 use Rattle.cap_account_states.proofs.Attempts.{comes-bind, comp_row, AreDetermined, sort_added, after-sort}
-use Rattle.cap_account_states.proofs.Meets.{Usable, usable-old, Meets, Old, Same, same-state, same-trans, same-fresh, agree-on, with_value, new-whole, new-share, with-agrees, variable-value, variable-amount, SortOk, meets-fresh, meets-env}
+use Rattle.cap_account_states.proofs.Meets.{Usable, is-of, usable-on, usable-old, Meets, Old, Same, same-state, same-trans, same-fresh, agree-on, with_value, new-whole, new-share, with-agrees, variable-value, variable-amount, SortOk, meets-fresh, meets-env}
 
 -- ---- names in an environment
 
@@ -88,7 +88,7 @@ pub placed-more :
 placed-more ks sc ss us env f h = record {
   room = h.room;
   over =
-      λ x o i t e. vars-more (Usable ks ss o) (Usable ks us o) (λ y q. (f y o q.0, q.1)) t.parts
+      λ x o i t e. vars-more (Usable ks ss o) (Usable ks us o) (usable-on ks ss us f o) t.parts
       (h.over x o i t e);
 }
 
@@ -419,7 +419,7 @@ named sc e a v s x o P r i c = by (term_of (env_at s e) x) refl c
         let fresh_is : (p : Sort) → HasSort sc p x → slice_get s1.sorts n ≡ Some p =
         (λ p j. get-last s.sorts o ∙ ap Some (one_sort p j)) in
         let p1 : Placed [] sc s1.sorts env1 = placed-set [] sc s1.sorts env x (fresh s)
-        (λ p j. ((fresh_is p j, tt), tt)) k.ready.placed in
+        (λ p j. ((is-of s1.sorts p n (fresh_is p j), tt), tt)) k.ready.placed in
         let m1 : Means sc w env1 a = means-set sc w env a x (fresh s) l
         (λ j. variable-value w n ∙ new-whole v n (a.whole x) y)
         (λ j. variable-amount w n ∙ new-share v n (a.whole x) y ∙ ap

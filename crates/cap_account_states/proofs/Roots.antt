@@ -17,7 +17,7 @@ use Rattle.cap_goal_spec.specs.States.{PlainEnv, PlainState, Home}
 use Rattle.cap_goal_spec.specs.Environments.{zero_value, term_of, bound, own_env}
 use Rattle.cap_account_resources.proofs.Lists.{some-same, none-some, within, there-is, get-join, get-first, get-second, all-at}
 use Rattle.cap_account_states.proofs.Terms.{Over, value-number}
-use Rattle.cap_account_states.proofs.Meets.{Usable, variable-value, variable-amount}
+use Rattle.cap_account_states.proofs.Meets.{Usable, variable-value, variable-amount, is-of}
 use Rattle.cap_account_states.proofs.Naming.{Placed, Means, Ready}
 use Rattle.cap_account_states.proofs.Values.{normal, normal-whole, normal-perm, named-at, named-of, whole-at, whole-of}
 use Rattle.cap_account_states.proofs.Scopes.{Position, param, local, fixed, result, extra, position-room, own-param, own-local, own-fixed, own-result, own-new, own-room, variables-length, variables-at, rep-length, rep-at, rep-in}
@@ -228,7 +228,12 @@ module _ (root : Root) where
       let u : variable (f.params + l + i) ≡ t = some-same (variable (f.params + l + i)) t
       (sym (own-fixed f h ps ls r count hp hls i (within f.fixed i o e)) ∙ ap (term_of env)
       (sym q) ∙ k) in
-      (f.params + l + i, sym u, (fixed-usable i o e, tt), fixed-place i ∙ sym q)
+      (
+        f.params + l + i,
+        sym u,
+        (is-of (sorts_of f l rs) o (f.params + l + i) (fixed-usable i o e), tt),
+        fixed-place i ∙ sym q,
+      )
   variable-of x o t (result q e) k =
       let u = root.r_is t
       (sym (own-result f h ps ls r count hp hls) ∙ ap (term_of env) (sym q) ∙ k) in
@@ -238,9 +243,10 @@ module _ (root : Root) where
         f.params + l + length f.fixed,
         u.0,
         (
-          ap (slice_get (sorts_of f l rs)) n ∙ get-second (replicate (f.params + l) Int)
+          is-of (sorts_of f l rs) o (f.params + l + length f.fixed)
+              (ap (slice_get (sorts_of f l rs)) n ∙ get-second (replicate (f.params + l) Int)
               (f.fixed ++ rs) (length f.fixed + 0) ∙ get-second f.fixed rs 0 ∙ ap
-              (λ ss. slice_get ss 0) u.1 ∙ ap Some e,
+              (λ ss. slice_get ss 0) u.1 ∙ ap Some e),
           tt,
         ),
         fixed-place (length f.fixed) ∙ sym q,
