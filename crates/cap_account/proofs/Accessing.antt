@@ -215,7 +215,7 @@ module _ (p : Checked) (part : Hold) (fn : PlainFunction) (fixed : List NameValu
       absurd (clash-case heap n.state n.v i j a ks
       (λ y z. let i = n.have y z in let j = le y z in omega (arith, i, j)) n.meets (p.step n.valid))
   access heap le a x ea l b f (node (by_enter i cs) ks) n =
-      absurd (enter-case n.state i l a (running (first l a b) n.home) ks n.meets.no_facts
+      absurd (enter-case n.state i l a (running (first l a b) n.home) ks n.no_facts
       (p.step n.valid))
   access heap le a x ea l b f (node (by_act j cs ms) ks) n =
       act-case n.state n.v n.home l a x b j (map is_some ms) ks ea n.opened n.meets (p.step n.valid)

@@ -45,15 +45,15 @@ pub rest-stands :
     FrameOk p.program fn fx f → (ks : PlainTrees) (t : PlainState) (v : Valuation) (h : Home)
     (n : ℕ)
     (gs : List PlainGoal) →
-    Children p.N ks (goals_of t (to_rest 0 n ∷ running f.rest h) ++ gs) → t.opened ≡ [] →
+    Children p.N ks (goals_of t (to_rest 0 n ∷ running f.rest h) ++ gs) → t.opened ≡ [] → t.facts ≡ [] →
     Meets [] v t → Covers v t part → Store v t h fn fx f → Stands p part T fx f
-rest-stands p part T fn fx f ok ks t v h n gs hd o m have st = record {
+rest-stands p part T fn fx f ok ks t v h n gs hd o none m have st = record {
   fn = fn;
   ok = ok;
   all = λ U r.
       let k = children-split p.N ks (goals_of t (to_rest 0 n ∷ running f.rest h)) gs hd in
       let q = one-child p.N k.left t (running f.rest h)
-      (rested p.N k.left t n (running f.rest h) m.no_facts k.first) in
+      (rested p.N k.left t n (running f.rest h) none k.first) in
       record {
         tree = q.0;
         at_node = record {
@@ -62,6 +62,7 @@ rest-stands p part T fn fx f ok ks t v h n gs hd o m have st = record {
           home = h;
           valid = q.1;
           opened = o;
+          no_facts = none;
           meets = m;
           have = have;
           store = st;
@@ -79,7 +80,6 @@ meets-local v s y t m o = record {
   cells_over = m.cells_over;
   positive = m.positive;
   store_over = all-set (Over (Usable [] s.sorts Int)) s.store y t m.store_over o;
-  no_facts = m.no_facts;
 }
 
 meets-content :
@@ -95,7 +95,6 @@ meets-content v s j c u m e o = record {
   positive = all-set (λ d. pos 0 <ℤ value v.whole d.0) s.cells j (c.0, u) m.positive
       (all-at (λ d. pos 0 <ℤ value v.whole d.0) s.cells j c m.positive e);
   store_over = m.store_over;
-  no_facts = m.no_facts;
 }
 
 -- another local
@@ -260,7 +259,7 @@ module _ (p : Checked) (heap : Heap) (part : Hold)
         goes_on = rest-stands p part T fn fx (with_value (with_rest f b) y (value n.v.whole c.1))
             (ok (value n.v.whole c.1)) ac.kids
             (with_local s y c.1) n.v n.home l.number [] ac.goals.1
-            n.opened (meets-local n.v s y c.1 n.meets co.1) n.have
+            n.opened n.no_facts (meets-local n.v s y c.1 n.meets co.1) n.have
             (store-local n.v s n.home fn fx f y c.1 (value n.v.whole c.1) b refl
             (store-of f (first l (read y x) b) k.tree n));
       }
@@ -310,7 +309,7 @@ module _ (p : Checked) (heap : Heap) (part : Hold)
             (swapped part (value_in f.store x) (value n.v.whole c.1) (value_in f.store u)) T fn fx
             (with_rest f b) ok ac.kids
             (with_content s ac.j c (here s u)) n.v n.home l.number [] hd.1
-            n.opened
+            n.opened n.no_facts
             (meets-content n.v s ac.j c (here s u) n.meets ac.is (here-over [] n.v s u n.meets))
             (swapped-covers f x r k.tree n ac.j c (here s u) (value_in f.store u) ac.is g
             (here-value n.v s f.store u st.store))
@@ -386,7 +385,7 @@ module _ (p : Checked) (heap : Heap) (part : Hold)
               rest-stands p
               (swapped part (value_in f.store x) (value v.whole c.1) (value_in f.store new)) T fn fx
               (with_value (with_rest f b) y (pos 1)) (ok (pos 1)) ac.kids w1 v n.home l.number _ h3
-              n.opened (meets-local v t1 y one_value m2 tt)
+              n.opened n.no_facts (meets-local v t1 y one_value m2 tt)
               (swapped-covers f x r k.tree n ac.j c (here s new) (value_in f.store new) ac.is g
               (here-value v s f.store new st.store))
               (store-local v t1 n.home fn fx f y one_value (pos 1) b (number-is v.whole (pos 1))
@@ -402,7 +401,7 @@ module _ (p : Checked) (heap : Heap) (part : Hold)
               (row-over (Usable [] s.sorts) c.1 Unequal e Int co.1 (here-over [] v s old m)) in
               rest-stands p part T fn fx (with_value (with_rest f b) y (pos 0))
               (ok (pos 0)) two.right
-              w2 v n.home l.number [] two.second n.opened
+              w2 v n.home l.number [] two.second n.opened n.no_facts
               (meets-local v s2 y zero_value m1 tt) n.have
               (store-local v s2 n.home fn fx f y zero_value (pos 0) b (number-is v.whole (pos 0))
               (record {
@@ -478,7 +477,6 @@ module _ (p : Checked) (part : Hold) (fn : PlainFunction) (fx : List NameValue)
                 (new-cells-all (λ d. pos 0 <ℤ value w.whole d.0) u 0 n
                 (λ i. let e = address-is w u i in omega (arith, ints, e, uv, up)));
             store_over = m2.store_over;
-            no_facts = m2.no_facts;
           } in
           let q = one-child p.N ks t (running b k.home) h3.1 in
           let st1 = store-same v w s s3 k.home fn fx (with_rest f r) m ag
@@ -491,6 +489,7 @@ module _ (p : Checked) (part : Hold) (fn : PlainFunction) (fx : List NameValue)
               home = k.home;
               valid = q.1;
               opened = k.opened;
+              no_facts = k.no_facts;
               meets = meets-local w s3 x u m3 uo;
               have = λ a z.
                   (let i = need-both w s.cells (new_cells u 0 n) a z in

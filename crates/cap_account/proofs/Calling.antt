@@ -140,7 +140,6 @@ meets-reserve v s m =
       cells_over = all-more (CellOver R) (CellOver S) (cell-more R S apart) s.cells m.cells_over;
       positive = m.positive;
       store_over = m.store_over;
-      no_facts = m.no_facts;
     }
   where
     apart : (o : Sort) (x : ℕ) → Usable [] s.sorts o x → Usable (length s.sorts ∷ []) s.sorts o x
@@ -160,7 +159,6 @@ meets-free ks v s m =
           (cell-more R S (λ o x h. (h.0, tt))) s.cells m.cells_over;
       positive = m.positive;
       store_over = m.store_over;
-      no_facts = m.no_facts;
     }
 
 put-over :
@@ -212,6 +210,7 @@ pub record Site (store : List ℤ) : Type 0 where
   pub s : PlainState
   pub v : Valuation
   pub m : Meets [] v s
+  pub no_facts : s.facts ≡ []
   pub is_store : map (value v.whole) s.store ≡ store
   pub g : PlainFunction
   pub args : List Linear
@@ -287,7 +286,6 @@ module _ (p : Checked) (T : Table) (store : List ℤ) (c : Site store) where
         positive = b.positive;
         store_over = put-over (Over (Usable [] sorts1 Int)) s.store c.x (fresh s) b.store_over
             ((get-last s.sorts Int, tt), tt);
-        no_facts = b.no_facts;
       }
 
   -- an argument, at its parameter
@@ -661,7 +659,7 @@ module _ (p : Checked) (bare : p.program.regions ≡ []) (program : IsWellFormed
       let sc = ensures_scope g g.ensures.names in
       let fits = (function-fits p.program program n g eg).ensures.items.items in
       let more = to_give g.ensures.items (length s.envs) l.number ∷ running b h in
-      let goes = rested p.N tk.children tk.after l.number more tk.ready.meets.no_facts tk.goes in
+      let goes = rested p.N tk.children tk.after l.number more (tk.same.facts ∙ c.no_facts) tk.goes in
       let ready : Ready sc (length s.envs) names x2 tk.after = record {
         meets = meets-scaled [] a2.fraction.under x1 tk.after (meets-later p T f.store c ts tk r);
         there = tk.ready.there;
@@ -703,6 +701,7 @@ module _ (p : Checked) (bare : p.program.regions ≡ []) (program : IsWellFormed
           home = h;
           valid = subst (λ b. p.N k.0 gv.after (running b h)) (rest-of c.x) k.1;
           opened = gv.same.opened ∙ (tk.same.opened ∙ o);
+          no_facts = gv.same.facts ∙ (tk.same.facts ∙ c.no_facts);
           meets = gv.meets;
           have = gv.have;
           store = store-later s gv.after v gv.w h fn fx f r0 c.x r b c.m st old named res
@@ -753,6 +752,7 @@ module _ (p : Checked) (bare : p.program.regions ≡ []) (program : IsWellFormed
             s = s;
             v = d.v;
             m = d.meets;
+            no_facts = d.no_facts;
             is_store = d.store.store;
             g = g;
             args = args;
@@ -853,6 +853,7 @@ module _ (p : Checked) (bare : p.program.regions ≡ []) (program : IsWellFormed
             s = s;
             v = v;
             m = d.meets;
+            no_facts = d.no_facts;
             is_store = d.store.store;
             g = g;
             args = args;
@@ -867,7 +868,7 @@ module _ (p : Checked) (bare : p.program.regions ≡ []) (program : IsWellFormed
           let ok1 = ok-rest p.program fn fx (with_rest f r0) b ok
           (point-next p.program fn l (fork n args) b ok.point) in
           let goes = rested p.N tk.children tk.after l.number
-          (running b h) tk.ready.meets.no_facts tk.goes in
+          (running b h) (tk.same.facts ∙ d.no_facts) tk.goes in
           let kid = one-child p.N tk.children tk.after (running b h) goes in
           let ag = ag2 p T f.store site ts tk in
           let st : Store v s h fn fx (with_rest f r0) = record {
@@ -915,6 +916,7 @@ module _ (p : Checked) (bare : p.program.regions ≡ []) (program : IsWellFormed
                     home = h;
                     valid = kid.1;
                     opened = tk.same.opened ∙ d.opened;
+                    no_facts = tk.same.facts ∙ d.no_facts;
                     meets = meets-free (length s.sorts ∷ []) tk.w tk.after tk.ready.meets;
                     have = λ a z. omega arith;
                     store = record {

@@ -157,7 +157,7 @@ module _ (p : Checked) (all : AllChecked p) where
           (λ i x y. low-variable f 0 i (omega (arith, y))))
           (zeros-over (Usable [] s0.sorts Int) f.locals) in
           let top : Root = entry_root f n a in
-          let ready = root-ready top s0 refl refl refl refl [] refl so in
+          let ready = root-ready top s0 refl refl refl [] refl so in
           let sat = spends-like p.program all.bare T U (requires_scope f) a a
           (like-same (requires_scope f) a) f.requires part me.met.0 fits me.met.1 in
           let gv = given p all.bare U (requires_scope f) 0 a part 0 (to_run h0 f.body ∷ [])
@@ -185,6 +185,7 @@ module _ (p : Checked) (all : AllChecked p) where
               home = h0;
               valid = child.1;
               opened = gv.same.opened;
+              no_facts = gv.same.facts;
               meets = gv.meets;
               have = gv.have;
               store =
@@ -245,7 +246,7 @@ module _ (p : Checked) (all : AllChecked p) where
           (variables-over (Usable [] s0.sorts Int) fn.params fn.locals
           (λ i x y. low-variable fn fn.locals i y)) in
           let top : Root = loop_root fn n inv.names a in
-          let ready = root-ready top s0 refl refl refl refl [] refl so in
+          let ready = root-ready top s0 refl refl refl [] refl so in
           let sat = spends-like p.program all.bare T U sc a a
           (like-same sc a) inv.items part me.met.0 fits me.met.1 in
           let tasks = to_turn h0 (first l (loop c inv body) b) ∷ [] in
@@ -272,6 +273,7 @@ module _ (p : Checked) (all : AllChecked p) where
             home = h0;
             valid = child.1;
             opened = gv.same.opened;
+            no_facts = gv.same.facts;
             meets = gv.meets;
             have = gv.have;
             store =

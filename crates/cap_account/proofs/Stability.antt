@@ -51,16 +51,17 @@ pub stable :
     (s : PlainState) (h r : Hold) (items : Items) (ks : PlainTrees) →
     Open p.N ks s
     (to_give items 0 0 ∷ to_rest 0 0 ∷ to_take items 1 0 0 ∷ []) → Ready sc 0 a v s → s.cells ≡ [] →
+    s.facts ≡ [] →
     1 < length s.envs →
     Placed [] sc s.sorts (env_at s 1) → Means sc v
     (env_at s 1) a → AreFit p.program sc items → Spends T a items h r →
     Again U h sc (λ x t. term_of (env_at s 1) x ≡ Some t) a items
-stable p bare T U sc a v s h r items ks hd ready empty two placed means fits sat =
+stable p bare T U sc a v s h r items ks hd ready empty none two placed means fits sat =
     let then_take = to_take items 1 0 0 ∷ [] in
     let gv = given p bare T sc 0 a h 0 (to_rest 0 0 ∷ then_take) (items_size items) items
     (omega arith) ks v s h r hd ready fits sat
     (λ x z. let e = ap (λ cs. need v cs x z) empty in omega (arith, e)) in
-    let goes = rested p.N gv.children gv.after 0 then_take gv.meets.no_facts gv.goes in
+    let goes = rested p.N gv.children gv.after 0 then_take (gv.same.facts ∙ none) gv.goes in
     let same1 : env_at gv.after 1 ≡ env_at s 1 = gv.others 1 (λ e. omega (arith, e)) in
     let start : Takeable [] sc 1 gv.w gv.after = record {
       meets = gv.meets;
@@ -134,9 +135,9 @@ requires-again p trees program bare valid n f ef T U h args fx hargs fit me =
     (λ i x y. low-variable f 0 i (omega (arith, y))))
     (zeros-over (Usable [] s0.sorts Int) f.locals) in
     let top : Root = entry_root f n a in
-    let ready = root-ready top s0 refl refl refl refl (env ∷ []) refl so in
+    let ready = root-ready top s0 refl refl refl (env ∷ []) refl so in
     let fits = (function-fits p program n f ef).requires.items in
-    let g = stable (derivations p) bare T U sc a v0 s0 h me.met.0 f.requires ks.0 ks.1 ready refl
+    let g = stable (derivations p) bare T U sc a v0 s0 h me.met.0 f.requires ks.0 ks.1 ready refl refl
     (omega arith) (root-placed top) (root-means top) fits me.met.1 in
     let hp = variables-length 0 f.params in
     let hl : length (unbound f.locals) ≡ f.locals = rep-length f.locals None in

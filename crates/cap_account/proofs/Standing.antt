@@ -73,6 +73,7 @@ pub record Node (p : Checked) (part : Hold) (fn : PlainFunction) (fixed : List N
   pub home : Home
   pub valid : p.N tree state (tasks home)
   pub opened : state.opened ≡ []
+  pub no_facts : state.facts ≡ []
   pub meets : Meets [] v state
   pub have : Covers v state part
   pub store : Store v state home fn fixed f
@@ -335,6 +336,7 @@ module _ (p : Checked) (part : Hold) (fn : PlainFunction) (fixed : List NameValu
               home = n.home;
               valid = q.1;
               opened = n.opened;
+              no_facts = n.no_facts;
               meets = record {
                 sorted = m.sorted;
                 rows = m.rows;
@@ -343,7 +345,6 @@ module _ (p : Checked) (part : Hold) (fn : PlainFunction) (fixed : List NameValu
                 positive = m.positive;
                 store_over = all-set (Over (Usable [] s.sorts Int)) s.store x u m.store_over
                     (here-over [] n.v s t m);
-                no_facts = m.no_facts;
               };
               have = n.have;
               store = record {
@@ -397,6 +398,7 @@ module _ (p : Checked) (part : Hold) (fn : PlainFunction) (fixed : List NameValu
                 home = n.home;
                 valid = q.1;
                 opened = n.opened;
+                no_facts = n.no_facts;
                 meets = n.meets;
                 have = n.have;
                 store = record {
@@ -425,6 +427,7 @@ module _ (p : Checked) (part : Hold) (fn : PlainFunction) (fixed : List NameValu
       home = n.home;
       valid = hd;
       opened = n.opened;
+      no_facts = n.no_facts;
       have = n.have;
       meets = meets-row [] n.v n.state (store_row n.state op c) n.meets
           (holds-here n.v n.state f.store c op n.meets n.store.store order)

@@ -57,6 +57,7 @@ stands-more p q r T fx f le s = record {
           home = n.home;
           valid = n.valid;
           opened = n.opened;
+          no_facts = n.no_facts;
           meets = n.meets;
           have = λ a z. (let i = n.have a z in let j = le a z in omega (arith, i, j));
           store = n.store;

@@ -58,6 +58,7 @@ step-row sc e a v s t r m h o = record {
   agree = m.agree;
   same = same-trans s t (row_added t r) m.same (same-row t r);
   cells = m.cells;
+  guards = m.guards;
   stays = m.stays;
   others = m.others;
 }
@@ -296,7 +297,6 @@ cell-given sc e a v s p T place x y total held left P r fx fy t b c =
           all-both (λ d. pos 0 <ℤ value w.whole d.0) s2.cells
           ((u, k.term) ∷ []) ready2.meets.positive (up, tt);
       store_over = ready2.meets.store_over;
-      no_facts = ready2.meets.no_facts;
     } in
     let one : value w.whole one_value ≡ pos 1 = value-number w.whole (pos 1) in
     let least : value w.whole one_value ≤ℤ value w.whole u = omega (arith, ints, up, one) in
@@ -311,6 +311,7 @@ cell-given sc e a v s p T place x y total held left P r fx fy t b c =
       sorts = λ z o q. q;
       count = omega arith;
       store = refl;
+      facts = refl;
       opened = refl;
       before = refl;
       envs = refl;

@@ -258,12 +258,12 @@ module _ (p : Checked) (bare : p.program.regions ≡ []) (ks : List ℕ) (T : Ta
         cells_over = all-remove (CellOver (Usable ks s.sorts)) s.cells j me.cells_over;
         positive = all-remove (λ d. pos 0 <ℤ value v.whole d.0) s.cells j me.positive;
         store_over = me.store_over;
-        no_facts = me.no_facts;
       } in
       let sm : Same s s1 = record {
         sorts = λ x o h. h;
         count = omega arith;
         store = refl;
+        facts = refl;
         opened = refl;
         before = refl;
         envs = (same-env s0 e g.later).envs;

@@ -310,7 +310,6 @@ meets-alike ks v w s a m = record {
       positive-alike (Usable ks s.sorts) (Old s) v w (usable-old ks s.sorts Int) a s.cells
       m.cells_over m.positive;
   store_over = m.store_over;
-  no_facts = m.no_facts;
 }
 
 -- what bound names have at values, values that are alike on the names have at alike values

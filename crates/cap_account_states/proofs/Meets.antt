@@ -60,7 +60,6 @@ pub record Meets (ks : List ℕ) (v : Valuation) (s : PlainState) : Type 0 where
   pub cells_over : AllByRecursion (CellOver (Usable ks s.sorts)) s.cells
   pub positive : AllByRecursion (λ c. pos 0 <ℤ value v.whole c.0) s.cells
   pub store_over : AllByRecursion (Over (Usable [] s.sorts Int)) s.store
-  pub no_facts : s.facts ≡ []
 
 -- what the cells of the state are
 abbrev pub need : Valuation → List (Linear × Linear) → Cells
@@ -102,6 +101,7 @@ pub record Same (s t : PlainState) : Type 0 where
   pub sorts : (x : ℕ) (o : Sort) → slice_get s.sorts x ≡ Some o → slice_get t.sorts x ≡ Some o
   pub count : length s.sorts ≤ length t.sorts
   pub store : t.store ≡ s.store
+  pub facts : t.facts ≡ s.facts
   pub opened : t.opened ≡ s.opened
   pub before : t.before ≡ s.before
   pub envs : length t.envs ≡ length s.envs
@@ -111,6 +111,7 @@ same-state s = record {
   sorts = λ x o e. e;
   count = omega arith;
   store = refl;
+  facts = refl;
   opened = refl;
   before = refl;
   envs = refl;
@@ -121,6 +122,7 @@ same-trans s t u a b = record {
   sorts = λ x o e. b.sorts x o (a.sorts x o e);
   count = omega (arith, a.count, b.count);
   store = b.store ∙ a.store;
+  facts = b.facts ∙ a.facts;
   opened = b.opened ∙ a.opened;
   before = b.before ∙ a.before;
   envs = b.envs ∙ a.envs;
@@ -216,7 +218,6 @@ meets-agree ks v w s a so m = record {
       positive-agree (Usable ks s.sorts) (λ x. (x < length s.sorts) × Free ks x) v w
       (λ x h. (within s.sorts x Int h.0, h.1)) a s.cells m.cells_over m.positive;
   store_over = m.store_over;
-  no_facts = m.no_facts;
 }
 
 -- ---- more variables, rows and environments
@@ -270,7 +271,6 @@ meets-fresh ks v w s o a ok m =
           all-more (Over (Usable [] s.sorts Int)) (Over (Usable [] (s.sorts ++ o ∷ []) Int))
           (λ t h. vars-more (Usable [] s.sorts Int) (Usable [] (s.sorts ++ o ∷ []) Int)
           (usable-more [] s.sorts o Int) t.parts h) s.store m.store_over;
-      no_facts = m.no_facts;
     }
   where
     kept : (x : ℕ) → slice_get s.sorts x ≡ Some Int → IsWholeAt w x
@@ -291,6 +291,7 @@ same-fresh s o = record {
   sorts = λ x p e. get-first s.sorts (o ∷ []) x p e;
   count = (let q = push-length s.sorts o in omega (arith, q));
   store = refl;
+  facts = refl;
   opened = refl;
   before = refl;
   envs = refl;
@@ -306,7 +307,6 @@ meets-row ks v s r m h o = record {
   cells_over = m.cells_over;
   positive = m.positive;
   store_over = m.store_over;
-  no_facts = m.no_facts;
 }
 
 pub same-row : (s : PlainState) (r : Row) → Same s (row_added s r)
@@ -314,6 +314,7 @@ same-row s r = record {
   sorts = λ x o e. e;
   count = omega arith;
   store = refl;
+  facts = refl;
   opened = refl;
   before = refl;
   envs = refl;
@@ -329,5 +330,4 @@ meets-env ks v s envs m = record {
   cells_over = m.cells_over;
   positive = m.positive;
   store_over = m.store_over;
-  no_facts = m.no_facts;
 }

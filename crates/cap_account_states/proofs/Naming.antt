@@ -76,6 +76,7 @@ same-env s e env = record {
   sorts = λ x o h. h;
   count = omega arith;
   store = refl;
+  facts = refl;
   opened = refl;
   before = refl;
   envs = set-length s.envs e env;
@@ -306,6 +307,7 @@ pub record Step (sc : Scope) (e : ℕ) (a v : Valuation) (s t : PlainState) : Ty
   pub agree : Agree (Old s) v w
   pub same : Same s t
   pub cells : t.cells ≡ s.cells
+  pub guards : t.guards ≡ s.guards
   pub stays : Stays sc (env_at s e) (env_at t e)
   pub others : Others e s t
 
@@ -317,6 +319,7 @@ step-none sc e a v s r = record {
   agree = agree-same (Old s) v;
   same = same-state s;
   cells = refl;
+  guards = refl;
   stays = λ x o i t h. h;
   others = λ x ne. refl;
 }
@@ -330,6 +333,7 @@ step-trans sc e a v s t u m n = record {
   agree = agree-on s t v m.w n.w m.same m.agree n.agree;
   same = same-trans s t u m.same n.same;
   cells = n.cells ∙ m.cells;
+  guards = n.guards ∙ m.guards;
   stays = λ x o i y h. n.stays x o i y (m.stays x o i y h);
   others = λ x ne. n.others x ne ∙ m.others x ne;
 }
@@ -356,6 +360,7 @@ step-fresh sc e a v s o z y ok r =
       agree = ag;
       same = same-fresh s o;
       cells = refl;
+      guards = refl;
       stays = λ x p i t h. h;
       others = λ x ne. refl;
     }
@@ -441,6 +446,7 @@ named sc e a v s x o P r i c = by (term_of (env_at s e) x) refl c
             agree = k.agree;
             same = same-trans s s1 s2 (same-fresh s o) (same-env s1 e env1);
             cells = refl;
+            guards = refl;
             stays = λ z p j t h. ap (λ u. term_of u z) at1 ∙ st z p j t h;
             others = others-env s1 e env1;
           };

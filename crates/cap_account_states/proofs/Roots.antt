@@ -281,10 +281,10 @@ module _ (root : Root) where
   }
 
   pub root-ready :
-      (s : PlainState) → s.sorts ≡ sorts_of f l rs → s.rows ≡ [] → s.cells ≡ [] → s.facts ≡ [] →
+      (s : PlainState) → s.sorts ≡ sorts_of f l rs → s.rows ≡ [] → s.cells ≡ [] →
       (es : List PlainEnv) → s.envs ≡ env ∷ es →
       AllByRecursion (Over (Usable [] s.sorts Int)) s.store → Ready sc 0 a v s
-  root-ready s e1 e2 e3 e4 es e5 so = record {
+  root-ready s e1 e2 e3 es e5 so = record {
     meets = record {
       sorted = λ x q. sorted x (ap (λ ss. slice_get ss x) (sym e1) ∙ q);
       rows = rw e2 tt;
@@ -292,7 +292,6 @@ module _ (root : Root) where
       cells_over = rw e3 tt;
       positive = rw e3 tt;
       store_over = so;
-      no_facts = e4;
     };
     there = (let q = ap length e5 in omega (arith, q));
     placed =

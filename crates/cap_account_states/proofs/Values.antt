@@ -295,7 +295,6 @@ meets-scaled ks m v s h = record {
   cells_over = h.cells_over;
   positive = h.positive;
   store_over = h.store_over;
-  no_facts = h.no_facts;
 }
 
 pub named-scaled :
