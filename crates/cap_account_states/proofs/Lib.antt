@@ -19,3 +19,4 @@ pub mod Compatible
 pub mod Halving
 pub mod Guards
 pub mod Facts
+pub mod Wants
