@@ -1,5 +1,6 @@
 pub mod Attempts
 pub mod Terms
+pub mod Alike
 pub mod Meets
 pub mod Checked
 pub mod Items
@@ -20,3 +21,4 @@ pub mod Halving
 pub mod Guards
 pub mod Facts
 pub mod Wants
+pub mod Backed

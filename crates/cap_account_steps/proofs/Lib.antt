@@ -5,3 +5,4 @@ pub mod Others
 pub mod Solving
 pub mod Keeping
 pub mod Settling
+pub mod Stores
