@@ -1,6 +1,5 @@
 pub mod Attempts
 pub mod Terms
-pub mod Alike
 pub mod Meets
 pub mod Checked
 pub mod Items
@@ -20,5 +19,6 @@ pub mod Compatible
 pub mod Halving
 pub mod Guards
 pub mod Facts
+pub mod Alike
 pub mod Wants
 pub mod Backed
