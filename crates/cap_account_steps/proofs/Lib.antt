@@ -6,3 +6,6 @@ pub mod Solving
 pub mod Keeping
 pub mod Settling
 pub mod Stores
+pub mod Frames
+pub mod Worlds
+pub mod Statements
