@@ -27,7 +27,8 @@ use Rattle.cap_account_states.proofs.Terms.{Over, row-over}
 use Rattle.cap_account_states.proofs.Attempts.{comes-bind, comes-more, after-found, after-need, after-here, after-proved}
 use Rattle.cap_account_states.proofs.Meets.{Usable, CellOver, Meets, need, solves, proved-holds}
 use Rattle.cap_account_states.proofs.Checked.{Checked}
-use Rattle.cap_account.proofs.Standing.{Node, running, here, here-over}
+use Rattle.cap_account_steps.proofs.Stores.{running, here, here-over}
+use Rattle.cap_account.proofs.Standing.{Node}
 use Rattle.cap_account_resources.proofs.Heaps.{one-itself, count-at-most, there-in}
 
 abbrev Cell : Type 0

@@ -31,7 +31,8 @@ use Rattle.cap_account_states.proofs.Attempts.{sort_added, row_added, after-comp
 use Rattle.cap_account_states.proofs.Meets as meets
 use Rattle.cap_account_states.proofs.Meets.{Usable, usable-old, CellOver, Meets, need, need-agree, Old, Same, new-whole, new-share, with-agrees, meets-fresh, meets-row, same-fresh, solves, variable-value}
 use Rattle.cap_account_states.proofs.Checked.{Checked, children-split, one-child}
-use Rattle.cap_account.proofs.Standing.{Store, Covers, Node, running, Sits, Stands, here, here-value, here-over, rested, store-same}
+use Rattle.cap_account_steps.proofs.Stores.{Store, running, here, here-value, here-over, rested, store-same}
+use Rattle.cap_account.proofs.Standing.{Covers, Node, Sits, Stands}
 use Rattle.cap_account_steps.proofs.Points.{FrameOk}
 use Rattle.cap_account_resources.proofs.Heaps.{there-in, fresh_cells}
 use Rattle.cap_account.proofs.Accessing.{all-set, cell_here, need-one, need-set, Access, access}

@@ -33,7 +33,8 @@ use Rattle.cap_account_states.proofs.Naming.{Placed, Means, Ready}
 use Rattle.cap_account_assertions.proofs.Giving.{given}
 use Rattle.cap_account_assertions.proofs.Taking.{Takeable, Taken, taken}
 use Rattle.cap_account_steps.proofs.Points.{FrameOk, point-act, point-next, ok-rest, ok-store}
-use Rattle.cap_account.proofs.Standing.{Store, Node, running, Sits, here, here-value, here-over, rested, name-same}
+use Rattle.cap_account_steps.proofs.Stores.{Store, running, here, here-value, here-over, rested, name-same}
+use Rattle.cap_account.proofs.Standing.{Node, Sits}
 use Rattle.cap_account_states.proofs.Values.{scaled, scaled-amount, like-scaled, meets-scaled, named-scaled, spends-like, named-at, named-of, whole-at, whole-of}
 use Rattle.cap_account_states.proofs.Scopes.{Early, requires-early, early-position, ensures-late, ensures-at, scope-length, position-room, param-requires, fixed-requires, callee-param, callee-fixed, callee-result, callee-new, callee-room}
 use Rattle.cap_account_states.proofs.Roots.{values-length, function-fits}

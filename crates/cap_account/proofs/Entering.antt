@@ -26,7 +26,8 @@ use Rattle.cap_account_states.proofs.Checked.{Checked, one-child}
 use Rattle.cap_account_states.proofs.Items.{items_size}
 use Rattle.cap_account_assertions.proofs.Giving.{given}
 use Rattle.cap_account_steps.proofs.Points.{Point, FrameOk, loop_point, point-next, point-again, point-loop, point-act}
-use Rattle.cap_account.proofs.Standing.{Store, Sits, Stands, store-same, turn-sits}
+use Rattle.cap_account_steps.proofs.Stores.{Store, store-same}
+use Rattle.cap_account.proofs.Standing.{Sits, Stands, turn-sits}
 use Rattle.cap_account_states.proofs.Values.{like-same, normal, spends-like}
 use Rattle.cap_account_states.proofs.Scopes.{requires-early, early-position, invariant-at, param-requires, fixed-requires, store-invariant, fixed-invariant, variables-length, variables-at, unbound-none, rep-length, rep-in, length-join}
 use Rattle.cap_account_states.proofs.Roots.{values-length, function-fits, flat-bound, renamed, sorts_of, Root, fixed-usable, root-ready, root-fixed, root-whole, variables-values, map-zero, variables-join, variables-over, zeros-over, no-sort, no-term}

@@ -31,7 +31,8 @@ use Rattle.cap_account_states.proofs.Scopes.{Position, param, local, fixed, resu
 use Rattle.cap_account_states.proofs.Values.{named-at, named-of, whole-of}
 use Rattle.cap_account_states.proofs.Roots.{values-length, function-fits, flat-bound}
 use Rattle.cap_account_steps.proofs.Points.{FrameOk, point-act}
-use Rattle.cap_account.proofs.Standing.{Store, Node, running, Sits, here, here-value, here-over, name-same}
+use Rattle.cap_account_steps.proofs.Stores.{Store, running, here, here-value, here-over, name-same}
+use Rattle.cap_account.proofs.Standing.{Node, Sits}
 use Rattle.cap_account.proofs.Waiting.{Returned, Looped}
 
 -- ---- lists

@@ -27,7 +27,7 @@ use Rattle.cap_account_states.proofs.Naming.{Placed, Means, Ready, placed-more, 
 use Rattle.cap_account_states.proofs.Items.{items_size, AreFit, spends-more}
 use Rattle.cap_account_assertions.proofs.Giving.{given}
 use Rattle.cap_account_assertions.proofs.Taking.{Takeable, taken}
-use Rattle.cap_account.proofs.Standing.{rested}
+use Rattle.cap_account_steps.proofs.Stores.{rested}
 use Rattle.cap_account_states.proofs.Values.{normal, named-at, named-of, whole-at, whole-of}
 use Rattle.cap_account_states.proofs.Scopes.{param-requires, fixed-requires, own-param, own-fixed, variables-length, variables-at, rep-length}
 use Rattle.cap_account_states.proofs.Roots.{values-length, fits-at, function-fits, renamed, Root, root-ready, root-placed, root-means, variables-over, zeros-over}

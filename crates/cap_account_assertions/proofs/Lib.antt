@@ -1,2 +1,4 @@
 pub mod Giving
 pub mod Taking
+pub mod Asserted
+pub mod Laws

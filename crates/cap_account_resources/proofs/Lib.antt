@@ -6,3 +6,6 @@ pub mod Marks
 pub mod Covering
 pub mod Interference
 pub mod Room
+pub mod Stocks
+pub mod Tables
+pub mod Owners

@@ -20,3 +20,5 @@ pub mod Halving
 pub mod Guards
 pub mod Facts
 pub mod Alike
+pub mod Wants
+pub mod Backed

@@ -5,3 +5,7 @@ pub mod Others
 pub mod Solving
 pub mod Keeping
 pub mod Settling
+pub mod Stores
+pub mod Frames
+pub mod Worlds
+pub mod Statements

@@ -10,7 +10,7 @@ use Rattle.cap_prog.specs.WellFormed.{ActFits}
 use Rattle.cap_goal_spec.specs.Roots.{LoopPoint, loops_of, loops_in}
 use Rattle.cap_machine.specs.Machine.{Frame}
 use Rattle.cap_machine_accounts.specs.Assertions.{NameValue, ValuesFit}
-use Rattle.cap_account_resources.proofs.Lists.{set-length, all-both, all-first, all-second}
+use Rattle.cap_account_resources.proofs.Lists.{set-length, all-both, all-first, all-second, Among, among-left, among-right, among-either}
 
 joined-lists : {X : Type 0} (x y z : List X) → (x ++ y) ++ z ≡ x ++ (y ++ z)
 joined-lists [] y z = refl

@@ -1,0 +1,152 @@
+-- The invariant of a frame: whatever others do, some node of a derivation holds of it.
+use Rattle.std.specs.Prelude.{◌≡◌, ℕ, ℤ, List, [], ◌∷◌, slice_get, Option, Some}
+use Rattle.std.specs.List.{AllByRecursion}
+use Rattle.cap_lin.specs.Values.{Valuation}
+use Rattle.cap_prog.specs.Program.{PlainAssertion, PlainFunction, PlainProgram}
+use Rattle.cap_goal_spec.specs.States.{PlainState, Home, PlainTask}
+use Rattle.cap_goal_spec.specs.Choices.{PlainTree}
+use Rattle.cap_machine.specs.Machine.{Frame, receives}
+use Rattle.cap_machine_accounts.specs.Assertions.{NameValue, ValuesFit}
+use Rattle.cap_account_resources.specs.Parts.{Table}
+use Rattle.cap_account_resources.proofs.Interference.{Relies, relies-same, relies-trans}
+use Rattle.cap_account_resources.proofs.Stocks.{Stock, both, no_stock, Inside}
+use Rattle.cap_account_resources.proofs.Tables.{TableFits, NoneOpen, FitsRoom, AreListed, new_guards}
+use Rattle.cap_account_resources.proofs.Owners.{Owner, owned}
+use Rattle.cap_account_states.proofs.Checked.{Checked}
+use Rattle.cap_account_states.proofs.Facts.{Facts}
+use Rattle.cap_account_states.proofs.Backed.{IsFirm, Backed, Grounded}
+use Rattle.cap_account_assertions.proofs.Asserted.{OwnsRequires, OwnsEnsures, OwnsInvariant}
+use Rattle.cap_account_assertions.proofs.Laws.{Made}
+use Rattle.cap_account_steps.proofs.Points.{FrameOk}
+use Rattle.cap_account_steps.proofs.Stores.{Store, running}
+
+-- ---- a frame that runs
+
+-- a node with these tasks, whose state holds of the frame and of what it has
+pub record Node (p : Checked) (part : Stock) (T : Table) (fn : PlainFunction)
+    (fixed : List NameValue) (f : Frame) (tasks : Home → List PlainTask)
+    (tree : PlainTree) : Type 0 where
+  pub state : PlainState
+  pub v : Valuation
+  pub home : Home
+  pub valid : p.N tree state (tasks home)
+  pub none_open : state.opened ≡ []
+  pub grounded : Grounded p.program [] v state
+  pub facts : Facts [] v T state
+  pub firm : AllByRecursion IsFirm state.facts
+  pub backed : Backed p.program v state part
+  pub store : Store v state home fn fixed f
+
+-- some node at the frame's statements holds of it
+pub record Sits (p : Checked) (part : Stock) (T : Table) (fn : PlainFunction)
+    (fixed : List NameValue) (f : Frame) : Type 0 where
+  pub tree : PlainTree
+  pub at_node : Node p part T fn fixed f (running f.rest) tree
+
+-- and so it does by each table that others can lead to
+pub record Stands (p : Checked) (part : Stock) (T : Table) (fixed : List NameValue)
+    (f : Frame) : Type 0 where
+  pub fn : PlainFunction
+  pub ok : FrameOk p.program fn fixed f
+  pub all : (U : Table) → Relies p.program part.guards T U → Sits p part U fn fixed f
+
+-- ---- a frame that waits
+
+-- a full table whose room has what is held
+pub record Roomy (p : PlainProgram) (T : Table) (part : Stock) : Type 0 where
+  pub fits : TableFits p T
+  pub full : NoneOpen T
+  pub room : FitsRoom p T part
+  pub bound : List ℤ
+  pub listed : AreListed bound T
+
+-- with whatever the callee hands over and returns, the frame stands
+pub record Waits (p : Checked) (part : Stock) (T : Table) (fixed : List NameValue) (f : Frame)
+    (destination : Option ℕ) (callee : ℕ) (args : List ℤ)
+    (callee_fixed : List NameValue) : Type 0 where
+  pub fn : PlainFunction
+  pub ok : FrameOk p.program fn fixed f
+  pub all :
+      (U : Table) → Relies p.program part.guards T U → (handed : Stock) (r : ℤ)
+      (g : PlainFunction) → slice_get p.program.functions callee ≡ Some g →
+      Roomy p.program U (both p.program part handed) →
+      OwnsEnsures p.program U handed g args callee_fixed r →
+      Stands p (both p.program part handed) U fixed (receives destination r f)
+
+module _ (p : Checked) where
+  pub stands-on :
+      (part : Stock) (T U : Table) (fixed : List NameValue) (f : Frame) →
+      Relies p.program part.guards T U → Stands p part T fixed f → Stands p part U fixed f
+  stands-on part T U fixed f r s = record {
+    fn = s.fn;
+    ok = s.ok;
+    all = λ W later. s.all W (relies-trans p.program part.guards T U W r later);
+  }
+
+  pub sits-now :
+      (part : Stock) (T : Table) (fixed : List NameValue) (f : Frame) →
+      (s : Stands p part T fixed f) → Sits p part T s.fn fixed f
+  sits-now part T fixed f s = s.all T (relies-same p.program part.guards T)
+
+  pub waits-on :
+      (part : Stock) (T U : Table) (fixed : List NameValue) (f : Frame) (destination : Option ℕ)
+      (callee : ℕ) (args : List ℤ) (callee_fixed : List NameValue) →
+      Relies p.program part.guards T U →
+      Waits p part T fixed f destination callee args callee_fixed →
+      Waits p part U fixed f destination callee args callee_fixed
+  waits-on part T U fixed f destination callee args callee_fixed r w = record {
+    fn = w.fn;
+    ok = w.ok;
+    all = λ W later. w.all W (relies-trans p.program part.guards T U W r later);
+  }
+
+-- ---- what is handed over
+
+-- of a part some is kept and some is given, and regions may be created out of the rest
+pub record HandsOver (p : PlainProgram) (T : Table) (part kept given : Stock) : Type 0 where
+  pub U : Table
+  pub new : List Owner
+  pub made : Made p T U new
+  pub budget :
+      Inside p (both p (both p kept given) (owned p new)) (both p part (new_guards p T U))
+
+-- a callee gets its `requires`, and of what is kept this holds, with the values of the callee's fixed
+-- names
+pub record Hands (p : Checked) (part : Stock) (T : Table) (g : PlainFunction) (args : List ℤ)
+    (K : Stock → Table → List NameValue → Type 0) : Type 0 where
+  pub kept : Stock
+  pub given : Stock
+  pub over : HandsOver p.program T part kept given
+  pub fixed : List NameValue
+  pub fit : ValuesFit g.fixed fixed
+  pub meets : OwnsRequires p.program over.U given g args fixed
+  pub goes_on : K kept over.U fixed
+
+-- a call leaves a caller that waits, a fork one that goes on
+abbrev pub Calls :
+    Checked → Stock → Table → List NameValue → Frame → Option ℕ → ℕ → PlainFunction → List ℤ → Type 0
+Calls p part T fixed f destination n g args =
+    Hands p part T g args
+    (λ kept U callee_fixed. Waits p kept U fixed f destination n args callee_fixed)
+
+abbrev pub Forks :
+    Checked → Stock → Table → List NameValue → Frame → PlainFunction → List ℤ → Type 0
+Forks p part T fixed f g args =
+    Hands p part T g args (λ kept U callee_fixed. Stands p kept U fixed f)
+
+-- all of a part is given up for what this says
+pub record GivesUp (p : PlainProgram) (part : Stock) (T : Table)
+    (M : Table → Stock → Type 0) : Type 0 where
+  pub given : Stock
+  pub over : HandsOver p T part no_stock given
+  pub meets : M over.U given
+
+abbrev pub Returns :
+    PlainProgram → Stock → Table → PlainFunction → List NameValue → Frame → ℤ → Type 0
+Returns p part T fn fixed f r =
+    GivesUp p part T (λ U given. OwnsEnsures p U given fn f.arguments fixed r)
+
+abbrev pub ComesRound :
+    PlainProgram → Stock → Table → PlainFunction → List NameValue → Frame → PlainAssertion → Type 0
+ComesRound p part T fn fixed f i =
+    GivesUp p part T (λ U given. OwnsInvariant p U given fn f.store fixed i)
