@@ -9,3 +9,4 @@ pub mod Stores
 pub mod Frames
 pub mod Worlds
 pub mod Statements
+pub mod Local
