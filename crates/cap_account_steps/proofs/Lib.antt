@@ -10,3 +10,8 @@ pub mod Frames
 pub mod Worlds
 pub mod Statements
 pub mod Local
+pub mod Cells
+pub mod Callees
+pub mod OwnNames
+pub mod Entries
+pub mod Bundles
