@@ -22,3 +22,4 @@ pub mod Facts
 pub mod Alike
 pub mod Wants
 pub mod Backed
+pub mod Sums
