@@ -23,3 +23,4 @@ pub mod Alike
 pub mod Wants
 pub mod Backed
 pub mod Sums
+pub mod Environments
