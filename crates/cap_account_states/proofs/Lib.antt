@@ -24,3 +24,4 @@ pub mod Wants
 pub mod Backed
 pub mod Sums
 pub mod Environments
+pub mod Cases
