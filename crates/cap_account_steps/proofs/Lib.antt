@@ -15,3 +15,4 @@ pub mod Callees
 pub mod OwnNames
 pub mod Entries
 pub mod Bundles
+pub mod Candidates
