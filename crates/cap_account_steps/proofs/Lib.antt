@@ -9,3 +9,11 @@ pub mod Stores
 pub mod Frames
 pub mod Worlds
 pub mod Statements
+pub mod Local
+pub mod Cells
+pub mod Callees
+pub mod OwnNames
+pub mod Entries
+pub mod Bundles
+pub mod Candidates
+pub mod Returning
