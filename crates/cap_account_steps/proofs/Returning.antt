@@ -63,11 +63,11 @@ module _ (p : Checked) (program : IsWellFormed p.program) (law : TakenLaw p) (pa
       pieces_fit = n.grounded.pieces_fit;
     };
     facts = record {
-        holds = n.facts.holds;
-        over = n.facts.over;
-        loose = n.facts.loose;
-        differ = n.facts.differ;
-      };
+      holds = n.facts.holds;
+      over = n.facts.over;
+      loose = n.facts.loose;
+      differ = n.facts.differ;
+    };
     opened = subst (AllByRecursion (IsOpened (Usable [] n.state.sorts Int) n.v T))
         (sym n.none_open) tt;
     there = there-new n.state env;
