@@ -325,9 +325,11 @@ merging-holds ks v T s f fs tight ft h o = by (find (is_of_region f) s.facts) re
           all-both (Holds v) (equal_rows g.args f.args) (r ∷ []) (equal-hold v g.args f.args same.1)
               ((row_of-means v g.state Equal f.state Int).1 st, tt),
           all-both (RowOver R) (equal_rows g.args f.args) (r ∷ [])
-              (equal-over R g.args f.args b.0.1 o.1)
-              (row-over R g.state Equal f.state Int (state-over g.loose c.0 g.state b.0.2)
-              (state-over f.loose ft f.state o.2), tt),
+              (equal-over R g.args f.args b.0.1 o.1) (
+                row-over R g.state Equal f.state Int (state-over g.loose c.0 g.state b.0.2)
+                    (state-over f.loose ft f.state o.2),
+                tt,
+              ),
         )
 
 -- no fact of the region has another type
