@@ -18,3 +18,4 @@ pub mod Bundles
 pub mod Candidates
 pub mod Returning
 pub mod Beginning
+pub mod Allocating
