@@ -19,3 +19,4 @@ pub mod Candidates
 pub mod Returning
 pub mod Beginning
 pub mod Allocating
+pub mod Reserving
