@@ -45,7 +45,6 @@ use Rattle.cap_account_steps.proofs.OwnNames.{take-get, get-take, get-drop, drop
 use Rattle.cap_account_steps.proofs.Frames.{Node, Sits, Roomy, HandsOver, Returns, ComesRound}
 use Rattle.cap_account_steps.proofs.Statements.{Before, ReturnLaw, LoopHeadLaw}
 use Rattle.cap_account_steps.proofs.Local.{given-up}
-use Rattle.cap_account_states.proofs.Facts.{facts-same}
 
 module _ (p : Checked) (program : IsWellFormed p.program) (law : TakenLaw p) (part : Stock)
     (T : Table) (fn : PlainFunction) (fixed : List NameValue) (roomy : Roomy p.program T part) where
@@ -63,7 +62,12 @@ module _ (p : Checked) (program : IsWellFormed p.program) (law : TakenLaw p) (pa
       pieces_over = n.grounded.pieces_over;
       pieces_fit = n.grounded.pieces_fit;
     };
-    facts = facts-same [] n.v T n.state (env_added n.state env) refl refl n.facts;
+    facts = record {
+      holds = n.facts.holds;
+      over = n.facts.over;
+      loose = n.facts.loose;
+      differ = n.facts.differ;
+    };
     opened = subst (AllByRecursion (IsOpened (Usable [] n.state.sorts Int) n.v T))
         (sym n.none_open) tt;
     there = there-new n.state env;
