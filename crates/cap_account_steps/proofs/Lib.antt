@@ -20,3 +20,4 @@ pub mod Returning
 pub mod Beginning
 pub mod Allocating
 pub mod Reserving
+pub mod CallSite
