@@ -3,3 +3,4 @@ pub mod Taking
 pub mod Asserted
 pub mod Laws
 pub mod Finer
+pub mod MadeTables
