@@ -22,3 +22,4 @@ pub mod Allocating
 pub mod Reserving
 pub mod CallSite
 pub mod Results
+pub mod Calling
