@@ -49,7 +49,7 @@ use Rattle.cap_account_steps.proofs.Results.{with_result, alike4, result-there, 
 
 -- ---- the frame once the result was put in its place
 
-store-received :
+pub store-received :
     (s t : PlainState) (v w : Valuation) (h : Home) (fn : PlainFunction) (fixed : List NameValue)
     (f : Frame) (r b : Block) (y : Option ℕ) (z : ℤ) →
     AllByRecursion (Over (Usable [] s.sorts Int)) s.store → Store v s h fn fixed (with_rest f r) →
@@ -99,14 +99,14 @@ module _ (p : Checked) (program : IsWellFormed p.program) (give : GivenLaw p) (t
   room-composes T q h n =
       part-some p.program (q.guards n) (room p.program T n) (h n) (room-some p.program T n)
 
-  abbrev after_call : PlainFunction → ℕ → Label → Home → Block → List PlainTask
+  abbrev pub after_call : PlainFunction → ℕ → Label → Home → Block → List PlainTask
   after_call g e l h b =
       to_rest 0 l.number ∷ to_give g.ensures.items e l.number ∷ running b h
 
   -- the table after a call, and what the caller keeps there
   module _ (part : Stock) (T : Table) (roomy : Roomy p.program T part) (store : List ℤ)
       (c : Caller p part T store) where
-    take-here :
+    pub take-here :
         (ts : List PlainTask) (number : ℕ) (n : ℕ) (ks : PlainTrees) →
         slice_get p.program.functions n ≡ Some c.g →
         Open p.N ks (s1 p part T store c)
@@ -119,7 +119,7 @@ module _ (p : Checked) (program : IsWellFormed p.program) (give : GivenLaw p) (t
         roomy.room roomy.listed
 
     module _ (ts : List PlainTask) (tk : TakenHere p part T store c ts) where
-      abbrev hands : HandsOver p.program T part tk.left tk.given
+      abbrev pub hands : HandsOver p.program T part tk.left tk.given
       hands = record { U = tk.U; new = tk.new; made = tk.made; budget = tk.budget }
 
       both-room : FitsRoom p.program tk.U (both p.program tk.left tk.given)
@@ -130,7 +130,7 @@ module _ (p : Checked) (program : IsWellFormed p.program) (give : GivenLaw p) (t
           fits-less p.program tk.U tk.left (both p.program tk.left tk.given)
           (inside-first p.program tk.left tk.given) both-room
 
-      reached-left :
+      pub reached-left :
           (U : Table) → Relies p.program tk.left.guards tk.U U → Reached p.program tk.U U tk.left
       reached-left U r = record {
         fits = made-fits p.program T tk.U tk.new tk.made roomy.fits;

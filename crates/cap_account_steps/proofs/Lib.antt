@@ -23,3 +23,4 @@ pub mod Reserving
 pub mod CallSite
 pub mod Results
 pub mod Calling
+pub mod CallLaws
