@@ -1,0 +1,221 @@
+-- What slots and forms that are given become: terms and forms of the state, with the values that are
+-- asked for.
+use Rattle.std.proofs.Common.{◌≡◌, ℕ, ◌+◌, ℤ, pos, ◌*ℤ◌, List, [], ◌∷◌, length, map, refl, sym, ap, ◌∙◌}
+use Rattle.std.specs.List.{AllByRecursion}
+use Rattle.cap_lin.specs.Linear.{Linear}
+use Rattle.cap_lin.specs.Values.{Valuation, value}
+use Rattle.cap_lin.specs.declared.row.Sort.TheVariants.{Int, Perm}
+use Rattle.cap_galg.specs.Elements.{Element}
+use Rattle.cap_galg.specs.Algebras.{PlainAlgebra, unique, divisible, counting}
+use Rattle.cap_gsolve.specs.declared.piece.Form.{Form}
+use Rattle.cap_gsolve.specs.declared.piece.Form.TheVariants as form
+use Rattle.cap_gsolve.specs.Meaning.{IsFormElement, Takes}
+use Rattle.cap_prog.specs.declared.assertion.Slot.{Slot}
+use Rattle.cap_prog.specs.declared.assertion.Slot.TheVariants.{Any, Is}
+use Rattle.cap_prog.specs.declared.assertion.Asked.{Asked}
+use Rattle.cap_prog.specs.declared.assertion.Asked.TheVariants.{One, Share, Src, Tok}
+use Rattle.cap_prog.specs.Scopes.{Scope, SlotFits}
+use Rattle.cap_prog.specs.WellFormed.{AskedFits}
+use Rattle.cap_machine_accounts.specs.Assertions.{SlotsAre}
+use Rattle.cap_goal_spec.specs.States.{PlainState}
+use Rattle.cap_rules.specs.Attempts.{Attempt, unit, ◌>>=◌}
+use Rattle.cap_rules.specs.Making.{fresh}
+use Rattle.cap_rules.specs.Giving.{Given as Pair, given as pair, give_slot, give_slots, give_form}
+use Rattle.cap_account_states.specs.Nodes.{Comes}
+use Rattle.cap_account_resources.proofs.Lists.{get-last}
+use Rattle.cap_account_states.proofs.Terms.{Over}
+use Rattle.cap_account_states.proofs.Attempts.{comes-bind, after-sort, sort_added}
+use Rattle.cap_account_states.proofs.Meets.{Usable, new-share, variable-amount}
+use Rattle.cap_account_states.proofs.Naming.{Ready, Step, step-none, step-trans, step-fresh}
+use Rattle.cap_account_states.proofs.Wants.{AmountIs, Wants}
+use Rattle.cap_account_states.proofs.Guarding.{FormOver}
+use Rattle.cap_account_assertions.proofs.Giving.{TermGiven, term-given, slot-given, over-later, number-later}
+
+-- ---- several slots
+
+pub record SlotsGiven (sc : Scope) (e : ℕ) (a v : Valuation) (s : PlainState) (zs : List ℤ)
+    (P : Pair (List Linear) → Type 0) : Type 0 where
+  pub after : PlainState
+  pub terms : List Linear
+  pub step : Step sc e a v s after
+  pub values_are : map (value step.w.whole) terms ≡ zs
+  pub over : AllByRecursion (Over (Usable [] after.sorts Int)) terms
+  pub comes : P (pair after terms)
+
+pub slots-given :
+    (sc : Scope) (e : ℕ) (a : Valuation) (xs : List Slot) (zs : List ℤ) (v : Valuation)
+    (s : PlainState) (P : Pair (List Linear) → Type 0) → Ready sc e a v s →
+    AllByRecursion (SlotFits sc Int) xs → SlotsAre a xs zs → Comes (give_slots s e xs) P →
+    SlotsGiven sc e a v s zs P
+slots-given sc e a [] [] v s P r f m c = record {
+  after = s;
+  terms = [];
+  step = step-none sc e a v s r;
+  values_are = refl;
+  over = tt;
+  comes = c.1;
+}
+slots-given sc e a [] (z ∷ zs) v s P r f m c = absurd m
+slots-given sc e a (x ∷ xs) [] v s P r f m c = absurd m
+slots-given sc e a (x ∷ xs) (z ∷ zs) v s P r f m c =
+    let last : Pair Linear → Pair (List Linear) → Attempt (Pair (List Linear)) =
+    λ g more. unit (pair more.state (g.value ∷ more.value)) in
+    let rest : Pair Linear → Attempt (Pair (List Linear)) =
+    λ g. give_slots g.state e xs >>= last g in
+    let g =
+    slot-given sc e a v s x z (λ g. Comes (rest g) P) r f.0 m.0
+    (comes-bind (give_slot s e Int x) rest P c) in
+    let here = pair g.after g.term in
+    let k =
+    slots-given sc e a xs zs g.step.w g.after (λ more. Comes (last here more) P) g.step.ready
+    f.1 m.1 (comes-bind (give_slots g.after e xs) (last here) P g.comes) in
+    let first = number-later g.after g.step.w k.step.w Int g.term k.step.agree g.over in
+    record {
+      after = k.after;
+      terms = g.term ∷ k.terms;
+      step = step-trans sc e a v s g.after k.after g.step k.step;
+      values_are = λ i. (first ∙ g.number_is) i ∷ k.values_are i;
+      over = (over-later g.after k.after Int g.term k.step.same g.over, k.over);
+      comes = k.comes.1;
+    }
+
+-- ---- amounts and forms
+
+-- a slot of an amount gets the amount
+pub amount-given :
+    (sc : Scope) (e : ℕ) (a v : Valuation) (s : PlainState) (x : Slot) (z : ℤ)
+    (P : Pair Linear → Type 0) → Ready sc e a v s → SlotFits sc Perm x → AmountIs a x z →
+    Comes (give_slot s e Perm x) P → TermGiven sc e a v s Perm z P
+amount-given sc e a v s Any z P r f m c =
+    let step = step-fresh sc e a v s Perm (pos 0) z tt r in
+    record {
+      after = sort_added s Perm;
+      term = fresh s;
+      step = step;
+      number_is =
+          variable-amount step.w (length s.sorts) ∙ new-share v (length s.sorts) (pos 0) z;
+      over = (((Perm, get-last s.sorts Perm), tt), tt);
+      comes = (after-sort s Perm (λ t. unit (pair t (fresh s))) P c).1;
+    }
+amount-given sc e a v s (Is t) z P r f m c =
+    let g = term-given sc e a v s Perm t P r f c in
+    record {
+      after = g.after;
+      term = g.term;
+      step = g.step;
+      number_is = g.number_is ∙ m;
+      over = g.over;
+      comes = g.comes;
+    }
+
+-- the form is of the kind that is asked for
+abbrev pub IsShaped : Asked → Form → Type 0
+IsShaped One form.One = Unit {0}
+IsShaped (Share x) (form.Share t) = Unit {0}
+IsShaped (Src x) (form.Src t) = Unit {0}
+IsShaped (Tok x) (form.Tok t) = Unit {0}
+IsShaped x f = ⊥
+
+pub shaped-takes :
+    (sc : Scope) (b : PlainAlgebra) (x : Asked) (f : Form) → AskedFits sc b x → IsShaped x f →
+    Takes b f
+shaped-takes sc unique One form.One h k = tt
+shaped-takes sc divisible (Share x) (form.Share t) h k = tt
+shaped-takes sc counting (Src x) (form.Src t) h k = tt
+shaped-takes sc counting (Tok x) (form.Tok t) h k = tt
+shaped-takes sc unique One f h k = absurd k
+shaped-takes sc divisible (Share x) f h k = absurd k
+shaped-takes sc counting (Src x) f h k = absurd k
+shaped-takes sc counting (Tok x) f h k = absurd k
+shaped-takes sc b x f h k = absurd h
+
+-- its element is what is wanted
+pub record FormGiven (sc : Scope) (e : ℕ) (a v : Valuation) (s : PlainState) (x : Asked)
+    (y : Element) (P : Pair Form → Type 0) : Type 0 where
+  pub after : PlainState
+  pub made : Form
+  pub step : Step sc e a v s after
+  pub is : IsFormElement step.w made y
+  pub shaped : IsShaped x made
+  pub over : FormOver (Usable [] after.sorts) made
+  pub comes : P (pair after made)
+
+module _ (sc : Scope) (e : ℕ) (a v : Valuation) (s : PlainState) (y : Element)
+    (P : Pair Form → Type 0) (r : Ready sc e a v s) where
+  abbrev FormLaw : Asked → Type 0
+  FormLaw x =
+      (b : PlainAlgebra) → AskedFits sc b x → Wants a x y → Comes (give_form s e x) P →
+      FormGiven sc e a v s x y P
+
+  share-form : (x : Slot) → FormLaw (Share x)
+  share-form x divisible f h c =
+      let last : Pair Linear → Attempt (Pair Form) =
+      λ g. unit (pair g.state (form.Share g.value)) in
+      let g =
+      amount-given sc e a v s x h.1 (λ g. Comes (last g) P) r f h.3
+      (comes-bind (give_slot s e Perm x) last P c) in
+      record {
+        after = g.after;
+        made = form.Share g.term;
+        step = g.step;
+        is = (
+          h.0,
+          h.2,
+          ap (λ n. pos h.0.num *ℤ pos (n + 1)) (sym g.step.ready.means.under)
+              ∙ sym h.4
+              ∙ ap (λ z. z *ℤ pos h.0.den) (sym g.number_is),
+          h.5,
+        );
+        shaped = tt;
+        over = g.over;
+        comes = g.comes.1;
+      }
+  share-form x b f h c = absurd f
+
+  source-form : (x : Slot) → FormLaw (Src x)
+  source-form x counting f h c =
+      let last : Pair Linear → Attempt (Pair Form) = λ g. unit (pair g.state (form.Src g.value)) in
+      let g =
+      slot-given sc e a v s x (pos h.0) (λ g. Comes (last g) P) r f h.1
+      (comes-bind (give_slot s e Int x) last P c) in
+      record {
+        after = g.after;
+        made = form.Src g.term;
+        step = g.step;
+        is = (h.0, g.number_is, h.2);
+        shaped = tt;
+        over = g.over;
+        comes = g.comes.1;
+      }
+  source-form x b f h c = absurd f
+
+  tokens-form : (x : Slot) → FormLaw (Tok x)
+  tokens-form x counting f h c =
+      let last : Pair Linear → Attempt (Pair Form) = λ g. unit (pair g.state (form.Tok g.value)) in
+      let g =
+      slot-given sc e a v s x (pos h.0) (λ g. Comes (last g) P) r f h.1
+      (comes-bind (give_slot s e Int x) last P c) in
+      record {
+        after = g.after;
+        made = form.Tok g.term;
+        step = g.step;
+        is = (h.0, g.number_is, h.2);
+        shaped = tt;
+        over = g.over;
+        comes = g.comes.1;
+      }
+  tokens-form x b f h c = absurd f
+
+  pub form-given : (x : Asked) → FormLaw x
+  form-given One b f h c = record {
+    after = s;
+    made = form.One;
+    step = step-none sc e a v s r;
+    is = h;
+    shaped = tt;
+    over = tt;
+    comes = c.1;
+  }
+  form-given (Share x) b f h c = share-form x b f h c
+  form-given (Src x) b f h c = source-form x b f h c
+  form-given (Tok x) b f h c = tokens-form x b f h c
