@@ -10,22 +10,20 @@ use Rattle.cap_lin.specs.declared.row.Sort.TheVariants.{Int}
 use Rattle.cap_lin.specs.declared.row.Op.TheVariants.{Ge as AtLeast}
 use Rattle.cap_lin.proofs.Rows.{row_of-means}
 use Rattle.cap_galg.specs.Algebras.{atoms, atom_algebra}
-use Rattle.cap_gsolve.specs.declared.piece.Form.{Form}
 use Rattle.cap_gsolve.specs.Pieces.{piece}
-use Rattle.cap_gsolve.specs.Meaning.{Fits}
 use Rattle.cap_syntax.specs.declared.place.Place.{Place}
 use Rattle.cap_prog.specs.declared.assertion.Comp.{Comp}
 use Rattle.cap_prog.specs.declared.assertion.Slot.{Slot}
 use Rattle.cap_prog.specs.declared.assertion.Asked.{Asked}
 use Rattle.cap_prog.specs.Program.{PlainItem, compare, choose, fact, atom, cell, Items, item, PlainRegionType, PlainProgram}
-use Rattle.cap_prog.specs.Scopes.{Scope, SlotFits}
+use Rattle.cap_prog.specs.Scopes.{HasSort, Scope, SlotFits}
 use Rattle.cap_prog.specs.WellFormed.{AskedFits, AtomFits, FactFits}
+use Rattle.cap_machine_accounts.specs.Assertions.{SlotIs, SlotsAre}
 use Rattle.cap_machine_accounts.specs.Parts.{algebra_of, kind_algebra}
-use Rattle.cap_goal_spec.specs.States.{PlainState}
+use Rattle.cap_goal_spec.specs.States.{PlainFact, PlainState}
 use Rattle.cap_goal_spec.specs.Environments.{one_value}
-use Rattle.cap_rules.specs.Attempts.{Attempt, ◌>>=◌}
-use Rattle.cap_rules.specs.Making.{with_cell, with_comparison, fact_of, with_fact, with_piece}
-use Rattle.cap_rules.specs.Giving.{Given as Pair, given as pair, give_term, give_slot, give_slots, give_form, give_sides, give_item}
+use Rattle.cap_rules.specs.Making.{fact_of, with_fact}
+use Rattle.cap_rules.specs.Giving.{give_term, give_slot, give_slots, give_form, give_sides, give_item}
 use Rattle.cap_account_resources.specs.Parts.{Table, known_as}
 use Rattle.cap_account_resources.proofs.Lists.{all-more, all-both}
 use Rattle.cap_account_resources.proofs.Stocks.{Stock, cell_stock, guard_stock, both, Inside, Composes, inside-trans, inside-first, composes-inside}
@@ -34,10 +32,10 @@ use Rattle.cap_account_states.proofs.Terms.{Over, row-over, value-number, Agree}
 use Rattle.cap_account_states.proofs.Attempts.{comes-bind, comes-comparison, after-cell, cell_added, row_added}
 use Rattle.cap_account_states.proofs.Alike.{agree-alike, alike-less}
 use Rattle.cap_account_states.proofs.Meets.{Usable, usable-old, CellOver, Meets, Old, meets-row, variable-value}
-use Rattle.cap_account_states.proofs.Naming.{step-trans}
+use Rattle.cap_account_states.proofs.Naming.{Ready, Step, step-trans}
 use Rattle.cap_account_states.proofs.Adding.{comes-piece, piece_added}
-use Rattle.cap_account_states.proofs.Facts.{values-alike, facts-same, FactHolds, FactOver, fact_added, comes-fact, no-other-type}
-use Rattle.cap_account_states.proofs.Backed.{Knows}
+use Rattle.cap_account_states.proofs.Facts.{StateHolds, values-alike, facts-same, FactHolds, FactOver, fact_added, comes-fact, no-other-type}
+use Rattle.cap_account_states.proofs.Backed.{IsFirm, Knows}
 use Rattle.cap_account_states.proofs.KnowsLater.{knows-more}
 use Rattle.cap_account_states.proofs.PiecesHeld.{fact-known, piece_stock, piece-known}
 use Rattle.cap_account_assertions.proofs.Giving.{term-given, slot-given, sides-given, sides-row, over-later, number-later, need-join}
@@ -139,21 +137,16 @@ module _ (p : PlainProgram) (T : Table) (sc : Scope) (e : ℕ) (a : Valuation) (
 
   pub compare-gives :
       (c : Comp) (more : Items) (v : Valuation) (s : PlainState) (P : PlainState → Type 0) →
-      IsDue (compare c) more v s → Comes (give_item p s e (compare c)) P →
-      IsGiven more v s P
-  compare-gives c more v s P d k =
-      let rest : Pair (Linear × Linear) → Attempt PlainState =
-      λ g. with_comparison g.state g.value.0 c.op g.value.1 c.sort in
-      let Q : Pair (Linear × Linear) → Type 0 = λ g. Comes (rest g) P in
-      let g =
-      sides-given sc e a v s c Q d.underway.ready d.fit.0 (comes-bind (give_sides s e c) rest P k)
+      IsDue (compare c) more v s → Comes (give_item p s e (compare c)) P → IsGiven more v s P
+  compare-gives c more v s P d h =
+      let i = compare c in
+      let g = sides-given sc e a v s c _ d.underway.ready d.fit.0 (comes-bind (give_sides s e c) _ P h)
       in
-      let m = sides-row sc e a v s c c.op Q g d.draws.1.0 in
+      let m = sides-row sc e a v s c c.op _ g d.draws.1.0 in
       let t = row_added g.after (row_of g.left c.op g.right c.sort) in
       let now = underway-step p T sc e a v s t d.held d.underway m in
-      goes p T sc e a total (compare c) more v s P d t t m d.held
-      m.ready.meets now.knows now.firm
-      (drawn-beside p T sc e a total (compare c) more v s P d d.draws.0 d.draws.1.1)
+      goes p T sc e a total i more v s P d t t m d.held m.ready.meets now.knows now.firm
+      (drawn-beside p T sc e a total i more v s P d d.draws.0 d.draws.1.1)
       (comes-comparison g.after g.left c.op g.right c.sort P g.comes)
 
   -- ---- cells
@@ -162,148 +155,164 @@ module _ (p : PlainProgram) (T : Table) (sc : Scope) (e : ℕ) (a : Valuation) (
       (place : Place) (x : Linear) (y : Slot) (more : Items) (v : Valuation) (s : PlainState)
       (P : PlainState → Type 0) → IsDue (cell place x y) more v s →
       Comes (give_item p s e (cell place x y)) P → IsGiven more v s P
-  cell-gives place x y more v s P d c =
-      let last : Pair Linear → PlainState → Attempt PlainState =
-      λ u t. with_comparison t u.value AtLeast one_value Int in
-      let second : Pair Linear → Pair Linear → Attempt PlainState =
-      λ u w. with_cell w.state u.value w.value >>= last u in
-      let first : Pair Linear → Attempt PlainState =
-      λ u. give_slot u.state e Int y >>= second u in
-      let u = d.underway in
+  cell-gives place x y more v s P d h =
+      let i = cell place x y in
       let took = d.draws.1 in
       let g =
-      term-given sc e a v s Int x (λ b. Comes (first b) P) u.ready d.fit.0.0
-      (comes-bind (give_term s e Int x) first P c) in
-      let here = pair g.after g.term in
+          term-given sc e a v s Int x _ d.underway.ready d.fit.0.0
+          (comes-bind (give_term s e Int x) _ P h) in
       let k =
-      slot-given sc e a g.step.w g.after y took.0 (λ w. Comes (second here w) P) g.step.ready
-      d.fit.0.1 took.2 (comes-bind (give_slot g.after e Int y) (second here) P g.comes) in
+          slot-given sc e a g.step.w g.after y took.0 _ g.step.ready d.fit.0.1 took.2
+          (comes-bind (give_slot g.after e Int y) _ P g.comes) in
       let m = step-trans sc e a v s g.after k.after g.step k.step in
+      let w = m.w in
       let over = over-later g.after k.after Int g.term k.step.same g.over in
-      let at : value m.w.whole g.term ≡ value a.whole x =
-      number-later g.after g.step.w m.w Int g.term k.step.agree g.over ∙ g.number_is in
-      let now = underway-step p T sc e a v s k.after d.held u m in
+      let at : value w.whole g.term ≡ value a.whole x =
+          number-later g.after g.step.w w Int g.term k.step.agree g.over ∙ g.number_is in
+      let now = underway-step p T sc e a v s k.after d.held d.underway m in
       let known =
-      cell-known p m.w T k.after g.term k.term d.held now.ready.meets now.knows over k.over
-      (subst (λ z. pos 0 <ℤ z) (sym at) took.1) in
-      let q = cell_stock (value m.w.whole g.term) (value m.w.whole k.term) in
+          cell-known p w T k.after g.term k.term d.held now.ready.meets now.knows over k.over
+          (subst (λ z. pos 0 <ℤ z) (sym at) took.1) in
+      let q = cell_stock (value w.whole g.term) (value w.whole k.term) in
       let same : cell_stock (value a.whole x) took.0 ≡ q =
-      λ i. cell_stock (sym at i) (sym k.number_is i) in
-      let t = cell_known k.after g.term k.term in
-      goes p T sc e a total (cell place x y) more v s P d k.after t m (both p d.held q)
-      known.meets known.knows now.firm
-      (drawn-held p T sc e a total (cell place x y) more v s P d q
-      (subst (λ r. Inside p (both p r d.draws.0) d.left) same took.3))
-      (comes-comparison (cell_added k.after g.term k.term) g.term AtLeast one_value Int P
-      (after-cell k.after g.term k.term (last here) P k.comes))
+          λ j. cell_stock (sym at j) (sym k.number_is j) in
+      let room =
+          drawn-held p T sc e a total i more v s P d q
+          (subst (λ r. Inside p (both p r d.draws.0) d.left) same took.3) in
+      let comes =
+          comes-comparison (cell_added k.after g.term k.term) g.term AtLeast one_value Int P
+          (after-cell k.after g.term k.term _ P k.comes) in
+      goes p T sc e a total i more v s P d k.after (cell_known k.after g.term k.term) m
+      (both p d.held q) known.meets known.knows now.firm room comes
 
   -- ---- facts
+
+  -- the region, arguments and state that the names have got
+  record FactMade (v : Valuation) (s : PlainState) (n k : ℕ) (zs : List ℤ) (z : ℤ)
+      (P : PlainState → Type 0) : Type 0 where
+    pub after : PlainState
+    pub step : Step sc e a v s after
+    pub made : PlainFact
+    pub tight : IsFirm made
+    pub kind_is : made.kind ≡ k
+    pub region_is : value step.w.whole made.region ≡ a.whole n
+    pub args_are : map (value step.w.whole) made.args ≡ zs
+    pub state_is : value step.w.whole made.state ≡ z
+    pub over : FactOver (Usable [] after.sorts Int) made
+    pub comes : Comes (with_fact after made) P
+
+  fact-made :
+      (place : Place) (n k : ℕ) (args : List Slot) (x : Slot) (zs : List ℤ) (z : ℤ)
+      (v : Valuation) (s : PlainState) (P : PlainState → Type 0) → Ready sc e a v s →
+      HasSort sc Int n → AllByRecursion (SlotFits sc Int) args × SlotFits sc Int x →
+      SlotsAre a args zs → SlotIs a x z → Comes (give_item p s e (fact place n k args x)) P →
+      FactMade v s n k zs z P
+  fact-made place n k args x zs z v s P r o f are is h =
+      let g =
+          term-given sc e a v s Int (variable n) _ r (o, tt)
+          (comes-bind (give_term s e Int (variable n)) _ P h) in
+      let b =
+          slots-given sc e a args zs g.step.w g.after _ g.step.ready f.0 are
+          (comes-bind (give_slots g.after e args) _ P g.comes) in
+      let c =
+          slot-given sc e a b.step.w b.after x z _ b.step.ready f.1 is
+          (comes-bind (give_slot b.after e Int x) _ P b.comes) in
+      let on = step-trans sc e a g.step.w g.after b.after c.after b.step c.step in
+      record {
+        after = c.after;
+        step = step-trans sc e a v s g.after c.after g.step on;
+        made = fact_of g.term k b.terms c.term;
+        tight = refl;
+        kind_is = refl;
+        region_is =
+            number-later g.after g.step.w c.step.w Int g.term on.agree g.over
+            ∙ g.number_is
+            ∙ variable-value a n;
+        args_are =
+            values-later b.after b.step.w c.step.w b.terms c.step.agree b.over ∙ b.values_are;
+        state_is = c.number_is;
+        over = (
+          over-later g.after c.after Int g.term on.same g.over,
+          all-more (Over (Usable [] b.after.sorts Int)) (Over (Usable [] c.after.sorts Int))
+              (λ t. over-later b.after c.after Int t c.step.same) b.terms b.over,
+          c.over,
+        );
+        comes = c.comes;
+      }
 
   pub fact-gives :
       (place : Place) (n k : ℕ) (args : List Slot) (x : Slot) (more : Items) (v : Valuation)
       (s : PlainState) (P : PlainState → Type 0) → IsDue (fact place n k args x) more v s →
       Comes (give_item p s e (fact place n k args x)) P → IsGiven more v s P
-  fact-gives place n k args x more v s P d c =
-      let third : Pair Linear → Pair (List Linear) → Pair Linear → Attempt PlainState =
-      λ r ts b. with_fact b.state (fact_of r.value k ts.value b.value) in
-      let second : Pair Linear → Pair (List Linear) → Attempt PlainState =
-      λ r ts. give_slot ts.state e Int x >>= third r ts in
-      let first : Pair Linear → Attempt PlainState =
-      λ r. give_slots r.state e args >>= second r in
-      let u = d.underway in
+  fact-gives place n k args x more v s P d h =
+      let i = fact place n k args x in
       let tells = d.draws.1.0 in
-      let fit = fact-slots sc (slice_get p.regions k) args x d.fit.0.1 in
       let g =
-      term-given sc e a v s Int (variable n) (λ r. Comes (first r) P) u.ready
-      (d.fit.0.0, tt) (comes-bind (give_term s e Int (variable n)) first P c) in
-      let region = pair g.after g.term in
-      let b =
-      slots-given sc e a args tells.0 g.step.w g.after (λ ts. Comes (second region ts) P)
-      g.step.ready fit.0 tells.3
-      (comes-bind (give_slots g.after e args) (second region) P g.comes) in
-      let values = pair b.after b.terms in
-      let k1 =
-      slot-given sc e a b.step.w b.after x tells.1 (λ w. Comes (third region values w) P)
-      b.step.ready fit.1 tells.4
-      (comes-bind (give_slot b.after e Int x) (third region values) P b.comes) in
-      let on = step-trans sc e a g.step.w g.after b.after k1.after b.step k1.step in
-      let m = step-trans sc e a v s g.after k1.after g.step on in
-      let now = underway-step p T sc e a v s k1.after d.held u m in
-      let f = fact_of g.term k b.terms k1.term in
-      let at : value m.w.whole g.term ≡ a.whole n =
-      number-later g.after g.step.w m.w Int g.term on.agree g.over ∙ g.number_is
-      ∙ variable-value a n in
-      let are : map (value m.w.whole) b.terms ≡ tells.0 =
-      values-later b.after b.step.w m.w b.terms k1.step.agree b.over ∙ b.values_are in
-      let holds : FactHolds m.w T f = (
+          fact-made place n k args x tells.0 tells.1 v s P d.underway.ready d.fit.0.0
+          (fact-slots sc (slice_get p.regions k) args x d.fit.0.1) tells.3 tells.4 h in
+      let f = g.made in
+      let w = g.step.w in
+      let now = underway-step p T sc e a v s g.after d.held d.underway g.step in
+      let holds : FactHolds w T f = (
         Some tells.1,
-        ap T at ∙ tells.2 ∙ ap (λ zs. Some (known_as k zs (Some tells.1))) (sym are),
-        ap Some (sym k1.number_is),
-      ) in
-      let over : FactOver (Usable [] k1.after.sorts Int) f = (
-        over-later g.after k1.after Int g.term on.same g.over,
-        all-more (Over (Usable [] b.after.sorts Int)) (Over (Usable [] k1.after.sorts Int))
-            (λ t. over-later b.after k1.after Int t k1.step.same) b.terms b.over,
-        k1.over,
+        ap T g.region_is
+            ∙ tells.2
+            ∙ (λ j. Some (known_as (sym g.kind_is j) (sym g.args_are j) (Some tells.1))),
+        subst (λ b. StateHolds b (Some tells.1) (value w.whole f.state)) (sym g.tight)
+            (ap Some (sym g.state_is)),
       ) in
       let known =
-      fact-known p [] m.w T k1.after f d.held now.ready.meets now.knows now.firm refl holds
-      over in
-      let t = fact_added k1.after f in
-      goes p T sc e a total (fact place n k args x) more v s P d k1.after t m d.held
-      known.meets known.knows known.firm
-      (drawn-beside p T sc e a total (fact place n k args x) more v s P d d.draws.0 d.draws.1.1)
-      (comes-fact k1.after f P
-      (no-other-type m.w T f k1.after.facts holds now.knows.facts.holds) k1.comes)
+          fact-known p [] w T g.after f d.held now.ready.meets now.knows now.firm g.tight holds
+          g.over in
+      goes p T sc e a total i more v s P d g.after (fact_added g.after f) g.step d.held known.meets
+      known.knows known.firm
+      (drawn-beside p T sc e a total i more v s P d d.draws.0 d.draws.1.1)
+      (comes-fact g.after f P (no-other-type w T f g.after.facts holds now.knows.facts.holds)
+      g.comes)
 
   -- ---- guards
 
   pub atom-gives :
-      (ne : Composes total) (place : Place) (n k i : ℕ) (asked : Asked) (more : Items)
+      (ne : Composes total) (place : Place) (n k l : ℕ) (asked : Asked) (more : Items)
       (v : Valuation) (s : PlainState) (P : PlainState → Type 0) →
-      IsDue (atom place n k i asked) more v s →
-      Comes (give_item p s e (atom place n k i asked)) P → IsGiven more v s P
-  atom-gives ne place n k i asked more v s P d c =
-      let second : Pair Linear → Pair Form → Attempt PlainState =
-      λ r f. with_piece p f.state (piece r.value k i f.value) in
-      let first : Pair Linear → Attempt PlainState =
-      λ r. give_form r.state e asked >>= second r in
-      let u = d.underway in
+      IsDue (atom place n k l asked) more v s → Comes (give_item p s e (atom place n k l asked)) P →
+      IsGiven more v s P
+  atom-gives ne place n k l asked more v s P d h =
+      let i = atom place n k l asked in
+      let b = atom_algebra (algebra_of p k) l in
       let wants = d.draws.1.1 in
       let y = wants.element in
-      let fit = atom-form sc (slice_get p.regions k) i asked d.fit.0.1 in
+      let fit = atom-form sc (slice_get p.regions k) l asked d.fit.0.1 in
       let g =
-      term-given sc e a v s Int (variable n) (λ r. Comes (first r) P) u.ready
-      (d.fit.0.0, tt) (comes-bind (give_term s e Int (variable n)) first P c) in
-      let region = pair g.after g.term in
-      let b =
-      form-given sc e a g.step.w g.after y (λ f. Comes (second region f) P) g.step.ready asked
-      (atom_algebra (algebra_of p k) i) fit.1 wants.wanted
-      (comes-bind (give_form g.after e asked) (second region) P g.comes) in
-      let m = step-trans sc e a v s g.after b.after g.step b.step in
-      let now = underway-step p T sc e a v s b.after d.held u m in
-      let r = piece g.term k i b.made in
-      let fits : Fits (algebra_of p k) r =
-      (fit.0, shaped-takes sc (atom_algebra (algebra_of p k) i) asked b.made fit.1 b.shaped) in
-      let at : a.whole n ≡ value m.w.whole g.term =
-      sym (number-later g.after g.step.w m.w Int g.term b.step.agree g.over ∙ g.number_is
-      ∙ variable-value a n) in
-      let q = piece_stock p m.w r y in
+          term-given sc e a v s Int (variable n) _ d.underway.ready (d.fit.0.0, tt)
+          (comes-bind (give_term s e Int (variable n)) _ P h) in
+      let f =
+          form-given sc e a g.step.w g.after y _ g.step.ready asked b fit.1 wants.wanted
+          (comes-bind (give_form g.after e asked) _ P g.comes) in
+      let m = step-trans sc e a v s g.after f.after g.step f.step in
+      let w = m.w in
+      let now = underway-step p T sc e a v s f.after d.held d.underway m in
+      let r = piece g.term k l f.made in
+      let at : a.whole n ≡ value w.whole g.term =
+          sym (number-later g.after g.step.w w Int g.term f.step.agree g.over
+          ∙ g.number_is
+          ∙ variable-value a n) in
+      let q = piece_stock p w r y in
       let same : guard_stock (a.whole n) d.draws.1.0 ≡ q =
-      λ j. guard_stock (at j) (wants.is_mark j) in
+          λ j. guard_stock (at j) (wants.is_mark j) in
       let room =
-      drawn-held p T sc e a total (atom place n k i asked) more v s P d q
-      (subst (λ z. Inside p (both p z d.draws.0) d.left) same d.draws.1.2) in
+          drawn-held p T sc e a total i more v s P d q
+          (subst (λ z. Inside p (both p z d.draws.0) d.left) same d.draws.1.2) in
       let held = both p d.held q in
+      let inside =
+          inside-trans p held (both p held d.draws.0) total (inside-first p held d.draws.0) room in
       let known =
-      piece-known p [] m.w T b.after r y d.held now.ready.meets now.knows fits
-      (over-later g.after b.after Int g.term b.step.same g.over, b.over) b.is
-      (composes-inside p held total
-      (inside-trans p held (both p held d.draws.0) total (inside-first p held d.draws.0) room)
-      ne) in
-      let t = piece_added p b.after r in
-      goes p T sc e a total (atom place n k i asked) more v s P d b.after t m held
-      known.meets known.knows now.firm room (comes-piece p b.after r P b.comes).2
+          piece-known p [] w T f.after r y d.held now.ready.meets now.knows
+          (fit.0, shaped-takes sc b asked f.made fit.1 f.shaped)
+          (over-later g.after f.after Int g.term f.step.same g.over, f.over) f.is
+          (composes-inside p held total inside ne) in
+      goes p T sc e a total i more v s P d f.after (piece_added p f.after r) m held known.meets
+      known.knows now.firm room (comes-piece p f.after r P f.comes).2
 
   -- ---- any item but a conditional one
 

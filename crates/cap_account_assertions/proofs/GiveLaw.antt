@@ -1,6 +1,5 @@
 -- Giving the items of an assertion, one after the other: the law.
-use Rattle.std.proofs.Common.{ℕ, zero, suc, ◌+◌, ◌≤◌, List, [], ◌∷◌, ◌++◌, arith, inl, inr}
-use Rattle.cap_lin.specs.Linear.{Linear}
+use Rattle.std.proofs.Common.{ℕ, zero, suc, ◌+◌, ◌≤◌, List, [], ◌∷◌, arith, inl, inr}
 use Rattle.cap_lin.specs.Rows.{row_of}
 use Rattle.cap_lin.specs.Values.{Valuation}
 use Rattle.cap_lin.specs.declared.row.Op.{Op}
@@ -9,17 +8,16 @@ use Rattle.cap_prog.specs.Program.{PlainItem, compare, choose, fact, atom, cell,
 use Rattle.cap_prog.specs.Parts.{all_items}
 use Rattle.cap_prog.specs.Scopes.{Scope}
 use Rattle.cap_prog.specs.WellFormed.{ItemFits}
-use Rattle.cap_goal_spec.specs.States.{PlainState, PlainTask, PlainGoal, to_give, goals_of}
+use Rattle.cap_goal_spec.specs.States.{PlainState, PlainTask, to_give, goals_of}
 use Rattle.cap_goal_spec.specs.Choices.{PlainTree, node, PlainTrees, by_absurd, by_give}
-use Rattle.cap_rules.specs.Attempts.{Attempt, unit, ◌>>=◌}
-use Rattle.cap_rules.specs.Making.{with_comparison, opposite}
-use Rattle.cap_rules.specs.Giving.{Given as Pair, given as pair, give_sides, give_item, give}
+use Rattle.cap_rules.specs.Making.{opposite}
+use Rattle.cap_rules.specs.Giving.{give_sides, give_item, give}
 use Rattle.cap_account_resources.specs.Parts.{Table}
 use Rattle.cap_account_resources.proofs.Lists.{all-first, all-second}
 use Rattle.cap_account_resources.proofs.Order.{unless-relates}
 use Rattle.cap_account_resources.proofs.Stocks.{Stock, both, Composes, inside-trans, inside-first, inside-same}
 use Rattle.cap_account_states.specs.Nodes.{Comes, Children, Open}
-use Rattle.cap_account_states.proofs.Attempts.{comes-bind, comes-more, after-comparison, row_added}
+use Rattle.cap_account_states.proofs.Attempts.{comes-bind, after-comparison, row_added}
 use Rattle.cap_account_states.proofs.Meets.{solves}
 use Rattle.cap_account_states.proofs.Checked.{Checked, children-split, one-child}
 use Rattle.cap_account_states.proofs.Naming.{Step}
@@ -90,35 +88,6 @@ module _ (p : Checked) (T : Table) (sc : Scope) (e : ℕ) (a : Valuation) (total
         others = on.others;
       }
 
-  -- the goals after the comparison, and after its opposite
-  abbrev side_goals : Comp → Op → Items → Pair (Linear × Linear) → List PlainGoal
-  side_goals c op items g =
-      goals_of (row_added g.state (row_of g.value.0 op g.value.1 c.sort))
-      (to_give items e n ∷ ts)
-
-  sides-come :
-      (c : Comp) (x y more : Items) (ks : PlainTrees) (s : PlainState) →
-      Comes (give p.program s e n ts (item (choose c x y) more)) (Children p.N ks) →
-      Comes (give_sides s e c)
-      (λ g. Children p.N ks
-      (side_goals c c.op (append_items x more) g
-      ++ side_goals c (opposite c.op) (append_items y more) g))
-  sides-come c x y more ks s h =
-      let last : PlainState → PlainState → Attempt (List PlainGoal) =
-      λ t u. unit (goals_of t (to_give (append_items x more) e n ∷ ts)
-      ++ goals_of u (to_give (append_items y more) e n ∷ ts)) in
-      let second : Pair (Linear × Linear) → PlainState → Attempt (List PlainGoal) =
-      λ g t. with_comparison g.state g.value.0 (opposite c.op) g.value.1 c.sort >>= last t in
-      let first : Pair (Linear × Linear) → Attempt (List PlainGoal) =
-      λ g. with_comparison g.state g.value.0 c.op g.value.1 c.sort >>= second g in
-      comes-more (give_sides s e c) (λ g. Comes (first g) (Children p.N ks)) _
-      (λ g k.
-      let l = row_added g.state (row_of g.value.0 c.op g.value.1 c.sort) in
-      (after-comparison g.state g.value.0 (opposite c.op) g.value.1 c.sort (last l)
-      (Children p.N ks)
-      (after-comparison g.state g.value.0 c.op g.value.1 c.sort (second g) (Children p.N ks) k)).1)
-      (comes-bind (give_sides s e c) first (Children p.N ks) h)
-
   -- the items of a side are due before those that follow
   side-due :
       (c : Comp) (x y side more : Items) (v : Valuation) (s t : PlainState)
@@ -169,34 +138,32 @@ module _ (p : Checked) (T : Table) (sc : Scope) (e : ℕ) (a : Valuation) (total
       ListGiven (item (choose c x y) more)
   after-choice size law c x y more small_x small_y ks v s h d =
       let fit = fits-sides p.program sc (choose c x y) more d.fit in
-      let fx = all-first (ItemFits p.program sc) (all_items x) (all_items y) fit in
-      let fy = all-second (ItemFits p.program sc) (all_items x) (all_items y) fit in
-      let Q : Pair (Linear × Linear) → Type 0 =
-      λ g. Children p.N ks
-      (side_goals c c.op (append_items x more) g
-      ++ side_goals c (opposite c.op) (append_items y more) g) in
       let g =
-      sides-given sc e a v s c Q d.underway.ready d.fit.0 (sides-come c x y more ks s h) in
-      let here = pair g.after (g.left, g.right) in
+          sides-given sc e a v s c _ d.underway.ready d.fit.0
+          (comes-bind (give_sides s e c) _ (Children p.N ks) h) in
+      let after = λ (op : Op). row_added g.after (row_of g.left op g.right c.sort) in
+      let todo = λ (side : Items). to_give (append_items side more) e n ∷ ts in
+      let first = after-comparison g.after g.left c.op g.right c.sort _ (Children p.N ks) g.comes in
+      let second =
+          after-comparison g.after g.left (opposite c.op) g.right c.sort _ (Children p.N ks) first in
       let k =
-      children-split p.N ks (side_goals c c.op (append_items x more) here)
-      (side_goals c (opposite c.op) (append_items y more) here) g.comes in
+          children-split p.N ks (goals_of (after c.op) (todo x))
+          (goals_of (after (opposite c.op)) (todo y)) second.1 in
       let by =
-      λ (op : Op) (side : Items)
-      (m : Step sc e a v s (row_added g.after (row_of g.left op g.right c.sort)))
-      (small : items_size (append_items side more) ≤ size) (f : AreFit p.program sc side)
-      (took : DrawsAll p.program T a side d.left d.draws.0) (ls : PlainTrees)
-      (o : IsOpen ls (row_added g.after (row_of g.left op g.right c.sort))
-      (append_items side more)).
-      let t = row_added g.after (row_of g.left op g.right c.sort) in
-      given-on p T e v m.w total s t ts (onward-step sc e a v s t m)
-      (law (append_items side more) small ls m.w t o
-      (side-due c x y side more v s t d m f took)) in
+          λ (op : Op) (side : Items) (m : Step sc e a v s (after op))
+          (small : items_size (append_items side more) ≤ size) (f : AreFit p.program sc side)
+          (took : DrawsAll p.program T a side d.left d.draws.0) (ls : PlainTrees)
+          (o : Open p.N ls (after op) (todo side)).
+          given-on p T e v m.w total s (after op) ts (onward-step sc e a v s (after op) m)
+          (law (append_items side more) small ls m.w (after op) o
+          (side-due c x y side more v s (after op) d m f took)) in
       elim d.draws.1 [
-        | inl w ↦ by c.op x (sides-row sc e a v s c c.op Q g w.0) small_x fx w.1 k.left k.first
+        | inl w ↦ by c.op x (sides-row sc e a v s c c.op _ g w.0) small_x
+            (all-first (ItemFits p.program sc) (all_items x) (all_items y) fit) w.1 k.left k.first
         | inr w ↦ by (opposite c.op) y
-            (sides-row sc e a v s c (opposite c.op) Q g (unless-relates c.op _ _ w.0)) small_y fy
-            w.1 k.right k.second
+            (sides-row sc e a v s c (opposite c.op) _ g (unless-relates c.op _ _ w.0)) small_y
+            (all-second (ItemFits p.program sc) (all_items x) (all_items y) fit) w.1 k.right
+            k.second
       ]
 
   list-given : (size : ℕ) → AllGiven size → (items : Items) → items_size items ≤ size + 1 →
@@ -204,8 +171,7 @@ module _ (p : Checked) (T : Table) (sc : Scope) (e : ℕ) (a : Valuation) (total
   list-given size law none le ks v s h d = given-none ks v s h.1 d
   list-given size law (item (compare c) more) le ks v s h d =
       after-item (compare c) more tt (list-given size law more (omega (arith, le))) ks v s
-      (comes-bind (give_item p.program s e (compare c)) (λ t. give p.program t e n ts more)
-      (Children p.N ks) h) d
+      (comes-bind (give_item p.program s e (compare c)) _ (Children p.N ks) h) d
   list-given size law (item (choose c x y) more) le ks v s h d =
       let l = append-size x more in
       let r = append-size y more in
@@ -214,16 +180,15 @@ module _ (p : Checked) (T : Table) (sc : Scope) (e : ℕ) (a : Valuation) (total
       after-item (fact place m k args x) more tt (list-given size law more (omega (arith, le))) ks v
       s
       (comes-bind (give_item p.program s e (fact place m k args x))
-      (λ t. give p.program t e n ts more) (Children p.N ks) h) d
+      _ (Children p.N ks) h) d
   list-given size law (item (atom place m k i asked) more) le ks v s h d =
       after-item (atom place m k i asked) more tt (list-given size law more (omega (arith, le))) ks
       v s
       (comes-bind (give_item p.program s e (atom place m k i asked))
-      (λ t. give p.program t e n ts more) (Children p.N ks) h) d
+      _ (Children p.N ks) h) d
   list-given size law (item (cell place x y) more) le ks v s h d =
       after-item (cell place x y) more tt (list-given size law more (omega (arith, le))) ks v s
-      (comes-bind (give_item p.program s e (cell place x y)) (λ t. give p.program t e n ts more)
-      (Children p.N ks) h) d
+      (comes-bind (give_item p.program s e (cell place x y)) _ (Children p.N ks) h) d
 
   -- a node gives them, or has no values
   node-given :

@@ -4,6 +4,7 @@ use Rattle.std.proofs.Common.{◌≡◌, ℕ, ◌+◌, ℤ, pos, ◌*ℤ◌, Lis
 use Rattle.std.specs.List.{AllByRecursion}
 use Rattle.cap_lin.specs.Linear.{Linear}
 use Rattle.cap_lin.specs.Values.{Valuation, value}
+use Rattle.cap_lin.specs.declared.row.Sort.{Sort}
 use Rattle.cap_lin.specs.declared.row.Sort.TheVariants.{Int, Perm}
 use Rattle.cap_galg.specs.Elements.{Element}
 use Rattle.cap_galg.specs.Algebras.{PlainAlgebra, unique, divisible, counting}
@@ -18,7 +19,7 @@ use Rattle.cap_prog.specs.Scopes.{Scope, SlotFits}
 use Rattle.cap_prog.specs.WellFormed.{AskedFits}
 use Rattle.cap_machine_accounts.specs.Assertions.{SlotsAre}
 use Rattle.cap_goal_spec.specs.States.{PlainState}
-use Rattle.cap_rules.specs.Attempts.{Attempt, unit, ◌>>=◌}
+use Rattle.cap_rules.specs.Attempts.{unit}
 use Rattle.cap_rules.specs.Making.{fresh}
 use Rattle.cap_rules.specs.Giving.{Given as Pair, given as pair, give_slot, give_slots, give_form}
 use Rattle.cap_account_states.specs.Nodes.{Comes}
@@ -58,17 +59,10 @@ slots-given sc e a [] [] v s P r f m c = record {
 slots-given sc e a [] (z ∷ zs) v s P r f m c = absurd m
 slots-given sc e a (x ∷ xs) [] v s P r f m c = absurd m
 slots-given sc e a (x ∷ xs) (z ∷ zs) v s P r f m c =
-    let last : Pair Linear → Pair (List Linear) → Attempt (Pair (List Linear)) =
-    λ g more. unit (pair more.state (g.value ∷ more.value)) in
-    let rest : Pair Linear → Attempt (Pair (List Linear)) =
-    λ g. give_slots g.state e xs >>= last g in
-    let g =
-    slot-given sc e a v s x z (λ g. Comes (rest g) P) r f.0 m.0
-    (comes-bind (give_slot s e Int x) rest P c) in
-    let here = pair g.after g.term in
+    let g = slot-given sc e a v s x z _ r f.0 m.0 (comes-bind (give_slot s e Int x) _ P c) in
     let k =
-    slots-given sc e a xs zs g.step.w g.after (λ more. Comes (last here more) P) g.step.ready
-    f.1 m.1 (comes-bind (give_slots g.after e xs) (last here) P g.comes) in
+        slots-given sc e a xs zs g.step.w g.after _ g.step.ready f.1 m.1
+        (comes-bind (give_slots g.after e xs) _ P g.comes) in
     let first = number-later g.after g.step.w k.step.w Int g.term k.step.agree g.over in
     record {
       after = k.after;
@@ -130,84 +124,38 @@ shaped-takes sc counting (Tok x) f h k = absurd k
 shaped-takes sc b x f h k = absurd h
 
 -- its element is what is wanted
-pub record FormGiven (sc : Scope) (e : ℕ) (a v : Valuation) (s : PlainState) (x : Asked)
+pub record FormGiven (sc : Scope) (e : ℕ) (a v : Valuation) (s : PlainState) (asked : Asked)
     (y : Element) (P : Pair Form → Type 0) : Type 0 where
   pub after : PlainState
   pub made : Form
   pub step : Step sc e a v s after
   pub is : IsFormElement step.w made y
-  pub shaped : IsShaped x made
+  pub shaped : IsShaped asked made
   pub over : FormOver (Usable [] after.sorts) made
   pub comes : P (pair after made)
 
 module _ (sc : Scope) (e : ℕ) (a v : Valuation) (s : PlainState) (y : Element)
     (P : Pair Form → Type 0) (r : Ready sc e a v s) where
-  abbrev FormLaw : Asked → Type 0
-  FormLaw x =
-      (b : PlainAlgebra) → AskedFits sc b x → Wants a x y → Comes (give_form s e x) P →
-      FormGiven sc e a v s x y P
+  -- a form of this term
+  form-of :
+      (asked : Asked) (make : Linear → Form) (o : Sort) (z : ℤ) →
+      (g : TermGiven sc e a v s o z (λ t. Comes (unit (pair t.state (make t.value))) P)) →
+      IsFormElement g.step.w (make g.term) y → IsShaped asked (make g.term) →
+      FormOver (Usable [] g.after.sorts) (make g.term) → FormGiven sc e a v s asked y P
+  form-of asked make o z g h k over = record {
+    after = g.after;
+    made = make g.term;
+    step = g.step;
+    is = h;
+    shaped = k;
+    over = over;
+    comes = g.comes.1;
+  }
 
-  share-form : (x : Slot) → FormLaw (Share x)
-  share-form x divisible f h c =
-      let last : Pair Linear → Attempt (Pair Form) =
-      λ g. unit (pair g.state (form.Share g.value)) in
-      let g =
-      amount-given sc e a v s x h.1 (λ g. Comes (last g) P) r f h.3
-      (comes-bind (give_slot s e Perm x) last P c) in
-      record {
-        after = g.after;
-        made = form.Share g.term;
-        step = g.step;
-        is = (
-          h.0,
-          h.2,
-          ap (λ n. pos h.0.num *ℤ pos (n + 1)) (sym g.step.ready.means.under)
-              ∙ sym h.4
-              ∙ ap (λ z. z *ℤ pos h.0.den) (sym g.number_is),
-          h.5,
-        );
-        shaped = tt;
-        over = g.over;
-        comes = g.comes.1;
-      }
-  share-form x b f h c = absurd f
-
-  source-form : (x : Slot) → FormLaw (Src x)
-  source-form x counting f h c =
-      let last : Pair Linear → Attempt (Pair Form) = λ g. unit (pair g.state (form.Src g.value)) in
-      let g =
-      slot-given sc e a v s x (pos h.0) (λ g. Comes (last g) P) r f h.1
-      (comes-bind (give_slot s e Int x) last P c) in
-      record {
-        after = g.after;
-        made = form.Src g.term;
-        step = g.step;
-        is = (h.0, g.number_is, h.2);
-        shaped = tt;
-        over = g.over;
-        comes = g.comes.1;
-      }
-  source-form x b f h c = absurd f
-
-  tokens-form : (x : Slot) → FormLaw (Tok x)
-  tokens-form x counting f h c =
-      let last : Pair Linear → Attempt (Pair Form) = λ g. unit (pair g.state (form.Tok g.value)) in
-      let g =
-      slot-given sc e a v s x (pos h.0) (λ g. Comes (last g) P) r f h.1
-      (comes-bind (give_slot s e Int x) last P c) in
-      record {
-        after = g.after;
-        made = form.Tok g.term;
-        step = g.step;
-        is = (h.0, g.number_is, h.2);
-        shaped = tt;
-        over = g.over;
-        comes = g.comes.1;
-      }
-  tokens-form x b f h c = absurd f
-
-  pub form-given : (x : Asked) → FormLaw x
-  form-given One b f h c = record {
+  pub form-given :
+      (asked : Asked) (b : PlainAlgebra) → AskedFits sc b asked → Wants a asked y →
+      Comes (give_form s e asked) P → FormGiven sc e a v s asked y P
+  form-given One unique f h c = record {
     after = s;
     made = form.One;
     step = step-none sc e a v s r;
@@ -216,6 +164,19 @@ module _ (sc : Scope) (e : ℕ) (a v : Valuation) (s : PlainState) (y : Element)
     over = tt;
     comes = c.1;
   }
-  form-given (Share x) b f h c = share-form x b f h c
-  form-given (Src x) b f h c = source-form x b f h c
-  form-given (Tok x) b f h c = tokens-form x b f h c
+  form-given (Share x) divisible f h c =
+      let g = amount-given sc e a v s x h.1 _ r f h.3 (comes-bind (give_slot s e Perm x) _ P c) in
+      let is_value =
+          ap (λ n. pos h.0.num *ℤ pos (n + 1)) (sym g.step.ready.means.under)
+          ∙ sym h.4
+          ∙ ap (λ z. z *ℤ pos h.0.den) (sym g.number_is) in
+      form-of (Share x) form.Share Perm h.1 g (h.0, h.2, is_value, h.5) tt g.over
+  form-given (Src x) counting f h c =
+      let g = slot-given sc e a v s x (pos h.0) _ r f h.1 (comes-bind (give_slot s e Int x) _ P c)
+      in
+      form-of (Src x) form.Src Int (pos h.0) g (h.0, g.number_is, h.2) tt g.over
+  form-given (Tok x) counting f h c =
+      let g = slot-given sc e a v s x (pos h.0) _ r f h.1 (comes-bind (give_slot s e Int x) _ P c)
+      in
+      form-of (Tok x) form.Tok Int (pos h.0) g (h.0, g.number_is, h.2) tt g.over
+  form-given asked b f h c = absurd f
