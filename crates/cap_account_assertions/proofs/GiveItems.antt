@@ -1,5 +1,5 @@
 -- Giving one item to a state that is backed: the state stays so, with what the item draws.
-use Rattle.std.proofs.Common.{◌≡◌, ℕ, ◌<◌, ◌≤◌, ℤ, pos, ◌<ℤ◌, ◌≤ℤ◌, List, [], ◌∷◌, map, Option, Some, None, refl, sym, ap, ◌∙◌, subst, arith}
+use Rattle.std.proofs.Common.{◌≡◌, ℕ, ◌<◌, ℤ, pos, ◌<ℤ◌, ◌≤ℤ◌, List, [], ◌∷◌, map, Option, Some, None, refl, sym, ap, ◌∙◌, subst, arith}
 use Rattle.std.proofs.lemmas.Int.{ints}
 use Rattle.std.specs.Prelude.{slice_get, IsSomeAnd}
 use Rattle.std.specs.List.{AllByRecursion}
@@ -159,29 +159,29 @@ module _ (p : PlainProgram) (T : Table) (sc : Scope) (e : ℕ) (a : Valuation) (
       let i = cell place x y in
       let took = d.draws.1 in
       let g =
-          term-given sc e a v s Int x _ d.underway.ready d.fit.0.0
-          (comes-bind (give_term s e Int x) _ P h) in
+      term-given sc e a v s Int x _ d.underway.ready d.fit.0.0
+      (comes-bind (give_term s e Int x) _ P h) in
       let k =
-          slot-given sc e a g.step.w g.after y took.0 _ g.step.ready d.fit.0.1 took.2
-          (comes-bind (give_slot g.after e Int y) _ P g.comes) in
+      slot-given sc e a g.step.w g.after y took.0 _ g.step.ready d.fit.0.1 took.2
+      (comes-bind (give_slot g.after e Int y) _ P g.comes) in
       let m = step-trans sc e a v s g.after k.after g.step k.step in
       let w = m.w in
       let over = over-later g.after k.after Int g.term k.step.same g.over in
       let at : value w.whole g.term ≡ value a.whole x =
-          number-later g.after g.step.w w Int g.term k.step.agree g.over ∙ g.number_is in
+      number-later g.after g.step.w w Int g.term k.step.agree g.over ∙ g.number_is in
       let now = underway-step p T sc e a v s k.after d.held d.underway m in
       let known =
-          cell-known p w T k.after g.term k.term d.held now.ready.meets now.knows over k.over
-          (subst (λ z. pos 0 <ℤ z) (sym at) took.1) in
+      cell-known p w T k.after g.term k.term d.held now.ready.meets now.knows over k.over
+      (subst (λ z. pos 0 <ℤ z) (sym at) took.1) in
       let q = cell_stock (value w.whole g.term) (value w.whole k.term) in
       let same : cell_stock (value a.whole x) took.0 ≡ q =
-          λ j. cell_stock (sym at j) (sym k.number_is j) in
+      λ j. cell_stock (sym at j) (sym k.number_is j) in
       let room =
-          drawn-held p T sc e a total i more v s P d q
-          (subst (λ r. Inside p (both p r d.draws.0) d.left) same took.3) in
+      drawn-held p T sc e a total i more v s P d q
+      (subst (λ r. Inside p (both p r d.draws.0) d.left) same took.3) in
       let comes =
-          comes-comparison (cell_added k.after g.term k.term) g.term AtLeast one_value Int P
-          (after-cell k.after g.term k.term _ P k.comes) in
+      comes-comparison (cell_added k.after g.term k.term) g.term AtLeast one_value Int P
+      (after-cell k.after g.term k.term _ P k.comes) in
       goes p T sc e a total i more v s P d k.after (cell_known k.after g.term k.term) m
       (both p d.held q) known.meets known.knows now.firm room comes
 
@@ -209,14 +209,14 @@ module _ (p : PlainProgram) (T : Table) (sc : Scope) (e : ℕ) (a : Valuation) (
       FactMade v s n k zs z P
   fact-made place n k args x zs z v s P r o f are is h =
       let g =
-          term-given sc e a v s Int (variable n) _ r (o, tt)
-          (comes-bind (give_term s e Int (variable n)) _ P h) in
+      term-given sc e a v s Int (variable n) _ r (o, tt)
+      (comes-bind (give_term s e Int (variable n)) _ P h) in
       let b =
-          slots-given sc e a args zs g.step.w g.after _ g.step.ready f.0 are
-          (comes-bind (give_slots g.after e args) _ P g.comes) in
+      slots-given sc e a args zs g.step.w g.after _ g.step.ready f.0 are
+      (comes-bind (give_slots g.after e args) _ P g.comes) in
       let c =
-          slot-given sc e a b.step.w b.after x z _ b.step.ready f.1 is
-          (comes-bind (give_slot b.after e Int x) _ P b.comes) in
+      slot-given sc e a b.step.w b.after x z _ b.step.ready f.1 is
+      (comes-bind (give_slot b.after e Int x) _ P b.comes) in
       let on = step-trans sc e a g.step.w g.after b.after c.after b.step c.step in
       record {
         after = c.after;
@@ -248,8 +248,8 @@ module _ (p : PlainProgram) (T : Table) (sc : Scope) (e : ℕ) (a : Valuation) (
       let i = fact place n k args x in
       let tells = d.draws.1.0 in
       let g =
-          fact-made place n k args x tells.0 tells.1 v s P d.underway.ready d.fit.0.0
-          (fact-slots sc (slice_get p.regions k) args x d.fit.0.1) tells.3 tells.4 h in
+      fact-made place n k args x tells.0 tells.1 v s P d.underway.ready d.fit.0.0
+      (fact-slots sc (slice_get p.regions k) args x d.fit.0.1) tells.3 tells.4 h in
       let f = g.made in
       let w = g.step.w in
       let now = underway-step p T sc e a v s g.after d.held d.underway g.step in
@@ -262,8 +262,8 @@ module _ (p : PlainProgram) (T : Table) (sc : Scope) (e : ℕ) (a : Valuation) (
             (ap Some (sym g.state_is)),
       ) in
       let known =
-          fact-known p [] w T g.after f d.held now.ready.meets now.knows now.firm g.tight holds
-          g.over in
+      fact-known p [] w T g.after f d.held now.ready.meets now.knows now.firm g.tight holds
+      g.over in
       goes p T sc e a total i more v s P d g.after (fact_added g.after f) g.step d.held known.meets
       known.knows known.firm
       (drawn-beside p T sc e a total i more v s P d d.draws.0 d.draws.1.1)
@@ -284,33 +284,33 @@ module _ (p : PlainProgram) (T : Table) (sc : Scope) (e : ℕ) (a : Valuation) (
       let y = wants.element in
       let fit = atom-form sc (slice_get p.regions k) l asked d.fit.0.1 in
       let g =
-          term-given sc e a v s Int (variable n) _ d.underway.ready (d.fit.0.0, tt)
-          (comes-bind (give_term s e Int (variable n)) _ P h) in
+      term-given sc e a v s Int (variable n) _ d.underway.ready (d.fit.0.0, tt)
+      (comes-bind (give_term s e Int (variable n)) _ P h) in
       let f =
-          form-given sc e a g.step.w g.after y _ g.step.ready asked b fit.1 wants.wanted
-          (comes-bind (give_form g.after e asked) _ P g.comes) in
+      form-given sc e a g.step.w g.after y _ g.step.ready asked b fit.1 wants.wanted
+      (comes-bind (give_form g.after e asked) _ P g.comes) in
       let m = step-trans sc e a v s g.after f.after g.step f.step in
       let w = m.w in
       let now = underway-step p T sc e a v s f.after d.held d.underway m in
       let r = piece g.term k l f.made in
       let at : a.whole n ≡ value w.whole g.term =
-          sym (number-later g.after g.step.w w Int g.term f.step.agree g.over
-          ∙ g.number_is
-          ∙ variable-value a n) in
+      sym (number-later g.after g.step.w w Int g.term f.step.agree g.over
+      ∙ g.number_is
+      ∙ variable-value a n) in
       let q = piece_stock p w r y in
       let same : guard_stock (a.whole n) d.draws.1.0 ≡ q =
-          λ j. guard_stock (at j) (wants.is_mark j) in
+      λ j. guard_stock (at j) (wants.is_mark j) in
       let room =
-          drawn-held p T sc e a total i more v s P d q
-          (subst (λ z. Inside p (both p z d.draws.0) d.left) same d.draws.1.2) in
+      drawn-held p T sc e a total i more v s P d q
+      (subst (λ z. Inside p (both p z d.draws.0) d.left) same d.draws.1.2) in
       let held = both p d.held q in
       let inside =
-          inside-trans p held (both p held d.draws.0) total (inside-first p held d.draws.0) room in
+      inside-trans p held (both p held d.draws.0) total (inside-first p held d.draws.0) room in
       let known =
-          piece-known p [] w T f.after r y d.held now.ready.meets now.knows
-          (fit.0, shaped-takes sc b asked f.made fit.1 f.shaped)
-          (over-later g.after f.after Int g.term f.step.same g.over, f.over) f.is
-          (composes-inside p held total inside ne) in
+      piece-known p [] w T f.after r y d.held now.ready.meets now.knows
+      (fit.0, shaped-takes sc b asked f.made fit.1 f.shaped)
+      (over-later g.after f.after Int g.term f.step.same g.over, f.over) f.is
+      (composes-inside p held total inside ne) in
       goes p T sc e a total i more v s P d f.after (piece_added p f.after r) m held known.meets
       known.knows now.firm room (comes-piece p f.after r P f.comes).2
 

@@ -139,24 +139,24 @@ module _ (p : Checked) (T : Table) (sc : Scope) (e : ℕ) (a : Valuation) (total
   after-choice size law c x y more small_x small_y ks v s h d =
       let fit = fits-sides p.program sc (choose c x y) more d.fit in
       let g =
-          sides-given sc e a v s c _ d.underway.ready d.fit.0
-          (comes-bind (give_sides s e c) _ (Children p.N ks) h) in
+      sides-given sc e a v s c _ d.underway.ready d.fit.0
+      (comes-bind (give_sides s e c) _ (Children p.N ks) h) in
       let after = λ (op : Op). row_added g.after (row_of g.left op g.right c.sort) in
       let todo = λ (side : Items). to_give (append_items side more) e n ∷ ts in
       let first = after-comparison g.after g.left c.op g.right c.sort _ (Children p.N ks) g.comes in
       let second =
-          after-comparison g.after g.left (opposite c.op) g.right c.sort _ (Children p.N ks) first in
+      after-comparison g.after g.left (opposite c.op) g.right c.sort _ (Children p.N ks) first in
       let k =
-          children-split p.N ks (goals_of (after c.op) (todo x))
-          (goals_of (after (opposite c.op)) (todo y)) second.1 in
+      children-split p.N ks (goals_of (after c.op) (todo x))
+      (goals_of (after (opposite c.op)) (todo y)) second.1 in
       let by =
-          λ (op : Op) (side : Items) (m : Step sc e a v s (after op))
-          (small : items_size (append_items side more) ≤ size) (f : AreFit p.program sc side)
-          (took : DrawsAll p.program T a side d.left d.draws.0) (ls : PlainTrees)
-          (o : Open p.N ls (after op) (todo side)).
-          given-on p T e v m.w total s (after op) ts (onward-step sc e a v s (after op) m)
-          (law (append_items side more) small ls m.w (after op) o
-          (side-due c x y side more v s (after op) d m f took)) in
+      λ (op : Op) (side : Items) (m : Step sc e a v s (after op))
+      (small : items_size (append_items side more) ≤ size) (f : AreFit p.program sc side)
+      (took : DrawsAll p.program T a side d.left d.draws.0) (ls : PlainTrees)
+      (o : Open p.N ls (after op) (todo side)).
+      given-on p T e v m.w total s (after op) ts (onward-step sc e a v s (after op) m)
+      (law (append_items side more) small ls m.w (after op) o
+      (side-due c x y side more v s (after op) d m f took)) in
       elim d.draws.1 [
         | inl w ↦ by c.op x (sides-row sc e a v s c c.op _ g w.0) small_x
             (all-first (ItemFits p.program sc) (all_items x) (all_items y) fit) w.1 k.left k.first

@@ -61,8 +61,8 @@ slots-given sc e a (x ∷ xs) [] v s P r f m c = absurd m
 slots-given sc e a (x ∷ xs) (z ∷ zs) v s P r f m c =
     let g = slot-given sc e a v s x z _ r f.0 m.0 (comes-bind (give_slot s e Int x) _ P c) in
     let k =
-        slots-given sc e a xs zs g.step.w g.after _ g.step.ready f.1 m.1
-        (comes-bind (give_slots g.after e xs) _ P g.comes) in
+    slots-given sc e a xs zs g.step.w g.after _ g.step.ready f.1 m.1
+    (comes-bind (give_slots g.after e xs) _ P g.comes) in
     let first = number-later g.after g.step.w k.step.w Int g.term k.step.agree g.over in
     record {
       after = k.after;
@@ -167,9 +167,9 @@ module _ (sc : Scope) (e : ℕ) (a v : Valuation) (s : PlainState) (y : Element)
   form-given (Share x) divisible f h c =
       let g = amount-given sc e a v s x h.1 _ r f h.3 (comes-bind (give_slot s e Perm x) _ P c) in
       let is_value =
-          ap (λ n. pos h.0.num *ℤ pos (n + 1)) (sym g.step.ready.means.under)
-          ∙ sym h.4
-          ∙ ap (λ z. z *ℤ pos h.0.den) (sym g.number_is) in
+      ap (λ n. pos h.0.num *ℤ pos (n + 1)) (sym g.step.ready.means.under)
+      ∙ sym h.4
+      ∙ ap (λ z. z *ℤ pos h.0.den) (sym g.number_is) in
       form-of (Share x) form.Share Perm h.1 g (h.0, h.2, is_value, h.5) tt g.over
   form-given (Src x) counting f h c =
       let g = slot-given sc e a v s x (pos h.0) _ r f h.1 (comes-bind (give_slot s e Int x) _ P c)
