@@ -221,7 +221,7 @@ module _ (p : PlainProgram) (T : Table) (sc : Scope) (e : ℕ) (a : Valuation) (
       record {
         after = c.after;
         step = step-trans sc e a v s g.after c.after g.step on;
-        made = fact_of g.term k b.terms c.term;
+        made = fact_of g.term k b.made c.term;
         tight = refl;
         kind_is = refl;
         region_is =
@@ -229,12 +229,12 @@ module _ (p : PlainProgram) (T : Table) (sc : Scope) (e : ℕ) (a : Valuation) (
             ∙ g.number_is
             ∙ variable-value a n;
         args_are =
-            values-later b.after b.step.w c.step.w b.terms c.step.agree b.over ∙ b.values_are;
+            values-later b.after b.step.w c.step.w b.made c.step.agree b.is.1 ∙ b.is.0;
         state_is = c.number_is;
         over = (
           over-later g.after c.after Int g.term on.same g.over,
           all-more (Over (Usable [] b.after.sorts Int)) (Over (Usable [] c.after.sorts Int))
-              (λ t. over-later b.after c.after Int t c.step.same) b.terms b.over,
+              (λ t. over-later b.after c.after Int t c.step.same) b.made b.is.1,
           c.over,
         );
         comes = c.comes;
@@ -308,8 +308,8 @@ module _ (p : PlainProgram) (T : Table) (sc : Scope) (e : ℕ) (a : Valuation) (
       inside-trans p held (both p held d.draws.0) total (inside-first p held d.draws.0) room in
       let known =
       piece-known p [] w T f.after r y d.held now.ready.meets now.knows
-      (fit.0, shaped-takes sc b asked f.made fit.1 f.shaped)
-      (over-later g.after f.after Int g.term f.step.same g.over, f.over) f.is
+      (fit.0, shaped-takes sc b asked f.made fit.1 f.is.1)
+      (over-later g.after f.after Int g.term f.step.same g.over, f.is.2) f.is.0
       (composes-inside p held total inside ne) in
       goes p T sc e a total i more v s P d f.after (piece_added p f.after r) m held known.meets
       known.knows now.firm room (comes-piece p f.after r P f.comes).2

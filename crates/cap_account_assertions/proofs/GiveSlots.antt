@@ -32,30 +32,29 @@ use Rattle.cap_account_states.proofs.Wants.{AmountIs, Wants}
 use Rattle.cap_account_states.proofs.Guarding.{FormOver}
 use Rattle.cap_account_assertions.proofs.Giving.{TermGiven, term-given, slot-given, over-later, number-later}
 
+-- what is given becomes something of which this holds, after names have got variables
+pub record Becomes (sc : Scope) (e : ℕ) (a v : Valuation) (s : PlainState) (A : Type 0)
+    (Q : Valuation → PlainState → A → Type 0) (P : Pair A → Type 0) : Type 0 where
+  pub after : PlainState
+  pub made : A
+  pub step : Step sc e a v s after
+  pub is : Q step.w after made
+  pub comes : P (pair after made)
+
 -- ---- several slots
 
-pub record SlotsGiven (sc : Scope) (e : ℕ) (a v : Valuation) (s : PlainState) (zs : List ℤ)
-    (P : Pair (List Linear) → Type 0) : Type 0 where
-  pub after : PlainState
-  pub terms : List Linear
-  pub step : Step sc e a v s after
-  pub values_are : map (value step.w.whole) terms ≡ zs
-  pub over : AllByRecursion (Over (Usable [] after.sorts Int)) terms
-  pub comes : P (pair after terms)
+-- usable terms with these values
+abbrev pub TermsAre : List ℤ → Valuation → PlainState → List Linear → Type 0
+TermsAre zs w t us =
+    (map (value w.whole) us ≡ zs) × AllByRecursion (Over (Usable [] t.sorts Int)) us
 
 pub slots-given :
     (sc : Scope) (e : ℕ) (a : Valuation) (xs : List Slot) (zs : List ℤ) (v : Valuation)
     (s : PlainState) (P : Pair (List Linear) → Type 0) → Ready sc e a v s →
     AllByRecursion (SlotFits sc Int) xs → SlotsAre a xs zs → Comes (give_slots s e xs) P →
-    SlotsGiven sc e a v s zs P
-slots-given sc e a [] [] v s P r f m c = record {
-  after = s;
-  terms = [];
-  step = step-none sc e a v s r;
-  values_are = refl;
-  over = tt;
-  comes = c.1;
-}
+    Becomes sc e a v s (List Linear) (TermsAre zs) P
+slots-given sc e a [] [] v s P r f m c =
+    record { after = s; made = []; step = step-none sc e a v s r; is = (refl, tt); comes = c.1 }
 slots-given sc e a [] (z ∷ zs) v s P r f m c = absurd m
 slots-given sc e a (x ∷ xs) [] v s P r f m c = absurd m
 slots-given sc e a (x ∷ xs) (z ∷ zs) v s P r f m c =
@@ -66,10 +65,12 @@ slots-given sc e a (x ∷ xs) (z ∷ zs) v s P r f m c =
     let first = number-later g.after g.step.w k.step.w Int g.term k.step.agree g.over in
     record {
       after = k.after;
-      terms = g.term ∷ k.terms;
+      made = g.term ∷ k.made;
       step = step-trans sc e a v s g.after k.after g.step k.step;
-      values_are = λ i. (first ∙ g.number_is) i ∷ k.values_are i;
-      over = (over-later g.after k.after Int g.term k.step.same g.over, k.over);
+      is = (
+        λ i. (first ∙ g.number_is) i ∷ k.is.0 i,
+        (over-later g.after k.after Int g.term k.step.same g.over, k.is.1),
+      );
       comes = k.comes.1;
     }
 
@@ -123,45 +124,35 @@ shaped-takes sc counting (Src x) f h k = absurd k
 shaped-takes sc counting (Tok x) f h k = absurd k
 shaped-takes sc b x f h k = absurd h
 
--- its element is what is wanted
-pub record FormGiven (sc : Scope) (e : ℕ) (a v : Valuation) (s : PlainState) (asked : Asked)
-    (y : Element) (P : Pair Form → Type 0) : Type 0 where
-  pub after : PlainState
-  pub made : Form
-  pub step : Step sc e a v s after
-  pub is : IsFormElement step.w made y
-  pub shaped : IsShaped asked made
-  pub over : FormOver (Usable [] after.sorts) made
-  pub comes : P (pair after made)
+-- a form over usable variables, with this element
+abbrev pub FormIs : Asked → Element → Valuation → PlainState → Form → Type 0
+FormIs asked y w t f =
+    IsFormElement w f y × IsShaped asked f × FormOver (Usable [] t.sorts) f
 
 module _ (sc : Scope) (e : ℕ) (a v : Valuation) (s : PlainState) (y : Element)
     (P : Pair Form → Type 0) (r : Ready sc e a v s) where
-  -- a form of this term
+  -- made of this term
   form-of :
       (asked : Asked) (make : Linear → Form) (o : Sort) (z : ℤ) →
       (g : TermGiven sc e a v s o z (λ t. Comes (unit (pair t.state (make t.value))) P)) →
-      IsFormElement g.step.w (make g.term) y → IsShaped asked (make g.term) →
-      FormOver (Usable [] g.after.sorts) (make g.term) → FormGiven sc e a v s asked y P
-  form-of asked make o z g h k over = record {
+      FormIs asked y g.step.w g.after (make g.term) → Becomes sc e a v s Form (FormIs asked y) P
+  form-of asked make o z g h = record {
     after = g.after;
     made = make g.term;
     step = g.step;
     is = h;
-    shaped = k;
-    over = over;
     comes = g.comes.1;
   }
 
+  -- what is wanted
   pub form-given :
       (asked : Asked) (b : PlainAlgebra) → AskedFits sc b asked → Wants a asked y →
-      Comes (give_form s e asked) P → FormGiven sc e a v s asked y P
+      Comes (give_form s e asked) P → Becomes sc e a v s Form (FormIs asked y) P
   form-given One unique f h c = record {
     after = s;
     made = form.One;
     step = step-none sc e a v s r;
-    is = h;
-    shaped = tt;
-    over = tt;
+    is = (h, tt, tt);
     comes = c.1;
   }
   form-given (Share x) divisible f h c =
@@ -170,13 +161,13 @@ module _ (sc : Scope) (e : ℕ) (a v : Valuation) (s : PlainState) (y : Element)
       ap (λ n. pos h.0.num *ℤ pos (n + 1)) (sym g.step.ready.means.under)
       ∙ sym h.4
       ∙ ap (λ z. z *ℤ pos h.0.den) (sym g.number_is) in
-      form-of (Share x) form.Share Perm h.1 g (h.0, h.2, is_value, h.5) tt g.over
+      form-of (Share x) form.Share Perm h.1 g ((h.0, h.2, is_value, h.5), tt, g.over)
   form-given (Src x) counting f h c =
       let g = slot-given sc e a v s x (pos h.0) _ r f h.1 (comes-bind (give_slot s e Int x) _ P c)
       in
-      form-of (Src x) form.Src Int (pos h.0) g (h.0, g.number_is, h.2) tt g.over
+      form-of (Src x) form.Src Int (pos h.0) g ((h.0, g.number_is, h.2), tt, g.over)
   form-given (Tok x) counting f h c =
       let g = slot-given sc e a v s x (pos h.0) _ r f h.1 (comes-bind (give_slot s e Int x) _ P c)
       in
-      form-of (Tok x) form.Tok Int (pos h.0) g (h.0, g.number_is, h.2) tt g.over
+      form-of (Tok x) form.Tok Int (pos h.0) g ((h.0, g.number_is, h.2), tt, g.over)
   form-given asked b f h c = absurd f
