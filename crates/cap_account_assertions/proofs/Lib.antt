@@ -6,3 +6,4 @@ pub mod GiveSlots
 pub mod GiveState
 pub mod GiveItems
 pub mod GiveLaw
+pub mod Finer

@@ -19,3 +19,5 @@ pub mod Candidates
 pub mod Returning
 pub mod Beginning
 pub mod Allocating
+pub mod Reserving
+pub mod CallSite
