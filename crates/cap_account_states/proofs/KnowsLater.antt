@@ -65,19 +65,23 @@ opened-later R S P v w T i j l f h =
     let e = value-alike P v w l f.region (vars-more R P j f.region.parts h.0) in
     (vars-more R S i f.region.parts h.0, h.1, ap T e ∙ h.2)
 
+-- whatever else has changed
+pub opened-on :
+    (ks : List ℕ) (v w : Valuation) (T : Table) (s t : PlainState) →
+    ((x : ℕ) (o : Sort) → slice_get s.sorts x ≡ Some o → slice_get t.sorts x ≡ Some o) →
+    t.opened ≡ s.opened → Alike (Steady ks s) v w →
+    AllByRecursion (IsOpened (Usable ks s.sorts Int) v T) s.opened →
+    AllByRecursion (IsOpened (Usable ks t.sorts Int) w T) t.opened
+opened-on ks v w T s t sorts e l h =
+    let R = Usable ks s.sorts Int in
+    let S = Usable ks t.sorts Int in
+    subst (AllByRecursion (IsOpened S w T)) (sym e)
+    (all-more (IsOpened R v T) (IsOpened S w T)
+    (opened-later R S (Steady ks s) v w T (usable-on ks s.sorts t.sorts sorts Int)
+    (usable-steady ks s Int) l) s.opened h)
+
 module _ (p : PlainProgram) (ks : List ℕ) (v w : Valuation) (s t : PlainState)
     (k : IsKept ks v w s t) where
-  pub opened-kept :
-      (T : Table) → AllByRecursion (IsOpened (Usable ks s.sorts Int) v T) s.opened →
-      AllByRecursion (IsOpened (Usable ks t.sorts Int) w T) t.opened
-  opened-kept T h =
-      let R = Usable ks s.sorts Int in
-      let S = Usable ks t.sorts Int in
-      subst (AllByRecursion (IsOpened S w T)) (sym k.opened)
-      (all-more (IsOpened R v T) (IsOpened S w T)
-      (opened-later R S (Steady ks s) v w T (usable-on ks s.sorts t.sorts k.sorts Int)
-      (usable-steady ks s Int) k.alike) s.opened h)
-
   pub pieces-kept :
       AllByRecursion (PieceOver (Usable ks s.sorts)) s.guards →
       AllByRecursion (PieceOver (Usable ks t.sorts)) t.guards
@@ -103,7 +107,7 @@ module _ (p : PlainProgram) (ks : List ℕ) (v w : Valuation) (s t : PlainState)
     facts = facts-later ks v w T s t k.sorts k.facts k.alike h.facts;
     pieces_over = pieces-kept h.pieces_over;
     pieces_fit = subst (AllFit p) (sym k.guards) h.pieces_fit;
-    opened = opened-kept T h.opened;
+    opened = opened-on ks v w T s t k.sorts k.opened k.alike h.opened;
     backed = record {
       cells = c;
       guards = λ n. covered-kept h.pieces_over n (q.guards n) (h.backed.guards n);
