@@ -7,3 +7,4 @@ pub mod GiveState
 pub mod GiveItems
 pub mod GiveLaw
 pub mod Finer
+pub mod MadeTables

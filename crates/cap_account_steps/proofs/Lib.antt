@@ -21,3 +21,4 @@ pub mod Beginning
 pub mod Allocating
 pub mod Reserving
 pub mod CallSite
+pub mod Results
