@@ -1,5 +1,5 @@
 -- What facts say of a table, where there are region types: adding one, and giving one up.
-use Rattle.std.proofs.Common.{◌≡◌, ℕ, ℤ, List, [], ◌∷◌, ◌++◌, length, map, drop, get_or, cond, arith, refl, sym, ap, ◌∙◌, subst, Option, Some, None, Bool, true, false}
+use Rattle.std.proofs.Common.{◌≡◌, ℕ, ◌<◌, ℤ, List, [], ◌∷◌, ◌++◌, length, map, drop, get_or, cond, arith, refl, sym, ap, ◌∙◌, subst, Option, Some, None, Bool, true, false}
 use Rattle.std.specs.Prelude.{find, not, ◌&&◌, ◌||◌, ◌==◌, if◌then◌else◌}
 use Rattle.std.specs.List.{AllByRecursion, list_any}
 use Rattle.std.proofs.lemmas.Bool.Decides.{nat_tests}
@@ -28,6 +28,7 @@ use Rattle.cap_account_resources.proofs.Lists.{some-same, none-some, join-nil, j
 use Rattle.cap_account_states.proofs.Terms.{Over, RowOver, row-over, Agree, agree-same, value-agree}
 use Rattle.cap_account_states.proofs.Attempts.{comes-bind, comes-appended, comes-comparison, after-comparison}
 use Rattle.cap_account_states.proofs.Meets.{Usable, Meets, Old, variable-value}
+use Rattle.cap_account_states.proofs.Alike.{Alike, alike-same}
 use Rattle.cap_account_states.proofs.Naming.{Placed, Means, Stays, means-back}
 use Rattle.cap_account_states.proofs.Items.{within-same}
 use Rattle.cap_account_states.proofs.Matching.{Outside, matching}
@@ -299,7 +300,9 @@ pub record MatchingAll (ks : List ℕ) (sc : Scope) (sorts : List Sort) (v : Val
   pub stays : Stays sc env later
   pub outside : Outside sc env later
   pub size : length later ≡ length env
-  pub means : (a : Valuation) → Means sc v later a → SlotsAre a xs (map (value v.whole) ts)
+  pub means :
+      (w : Valuation) → Alike (λ y. y < length sorts) v w → (a : Valuation) → Means sc w later a →
+      SlotsAre a xs (map (value v.whole) ts)
   pub comes : P later
 
 pub matching-all :
@@ -313,7 +316,7 @@ matching-all ks sc v s env [] [] P me pl h o c = record {
   stays = λ x o i t e. e;
   outside = λ x n. refl;
   size = refl;
-  means = λ a n. tt;
+  means = λ w l a n. tt;
   comes = c.1;
 }
 matching-all ks sc v s env [] (t ∷ ts) P me pl h o c = absurd c.1
@@ -331,11 +334,11 @@ matching-all ks sc v s env (x ∷ xs) (t ∷ ts) P me pl h o c =
       outside = λ z n. n2.outside z n ∙ n1.outside z n;
       size = n2.size ∙ n1.size;
       means =
-          λ w n. (
-            n1.means w
-                (means-back ks sc s v v n1.later n2.later w n1.placed
-                (agree-same (Old s) v) n2.stays n),
-            n2.means w n,
+          λ w g a n. (
+            n1.means w g a
+                (means-back ks sc s w w n1.later n2.later a n1.placed
+                (agree-same (Old s) w) n2.stays n),
+            n2.means w g a n,
           );
       comes = n2.comes;
     }
