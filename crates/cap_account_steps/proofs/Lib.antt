@@ -16,3 +16,4 @@ pub mod OwnNames
 pub mod Entries
 pub mod Bundles
 pub mod Candidates
+pub mod Offers
