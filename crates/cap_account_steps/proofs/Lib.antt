@@ -17,3 +17,4 @@ pub mod Entries
 pub mod Bundles
 pub mod Candidates
 pub mod Offers
+pub mod Atoms
