@@ -18,3 +18,7 @@ pub mod Bundles
 pub mod Candidates
 pub mod Offers
 pub mod Atoms
+pub mod Returning
+pub mod Beginning
+pub mod Allocating
+pub mod Reserving
