@@ -2,3 +2,4 @@ pub mod Giving
 pub mod Taking
 pub mod Asserted
 pub mod Laws
+pub mod NewRegions
