@@ -2,3 +2,6 @@ pub mod Giving
 pub mod Taking
 pub mod Asserted
 pub mod Laws
+pub mod TreeSizes
+pub mod Follows
+pub mod TakeSteps
