@@ -3,3 +3,6 @@ pub mod Taking
 pub mod Asserted
 pub mod Laws
 pub mod NewRegions
+pub mod TreeSizes
+pub mod Follows
+pub mod TakeSteps
