@@ -6,3 +6,4 @@ pub mod NewRegions
 pub mod TreeSizes
 pub mod Follows
 pub mod TakeSteps
+pub mod ManyPieces
