@@ -7,3 +7,4 @@ pub mod TreeSizes
 pub mod Follows
 pub mod TakeSteps
 pub mod ManyPieces
+pub mod RuleSteps
