@@ -8,3 +8,4 @@ pub mod Follows
 pub mod TakeSteps
 pub mod ManyPieces
 pub mod RuleSteps
+pub mod FreshRegions
