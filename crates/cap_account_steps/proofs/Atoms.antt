@@ -1,12 +1,13 @@
 -- What is asked of different atoms, each cut out of the piece that is found for it, is together part
 -- of what covers the pieces.
-use Rattle.std.proofs.Common.{◌≡◌, ℕ, zero, suc, ◌+◌, Bool, true, false, List, [], ◌∷◌, ◌++◌, map, take, drop, cond, Option, Some, refl, sym, ap, ◌∙◌, subst, arith}
+use Rattle.std.proofs.Common.{◌≡◌, ℕ, zero, suc, ◌+◌, Bool, true, false, List, [], ◌∷◌, ◌++◌, map, take, drop, cond, Option, Some, refl, sym, ap, ◌∙◌, arith}
 use Rattle.std.specs.Prelude.{slice_get, nat_eq, find, ◌&&◌}
 use Rattle.std.specs.List.{AllByRecursion, IsDistinct}
 use Rattle.std.proofs.lemmas.Map.Keys.{IsDistinct-head, IsDistinct-tail}
 use Rattle.cap_lin.specs.Linear.{Linear}
 use Rattle.cap_lin.specs.Values.{Valuation, value}
-use Rattle.cap_galg.specs.Algebras.{PlainAlgebra, atom_algebra, atom_element}
+use Rattle.cap_galg.specs.Elements.{Element}
+use Rattle.cap_galg.specs.Algebras.{PlainAlgebra, IsElement, atom_algebra, atom_element}
 use Rattle.cap_gsolve.specs.declared.piece.Form.{Form}
 use Rattle.cap_gsolve.specs.declared.piece.Piece.{Piece}
 use Rattle.cap_gsolve.specs.Pieces.{piece, of_guards, of_atom}
@@ -19,8 +20,8 @@ use Rattle.cap_rules.specs.Taking.{with_form}
 use Rattle.cap_account_resources.proofs.Lists.{some-same, none-some, all-at}
 use Rattle.cap_account_resources.proofs.Marks.{Mark, free, joins-law}
 use Rattle.cap_account_resources.proofs.Covering.{join_marks, IsPartOf, mark, part-trans, Covered}
-use Rattle.cap_account_resources.proofs.Interference.{AsksAtoms}
-use Rattle.cap_account_states.proofs.Wants.{wants-asked}
+use Rattle.cap_account_resources.proofs.Interference.{AsksAtom, AsksAtoms}
+use Rattle.cap_account_states.proofs.Wants.{Wants, wants-asked}
 use Rattle.cap_account_states.proofs.Pieces.{AllFit, left_pieces, cut-here}
 use Rattle.cap_account_states.proofs.Guards.{forms-fit, left-fits}
 use Rattle.cap_account_steps.proofs.Offers.{Offers}
@@ -70,6 +71,13 @@ part-beside :
     IsPartOf p (join_marks p a b) (join_marks p a c)
 part-beside p a b c h = (h.0, (joins-law p).assoc a b h.0 ∙ ap (join_marks p a) h.1)
 
+-- a piece of an atom of a region's guards
+pub is-piece :
+    (r : Linear) (k i : ℕ) (q : Piece) → of_atom r k i q ≡ true → q ≡ piece r k i q.form
+is-piece r k i q e =
+    let m = part-is q (piece r k i q.form) e in
+    λ t. record { region = m.region t; kind = m.kind t; atom = m.atom t; form = q.form }
+
 module _ (p : PlainProgram) (v X : Valuation) (r : Linear) (k : ℕ) where
   abbrev b : ℕ → PlainAlgebra
   b i = atom_algebra (algebra_of p k) i
@@ -79,11 +87,6 @@ module _ (p : PlainProgram) (v X : Valuation) (r : Linear) (k : ℕ) where
     pub form : Form
     pub found : find (of_atom r k g.0) ps ≡ Some (piece r k g.0 form)
     pub offers : Offers (b g.0) v X form g.1
-
-  pub is-piece : (i : ℕ) (q : Piece) → of_atom r k i q ≡ true → q ≡ piece r k i q.form
-  is-piece i q e =
-      let m = part-is q (piece r k i q.form) e in
-      λ t. record { region = m.region t; kind = m.kind t; atom = m.atom t; form = q.form }
 
   -- a piece of one atom is none of another
   other-atom : (i j : ℕ) (f : Form) → nat_eq i j ≡ false → of_atom r k j (piece r k i f) ≡ false
@@ -118,6 +121,18 @@ module _ (p : PlainProgram) (v X : Valuation) (r : Linear) (k : ℕ) where
     still-found ps i f n left gs e d.1 h.1,
   )
 
+  -- what is asked of one atom, and of others beside it
+  asks-of :
+      (g : ℕ × Asked) (y : Element) → Wants X g.1 y → IsElement (b g.0) y →
+      AsksAtom p X k g (mark k (atom_element (algebra_of p k) g.0 y))
+  asks-of g y w e =
+      record { element = y; is_asked = wants-asked X g.1 y w; of_atom = e; is_mark = refl }
+
+  asks-both :
+      (g : ℕ × Asked) (gs : List (ℕ × Asked)) (m n : Option Mark) → AsksAtom p X k g m →
+      AsksAtoms p X k gs n → AsksAtoms p X k (g ∷ gs) (join_marks p m n)
+  asks-both g gs m n h hs = (m, n, h, hs, refl)
+
   pub guards-within :
       (gs : List (ℕ × Asked)) (ps : List Piece) (m : Option Mark) → AllFit p ps →
       Covered p v ps (value v.whole r) m → IsDistinct nat_eq (map (λ g. g.0) gs) →
@@ -136,23 +151,12 @@ module _ (p : PlainProgram) (v X : Valuation) (r : Linear) (k : ℕ) where
       let fits = forms-fit p q left own_fits w.offers.takes in
       let u = here.cut o.0 left o.2 fits o.3 in
       let names = map (λ (x : ℕ × Asked). x.0) gs in
-      let a = mark k (atom_element (algebra_of p k) i o.0) in
       let more = guards-within gs (left_pieces ps at.0 q left) u.rest
       (left-fits p ps at.0 q left fit fits) u.covered (IsDistinct-tail nat_eq i names d)
-      (still-found ps i w.form at.0 left gs at.1 (IsDistinct-head nat_eq i names d) h.1) in (
+      (still-found ps i w.form at.0 left gs at.1 (IsDistinct-head nat_eq i names d) h.1) in
+      let a = mark k (atom_element (algebra_of p k) i o.0) in (
         join_marks p a more.0,
-        (
-          a,
-          more.0,
-          record {
-            element = o.0;
-            is_asked = wants-asked X g.1 o.0 o.1;
-            of_atom = o.2;
-            is_mark = refl;
-          },
-          more.1,
-          refl,
-        ),
+        asks-both g gs a more.0 (asks-of g o.0 o.1 o.2) more.1,
         part-trans p (join_marks p a more.0) (join_marks p a u.rest) m
             (part-beside p a more.0 u.rest more.2) u.within,
       )

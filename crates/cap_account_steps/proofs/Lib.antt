@@ -22,3 +22,4 @@ pub mod Returning
 pub mod Beginning
 pub mod Allocating
 pub mod Reserving
+pub mod Moves

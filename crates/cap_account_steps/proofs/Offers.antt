@@ -1,12 +1,12 @@
 -- A guard of an action is matched with a form: what is asked for is cut out of the form's element.
-use Rattle.std.proofs.Common.{◌≡◌, ◌⊎◌, inl, inr, ℕ, zero, suc, ℤ, pos, ◌≤ℤ◌, ◌<ℤ◌, true, false, List, [], ◌∷◌, ◌++◌, map, Option, refl, sym, ap, subst, arith}
+use Rattle.std.proofs.Common.{◌≡◌, ◌⊎◌, inl, inr, ℕ, ℤ, ◌≤ℤ◌, ◌<ℤ◌, false, List, [], ◌∷◌, ◌++◌, map, Option, refl, sym, ap, subst, arith}
 use Rattle.std.specs.List.{AllByRecursion}
 use Rattle.std.proofs.lemmas.Int.{ints}
 use Rattle.cap_lin.specs.Linear.{Linear, plus, minus}
 use Rattle.cap_lin.specs.Steps.{Step, plus_steps, minus_steps}
 use Rattle.cap_lin.specs.Rows.{row_of, row_of_steps, negations_steps}
 use Rattle.cap_lin.specs.Values.{Valuation, amount}
-use Rattle.cap_lin.specs.Solves.{Holds, Solves, Proves}
+use Rattle.cap_lin.specs.Solves.{Holds, Proves}
 use Rattle.cap_lin.specs.declared.row.Row.{Row}
 use Rattle.cap_lin.specs.declared.row.Sort.{Sort}
 use Rattle.cap_lin.specs.declared.row.Sort.TheVariants.{Int, Perm}

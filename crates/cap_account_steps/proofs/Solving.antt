@@ -42,7 +42,7 @@ use Rattle.cap_account_steps.proofs.Others.{condition_row, source_row, action_ro
 use Rattle.cap_account_states.proofs.Compatible.{AnswerOver, compat-over, Whole, form-over-whole, pieces-more, covered-alike}
 use Rattle.cap_account_states.proofs.Alike.{scaled-agree-alike}
 
-asked-over : (sc : Scope) (b : PlainAlgebra) (asked : Asked) → AskedFits sc b asked →
+pub asked-over : (sc : Scope) (b : PlainAlgebra) (asked : Asked) → AskedFits sc b asked →
     AskedOver sc asked
 asked-over sc unique One h = tt
 asked-over sc divisible (Share s) h = h
