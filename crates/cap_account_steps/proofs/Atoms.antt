@@ -1,5 +1,5 @@
--- What is asked of different atoms, each cut out of the piece that is found for it, is together part
--- of what covers the pieces.
+-- What is asked of different atoms, each cut out of the piece that is found for it, is together
+-- part of what covers the pieces.
 use Rattle.std.proofs.Common.{◌≡◌, ℕ, zero, suc, ◌+◌, Bool, true, false, List, [], ◌∷◌, ◌++◌, map, take, drop, cond, Option, Some, refl, sym, ap, ◌∙◌, arith}
 use Rattle.std.specs.Prelude.{slice_get, nat_eq, find, ◌&&◌}
 use Rattle.std.specs.List.{AllByRecursion, IsDistinct}

@@ -22,4 +22,6 @@ pub mod Returning
 pub mod Beginning
 pub mod Allocating
 pub mod Reserving
+pub mod Actions
 pub mod Moves
+pub mod Shifting

@@ -133,8 +133,8 @@ module _ (b : PlainAlgebra) (ks : List ℕ) (sc : Scope) (v : Valuation) (s : Pl
   cut-by :
       (rows : List Row) → Meets ks v (record s { rows = rows }) → (asked : Asked) (f : Form)
       (way : ℕ) → AskedOver sc asked → FormOver (Usable ks s.sorts) f → Takes b f →
-      is_open asked env ≡ false → Comes (cut_form (record s { rows = rows }) env asked f way) AtEnv →
-      FormOffers f asked
+      is_open asked env ≡ false →
+      Comes (cut_form (record s { rows = rows }) env asked f way) AtEnv → FormOffers f asked
   cut-by rows meets asked f way h o tk op c =
       by-cut rows asked f tk
       (form-cut ks sc v (record s { rows = rows }) meets env pl AtEnv asked f way h o op c)
