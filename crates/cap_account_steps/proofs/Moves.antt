@@ -20,9 +20,8 @@ use Rattle.cap_account_resources.proofs.Tables.{TableFits}
 use Rattle.cap_account_resources.proofs.Stocks.{Stock}
 use Rattle.cap_account_states.proofs.Terms.{Over, vars-more}
 use Rattle.cap_account_states.proofs.Attempts.{after-found, comes-proved}
-use Rattle.cap_account_states.proofs.Meets.{Usable}
+use Rattle.cap_account_states.proofs.Meets.{Usable, Meets}
 use Rattle.cap_account_states.proofs.Guarding.{proved-relates}
-use Rattle.cap_account_states.proofs.Backed.{Grounded}
 use Rattle.cap_account_steps.proofs.Worlds.{Exact, AllOver, Earlier}
 use Rattle.cap_account_steps.proofs.Atoms.{guards-within}
 use Rattle.cap_account_steps.proofs.Actions.{matches}
@@ -87,18 +86,25 @@ movable-on p ks js s t f k g m =
 
 -- ---- what a move says
 
-module _ (p : PlainProgram) (part : Stock) (ks : List ℕ) (v : Valuation) (s : PlainState)
-    (g : Grounded p ks v s) (before : Earlier p ks v s part) (f : PlainFact) (k : PlainRegionType)
-    (is : Movable p ks s f k) (new : Linear) (later : Over (Usable ks s.sorts Int) new)
-    (P : Unit {0} → Type 0) where
+module _ (p : PlainProgram) (ks : List ℕ) (v : Valuation) (s : PlainState) (me : Meets ks v s)
+    (f : PlainFact) (k : PlainRegionType) (is : Movable p ks s f k) (new : Linear)
+    (later : Over (Usable ks s.sorts Int) new) (P : Unit {0} → Type 0) where
+  -- move 0 keeps the state
+  pub kept-says :
+      Comes (prove_move k s f new 0) P → (value v.whole new ≡ value v.whole f.state) × P tt
+  kept-says c =
+      let w = comes-proved s.rows new Equal f.state Int P c in
+      (proved-relates ks v s new Equal f.state Int me w.0 later is.over.2, w.1)
+
   -- its guards are cut out of what covers the pieces that were there before
   action-says :
-      (i : ℕ) (a : PlainAction) → slice_get k.actions i ≡ Some a →
+      (part : Stock) → Earlier p ks v s part → (i : ℕ) (a : PlainAction) →
+      slice_get k.actions i ≡ Some a →
       Comes (prove_action s f new a) P → MovesTo p part v f new × P tt
-  action-says i a e c =
+  action-says part before i a e c =
       let fits = all-at (ActionFits k) k.actions i a is.fits.actions e in
       let n = value v.whole f.region in
-      let m = matches p ks v s g.meets f is.over k new later a fits before.over before.fit is.arity
+      let m = matches p ks v s me f is.over k new later a fits before.over before.fit is.arity
       P c in
       let w = guards-within p v m.0.values f.region f.kind a.guards s.before (part.guards n)
       before.fit (before.covered n) fits.distinct m.0.guards in (
@@ -123,12 +129,9 @@ module _ (p : PlainProgram) (part : Stock) (ks : List ℕ) (v : Valuation) (s : 
       )
 
   pub move-says :
-      (m : ℕ) → Comes (prove_move k s f new m) P → MovesTo p part v f new × P tt
-  move-says zero c =
-      let w = comes-proved s.rows new Equal f.state Int P c in (
-        inl (proved-relates ks v s new Equal f.state Int g.meets w.0 later is.over.2),
-        w.1,
-      )
-  move-says (suc i) c =
+      (part : Stock) → Earlier p ks v s part → (m : ℕ) → Comes (prove_move k s f new m) P →
+      MovesTo p part v f new × P tt
+  move-says part before zero c = let w = kept-says c in (inl w.0, w.1)
+  move-says part before (suc i) c =
       let w = after-found (slice_get k.actions i) (prove_action s f new) P c in
-      action-says i w.0 w.1 w.2
+      action-says part before i w.0 w.1 w.2

@@ -21,18 +21,15 @@ use Rattle.cap_rules.specs.Rules.{leaves, creations, at_close, at_shift}
 use Rattle.cap_account_states.specs.Nodes.{NodePredicate, Comes, Children, Open}
 use Rattle.cap_account_resources.specs.Parts.{known_as, Table}
 use Rattle.cap_account_resources.proofs.Lists.{all-at}
-use Rattle.cap_account_resources.proofs.Stocks.{Stock}
 use Rattle.cap_account_states.proofs.Terms.{Over}
-use Rattle.cap_account_states.proofs.Attempts.{env_added, comes-bind, after-found, after-need, after-env, after-determined}
-use Rattle.cap_account_states.proofs.Meets.{Usable}
+use Rattle.cap_account_states.proofs.Attempts.{env_added, comes-bind, comes-more, after-found, after-need, after-env, after-determined}
+use Rattle.cap_account_states.proofs.Meets.{Usable, Meets}
 use Rattle.cap_account_states.proofs.Naming.{Placed, Means, values_in, values-mean, bound-of, term-over, term-number}
 use Rattle.cap_account_states.proofs.Environments.{EnvOver}
 use Rattle.cap_account_states.proofs.Cases.{target-yields, comes-case, case-placed}
 use Rattle.cap_account_states.proofs.Facts.{Facts, fact_added, comes-fact, no-other-type}
-use Rattle.cap_account_states.proofs.Backed.{Grounded}
 use Rattle.cap_account_assertions.proofs.RuleSteps.{comparisons-hold}
-use Rattle.cap_account_steps.proofs.Worlds.{Earlier}
-use Rattle.cap_account_steps.proofs.Moves.{MovesTo, Movable, move-says}
+use Rattle.cap_account_steps.proofs.Moves.{Movable}
 
 -- what is found, where it is known
 given :
@@ -41,6 +38,13 @@ given :
 given o x g P e h = subst (λ w. Comes (found w >>= g) P) e h
 
 -- ---- the choice of a case and a move
+
+-- its tasks: the case's items are taken out of the state, in its newest environment, and the move
+-- is proved
+abbrev pub take_and_shift :
+    PlainState → PlainCase → ℕ → ℕ → ℕ → ℕ → Bool → List PlainTask → List PlainTask
+take_and_shift s x o c m n any ts =
+    to_take x.items (length s.envs) (creations any) n ∷ to_shift o c m (length s.envs) n ∷ ts
 
 -- the region and its case, and an environment of the case's names, in which its items are to be
 -- taken
@@ -58,8 +62,7 @@ pub record Picked (p : PlainProgram) (N : NodePredicate) (ks : List ℕ) (s : Pl
   pub over : EnvOver (Usable ks s.sorts Int) names
   pub placed : Placed ks (region_scope k x.names) s.sorts (region_env f names)
   pub goes :
-      Open N kids (env_added s (region_env f names))
-      (to_take x.items (length s.envs) (creations any) n ∷ to_shift o c m (length s.envs) n ∷ ts)
+      Open N kids (env_added s (region_env f names)) (take_and_shift s x o c m n any ts)
 
 module _ (p : PlainProgram) (N : NodePredicate) (ks : List ℕ) (s : PlainState) (o c m n : ℕ)
     (any : Bool) (ts : List PlainTask) (kids : PlainTrees) where
@@ -69,8 +72,7 @@ module _ (p : PlainProgram) (N : NodePredicate) (ks : List ℕ) (s : PlainState)
   -- the rule from its environment on, from its case on, and so on
   abbrev from_env : PlainCase → PlainEnv → Attempt (List PlainGoal)
   from_env x env =
-      with_env s env >>= λ s'. leaves s'
-      (to_take x.items (length s.envs) (creations any) n ∷ to_shift o c m (length s.envs) n ∷ ts)
+      with_env s env >>= λ s'. leaves s' (take_and_shift s x o c m n any ts)
 
   abbrev from_case : PlainFact → PlainRegionType → PlainCase → Attempt (List PlainGoal)
   from_case f k x =
@@ -101,8 +103,7 @@ module _ (p : PlainProgram) (N : NodePredicate) (ks : List ℕ) (s : PlainState)
       let e = comes-case R k x f (move_target k f m) (λ env. Comes (from_env x env) Goals)
       (target-yields R f a.over.0 a.over.1 k m a.over.2)
       (comes-bind (case_env k x f (move_target k f m)) (from_env x) Goals w.1) in
-      let tasks = to_take x.items (length s.envs) (creations any) n
-      ∷ to_shift o c m (length s.envs) n ∷ ts in
+      let tasks = take_and_shift s x o c m n any ts in
       record {
         f = f;
         is_opened = q.1;
@@ -148,11 +149,11 @@ comes-closed s o f new Q none h =
     (comes-fact shut (with_state f new) (λ t. Comes (last t) Q) none
     (comes-bind (with_fact shut (with_state f new)) last Q h)).1
 
--- a term for the case's state, to which the region moves; what the case says of its names' values;
--- and the state in which the region's fact joins the others
-pub record Shifted (p : PlainProgram) (N : NodePredicate) (part : Stock) (ks : List ℕ)
-    (v : Valuation) (s : PlainState) (o e : ℕ) (f : PlainFact) (k : PlainRegionType)
-    (x : PlainCase) (ts : List PlainTask) (kids : PlainTrees) : Type 0 where
+-- a term for the case's state; what the case says of its names' values; and that the region moves
+-- to that state, in which its fact joins the others
+pub record Shifted (N : NodePredicate) (ks : List ℕ) (v : Valuation) (s : PlainState)
+    (o m e : ℕ) (f : PlainFact) (k : PlainRegionType) (x : PlainCase) (ts : List PlainTask)
+    (kids : PlainTrees) : Type 0 where
   pub new : Linear
   pub over : Over (Usable ks s.sorts Int) new
   pub state_is :
@@ -161,12 +162,12 @@ pub record Shifted (p : PlainProgram) (N : NodePredicate) (part : Stock) (ks : L
   pub conditions :
       (X : Valuation) → Means (region_scope k x.names) v (env_at s e) X →
       AllByRecursion (CompHolds X) x.when
-  pub moves : MovesTo p part v f new
-  pub goes : Open N kids (closed_state s o (with_state f new)) ts
+  pub moves :
+      Comes (prove_move k s f new m)
+      (λ _. Open N kids (closed_state s o (with_state f new)) ts)
 
-module _ (p : PlainProgram) (N : NodePredicate) (part : Stock) (ks : List ℕ) (v : Valuation)
-    (s : PlainState) (g : Grounded p ks v s) (before : Earlier p ks v s part) (o c m e : ℕ)
-    (ts : List PlainTask) (kids : PlainTrees) where
+module _ (p : PlainProgram) (N : NodePredicate) (ks : List ℕ) (v : Valuation) (s : PlainState)
+    (me : Meets ks v s) (o c m e : ℕ) (ts : List PlainTask) (kids : PlainTrees) where
   abbrev env : PlainEnv
   env = env_at s e
 
@@ -195,7 +196,7 @@ module _ (p : PlainProgram) (N : NodePredicate) (part : Stock) (ks : List ℕ) (
       slice_get k.cases c ≡ Some x → Movable p ks s f k →
       Placed ks (region_scope k x.names) s.sorts env →
       list_any (is_of_other_type f) s.facts ≡ false →
-      Comes (at_shift p s o c m e ts) After → Shifted p N part ks v s o e f k x ts kids
+      Comes (at_shift p s o c m e ts) After → Shifted N ks v s o m e f k x ts kids
   shifted f k x is_f is_x is pl none h =
       let sc = region_scope k x.names in
       let fits = all-at (CaseFits p k) k.cases c x is.fits.cases is_x in
@@ -206,23 +207,22 @@ module _ (p : PlainProgram) (N : NodePredicate) (part : Stock) (ks : List ℕ) (
       let next = λ (_ : Unit {0}). determined env x.state >>= from_state f k in
       let Q = λ (_ : Unit {0}). Comes (next tt) After in
       let said = λ (X : Valuation) (n : Means sc v env X).
-      comparisons-hold ks sc v s env X g.meets pl n x.when fits.when Q
+      comparisons-hold ks sc v s env X me pl n x.when fits.when Q
       (comes-bind (prove_comparisons s.rows env x.when) next After q) in
       let d = after-determined env x.state (from_state f k) After
       (said (values_in v env) (values-mean sc v env)).1 in
       let names = bound-of env x.state.parts d.0 in
-      let over = term-over ks sc s.sorts env Int x.state pl fits.state names in
       let last = λ (_ : Unit {0}). from_move f new in
-      let w = move-says p part ks v s g before f k is new over (λ u. Comes (last u) After) m
-      (comes-bind (prove_move k s f new m) last After d.1) in
       let leave = λ (t : PlainState). leaves t ts in
       record {
         new = new;
-        over = over;
+        over = term-over ks sc s.sorts env Int x.state pl fits.state names;
         state_is = λ X n. term-number sc v env X Int x.state n fits.state names;
         conditions = λ X n. (said X n).0;
-        moves = w.0;
-        goes =
-            (comes-closed s o f new (λ t. Comes (leave t) After) none
-            (comes-bind (with_closed s o f new) leave After w.1)).1;
+        moves =
+            comes-more (prove_move k s f new m) (λ u. Comes (last u) After)
+            (λ _. Open N kids (closed_state s o (with_state f new)) ts)
+            (λ u w. (comes-closed s o f new (λ t. Comes (leave t) After) none
+            (comes-bind (with_closed s o f new) leave After w)).1)
+            (comes-bind (prove_move k s f new m) last After d.1);
       }
