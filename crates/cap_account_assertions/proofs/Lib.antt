@@ -9,3 +9,9 @@ pub mod TakeSteps
 pub mod ManyPieces
 pub mod RuleSteps
 pub mod FreshRegions
+pub mod GiveSlots
+pub mod GiveState
+pub mod GiveItems
+pub mod GiveLaw
+pub mod Finer
+pub mod MadeTables

@@ -39,7 +39,7 @@ use Rattle.cap_account_states.proofs.Cases.{case-placed}
 use Rattle.cap_account_assertions.proofs.RuleSteps.{comparisons-hold}
 use Rattle.cap_account_steps.proofs.Worlds.{AllOver}
 use Rattle.cap_account_steps.proofs.Callees.{slice-map}
-use Rattle.cap_account_steps.proofs.Solving.{asked-over}
+use Rattle.cap_account_states.proofs.Wants.{asked-over}
 use Rattle.cap_account_steps.proofs.Offers.{LeadsTo, form-offers}
 use Rattle.cap_account_steps.proofs.Atoms.{found-at, is-piece, Found}
 

@@ -25,3 +25,7 @@ pub mod Reserving
 pub mod Actions
 pub mod Moves
 pub mod Shifting
+pub mod CallSite
+pub mod Results
+pub mod Calling
+pub mod CallLaws
