@@ -14,3 +14,5 @@ mod Steps
 mod Soundness
 mod Unsafe
 mod Storing
+mod Stocked
+mod Tracks
