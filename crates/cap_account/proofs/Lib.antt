@@ -16,3 +16,4 @@ mod Unsafe
 mod Storing
 mod Stocked
 mod Tracks
+mod Totals
