@@ -17,3 +17,4 @@ mod Storing
 mod Stocked
 mod Tracks
 mod Totals
+mod Parts
