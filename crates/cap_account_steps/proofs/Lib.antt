@@ -16,3 +16,5 @@ pub mod OwnNames
 pub mod Entries
 pub mod Bundles
 pub mod Candidates
+pub mod Returning
+pub mod Beginning

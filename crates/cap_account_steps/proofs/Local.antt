@@ -106,7 +106,12 @@ module _ (p : Checked) (part : Stock) (T : Table) (fn : PlainFunction) (fixed : 
         pieces_over = n.grounded.pieces_over;
         pieces_fit = n.grounded.pieces_fit;
       };
-      facts = record { holds = n.facts.holds; over = n.facts.over };
+      facts = record {
+        holds = n.facts.holds;
+        over = n.facts.over;
+        loose = n.facts.loose;
+        differ = n.facts.differ;
+      };
       firm = n.firm;
       backed = record { cells = n.backed.cells; guards = n.backed.guards };
       store = record {
@@ -193,7 +198,12 @@ module _ (p : Checked) (part : Stock) (T : Table) (fn : PlainFunction) (fixed : 
         pieces_over = n.grounded.pieces_over;
         pieces_fit = n.grounded.pieces_fit;
       };
-      facts = record { holds = n.facts.holds; over = n.facts.over };
+      facts = record {
+        holds = n.facts.holds;
+        over = n.facts.over;
+        loose = n.facts.loose;
+        differ = n.facts.differ;
+      };
       firm = n.firm;
       backed = record { cells = n.backed.cells; guards = n.backed.guards };
       store = record {

@@ -19,7 +19,8 @@ use Rattle.cap_account_states.proofs.Meets.{Usable, usable-old, Meets, Old, vari
 use Rattle.cap_account_states.proofs.Naming.{Placed, Means}
 use Rattle.cap_account_states.proofs.Scopes.{Position, param, local, fixed, result, extra, position-room, own-param, own-local, own-fixed, own-result, own-new, own-room}
 use Rattle.cap_account_states.proofs.Values.{named-at, named-of}
-use Rattle.cap_account_steps.proofs.Stores.{Store, name-same}
+use Rattle.cap_account_states.proofs.Alike.{Alike, value-alike}
+use Rattle.cap_account_steps.proofs.Stores.{fixed-name, name-alike, Store, name-same}
 
 pub take-get :
     {X : Type 0} (xs : List X) (n i : ℕ) (y : X) → slice_get (take n xs) i ≡ Some y →
@@ -163,5 +164,41 @@ pub store-term-later :
     slice_get s.store i ≡ Some t → value w.whole t ≡ value v.whole t
 store-term-later s v w i t m a e =
     value-agree (Old s) v w a t
+    (vars-more (Usable [] s.sorts Int) (Old s) (usable-old [] s.sorts Int) t.parts
+    (all-at (Over (Usable [] s.sorts Int)) s.store i t m.store_over e))
+
+-- ---- at alike values
+
+-- the fixed names in the frame's own environment have their values
+pub own-fixed-alike :
+    (s : PlainState) (v w : Valuation) (h : Home) (fn : PlainFunction) (fx : List NameValue)
+    (f : Frame) (env : PlainEnv) → Store v s h fn fx f → Alike (Old s) v w →
+    length fx ≡ length fn.fixed →
+    ((i : ℕ) (o : Sort) → slice_get fn.fixed i ≡ Some o →
+    term_of env (fixed_start fn + i) ≡ Some (variable (h.fixed + i))) →
+    AreNamed (canon w env) (fixed_start fn) fx
+own-fixed-alike s v w h fn fx f env st a size look =
+    named-of (canon w env) (fixed_start fn) fx (λ i y e.
+    let o = there-is fn.fixed i (let q = within fx i y e in omega (arith, q, size)) in
+    let k = fixed-name s v h fn fx f st size i y e in
+    named i y (name-alike (Old s) v w (h.fixed + i) y k.0 a k.1) (look i o.0 o.1))
+  where
+    named :
+        (i : ℕ) (y : NameValue) → IsNamed w (h.fixed + i) y →
+        term_of env (fixed_start fn + i) ≡ Some (variable (h.fixed + i)) →
+        IsNamed (canon w env) (fixed_start fn + i) y
+    named i (a_number z) k l =
+        ap (λ u. value w.whole (unwrap_or u zero_value)) l ∙ variable-value w (h.fixed + i) ∙ k
+    named i (a_fraction n d) k l =
+        ap (λ u. amount w.fraction (unwrap_or u zero_value) *ℤ pos (suc d)) l
+        ∙ ap (λ q. q *ℤ pos (suc d)) (variable-amount w (h.fixed + i))
+        ∙ k
+
+-- a term of the store has its value
+pub store-term-alike :
+    (s : PlainState) (v w : Valuation) (i : ℕ) (t : Linear) → Meets [] v s → Alike (Old s) v w →
+    slice_get s.store i ≡ Some t → value w.whole t ≡ value v.whole t
+store-term-alike s v w i t m a e =
+    value-alike (Old s) v w a t
     (vars-more (Usable [] s.sorts Int) (Old s) (usable-old [] s.sorts Int) t.parts
     (all-at (Over (Usable [] s.sorts Int)) s.store i t m.store_over e))
