@@ -18,3 +18,4 @@ mod Stocked
 mod Tracks
 mod Totals
 mod Parts
+mod Drawn

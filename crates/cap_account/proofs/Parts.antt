@@ -119,7 +119,7 @@ held-are heap c le a z =
 
 -- ---- a part that has what a stock says
 
-abbrev plain : Option Mark → Option Guard
+abbrev pub plain : Option Mark → Option Guard
 plain None = None
 plain (Some m) = m
 
