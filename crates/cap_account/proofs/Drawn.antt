@@ -105,10 +105,10 @@ module _ (p : PlainProgram) where
 
 -- ---- a region of the table
 
-abbrev tells : Region → Known
+abbrev pub tells : Region → Known
 tells r = known_as r.kind r.args (Some r.state)
 
-region-there :
+pub region-there :
     (rs : List OwnedRegion) (n : ℤ) (e : Known) → table_by (owners rs) n ≡ Some e →
     (r : Region) × (region_at (table_of rs) n ≡ Some r) × (tells r ≡ e)
 region-there [] n e h = absurd (none-some h)

@@ -19,3 +19,4 @@ mod Tracks
 mod Totals
 mod Parts
 mod Drawn
+mod Valid

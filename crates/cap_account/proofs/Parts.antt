@@ -123,7 +123,7 @@ abbrev pub plain : Option Mark → Option Guard
 plain None = None
 plain (Some m) = m
 
-plain-is : (o : Option Mark) → o ≢ None → Some (plain o) ≡ o
+pub plain-is : (o : Option Mark) → o ≢ None → Some (plain o) ≡ o
 plain-is None ne = absurd (ne refl)
 plain-is (Some m) ne = refl
 

@@ -107,6 +107,11 @@ StackStands p T (f ∷ fs) (h ∷ hs) =
     Stands p (part_stock h.part) T h.fixed f × AllWait p T (callee_of f h) fs hs
 StackStands p T fs hs = ⊥
 
+abbrev pub EachStands : Checked → Table → List Thread → List (List Held) → Type 0
+EachStands p T ts hss =
+    (i : ℕ) (t : Thread) (hs : List Held) → slice_get ts i ≡ Some t → slice_get hss i ≡ Some hs →
+    StackStands p T t hs
+
 -- a region owns what its type says at its state
 abbrev pub OwnsItsOwn : PlainProgram → Table → Owner → Type 0
 OwnsItsOwn p T r = OwnsRegion p T r.number r.kind r.args r.state r.stock
@@ -118,9 +123,7 @@ pub record Sound (p : Checked) (config : Configuration) (a : Account) : Type 0 w
   pub room : FitsRoom p.program (account_table a) (account_stock p.program a)
   pub differ : EachTwo (λ r s. r.number ≢ s.number) (owners a.regions)
   pub regions : AllByRecursion (OwnsItsOwn p.program (account_table a)) (owners a.regions)
-  pub stacks :
-      (i : ℕ) (t : Thread) (hs : List Held) → slice_get config.threads i ≡ Some t →
-      slice_get a.threads i ≡ Some hs → StackStands p (account_table a) t hs
+  pub stacks : EachStands p (account_table a) config.threads a.threads
 
 -- ---- steps
 
