@@ -20,3 +20,4 @@ mod Totals
 mod Parts
 mod Drawn
 mod Valid
+mod Begins
