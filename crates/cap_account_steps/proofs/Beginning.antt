@@ -1,31 +1,28 @@
 -- A function's body and a loop's turn, from what they are given.
-use Rattle.std.proofs.Common.{◌≡◌, ◌≢◌, ℕ, ◌+◌, ◌<◌, ◌≤◌, ℤ, pos, List, [], ◌∷◌, ◌++◌, length, map, replicate, arith, refl, sym, ap, ◌∙◌, subst, Option, Some, Bool, true, false}
+use Rattle.std.proofs.Common.{◌≡◌, ℕ, ◌+◌, ◌≤◌, ℤ, pos, List, [], ◌∷◌, ◌++◌, length, map, replicate, arith, refl, sym, ap, ◌∙◌, subst, Option, Some, Bool, true, false}
 use Rattle.std.specs.Prelude.{slice_get, if◌then◌else◌}
 use Rattle.std.specs.List.{AllByRecursion}
-use Rattle.cap_lin.specs.Linear.{Linear}
 use Rattle.cap_lin.specs.Values.{Valuation, value}
 use Rattle.cap_lin.specs.declared.row.Sort.TheVariants.{Int}
 use Rattle.cap_prog.specs.declared.assertion.Comp.{Comp}
 use Rattle.cap_prog.specs.Program.{PlainAssertion, Items, Label, loop, Block, first, append, PlainFunction}
-use Rattle.cap_prog.specs.Scopes.{Scope, fixed_start, requires_scope, invariant_scope}
+use Rattle.cap_prog.specs.Scopes.{Scope, requires_scope, invariant_scope}
 use Rattle.cap_prog.specs.WellFormed.{IsWellFormed}
 use Rattle.cap_goal_spec.specs.States.{PlainState, Home, PlainTask, to_give, to_run, to_turn}
 use Rattle.cap_goal_spec.specs.Terms.{variables_from}
 use Rattle.cap_goal_spec.specs.Environments.{zero_value}
 use Rattle.cap_goal_spec.specs.Roots.{at_entry, at_loop, home_of, root_env, root_state}
 use Rattle.cap_goal_spec.specs.Choices.{PlainTree, PlainTrees}
-use Rattle.cap_rules.specs.Making.{env_at}
 use Rattle.cap_machine.specs.Machine.{Frame, new_frame, holds, with_rest}
 use Rattle.cap_machine_accounts.specs.Assertions.{NameValue, ValuesFit}
 use Rattle.cap_account_resources.specs.Parts.{Table}
 use Rattle.cap_account_resources.proofs.Lists.{map-join, all-both}
-use Rattle.cap_account_resources.proofs.Marks.{joins-law}
 use Rattle.cap_account_resources.proofs.Covering.{covered-none}
 use Rattle.cap_account_resources.proofs.Room.{room, room-some, part-some}
 use Rattle.cap_account_resources.proofs.Stocks.{Stock, no_stock, both, Composes, stock-laws}
 use Rattle.cap_account_resources.proofs.Tables.{FitsRoom, fits-relied}
 use Rattle.cap_account_resources.proofs.Interference.{Relies}
-use Rattle.cap_account_states.specs.Nodes.{Children, Open}
+use Rattle.cap_account_states.specs.Nodes.{Open}
 use Rattle.cap_account_states.proofs.Terms.{Over}
 use Rattle.cap_account_states.proofs.Meets.{Usable, Old}
 use Rattle.cap_account_states.proofs.Alike.{agree-alike}
@@ -35,14 +32,14 @@ use Rattle.cap_account_states.proofs.Naming.{Ready}
 use Rattle.cap_account_states.proofs.Values.{normal}
 use Rattle.cap_account_states.proofs.Scopes.{rep-length, length-join}
 use Rattle.cap_account_states.proofs.Roots.{values-length, function-fits, renamed, Root, fixed-usable, root-ready, root-fixed, root-whole, variables-values, map-zero, variables-join, variables-over, zeros-over}
-use Rattle.cap_account_states.proofs.Backed.{Backed, Grounded}
-use Rattle.cap_account_assertions.proofs.Asserted.{DrawsAll, Owns, OwnsRequires, OwnsInvariant}
+use Rattle.cap_account_states.proofs.Backed.{Backed}
+use Rattle.cap_account_assertions.proofs.Asserted.{Owns, OwnsRequires, OwnsInvariant}
 use Rattle.cap_account_assertions.proofs.Laws.{StateAt, Given, GivenLaw, Reached, Stable}
 use Rattle.cap_account_steps.proofs.Points.{Point, FrameOk, loop_point, point-next, point-again, point-loop, point-act}
 use Rattle.cap_account_steps.proofs.Stores.{Store, store-alike}
 use Rattle.cap_account_steps.proofs.Entries.{take-all, entry_root, loop_root, low-variable}
 use Rattle.cap_account_steps.proofs.Bundles.{UnitRoots}
-use Rattle.cap_account_steps.proofs.Frames.{Node, Sits, Stands, Roomy}
+use Rattle.cap_account_steps.proofs.Frames.{Node, Sits, Roomy}
 use Rattle.cap_account_steps.proofs.Statements.{BodyLaw, TurnLaw}
 use Rattle.cap_account_steps.proofs.Local.{turn-at}
 

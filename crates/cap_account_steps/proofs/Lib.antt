@@ -18,3 +18,9 @@ pub mod Bundles
 pub mod Candidates
 pub mod Returning
 pub mod Beginning
+pub mod Allocating
+pub mod Reserving
+pub mod CallSite
+pub mod Results
+pub mod Calling
+pub mod CallLaws
