@@ -21,3 +21,4 @@ mod Parts
 mod Drawn
 mod Valid
 mod Begins
+mod Chosen
