@@ -22,3 +22,5 @@ mod Drawn
 mod Valid
 mod Begins
 mod Chosen
+mod Renewed
+mod Changes
