@@ -24,3 +24,4 @@ mod Begins
 mod Chosen
 mod Renewed
 mod Changes
+mod Exchanging
