@@ -5,7 +5,7 @@ use Rattle.std.specs.List.{AllByRecursion, list_any}
 use Rattle.cap_lin.specs.Linear.{same_number}
 use Rattle.cap_prog.specs.Program.{PlainProgram}
 use Rattle.cap_machine_accounts.specs.Accounts.{EachTwo}
-use Rattle.cap_account_resources.proofs.Lists.{Among, all-more}
+use Rattle.cap_account_resources.proofs.Lists.{Among, all-more, all-both}
 use Rattle.cap_account_resources.proofs.Order.{same-int, other-int}
 use Rattle.cap_account_resources.proofs.Monoid.{atom as at, both as plus}
 use Rattle.cap_account_resources.proofs.Stocks.{Stock, no_stock, both, all_of, Inside, stock-laws, none-right, reordered, inside-same, inside-both}
@@ -113,6 +113,19 @@ pub number-among : (rs : List Owner) (r : Owner) → Among r rs → Among r.numb
 number-among [] r m = m
 number-among (y ∷ rs) r (inl e) = inl (ap (λ (s : Owner). s.number) e)
 number-among (y ∷ rs) r (inr m) = inr (number-among rs r m)
+
+-- two lists of owners whose numbers differ
+pub apart-join :
+    (rs ss : List Owner) → Apart rs → Apart ss →
+    ((r : Owner) → Among r rs → Among r.number (numbers_of ss) → ⊥) → Apart (rs ++ ss)
+apart-join [] ss d e f = e
+apart-join (r ∷ rs) ss d e f = (
+  all-both (λ s. r.number ≢ s.number) rs ss d.0
+      (all-more (λ s. Among s ss) (λ s. r.number ≢ s.number)
+      (λ s m q. f r (inl refl) (subst (λ n. Among n (numbers_of ss)) (sym q) (number-among ss s m)))
+      ss (members ss)),
+  apart-join rs ss d.1 e (λ s m. f s (inr m)),
+)
 
 abbrev pub first_some : Option Owner → Option Owner → Option Owner
 first_some None o = o

@@ -25,3 +25,5 @@ mod Chosen
 mod Renewed
 mod Changes
 mod Exchanging
+mod Successors
+mod Following

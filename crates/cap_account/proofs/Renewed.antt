@@ -15,7 +15,7 @@ use Rattle.cap_account_assertions.proofs.Laws.{IsOwner, Reached, Stable}
 use Rattle.cap_account_steps.proofs.Worlds.{Differ, HasMoved, Settles}
 use Rattle.cap_account.proofs.Stocked.{sum_by, owner_at, known_by, table_by, stock_or_none, share_by, OwnsItsOwn}
 use Rattle.cap_account.proofs.Totals.{sum-map, sum-each}
-use Rattle.cap_account.proofs.Chosen.{members, of-member, all-mapped, each-two-mapped, has_number, test-all, Looked, found, missing, look, Apart, at-itself, number-among, first_some, at-join, at-mapped, when, sum-alike, sum-same, sum-split, if_numbered, unless_numbered, owned-sum, of-numbers}
+use Rattle.cap_account.proofs.Chosen.{members, of-member, all-mapped, each-two-mapped, has_number, test-all, Looked, found, missing, look, Apart, at-itself, number-among, apart-join, first_some, at-join, at-mapped, when, sum-alike, sum-same, sum-split, if_numbered, unless_numbered, owned-sum, of-numbers}
 
 -- ---- the owners afterwards
 
@@ -46,19 +46,6 @@ stays-same closed r q i = record {
   state = from (λ o. o.state) r.state (q i);
   stock = from (λ o. o.stock) r.stock (q i);
 }
-
--- two lists of owners whose numbers differ
-apart-join :
-    (rs ss : List Owner) → Apart rs → Apart ss →
-    ((r : Owner) → Among r rs → Among r.number (numbers_of ss) → ⊥) → Apart (rs ++ ss)
-apart-join [] ss d e f = e
-apart-join (r ∷ rs) ss d e f = (
-  all-both (λ s. r.number ≢ s.number) rs ss d.0
-      (all-more (λ s. Among s ss) (λ s. r.number ≢ s.number)
-      (λ s m q. f r (inl refl) (subst (λ n. Among n (numbers_of ss)) (sym q) (number-among ss s m)))
-      ss (members ss)),
-  apart-join rs ss d.1 e (λ s m. f s (inr m)),
-)
 
 -- a state that may be there, or else this
 abbrev pub the_state : Option ℤ → ℤ → ℤ
@@ -218,6 +205,14 @@ module _ (p : PlainProgram) (rs : List Owner) (s : Shift p rs) where
             none-some (sym (was-absent o j) ∙ ap V e ∙ known-at r m)
         | missing f q ↦ f k
       ]) rs (members rs))) k)
+
+  -- a made region in the table
+  pub made-known : (n : ℤ) (e : Known) → table_by s.made n ≡ Some e → s.U n ≡ Some e
+  made-known n e h = elim (look s.made n) [
+    | found o m k q ↦
+        ap s.U (sym k) ∙ (made-owner o m).known ∙ sym (ap (option_map known_by) q) ∙ h
+    | missing f q ↦ absurd (none-some (sym (ap (option_map known_by) q) ∙ h))
+  ]
 
   -- ---- what the frame did
 
