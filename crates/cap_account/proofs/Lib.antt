@@ -27,3 +27,4 @@ mod Changes
 mod Exchanging
 mod Successors
 mod Following
+mod Succeeding
