@@ -28,3 +28,5 @@ mod Exchanging
 mod Successors
 mod Following
 mod Succeeding
+mod Strides
+mod Ordinary
