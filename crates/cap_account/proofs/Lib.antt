@@ -30,3 +30,4 @@ mod Following
 mod Succeeding
 mod Strides
 mod Ordinary
+mod Touching
