@@ -138,8 +138,7 @@ module _ (p : Checked) (ls : Statements p) (stable : Stable p.program) (x : Turn
       let new = new_frame n g args destination in
       let fs = new ∷ with_rest x.frame b ∷ x.below in
       let hs = callee ∷ caller ∷ x.waiting in
-      let w = frames_stock P x.waiting in
-      (
+      let w = frames_stock P x.waiting in (
         account p stable x y (slice_set x.a.threads x.thread hs),
         no_part,
         follows p stable x y (callee.part ∷ caller.part ∷ []) both-left Call
@@ -161,15 +160,14 @@ module _ (p : Checked) (ls : Statements p) (stable : Stable p.program) (x : Turn
           },
           meets-now,
         ),
-        moved p stable x y fs hs
-            (
-              begins destination,
-              (
-                subst (λ q. Waits p q h.over.U x.held.fixed (with_rest x.frame b) destination n args
-                    h.fixed) (sym caller-is) wait,
-                below-wait p stable x y,
-              ),
-            )
+        moved p stable x y fs hs (
+          begins destination,
+          (
+            subst (λ q. Waits p q h.over.U x.held.fixed (with_rest x.frame b) destination n args
+                h.fixed) (sym caller-is) wait,
+            below-wait p stable x y,
+          ),
+        )
             (inside-is P (frames_stock P hs) (both P (both P h.kept h.given) w)
             (ap (λ q. both P q (both P (part_stock caller.part) w)) callee-is
             ∙ ap (λ q. both P h.given (both P q w)) caller-is
@@ -188,8 +186,7 @@ module _ (p : Checked) (ls : Statements p) (stable : Stable p.program) (x : Turn
       let hs = caller ∷ x.waiting in
       let ts = slice_set x.c.threads x.thread fs in
       let hss = slice_set x.a.threads x.thread hs in
-      let w = frames_stock P x.waiting in
-      (
+      let w = frames_stock P x.waiting in (
         account p stable x y (hss ++ (callee ∷ []) ∷ []),
         no_part,
         follows p stable x y (callee.part ∷ caller.part ∷ []) both-left (Fork (length x.c.threads))
@@ -212,12 +209,11 @@ module _ (p : Checked) (ls : Statements p) (stable : Stable p.program) (x : Turn
           },
           meets-now,
         ),
-        forked p stable x y fs (new ∷ []) hs (callee ∷ [])
-            (
-              subst (λ q. Stands p q h.over.U x.held.fixed (with_rest x.frame b)) (sym caller-is)
-                  stands,
-              below-wait p stable x y,
-            )
+        forked p stable x y fs (new ∷ []) hs (callee ∷ []) (
+          subst (λ q. Stands p q h.over.U x.held.fixed (with_rest x.frame b)) (sym caller-is)
+              stands,
+          below-wait p stable x y,
+        )
             (begins None, tt)
             (inside-is P (both P (frames_stock P hs) (frames_stock P (callee ∷ [])))
             (both P (both P h.kept h.given) w)

@@ -140,11 +140,10 @@ module _ (p : Checked) (ls : Statements p) (stable : Stable p.program) (x : Turn
           (handed-within p stable x y given given-all) (λ k. refl)
           (no-access (SomeHasCell (before p stable x y)) None refl),
       contract,
-      moved p stable x y [] [] tt
-          (
-            both P given (frames_stock P x.waiting),
-            (stock-laws P).zero_left (both P given (frames_stock P x.waiting)),
-          ),
+      moved p stable x y [] [] tt (
+        both P given (frames_stock P x.waiting),
+        (stock-laws P).zero_left (both P given (frames_stock P x.waiting)),
+      ),
     )
 
     goes-back :
@@ -166,34 +165,31 @@ module _ (p : Checked) (ls : Statements p) (stable : Stable p.program) (x : Turn
         let is = cut-is p stable x y more more-all in
         let joined : Held = record { part = cut p stable x y more; fixed = h.fixed } in
         let back = receives x.frame.destination v f in
-        let later = slice_set x.a.threads x.thread (joined ∷ hs) in
-        (
+        let later = slice_set x.a.threads x.thread (joined ∷ hs) in (
           account p stable x y later,
           handed,
-          follows p stable x y (handed ∷ []) handed-sum (Return v) later handed
-              (
-                h,
-                joined,
-                hs,
-                e,
-                refl,
-                refl,
-                joins-of P h.part handed joined.part
-                    (is ∙ ap (both P own) (sym handed-is)),
-                refl,
-              )
+          follows p stable x y (handed ∷ []) handed-sum (Return v) later handed (
+            h,
+            joined,
+            hs,
+            e,
+            refl,
+            refl,
+            joins-of P h.part handed joined.part
+                (is ∙ ap (both P own) (sym handed-is)),
+            refl,
+          )
               (handed-fits p stable x y given given-all)
               (handed-within p stable x y given given-all) (λ k. refl)
               (no-access (SomeHasCell (before p stable x y)) None refl),
           contract,
-          moved p stable x y (back ∷ fs) (joined ∷ hs)
-              (
-                subst (λ q. Stands p q gives.over.U h.fixed back) (sym is)
-                    (w.0.all gives.over.U (relies-same P own.guards gives.over.U) given v fn is_fn
-                    (cut-roomy p stable x y more more-all) gives.meets),
-                subst (λ c. AllWait p gives.over.U c fs hs)
-                    (sym (receiving x.frame.destination v f h)) w.1,
-              )
+          moved p stable x y (back ∷ fs) (joined ∷ hs) (
+            subst (λ q. Stands p q gives.over.U h.fixed back) (sym is)
+                (w.0.all gives.over.U (relies-same P own.guards gives.over.U) given v fn is_fn
+                (cut-roomy p stable x y more more-all) gives.meets),
+            subst (λ c. AllWait p gives.over.U c fs hs)
+                (sym (receiving x.frame.destination v f h)) w.1,
+          )
               (inside-is P (both P (part_stock joined.part) waiting)
               (both P given (frames_stock P x.waiting))
               (ap (λ q. both P q waiting) is
