@@ -1,5 +1,5 @@
--- Main's start is sound: where there is no region yet, a part without guards that meets an assertion
--- owns it as a stock, and main's body stands with the whole heap.
+-- Main's start is sound: where there is no region yet, a part without guards that meets an
+-- assertion owns it as a stock, and main's body stands with the whole heap.
 use Rattle.std.proofs.Common.{◌≡◌, inl, inr, ℕ, zero, suc, ℤ, Bool, true, false, List, [], ◌∷◌, Option, Some, None, refl, sym, ap, ◌∙◌, subst, arith}
 use Rattle.std.specs.Prelude.{◌==◌, if◌then◌else◌, option_to_list, option_map}
 use Rattle.std.specs.Ordering.{int_cmp}
@@ -48,7 +48,8 @@ never-none k x (Some h) u e = by (k == h.kind) (compose x h.element) refl e
         (if b then or_none k o else None) ≡ Some None → ⊥
     by true None d q = cc
     by true (Some z) d q =
-        let m : Some (of k z) ≡ Some None = sym (mark-of k z (composed-not-unit x h.element z u d)) ∙ q in
+        let f = composed-not-unit x h.element z u d in
+        let m : Some (of k z) ≡ Some None = sym (mark-of k z f) ∙ q in
         cc
     by false o d q = cc
 
@@ -99,7 +100,8 @@ guard-kept q n g e =
     ]))
 
 module _ (p : PlainProgram) where
-  nothing-drawn : (n : ℤ) (m : Option Mark) (q : Stock) → m ≡ Some free → both p (guard_stock n m) q ≡ q
+  nothing-drawn :
+      (n : ℤ) (m : Option Mark) (q : Stock) → m ≡ Some free → both p (guard_stock n m) q ≡ q
   nothing-drawn n m q e =
       same-stock (both p (guard_stock n m) q) q (λ a z. omega arith) (λ k.
       ap (λ x. join_marks p x (q.guards k)) (elim (here-or n k) [
@@ -233,11 +235,13 @@ one-frame p heap fixed f st = record {
 
 pub body-begins : (p : Checked) → BodyLaw p → StartLaw p
 body-begins p bodies heap main fixed args s =
+    let n = p.program.main in
+    let q = whole_part heap in
+    let owned = requires-owned p.program main q args fixed (λ k. get-empty int_cmp k) s.meets in
+    let stands = bodies n main s.is_main no_regions (part_stock q) args fixed None
+    (whole-roomy p.program heap) s.arity s.values_fit owned in
     subst (λ o. Sound p (record {
       heap = heap;
-      threads = option_to_list (option_map (λ f. new_frame p.program.main f args None) o) ∷ [];
+      threads = option_to_list (option_map (λ f. new_frame n f args None) o) ∷ [];
     }) (first_account heap fixed)) (sym s.is_main)
-    (one-frame p heap fixed (new_frame p.program.main main args None)
-    (bodies p.program.main main s.is_main no_regions (part_stock (whole_part heap)) args fixed None
-    (whole-roomy p.program heap) s.arity s.values_fit
-    (requires-owned p.program main (whole_part heap) args fixed (λ n. get-empty int_cmp n) s.meets)))
+    (one-frame p heap fixed (new_frame n main args None) stands)

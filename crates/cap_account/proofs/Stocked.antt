@@ -107,6 +107,7 @@ StackStands p T (f ∷ fs) (h ∷ hs) =
     Stands p (part_stock h.part) T h.fixed f × AllWait p T (callee_of f h) fs hs
 StackStands p T fs hs = ⊥
 
+-- each thread's stack stands
 abbrev pub EachStands : Checked → Table → List Thread → List (List Held) → Type 0
 EachStands p T ts hss =
     (i : ℕ) (t : Thread) (hs : List Held) → slice_get ts i ≡ Some t → slice_get hss i ≡ Some hs →

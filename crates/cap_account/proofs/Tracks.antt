@@ -13,15 +13,13 @@ use Rattle.cap_account.proofs.Stocked.{part_stock, account_table, Sound, Account
 
 -- ---- what holds all along a run
 
-abbrev pub Along :
-    PlainProgram → AccountProperty → List Entry → AccountProperty
+abbrev pub Along : PlainProgram → AccountProperty → List Entry → AccountProperty
 Along p X [] c a = X c a
 Along p X (e ∷ es) c a =
     X c a × Followed p e.thread c a (λ d b. Along p X es d b) (step p c e)
 
 followed-more :
-    (p : PlainProgram) (i : ℕ) (c : Configuration) (a : Account)
-    (K L : AccountProperty) →
+    (p : PlainProgram) (i : ℕ) (c : Configuration) (a : Account) (K L : AccountProperty) →
     ((d : Configuration) (b : Account) → K d b → L d b) → (o : Outcome) →
     Followed p i c a K o → Followed p i c a L o
 followed-more p i c a K L f (next d event) h = (h.0, h.1, h.2, h.3, f d h.0 h.4)
@@ -42,8 +40,7 @@ along-tracked p (e ∷ es) c a h = (
 -- ---- runs from sound configurations
 
 -- the top frame of each sound configuration sits
-pub sound-sits :
-    (p : Checked) → WhereSound p (AllSit p)
+pub sound-sits : (p : Checked) → WhereSound p (AllSit p)
 sound-sits p c a s i f fs h hs x y =
     let top = (s.stacks i (f ∷ fs) (h ∷ hs) x y).0 in
     (top.fn, sits-now p (part_stock h.part) (account_table a) h.fixed f top)
@@ -78,8 +75,8 @@ module _ (p : Checked) (advances : Advances p) where
 
   -- what sound configurations have is there all along the run
   pub along :
-      (X : AccountProperty) → WhereSound p X → (es : List Entry)
-      (c : Configuration) (a : Account) → Sound p c a → Along p.program X es c a
+      (X : AccountProperty) → WhereSound p X → (es : List Entry) (c : Configuration)
+      (a : Account) → Sound p c a → Along p.program X es c a
   along X f [] c a s = f c a s
   along X f (e ∷ es) c a s = (
     f c a s,

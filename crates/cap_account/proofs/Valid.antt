@@ -119,8 +119,8 @@ accounts-are-valid p c a s =
       frames = threads-hold p T c.threads a.threads s.count s.stacks;
       numbers = numbers-differ a.regions s.differ;
       guards_fit =
-          all-more (FitsTable p.program a.regions)
-          (GuardsFit p.program (table_of a.regions)) (guards-fit p.program a.regions) (parts a) each;
+          all-more (FitsTable p.program a.regions) (GuardsFit p.program (table_of a.regions))
+          (guards-fit p.program a.regions) (parts a) each;
       cells_apart = all-apart p.program c.heap (parts a) within;
       cells_within = all-within p.program c.heap (parts a) within;
       guards_compose = λ n.
