@@ -10,3 +10,4 @@ pub mod Frames
 pub mod Worlds
 pub mod Statements
 pub mod Local
+pub mod Candidates
