@@ -11,3 +11,4 @@ pub mod Worlds
 pub mod Statements
 pub mod Local
 pub mod Candidates
+pub mod Exact
