@@ -1,6 +1,6 @@
 -- Facts that say just what the table does: at other values, one of them changed, and what is held of
 -- their regions.
-use Rattle.std.proofs.Common.{◌≡◌, ◌≢◌, ℕ, suc, ◌<◌, ◌≤◌, ℤ, List, [], ◌∷◌, length, map, Option, Some, None, inl, inr, refl, sym, ap, ◌∙◌, subst, arith}
+use Rattle.std.proofs.Common.{◌≡◌, ◌≢◌, ℕ, suc, ◌<◌, ℤ, List, [], ◌∷◌, length, map, Option, Some, None, inl, inr, refl, sym, ap, ◌∙◌, subst}
 use Rattle.std.specs.Prelude.{slice_get, slice_set}
 use Rattle.std.specs.List.{AllByRecursion}
 use Rattle.std.proofs.lemmas.Bool.{cases_eq}
@@ -9,12 +9,12 @@ use Rattle.cap_lin.specs.Values.{Valuation, value}
 use Rattle.cap_prog.specs.Program.{PlainProgram}
 use Rattle.cap_goal_spec.specs.States.{PlainFact, PlainState}
 use Rattle.cap_account_resources.specs.Parts.{Known, known_as, Table}
-use Rattle.cap_account_resources.proofs.Lists.{some-same, within, all-more, get-set-same, get-set-other}
-use Rattle.cap_account_resources.proofs.Marks.{Mark, free}
-use Rattle.cap_account_resources.proofs.Covering.{IsPartOf, free-right, Covered}
+use Rattle.cap_account_resources.proofs.Lists.{some-same, all-more, get-set-same, get-set-other}
+use Rattle.cap_account_resources.proofs.Marks.{Mark}
+use Rattle.cap_account_resources.proofs.Covering.{IsPartOf, Covered}
 use Rattle.cap_account_resources.proofs.Room.{room, room-some, part-some, in-room}
-use Rattle.cap_account_states.proofs.Terms.{Over, vars-more, Agree, value-agree}
-use Rattle.cap_account_states.proofs.Alike.{Alike, value-alike, agree-alike}
+use Rattle.cap_account_states.proofs.Terms.{Over, vars-more, Agree}
+use Rattle.cap_account_states.proofs.Alike.{Alike, value-alike}
 use Rattle.cap_account_states.proofs.Compatible.{pieces-more, covered-alike, all-alike-agree}
 use Rattle.cap_account_states.proofs.Meets.{Usable, Old, usable-old}
 use Rattle.cap_account_states.proofs.Backed.{Grounded}
@@ -87,6 +87,12 @@ pub all-each :
     {X : Type 0} (P : X → Type 0) (xs : List X) → Each (λ i. P) xs → AllByRecursion P xs
 all-each P [] h = tt
 all-each P (x ∷ xs) h = (h 0 x refl, all-each P xs (λ i. h (suc i)))
+
+pub all-two :
+    {X : Type 0} (P Q R : X → Type 0) → ((x : X) → P x → Q x → R x) → (xs : List X) →
+    AllByRecursion P xs → AllByRecursion Q xs → AllByRecursion R xs
+all-two P Q R f [] h k = tt
+all-two P Q R f (x ∷ xs) h k = (f x h.0 k.0, all-two P Q R f xs h.1 k.1)
 
 -- ---- what is held of a region
 

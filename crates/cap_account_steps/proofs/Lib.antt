@@ -12,3 +12,6 @@ pub mod Statements
 pub mod Local
 pub mod Candidates
 pub mod Exact
+pub mod Turning
+pub mod Renewing
+pub mod Resting
