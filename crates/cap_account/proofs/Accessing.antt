@@ -1,16 +1,12 @@
 -- Heap statements, where no region is open.
-use Rattle.std.proofs.Common.{◌≡◌, ℕ, zero, suc, ◌+◌, ◌<◌, ◌≤◌, ℤ, List, [], ◌∷◌, length, map, arith, sym, ap, ◌∙◌, subst, Some, Bool}
-use Rattle.std.specs.Prelude.{slice_get, slice_set, nat_lt, is_some, flat_map}
-use Rattle.std.specs.List.{AllByRecursion}
+use Rattle.std.proofs.Common.{◌≡◌, ℕ, ◌<◌, ◌≤◌, ℤ, List, [], ◌∷◌, length, map, arith, sym, ap, ◌∙◌, subst, Some, Bool}
+use Rattle.std.specs.Prelude.{slice_get, nat_lt, is_some, flat_map}
 use Rattle.std.specs.FinMap.{get}
 use Rattle.std.proofs.lemmas.Bool.Decides.{nat_tests}
 use Rattle.cap_lin.specs.Linear.{Linear}
 use Rattle.cap_lin.specs.Values.{Valuation, value}
-use Rattle.cap_lin.specs.Rows.{row_of}
-use Rattle.cap_lin.specs.Solves.{Proves}
 use Rattle.cap_lin.specs.declared.row.Sort.TheVariants.{Int}
 use Rattle.cap_lin.specs.declared.row.Op.TheVariants.{Eq as Equal}
-use Rattle.cap_lin.proofs.Rows.{row_of-means}
 use Rattle.cap_prog.specs.Program.{Label, PlainAct, set, read, write, cas, alloc, call, fork, branch, loop, check, give_back, Block, first, PlainFunction}
 use Rattle.cap_goal_spec.specs.States.{PlainState, Home, PlainTask, to_rest, goals_of}
 use Rattle.cap_goal_spec.specs.Choices.{node, by_absurd, by_clash, by_enter, by_act, PlainTree, PlainTrees}
@@ -23,63 +19,15 @@ use Rattle.cap_machine_accounts.specs.Assertions.{NameValue}
 use Rattle.cap_account_states.specs.Nodes.{Comes, Children}
 use Rattle.cap_account_resources.specs.Parts.{one_cell, cells_of, Hold}
 use Rattle.cap_account_resources.proofs.Lists.{some-same, none-some, all-at}
-use Rattle.cap_account_states.proofs.Terms.{Over, row-over}
 use Rattle.cap_account_states.proofs.Attempts.{comes-bind, comes-more, after-found, after-need, after-here, after-proved}
-use Rattle.cap_account_states.proofs.Meets.{Usable, CellOver, Meets, need, solves, proved-holds}
+use Rattle.cap_account_states.proofs.Meets.{Usable, CellOver, Meets, need, solves}
 use Rattle.cap_account_states.proofs.Checked.{Checked}
 use Rattle.cap_account_steps.proofs.Stores.{running, here, here-over}
 use Rattle.cap_account.proofs.Standing.{Node}
 use Rattle.cap_account_resources.proofs.Heaps.{one-itself, count-at-most, there-in}
-
-abbrev Cell : Type 0
-Cell = Linear × Linear
+use Rattle.cap_account_steps.proofs.Cells.{Cell, cell_here, need-one, need-two, equal-here}
 
 -- ---- cells of a list
-
-pub all-set :
-    {X : Type 0} (P : X → Type 0) (xs : List X) (i : ℕ) (y : X) → AllByRecursion P xs → P y →
-    AllByRecursion P (slice_set xs i y)
-all-set P [] i y h k = tt
-all-set P (z ∷ xs) zero y h k = (k, h.1)
-all-set P (z ∷ xs) (suc i) y h k = (h.0, all-set P xs i y h.1 k)
-
-abbrev pub cell_here : Valuation → Cell → ℤ → ℤ → ℕ
-cell_here v c a z = one_cell (value v.whole c.0) (value v.whole c.1) a z
-
-pub need-one :
-    (v : Valuation) (cs : List Cell) (j : ℕ) (c : Cell) (a z : ℤ) → slice_get cs j ≡ Some c →
-    cell_here v c a z ≤ need v cs a z
-need-one v [] j c a z e = absurd (none-some e)
-need-one v (x ∷ cs) zero c a z e =
-    let r = ap (λ y. cell_here v y a z) (some-same x c e) in omega (arith, r)
-need-one v (x ∷ cs) (suc j) c a z e = let q = need-one v cs j c a z e in omega (arith, q)
-
--- two cells of a list are both needed
-need-two :
-    (v : Valuation) (cs : List Cell) (i j : ℕ) (c d : Cell) (a z : ℤ) → i < j →
-    slice_get cs i ≡ Some c → slice_get cs j ≡ Some d →
-    cell_here v c a z + cell_here v d a z ≤ need v cs a z
-need-two v [] i j c d a z l e k = absurd (none-some e)
-need-two v (x ∷ cs) zero zero c d a z l e k = absurd (omega (arith, l))
-need-two v (x ∷ cs) zero (suc j) c d a z l e k =
-    let q = need-one v cs j d a z k in
-    let r = ap (λ y. cell_here v y a z) (some-same x c e) in
-    omega (arith, q, r)
-need-two v (x ∷ cs) (suc i) zero c d a z l e k = absurd (omega (arith, l))
-need-two v (x ∷ cs) (suc i) (suc j) c d a z l e k =
-    let q = need-two v cs i j c d a z (omega (arith, l)) e k in
-    omega (arith, q)
-
-pub need-set :
-    (v : Valuation) (cs : List Cell) (j : ℕ) (c d : Cell) (a z : ℤ) → slice_get cs j ≡ Some c →
-    need v (slice_set cs j d) a z + cell_here v c a z ≡ need v cs a z + cell_here v d a z
-need-set v [] j c d a z e = absurd (none-some e)
-need-set v (x ∷ cs) zero c d a z e =
-    let r = ap (λ y. cell_here v y a z) (some-same x c e) in
-    omega (arith, r)
-need-set v (x ∷ cs) (suc j) c d a z e =
-    let q = need-set v cs j c d a z e in
-    omega (arith, q)
 
 -- ---- the cell at the statement's address, and the states after it
 
@@ -93,16 +41,6 @@ pub record Access (p : Checked) (v : Valuation) (s : PlainState) (h : Home) (n :
   pub goals :
       Comes (acted s j c a)
       (λ states. Children p.N kids (flat_map (λ t. goals_of t (to_rest 0 n ∷ running b h)) states))
-
--- what is proved equal has one value
-equal-here :
-    (v : Valuation) (s : PlainState) (l r : Linear) → Meets [] v s →
-    Proves s.rows (row_of l Equal r Int) → Over (Usable [] s.sorts Int) l →
-    Over (Usable [] s.sorts Int) r → value v.whole l ≡ value v.whole r
-equal-here v s l r m pr ol or' =
-    (row_of-means v l Equal r Int).0
-    (proved-holds [] [] v s (row_of l Equal r Int) m pr
-    (row-over (Usable [] s.sorts) l Equal r Int ol or'))
 
 no-rivals : (s : PlainState) → s.opened ≡ [] → rivals s ≡ []
 no-rivals s e = ap (λ os. flat_map (λ o. rivals_from o 0 s.facts) os) e

@@ -1,41 +1,39 @@
 -- The frame after each heap statement and each allocation.
-use Rattle.std.proofs.Common.{◌≡◌, ◌≢◌, ℕ, zero, suc, ◌+◌, ◌-◌, ◌≤◌, ℤ, pos, ◌+ℤ◌, ◌*ℤ◌, ◌≤ℤ◌, ◌<ℤ◌, List, [], ◌∷◌, ◌++◌, length, arith, refl, sym, ap, ◌∙◌, subst, Some}
-use Rattle.std.specs.Prelude.{slice_get, slice_set, flat_map}
-use Rattle.std.specs.List.{AllByRecursion}
+use Rattle.std.proofs.Common.{◌≡◌, ◌≢◌, ℕ, ◌+◌, ◌-◌, ◌≤◌, ℤ, pos, ◌*ℤ◌, ◌≤ℤ◌, ◌<ℤ◌, List, [], ◌∷◌, ◌++◌, length, arith, refl, sym, ap, ◌∙◌, Some}
+use Rattle.std.specs.Prelude.{slice_get, flat_map}
 use Rattle.std.specs.FinMap.{get}
 use Rattle.std.proofs.lemmas.Int.{ints}
-use Rattle.cap_lin.specs.Linear.{Linear, number, plus}
-use Rattle.cap_lin.specs.Values.{Valuation, denominator, parts_value, value}
-use Rattle.cap_lin.specs.Steps.{plus_steps}
+use Rattle.cap_lin.specs.Linear.{Linear, number}
+use Rattle.cap_lin.specs.Values.{Valuation, denominator, value}
 use Rattle.cap_lin.specs.Rows.{row_of}
 use Rattle.cap_lin.specs.Solves.{IsWholeAt}
 use Rattle.cap_lin.specs.declared.row.Sort.TheVariants.{Int}
 use Rattle.cap_lin.specs.declared.row.Op.TheVariants.{Eq as Equal, Ne as Unequal, Ge as AtLeast}
 use Rattle.cap_lin.proofs.Rows.{row_of-means}
-use Rattle.cap_lin.proofs.Values.{value-plus}
 use Rattle.cap_prog.specs.Program.{Label, PlainAct, read, write, cas, alloc, Block, first, PlainFunction}
 use Rattle.cap_goal_spec.specs.States.{PlainState, PlainGoal, Home, to_rest, goals_of}
 use Rattle.cap_goal_spec.specs.Environments.{zero_value, one_value}
 use Rattle.cap_goal_spec.specs.Choices.{node, by_absurd, by_alloc, PlainTree, PlainTrees}
 use Rattle.cap_rules.specs.Attempts.{unit, ◌>>=◌}
-use Rattle.cap_rules.specs.Making.{fresh, value_here, with_comparison, with_cell, with_local}
+use Rattle.cap_rules.specs.Making.{fresh, value_here, with_comparison, with_local}
 use Rattle.cap_rules.specs.Closing.{with_content}
 use Rattle.cap_rules.specs.Rules.{leaves, with_new_cells}
 use Rattle.cap_machine.specs.Machine.{Heap, Frame, value_in, with_rest, with_value}
 use Rattle.cap_machine_accounts.specs.Assertions.{NameValue}
 use Rattle.cap_account_states.specs.Nodes.{Comes, Children}
 use Rattle.cap_account_resources.specs.Parts.{one_cell, cells_of, Hold, hold, joined, Table}
-use Rattle.cap_account_resources.proofs.Lists.{get-last, map-set, all-at, all-both}
+use Rattle.cap_account_resources.proofs.Lists.{get-last, all-at, all-both}
 use Rattle.cap_account_states.proofs.Terms.{Over, over-plus, row-over, Agree}
-use Rattle.cap_account_states.proofs.Attempts.{sort_added, row_added, after-computed, after-here, after-sort, after-comparison, after-cell, comes-bind}
+use Rattle.cap_account_states.proofs.Attempts.{sort_added, row_added, after-here, after-sort, after-comparison, comes-bind}
 use Rattle.cap_account_states.proofs.Meets as meets
-use Rattle.cap_account_states.proofs.Meets.{Usable, usable-old, CellOver, Meets, need, need-agree, Old, Same, new-whole, new-share, with-agrees, meets-fresh, meets-row, same-fresh, solves, variable-value}
+use Rattle.cap_account_states.proofs.Meets.{Usable, usable-old, CellOver, Meets, need-agree, Old, new-whole, new-share, with-agrees, meets-fresh, meets-row, same-fresh, solves, variable-value}
 use Rattle.cap_account_states.proofs.Checked.{Checked, children-split, one-child}
 use Rattle.cap_account_steps.proofs.Stores.{Store, running, here, here-value, here-over, rested, store-same}
 use Rattle.cap_account.proofs.Standing.{Covers, Node, Sits, Stands}
 use Rattle.cap_account_steps.proofs.Points.{FrameOk}
 use Rattle.cap_account_resources.proofs.Heaps.{there-in, fresh_cells}
-use Rattle.cap_account.proofs.Accessing.{all-set, cell_here, need-one, need-set, Access, access}
+use Rattle.cap_account_steps.proofs.Cells.{all-set, need-one, need-set, store-local, new_cells, comes-new-cells, number-is, address-is, need-both, new-cells-need, new-cells-all}
+use Rattle.cap_account.proofs.Accessing.{Access, access}
 
 abbrev Cell : Type 0
 Cell = Linear × Linear
@@ -98,20 +96,6 @@ meets-content v s j c u m e o = record {
   store_over = m.store_over;
 }
 
--- another local
-store-local :
-    (v : Valuation) (s : PlainState) (h : Home) (fn : PlainFunction) (fx : List NameValue)
-    (f : Frame)
-    (y : ℕ) (t : Linear) (z : ℤ) (b : Block) → value v.whole t ≡ z → Store v s h fn fx f →
-    Store v (with_local s y t) h fn fx (with_value (with_rest f b) y z)
-store-local v s h fn fx f y t z b e st = record {
-  home = st.home;
-  store = map-set (value v.whole) s.store y t
-      ∙ (ap (λ zs. slice_set zs y (value v.whole t)) st.store ∙ ap (slice_set f.store y) e);
-  fixed_are = st.fixed_are;
-  fixed_known = st.fixed_known;
-}
-
 -- what is held, with another value of one cell
 abbrev pub swapped : Hold → ℤ → ℤ → ℤ → Hold
 swapped part a z w = hold (λ b y. (part.cells b y - one_cell a z b y) + one_cell a w b y)
@@ -120,74 +104,6 @@ abbrev pub with_fresh : Hold → ℤ → ℕ → Hold
 with_fresh part base n = joined part (hold (fresh_cells base n))
 
 -- ---- new cells
-
-abbrev new_cells : Linear → ℕ → ℕ → List Cell
-new_cells b i zero = []
-new_cells b i (suc n) = (plus b (number (pos i)), zero_value) ∷ new_cells b (suc i) n
-
-comes-new-cells :
-    (s : PlainState) (b : Linear) (i n : ℕ) (P : PlainState → Type 0) →
-    Comes (with_new_cells s b i n) P → P (record s { cells = s.cells ++ new_cells b i n })
-comes-new-cells s b i zero P h = subst (λ cs. P (record s { cells = cs })) (with-none s.cells) h.1
-  where
-    with-none : (xs : List Cell) → xs ≡ xs ++ []
-    with-none [] = refl
-    with-none (x ∷ xs) = ap (λ zs. x ∷ zs) (with-none xs)
-comes-new-cells s b i (suc n) P h =
-    let a = plus b (number (pos i)) in
-    let more = λ (s' : PlainState). with_new_cells s' b (suc i) n in
-    let g = after-computed a (plus_steps b (number (pos i)))
-    (λ a. with_cell s a zero_value >>= more) P h in
-    let k = after-cell s a zero_value more P g in
-    let c : Cell = (a, zero_value) in
-    subst (λ cs. P (record s { cells = cs })) (joined-lists s.cells c (new_cells b (suc i) n))
-    (comes-new-cells (record s { cells = s.cells ++ c ∷ [] }) b (suc i) n P k)
-  where
-    joined-lists :
-        (xs : List Cell) (c : Cell) (ys : List Cell) → (xs ++ c ∷ []) ++ ys ≡ xs ++ c ∷ ys
-    joined-lists [] c ys = refl
-    joined-lists (x ∷ xs) c ys = ap (λ zs. x ∷ zs) (joined-lists xs c ys)
-
-number-is : (n : ℕ → ℤ) (z : ℤ) → value n (number z) ≡ z
-unfolding value parts_value
-number-is n z = omega (arith, ints)
-
-address-is :
-    (v : Valuation) (u : Linear) (i : ℕ) →
-    value v.whole (plus u (number (pos i))) ≡ value v.whole u +ℤ pos i
-address-is v u i =
-    value-plus v.whole u (number (pos i))
-    ∙ ap (λ z. value v.whole u +ℤ z) (number-is v.whole (pos i))
-
-need-both :
-    (v : Valuation) (cs ds : List Cell) (a z : ℤ) →
-    need v (cs ++ ds) a z ≡ need v cs a z + need v ds a z
-need-both v [] ds a z = omega arith
-need-both v (c ∷ cs) ds a z = let q = need-both v cs ds a z in omega (arith, q)
-
-new-cells-need :
-    (v : Valuation) (u : Linear) (i n : ℕ) (a z : ℤ) →
-    need v (new_cells u i n) a z + fresh_cells (value v.whole u) i a z
-    ≡ fresh_cells (value v.whole u) (i + n) a z
-new-cells-need v u i zero a z =
-    let e : i ≡ i + 0 = omega arith in
-    let g = ap (λ m. fresh_cells (value v.whole u) m a z) e in
-    omega (arith, g)
-new-cells-need v u i (suc n) a z =
-    let q = new-cells-need v u (suc i) n a z in
-    let e : suc i + n ≡ i + suc n = omega arith in
-    let g = ap (λ m. fresh_cells (value v.whole u) m a z) e in
-    let d : cell_here v (plus u (number (pos i)), zero_value) a z
-    ≡ one_cell (value v.whole u +ℤ pos i) (pos 0) a z =
-    ap (λ x. one_cell x (value v.whole zero_value) a z) (address-is v u i)
-    ∙ ap (λ x. one_cell (value v.whole u +ℤ pos i) x a z) (number-is v.whole (pos 0)) in
-    omega (arith, q, g, d)
-
-new-cells-all :
-    (P : Cell → Type 0) (u : Linear) (i n : ℕ) →
-    ((j : ℕ) → P (plus u (number (pos j)), zero_value)) → AllByRecursion P (new_cells u i n)
-new-cells-all P u i zero f = tt
-new-cells-all P u i (suc n) f = (f i, new-cells-all P u (suc i) n f)
 
 -- ---- heap statements
 

@@ -1,125 +1,40 @@
 -- A function's body and a loop, from what they are given.
-use Rattle.std.proofs.Common.{◌≡◌, ℕ, zero, suc, ◌+◌, ◌<◌, ◌≤◌, ℤ, pos, List, [], ◌∷◌, ◌++◌, length, map, take, replicate, arith, refl, sym, ap, ◌∙◌, Option, Some, None, Bool, true, false}
-use Rattle.std.specs.Prelude.{slice_get, unwrap_or, option_to_list, if◌then◌else◌}
-use Rattle.cap_lin.specs.Linear.{Linear, variable}
-use Rattle.cap_lin.specs.Values.{Valuation, value}
-use Rattle.cap_lin.specs.declared.row.Sort.{Sort}
+use Rattle.std.proofs.Common.{◌≡◌, ℕ, ◌+◌, ◌≤◌, ℤ, pos, List, [], ◌∷◌, ◌++◌, length, map, replicate, arith, refl, sym, ap, ◌∙◌, Option, Some, Bool, true, false}
+use Rattle.std.specs.Prelude.{slice_get, if◌then◌else◌}
+use Rattle.cap_lin.specs.Values.{value}
 use Rattle.cap_lin.specs.declared.row.Sort.TheVariants.{Int}
 use Rattle.cap_prog.specs.declared.assertion.Comp.{Comp}
-use Rattle.cap_prog.specs.Program.{PlainAssertion, Label, loop, Block, done, first, append, PlainFunction}
+use Rattle.cap_prog.specs.Program.{PlainAssertion, Label, loop, Block, first, append, PlainFunction}
 use Rattle.cap_prog.specs.Scopes.{requires_scope, invariant_scope}
 use Rattle.cap_prog.specs.WellFormed.{IsWellFormed}
 use Rattle.cap_machine.specs.Machine.{Frame, holds, with_rest, new_frame}
 use Rattle.cap_machine_accounts.specs.Assertions.{NameValue, ValuesFit}
 use Rattle.cap_goal_spec.specs.Terms.{variables_from}
 use Rattle.cap_goal_spec.specs.States.{to_run, to_turn}
-use Rattle.cap_goal_spec.specs.Environments.{zero_value, bound, unbound}
-use Rattle.cap_goal_spec.specs.Choices.{PlainTrees}
-use Rattle.cap_goal_spec.specs.Roots.{LoopPoint, loops_in, at_entry, at_loop, home_of, root_state, root_env, from_given}
-use Rattle.cap_account_states.specs.Nodes.{Children}
+use Rattle.cap_goal_spec.specs.Environments.{zero_value}
+use Rattle.cap_goal_spec.specs.Roots.{at_entry, at_loop, home_of, root_state, root_env}
 use Rattle.cap_account_resources.specs.Parts.{Hold, Table}
 use Rattle.cap_account.specs.Meeting.{HasRequires, HasInvariant}
-use Rattle.cap_account_resources.proofs.Lists.{some-same, none-some, within, map-length, get-first, map-join, all-both, Among}
+use Rattle.cap_account_resources.proofs.Lists.{map-join, all-both}
 use Rattle.cap_account_states.proofs.Terms.{Over}
 use Rattle.cap_account_states.proofs.Meets.{Usable}
 use Rattle.cap_account_states.proofs.Checked.{Checked, one-child}
 use Rattle.cap_account_states.proofs.Items.{items_size}
 use Rattle.cap_account_assertions.proofs.Giving.{given}
 use Rattle.cap_account_steps.proofs.Points.{Point, FrameOk, loop_point, point-next, point-again, point-loop, point-act}
+use Rattle.cap_account_steps.proofs.Bundles.{UnitRoots}
 use Rattle.cap_account_steps.proofs.Stores.{Store, store-same}
 use Rattle.cap_account.proofs.Standing.{Sits, Stands, turn-sits}
 use Rattle.cap_account_states.proofs.Values.{like-same, normal, spends-like}
-use Rattle.cap_account_states.proofs.Scopes.{requires-early, early-position, invariant-at, param-requires, fixed-requires, store-invariant, fixed-invariant, variables-length, variables-at, unbound-none, rep-length, rep-in, length-join}
-use Rattle.cap_account_states.proofs.Roots.{values-length, function-fits, flat-bound, renamed, sorts_of, Root, fixed-usable, root-ready, root-fixed, root-whole, variables-values, map-zero, variables-join, variables-over, zeros-over, no-sort, no-term}
+use Rattle.cap_account_states.proofs.Scopes.{rep-length, length-join}
+use Rattle.cap_account_states.proofs.Roots.{values-length, function-fits, renamed, Root, fixed-usable, root-ready, root-fixed, root-whole, variables-values, map-zero, variables-join, variables-over, zeros-over}
+use Rattle.cap_account_steps.proofs.Entries.{take-all, entry_root, loop_root, low-variable}
 
--- all roots that bodies and loops need
+-- what bodies and loops need
 pub record AllChecked (p : Checked) : Type 0 where
   pub program : IsWellFormed p.program
   pub bare : p.program.regions ≡ []
-  pub bodies :
-      (n : ℕ) (f : PlainFunction) → slice_get p.program.functions n ≡ Some f →
-      (ks : PlainTrees) × Children p.N ks
-      (option_to_list
-      (from_given at_entry f n 0 f.requires (to_run (home_of at_entry f n) f.body)))
-  pub loops :
-      (n : ℕ) (f : PlainFunction) → slice_get p.program.functions n ≡ Some f →
-      (w : LoopPoint) → Among w (loops_in f.body done) →
-      (ks : PlainTrees) × Children p.N ks
-      (option_to_list
-      (from_given at_loop f n (length w.invariant.names) w.invariant.items
-      (to_turn (home_of at_loop f n) w.block)))
-
-take-all : {X : Type 0} (xs ys : List X) (n : ℕ) → length xs ≡ n → take n (xs ++ ys) ≡ xs
-take-all [] [] zero e = refl
-take-all [] (y ∷ ys) zero e = refl
-take-all [] ys (suc n) e = absurd (omega (arith, e))
-take-all (x ∷ xs) ys zero e = absurd (omega (arith, e))
-take-all (x ∷ xs) ys (suc n) e = ap (λ zs. x ∷ zs) (take-all xs ys n (omega (arith, e)))
-
--- the root at which a function's `requires` is given
-abbrev pub entry_root : PlainFunction → ℕ → Valuation → Root
-entry_root f n a = record {
-  f = f;
-  n = n;
-  l = 0;
-  gap = f.locals;
-  hgap = omega arith;
-  new = [];
-  sc = requires_scope f;
-  at_position = λ x o i. early-position f [] x o (requires-early f x o i);
-  low_in = λ x q. param-requires f x (omega (arith, q));
-  fixed_in = fixed-requires f;
-  ls = unbound f.locals;
-  hls = rep-length f.locals None;
-  locals_are = λ i t q. absurd (none-some (sym (unbound-none f.locals i) ∙ q));
-  rs = [];
-  rs_in = λ j e. absurd (no-sort j e);
-  r = None;
-  r_is = λ t e. absurd (no-term t e);
-  a = a;
-}
-
-local-variable :
-    (f : PlainFunction) (i : ℕ) (t : Linear) →
-    unwrap_or (slice_get (bound (variables_from f.params f.locals)) i) None ≡ Some t →
-    (i < f.locals) × (variable (f.params + i) ≡ t)
-local-variable f i t q =
-    let r = sym (flat-bound (variables_from f.params f.locals) i) ∙ q in
-    let u = within (variables_from f.params f.locals) i t r in
-    let w = variables-length f.params f.locals in
-    let i_in : i < f.locals = omega (arith, u, w) in
-    (i_in, some-same (variable (f.params + i)) t (sym (variables-at f.params f.locals i i_in) ∙ r))
-
--- the root at which an invariant is given
-abbrev loop_root : PlainFunction → ℕ → List Sort → Valuation → Root
-loop_root f n new a = record {
-  f = f;
-  n = n;
-  l = f.locals;
-  gap = 0;
-  hgap = omega arith;
-  new = new;
-  sc = invariant_scope f new;
-  at_position = invariant-at f new;
-  low_in = store-invariant f new;
-  fixed_in = fixed-invariant f new;
-  ls = bound (variables_from f.params f.locals);
-  hls = map-length Some (variables_from f.params f.locals) ∙ variables-length f.params f.locals;
-  locals_are = local-variable f;
-  rs = [];
-  rs_in = λ j e. absurd (no-sort j e);
-  r = None;
-  r_is = λ t e. absurd (no-term t e);
-  a = a;
-}
-
-pub low-variable :
-    (f : PlainFunction) (l i : ℕ) → i < f.params + l → Usable [] (sorts_of f l []) Int i
-low-variable f l i y = (
-  get-first (replicate (f.params + l) Int) (f.fixed ++ []) i Int
-      (rep-in (f.params + l) i Int y),
-  tt,
-)
+  pub roots : UnitRoots p
 
 module _ (p : Checked) (all : AllChecked p) where
   pub body-stands :
@@ -148,7 +63,7 @@ module _ (p : Checked) (all : AllChecked p) where
       sits U =
           let a = me.values in
           let fits = (function-fits p.program all.program n f ef).requires.items in
-          let ks = all.bodies n f ef in
+          let ks = all.roots.bodies n f ef in
           let h0 = home_of at_entry f n in
           let s0 = root_state at_entry f n (root_env at_entry f n 0 ∷ []) in
           let v0 = renamed (f.params + 0) f.locals (normal (requires_scope f) a) in
@@ -235,7 +150,7 @@ module _ (p : Checked) (all : AllChecked p) where
           let sc = invariant_scope fn inv.names in
           let act = point-act p.program fn l (loop c inv body) b ok.point in
           let fits = act.1.items.items in
-          let ks = all.loops n fn ok.is_fn (loop_point l c inv body b)
+          let ks = all.roots.loops n fn ok.is_fn (loop_point l c inv body b)
           (point-loop p.program fn l c inv body b ok.point) in
           let s0 = root_state at_loop fn n (root_env at_loop fn n (length inv.names) ∷ []) in
           let h0 = home_of at_loop fn n in

@@ -1,90 +1,44 @@
 -- Returns and loops: what is handed out, and what it meets.
-use Rattle.std.proofs.Common.{◌≡◌, ℕ, zero, suc, ◌+◌, ◌-◌, ◌<◌, pos, ◌*ℤ◌, List, [], ◌∷◌, length, take, drop, arith, refl, sym, ap, ◌∙◌, subst, Option, Some, None, ◌⊎◌, inl, inr}
+use Rattle.std.proofs.Common.{◌≡◌, ℕ, ◌+◌, ◌-◌, ◌<◌, List, [], ◌∷◌, length, take, drop, arith, sym, ap, ◌∙◌, subst, Some, None, ◌⊎◌, inl, inr}
 use Rattle.std.specs.Prelude.{slice_get, unwrap_or}
 use Rattle.cap_lin.specs.Linear.{Linear, variable}
-use Rattle.cap_lin.specs.Values.{Valuation, value, amount}
+use Rattle.cap_lin.specs.Values.{Valuation, value}
 use Rattle.cap_lin.specs.declared.row.Sort.{Sort}
 use Rattle.cap_lin.specs.declared.row.Sort.TheVariants.{Int}
 use Rattle.cap_prog.specs.declared.assertion.Comp.{Comp}
 use Rattle.cap_prog.specs.Program.{PlainAssertion, Items, Label, give_back, loop, Block, first, PlainFunction}
-use Rattle.cap_prog.specs.Scopes.{Scope, fixed_start, result_name, ensures_scope, invariant_scope, HasSort}
+use Rattle.cap_prog.specs.Scopes.{fixed_start, result_name, ensures_scope, invariant_scope, HasSort}
 use Rattle.cap_prog.specs.WellFormed.{IsWellFormed}
-use Rattle.cap_goal_spec.specs.States.{PlainEnv, PlainState, Home, to_take}
-use Rattle.cap_goal_spec.specs.Environments.{zero_value, term_of, bound_term, bound, unbound, own_env}
+use Rattle.cap_goal_spec.specs.States.{PlainState, Home, to_take}
+use Rattle.cap_goal_spec.specs.Environments.{zero_value, term_of, bound, unbound, own_env}
 use Rattle.cap_goal_spec.specs.Choices.{node, by_absurd, by_loop, by_return, PlainTree}
 use Rattle.cap_rules.specs.Attempts.{◌>>=◌}
 use Rattle.cap_rules.specs.Making.{env_at, with_env, value_here}
 use Rattle.cap_rules.specs.Rules.{leaves, own_params}
 use Rattle.cap_machine.specs.Machine.{Frame, value_in, with_rest}
-use Rattle.cap_machine_accounts.specs.Assertions.{NameValue, a_number, a_fraction, IsNamed, AreNamed}
+use Rattle.cap_machine_accounts.specs.Assertions.{NameValue}
 use Rattle.cap_account_states.specs.Nodes.{Comes, Children}
 use Rattle.cap_account_resources.specs.Parts.{Hold, nothing, joined, Table, Has, Spends}
-use Rattle.cap_account_resources.proofs.Lists.{some-same, none-some, within, there-is, get-map, map-length, get-or-push, push-length, all-at}
-use Rattle.cap_account_states.proofs.Terms.{Over, vars-more, by_terms, Agree, value-agree}
+use Rattle.cap_account_resources.proofs.Lists.{some-same, none-some, within, get-map, map-length, all-at}
+use Rattle.cap_account_states.proofs.Terms.{Over, vars-more, value-agree}
 use Rattle.cap_account_states.proofs.Attempts.{env_added, after-found, after-here, after-env}
-use Rattle.cap_account_states.proofs.Meets.{Usable, usable-old, Meets, Old, meets-env, solves, variable-value, variable-amount, is-of}
+use Rattle.cap_account_states.proofs.Meets.{Usable, usable-old, Old, meets-env, solves}
 use Rattle.cap_account_states.proofs.Items.{items_size, within-same, spends-more}
-use Rattle.cap_account_states.proofs.Naming.{Placed, Means}
+use Rattle.cap_account_states.proofs.Naming.{Placed}
 use Rattle.cap_account_states.proofs.Checked.{Checked}
 use Rattle.cap_account_assertions.proofs.Taking.{Takeable, taken}
-use Rattle.cap_account_states.proofs.Scopes.{Position, param, local, fixed, result, extra, ensures-at, invariant-at, position-room, param-requires, fixed-requires, requires-ensures, result-ensures, store-invariant, fixed-invariant, own-param, own-local, own-fixed, own-result, own-new, own-room, rep-length, unbound-none, less_or}
-use Rattle.cap_account_states.proofs.Values.{named-at, named-of, whole-of}
+use Rattle.cap_account_states.proofs.Scopes.{fixed, ensures-at, invariant-at, param-requires, fixed-requires, requires-ensures, result-ensures, store-invariant, fixed-invariant, own-param, own-local, own-fixed, own-result, rep-length, unbound-none, less_or}
+use Rattle.cap_account_states.proofs.Values.{whole-of}
 use Rattle.cap_account_states.proofs.Roots.{values-length, function-fits, flat-bound}
 use Rattle.cap_account_steps.proofs.Points.{FrameOk, point-act}
-use Rattle.cap_account_steps.proofs.Stores.{Store, running, here, here-value, here-over, name-same}
+use Rattle.cap_account_steps.proofs.Stores.{running, here, here-value, here-over}
 use Rattle.cap_account.proofs.Standing.{Node, Sits}
 use Rattle.cap_account.proofs.Waiting.{Returned, Looped}
+use Rattle.cap_account_steps.proofs.OwnNames.{take-get, get-take, get-drop, drop-length, take-length, canon, canon-means, at-new, there-new, own-placed, fixed-later, store-term-later}
 
 -- ---- lists
 
-take-get :
-    {X : Type 0} (xs : List X) (n i : ℕ) (y : X) → slice_get (take n xs) i ≡ Some y →
-    (slice_get xs i ≡ Some y) × (i < n)
-take-get [] zero i y e = absurd (none-some e)
-take-get [] (suc n) i y e = absurd (none-some e)
-take-get (x ∷ xs) zero i y e = absurd (none-some e)
-take-get (x ∷ xs) (suc n) zero y e = (e, omega arith)
-take-get (x ∷ xs) (suc n) (suc i) y e =
-    let q = take-get xs n i y e in (q.0, (let l = q.1 in omega (arith, l)))
-
-get-take :
-    {X : Type 0} (xs : List X) (n i : ℕ) (y : X) → i < n → slice_get xs i ≡ Some y →
-    slice_get (take n xs) i ≡ Some y
-get-take [] n i y l e = absurd (none-some e)
-get-take (x ∷ xs) zero i y l e = absurd (omega (arith, l))
-get-take (x ∷ xs) (suc n) zero y l e = e
-get-take (x ∷ xs) (suc n) (suc i) y l e = get-take xs n i y (omega (arith, l)) e
-
-get-drop : {X : Type 0} (xs : List X) (n i : ℕ) → slice_get (drop n xs) i ≡ slice_get xs (n + i)
-get-drop [] zero i = refl
-get-drop [] (suc n) i = refl
-get-drop (x ∷ xs) zero i = let q : i ≡ 0 + i = omega arith in ap (slice_get (x ∷ xs)) q
-get-drop (x ∷ xs) (suc n) i =
-    get-drop xs n i ∙ (let q : suc (n + i) ≡ suc n + i = omega arith in ap (slice_get (x ∷ xs)) q)
-
-drop-length : {X : Type 0} (xs : List X) (m n : ℕ) → length xs ≡ m + n → length (drop m xs) ≡ n
-drop-length [] zero n e = omega (arith, e)
-drop-length [] (suc m) n e = absurd (omega (arith, e))
-drop-length (x ∷ xs) zero n e = omega (arith, e)
-drop-length (x ∷ xs) (suc m) n e = drop-length xs m n (omega (arith, e))
-
-take-length : {X : Type 0} (xs : List X) (m n : ℕ) → length xs ≡ m + n → length (take m xs) ≡ m
-take-length [] zero n e = refl
-take-length [] (suc m) n e = absurd (omega (arith, e))
-take-length (x ∷ xs) zero n e = refl
-take-length (x ∷ xs) (suc m) n e = ap suc (take-length xs m n (omega (arith, e)))
-
 -- ---- the values that an environment gives its names
-
-abbrev pub canon : Valuation → PlainEnv → Valuation
-canon w env = by_terms w (bound_term env)
-
-pub canon-means : (sc : Scope) (w : Valuation) (env : PlainEnv) → Means sc w env (canon w env)
-canon-means sc w env = record {
-  under = refl;
-  whole = λ x i t e. ap (λ o. value w.whole (unwrap_or o zero_value)) (sym e);
-  share = λ x i t e. ap (λ o. amount w.fraction (unwrap_or o zero_value)) (sym e);
-}
 
 -- what is taken has what it is asked for
 pub has-of :
@@ -97,104 +51,6 @@ has-of T a items g h = (
 )
 
 -- ---- environments of the frame's own function
-
-pub at-new : (s : PlainState) (env : PlainEnv) → env_at (env_added s env) (length s.envs) ≡ env
-at-new s env = get-or-push s.envs env []
-
-pub there-new : (s : PlainState) (env : PlainEnv) → length s.envs < length (env_added s env).envs
-there-new s env = let q = push-length s.envs env in omega (arith, q)
-
-own-placed :
-    (s : PlainState) (v : Valuation) (fn : PlainFunction) (h : Home) (fx : List NameValue)
-    (f : Frame)
-    (ls : PlainEnv) (r : Option Linear) (new : List Sort) (sc : Scope) → Meets [] v s →
-    Store v s h fn fx f → length s.store ≡ fixed_start fn → length ls ≡ fn.locals →
-    ((i : ℕ) (t : Linear) → unwrap_or (slice_get ls i) None ≡ Some t → Over
-    (Usable [] s.sorts Int) t) →
-    ((t : Linear) → r ≡ Some t → Over (Usable [] s.sorts Int) t) →
-    ((x : ℕ) (o : Sort) → HasSort sc o x → Position fn new x o) →
-    Placed [] sc s.sorts (own_env fn h (take fn.params s.store) ls r (length new))
-own-placed s v fn h fx f ls r new sc m st size hl fl fr at_position = record {
-  room = λ x o i.
-      (let q = position-room fn new x o (at_position x o i) in
-      let n = own-room fn h ps ls r (length new) hp hl in
-      omega (arith, q, n));
-  over = λ x o i t e. over x o t (at_position x o i) e;
-}
-  where
-    ps : List Linear
-    ps = take fn.params s.store
-
-    hp : length (take fn.params s.store) ≡ fn.params
-    hp = take-length s.store fn.params fn.locals size
-
-    env : PlainEnv
-    env = own_env fn h (take fn.params s.store) ls r (length new)
-
-    over :
-        (x : ℕ) (o : Sort) (t : Linear) → Position fn new x o →
-        term_of (own_env fn h (take fn.params s.store) ls r (length new)) x ≡ Some t →
-        Over (Usable [] s.sorts o) t
-    over x o t (param l q) e =
-        subst (λ y. Over (Usable [] s.sorts y) t) q
-        (all-at (Over (Usable [] s.sorts Int)) s.store x t m.store_over
-        (take-get s.store fn.params x t
-        (sym (own-param fn h ps ls r (length new) hp hl x l) ∙ e)).0)
-    over x o t (local i q l y) e =
-        subst (λ z. Over (Usable [] s.sorts z) t) y
-        (fl i t (sym (own-local fn h ps ls r (length new) hp hl i l) ∙
-        (ap (term_of env) (sym q) ∙ e)))
-    over x o t (fixed i q y) e =
-        let look = own-fixed fn h ps ls r (length new) hp hl i (within fn.fixed i o y) in
-        let u : variable (h.fixed + i) ≡ t =
-        some-same (variable (h.fixed + i)) t (sym look ∙ (ap (term_of env) (sym q) ∙ e)) in
-        subst (Over (Usable [] s.sorts o)) u ((is-of s.sorts o (h.fixed + i) (st.fixed_known i o y), tt), tt)
-    over x o t (result q y) e =
-        subst (λ z. Over (Usable [] s.sorts z) t) y
-        (fr t (sym (own-result fn h ps ls r (length new) hp hl) ∙ (ap (term_of env) (sym q) ∙ e)))
-    over x o t (extra i q y) e =
-        absurd (none-some
-        (sym (own-new fn h ps ls r (length new) hp hl i) ∙ (ap (term_of env) (sym q) ∙ e)))
-
--- the fixed names at later values
-fixed-later :
-    (s : PlainState) (v w : Valuation) (h : Home) (fn : PlainFunction) (fx : List NameValue)
-    (f : Frame) (env : PlainEnv) → Store v s h fn fx f → Agree (Old s) v w →
-    length fx ≡ length fn.fixed →
-    ((i : ℕ) (o : Sort) → slice_get fn.fixed i ≡ Some o →
-    term_of env (fixed_start fn + i) ≡ Some (variable (h.fixed + i))) →
-    AreNamed (canon w env) (fixed_start fn) fx
-fixed-later s v w h fn fx f env st a size look = named-of (canon w env) (fixed_start fn) fx one
-  where
-    turned :
-        (i : ℕ) (y : NameValue) → IsNamed w (h.fixed + i) y →
-        term_of env (fixed_start fn + i) ≡ Some (variable (h.fixed + i)) →
-        IsNamed (canon w env) (fixed_start fn + i) y
-    turned i (a_number z) k l =
-        ap (λ u. value w.whole (unwrap_or u zero_value)) l
-        ∙ (variable-value w (h.fixed + i) ∙ k)
-    turned i (a_fraction n d) k l =
-        ap (λ u. amount w.fraction (unwrap_or u zero_value) *ℤ pos (suc d)) l
-        ∙ (ap (λ q. q *ℤ pos (suc d)) (variable-amount w (h.fixed + i)) ∙ k)
-
-    one :
-        (i : ℕ) (y : NameValue) → slice_get fx i ≡ Some y →
-        IsNamed (canon w env) (fixed_start fn + i) y
-    one i y e =
-        let o = there-is fn.fixed i (let q = within fx i y e in omega (arith, q, size)) in
-        let old = within s.sorts (h.fixed + i) o.0 (st.fixed_known i o.0 o.1) in
-        turned i y
-        (name-same (Old s) v w (h.fixed + i) y old a (named-at v h.fixed fx i y st.fixed_are e))
-        (look i o.0 o.1)
-
--- a term of the store at later values
-store-term-later :
-    (s : PlainState) (v w : Valuation) (i : ℕ) (t : Linear) → Meets [] v s → Agree (Old s) v w →
-    slice_get s.store i ≡ Some t → value w.whole t ≡ value v.whole t
-store-term-later s v w i t m a e =
-    value-agree (Old s) v w a t
-    (vars-more (Usable [] s.sorts Int) (Old s) (usable-old [] s.sorts Int) t.parts
-    (all-at (Over (Usable [] s.sorts Int)) s.store i t m.store_over e))
 
 -- ---- returns and loops
 

@@ -6,7 +6,6 @@ mod Waiting
 mod Global
 mod Accounting
 mod Entering
-mod Bundles
 mod Stability
 mod Running
 mod Leaving

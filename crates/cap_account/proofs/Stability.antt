@@ -31,8 +31,8 @@ use Rattle.cap_account_steps.proofs.Stores.{rested}
 use Rattle.cap_account_states.proofs.Values.{normal, named-at, named-of, whole-at, whole-of}
 use Rattle.cap_account_states.proofs.Scopes.{param-requires, fixed-requires, own-param, own-fixed, variables-length, variables-at, rep-length}
 use Rattle.cap_account_states.proofs.Roots.{values-length, fits-at, function-fits, renamed, Root, root-ready, root-placed, root-means, variables-over, zeros-over}
-use Rattle.cap_account.proofs.Entering.{entry_root, low-variable}
-use Rattle.cap_account.proofs.Bundles.{function-root}
+use Rattle.cap_account_steps.proofs.Entries.{entry_root, low-variable}
+use Rattle.cap_account_steps.proofs.Bundles.{function-root}
 
 -- the assertion holds of the part at values that agree with the first on the names that are known
 pub record Again (U : Table) (h : Hold) (sc : Scope) (known : ℕ → Linear → Type 0) (a : Valuation)

@@ -7,7 +7,7 @@ use Rattle.cap_prog.specs.Program.{Items, done, PlainFunction, PlainProgram}
 use Rattle.cap_prog.specs.Scopes.{Scope, fixed_start}
 use Rattle.cap_machine_accounts.specs.Assertions.{NameValue, ValuesFit}
 use Rattle.cap_machine_accounts.specs.Accounts.{EachTwo}
-use Rattle.cap_goal_spec.specs.States.{PlainState, PlainTask, to_give, to_take}
+use Rattle.cap_goal_spec.specs.States.{PlainState, PlainTask, to_give, to_take, to_rest}
 use Rattle.cap_goal_spec.specs.Roots.{LoopPoint, loops_in}
 use Rattle.cap_goal_spec.specs.Choices.{PlainTrees}
 use Rattle.cap_rules.specs.Making.{env_at}
@@ -129,6 +129,28 @@ pub record Reached (p : PlainProgram) (T U : Table) (q : Stock) : Type 0 where
   pub full : NoneOpen T
   pub room : FitsRoom p T q
   pub relies : Relies p q.guards T U
+
+-- what a Rest leads to: facts hold by the table that others led to
+pub record Rested (p : Checked) (U : Table) (v : Valuation) (part : Stock) (s : PlainState)
+    (ts : List PlainTask) : Type 0 where
+  pub w : Valuation
+  pub after : PlainState
+  pub children : PlainTrees
+  pub goes : Open p.N children after ts
+  pub grounded : Grounded p.program [] w after
+  pub facts : Facts [] w U after
+  pub firm : AllByRecursion IsFirm after.facts
+  pub backed : Backed p.program w after part
+  pub agree : Agree (Old s) v w
+  pub goes_on : GoesOn s after
+  pub envs : after.envs ≡ s.envs
+
+abbrev pub RestsLaw : Checked → Type 0
+RestsLaw p =
+    (part : Stock) (T U : Table) (n : ℕ) (ts : List PlainTask) (trees : PlainTrees) (v : Valuation)
+    (s : PlainState) → Reached p.program T U part → Open p.N trees s (to_rest 0 n ∷ ts) →
+    Grounded p.program [] v s → Facts [] v T s → AllByRecursion IsFirm s.facts →
+    Backed p.program v s part → Rested p U v part s ts
 
 -- contracts, invariants and interpretations, whatever others do
 pub record Stable (p : PlainProgram) : Type 0 where

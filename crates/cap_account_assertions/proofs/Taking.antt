@@ -32,6 +32,7 @@ use Rattle.cap_account_resources.proofs.Order.{relates-or, unmet-not}
 use Rattle.cap_account_states.proofs.Attempts.{comes-bind, after-found, after-prove, after-proved, after-determined, after-row, after-with-row, comp_row, row_added}
 use Rattle.cap_account_states.proofs.Meets.{Usable, CellOver, Meets, need, Old, Same, same-state, same-trans, meets-row, same-row, solves, proved-holds}
 use Rattle.cap_account_states.proofs.Checked.{Checked, children-split, one-child, no-region}
+use Rattle.cap_account_states.proofs.Alike.{alike-same}
 use Rattle.cap_account_states.proofs.Naming.{Placed, Means, Stays, at-env, Others, others-env, same-env, means-back, term-over, term-number, CompBound, comp-over, comp-means, bound-of, comp-bound}
 use Rattle.cap_account_states.proofs.Items.{items_size, size-positive, append-size, AreFit, fits-append, fits-more, fits-sides, within-same, spends-split}
 use Rattle.cap_account_states.proofs.Matching.{Outside, matching}
@@ -306,7 +307,7 @@ module _ (p : Checked) (bare : p.program.regions ≡ []) (ks : List ℕ) (T : Ta
               (
                 value v.whole c.1,
                 subst (λ z. pos 0 <ℤ z) (sym ax) up,
-                g.means a h1,
+                g.means v (alike-same (Old s) v) a h1,
                 λ z w.
                     let i : one_cell (value a.whole x) (value v.whole c.1) z w ≡ one_cell
                     (value v.whole c.0) (value v.whole c.1) z w =

@@ -1,12 +1,9 @@
--- The variables of compatibility's rows; and what is held covers the pieces also at values that
--- agree, and over a multiple of the denominator.
-use Rattle.std.proofs.Common.{◌≡◌, inl, inr, ℕ, ◌+◌, ℤ, pos, ◌*ℤ◌, Bool, true, false, List, [], ◌∷◌, Option, Some, None, refl, sym, ap, ◌∙◌, subst, arith}
+-- The variables of compatibility's rows; and what is held covers the pieces also at alike values.
+use Rattle.std.proofs.Common.{inl, inr, ℕ, ℤ, Bool, true, false, List, [], ◌∷◌, Option, Some, None, sym, ◌∙◌, subst}
 use Rattle.std.specs.Prelude.{if◌then◌else◌}
 use Rattle.std.specs.List.{AllByRecursion}
-use Rattle.std.proofs.lemmas.Int.{ints}
-use Rattle.cap_numbers.proofs.Ring.{expand, product3}
 use Rattle.cap_lin.specs.Linear.{Linear, plus}
-use Rattle.cap_lin.specs.Values.{Valuation, denominator, amount}
+use Rattle.cap_lin.specs.Values.{Valuation}
 use Rattle.cap_lin.specs.Solves.{IsWholeAt}
 use Rattle.cap_lin.specs.declared.row.Row.{Row}
 use Rattle.cap_lin.specs.declared.row.Sort.{Sort}
@@ -21,13 +18,14 @@ use Rattle.cap_gsolve.specs.declared.piece.Piece.{Piece}
 use Rattle.cap_gsolve.specs.Pieces.{piece, same_part}
 use Rattle.cap_gsolve.specs.Merge.{zero_term, one_term, added_rows, there}
 use Rattle.cap_gsolve.specs.Compat.{share_there, fits_rows, one_rows, wanted_rows, clashes_some, compat}
-use Rattle.cap_gsolve.specs.Meaning.{IsFormElement, region_of, IsElementAt, AreElementsAt}
+use Rattle.cap_gsolve.specs.Meaning.{IsFormElement, IsElementAt, AreElementsAt}
 use Rattle.cap_gsolve.proofs.Held.{there-same, there-other}
 use Rattle.cap_prog.specs.Program.{PlainProgram}
 use Rattle.cap_machine_accounts.specs.Parts.{algebra_of}
 use Rattle.cap_account_resources.proofs.Lists.{all-both}
-use Rattle.cap_account_states.proofs.Terms.{Vars, Over, vars-more, RowOver, row-over, over-plus, Agree, value-agree, amount-agree}
-use Rattle.cap_account_states.proofs.Values.{scaled, scaled-denominator, scaled-amount}
+use Rattle.cap_account_states.proofs.Terms.{Vars, Over, vars-more, RowOver, row-over, over-plus}
+use Rattle.cap_account_states.proofs.Alike.{Alike, value-alike}
+use Rattle.cap_account_states.proofs.Wants.{value-of-alike}
 use Rattle.cap_account_resources.proofs.Marks.{Mark}
 use Rattle.cap_account_resources.proofs.Covering.{Covered}
 use Rattle.cap_account_states.proofs.Guarding.{FormOver}
@@ -154,97 +152,52 @@ pieces-more R S g (q ∷ ps) h = (
   pieces-more R S g ps h.1,
 )
 
--- ---- elements at other values
+-- ---- elements at alike values
 
--- the same elements are at the same regions
-pub record Alike (v w : Valuation) (q : Piece) : Type 0 where
-  pub region : region_of w q ≡ region_of v q
-  pub form : (x : Element) → IsFormElement v q.form x → IsFormElement w q.form x
+pub form-alike :
+    (P : ℕ → Type 0) (v w : Valuation) → Alike P v w → (f : Form) → FormOver (λ o. P) f →
+    (x : Element) → IsFormElement v f x → IsFormElement w f x
+form-alike P v w a One o x h = h
+form-alike P v w a (Share t) o x h = (h.0, h.1, value-of-alike P v w a t o h.0 h.2, h.3)
+form-alike P v w a (Src t) o x h = (h.0, value-alike P v w a t o ∙ h.1, h.2)
+form-alike P v w a (Tok t) o x h = (h.0, value-alike P v w a t o ∙ h.1, h.2)
 
-element-alike :
-    (a : PlainAlgebra) (k : ℕ) (v w : Valuation) (n : ℤ) (q : Piece) (x : Element) →
-    Alike v w q → IsElementAt a k v n q x → IsElementAt a k w n q x
-element-alike a k v w n q x h (inl i) =
-    inl (h.region ∙ i.0, (i.1.0, h.form i.1.0 i.1.1, i.1.2), i.2)
-element-alike a k v w n q x h (inr i) = inr (λ e. i.0 (sym h.region ∙ e), i.1)
+module _ (a : PlainAlgebra) (k : ℕ) (P : ℕ → Type 0) (v w : Valuation) (l : Alike P v w)
+    (n : ℤ) where
+  element-alike :
+      (q : Piece) (x : Element) → PieceOver (λ o. P) q → IsElementAt a k v n q x →
+      IsElementAt a k w n q x
+  element-alike q x o (inl i) =
+      let m = i.1 in
+      inl (
+        value-alike P v w l q.region o.0 ∙ i.0,
+        (m.0, form-alike P v w l q.form o.1 m.0 m.1, m.2),
+        i.2,
+      )
+  element-alike q x o (inr i) =
+      inr (λ e. i.0 (sym (value-alike P v w l q.region o.0) ∙ e), i.1)
 
-elements-alike :
-    (a : PlainAlgebra) (k : ℕ) (v w : Valuation) (n : ℤ) (ps : List Piece) (xs : List Element) →
-    AllByRecursion (Alike v w) ps → AreElementsAt a k v n ps xs → AreElementsAt a k w n ps xs
-elements-alike a k v w n [] [] h e = tt
-elements-alike a k v w n [] (x ∷ xs) h e = absurd e
-elements-alike a k v w n (q ∷ ps) [] h e = absurd e
-elements-alike a k v w n (q ∷ ps) (x ∷ xs) h e =
-    (element-alike a k v w n q x h.0 e.0, elements-alike a k v w n ps xs h.1 e.1)
+  elements-alike :
+      (ps : List Piece) (xs : List Element) → AllByRecursion (PieceOver (λ o. P)) ps →
+      AreElementsAt a k v n ps xs → AreElementsAt a k w n ps xs
+  elements-alike [] [] o e = tt
+  elements-alike [] (x ∷ xs) o e = absurd e
+  elements-alike (q ∷ ps) [] o e = absurd e
+  elements-alike (q ∷ ps) (x ∷ xs) o e =
+      (element-alike q x o.0 e.0, elements-alike ps xs o.1 e.1)
 
+-- what is held covers the pieces at both
 pub covered-alike :
-    (p : PlainProgram) (v w : Valuation) (ps : List Piece) (n : ℤ) (m : Option Mark) →
-    AllByRecursion (Alike v w) ps → Covered p v ps n m → Covered p w ps n m
-covered-alike p v w ps n m h c = record {
+    (p : PlainProgram) (P : ℕ → Type 0) (v w : Valuation) → Alike P v w → (ps : List Piece) (n : ℤ)
+    (m : Option Mark) → AllByRecursion (PieceOver (λ o. P)) ps → Covered p v ps n m →
+    Covered p w ps n m
+covered-alike p P v w l ps n m o c = record {
   kind = c.kind;
   element = c.element;
   is = (
     c.is.0,
-    elements-alike (algebra_of p c.kind) c.kind v w n ps c.is.0 h c.is.1,
+    elements-alike (algebra_of p c.kind) c.kind P v w l n ps c.is.0 o c.is.1,
     c.is.2,
   );
   part = c.part;
 }
-
-pub alike-agree :
-    (P : ℕ → Type 0) (v w : Valuation) → Agree P v w → (f : Form) → FormOver (λ o. P) f →
-    (x : Element) → IsFormElement v f x → IsFormElement w f x
-alike-agree P v w a One o x h = h
-alike-agree P v w a (Share t) o x h = (
-  h.0,
-  h.1,
-  ap (λ u. pos h.0.num *ℤ pos (u + 1)) a.under
-      ∙ (h.2 ∙ ap (λ z. z *ℤ pos h.0.den) (sym (amount-agree P v w a t o))),
-  h.3,
-)
-alike-agree P v w a (Src t) o x h = (h.0, value-agree P v w a t o ∙ h.1, h.2)
-alike-agree P v w a (Tok t) o x h = (h.0, value-agree P v w a t o ∙ h.1, h.2)
-
-pub all-alike-agree :
-    (P : ℕ → Type 0) (v w : Valuation) → Agree P v w → (ps : List Piece) →
-    AllByRecursion (PieceOver (λ o. P)) ps → AllByRecursion (Alike v w) ps
-all-alike-agree P v w a [] h = tt
-all-alike-agree P v w a (q ∷ ps) h = (
-  record {
-    region = value-agree P v w a q.region h.0.0;
-    form = alike-agree P v w a q.form h.0.1;
-  },
-  all-alike-agree P v w a ps h.1,
-)
-
-pub alike-scaled :
-    (m : ℕ) (v : Valuation) (f : Form) (x : Element) → IsFormElement v f x →
-    IsFormElement (scaled m v) f x
-alike-scaled m v One x h = h
-alike-scaled m v (Share t) x h = (
-  h.0,
-  h.1,
-  ap (λ z. pos h.0.num *ℤ z) (scaled-denominator m v)
-      ∙ (sym (grouped (pos h.0.num) (denominator v.fraction) (pos (m + 1)))
-      ∙ (ap (λ z. z *ℤ pos (m + 1)) h.2
-      ∙ (turned (amount v.fraction t) (pos h.0.den) (pos (m + 1))
-      ∙ ap (λ z. z *ℤ pos h.0.den) (sym (scaled-amount m v t))))),
-  h.3,
-)
-  where
-    grouped : (a b c : ℤ) → a *ℤ b *ℤ c ≡ a *ℤ (b *ℤ c)
-    grouped a b c = simp expand (omega (arith, ints, product3))
-
-    exchanged : (a b : ℤ) → a *ℤ b ≡ b *ℤ a
-    exchanged a b = omega (arith, ints)
-
-    turned : (a b c : ℤ) → a *ℤ b *ℤ c ≡ a *ℤ c *ℤ b
-    turned a b c = grouped a b c ∙ (ap (λ z. a *ℤ z) (exchanged b c) ∙ sym (grouped a c b))
-alike-scaled m v (Src t) x h = h
-alike-scaled m v (Tok t) x h = h
-
-pub all-alike-scaled :
-    (m : ℕ) (v : Valuation) (ps : List Piece) → AllByRecursion (Alike v (scaled m v)) ps
-all-alike-scaled m v [] = tt
-all-alike-scaled m v (q ∷ ps) =
-    (record { region = refl; form = alike-scaled m v q.form }, all-alike-scaled m v ps)

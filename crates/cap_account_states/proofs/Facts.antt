@@ -1,6 +1,6 @@
 -- What facts say of a table, where there are region types: adding one, and giving one up.
-use Rattle.std.proofs.Common.{◌≡◌, ℕ, ℤ, List, [], ◌∷◌, ◌++◌, length, map, drop, get_or, cond, arith, refl, sym, ap, ◌∙◌, subst, Option, Some, None, Bool, true, false}
-use Rattle.std.specs.Prelude.{find, not, ◌&&◌, ◌||◌, ◌==◌, if◌then◌else◌}
+use Rattle.std.proofs.Common.{◌≡◌, ◌≢◌, ℕ, ◌<◌, ℤ, List, [], ◌∷◌, ◌++◌, length, map, drop, get_or, cond, arith, refl, sym, ap, ◌∙◌, subst, Option, Some, None, Bool, true, false}
+use Rattle.std.specs.Prelude.{slice_get, find, not, ◌&&◌, ◌||◌, ◌==◌, if◌then◌else◌}
 use Rattle.std.specs.List.{AllByRecursion, list_any}
 use Rattle.std.proofs.lemmas.Bool.Decides.{nat_tests}
 use Rattle.cap_lin.specs.Linear.{Linear, variable, same_term}
@@ -19,15 +19,17 @@ use Rattle.cap_prog.specs.declared.assertion.Slot.TheVariants.{Is}
 use Rattle.cap_prog.specs.Program.{fact}
 use Rattle.cap_prog.specs.Scopes.{Scope, SlotFits}
 use Rattle.cap_machine_accounts.specs.Assertions.{SlotIs, SlotsAre}
+use Rattle.cap_machine_accounts.specs.Accounts.{EachTwo}
 use Rattle.cap_goal_spec.specs.States.{PlainFact, PlainEnv, PlainState}
 use Rattle.cap_rules.specs.Attempts.{Attempt, unit, ◌>>=◌, appended}
 use Rattle.cap_rules.specs.Making.{match_slot, match_slots, is_of_region, is_of_other_type, without_first, with_comparison, with_equalities, with_same, with_false, with_fact}
 use Rattle.cap_account_states.specs.Nodes.{Comes}
 use Rattle.cap_account_resources.specs.Parts.{Hold, known_as, Table, SpendsOne}
-use Rattle.cap_account_resources.proofs.Lists.{some-same, none-some, join-nil, join-assoc, map-join, all-both}
-use Rattle.cap_account_states.proofs.Terms.{Over, RowOver, row-over, Agree, agree-same, value-agree}
+use Rattle.cap_account_resources.proofs.Lists.{some-same, none-some, join-nil, join-assoc, map-join, all-both, all-more, Among}
+use Rattle.cap_account_states.proofs.Terms.{Over, vars-more, RowOver, row-over, agree-same}
 use Rattle.cap_account_states.proofs.Attempts.{comes-bind, comes-appended, comes-comparison, after-comparison}
-use Rattle.cap_account_states.proofs.Meets.{Usable, Meets, Old, variable-value}
+use Rattle.cap_account_states.proofs.Meets.{Free, Usable, usable-old, usable-on, Meets, Old, Same, variable-value}
+use Rattle.cap_account_states.proofs.Alike.{Alike, alike-same, alike-less, value-alike}
 use Rattle.cap_account_states.proofs.Naming.{Placed, Means, Stays, means-back}
 use Rattle.cap_account_states.proofs.Items.{within-same}
 use Rattle.cap_account_states.proofs.Matching.{Outside, matching}
@@ -43,46 +45,115 @@ FactHolds v T f =
     × (T (value v.whole f.region) ≡ Some (known_as f.kind (map (value v.whole) f.args) o))
     × StateHolds f.loose o (value v.whole f.state)
 
+-- the variables of a fact; a loose one's state isn't looked at
+abbrev pub StateOver : (ℕ → Type 0) → Bool → Linear → Type 0
+StateOver P true t = Unit {0}
+StateOver P false t = Over P t
+
 abbrev pub FactOver : (ℕ → Type 0) → PlainFact → Type 0
-FactOver P f = Over P f.region × AllByRecursion (Over P) f.args × Over P f.state
+FactOver P f = Over P f.region × AllByRecursion (Over P) f.args × StateOver P f.loose f.state
+
+-- a loose fact's state is one of the variables that are kept free, and no other loose fact's
+abbrev pub LooseState : List ℕ → List Sort → PlainFact → Type 0
+LooseState ks sorts f =
+    f.loose ≡ true →
+    (x : ℕ) × (f.state ≡ variable x) × Among x ks × (slice_get sorts x ≡ Some Int)
+
+abbrev pub StatesDiffer : PlainFact → PlainFact → Type 0
+StatesDiffer f g = f.loose ≡ true → g.loose ≡ true → f.state ≢ g.state
 
 -- the facts of a state hold of the table
 pub record Facts (ks : List ℕ) (v : Valuation) (T : Table) (s : PlainState) : Type 0 where
   pub holds : AllByRecursion (FactHolds v T) s.facts
   pub over : AllByRecursion (FactOver (Usable ks s.sorts Int)) s.facts
+  pub loose : AllByRecursion (LooseState ks s.sorts) s.facts
+  pub differ : EachTwo StatesDiffer s.facts
 
--- ---- at other values
+-- ---- at alike values, and in a later state
 
-values-agree :
-    (P : ℕ → Type 0) (v w : Valuation) → Agree P v w → (ts : List Linear) →
+values-alike :
+    (P : ℕ → Type 0) (v w : Valuation) → Alike P v w → (ts : List Linear) →
     AllByRecursion (Over P) ts → map (value w.whole) ts ≡ map (value v.whole) ts
-values-agree P v w a [] h = refl
-values-agree P v w a (t ∷ ts) h =
-    ap (λ z. z ∷ map (value w.whole) ts) (value-agree P v w a t h.0) ∙ ap
-    (λ zs. value v.whole t ∷ zs) (values-agree P v w a ts h.1)
+values-alike P v w a [] h = refl
+values-alike P v w a (t ∷ ts) h =
+    ap (λ z. z ∷ map (value w.whole) ts) (value-alike P v w a t h.0) ∙ ap
+    (λ zs. value v.whole t ∷ zs) (values-alike P v w a ts h.1)
 
-state-agree : (b : Bool) (o : Option ℤ) (x y : ℤ) → x ≡ y → StateHolds b o y → StateHolds b o x
-state-agree true o x y e h = tt
-state-agree false o x y e h = h ∙ ap Some (sym e)
+state-alike :
+    (P : ℕ → Type 0) (v w : Valuation) → Alike P v w → (b : Bool) (o : Option ℤ) (t : Linear) →
+    StateOver P b t → StateHolds b o (value v.whole t) → StateHolds b o (value w.whole t)
+state-alike P v w a true o t k h = tt
+state-alike P v w a false o t k h = h ∙ ap Some (sym (value-alike P v w a t k))
 
-fact-agree :
-    (P : ℕ → Type 0) (v w : Valuation) (T : Table) → Agree P v w → (f : PlainFact) → FactOver P f →
+fact-alike :
+    (P : ℕ → Type 0) (v w : Valuation) (T : Table) → Alike P v w → (f : PlainFact) → FactOver P f →
     FactHolds v T f → FactHolds w T f
-fact-agree P v w T a f b h = (
+fact-alike P v w T a f b h = (
   h.0,
-  ap T (value-agree P v w a f.region b.0) ∙ h.1 ∙ ap (λ zs. Some (known_as f.kind zs h.0))
-      (sym (values-agree P v w a f.args b.1)),
-  state-agree f.loose h.0 (value w.whole f.state) (value v.whole f.state)
-      (value-agree P v w a f.state b.2) h.2,
+  ap T (value-alike P v w a f.region b.0) ∙ h.1 ∙ ap (λ zs. Some (known_as f.kind zs h.0))
+      (sym (values-alike P v w a f.args b.1)),
+  state-alike P v w a f.loose h.0 f.state b.2 h.2,
 )
 
-pub facts-agree :
-    (P : ℕ → Type 0) (v w : Valuation) (T : Table) → Agree P v w → (fs : List PlainFact) →
+pub facts-alike :
+    (P : ℕ → Type 0) (v w : Valuation) (T : Table) → Alike P v w → (fs : List PlainFact) →
     AllByRecursion (FactOver P) fs → AllByRecursion (FactHolds v T) fs →
     AllByRecursion (FactHolds w T) fs
-facts-agree P v w T a [] b h = tt
-facts-agree P v w T a (f ∷ fs) b h =
-    (fact-agree P v w T a f b.0 h.0, facts-agree P v w T a fs b.1 h.1)
+facts-alike P v w T a [] b h = tt
+facts-alike P v w T a (f ∷ fs) b h =
+    (fact-alike P v w T a f b.0 h.0, facts-alike P v w T a fs b.1 h.1)
+
+pub fact-more :
+    (P Q : ℕ → Type 0) → ((x : ℕ) → P x → Q x) → (f : PlainFact) → FactOver P f → FactOver Q f
+fact-more P Q g f h = (
+  vars-more P Q g f.region.parts h.0,
+  all-more (Over P) (Over Q) (λ t. vars-more P Q g t.parts) f.args h.1,
+  by f.loose h.2,
+)
+  where
+    by : (b : Bool) → StateOver P b f.state → StateOver Q b f.state
+    by true k = tt
+    by false k = vars-more P Q g f.state.parts k
+
+-- the states of loose facts may have any values
+pub facts-later :
+    (ks : List ℕ) (v w : Valuation) (T : Table) (s t : PlainState) →
+    ((x : ℕ) (o : Sort) → slice_get s.sorts x ≡ Some o → slice_get t.sorts x ≡ Some o) →
+    t.facts ≡ s.facts → Alike (λ x. (x < length s.sorts) × Free ks x) v w → Facts ks v T s →
+    Facts ks w T t
+facts-later ks v w T s t sorts e a f =
+    let R = Usable ks s.sorts Int in
+    let S = Usable ks t.sorts Int in
+    let P : ℕ → Type 0 = λ x. (x < length s.sorts) × Free ks x in
+    let near = all-more (FactOver R) (FactOver P)
+    (fact-more R P (λ x h. (usable-old ks s.sorts Int x h, h.1))) s.facts f.over in
+    let over = all-more (FactOver R) (FactOver S)
+    (fact-more R S (usable-on ks s.sorts t.sorts sorts Int)) s.facts f.over in
+    let loose = all-more (LooseState ks s.sorts) (LooseState ks t.sorts)
+    (λ g h l. let q = h l in (q.0, q.1, q.2, sorts q.0 Int q.3)) s.facts f.loose in
+    record {
+      holds =
+          subst (AllByRecursion (FactHolds w T)) (sym e)
+          (facts-alike P v w T a s.facts near f.holds);
+      over = subst (AllByRecursion (FactOver S)) (sym e) over;
+      loose = subst (AllByRecursion (LooseState ks t.sorts)) (sym e) loose;
+      differ = subst (EachTwo StatesDiffer) (sym e) f.differ;
+    }
+
+-- in a state with the same sorts and facts
+pub facts-same :
+    (ks : List ℕ) (v : Valuation) (T : Table) (s t : PlainState) → t.sorts ≡ s.sorts →
+    t.facts ≡ s.facts → Facts ks v T s → Facts ks v T t
+facts-same ks v T s t ss e f =
+    facts-later ks v v T s t (λ x o h. ap (λ us. slice_get us x) ss ∙ h) e
+    (alike-same (λ x. (x < length s.sorts) × Free ks x) v) f
+
+pub facts-on :
+    (ks : List ℕ) (v w : Valuation) (T : Table) (s t : PlainState) → Same s t →
+    Alike (Old s) v w → Facts ks v T s → Facts ks w T t
+facts-on ks v w T s t m a f =
+    facts-later ks v w T s t m.sorts m.facts
+    (alike-less (λ x. (x < length s.sorts) × Free ks x) (Old s) v w (λ x h. h.0) a) f
 
 -- ---- what adding a fact makes of a state
 
@@ -244,6 +315,8 @@ merging-holds ks v T s f fs tight ft h o = by (find (is_of_region f) s.facts) re
         let t = both-true (same_term g.region f.region) (g.kind == f.kind) a.1 in
         let same = knowns-same v T f g
         (ap (value v.whole) ((same_term-decides g.region f.region).0 t.0)) h a.0 in
+        let state-over : (b : Bool) → b ≡ false → (t : Linear) → StateOver (R Int) b t →
+        Over (R Int) t = λ b e t k. subst (λ c. StateOver (R Int) c t) e k in
         let st : value v.whole g.state ≡ value v.whole f.state = some-same (value v.whole g.state)
         (value v.whole f.state)
         (sym (tight-state g.loose a.0.0 (value v.whole g.state) c.0 a.0.2) ∙ same.2
@@ -252,8 +325,11 @@ merging-holds ks v T s f fs tight ft h o = by (find (is_of_region f) s.facts) re
           all-both (Holds v) (equal_rows g.args f.args) (r ∷ []) (equal-hold v g.args f.args same.1)
               ((row_of-means v g.state Equal f.state Int).1 st, tt),
           all-both (RowOver R) (equal_rows g.args f.args) (r ∷ [])
-              (equal-over R g.args f.args b.0.1 o.1)
-              (row-over R g.state Equal f.state Int b.0.2 o.2, tt),
+              (equal-over R g.args f.args b.0.1 o.1) (
+                row-over R g.state Equal f.state Int (state-over g.loose c.0 g.state b.0.2)
+                    (state-over f.loose ft f.state o.2),
+                tt,
+              ),
         )
 
 -- no fact of the region has another type
@@ -277,17 +353,44 @@ no-other-type v T f (g ∷ fs) h k =
         absurd (cc)
     by false x b y e = e
 
--- the facts with the new one
+each-without :
+    {X : Type 0} (R : X → X → Type 0) (test : X → Bool) (xs : List X) → EachTwo R xs →
+    EachTwo R (without_first test xs)
+each-without R test [] h = tt
+each-without R test (x ∷ xs) h = by (test x) (each-without R test xs h.1)
+  where
+    by :
+        (b : Bool) → EachTwo R (without_first test xs) →
+        EachTwo R (if b then xs else x ∷ without_first test xs)
+    by true k = h.1
+    by false k = (all-without (R x) test xs h.0, k)
+
+each-last :
+    {X : Type 0} (R : X → X → Type 0) (xs : List X) (y : X) → EachTwo R xs → ((x : X) → R x y) →
+    EachTwo R (xs ++ y ∷ [])
+each-last R [] y h f = (tt, tt)
+each-last R (x ∷ xs) y h f =
+    (all-both (R x) xs (y ∷ []) h.0 (f x, tt), each-last R xs y h.1 f)
+
+-- the facts with the new one, which isn't loose
 pub facts-added :
     (ks : List ℕ) (v : Valuation) (T : Table) (s : PlainState) (f : PlainFact) → Facts ks v T s →
-    FactHolds v T f → FactOver (Usable ks s.sorts Int) f → Facts ks v T (fact_added s f)
-facts-added ks v T s f fs h o = record {
+    f.loose ≡ false → FactHolds v T f → FactOver (Usable ks s.sorts Int) f →
+    Facts ks v T (fact_added s f)
+facts-added ks v T s f fs ft h o = record {
   holds =
       all-both (FactHolds v T) (without_first (is_of_region f) s.facts) (f ∷ [])
       (all-without (FactHolds v T) (is_of_region f) s.facts fs.holds) (h, tt);
   over =
       all-both (FactOver (Usable ks s.sorts Int)) (without_first (is_of_region f) s.facts) (f ∷ [])
       (all-without (FactOver (Usable ks s.sorts Int)) (is_of_region f) s.facts fs.over) (o, tt);
+  loose =
+      all-both (LooseState ks s.sorts) (without_first (is_of_region f) s.facts) (f ∷ [])
+      (all-without (LooseState ks s.sorts) (is_of_region f) s.facts fs.loose)
+      ((λ l. absurd (cc)), tt);
+  differ =
+      each-last StatesDiffer (without_first (is_of_region f) s.facts) f
+      (each-without StatesDiffer (is_of_region f) s.facts fs.differ) (λ g a b e. absurd (cc));
 }
 
 -- ---- giving a fact up
@@ -299,7 +402,9 @@ pub record MatchingAll (ks : List ℕ) (sc : Scope) (sorts : List Sort) (v : Val
   pub stays : Stays sc env later
   pub outside : Outside sc env later
   pub size : length later ≡ length env
-  pub means : (a : Valuation) → Means sc v later a → SlotsAre a xs (map (value v.whole) ts)
+  pub means :
+      (w : Valuation) → Alike (λ y. y < length sorts) v w → (a : Valuation) → Means sc w later a →
+      SlotsAre a xs (map (value v.whole) ts)
   pub comes : P later
 
 pub matching-all :
@@ -313,7 +418,7 @@ matching-all ks sc v s env [] [] P me pl h o c = record {
   stays = λ x o i t e. e;
   outside = λ x n. refl;
   size = refl;
-  means = λ a n. tt;
+  means = λ w l a n. tt;
   comes = c.1;
 }
 matching-all ks sc v s env [] (t ∷ ts) P me pl h o c = absurd c.1
@@ -331,11 +436,11 @@ matching-all ks sc v s env (x ∷ xs) (t ∷ ts) P me pl h o c =
       outside = λ z n. n2.outside z n ∙ n1.outside z n;
       size = n2.size ∙ n1.size;
       means =
-          λ w n. (
-            n1.means w
-                (means-back ks sc s v v n1.later n2.later w n1.placed
-                (agree-same (Old s) v) n2.stays n),
-            n2.means w n,
+          λ w g a n. (
+            n1.means w g a
+                (means-back ks sc s w w n1.later n2.later a n1.placed
+                (agree-same (Old s) w) n2.stays n),
+            n2.means w g a n,
           );
       comes = n2.comes;
     }

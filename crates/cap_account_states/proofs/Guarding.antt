@@ -1,5 +1,5 @@
 -- What an assertion asks of a guard is cut out of a piece's form, but for an open amount.
-use Rattle.std.proofs.Common.{◌≡◌, ℕ, zero, suc, ◌+◌, ℤ, pos, ◌*ℤ◌, ◌≤ℤ◌, ◌<ℤ◌, Bool, true, false, List, [], ◌∷◌, length, Option, Some, None, refl, sym, ap, ◌∙◌, subst}
+use Rattle.std.proofs.Common.{◌≡◌, ℕ, zero, suc, ℤ, pos, ◌*ℤ◌, ◌≤ℤ◌, ◌<ℤ◌, Bool, true, false, List, [], ◌∷◌, length, Option, Some, None, refl, sym, ap, ◌∙◌, subst}
 use Rattle.std.specs.Prelude.{if◌then◌else◌}
 use Rattle.std.specs.List.{AllByRecursion}
 use Rattle.cap_lin.specs.Linear.{Linear, plus, minus}
@@ -13,6 +13,7 @@ use Rattle.cap_lin.specs.declared.row.Op.{Op}
 use Rattle.cap_lin.specs.declared.row.Op.TheVariants.{Eq as Equal, Le as AtMost, Lt as Less, Gt as Greater}
 use Rattle.cap_lin.proofs.Rows.{row_of-means}
 use Rattle.cap_galg.specs.declared.fraction.Fraction.{Fraction}
+use Rattle.cap_galg.specs.Fractions.{IsShare}
 use Rattle.cap_galg.specs.Elements.{Element, one, share, src, tokens}
 use Rattle.cap_galg.specs.Algebras.{PlainAlgebra, divisible, counting, unique, IsElement}
 use Rattle.cap_galg.specs.Laws.Kin.{tokens-is}
@@ -25,7 +26,7 @@ use Rattle.cap_prog.specs.declared.assertion.Slot.TheVariants.{Any, Is}
 use Rattle.cap_prog.specs.declared.assertion.Asked.{Asked}
 use Rattle.cap_prog.specs.declared.assertion.Asked.TheVariants.{One, Share, Src, Tok}
 use Rattle.cap_prog.specs.Scopes.{Scope, SlotFits}
-use Rattle.cap_machine_accounts.specs.Assertions.{SlotIs, ShareIs, IsAsked}
+use Rattle.cap_machine_accounts.specs.Assertions.{SlotIs}
 use Rattle.cap_goal_spec.specs.Terms.{lone_variable}
 use Rattle.cap_goal_spec.specs.States.{PlainEnv, PlainState}
 use Rattle.cap_goal_spec.specs.Environments.{zero_value, is_determined, term_in, term_in_steps, Reading, settled, open_to, stuck, read_name, reading, bind_open}
@@ -33,9 +34,11 @@ use Rattle.cap_rules.specs.Attempts.{Attempt, unit, ◌>>=◌, prove_that}
 use Rattle.cap_rules.specs.Making.{sum, difference, match_reading}
 use Rattle.cap_rules.specs.Taking.{Cut, cut, cut_share, cut_source, cut_tokens, cut_new_tokens, cut_form}
 use Rattle.cap_account_states.specs.Nodes.{Comes}
-use Rattle.cap_account_states.proofs.Terms.{Over, row-over}
+use Rattle.cap_account_states.proofs.Terms.{Over, vars-more, over-plus, over-minus, row-over}
 use Rattle.cap_account_states.proofs.Attempts.{after-computed, after-proved}
-use Rattle.cap_account_states.proofs.Meets.{Usable, Meets, proved-holds}
+use Rattle.cap_account_states.proofs.Meets.{Usable, usable-old, Old, Meets, proved-holds}
+use Rattle.cap_account_states.proofs.Alike.{Alike, value-alike}
+use Rattle.cap_account_states.proofs.Wants.{AmountIs, Wants, value-of-alike, share-wants}
 use Rattle.cap_account_states.proofs.Naming.{Placed, Means, Stays, term-over, term-number, bound-of}
 use Rattle.cap_account_states.proofs.Matching.{Outside, matching}
 use Rattle.cap_account_states.proofs.Asking.{AskedOver}
@@ -58,6 +61,12 @@ abbrev pub is_open : Asked → PlainEnv → Bool
 is_open (Share x) env = is_open_reading (reading env x)
 is_open asked env = false
 
+-- it is asked for at all values that are alike to these, whatever the names are
+abbrev pub WantedNear :
+    Scope → (ℕ → Type 0) → Valuation → PlainEnv → Asked → Element → Type 0
+WantedNear sc P v env asked y =
+    (w : Valuation) → Alike P v w → (X : Valuation) → Means sc w env X → Wants X asked y
+
 -- a cut leaves the state but for an environment; the form is what is asked, at all values of the
 -- names, and what stays
 pub record CutOk (ks : List ℕ) (sc : Scope) (v : Valuation) (s : PlainState) (env : PlainEnv)
@@ -68,11 +77,12 @@ pub record CutOk (ks : List ℕ) (sc : Scope) (v : Valuation) (s : PlainState) (
   pub stays : Stays sc env later
   pub outside : Outside sc env later
   pub size : length later ≡ length env
+  pub left_over : AllByRecursion (FormOver (Usable ks s.sorts)) left
   pub fits : (b : PlainAlgebra) → Takes b f → AllByRecursion (Takes b) left
   pub cuts :
       (own : Element) → IsFormElement v f own →
       (y : Element)
-      × ((X : Valuation) → Means sc v later X → IsAsked X asked y)
+      × WantedNear sc (Old s) v later asked y
       × ((b : PlainAlgebra) → Takes b f → IsElement b y)
       × Cuts v own y left
   pub comes : P (cut later s left)
@@ -80,12 +90,12 @@ pub record CutOk (ks : List ℕ) (sc : Scope) (v : Valuation) (s : PlainState) (
 -- ---- slots
 
 -- a slot that stands for a term
-pub record IsSettled (ks : List ℕ) (sc : Scope) (v : Valuation) (s : PlainState) (env : PlainEnv)
-    (x : Slot) (o : Sort) (t : Linear) : Type 0 where
+pub record IsSettled (ks : List ℕ) (sc : Scope) (s : PlainState) (env : PlainEnv) (x : Slot)
+    (o : Sort) (t : Linear) : Type 0 where
   pub is : x ≡ Is t
   pub over : Over (Usable ks s.sorts o) (term_in env t)
   pub number_is :
-      (X : Valuation) → Means sc v env X → value_by_sort o v (term_in env t) ≡ value_by_sort o X t
+      (w X : Valuation) → Means sc w env X → value_by_sort o w (term_in env t) ≡ value_by_sort o X t
 
 settled-same : (t u : Linear) → settled t ≡ settled u → t ≡ u
 settled-same t u e = cc
@@ -98,23 +108,23 @@ name-settled None u e = absurd (cc)
 name-settled (Some x) u e = absurd (cc)
 
 settled-slot :
-    (ks : List ℕ) (sc : Scope) (v : Valuation) (s : PlainState) (env : PlainEnv) (x : Slot)
-    (o : Sort) (t : Linear) → Placed ks sc s.sorts env → SlotFits sc o x →
-    reading env x ≡ settled t → IsSettled ks sc v s env x o t
-settled-slot ks sc v s env Any o t pl h e = absurd (open-settled None t e)
-settled-slot ks sc v s env (Is u) o t pl h e = by (is_determined env u) refl e
+    (ks : List ℕ) (sc : Scope) (s : PlainState) (env : PlainEnv) (x : Slot) (o : Sort)
+    (t : Linear) → Placed ks sc s.sorts env → SlotFits sc o x →
+    reading env x ≡ settled t → IsSettled ks sc s env x o t
+settled-slot ks sc s env Any o t pl h e = absurd (open-settled None t e)
+settled-slot ks sc s env (Is u) o t pl h e = by (is_determined env u) refl e
   where
     by :
         (b : Bool) → is_determined env u ≡ b →
         (if b then settled u else read_name (lone_variable u)) ≡ settled t →
-        IsSettled ks sc v s env (Is u) o t
+        IsSettled ks sc s env (Is u) o t
     by true d e =
         let same = settled-same u t e in
         let b = bound-of env u.parts d in
-        subst (IsSettled ks sc v s env (Is u) o) same (record {
+        subst (IsSettled ks sc s env (Is u) o) same (record {
           is = refl;
           over = term-over ks sc s.sorts env o u pl h b;
-          number_is = λ X m. term-number sc v env X o u m h b;
+          number_is = λ w X m. term-number sc w env X o u m h b;
         })
     by false d e = absurd (name-settled (lone_variable u) t e)
 
@@ -132,14 +142,6 @@ slot-is :
     (X : Valuation) (x : Slot) (t : Linear) (z y : ℤ) → x ≡ Is t → z ≡ value X.whole t → z ≡ y →
     SlotIs X x y
 slot-is X x t z y e a b = subst (λ u. SlotIs X u y) (sym e) (sym a ∙ b)
-
-pub share-is :
-    (X v : Valuation) (x : Slot) (t e : Linear) (f : Fraction) → x ≡ Is t →
-    X.fraction.under ≡ v.fraction.under → amount v.fraction e ≡ amount X.fraction t →
-    IsValueOf v e f → ShareIs X x f
-share-is X v x t e f i u a h =
-    subst (λ w. ShareIs X w f) (sym i)
-    (ap (λ z. z *ℤ pos f.den) (sym a) ∙ sym h ∙ ap (λ n. pos f.num *ℤ pos (n + 1)) (sym u))
 
 counted :
     (b : PlainAlgebra) (m : Linear) (x : Element) → IsElement counting x → Takes b (form.Src m) →
@@ -186,18 +188,19 @@ module _ (ks : List ℕ) (sc : Scope) (v : Valuation) (s : PlainState) (me : Mee
   -- the environment stays
   abbrev kept :
       (asked : Asked) (f : Form) (left : List Form) →
-      ((b : PlainAlgebra) → Takes b f → AllByRecursion (Takes b) left) →
+      AllByRecursion (FormOver (Usable ks s.sorts)) left → ((b : PlainAlgebra) → Takes b f → AllByRecursion (Takes b) left) →
       ((own : Element) → IsFormElement v f own → (y : Element) ×
-      ((X : Valuation) → Means sc v env X → IsAsked X asked y) ×
+      WantedNear sc (Old s) v env asked y ×
       ((b : PlainAlgebra) → Takes b f → IsElement b y) × Cuts v own y left) →
       P (cut env s left) → CutOk ks sc v s env asked f P
-  kept asked f left t g c = record {
+  kept asked f left lo t g c = record {
     later = env;
     left = left;
     placed = pl;
     stays = λ x o i t h. h;
     outside = λ x n. refl;
     size = refl;
+    left_over = lo;
     fits = t;
     cuts = g;
     comes = c;
@@ -207,9 +210,10 @@ module _ (ks : List ℕ) (sc : Scope) (v : Valuation) (s : PlainState) (me : Mee
   bound-to :
       (x : Slot) (y : Option ℕ) (m : Linear) (asked : Asked) (f : Form) →
       reading env x ≡ open_to y → SlotFits sc Int x → Over (Usable ks s.sorts Int) m →
-      ((later : PlainEnv) → ((X : Valuation) → Means sc v later X → SlotIs X x (value v.whole m)) →
-      (own : Element) → IsFormElement v f own → (w : Element) ×
-      ((X : Valuation) → Means sc v later X → IsAsked X asked w) ×
+      ((later : PlainEnv) →
+      ((w : Valuation) → Alike (Old s) v w → (X : Valuation) → Means sc w later X →
+      SlotIs X x (value v.whole m)) → (own : Element) → IsFormElement v f own → (w : Element) ×
+      WantedNear sc (Old s) v later asked w ×
       ((b : PlainAlgebra) → Takes b f → IsElement b w) × Cuts v own w []) →
       P (cut (bind_open env y m) s []) → CutOk ks sc v s env asked f P
   bound-to x y m asked f e h o g c =
@@ -223,10 +227,32 @@ module _ (ks : List ℕ) (sc : Scope) (v : Valuation) (s : PlainState) (me : Mee
         stays = k.stays;
         outside = k.outside;
         size = k.size;
+        left_over = tt;
         fits = λ b tk. tt;
         cuts = g k.later k.means;
         comes = subst (λ l. P (cut l s [])) (sym k.comes) c;
       }
+
+  -- a settled slot has its value at all alike values
+  old-over : (o : Sort) (t : Linear) → Over (Usable ks s.sorts o) t → Over (Old s) t
+  old-over o t h = vars-more (Usable ks s.sorts o) (Old s) (usable-old ks s.sorts o) t.parts h
+
+  wanted-slot :
+      (x : Slot) (t : Linear) → IsSettled ks sc s env x Int t → (z : ℤ) →
+      value v.whole (term_in env t) ≡ z → (w : Valuation) → Alike (Old s) v w → (X : Valuation) →
+      Means sc w env X → SlotIs X x z
+  wanted-slot x t i z e w l X n =
+      slot-is X x t (value w.whole (term_in env t)) z i.is (i.number_is w X n)
+      (value-alike (Old s) v w l (term_in env t) (old-over Int (term_in env t) i.over) ∙ e)
+
+  wanted-share :
+      (x : Slot) (t : Linear) → IsSettled ks sc s env x Perm t → (f : Fraction) → IsShare f →
+      IsValueOf v (term_in env t) f → WantedNear sc (Old s) v env (Share x) (share f)
+  wanted-share x t i f h e w l X n =
+      let u = term_in env t in
+      share-wants X w x u f n.under
+      (subst (λ z. AmountIs X z (amount w.fraction u)) (sym i.is) (sym (i.number_is w X n)))
+      h (value-of-alike (Old s) v w l u (old-over Perm u i.over) f e)
 
   zero-over : Over (Usable ks s.sorts Int) zero_value
   zero-over = tt
@@ -239,21 +265,22 @@ module _ (ks : List ℕ) (sc : Scope) (v : Valuation) (s : PlainState) (me : Mee
       is_open_reading r ≡ false → SlotFits sc Perm x → Over (Usable ks s.sorts Perm) a →
       Comes (cut_share s env a way r) P → CutOk ks sc v s env (Share x) (form.Share a) P
   share-cut x a zero (settled t) e op h o c =
-      let i = settled-slot ks sc v s env x Perm t pl h e in
+      let i = settled-slot ks sc s env x Perm t pl h e in
       let u = term_in env t in
       let k1 = after-computed u (term_in_steps env t)
       (λ w. prove_that s.rows a Equal w Perm >>= λ _. unit (cut env s [])) P c in
       let k2 = after-proved s.rows a Equal u Perm (λ _. unit (cut env s [])) P k1 in
       let eq : amount v.fraction a ≡ amount v.fraction u =
       proved-relates ks v s a Equal u Perm me k2.0 o i.over in
-      kept (Share x) (form.Share a) [] (λ b tk. tt) (λ own w. (
+      kept (Share x) (form.Share a) [] tt (λ b tk. tt) (λ own w. (
         own,
-        (λ X m. (w.0, w.1, share-is X v x t a w.0 i.is m.under (eq ∙ i.number_is X m) w.2, w.3)),
+        subst (WantedNear sc (Old s) v env (Share x)) (sym w.3)
+            (wanted-share x t i w.0 w.1 (w.2 ∙ ap (λ z. z *ℤ pos w.0.den) eq)),
         (λ b tk. shared b a own (subst (IsElement divisible) (sym w.3) w.1) tk),
         cut-all v own,
       )) k2.1.1
   share-cut x a (suc zero) (settled t) e op h o c =
-      let i = settled-slot ks sc v s env x Perm t pl h e in
+      let i = settled-slot ks sc s env x Perm t pl h e in
       let u = term_in env t in
       let last : Linear → Attempt Cut = λ rest. unit (cut env s (form.Share rest ∷ [])) in
       let fourth : Linear → Attempt Cut = λ w. difference a w >>= last in
@@ -270,10 +297,11 @@ module _ (ks : List ℕ) (sc : Scope) (v : Valuation) (s : PlainState) (me : Mee
       let lt : amount v.fraction u <ℤ amount v.fraction a =
       proved-relates ks v s u Less a Perm me k3.0 i.over o in
       kept (Share x) (form.Share a) (form.Share (minus a u) ∷ [])
+      (over-minus (Usable ks s.sorts Perm) a u o i.over, tt)
       (λ b tk. (share-takes b a (minus a u) tk, tt)) (λ own w.
       let k = cutting.cut-share v a u w.0 w.1 w.2 up lt in (
         share k.0,
-        (λ X m. (k.0, k.1, share-is X v x t u k.0 i.is m.under (i.number_is X m) k.2, refl)),
+        wanted-share x t i k.0 k.1 k.2,
         (λ b tk. shared b a (share k.0) k.1 tk),
         subst (λ z. Cuts v z (share k.0) (form.Share (minus a u) ∷ [])) (sym w.3) k.3,
       )) k4.1
@@ -290,31 +318,26 @@ module _ (ks : List ℕ) (sc : Scope) (v : Valuation) (s : PlainState) (me : Mee
   source-cut x m zero (open_to y) e h o c =
       bound-to x y m (Src x) (form.Src m) e h o (λ later means own w. (
         own,
-        (λ X n. (w.0, subst (SlotIs X x) w.1 (means X n), w.2)),
+        (λ y l X n. (w.0, subst (SlotIs X x) w.1 (means y l X n), w.2)),
         (λ b tk. counted b m own (subst (IsElement counting) (sym w.2) tt) tk),
         cut-all v own,
       )) c.1
   source-cut x m zero (settled t) e h o c =
-      let i = settled-slot ks sc v s env x Int t pl h e in
+      let i = settled-slot ks sc s env x Int t pl h e in
       let u = term_in env t in
       let k1 = after-computed u (term_in_steps env t)
       (λ w. prove_that s.rows m Equal w Int >>= λ _. unit (cut env s [])) P c in
       let k2 = after-proved s.rows m Equal u Int (λ _. unit (cut env s [])) P k1 in
       let eq : value v.whole m ≡ value v.whole u =
       proved-relates ks v s m Equal u Int me k2.0 o i.over in
-      kept (Src x) (form.Src m) [] (λ b tk. tt) (λ own w. (
+      kept (Src x) (form.Src m) [] tt (λ b tk. tt) (λ own w. (
         own,
-        (λ X n. (
-          w.0,
-          slot-is X x t (value v.whole u) (pos w.0) i.is (i.number_is X n)
-              (sym eq ∙ w.1),
-          w.2,
-        )),
+        (λ y l X n. (w.0, wanted-slot x t i (pos w.0) (sym eq ∙ w.1) y l X n, w.2)),
         (λ b tk. counted b m own (subst (IsElement counting) (sym w.2) tt) tk),
         cut-all v own,
       )) k2.1.1
   source-cut x m (suc zero) (settled t) e h o c =
-      let i = settled-slot ks sc v s env x Int t pl h e in
+      let i = settled-slot ks sc s env x Int t pl h e in
       let u = term_in env t in
       let last : Linear → Attempt Cut = λ rest. unit (cut env s (form.Tok rest ∷ [])) in
       let second : Linear → Attempt Cut = λ w. prove_that s.rows m AtMost w Int >>= λ _.
@@ -325,10 +348,11 @@ module _ (ks : List ℕ) (sc : Scope) (v : Valuation) (s : PlainState) (me : Mee
       let le : value v.whole m ≤ℤ value v.whole u =
       proved-relates ks v s m AtMost u Int me k2.0 o i.over in
       kept (Src x) (form.Src m) (form.Tok (minus u m) ∷ [])
+      (over-minus (Usable ks s.sorts Int) u m i.over o, tt)
       (λ b tk. (source-tokens b m (minus u m) tk, tt)) (λ own w.
       let k = cutting.cut-source v m u w.0 w.1 le in (
         src k.0,
-        (λ X n. (k.0, slot-is X x t (value v.whole u) (pos k.0) i.is (i.number_is X n) k.1, refl)),
+        (λ y l X n. (k.0, wanted-slot x t i (pos k.0) k.1 y l X n, refl)),
         (λ b tk. counted b m (src k.0) tt tk),
         subst (λ z. Cuts v z (src k.0) (form.Tok (minus u m) ∷ [])) (sym w.2) k.2,
       )) k3.1
@@ -346,31 +370,26 @@ module _ (ks : List ℕ) (sc : Scope) (v : Valuation) (s : PlainState) (me : Mee
   tokens-cut x m zero (open_to y) e h o c =
       bound-to x y m (Tok x) (form.Tok m) e h o (λ later means own w. (
         own,
-        (λ X n. (w.0, subst (SlotIs X x) w.1 (means X n), w.2)),
+        (λ y l X n. (w.0, subst (SlotIs X x) w.1 (means y l X n), w.2)),
         (λ b tk. counted-too b m own (subst (IsElement counting) (sym w.2) (tokens-is w.0)) tk),
         cut-all v own,
       )) c.1
   tokens-cut x m zero (settled t) e h o c =
-      let i = settled-slot ks sc v s env x Int t pl h e in
+      let i = settled-slot ks sc s env x Int t pl h e in
       let u = term_in env t in
       let k1 = after-computed u (term_in_steps env t)
       (λ w. prove_that s.rows m Equal w Int >>= λ _. unit (cut env s [])) P c in
       let k2 = after-proved s.rows m Equal u Int (λ _. unit (cut env s [])) P k1 in
       let eq : value v.whole m ≡ value v.whole u =
       proved-relates ks v s m Equal u Int me k2.0 o i.over in
-      kept (Tok x) (form.Tok m) [] (λ b tk. tt) (λ own w. (
+      kept (Tok x) (form.Tok m) [] tt (λ b tk. tt) (λ own w. (
         own,
-        (λ X n. (
-          w.0,
-          slot-is X x t (value v.whole u) (pos w.0) i.is (i.number_is X n)
-              (sym eq ∙ w.1),
-          w.2,
-        )),
+        (λ y l X n. (w.0, wanted-slot x t i (pos w.0) (sym eq ∙ w.1) y l X n, w.2)),
         (λ b tk. counted-too b m own (subst (IsElement counting) (sym w.2) (tokens-is w.0)) tk),
         cut-all v own,
       )) k2.1.1
   tokens-cut x m (suc zero) (settled t) e h o c =
-      let i = settled-slot ks sc v s env x Int t pl h e in
+      let i = settled-slot ks sc s env x Int t pl h e in
       let u = term_in env t in
       let last : Linear → Attempt Cut = λ rest. unit (cut env s (form.Tok rest ∷ [])) in
       let third : Linear → Attempt Cut = λ w. prove_that s.rows w AtMost m Int >>= λ _.
@@ -385,10 +404,11 @@ module _ (ks : List ℕ) (sc : Scope) (v : Valuation) (s : PlainState) (me : Mee
       let le : value v.whole u ≤ℤ value v.whole m =
       proved-relates ks v s u AtMost m Int me k3.0 i.over o in
       kept (Tok x) (form.Tok m) (form.Tok (minus m u) ∷ [])
+      (over-minus (Usable ks s.sorts Int) m u o i.over, tt)
       (λ b tk. (tokens-tokens b m (minus m u) tk, tt)) (λ own w.
       let k = cutting.cut-tokens v m u w.0 w.1 up le in (
         tokens k.0,
-        (λ X n. (k.0, slot-is X x t (value v.whole u) (pos k.0) i.is (i.number_is X n) k.1, refl)),
+        (λ y l X n. (k.0, wanted-slot x t i (pos k.0) k.1 y l X n, refl)),
         (λ b tk. counted-too b m (tokens k.0) (tokens-is k.0) tk),
         subst (λ z. Cuts v z (tokens k.0) (form.Tok (minus m u) ∷ [])) (sym w.2) k.2,
       )) k4.1
@@ -404,7 +424,7 @@ module _ (ks : List ℕ) (sc : Scope) (v : Valuation) (s : PlainState) (me : Mee
       Over (Usable ks s.sorts Int) m → Comes (cut_new_tokens s env m way r) P →
       CutOk ks sc v s env (Tok x) (form.Src m) P
   new-tokens-cut x m (suc zero) (settled t) e h o c =
-      let i = settled-slot ks sc v s env x Int t pl h e in
+      let i = settled-slot ks sc s env x Int t pl h e in
       let u = term_in env t in
       let last : Linear → Attempt Cut = λ rest. unit (cut env s (form.Src rest ∷ [])) in
       let second : Linear → Attempt Cut = λ w. prove_that s.rows zero_value AtMost w Int >>= λ _.
@@ -414,10 +434,11 @@ module _ (ks : List ℕ) (sc : Scope) (v : Valuation) (s : PlainState) (me : Mee
       let k3 = after-computed (plus m u) (plus_steps m u) last P k2.1 in
       let up = low u (proved-relates ks v s zero_value AtMost u Int me k2.0 zero-over i.over) in
       kept (Tok x) (form.Src m) (form.Src (plus m u) ∷ [])
+      (over-plus (Usable ks s.sorts Int) m u o i.over, tt)
       (λ b tk. (source-source b m (plus m u) tk, tt)) (λ own w.
       let k = cutting.cut-new-tokens v m u w.0 w.1 up in (
         tokens k.0,
-        (λ X n. (k.0, slot-is X x t (value v.whole u) (pos k.0) i.is (i.number_is X n) k.1, refl)),
+        (λ y l X n. (k.0, wanted-slot x t i (pos k.0) k.1 y l X n, refl)),
         (λ b tk. counted b m (tokens k.0) (tokens-is k.0) tk),
         subst (λ z. Cuts v z (tokens k.0) (form.Src (plus m u) ∷ [])) (sym w.2) k.2,
       )) k3.1
@@ -435,10 +456,10 @@ module _ (ks : List ℕ) (sc : Scope) (v : Valuation) (s : PlainState) (me : Mee
       is_open asked env ≡ false → Comes (cut_form s env asked f way) P →
       CutOk ks sc v s env asked f P
   form-cut One form.One zero h o op c =
-      kept One form.One [] (λ b tk. tt)
+      kept One form.One [] tt (λ b tk. tt)
       (λ own w. (
         own,
-        (λ X m. w),
+        (λ y l X m. w),
         (λ b tk. subst (IsElement b) (sym w) (alone b tk)),
         cut-all v own,
       )) c.1

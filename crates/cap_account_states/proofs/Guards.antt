@@ -6,6 +6,7 @@ use Rattle.std.specs.List.{AllByRecursion}
 use Rattle.std.proofs.lemmas.Bool.Decides.{nat_tests}
 use Rattle.cap_lin.specs.Linear.{Linear, minus}
 use Rattle.cap_lin.specs.Values.{Valuation, value}
+use Rattle.cap_lin.specs.declared.row.Sort.{Sort}
 use Rattle.cap_lin.specs.declared.row.Sort.TheVariants.{Int, Perm}
 use Rattle.cap_lin.specs.declared.row.Op.TheVariants.{Eq as Equal}
 use Rattle.cap_galg.specs.Elements.{Element, share, nothing}
@@ -17,19 +18,17 @@ use Rattle.cap_prog.specs.declared.assertion.Asked.{Asked}
 use Rattle.cap_prog.specs.Program.{PlainProgram}
 use Rattle.cap_prog.specs.Scopes.{Scope, HasSort, SlotFits}
 use Rattle.cap_machine_accounts.specs.Parts.{algebra_of}
-use Rattle.cap_machine_accounts.specs.Assertions.{IsAsked}
 use Rattle.cap_goal_spec.specs.States.{PlainEnv, PlainState, PlainGoal}
 use Rattle.cap_goal_spec.specs.Environments.{Reading, settled, stuck, term_of, reading, open_to, bind_open, zero_value, term_in}
 use Rattle.cap_rules.specs.Attempts.{Attempt, ◌>>=◌, need, found}
 use Rattle.cap_rules.specs.Making.{prove_equal, env_at, fresh, determined_slot}
 use Rattle.cap_rules.specs.Taking.{Cut, cut, cut_form, after_cut, with_form, cut_share}
 use Rattle.cap_rules.specs.Rules.{Remaining, goes, at_piece, at_no_tokens}
-use Rattle.std.proofs.lemmas.Int.{ints}
 use Rattle.cap_prog.specs.declared.assertion.Slot.{Slot}
 use Rattle.cap_prog.specs.declared.assertion.Asked.TheVariants.{One, Share, Src, Tok}
-use Rattle.cap_account_states.proofs.Terms.{Over, Agree, vars-more, value-agree}
-use Rattle.cap_account_states.proofs.Values.{scaled}
-use Rattle.cap_account_states.proofs.Compatible.{pieces-more, covered-alike, all-alike-agree, all-alike-scaled, alike-scaled, alike-agree}
+use Rattle.cap_account_states.proofs.Terms.{Over, vars-more}
+use Rattle.cap_account_states.proofs.Alike.{Alike, alike-same, alike-on, value-alike}
+use Rattle.cap_account_states.proofs.Compatible.{pieces-more, form-alike, covered-alike}
 use Rattle.cap_account_states.proofs.Cutting.{Cuts, one-fraction}
 use Rattle.cap_account_states.proofs.Halving.{halved, half_state, half-cut}
 use Rattle.cap_gsolve.specs.declared.piece.Form.TheVariants as form
@@ -38,7 +37,7 @@ use Rattle.cap_gsolve.proofs.Amounts.{zero-value}
 use Rattle.cap_account_states.specs.Nodes.{Comes}
 use Rattle.cap_account_resources.proofs.Lists.{all-at, all-both}
 use Rattle.cap_account_states.proofs.Attempts.{comes-bind, after-found, after-need, after-proved, after-determined}
-use Rattle.cap_account_states.proofs.Meets.{Usable, Meets, Free, Old, Same, same-state, usable-old}
+use Rattle.cap_account_states.proofs.Meets.{Usable, usable-on, Meets, Free, Old, Same, same-state, usable-old}
 use Rattle.cap_account_states.proofs.Naming.{Placed, Means, Stays, bound-of, term-over, term-number}
 use Rattle.cap_account_states.proofs.Matching.{Outside}
 use Rattle.cap_account_states.proofs.Asking.{AskedOver}
@@ -46,19 +45,22 @@ use Rattle.cap_account_resources.proofs.Marks.{Mark, free}
 use Rattle.cap_account_resources.proofs.Covering.{mark, Covered}
 use Rattle.cap_account_states.proofs.Pieces.{AllFit, left_pieces, CutAt, cut-away, cut-here, all-take, all-drop}
 use Rattle.cap_account_states.proofs.Adding.{PieceOver}
-use Rattle.cap_account_states.proofs.Guarding.{is_open, is_open_reading, form-cut, proved-relates, FormOver, share-takes}
+use Rattle.cap_account_states.proofs.Guarding.{WantedNear, is_open, is_open_reading, form-cut, proved-relates, FormOver, share-takes}
 
--- the guard is taken at values over a multiple of the denominator, in a state that goes on
+-- the guard is taken at alike values, over a multiple of the denominator, in a state that goes on with
+-- the same cells, pieces and environments; it is of the region that is asked, and wanted, at all
+-- values that are alike to these
 pub record GuardTaken (p : PlainProgram) (ks : List ℕ) (sc : Scope) (v : Valuation) (s : PlainState)
     (j n k i : ℕ) (asked : Asked) (r : Remaining) (held : ℤ → Option Mark)
     (P : List PlainGoal → Type 0) : Type 0 where
   pub w : Valuation
-  pub times : ℕ
-  pub agree : Agree (Old s) (scaled times v) w
+  pub alike : Alike (Old s) v w
   pub after : PlainState
   pub meets : Meets ks w after
   pub same : Same s after
+  pub cells : after.cells ≡ s.cells
   pub guards : after.guards ≡ s.guards
+  pub envs : after.envs ≡ s.envs
   pub piece : Piece
   pub at : slice_get s.guards j ≡ Some piece
   pub of_kind : piece.kind ≡ k
@@ -69,10 +71,14 @@ pub record GuardTaken (p : PlainProgram) (ks : List ℕ) (sc : Scope) (v : Valua
   pub stays : Stays sc (env_at s r.env) later
   pub outside : Outside sc (env_at s r.env) later
   pub size : length later ≡ length (env_at s r.env)
-  pub region : (X : Valuation) → Means sc w later X → X.whole n ≡ region_of w piece
+  pub region :
+      (x : Valuation) → Alike (Old after) w x → (X : Valuation) → Means sc x later X →
+      X.whole n ≡ region_of w piece
   pub taken : Element
-  pub is_asked : (X : Valuation) → Means sc w later X → IsAsked X asked taken
+  pub wanted : WantedNear sc (Old after) w later asked taken
   pub is_element : IsElement (atom_algebra (algebra_of p piece.kind) piece.atom) taken
+  pub pieces_over :
+      AllByRecursion (PieceOver (Usable ks after.sorts)) (left_pieces s.guards j piece left)
   pub fit : AllFit p (left_pieces s.guards j piece left)
   pub here :
       CutAt p w (left_pieces s.guards j piece left) (region_of w piece)
@@ -91,20 +97,47 @@ forms-fit :
 forms-fit p q [] f h = tt
 forms-fit p q (x ∷ fs) f h = ((f.0, h.0), forms-fit p q fs f h.1)
 
-pub left-fits :
-    (p : PlainProgram) (ps : List Piece) (j : ℕ) (q : Piece) (fs : List Form) → AllFit p ps →
-    AllFit p (map (with_form q) fs) → AllFit p (left_pieces ps j q fs)
-left-fits p ps j q fs h f =
-    let P = λ (r : Piece). Fits (algebra_of p r.kind) r in
+left-all :
+    (P : Piece → Type 0) (ps : List Piece) (j : ℕ) (q : Piece) (fs : List Form) →
+    AllByRecursion P ps → AllByRecursion P (map (with_form q) fs) →
+    AllByRecursion P (left_pieces ps j q fs)
+left-all P ps j q fs h f =
     all-both P (take j ps) (map (with_form q) fs ++ drop (j + 1) ps) (all-take P ps j h)
     (all-both P (map (with_form q) fs) (drop (j + 1) ps) f (all-drop P ps (j + 1) h))
 
-scaled-zero : (P : ℕ → Type 0) (v : Valuation) → Agree P (scaled 0 v) v
-scaled-zero P v = record {
-  under = omega arith;
-  whole = λ x h. refl;
-  share = λ x h. omega (arith, ints);
-}
+pub left-fits :
+    (p : PlainProgram) (ps : List Piece) (j : ℕ) (q : Piece) (fs : List Form) → AllFit p ps →
+    AllFit p (map (with_form q) fs) → AllFit p (left_pieces ps j q fs)
+left-fits p ps j q fs h f = left-all (λ (r : Piece). Fits (algebra_of p r.kind) r) ps j q fs h f
+
+-- pieces with other forms over such variables
+forms-over :
+    (R : Sort → ℕ → Type 0) (q : Piece) (fs : List Form) → Over (R Int) q.region →
+    AllByRecursion (FormOver R) fs → AllByRecursion (PieceOver R) (map (with_form q) fs)
+forms-over R q [] o h = tt
+forms-over R q (x ∷ fs) o h = ((o, h.0), forms-over R q fs o h.1)
+
+pub left-over :
+    (R : Sort → ℕ → Type 0) (ps : List Piece) (j : ℕ) (q : Piece) (fs : List Form) →
+    AllByRecursion (PieceOver R) ps → Over (R Int) q.region → AllByRecursion (FormOver R) fs →
+    AllByRecursion (PieceOver R) (left_pieces ps j q fs)
+left-over R ps j q fs h o f = left-all (PieceOver R) ps j q fs h (forms-over R q fs o f)
+
+-- the region's number at alike values
+region-near :
+    (ks : List ℕ) (v w : Valuation) (s : PlainState) (t u : Linear) → Alike (Old s) v w →
+    Over (Usable ks s.sorts Int) t → Over (Usable ks s.sorts Int) u →
+    value v.whole u ≡ value v.whole t → (x : Valuation) → Alike (Old s) v x → (n : ℤ) →
+    value x.whole t ≡ n → n ≡ value w.whole u
+region-near ks v w s t u l to uo e x m n h =
+    sym h ∙ kept x m t to ∙ sym e ∙ sym (kept w l u uo)
+  where
+    kept :
+        (w : Valuation) → Alike (Old s) v w → (t : Linear) → Over (Usable ks s.sorts Int) t →
+        value w.whole t ≡ value v.whole t
+    kept w g t o =
+        value-alike (Old s) v w g t
+        (vars-more (Usable ks s.sorts Int) (Old s) (usable-old ks s.sorts Int) t.parts o)
 
 kinds : (a b x y : ℕ) → ((a == b) && (x == y)) ≡ true → (a ≡ b) × (x ≡ y)
 kinds a b x y h = (grind (arith, nat_tests), grind (arith, nat_tests))
@@ -145,12 +178,13 @@ closed-taken p ks sc v s j way n k i asked r held P me ov fit cover pl hn ao op 
     let el = u.2 (atom_algebra (algebra_of p q.kind) q.atom) f.1 in
     record {
       w = v;
-      times = 0;
-      agree = scaled-zero (Old s) v;
+      alike = alike-same (Old s) v;
       after = s;
       meets = me;
       same = same-state s;
+      cells = refl;
       guards = refl;
+      envs = refl;
       piece = q;
       at = k1.1;
       of_kind = (kinds (q.kind) k (q.atom) i k2.0).0;
@@ -161,10 +195,13 @@ closed-taken p ks sc v s j way n k i asked r held P me ov fit cover pl hn ao op 
       stays = g.stays;
       outside = g.outside;
       size = g.size;
-      region = λ X m. sym (eq ∙ m.whole n hn t (g.stays n Int hn t k3.1));
+      region = λ x l X m. region-near ks v v s t q.region (alike-same (Old s) v)
+          (pl.over n Int hn t k3.1) o.0 eq x l (X.whole n)
+          (m.whole n hn t (g.stays n Int hn t k3.1));
       taken = u.0;
-      is_asked = u.1;
+      wanted = u.1;
       is_element = el;
+      pieces_over = left-over (Usable ks s.sorts) s.guards j q g.left ov o.0 g.left_over;
       fit = left-fits p s.guards j q g.left fit lf;
       here = h.cut u.0 g.left el lf u.3;
       away = λ z ne. cut-away p v s.guards j q g.left z (held z) k1.1 ne (cover z);
@@ -228,19 +265,16 @@ open-taken p ks sc v s j way n k i x y r held P me apart ov fit cover pl hn ao o
     let ho = half-cut ks sc v s env x y a hv.own (λ x. Comes (fifth q x) P) me apart pl ao
     (subst (FormOver (Usable ks s.sorts)) g.1 o.1) op iv g.2 in
     let old = pieces-more (Usable ks s.sorts) (λ o. Old s) (usable-old ks s.sorts) s.guards ov in
-    let cw : (z : ℤ) → Covered p w s.guards z (held z) = λ z. covered-alike p
-    (scaled 1 v) w s.guards z (held z)
-    (all-alike-agree (Old s) (scaled 1 v) w ho.agree s.guards old)
-    (covered-alike p v (scaled 1 v) s.guards z (held z) (all-alike-scaled 1 v s.guards)
-    (cover z)) in
+    let cw : (z : ℤ) → Covered p w s.guards z (held z) = λ z. covered-alike p (Old s) v w ho.alike
+    s.guards z (held z) old (cover z) in
     let hw = cut-here p w s.guards j q (region_of w q) (held (region_of w q)) fit k1.1 refl
     (cw (region_of w q)) in
     let iw : IsFormElement w (form.Share a) hw.own = subst
     (λ l. IsFormElement w l hw.own) g.1 hw.is_own in
     let old-a = vars-more (Usable ks s.sorts Perm) (Old s) (usable-old ks s.sorts Perm) a.parts
     (subst (FormOver (Usable ks s.sorts)) g.1 o.1) in
-    let jw : IsFormElement w (form.Share a) hv.own = alike-agree (Old s) (scaled 1 v) w ho.agree
-    (form.Share a) old-a hv.own (alike-scaled 1 v (form.Share a) hv.own iv) in
+    let jw : IsFormElement w (form.Share a) hv.own = form-alike (Old s) v w ho.alike (form.Share a)
+    old-a hv.own iv in
     let one : hv.own ≡ hw.own = jw.3 ∙ ap share
     (one-fraction w a a jw.0 iw.0 jw.1 iw.1 jw.2 iw.2 refl) ∙ sym iw.3 in
     let left = form.Share (minus a (fresh s)) ∷ [] in
@@ -250,17 +284,17 @@ open-taken p ks sc v s j way n k i x y r held P me apart ov fit cover pl hn ao o
     (share-takes (atom_algebra (algebra_of p q.kind) q.atom) a (minus a (fresh s)) takes, tt) in
     let el = ho.is_element (atom_algebra (algebra_of p q.kind) q.atom) takes in
     let b = ho.bound in
-    let move = λ (u : Linear) (h : Over (Usable ks s.sorts Int) u). value-agree (Old s)
-    (scaled 1 v) w ho.agree u
-    (vars-more (Usable ks s.sorts Int) (Old s) (usable-old ks s.sorts Int) u.parts h) in
+    let S = Usable ks (half_state s a).sorts in
+    let more = usable-on ks s.sorts (half_state s a).sorts ho.same.sorts in
     record {
       w = w;
-      times = 1;
-      agree = ho.agree;
+      alike = ho.alike;
       after = half_state s a;
       meets = ho.meets;
       same = ho.same;
+      cells = refl;
       guards = refl;
+      envs = refl;
       piece = q;
       at = k1.1;
       of_kind = (kinds (q.kind) k (q.atom) i k2.0).0;
@@ -272,11 +306,15 @@ open-taken p ks sc v s j way n k i x y r held P me apart ov fit cover pl hn ao o
       outside = b.outside;
       size = b.size;
       region =
-          λ X m. sym
-          (move q.region o.0 ∙ eq ∙ sym (move t tv) ∙ m.whole n hn t (b.stays n Int hn t k3.1));
+          λ x l X m. region-near ks v w s t q.region ho.alike tv o.0 eq x
+          (alike-on s (half_state s a) v w x ho.same ho.alike l) (X.whole n)
+          (m.whole n hn t (b.stays n Int hn t k3.1));
       taken = ho.taken;
-      is_asked = ho.is_asked;
+      wanted = ho.wanted;
       is_element = el;
+      pieces_over = left-over S s.guards j q left (pieces-more (Usable ks s.sorts) S more s.guards ov)
+          (vars-more (Usable ks s.sorts Int) (S Int) (more Int) q.region.parts o.0)
+          (ho.left_over, tt);
       fit = left-fits p s.guards j q left fit lf;
       here = hw.cut ho.taken left el lf (subst (λ z. Cuts w z ho.taken left) one ho.cuts);
       away = λ z ne. cut-away p w s.guards j q left z (held z) k1.1 ne (cw z);
@@ -312,13 +350,12 @@ guard-taken p ks sc v s j way n k i (Share x) r held P me apart ov fit cover pl 
         closed-taken p ks sc v s j way n k i (Share x) r held P me ov fit cover pl hn ao
         (ap is_open_reading e) c
 
--- no tokens are asked for
+-- no tokens are asked for, at all alike values
 pub no-tokens-taken :
     (ks : List ℕ) (sc : Scope) (v : Valuation) (s : PlainState) (j : ℕ) (x : Slot) (r : Remaining)
     (P : List PlainGoal → Type 0) → Meets ks v s → Placed ks sc s.sorts (env_at s r.env) →
     SlotFits sc Int x → Comes (at_no_tokens s j x r) P →
-    ((X : Valuation) → Means sc v (env_at s r.env) X → IsAsked X (Tok x) nothing) × Comes
-    (goes s r) P
+    WantedNear sc (Old s) v (env_at s r.env) (Tok x) nothing × Comes (goes s r) P
 no-tokens-taken ks sc v s j Any r P me pl h c =
     absurd (after-need (j == 0)
     (λ _. determined_slot
@@ -334,4 +371,14 @@ no-tokens-taken ks sc v s j (Is u) r P me pl h c =
     let eq : value v.whole (term_in env u) ≡ value v.whole zero_value =
     proved-relates ks v s (term_in env u) Equal zero_value Int me k3.0
     (term-over ks sc s.sorts env Int u pl h b) tt in
-    (λ X m. (0, sym (term-number sc v env X Int u m h b) ∙ eq ∙ zero-value v.whole, refl), k3.1)
+    let over = term-over ks sc s.sorts env Int u pl h b in
+    let old = vars-more (Usable ks s.sorts Int) (Old s) (usable-old ks s.sorts Int)
+    (term_in env u).parts over in (
+      λ w l X m. (
+        0,
+        sym (term-number sc w env X Int u m h b)
+            ∙ value-alike (Old s) v w l (term_in env u) old ∙ eq ∙ zero-value v.whole,
+        refl,
+      ),
+      k3.1,
+    )

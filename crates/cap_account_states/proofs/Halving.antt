@@ -1,5 +1,5 @@
 -- An open amount is taken out of a share as half of it.
-use Rattle.std.proofs.Common.{◌≡◌, ℕ, ◌<◌, pos, ◌*ℤ◌, ◌<ℤ◌, Bool, true, false, List, [], ◌∷◌, length, Option, Some, None, refl, sym, ap, ◌∙◌, subst, arith, ◌+ℤ◌}
+use Rattle.std.proofs.Common.{◌≡◌, ℕ, ◌<◌, pos, ◌<ℤ◌, Bool, true, false, List, [], ◌∷◌, length, Option, Some, None, refl, sym, ap, ◌∙◌, subst, arith, ◌+ℤ◌}
 use Rattle.std.specs.Prelude.{is_some, ◌&&◌, if◌then◌else◌}
 use Rattle.std.specs.List.{list_all}
 use Rattle.std.proofs.lemmas.Int.{ints}
@@ -11,17 +11,15 @@ use Rattle.cap_lin.specs.declared.row.Sort.{Sort}
 use Rattle.cap_lin.specs.declared.row.Sort.TheVariants.{Perm}
 use Rattle.cap_lin.specs.declared.row.Op.TheVariants.{Lt as Less, Gt as Greater}
 use Rattle.cap_lin.proofs.Rows.{row_of-means}
-use Rattle.cap_galg.specs.declared.fraction.Fraction.{Fraction}
 use Rattle.cap_galg.specs.Elements.{Element, share}
 use Rattle.cap_galg.specs.Algebras.{PlainAlgebra, IsElement}
 use Rattle.cap_gsolve.specs.declared.piece.Form.TheVariants as form
-use Rattle.cap_gsolve.specs.Meaning.{IsValueOf, IsFormElement, Takes}
+use Rattle.cap_gsolve.specs.Meaning.{IsFormElement, Takes}
 use Rattle.cap_gsolve.proofs.Amounts.{zero-amount, amount-positive}
 use Rattle.cap_prog.specs.declared.assertion.Slot.{Slot}
 use Rattle.cap_prog.specs.declared.assertion.Slot.TheVariants.{Any, Is}
 use Rattle.cap_prog.specs.declared.assertion.Asked.TheVariants.{Share}
 use Rattle.cap_prog.specs.Scopes.{Scope, HasSort, SlotFits}
-use Rattle.cap_machine_accounts.specs.Assertions.{ShareIs, IsAsked}
 use Rattle.cap_goal_spec.specs.Terms.{lone_variable}
 use Rattle.cap_goal_spec.specs.States.{PlainEnv, PlainState}
 use Rattle.cap_goal_spec.specs.Environments.{zero_value, term_of, is_determined, settled, open_to, stuck, read_name, reading, bind_open}
@@ -30,14 +28,15 @@ use Rattle.cap_rules.specs.Making.{fresh, with_comparison, difference}
 use Rattle.cap_rules.specs.Taking.{Cut, cut, cut_share}
 use Rattle.cap_account_states.specs.Nodes.{Comes}
 use Rattle.cap_account_resources.proofs.Lists.{some-same, set-length, get-last}
-use Rattle.cap_account_states.proofs.Terms.{Vars, Over, vars-more, row-over, Agree, amount-agree}
+use Rattle.cap_account_states.proofs.Terms.{Vars, Over, vars-more, over-minus, row-over, Agree, amount-agree}
 use Rattle.cap_account_states.proofs.Attempts.{sort_added, row_added, after-sort, after-comparison, after-computed}
 use Rattle.cap_account_states.proofs.Meets.{Free, Usable, usable-on, usable-old, Meets, Old, Same, same-trans, meets-fresh, meets-row, same-fresh, same-row, with-agrees, variable-amount, with_value, new-share}
 use Rattle.cap_account_states.proofs.Naming.{Placed, Means, Stays, term-same, term-other, placed-set, placed-more, stays-set}
 use Rattle.cap_account_states.proofs.Matching.{Outside, lone-is}
 use Rattle.cap_account_states.proofs.Values.{scaled, meets-scaled, scaled-amount}
-use Rattle.cap_account_states.proofs.Compatible.{alike-scaled}
-use Rattle.cap_account_states.proofs.Guarding.{share-is, shared}
+use Rattle.cap_account_states.proofs.Alike.{Alike, scaled-agree-alike}
+use Rattle.cap_account_states.proofs.Wants.{AmountIs, value-of-alike, share-wants}
+use Rattle.cap_account_states.proofs.Guarding.{WantedNear, shared}
 use Rattle.cap_account_states.proofs.Cutting.{Cuts, cut-share}
 
 -- ---- an open slot for an amount
@@ -50,8 +49,7 @@ pub record Binding (ks : List ℕ) (sc : Scope) (sorts : List Sort) (env : Plain
   pub outside : Outside sc env (bind_open env y t)
   pub size : length (bind_open env y t) ≡ length env
   pub means :
-      (w X : Valuation) → Means sc w (bind_open env y t) X → (f : Fraction) → IsValueOf w t f →
-      ShareIs X x f
+      (w X : Valuation) → Means sc w (bind_open env y t) X → AmountIs X x (amount w.fraction t)
 
 open-same : (x y : Option ℕ) → open_to x ≡ open_to y → x ≡ y
 open-same x y e = cc
@@ -72,7 +70,7 @@ binding ks sc sorts env Any y t pl h o e =
       stays = λ z p i u q. q;
       outside = λ z n. refl;
       size = refl;
-      means = λ w X m f v. tt;
+      means = λ w X m. tt;
     })
 binding ks sc sorts env (Is u) y t pl h o e = by (is_determined env u) refl e
   where
@@ -102,9 +100,8 @@ binding ks sc sorts env (Is u) y t pl h o e = by (is_determined env u) refl e
           outside = λ n k. term-other env z n t (λ r. k Perm (subst (HasSort sc Perm) (sym r) i));
           size = set-length env z (Some t);
           means =
-              λ w X m f v. share-is X w (Is u) u t f refl m.under
-              (m.share z i t (term-same env z t (pl.room z Perm i)) ∙ sym
-              (ap (amount X.fraction) is ∙ variable-amount X z)) v;
+              λ w X m. ap (amount X.fraction) is ∙ variable-amount X z
+              ∙ sym (m.share z i t (term-same env z t (pl.room z Perm i)));
         })
 
     by :
@@ -149,18 +146,20 @@ half_state s a =
     row_added (row_added (sort_added s Perm) (row_of (fresh s) Greater zero_value Perm))
     (row_of (fresh s) Less a Perm)
 
--- half is taken, over twice the denominator
+-- half is taken, over twice the denominator; it is asked for at all values that are alike to these on
+-- the new variable too
 pub record HalfOk (ks : List ℕ) (sc : Scope) (v : Valuation) (s : PlainState) (env : PlainEnv)
     (x : Slot) (y : Option ℕ) (a : Linear) (own : Element) (P : Cut → Type 0) : Type 0 where
-  pub agree : Agree (Old s) (scaled 1 v) (halved v (length s.sorts) a)
+  pub alike : Alike (Old s) v (halved v (length s.sorts) a)
   pub meets : Meets ks (halved v (length s.sorts) a) (half_state s a)
   pub same : Same s (half_state s a)
   pub bound : Binding ks sc (half_state s a).sorts env x y (fresh s)
   pub taken : Element
-  pub is_asked :
-      (X : Valuation) → Means sc (halved v (length s.sorts) a) (bind_open env y (fresh s)) X →
-      IsAsked X (Share x) taken
+  pub wanted :
+      WantedNear sc (Old (half_state s a)) (halved v (length s.sorts) a) (bind_open env y (fresh s))
+      (Share x) taken
   pub is_element : (b : PlainAlgebra) → Takes b (form.Share a) → IsElement b taken
+  pub left_over : Over (Usable ks (half_state s a).sorts Perm) (minus a (fresh s))
   pub cuts : Cuts (halved v (length s.sorts) a) own taken (form.Share (minus a (fresh s)) ∷ [])
   pub comes :
       P (cut (bind_open env y (fresh s)) (half_state s a) (form.Share (minus a (fresh s)) ∷ []))
@@ -172,7 +171,7 @@ pub half-cut :
     (Usable ks s.sorts Perm) a → reading env x ≡ open_to y →
     IsFormElement v (form.Share a) own → Comes
     (cut_share s env a 1 (open_to y)) P → HalfOk ks sc v s env x y a own P
-half-cut ks sc v s env x y a own P me free pl h o e i c =
+half-cut ks sc v s env slot y a own P me free pl h o e i c =
     let n = length s.sorts in
     let w = halved v n a in
     let s1 = sort_added s Perm in
@@ -207,23 +206,25 @@ half-cut ks sc v s env x y a own P me free pl h o e i c =
     let k3 = after-comparison s2 (fresh s) Less a Perm third P k2 in
     let k4 = after-computed (minus a (fresh s)) (minus_steps a (fresh s))
     (last (half_state s a)) P k3 in
-    let b = binding ks sc s1.sorts env x y (fresh s)
+    let b = binding ks sc s1.sorts env slot y (fresh s)
     (placed-more ks sc s.sorts s1.sorts env (same-fresh s Perm).sorts pl) h new e in
-    let j = alike-scaled 1 v (form.Share a) own i in
-    let eq : amount (scaled 1 v).fraction a ≡ amount w.fraction a = sym
-    (amount-agree (Old s) (scaled 1 v) w ag a old) in
-    let val : IsValueOf w a j.0 = j.2 ∙ ap (λ z. z *ℤ pos j.0.den) eq in
-    let k = cut-share w a (fresh s) j.0 j.1 val hf.above hf.below in
+    let al = scaled-agree-alike (Old s) 1 v w ag in
+    let val = value-of-alike (Old s) v w al a old i.0 i.2 in
+    let k = cut-share w a (fresh s) i.0 i.1 val hf.above hf.below in
+    let last-old : Over (Old s1) (fresh s) = vars-more (Usable ks s1.sorts Perm) (Old s1)
+    (usable-old ks s1.sorts Perm) (fresh s).parts new in
     record {
-      agree = ag;
+      alike = al;
       meets = m3;
       same =
           same-trans s s1 (half_state s a) (same-fresh s Perm)
           (same-trans s1 s2 (half_state s a) (same-row s1 r1) (same-row s2 r2));
       bound = b;
       taken = share k.0;
-      is_asked = λ X m. (k.0, k.1, b.means w X m k.0 k.2, refl);
+      wanted = λ x l X m. share-wants X x slot (fresh s) k.0 m.under (b.means x X m) k.1
+          (value-of-alike (Old s1) w x l (fresh s) last-old k.0 k.2);
+      left_over = over-minus (Usable ks s1.sorts Perm) a (fresh s) a1 new;
       is_element = λ l tk. shared l a (share k.0) k.1 tk;
-      cuts = subst (λ z. Cuts w z (share k.0) (form.Share (minus a (fresh s)) ∷ [])) (sym j.3) k.3;
+      cuts = subst (λ z. Cuts w z (share k.0) (form.Share (minus a (fresh s)) ∷ [])) (sym i.3) k.3;
       comes = k4.1;
     }

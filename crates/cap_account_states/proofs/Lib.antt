@@ -22,3 +22,6 @@ pub mod Facts
 pub mod Alike
 pub mod Wants
 pub mod Backed
+pub mod Sums
+pub mod Environments
+pub mod Cases

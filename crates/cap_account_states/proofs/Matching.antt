@@ -1,5 +1,5 @@
 -- A slot of an assertion matched with a term of a state.
-use Rattle.std.proofs.Common.{◌≡◌, ℕ, ℤ, pos, negsuc, zero, suc, List, [], ◌∷◌, length, refl, sym, ap, ◌∙◌, subst, Option, Some, None, Bool, true, false}
+use Rattle.std.proofs.Common.{◌≡◌, ℕ, ◌<◌, ℤ, pos, negsuc, zero, suc, List, [], ◌∷◌, length, refl, sym, ap, ◌∙◌, subst, Option, Some, None, Bool, true, false}
 use Rattle.std.specs.Prelude.{is_some, ◌&&◌, if◌then◌else◌}
 use Rattle.std.specs.List.{list_all}
 use Rattle.cap_lin.specs.Linear.{Linear, variable, is_zero, same_number}
@@ -20,17 +20,19 @@ use Rattle.cap_rules.specs.Attempts.{unit, ◌>>=◌, prove_that}
 use Rattle.cap_rules.specs.Making.{match_reading, match_slot}
 use Rattle.cap_account_states.specs.Nodes.{Comes}
 use Rattle.cap_account_resources.proofs.Lists.{some-same, none-some, set-length}
-use Rattle.cap_account_states.proofs.Terms.{Vars, Over, row-over}
+use Rattle.cap_account_states.proofs.Terms.{Vars, Over, vars-more, row-over}
 use Rattle.cap_account_resources.proofs.Order.{same-int}
 use Rattle.cap_account_states.proofs.Attempts.{after-computed, after-proved}
-use Rattle.cap_account_states.proofs.Meets.{Usable, Meets, variable-value, proved-holds}
+use Rattle.cap_account_states.proofs.Meets.{Usable, usable-old, Old, Meets, variable-value, proved-holds}
+use Rattle.cap_account_states.proofs.Alike.{Alike, value-alike}
 use Rattle.cap_account_states.proofs.Naming.{Placed, Means, Stays, term-same, term-other, placed-set, stays-set, term-over, term-number, bound-of}
 
 -- names that may not stand in the assertion stay as they are
 abbrev pub Outside : Scope → PlainEnv → PlainEnv → Type 0
 Outside sc env env' = (x : ℕ) → ((o : Sort) → HasSort sc o x → ⊥) → term_of env' x ≡ term_of env x
 
--- a slot is matched with a term, in this environment from then on
+-- a slot is matched with a term, in this environment from then on; it is the term's value whenever
+-- the variables' values are alike to these
 pub record Matching (ks : List ℕ) (sc : Scope) (sorts : List Sort) (v : Valuation) (env : PlainEnv)
     (x : Slot) (t : Linear) (P : PlainEnv → Type 0) : Type 0 where
   pub later : PlainEnv
@@ -38,7 +40,9 @@ pub record Matching (ks : List ℕ) (sc : Scope) (sorts : List Sort) (v : Valuat
   pub stays : Stays sc env later
   pub outside : Outside sc env later
   pub size : length later ≡ length env
-  pub means : (a : Valuation) → Means sc v later a → SlotIs a x (value v.whole t)
+  pub means :
+      (w : Valuation) → Alike (λ y. y < length sorts) v w → (a : Valuation) → Means sc w later a →
+      SlotIs a x (value v.whole t)
   pub comes : P later
 
 pub lone-is :
@@ -89,11 +93,18 @@ matching ks sc v s env Any t P me pl h o c = record {
   stays = λ x o i u e. e;
   outside = λ x n. refl;
   size = refl;
-  means = λ a n. tt;
+  means = λ w l a n. tt;
   comes = c.1;
 }
 matching ks sc v s env (Is u) t P me pl h o c = by_test (is_determined env u) refl c
   where
+    kept :
+        (w : Valuation) → Alike (Old s) v w → (t : Linear) → Over (Usable ks s.sorts Int) t →
+        value w.whole t ≡ value v.whole t
+    kept w g t o =
+        value-alike (Old s) v w g t
+        (vars-more (Usable ks s.sorts Int) (Old s) (usable-old ks s.sorts Int) t.parts o)
+
     by_lone :
         (y : Option ℕ) → lone_variable u ≡ y → is_determined env u ≡ false →
         Comes (match_reading s.rows env t (read_name y)) P → Matching ks sc s.sorts v env (Is u) t P
@@ -113,7 +124,8 @@ matching ks sc v s env (Is u) t P me pl h o c = by_test (is_determined env u) re
           outside = λ y n. term-other env x y t (λ r. n Int (subst (HasSort sc Int) (sym r) i));
           size = set-length env x (Some t);
           means =
-              λ a n. lone-value u x a l ∙ sym (n.whole x i t (term-same env x t (pl.room x Int i)));
+              λ w g a n. lone-value u x a l
+              ∙ sym (n.whole x i t (term-same env x t (pl.room x Int i))) ∙ kept w g t o;
           comes = c.1;
         }
       where
@@ -142,7 +154,8 @@ matching ks sc v s env (Is u) t P me pl h o c = by_test (is_determined env u) re
           stays = λ x o i u e. e;
           outside = λ x n. refl;
           size = refl;
-          means = λ a n. sym (term-number sc v env a Int u n h b) ∙ eq;
+          means = λ w g a n. sym (term-number sc w env a Int u n h b)
+              ∙ kept w g (term_in env u) over ∙ eq;
           comes = q.1.1;
         }
     by_test false d c = by_lone (lone_variable u) refl d c

@@ -1,7 +1,9 @@
 -- What is asked of an atom of guards at values: as assertions say, but shares are over the denominator
 -- of the values.
-use Rattle.std.specs.Prelude.{◌≡◌, ℕ, ℤ, pos, ◌*ℤ◌}
+use Rattle.std.proofs.Common.{◌≡◌, ℕ, ◌+◌, ℤ, pos, ◌*ℤ◌, refl, sym, ap, ◌∙◌, subst}
+use Rattle.cap_lin.specs.Linear.{Linear}
 use Rattle.cap_lin.specs.Values.{Valuation, denominator, amount}
+use Rattle.cap_lin.specs.declared.row.Sort.TheVariants.{Int, Perm}
 use Rattle.cap_galg.specs.declared.fraction.Fraction.{Fraction}
 use Rattle.cap_galg.specs.Fractions.{IsShare}
 use Rattle.cap_galg.specs.Elements.{Element, one, share, src, tokens}
@@ -9,7 +11,13 @@ use Rattle.cap_prog.specs.declared.assertion.Slot.{Slot}
 use Rattle.cap_prog.specs.declared.assertion.Slot.TheVariants.{Any, Is}
 use Rattle.cap_prog.specs.declared.assertion.Asked.{Asked}
 use Rattle.cap_prog.specs.declared.assertion.Asked.TheVariants.{One, Share, Src, Tok}
-use Rattle.cap_machine_accounts.specs.Assertions.{SlotIs}
+use Rattle.cap_gsolve.specs.Meaning.{IsValueOf}
+use Rattle.cap_prog.specs.Scopes.{Scope, SlotFits}
+use Rattle.cap_machine_accounts.specs.Assertions.{SlotIs, IsAsked}
+use Rattle.cap_account_states.proofs.Terms.{Over}
+use Rattle.cap_account_states.proofs.Alike.{Alike, above-zero, grouped, swapped, undo, value-alike, amount-alike, InScope, fits-over}
+use Rattle.cap_account_states.proofs.Values.{scaled, scaled-denominator}
+use Rattle.cap_account_states.proofs.Asking.{AskedOver}
 
 abbrev pub AmountIs : Valuation → Slot → ℤ → Type 0
 AmountIs v Any z = Unit {0}
@@ -25,3 +33,87 @@ Wants v (Share s) x =
     × (x ≡ share f)
 Wants v (Src s) x = (n : ℕ) × SlotIs v s (pos n) × (x ≡ src n)
 Wants v (Tok s) x = (k : ℕ) × SlotIs v s (pos k) × (x ≡ tokens k)
+
+-- it is what assertions ask for
+pub wants-asked : (v : Valuation) (asked : Asked) (x : Element) → Wants v asked x → IsAsked v asked x
+wants-asked v One x h = h
+wants-asked v (Share Any) x h = (h.0, h.2, tt, h.5)
+wants-asked v (Share (Is t)) x h = (h.0, h.2, ap (λ z. z *ℤ pos h.0.den) h.3 ∙ h.4, h.5)
+wants-asked v (Src s) x h = h
+wants-asked v (Tok s) x h = h
+
+-- ---- at alike values
+
+-- a fraction that is a term's value at values is so at alike ones
+pub value-of-alike :
+    (P : ℕ → Type 0) (v w : Valuation) → Alike P v w → (t : Linear) → Over P t → (f : Fraction) →
+    IsValueOf v t f → IsValueOf w t f
+value-of-alike P v w a t o f h =
+    let n = pos f.num in
+    let d = denominator v.fraction in
+    let e = denominator w.fraction in
+    undo (n *ℤ e) (amount w.fraction t *ℤ pos f.den) d (above-zero v)
+    (swapped n e d ∙ ap (λ z. z *ℤ e) h ∙ swapped (amount v.fraction t) (pos f.den) e
+    ∙ ap (λ z. z *ℤ pos f.den) (sym (amount-alike P v w a t o))
+    ∙ swapped (amount w.fraction t) d (pos f.den))
+
+-- what a term is worth is what a slot for it asks for
+pub share-wants :
+    (X v : Valuation) (x : Slot) (t : Linear) (f : Fraction) → X.fraction.under ≡ v.fraction.under →
+    AmountIs X x (amount v.fraction t) → IsShare f → IsValueOf v t f → Wants X (Share x) (share f)
+share-wants X v x t f u a s h =
+    (f, amount v.fraction t, s, a, sym h ∙ ap (λ n. pos f.num *ℤ pos (n + 1)) (sym u), refl)
+
+-- an amount that a term says is the same at all alike values. One that nothing says is a multiple of
+-- one over the denominator, and so over each of its multiples
+abbrev pub IsFiner : Valuation → Valuation → Type 0
+IsFiner v w = (m : ℤ) × (denominator w.fraction ≡ denominator v.fraction *ℤ m)
+
+pub scaled-finer : (m : ℕ) (v : Valuation) → IsFiner v (scaled m v)
+scaled-finer m v = (pos (m + 1), scaled-denominator m v)
+
+abbrev pub StaysWanted : Valuation → Valuation → Asked → Type 0
+StaysWanted v w (Share Any) = IsFiner v w
+StaysWanted v w asked = Unit {0}
+
+slot-alike :
+    (sc : Scope) (v w : Valuation) → Alike (InScope sc) v w → (s : Slot) (z : ℤ) →
+    SlotFits sc Int s → SlotIs v s z → SlotIs w s z
+slot-alike sc v w a Any z f h = tt
+slot-alike sc v w a (Is t) z f h =
+    value-alike (InScope sc) v w a t (fits-over sc Int t f) ∙ h
+
+pub wants-alike :
+    (sc : Scope) (v w : Valuation) → Alike (InScope sc) v w → (asked : Asked) (x : Element) →
+    AskedOver sc asked → StaysWanted v w asked → Wants v asked x → Wants w asked x
+wants-alike sc v w a One x f k h = h
+wants-alike sc v w a (Share Any) x f k h = (
+  h.0,
+  h.1 *ℤ k.0,
+  h.2,
+  tt,
+  swapped h.1 k.0 (pos h.0.den) ∙ ap (λ z. z *ℤ k.0) h.4
+      ∙ grouped (pos h.0.num) (denominator v.fraction) k.0
+      ∙ ap (λ z. pos h.0.num *ℤ z) (sym k.1),
+  h.5,
+)
+wants-alike sc v w a (Share (Is t)) x f k h =
+    let i : IsValueOf v t h.0 = sym (ap (λ z. z *ℤ pos h.0.den) h.3 ∙ h.4) in
+    subst (Wants w (Share (Is t))) (sym h.5)
+    (share-wants w w (Is t) t h.0 refl refl h.2
+    (value-of-alike (InScope sc) v w a t (fits-over sc Perm t f) h.0 i))
+wants-alike sc v w a (Src s) x f k h = (h.0, slot-alike sc v w a s (pos h.0) f h.1, h.2)
+wants-alike sc v w a (Tok s) x f k h = (h.0, slot-alike sc v w a s (pos h.0) f h.1, h.2)
+
+-- over a multiple of the denominator all stays
+pub wants-finer :
+    (sc : Scope) (v w : Valuation) → Alike (InScope sc) v w → IsFiner v w → (asked : Asked)
+    (x : Element) → AskedOver sc asked → Wants v asked x → Wants w asked x
+wants-finer sc v w a k asked x f h = wants-alike sc v w a asked x f (by asked) h
+  where
+    by : (asked : Asked) → StaysWanted v w asked
+    by One = tt
+    by (Share Any) = k
+    by (Share (Is t)) = tt
+    by (Src s) = tt
+    by (Tok s) = tt

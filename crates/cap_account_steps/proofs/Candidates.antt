@@ -1,7 +1,6 @@
--- Candidates for a fact are rows of sort Int, over the variables that the fact and its later state
--- are over; so are those among them that a choice names.
-use Rattle.std.proofs.Common.{◌≡◌, ℕ, ◌+◌, ℤ, List, [], ◌∷◌, ◌++◌, Option, Some, None, Bool, true, false, refl, subst}
-use Rattle.std.specs.Prelude.{slice_get, nat_le, unwrap_or, flat_map, ◌&&◌, if◌then◌else◌}
+-- Candidates are rows of whole numbers, over what the fact is over and its later state.
+use Rattle.std.proofs.Common.{◌≡◌, ℕ, ◌+◌, List, [], ◌∷◌, ◌++◌, length, Some, Bool, true, false, refl, sym, subst}
+use Rattle.std.specs.Prelude.{slice_get, nat_le, flat_map, ◌&&◌, if◌then◌else◌}
 use Rattle.std.specs.List.{AllByRecursion, list_any}
 use Rattle.cap_lin.specs.Linear.{Linear}
 use Rattle.cap_lin.specs.Steps.{Step}
@@ -9,145 +8,136 @@ use Rattle.cap_lin.specs.declared.row.Row.{Row}
 use Rattle.cap_lin.specs.declared.row.Sort.TheVariants.{Int}
 use Rattle.cap_lin.specs.declared.row.Op.TheVariants.{Eq as Equal, Le as AtMost}
 use Rattle.cap_prog.specs.Program.{PlainRegionType}
-use Rattle.cap_goal_spec.specs.States.{PlainFact}
-use Rattle.cap_goal_spec.specs.Environments.{zero_value, bound_term, bound, region_env, term_in, term_in_steps}
-use Rattle.cap_goal_spec.specs.Candidates.{MadeRow, bounds, is_over_params, bounds_by, action_bounds, all_candidates, is_made, repeats, without_repeats}
-use Rattle.cap_rules.specs.Attempts.{unit, ◌>>=◌, computed, found}
+use Rattle.cap_goal_spec.specs.States.{PlainFact, PlainState}
+use Rattle.cap_goal_spec.specs.Environments.{region_env, term_in, term_in_steps}
+use Rattle.cap_goal_spec.specs.Candidates.{MadeRow, bounds, is_over_params, bounds_by, action_bounds, all_candidates, is_made, repeats, without_repeats, later_state, candidates}
+use Rattle.cap_rules.specs.Attempts.{Attempt, unit, ◌>>=◌, computed, found}
 use Rattle.cap_rules.specs.Resting.{named_candidates}
 use Rattle.cap_account_states.specs.Nodes.{Comes}
-use Rattle.cap_account_resources.proofs.Lists.{some-same, all-at, all-both}
-use Rattle.cap_account_states.proofs.Terms.{Vars, Over, over-over, row-over}
+use Rattle.cap_account_resources.proofs.Lists.{get-first, get-last, all-more, all-both, all-at}
+use Rattle.cap_account_states.proofs.Terms.{Over, vars-more, RowOver, row-over}
 use Rattle.cap_account_states.proofs.Attempts.{comes-bind, after-found, after-need, after-computed}
-use Rattle.cap_account_steps.proofs.Worlds.{AllOver}
+use Rattle.cap_account_states.proofs.Meets.{Free, Usable}
+use Rattle.cap_account_states.proofs.Environments.{in-env-over, region-env-over}
+use Rattle.cap_account_steps.proofs.Settling.{IsCandidate}
 
 -- ---- lists
 
+all-chosen :
+    {X : Type 0} (P : X → Type 0) (b : Bool) (xs ys : List X) → AllByRecursion P xs →
+    AllByRecursion P ys → AllByRecursion P (if b then xs else ys)
+all-chosen P true xs ys h k = h
+all-chosen P false xs ys h k = k
+
 all-flat :
-    {A B : Type 0} (P : B → Type 0) (g : A → List B) → ((x : A) → AllByRecursion P (g x)) →
-    (xs : List A) → AllByRecursion P (flat_map g xs)
-all-flat P g each [] = tt
-all-flat P g each (x ∷ xs) = all-both P (g x) (flat_map g xs) (each x) (all-flat P g each xs)
+    {X Y : Type 0} (P : Y → Type 0) (g : X → List Y) → ((x : X) → AllByRecursion P (g x)) →
+    (xs : List X) → AllByRecursion P (flat_map g xs)
+all-flat P g h [] = tt
+all-flat P g h (x ∷ xs) = all-both P (g x) (flat_map g xs) (h x) (all-flat P g h xs)
 
--- what all rows are, those without repeats are
-all-distinct :
-    (P : MadeRow → Type 0) (earlier ms : List MadeRow) → AllByRecursion P ms →
-    AllByRecursion P (without_repeats earlier ms)
-all-distinct P earlier [] h = tt
-all-distinct P earlier (m ∷ ms) h =
-    either (without_repeats earlier ms) (m ∷ without_repeats (m ∷ earlier) ms)
-    (is_made m && list_any (repeats m) earlier) (all-distinct P earlier ms h.1)
-    (h.0, all-distinct P (m ∷ earlier) ms h.1)
-  where
-    either :
-        (xs ys : List MadeRow) (b : Bool) → AllByRecursion P xs → AllByRecursion P ys →
-        AllByRecursion P (if b then xs else ys)
-    either xs ys true x y = x
-    either xs ys false x y = y
+-- ---- all candidates
 
--- ---- candidates
+-- a row of whole numbers, over such variables
+abbrev IntOver : (ℕ → Type 0) → Row → Type 0
+IntOver R r = (r.sort ≡ Int) × Over R r.term
 
-module _ (P : ℕ → Type 0) where
-  -- a row of sort Int over these variables
-  abbrev pub IntRow : Row → Type 0
-  IntRow r = (r.sort ≡ Int) × Over P r.term
+abbrev MadeOver : (ℕ → Type 0) → MadeRow → Type 0
+MadeOver R m = IntOver R m.row
 
-  abbrev pub IntMade : MadeRow → Type 0
-  IntMade m = IntRow m.row
+few-over :
+    (R : ℕ → Type 0) (seen ms : List MadeRow) → AllByRecursion (MadeOver R) ms →
+    AllByRecursion (MadeOver R) (without_repeats seen ms)
+few-over R seen [] h = tt
+few-over R seen (m ∷ ms) h =
+    all-chosen (MadeOver R) (is_made m && list_any (repeats m) seen) (without_repeats seen ms)
+    (m ∷ without_repeats (m ∷ seen) ms) (few-over R seen ms h.1)
+    (h.0, few-over R (m ∷ seen) ms h.1)
 
-  abbrev BoundOver : Option Linear → Type 0
-  BoundOver o = (t : Linear) → o ≡ Some t → Over P t
+module _ (R : ℕ → Type 0) (k : PlainRegionType) (f : PlainFact) (u : Linear)
+    (region : Over R f.region) (args : AllByRecursion (Over R) f.args) (later : Over R u) where
+  bounds-over : (steps : List Step) (e : Linear) → Over R e →
+      AllByRecursion (MadeOver R) (bounds u steps e)
+  bounds-over steps e h = (
+    (refl, row-over (λ o. R) e AtMost u Int h later),
+    ((refl, row-over (λ o. R) u AtMost e Int later h), tt),
+  )
 
-  bound-over : (ts : List Linear) → AllByRecursion (Over P) ts → AllByRecursion BoundOver (bound ts)
-  bound-over [] h = tt
-  bound-over (t ∷ ts) h =
-      ((λ u e. subst (Over P) (some-same t u e) h.0), bound-over ts h.1)
+  -- a term of the region type, where it has no other name than the region and its arguments
+  typed-over : (t : Linear) → AllByRecursion (MadeOver R) (bounds_by k f u t)
+  typed-over t =
+      let env = region_env f [] in
+      let steps = term_in_steps env t in
+      all-chosen (MadeOver R) (is_over_params k t) (bounds u steps (term_in env t)) []
+      (bounds-over steps (term_in env t)
+      (in-env-over R env (region-env-over R f [] region args tt) t)) tt
 
-  any-vars : (ps : List (ℕ × ℤ)) → Vars (λ x. Unit {0}) ps
-  any-vars [] = tt
-  any-vars (q ∷ ps) = (tt, any-vars ps)
+  all-over : Over R f.state → AllByRecursion (MadeOver R) (all_candidates k f u)
+  all-over h =
+      let P = MadeOver R in
+      let cases = flat_map (λ c. bounds_by k f u c.state) k.cases in
+      let actions = flat_map (action_bounds k f u) k.actions in (
+        (refl, row-over (λ o. R) u Equal f.state Int later h),
+        all-both P (bounds u [] f.state) (cases ++ actions) (bounds-over [] f.state h)
+            (all-both P cases actions
+            (all-flat P (λ c. bounds_by k f u c.state) (λ c. typed-over c.state) k.cases)
+            (all-flat P (action_bounds k f u)
+            (λ a. all-both P (bounds_by k f u a.source) (bounds_by k f u a.target)
+            (typed-over a.source) (typed-over a.target)) k.actions)),
+      )
 
-  module _ (k : PlainRegionType) (f : PlainFact) (u : Linear) (later : Over P u)
-      (over : AllOver P f) where
-    -- what the names of the region type stand for
-    name-over : (x : ℕ) → Over P (bound_term (region_env f []) x)
-    name-over x = by (slice_get env x) (λ o e. all-at BoundOver env x o each e)
-      where
-        env : List (Option Linear)
-        env = region_env f []
+-- ---- those that are named
 
-        each : AllByRecursion BoundOver env
-        each = (
-          (λ t e. subst (Over P) (some-same f.region t e) over.0),
-          all-both BoundOver (bound f.args) [] (bound-over f.args over.1) tt,
-        )
+named-over :
+    (R : ℕ → Type 0) (all : List MadeRow) → AllByRecursion (MadeOver R) all → (low : ℕ)
+    (list : List ℕ) (P : List Row → Type 0) → Comes (named_candidates low all list) P →
+    (rows : List Row) × AllByRecursion (IntOver R) rows × P rows
+named-over R all h low [] P c = ([], tt, c.1)
+named-over R all h low (i ∷ list) P c =
+    let last = λ (r : Row) (rs : List Row). unit (r ∷ rs) in
+    let third : Row → Attempt (List Row) =
+    λ r. named_candidates (i + 1) all list >>= last r in
+    let second : MadeRow → Attempt (List Row) = λ m. computed m.row m.steps >>= third in
+    let first : Unit {0} → Attempt (List Row) = λ x. found (slice_get all i) >>= second in
+    let k1 = after-need (nat_le low i) first P c in
+    let k2 = after-found (slice_get all i) second P k1.1 in
+    let m = k2.0 in
+    let k3 = after-computed m.row m.steps third P k2.2 in
+    let k4 = named-over R all h (i + 1) list (λ rs. Comes (last m.row rs) P)
+    (comes-bind (named_candidates (i + 1) all list) (last m.row) P k3) in
+    (m.row ∷ k4.0, (all-at (MadeOver R) all i m h k2.1, k4.1), k4.2.1)
 
-        by :
-            (o : Option (Option Linear)) → ((b : Option Linear) → o ≡ Some b → BoundOver b) →
-            Over P (unwrap_or (unwrap_or o None) zero_value)
-        by None g = tt
-        by (Some None) g = tt
-        by (Some (Some t)) g = g (Some t) refl t refl
+-- the named candidates of a fact in a state
+pub record Named (ks : List ℕ) (s : PlainState) (P : List Row → Type 0) : Type 0 where
+  pub rows : List Row
+  pub are : AllByRecursion (IsCandidate s) rows
+  pub over : AllByRecursion (RowOver (Usable ks (s.sorts ++ Int ∷ []))) rows
+  pub comes : P rows
 
-    both-bounds :
-        (steps : List Step) (t : Linear) → Over P t → AllByRecursion IntMade (bounds u steps t)
-    both-bounds steps t h = (
-      (refl, row-over (λ o. P) t AtMost u Int h later),
-      ((refl, row-over (λ o. P) u AtMost t Int later h), tt),
-    )
-
-    by-term : (t : Linear) → AllByRecursion IntMade (bounds_by k f u t)
-    by-term t = if-so (bounds u (term_in_steps env t) (term_in env t)) (is_over_params k t) (both-bounds (term_in_steps env t) (term_in env t) over-params)
-      where
-        env : List (Option Linear)
-        env = region_env f []
-
-        over-params : Over P (term_in env t)
-        over-params =
-            over-over P (λ x. Unit {0}) (bound_term env) t (λ x i. name-over x) (any-vars t.parts)
-
-        if-so :
-            (ms : List MadeRow) (b : Bool) → AllByRecursion IntMade ms →
-            AllByRecursion IntMade (if b then ms else [])
-        if-so ms true h = h
-        if-so ms false h = tt
-
-    pub candidates-over : AllByRecursion IntMade (without_repeats [] (all_candidates k f u))
-    candidates-over =
-        let cases = flat_map (λ c. bounds_by k f u c.state) k.cases in
-        let moves = flat_map (action_bounds k f u) k.actions in
-        all-distinct IntMade [] (all_candidates k f u) (
-          (refl, row-over (λ o. P) u Equal f.state Int later over.2),
-          all-both IntMade (bounds u [] f.state) (cases ++ moves) (both-bounds [] f.state over.2)
-              (all-both IntMade cases moves
-              (all-flat IntMade (λ c. bounds_by k f u c.state) (λ c. by-term c.state) k.cases)
-              (all-flat IntMade (action_bounds k f u)
-              (λ a. all-both IntMade (bounds_by k f u a.source) (bounds_by k f u a.target)
-              (by-term a.source) (by-term a.target)) k.actions)),
-        )
-
-  -- ---- those that are named
-
-  pub record Named (Q : List Row → Type 0) : Type 0 where
-    pub rows : List Row
-    pub over : AllByRecursion IntRow rows
-    pub comes : Q rows
-
-  pub comes-named :
-      (all : List MadeRow) → AllByRecursion IntMade all → (numbers : List ℕ) (low : ℕ)
-      (Q : List Row → Type 0) → Comes (named_candidates low all numbers) Q → Named Q
-  comes-named all h [] low Q c = record { rows = []; over = tt; comes = c.1 }
-  comes-named all h (i ∷ more) low Q c =
-      let found-it = λ (m : MadeRow). computed m.row m.steps >>= λ r.
-      named_candidates (i + 1) all more >>= λ rs. unit (r ∷ rs) in
-      let m = after-found (slice_get all i) found-it Q
-      (after-need (nat_le low i) (λ x. found (slice_get all i) >>= found-it) Q c).1 in
-      let r = m.0.row in
-      let last = λ (rs : List Row). unit (r ∷ rs) in
-      let rest = comes-named all h more (i + 1) (λ rs. Comes (last rs) Q)
-      (comes-bind (named_candidates (i + 1) all more) last Q
-      (after-computed r m.0.steps (λ r. named_candidates (i + 1) all more >>= λ rs. unit (r ∷ rs)) Q m.2)) in
-      record {
-        rows = r ∷ rest.rows;
-        over = (all-at IntMade all i m.0 h m.1, rest.over);
-        comes = rest.comes.1;
-      }
+pub named-candidates :
+    (ks : List ℕ) (k : PlainRegionType) (s : PlainState) (f : PlainFact) (low : ℕ) (list : List ℕ)
+    (P : List Row → Type 0) → Free ks (length s.sorts) →
+    Over (Usable ks s.sorts Int) f.region → AllByRecursion (Over (Usable ks s.sorts Int)) f.args →
+    Over (Usable ks s.sorts Int) f.state → Comes (named_candidates low (candidates k s f) list) P →
+    Named ks s P
+named-candidates ks k s f low list P free region args state c =
+    let sorts = s.sorts ++ Int ∷ [] in
+    let R = Usable ks sorts Int in
+    let K = λ (x : ℕ). slice_get sorts x ≡ Some Int in
+    let more : (t : Linear) → Over (Usable ks s.sorts Int) t → Over R t =
+    λ t. vars-more (Usable ks s.sorts Int) R
+    (λ x h. (get-first s.sorts (Int ∷ []) x Int h.0, h.1)) t.parts in
+    let all = all-over R k f (later_state s) (more f.region region)
+    (all-more (Over (Usable ks s.sorts Int)) (Over R) more f.args args)
+    ((get-last s.sorts Int, free), tt) (more f.state state) in
+    let n = named-over R (candidates k s f) (few-over R [] (all_candidates k f (later_state s)) all)
+    low list P c in
+    record {
+      rows = n.0;
+      are =
+          all-more (IntOver R) (IsCandidate s)
+          (λ r h. (h.0, vars-more R K (λ x u. u.0) r.term.parts h.1)) n.0 n.1;
+      over =
+          all-more (IntOver R) (RowOver (Usable ks sorts))
+          (λ r h. subst (λ o. Over (Usable ks sorts o) r.term) (sym h.0) h.1) n.0 n.1;
+      comes = n.2;
+    }

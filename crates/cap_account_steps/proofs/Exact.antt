@@ -13,9 +13,9 @@ use Rattle.cap_account_resources.proofs.Lists.{some-same, all-more, get-set-same
 use Rattle.cap_account_resources.proofs.Marks.{Mark}
 use Rattle.cap_account_resources.proofs.Covering.{IsPartOf, Covered}
 use Rattle.cap_account_resources.proofs.Room.{room, room-some, part-some, in-room}
-use Rattle.cap_account_states.proofs.Terms.{Over, vars-more, Agree}
+use Rattle.cap_account_states.proofs.Terms.{Over, vars-more}
 use Rattle.cap_account_states.proofs.Alike.{Alike, value-alike}
-use Rattle.cap_account_states.proofs.Compatible.{pieces-more, covered-alike, all-alike-agree}
+use Rattle.cap_account_states.proofs.Compatible.{pieces-more, covered-alike}
 use Rattle.cap_account_states.proofs.Meets.{Usable, Old, usable-old}
 use Rattle.cap_account_states.proofs.Backed.{Grounded}
 use Rattle.cap_account_steps.proofs.Fitting.{IsOfKind}
@@ -57,15 +57,14 @@ over-more P Q g f h =
     let more = λ (t : Linear) (o : Over P t). vars-more P Q g t.parts o in
     (more f.region h.0, all-more (Over P) (Over Q) more f.args h.1, more f.state h.2)
 
--- what is held covers the pieces of a state at values that agree on its variables
+-- what is held covers the pieces of a state at values that are alike on its variables
 pub covered-old :
-    (p : PlainProgram) (ks : List ℕ) (v w : Valuation) (s : PlainState) → Agree (Old s) v w →
+    (p : PlainProgram) (ks : List ℕ) (v w : Valuation) (s : PlainState) → Alike (Old s) v w →
     Grounded p ks v s → (n : ℤ) (m : Option Mark) → Covered p v s.guards n m →
     Covered p w s.guards n m
 covered-old p ks v w s a g n m c =
-    covered-alike p v w s.guards n m
-    (all-alike-agree (Old s) v w a s.guards
-    (pieces-more (Usable ks s.sorts) (λ o. Old s) (usable-old ks s.sorts) s.guards g.pieces_over)) c
+    covered-alike p (Old s) v w a s.guards n m
+    (pieces-more (Usable ks s.sorts) (λ o. Old s) (usable-old ks s.sorts) s.guards g.pieces_over) c
 
 -- ---- by number
 

@@ -11,6 +11,12 @@ pub mod Worlds
 pub mod Statements
 pub mod Local
 pub mod Candidates
+pub mod Cells
+pub mod Callees
+pub mod OwnNames
+pub mod Entries
+pub mod Bundles
+pub mod Returning
 pub mod Exact
 pub mod Turning
 pub mod Renewing

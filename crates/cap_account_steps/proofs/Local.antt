@@ -32,6 +32,7 @@ use Rattle.cap_account_steps.proofs.Points.{point-act}
 use Rattle.cap_account_steps.proofs.Stores.{Store, running, here, here-value, here-over, holds-here, row-here-over, met-here}
 use Rattle.cap_account_steps.proofs.Frames.{Node, Sits}
 use Rattle.cap_account_steps.proofs.Statements.{Before, SetLaw, CheckLaw, BranchLaw}
+use Rattle.cap_account_states.proofs.Facts.{facts-same}
 
 set-all :
     {X : Type 0} (P : X → Type 0) (xs : List X) (i : ℕ) (y : X) → AllByRecursion P xs → P y →
@@ -106,7 +107,7 @@ module _ (p : Checked) (part : Stock) (T : Table) (fn : PlainFunction) (fixed : 
         pieces_over = n.grounded.pieces_over;
         pieces_fit = n.grounded.pieces_fit;
       };
-      facts = record { holds = n.facts.holds; over = n.facts.over };
+      facts = facts-same [] n.v T n.state (with_local s x u) refl refl n.facts;
       firm = n.firm;
       backed = record { cells = n.backed.cells; guards = n.backed.guards };
       store = record {
@@ -193,7 +194,7 @@ module _ (p : Checked) (part : Stock) (T : Table) (fn : PlainFunction) (fixed : 
         pieces_over = n.grounded.pieces_over;
         pieces_fit = n.grounded.pieces_fit;
       };
-      facts = record { holds = n.facts.holds; over = n.facts.over };
+      facts = facts-same [] n.v T n.state (row_added n.state (store_row n.state op c)) refl refl n.facts;
       firm = n.firm;
       backed = record { cells = n.backed.cells; guards = n.backed.guards };
       store = record {

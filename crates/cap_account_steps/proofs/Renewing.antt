@@ -25,7 +25,6 @@ use Rattle.cap_account_states.proofs.Meets.{Free, Usable, usable-on, usable-old,
 use Rattle.cap_account_steps.proofs.Others.{first_values}
 use Rattle.cap_account_steps.proofs.Settling.{changed, replaced-value, replaced-over, IsCandidate, HoldsAt, row_at}
 use Rattle.cap_account_steps.proofs.Worlds.{Exact, AllOver}
-use Rattle.cap_account_steps.proofs.Candidates.{IntRow}
 use Rattle.cap_account_steps.proofs.Exact.{told-alike, over-more, covered-old, all-two}
 use Rattle.cap_account_steps.proofs.Turning.{Midway, Turned, settled_state, Turn, own as own-of, Later, later, due-set, candidates-stay}
 
@@ -55,15 +54,18 @@ module _ (p : PlainProgram) (ks : List ℕ) (part : Stock) (T U : Table) (j : �
   abbrev grow : (x : ℕ) (o : Sort) → slice_get s.sorts x ≡ Some o → slice_get more x ≡ Some o
   grow x o e = get-first s.sorts (Int ∷ []) x o e
 
-  new-free : (is : List ℕ) → AllByRecursion (λ i. i < length s.sorts) is → Free is (length s.sorts)
-  new-free [] h = tt
-  new-free (i ∷ is) h = ((λ e. let l = h.0 in omega (arith, l, e)), new-free is h.1)
+  no-old : (is : List ℕ) → AllByRecursion (λ i. i < length s.sorts) is → Free is (length s.sorts)
+  no-old [] h = tt
+  no-old (i ∷ is) h = ((λ e. let l = h.0 in omega (arith, l, e)), no-old is h.1)
 
-  -- the new variable is usable
-  pub new-usable : Usable ks more Int (length s.sorts)
-  new-usable = (get-last s.sorts Int, new-free ks mid.old)
+  -- the new variable isn't kept free
+  pub new-free : Free ks (length s.sorts)
+  new-free = no-old ks mid.old
 
-  pub own-more : AllOver (Usable ks more Int) f
+  new-usable : Usable ks more Int (length s.sorts)
+  new-usable = (get-last s.sorts Int, new-free)
+
+  own-more : AllOver (Usable ks more Int) f
   own-more =
       over-more (Usable ks s.sorts Int) (Usable ks more Int) (usable-on ks s.sorts more grow Int) f
       own
@@ -87,35 +89,33 @@ module _ (p : PlainProgram) (ks : List ℕ) (part : Stock) (T U : Table) (j : �
       ∙ ap (λ y. y *ℤ denominator v.fraction) (sym (new-is z)))
       mid.grounded.meets
 
-  module _ (named : List Row) (over_named : AllByRecursion (IntRow (Usable ks more Int)) named) where
-    candidates : AllByRecursion (IsCandidate s) named
-    candidates =
-        all-more (IntRow (Usable ks more Int)) (IsCandidate s)
-        (λ r h. (
-          h.0,
-          vars-more (Usable ks more Int) (λ x. slice_get more x ≡ Some Int)
-              (λ x u. u.0) r.term.parts h.1,
-        )) named over_named
+  abbrev Known : ℕ → Type 0
+  Known x = slice_get more x ≡ Some Int
 
+  module _ (named : List Row) (are : AllByRecursion (IsCandidate s) named)
+      (over_named : AllByRecursion (RowOver (Usable ks more)) named) where
     -- a row that follows with the state that was there in the place of the new variable
     holds-first :
-        (r : Row) → IntRow (Usable ks more Int) r → Proves s.rows (row_at s f.state r) →
+        (r : Row) → IsCandidate s r → Proves s.rows (row_at s f.state r) →
         HoldsAt v s b r
     holds-first r i proves =
         let w = at-value b in
         let m = meets-more b in
         let size = length s.sorts in
         let placed = replaced size f.state r.term in
-        let over = subst (λ o. Over (Usable ks more o) placed) (sym i.0)
-        (replaced-over (Usable ks more Int) size f.state r.term own-more.2 i.1) in
+        let over = replaced-over Known size f.state r.term known-state i.1 in
         let holds = proves w (solves ks w (sort_added s Int) m)
-        (fits-sort (Usable ks more) w (λ x u. m.sorted x u.0) (row_at s f.state r) over) in
+        (fits-sort (λ o. Known) w m.sorted (row_at s f.state r) over) in
         subst (HoldsAs r.kind)
         (replaced-value w.whole size f.state r.term
         ∙ ap (λ z. value (changed w.whole size z) r.term) state-is
         ∙ ap (λ g. value g r.term) (λ d x. twice (nat_eq x size) (v.whole x) d))
         (subst (λ o. HoldsAs r.kind (value_by_sort o w placed)) i.0 holds)
       where
+        known-state : Over Known f.state
+        known-state =
+            vars-more (Usable ks s.sorts Int) Known (λ x u. grow x Int u.0) f.state.parts own.2
+
         state-is : value (at-value b).whole f.state ≡ b
         state-is =
             value-agree (Old s) v (at-value b) (agrees b) f.state
@@ -130,14 +130,9 @@ module _ (p : PlainProgram) (ks : List ℕ) (part : Stock) (T U : Table) (j : �
 
     -- what holds of the new variable's number is a row that holds
     holds-more :
-        (z : ℤ) (r : Row) → IntRow (Usable ks more Int) r → HoldsAt v s z r → Holds (at-value z) r
+        (z : ℤ) (r : Row) → IsCandidate s r → HoldsAt v s z r → Holds (at-value z) r
     holds-more z r i h =
         subst (λ o. HoldsAs r.kind (value_by_sort o (at-value z) r.term)) (sym i.0) h
-
-    rows-more : AllByRecursion (RowOver (Usable ks more)) named
-    rows-more =
-        all-more (IntRow (Usable ks more Int)) (RowOver (Usable ks more))
-        (λ r i. subst (λ o. Over (Usable ks more o) r.term) (sym i.0) i.1) named over_named
 
     pub settled :
         AllByRecursion (λ r. Proves s.rows (row_at s f.state r)) named →
@@ -145,9 +140,9 @@ module _ (p : PlainProgram) (ks : List ℕ) (part : Stock) (T U : Table) (j : �
         Turned p ks part T U j v s (settled_state s j f named)
     settled proved c =
         let hold =
-        candidates-stay p ks part T U j v s turn named candidates c
-        (all-two (IntRow (Usable ks more Int)) (λ r. Proves s.rows (row_at s f.state r))
-        (HoldsAt v s b) holds-first named over_named proved) in
+        candidates-stay p ks part T U j v s turn named are c
+        (all-two (IsCandidate s) (λ r. Proves s.rows (row_at s f.state r))
+        (HoldsAt v s b) holds-first named are proved) in
         let z = next.0 in
         let w = at-value z in
         let g = with_state f (later_state s) in
@@ -177,9 +172,9 @@ module _ (p : PlainProgram) (ks : List ℕ) (part : Stock) (T U : Table) (j : �
               meets = record {
                 sorted = m.sorted;
                 rows = all-both (Holds w) s.rows named m.rows
-                    (all-two (IntRow (Usable ks more Int)) (HoldsAt v s z) (Holds w) (holds-more z)
-                    named over_named hold);
-                rows_over = all-both (RowOver (Usable ks more)) s.rows named m.rows_over rows-more;
+                    (all-two (IsCandidate s) (HoldsAt v s z) (Holds w) (holds-more z)
+                    named are hold);
+                rows_over = all-both (RowOver (Usable ks more)) s.rows named m.rows_over over_named;
                 cells_over = m.cells_over;
                 positive = m.positive;
                 store_over = m.store_over;
@@ -192,7 +187,7 @@ module _ (p : PlainProgram) (ks : List ℕ) (part : Stock) (T U : Table) (j : �
             due = due-set p ks part T U j v s turn more w g grow (agrees z)
                 (own-more.0, own-more.1, (new-usable, tt)) new-exact refl;
             covered = λ i.
-                covered-old p ks v w s (agrees z) mid.grounded i (part.guards i) (mid.covered i);
+                covered-old p ks v w s (agree-alike (Old s) v w (agrees z)) mid.grounded i (part.guards i) (mid.covered i);
           };
         }
       where

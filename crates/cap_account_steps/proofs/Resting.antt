@@ -22,46 +22,47 @@ use Rattle.cap_account_resources.specs.Parts.{Table}
 use Rattle.cap_account_resources.proofs.Lists.{within, all-at}
 use Rattle.cap_account_resources.proofs.Covering.{Covered}
 use Rattle.cap_account_resources.proofs.Stocks.{Stock}
+use Rattle.cap_account_states.proofs.Terms.{RowOver}
 use Rattle.cap_account_states.proofs.Attempts.{comes-bind, comes-more, after-found, after-sort, after-computed, sort_added}
 use Rattle.cap_account_states.proofs.Adding.{comes-rows}
 use Rattle.cap_account_states.proofs.Checked.{Checked, one-child}
-use Rattle.cap_account_states.proofs.Meets.{Usable, solves}
+use Rattle.cap_account_states.proofs.Meets.{Free, Usable, solves}
 use Rattle.cap_account_states.proofs.Backed.{IsFirm, Grounded}
 use Rattle.cap_account_steps.proofs.Keeping.{same_row, comes-kept}
-use Rattle.cap_account_steps.proofs.Settling.{row_at, comes-at, comes-stable}
+use Rattle.cap_account_steps.proofs.Settling.{IsCandidate, row_at, comes-at, comes-stable}
 use Rattle.cap_account_steps.proofs.Worlds.{Exact, AllOver}
-use Rattle.cap_account_steps.proofs.Candidates.{IntRow, candidates-over, comes-named}
+use Rattle.cap_account_steps.proofs.Candidates.{named-candidates}
 use Rattle.cap_account_steps.proofs.Exact.{all-each}
-use Rattle.cap_account_steps.proofs.Turning.{AsBefore, before-same, before-trans, Midway, Turned, kept_state, settled_state, Reaching, Turn, kept}
-use Rattle.cap_account_steps.proofs.Renewing.{new-usable, own-more, settled}
+use Rattle.cap_account_steps.proofs.Turning.{AsBefore, before-same, before-trans, Midway, Turned, kept_state, settled_state, Reaching, Turn, own, kept}
+use Rattle.cap_account_steps.proofs.Renewing.{new-free, settled}
 
 -- ---- what the two rules prove
 
 abbrev Done : Unit {0} → Type 0
 Done x = Unit {0}
 
--- candidates over such variables follow from the rows and stay true; then they are known
-record SettledBy (P : ℕ → Type 0) (k : PlainRegionType) (s : PlainState) (j : ℕ) (f : PlainFact)
+-- candidates follow from the rows and stay true; then they are known
+record SettledBy (ks : List ℕ) (k : PlainRegionType) (s : PlainState) (j : ℕ) (f : PlainFact)
     (Q : PlainState → Type 0) : Type 0 where
   named : List Row
-  over : AllByRecursion (IntRow P) named
+  are : AllByRecursion (IsCandidate s) named
+  over : AllByRecursion (RowOver (Usable ks (s.sorts ++ Int ∷ []))) named
   proved : AllByRecursion (λ r. Proves s.rows (row_at s f.state r)) named
   stable : Comes (prove_stable k s f named k.actions) Done
   comes : Q (settled_state s j f named)
 
 comes-settle :
-    (P : ℕ → Type 0) (k : PlainRegionType) (s : PlainState) (j : ℕ) (f : PlainFact)
-    (list : List ℕ) (Q : PlainState → Type 0) → P (length s.sorts) → AllOver P f →
-    Comes (settle k s j f list) Q → SettledBy P k s j f Q
-comes-settle P k s j f list Q new over h =
+    (ks : List ℕ) (k : PlainRegionType) (s : PlainState) (j : ℕ) (f : PlainFact)
+    (list : List ℕ) (Q : PlainState → Type 0) → Free ks (length s.sorts) →
+    AllOver (Usable ks s.sorts Int) f → Comes (settle k s j f list) Q → SettledBy ks k s j f Q
+comes-settle ks k s j f list Q new over h =
     let g = with_state f (later_state s) in
     let third = λ (named : List Row) (x : Unit {0}). with_settled s j f named in
     let second = λ (named : List Row) (x : Unit {0}).
     prove_stable k s f named k.actions >>= third named in
     let first = λ (named : List Row). prove_at s s.rows f.state named >>= second named in
-    let n = comes-named P (candidates k s f) (candidates-over P k f (later_state s) (new, tt) over)
-    list 1 (λ named. Comes (first named) Q)
-    (comes-bind (named_candidates 1 (candidates k s f) list) first Q h) in
+    let n = named-candidates ks k s f 1 list (λ named. Comes (first named) Q) new over.0 over.1
+    over.2 (comes-bind (named_candidates 1 (candidates k s f) list) first Q h) in
     let at = comes-at s s.rows f.state n.rows (λ x. Comes (second n.rows x) Q)
     (comes-bind (prove_at s s.rows f.state n.rows) (second n.rows) Q n.comes) in
     let R = λ (x : Unit {0}). Comes (third n.rows x) Q in
@@ -69,6 +70,7 @@ comes-settle P k s j f list Q new over h =
     let last = λ (t : PlainState). with_rows (record t { facts = slice_set s.facts j g }) n.rows in
     record {
       named = n.rows;
+      are = n.are;
       over = n.over;
       proved = at.0;
       stable = comes-more (prove_stable k s f n.rows k.actions) R Done (λ x y. tt) stable;
@@ -149,15 +151,15 @@ module _ (p : Checked) (ks : List ℕ) (part : Stock) (T U : Table)
       (λ f. found (slice_get p.program.regions f.kind) >>= first f) P (p.step h) in
       let k = after-found (slice_get p.program.regions f.0.kind) (first f.0) P f.2 in
       let turn = turn-of j v s mid f.0 f.1 k.0 k.1 in
-      let r = comes-settle (Usable ks (s.sorts ++ Int ∷ []) Int) k.0 s j f.0 list
-      (λ t. Comes (last t) P) (new-usable p.program ks part T U j v s turn)
-      (own-more p.program ks part T U j v s turn)
+      let r = comes-settle ks k.0 s j f.0 list
+      (λ t. Comes (last t) P) (new-free p.program ks part T U j v s turn)
+      (own p.program ks part T U j v s turn)
       (comes-bind (settle k.0 s j f.0 list) last P k.2) in
       record {
         state = settled_state s j f.0 r.named;
         trees = kids;
         goes = one-on j n ts (settled_state s j f.0 r.named) kids r.comes.1;
-        turned = settled p.program ks part T U j v s turn r.named r.over r.proved r.stable;
+        turned = settled p.program ks part T U j v s turn r.named r.are r.over r.proved r.stable;
       }
   next-turn j n ts v s mid (node (by_keep cs) kids) h =
       let P = Children p.N kids in

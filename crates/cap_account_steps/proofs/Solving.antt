@@ -39,7 +39,8 @@ use Rattle.cap_account_states.proofs.Asking.{AskedOver, SlotsOk, Answered, all-a
 use Rattle.cap_account_steps.proofs.Fitting.{IsOfKind, wanted-compatible, are-forms}
 use Rattle.cap_account_steps.proofs.Grains.{AllOver, Common, common}
 use Rattle.cap_account_steps.proofs.Others.{condition_row, source_row, action_rows, action_forms, Resting, resting-scaled, first_values, names-first, conditions-hold}
-use Rattle.cap_account_states.proofs.Compatible.{AnswerOver, compat-over, Whole, form-over-whole, pieces-more, covered-alike, all-alike-agree, all-alike-scaled}
+use Rattle.cap_account_states.proofs.Compatible.{AnswerOver, compat-over, Whole, form-over-whole, pieces-more, covered-alike}
+use Rattle.cap_account_states.proofs.Alike.{scaled-agree-alike}
 
 asked-over : (sc : Scope) (b : PlainAlgebra) (asked : Asked) → AskedFits sc b asked →
     AskedOver sc asked
@@ -306,12 +307,11 @@ module _ (p : PlainProgram) (ks : List ℕ) (v : Valuation) (s : PlainState) (k 
   covered : Covered p w s.guards (value w.whole f.region) (Some lead.held)
   covered =
       subst (λ z. Covered p w s.guards z (Some lead.held)) (sym region-is)
-      (covered-alike p v1 w s.guards (value v.whole f.region) (Some lead.held)
-      (all-alike-agree (Low n) v1 w agree1 s.guards
+      (covered-alike p (Low n) v w (scaled-agree-alike (Low n) shared.times v w agree1) s.guards
+      (value v.whole f.region) (Some lead.held)
       (pieces-more (Usable ks s.sorts) (λ o. Low n) (λ o x u. usable-old ks s.sorts o x u)
-      s.guards rest.guards_over))
-      (covered-alike p v v1 s.guards (value v.whole f.region) (Some lead.held)
-      (all-alike-scaled shared.times v s.guards) lead.covered))
+      s.guards rest.guards_over)
+      lead.covered)
 
   compatible : AllHold w (compat k.algebra s.guards f.region f.kind wanted)
   compatible =

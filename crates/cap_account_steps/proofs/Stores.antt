@@ -1,6 +1,6 @@
 -- A frame's store in a symbolic state, and what its terms and comparisons are there.
-use Rattle.std.proofs.Common.{◌≡◌, ℕ, zero, suc, ◌+◌, ◌<◌, ◌≤◌, ℤ, pos, ◌*ℤ◌, ◌<ℤ◌, List, [], ◌∷◌, ◌++◌, length, map, arith, refl, sym, ap, ◌∙◌, subst, Some, Bool, true, false}
-use Rattle.std.specs.Prelude.{slice_get, slice_set, get_or, ◌==◌, option_to_list, if◌then◌else◌}
+use Rattle.std.proofs.Common.{◌≡◌, ℕ, zero, suc, ◌+◌, ◌<◌, ℤ, pos, ◌*ℤ◌, ◌<ℤ◌, List, [], ◌∷◌, length, map, arith, refl, sym, ap, ◌∙◌, subst, Some, Bool, true, false}
+use Rattle.std.specs.Prelude.{slice_get, get_or, ◌==◌, option_to_list, if◌then◌else◌}
 use Rattle.std.specs.List.{AllByRecursion}
 use Rattle.std.proofs.lemmas.Int.{ints}
 use Rattle.cap_lin.specs.Linear.{Linear, number}
@@ -12,26 +12,23 @@ use Rattle.cap_lin.specs.declared.row.Op.{Op}
 use Rattle.cap_lin.proofs.Rows.{row_of-means}
 use Rattle.cap_lin.proofs.Infeasible.{whole-amount}
 use Rattle.cap_prog.specs.declared.assertion.Comp.{Comp}
-use Rattle.cap_prog.specs.Program.{PlainAssertion, Label, set, branch, check, loop, Block, first, append, PlainFunction}
-use Rattle.cap_prog.specs.Scopes.{whole_numbers, body_scope, fixed_start, HasSort, TermFits, CompFits}
+use Rattle.cap_prog.specs.Program.{Block, PlainFunction}
+use Rattle.cap_prog.specs.Scopes.{whole_numbers, HasSort, TermFits, CompFits}
 use Rattle.cap_goal_spec.specs.Terms.{term_over}
-use Rattle.cap_goal_spec.specs.States.{PlainState, Home, PlainTask, to_run, to_turn, to_rest, goal, goal_of, goals_of}
+use Rattle.cap_goal_spec.specs.States.{PlainState, Home, PlainTask, to_run, to_rest, goal, goal_of, goals_of}
 use Rattle.cap_goal_spec.specs.Environments.{zero_value}
-use Rattle.cap_goal_spec.specs.Choices.{PlainTree, node, by_absurd, by_set, by_assert, by_if, by_turn, PlainTrees}
-use Rattle.cap_rules.specs.Making.{opposite, in_store, with_local, with_row, row_here}
-use Rattle.cap_rules.specs.Rules.{leaves, branches}
-use Rattle.cap_rules.specs.Attempts.{◌>>=◌, unit, prove}
-use Rattle.cap_machine.specs.Machine.{Frame, value_in, holds, with_rest, with_value}
+use Rattle.cap_goal_spec.specs.Choices.{PlainTrees}
+use Rattle.cap_rules.specs.Making.{opposite, in_store}
+use Rattle.cap_machine.specs.Machine.{Frame, value_in, holds}
 use Rattle.cap_machine_accounts.specs.Assertions.{NameValue, a_number, a_fraction, IsNamed, AreNamed}
-use Rattle.cap_account_states.specs.Nodes.{NodePredicate, Comes, Children}
-use Rattle.cap_account_resources.specs.Parts.{Hold, known_as, Table}
-use Rattle.cap_account_resources.proofs.Lists.{some-same, none-some, within, there-is, map-set}
+use Rattle.cap_account_states.specs.Nodes.{NodePredicate, Children}
+use Rattle.cap_account_resources.proofs.Lists.{some-same, none-some, within, there-is, all-more}
 use Rattle.cap_account_states.proofs.Terms.{Vars, Over, vars-more, over-over, number-over, RowOver, row-over, Agree, value-agree}
-use Rattle.cap_account_resources.proofs.Order.{met-relates, unmet-relates, not-both, relates-times}
-use Rattle.cap_account_states.proofs.Attempts.{store_row, row_added, after-here, after-prove, after-row-here, after-with-row}
-use Rattle.cap_account_states.proofs.Meets.{Usable, usable-old, Old, Meets, need, meets-row, solves, proved-holds}
-use Rattle.cap_account_states.proofs.Checked.{Checked, children-split, one-child}
-use Rattle.cap_account_steps.proofs.Points.{FrameOk}
+use Rattle.cap_account_resources.proofs.Order.{unmet-relates, not-both, relates-times}
+use Rattle.cap_account_states.proofs.Attempts.{store_row}
+use Rattle.cap_account_states.proofs.Meets.{Usable, usable-old, Old, Meets}
+use Rattle.cap_account_states.proofs.Alike.{Alike, above-zero, swapped, undo, value-alike}
+use Rattle.cap_account_states.proofs.Values.{named-at, named-of}
 
 -- ---- stores
 
@@ -239,5 +236,68 @@ store-same v w s t h fn fx f m a sorts e size st = record {
       let q = there-is fn.fixed i (omega (arith, l, size)) in
       within s.sorts (h.fixed + i) q.0 (st.fixed_known i q.0 q.1))
       a st.fixed_are;
+  fixed_known = λ i o q. sorts (h.fixed + i) o (st.fixed_known i o q);
+}
+
+-- ---- at alike values
+
+pub values-alike :
+    (P : ℕ → Type 0) (v w : Valuation) → Alike P v w → (ts : List Linear) →
+    AllByRecursion (Over P) ts → map (value w.whole) ts ≡ map (value v.whole) ts
+values-alike P v w a [] h = refl
+values-alike P v w a (t ∷ ts) h =
+    ap (λ z. z ∷ map (value w.whole) ts) (value-alike P v w a t h.0)
+    ∙ ap (λ zs. value v.whole t ∷ zs) (values-alike P v w a ts h.1)
+
+pub name-alike :
+    (P : ℕ → Type 0) (v w : Valuation) (x : ℕ) (y : NameValue) → P x → Alike P v w →
+    IsNamed v x y → IsNamed w x y
+name-alike P v w x (a_number z) h a is = a.whole x h ∙ is
+name-alike P v w x (a_fraction n d) h a is =
+    let dv = denominator v.fraction in
+    let dw = denominator w.fraction in
+    undo (w.fraction.numerator x *ℤ pos (suc d)) (n *ℤ dw) dv (above-zero v)
+    (swapped (w.fraction.numerator x) (pos (suc d)) dv
+    ∙ ap (λ z. z *ℤ pos (suc d)) (a.share x h)
+    ∙ swapped (v.fraction.numerator x) dw (pos (suc d))
+    ∙ ap (λ z. z *ℤ dw) is
+    ∙ swapped n dv dw)
+
+-- the variable of a fixed name is old, and has the name's value
+pub fixed-name :
+    (s : PlainState) (v : Valuation) (h : Home) (fn : PlainFunction) (fixed : List NameValue)
+    (f : Frame) → Store v s h fn fixed f → length fixed ≡ length fn.fixed → (i : ℕ) (y : NameValue) →
+    slice_get fixed i ≡ Some y → Old s (h.fixed + i) × IsNamed v (h.fixed + i) y
+fixed-name s v h fn fixed f st size i y e =
+    let o = there-is fn.fixed i (let q = within fixed i y e in omega (arith, q, size)) in (
+      within s.sorts (h.fixed + i) o.0 (st.fixed_known i o.0 o.1),
+      named-at v h.fixed fixed i y st.fixed_are e,
+    )
+
+pub fixed-alike :
+    (s : PlainState) (v w : Valuation) (h : Home) (fn : PlainFunction) (fixed : List NameValue)
+    (f : Frame) → Store v s h fn fixed f → length fixed ≡ length fn.fixed → Alike (Old s) v w →
+    AreNamed w h.fixed fixed
+fixed-alike s v w h fn fixed f st size a =
+    named-of w h.fixed fixed (λ i y e.
+    let k = fixed-name s v h fn fixed f st size i y e in
+    name-alike (Old s) v w (h.fixed + i) y k.0 a k.1)
+
+-- a later state with the same store is the frame's at alike values
+pub store-alike :
+    (v w : Valuation) (s t : PlainState) (h : Home) (fn : PlainFunction) (fixed : List NameValue)
+    (f : Frame) → AllByRecursion (Over (Usable [] s.sorts Int)) s.store → Alike (Old s) v w →
+    ((x : ℕ) (o : Sort) → slice_get s.sorts x ≡ Some o → slice_get t.sorts x ≡ Some o) →
+    t.store ≡ s.store → length fixed ≡ length fn.fixed → Store v s h fn fixed f →
+    Store w t h fn fixed f
+store-alike v w s t h fn fixed f over a sorts e size st = record {
+  home = st.home;
+  store = ap (map (value w.whole)) e
+      ∙ values-alike (Old s) v w a s.store
+      (all-more (Over (Usable [] s.sorts Int)) (Over (Old s))
+      (λ u k. vars-more (Usable [] s.sorts Int) (Old s) (usable-old [] s.sorts Int) u.parts k)
+      s.store over)
+      ∙ st.store;
+  fixed_are = fixed-alike s v w h fn fixed f st size a;
   fixed_known = λ i o q. sorts (h.fixed + i) o (st.fixed_known i o q);
 }

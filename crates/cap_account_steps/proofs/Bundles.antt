@@ -1,17 +1,15 @@
 -- The trees of a bundle, by the roots of a function.
-use Rattle.std.proofs.Common.{◌≡◌, ℕ, zero, suc, ◌+◌, ◌<◌, List, [], ◌∷◌, length, map, arith, refl, sym, ap, subst, Option, Some, None, inl, inr}
-use Rattle.std.specs.Prelude.{slice_get, flat_map, option_to_list}
-use Rattle.std.specs.List.{AllZip, range_with_len}
+use Rattle.std.proofs.Common.{◌≡◌, ℕ, ◌+◌, List, [], ◌∷◌, length, map, arith, refl, sym, ap, Option, Some, zero, suc, ◌<◌, subst, None, inl, inr}
+use Rattle.std.specs.Prelude.{slice_get, option_to_list, flat_map}
 use Rattle.cap_prog.specs.Program.{done, PlainFunction, PlainProgram}
-use Rattle.cap_prog.specs.WellFormed.{IsWellFormed}
-use Rattle.cap_goal_spec.specs.States.{PlainGoal, to_run, to_turn}
-use Rattle.cap_goal_spec.specs.Choices.{PlainTree, PlainTrees, no_trees, tree}
-use Rattle.cap_goal_spec.specs.Roots.{region_unit, function_unit, loops_in, loop_roots, function_roots, optional_roots, roots, units, all_roots, at_entry, at_loop, home_of, from_given}
-use Rattle.cap_rules.specs.Valid.{RootDerives, Valid}
+use Rattle.cap_goal_spec.specs.States.{to_run, to_turn, PlainGoal}
+use Rattle.cap_goal_spec.specs.Choices.{PlainTrees, PlainTree, no_trees, tree}
+use Rattle.cap_goal_spec.specs.Roots.{LoopPoint, loops_in, at_entry, at_loop, home_of, from_given, region_unit, function_unit, loop_roots, function_roots, optional_roots, roots, units, all_roots}
 use Rattle.cap_account_states.specs.Nodes.{Children, Deriving}
-use Rattle.cap_account_resources.proofs.Lists.{within, Among, among-left, among-right}
-use Rattle.cap_account_states.proofs.Checked.{derivations}
-use Rattle.cap_account.proofs.Entering.{AllChecked}
+use Rattle.cap_account_resources.proofs.Lists.{Among, within, among-left, among-right}
+use Rattle.cap_account_states.proofs.Checked.{Checked, derivations}
+use Rattle.std.specs.List.{AllZip, range_with_len}
+use Rattle.cap_rules.specs.Valid.{RootDerives, Valid}
 
 zip-at :
     {X Y : Type 0} (R : X → Y → Type 0) (xs : List X) (ys : List Y) (y : Y) → AllZip R xs ys →
@@ -65,12 +63,25 @@ function-root p trees valid n f e g k =
     (among-flat (roots p) (units p) (function_unit n) g u r) in
     root-trees p z.0 g z.1
 
-pub all-checked :
-    (p : PlainProgram) (trees : List (Option PlainTree)) → IsWellFormed p → p.regions ≡ [] →
-    Valid p trees → AllChecked (derivations p)
-all-checked p trees program bare valid = record {
-  program = program;
-  bare = bare;
+-- the roots that bodies and loops begin with have trees
+pub record UnitRoots (p : Checked) : Type 0 where
+  pub bodies :
+      (n : ℕ) (f : PlainFunction) → slice_get p.program.functions n ≡ Some f →
+      (ks : PlainTrees) × Children p.N ks
+      (option_to_list
+      (from_given at_entry f n 0 f.requires (to_run (home_of at_entry f n) f.body)))
+  pub loops :
+      (n : ℕ) (f : PlainFunction) → slice_get p.program.functions n ≡ Some f →
+      (w : LoopPoint) → Among w (loops_in f.body done) →
+      (ks : PlainTrees) × Children p.N ks
+      (option_to_list
+      (from_given at_loop f n (length w.invariant.names) w.invariant.items
+      (to_turn (home_of at_loop f n) w.block)))
+
+pub unit-roots :
+    (p : PlainProgram) (trees : List (Option PlainTree)) → Valid p trees →
+    UnitRoots (derivations p)
+unit-roots p trees valid = record {
   bodies =
       λ n f e. function-root p trees valid n f e
       (from_given at_entry f n 0 f.requires (to_run (home_of at_entry f n) f.body))
