@@ -21,3 +21,5 @@ pub mod Exact
 pub mod Turning
 pub mod Renewing
 pub mod Resting
+pub mod Reserved
+pub mod Firming

@@ -1,0 +1,92 @@
+-- Variables that are kept free: one of them gets another value, and fewer of them are.
+use Rattle.std.proofs.Common.{◌≡◌, ◌≢◌, ℕ, ◌<◌, ℤ, ◌*ℤ◌, List, [], ◌∷◌, length, Some, inl, inr, sym, ap, ◌∙◌, subst}
+use Rattle.std.specs.Prelude.{slice_get}
+use Rattle.std.proofs.lemmas.Bool.{cases_eq}
+use Rattle.cap_lin.specs.Linear.{variable}
+use Rattle.cap_lin.specs.Values.{Valuation, denominator, value}
+use Rattle.cap_lin.specs.Solves.{IsWholeAt}
+use Rattle.cap_lin.specs.declared.row.Sort.{Sort}
+use Rattle.cap_lin.specs.declared.row.Sort.TheVariants.{Int}
+use Rattle.cap_prog.specs.Program.{PlainProgram}
+use Rattle.cap_goal_spec.specs.States.{PlainState}
+use Rattle.cap_account_resources.proofs.Lists.{all-more, Among}
+use Rattle.cap_account_states.proofs.Terms.{RowOver, Agree, agree-less}
+use Rattle.cap_account_states.proofs.Compatible.{pieces-more}
+use Rattle.cap_account_states.proofs.Meets.{Free, Usable, CellOver, cell-more, row-more, meets-agree, with_value, new-whole, new-share, with-agrees, variable-value}
+use Rattle.cap_account_states.proofs.Backed.{Grounded}
+
+-- ---- one variable gets a number
+
+-- the number as a fraction too
+abbrev pub set_to : Valuation → ℕ → ℤ → Valuation
+set_to v x z = with_value v x z (z *ℤ denominator v.fraction)
+
+module _ (v : Valuation) (x : ℕ) (z : ℤ) where
+  pub set-agrees : Agree (λ y. y ≢ x) v (set_to v x z)
+  set-agrees = with-agrees (λ y. y ≢ x) v x z (z *ℤ denominator v.fraction) (λ y ne. ne)
+
+  pub set-is : value (set_to v x z).whole (variable x) ≡ z
+  set-is = variable-value (set_to v x z) x ∙ new-whole v x z (z *ℤ denominator v.fraction)
+
+  pub set-whole : (y : ℕ) → IsWholeAt v y → IsWholeAt (set_to v x z) y
+  set-whole y h = elim (cases_eq y x) [
+    | inl e ↦ subst (IsWholeAt (set_to v x z)) (sym e) here
+    | inr ne ↦
+        set-agrees.share y ne ∙ h
+        ∙ ap (λ u. u *ℤ denominator v.fraction) (sym (set-agrees.whole y ne))
+  ]
+    where
+      here : IsWholeAt (set_to v x z) x
+      here =
+          new-share v x z (z *ℤ denominator v.fraction)
+          ∙ ap (λ u. u *ℤ denominator v.fraction)
+          (sym (new-whole v x z (z *ℤ denominator v.fraction)))
+
+-- ---- other values of variables that are kept free
+
+pub kept-other : (ks : List ℕ) (x y : ℕ) → Among x ks → Free ks y → y ≢ x
+kept-other [] x y a h e = absurd a
+kept-other (k ∷ ks) x y (inl q) h e = h.0 (e ∙ sym q)
+kept-other (k ∷ ks) x y (inr a) h e = kept-other ks x y a h.1 e
+
+abbrev pub AllSorted : List Sort → Valuation → Type 0
+AllSorted sorts v = (x : ℕ) → slice_get sorts x ≡ Some Int → IsWholeAt v x
+
+module _ (p : PlainProgram) (s : PlainState) where
+  pub grounded-at :
+      (ks : List ℕ) (v w : Valuation) → Agree (Free ks) v w → AllSorted s.sorts w →
+      Grounded p ks v s → Grounded p ks w s
+  grounded-at ks v w a sorted g =
+      let P : ℕ → Type 0 = λ x. (x < length s.sorts) × Free ks x in
+      record {
+        meets = meets-agree ks v w s (agree-less P (Free ks) v w (λ x h. h.1) a) sorted g.meets;
+        pieces_over = g.pieces_over;
+        pieces_fit = g.pieces_fit;
+      }
+
+  -- fewer variables are kept free
+  pub usable-free :
+      (ks js : List ℕ) → ((y : ℕ) → Free ks y → Free js y) → (o : Sort) (x : ℕ) →
+      Usable ks s.sorts o x → Usable js s.sorts o x
+  usable-free ks js f o x h = (h.0, f x h.1)
+
+  pub grounded-free :
+      (ks js : List ℕ) (v : Valuation) → ((y : ℕ) → Free ks y → Free js y) → Grounded p ks v s →
+      Grounded p js v s
+  grounded-free ks js v f g =
+      let R = Usable ks s.sorts in
+      let S = Usable js s.sorts in
+      let more = usable-free ks js f in
+      let m = g.meets in
+      record {
+        meets = record {
+          sorted = m.sorted;
+          rows = m.rows;
+          rows_over = all-more (RowOver R) (RowOver S) (row-more R S more) s.rows m.rows_over;
+          cells_over = all-more (CellOver R) (CellOver S) (cell-more R S more) s.cells m.cells_over;
+          positive = m.positive;
+          store_over = m.store_over;
+        };
+        pieces_over = pieces-more R S more s.guards g.pieces_over;
+        pieces_fit = g.pieces_fit;
+      }
