@@ -23,3 +23,4 @@ pub mod Renewing
 pub mod Resting
 pub mod Reserved
 pub mod Firming
+pub mod Joining

@@ -1,7 +1,9 @@
 -- Variables that are kept free: one of them gets another value, and fewer of them are.
-use Rattle.std.proofs.Common.{◌≡◌, ◌≢◌, ℕ, ◌<◌, ℤ, ◌*ℤ◌, List, [], ◌∷◌, length, Some, inl, inr, sym, ap, ◌∙◌, subst}
-use Rattle.std.specs.Prelude.{slice_get}
+use Rattle.std.proofs.Common.{◌≡◌, ◌≢◌, ℕ, ◌<◌, ℤ, ◌*ℤ◌, List, [], ◌∷◌, length, Some, inl, inr, Bool, true, false, arith, sym, ap, ◌∙◌, subst, refl}
+use Rattle.std.specs.Prelude.{slice_get, nat_eq}
+use Rattle.std.specs.List.{AllByRecursion}
 use Rattle.std.proofs.lemmas.Bool.{cases_eq}
+use Rattle.std.proofs.lemmas.Bool.Decides.{nat_tests}
 use Rattle.cap_lin.specs.Linear.{variable}
 use Rattle.cap_lin.specs.Values.{Valuation, denominator, value}
 use Rattle.cap_lin.specs.Solves.{IsWholeAt}
@@ -10,10 +12,12 @@ use Rattle.cap_lin.specs.declared.row.Sort.TheVariants.{Int}
 use Rattle.cap_prog.specs.Program.{PlainProgram}
 use Rattle.cap_goal_spec.specs.States.{PlainState}
 use Rattle.cap_account_resources.proofs.Lists.{all-more, Among}
+use Rattle.cap_account_resources.proofs.Stocks.{Stock}
 use Rattle.cap_account_states.proofs.Terms.{RowOver, Agree, agree-less}
-use Rattle.cap_account_states.proofs.Compatible.{pieces-more}
+use Rattle.cap_account_states.proofs.Alike.{agree-alike, need-alike}
+use Rattle.cap_account_states.proofs.Compatible.{pieces-more, covered-alike}
 use Rattle.cap_account_states.proofs.Meets.{Free, Usable, CellOver, cell-more, row-more, meets-agree, with_value, new-whole, new-share, with-agrees, variable-value}
-use Rattle.cap_account_states.proofs.Backed.{Grounded}
+use Rattle.cap_account_states.proofs.Backed.{Backed, Grounded}
 
 -- ---- one variable gets a number
 
@@ -90,3 +94,64 @@ module _ (p : PlainProgram) (s : PlainState) where
         pieces_over = pieces-more R S more s.guards g.pieces_over;
         pieces_fit = g.pieces_fit;
       }
+
+  -- what is held backs the state at such values too
+  pub backed-at :
+      (ks : List ℕ) (v w : Valuation) (q : Stock) → Agree (Free ks) v w → Grounded p ks v s →
+      Backed p v s q → Backed p w s q
+  backed-at ks v w q a g b =
+      let R = Usable ks s.sorts in
+      let l = agree-alike (Free ks) v w a in
+      record {
+        cells = λ x z.
+            let e = need-alike R (Free ks) v w (λ y h. h.1) l s.cells g.meets.cells_over x z in
+            let i = b.cells x z in
+            omega (arith, e, i);
+        guards = λ n.
+            covered-alike p (Free ks) v w l s.guards n (q.guards n)
+            (pieces-more R (λ o. Free ks) (λ o y h. h.1) s.guards g.pieces_over) (b.guards n);
+      }
+
+-- ---- all of them but one
+
+abbrev kept_unless : Bool → ℕ → List ℕ → List ℕ
+kept_unless true k ks = ks
+kept_unless false k ks = k ∷ ks
+
+abbrev pub all_but : ℕ → List ℕ → List ℕ
+all_but x [] = []
+all_but x (k ∷ ks) = kept_unless (nat_eq k x) k (all_but x ks)
+
+kept-all :
+    (P : ℕ → Type 0) (b : Bool) (k : ℕ) (ks : List ℕ) → (b ≡ false → P k) → AllByRecursion P ks →
+    AllByRecursion P (kept_unless b k ks)
+kept-all P true k ks h r = r
+kept-all P false k ks h r = (h refl, r)
+
+pub all-but :
+    (P : ℕ → Type 0) (x : ℕ) (ks : List ℕ) → AllByRecursion P ks → AllByRecursion P (all_but x ks)
+all-but P x [] h = tt
+all-but P x (k ∷ ks) h =
+    kept-all P (nat_eq k x) k (all_but x ks) (λ e. h.0) (all-but P x ks h.1)
+
+pub but-free : (x : ℕ) (ks : List ℕ) → Free (all_but x ks) x
+but-free x [] = tt
+but-free x (k ∷ ks) =
+    kept-all (λ j. x ≢ j) (nat_eq k x) k (all_but x ks) (λ e. differ e) (but-free x ks)
+  where
+    differ : nat_eq k x ≡ false → x ≢ k
+    differ e = grind (arith, nat_tests, e)
+
+pub among-but : (x y : ℕ) (ks : List ℕ) → y ≢ x → Among y ks → Among y (all_but x ks)
+among-but x y [] ne a = absurd a
+among-but x y (k ∷ ks) ne (inl q) = by (nat_eq k x) refl
+  where
+    by : (b : Bool) → nat_eq k x ≡ b → Among y (kept_unless b k (all_but x ks))
+    by true e = absurd (ne (let same : k ≡ y = q in grind (arith, nat_tests, e, same)))
+    by false e = inl q
+among-but x y (k ∷ ks) ne (inr m) = by (nat_eq k x) (among-but x y ks ne m)
+  where
+    by :
+        (b : Bool) → Among y (all_but x ks) → Among y (kept_unless b k (all_but x ks))
+    by true r = r
+    by false r = inr r
