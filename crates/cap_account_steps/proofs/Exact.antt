@@ -1,15 +1,16 @@
 -- Facts that say just what the table does: at other values, one of them changed, and what is held of
 -- their regions.
-use Rattle.std.proofs.Common.{◌≡◌, ◌≢◌, ℕ, suc, ◌<◌, ℤ, List, [], ◌∷◌, length, map, Option, Some, None, inl, inr, refl, sym, ap, ◌∙◌, subst}
+use Rattle.std.proofs.Common.{◌≡◌, ◌≢◌, ℕ, zero, suc, ◌<◌, ℤ, List, [], ◌∷◌, length, map, Option, Some, None, inl, inr, refl, sym, ap, ◌∙◌, subst}
 use Rattle.std.specs.Prelude.{slice_get, slice_set}
 use Rattle.std.specs.List.{AllByRecursion}
 use Rattle.std.proofs.lemmas.Bool.{cases_eq}
 use Rattle.cap_lin.specs.Linear.{Linear}
 use Rattle.cap_lin.specs.Values.{Valuation, value}
 use Rattle.cap_prog.specs.Program.{PlainProgram}
+use Rattle.cap_machine_accounts.specs.Accounts.{EachTwo}
 use Rattle.cap_goal_spec.specs.States.{PlainFact, PlainState}
 use Rattle.cap_account_resources.specs.Parts.{Known, known_as, Table}
-use Rattle.cap_account_resources.proofs.Lists.{some-same, all-more, get-set-same, get-set-other}
+use Rattle.cap_account_resources.proofs.Lists.{some-same, none-some, all-more, get-set-other}
 use Rattle.cap_account_resources.proofs.Marks.{Mark}
 use Rattle.cap_account_resources.proofs.Covering.{IsPartOf, Covered}
 use Rattle.cap_account_resources.proofs.Room.{room, room-some, part-some, in-room}
@@ -71,16 +72,37 @@ covered-old p ks v w s a g n m c =
 abbrev pub Each : {X : Type 0} → (ℕ → X → Type 0) → List X → Type 0
 Each {X} P xs = (i : ℕ) (x : X) → slice_get xs i ≡ Some x → P i x
 
+pub set-here :
+    {X : Type 0} (xs : List X) (j : ℕ) (y x : X) → slice_get (slice_set xs j y) j ≡ Some x → y ≡ x
+set-here [] j y x e = absurd (none-some e)
+set-here (z ∷ xs) zero y x e = some-same y x e
+set-here (z ∷ xs) (suc j) y x e = set-here xs j y x e
+
 pub each-set :
-    {X : Type 0} (P Q : ℕ → X → Type 0) (xs : List X) (j : ℕ) (y : X) → j < length xs →
+    {X : Type 0} (P Q : ℕ → X → Type 0) (xs : List X) (j : ℕ) (y : X) →
     ((i : ℕ) (x : X) → i ≢ j → P i x → Q i x) → Q j y → Each P xs → Each Q (slice_set xs j y)
-each-set P Q xs j y l others new each i x e = elim (cases_eq i j) [
+each-set P Q xs j y others new each i x e = elim (cases_eq i j) [
   | inl q ↦
-      let same = some-same y x
-      (sym (get-set-same xs j y l) ∙ ap (slice_get (slice_set xs j y)) (sym q) ∙ e) in
-      subst (Q i) same (subst (λ k. Q k y) (sym q) new)
+      subst (Q i) (set-here xs j y x (ap (slice_get (slice_set xs j y)) (sym q) ∙ e))
+      (subst (λ k. Q k y) (sym q) new)
   | inr ne ↦ others i x ne (each i x (sym (get-set-other xs j i y ne) ∙ e))
 ]
+
+pub all-set :
+    {X : Type 0} (P : X → Type 0) (xs : List X) (j : ℕ) (y : X) → P y → AllByRecursion P xs →
+    AllByRecursion P (slice_set xs j y)
+all-set P [] j y h k = tt
+all-set P (x ∷ xs) zero y h k = (h, k.1)
+all-set P (x ∷ xs) (suc j) y h k = (k.0, all-set P xs j y h k.1)
+
+-- of each two, where the new one stands so to all
+pub each-two-set :
+    {X : Type 0} (R : X → X → Type 0) → ((x y : X) → R x y → R y x) → (xs : List X) (j : ℕ)
+    (y : X) → AllByRecursion (R y) xs → EachTwo R xs → EachTwo R (slice_set xs j y)
+each-two-set R back [] j y h k = tt
+each-two-set R back (x ∷ xs) zero y h k = (h.1, k.1)
+each-two-set R back (x ∷ xs) (suc j) y h k =
+    (all-set (R x) xs j y (back y x h.0) k.0, each-two-set R back xs j y h.1 k.1)
 
 pub all-each :
     {X : Type 0} (P : X → Type 0) (xs : List X) → Each (λ i. P) xs → AllByRecursion P xs

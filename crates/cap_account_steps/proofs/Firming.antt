@@ -20,7 +20,7 @@ use Rattle.cap_account_states.proofs.Facts.{StateHolds, FactHolds, StateOver, Fa
 use Rattle.cap_account_states.proofs.Backed.{Grounded}
 use Rattle.cap_account_steps.proofs.Worlds.{Exact, AllOver}
 use Rattle.cap_account_steps.proofs.Exact.{told-alike, all-two}
-use Rattle.cap_account_steps.proofs.Reserved.{set_to, set-agrees, set-is, set-whole, kept-other, AllSorted, grounded-at, grounded-free}
+use Rattle.cap_account_steps.proofs.Reserved.{set_to, set-agrees, set-is, set-whole, kept-other, AllSorted, grounded-at, usable-free, grounded-free}
 
 -- ---- the table's states
 
@@ -215,7 +215,7 @@ firmed p ks T v s full g fs =
     record {
       w = w;
       agree = a;
-      grounded = grounded-free p s ks [] w (λ y h. tt)
+      grounded = grounded-free p s ks [] w (usable-free p s ks [] (λ y h. tt))
           (grounded-at p s ks v w a (firm-sorted ks s.sorts T v g.meets.sorted s.facts) g);
       exact = all-two (λ f. FactOver (Free ks) f × FactHolds v T f)
           (λ f. value w.whole f.state ≡ told_state T v f) (Exact w T)

@@ -220,7 +220,7 @@ module _ (p : PlainProgram) (ks : List ℕ) (v : Valuation) (U : Table) (s : Pla
         let js = r.js in
         let found = find test s.facts in
         let rows = rows-hold found refl in
-        let b = grounded-free p s ks js w r.less (grounded-at p s ks v w r.agree r.sorted g) in
+        let b = grounded-free p s ks js w (usable-free p s ks js r.less) (grounded-at p s ks v w r.agree r.sorted g) in
         let m = b.meets in
         let kept = facts-at w r.agree s.facts fs.over fs.holds in
         let more = all-more (FactOver (Usable ks s.sorts Int)) (FactOver (S Int)) stronger s.facts

@@ -1,5 +1,5 @@
 -- Variables that are kept free: one of them gets another value, and fewer of them are.
-use Rattle.std.proofs.Common.{◌≡◌, ◌≢◌, ℕ, ◌<◌, ℤ, ◌*ℤ◌, List, [], ◌∷◌, length, Some, inl, inr, Bool, true, false, arith, sym, ap, ◌∙◌, subst, refl}
+use Rattle.std.proofs.Common.{◌≡◌, ◌≢◌, ℕ, ◌<◌, ℤ, ◌*ℤ◌, List, [], ◌∷◌, ◌++◌, length, Some, inl, inr, Bool, true, false, arith, sym, ap, ◌∙◌, subst, refl}
 use Rattle.std.specs.Prelude.{slice_get, nat_eq}
 use Rattle.std.specs.List.{AllByRecursion}
 use Rattle.std.proofs.lemmas.Bool.{cases_eq}
@@ -11,12 +11,13 @@ use Rattle.cap_lin.specs.declared.row.Sort.{Sort}
 use Rattle.cap_lin.specs.declared.row.Sort.TheVariants.{Int}
 use Rattle.cap_prog.specs.Program.{PlainProgram}
 use Rattle.cap_goal_spec.specs.States.{PlainState}
-use Rattle.cap_account_resources.proofs.Lists.{all-more, Among}
+use Rattle.cap_account_resources.proofs.Lists.{all-more, get-first, Among}
 use Rattle.cap_account_resources.proofs.Stocks.{Stock}
 use Rattle.cap_account_states.proofs.Terms.{RowOver, Agree, agree-less}
 use Rattle.cap_account_states.proofs.Alike.{agree-alike, need-alike}
+use Rattle.cap_account_states.proofs.Attempts.{sort_added}
 use Rattle.cap_account_states.proofs.Compatible.{pieces-more, covered-alike}
-use Rattle.cap_account_states.proofs.Meets.{Free, Usable, CellOver, cell-more, row-more, meets-agree, with_value, new-whole, new-share, with-agrees, variable-value}
+use Rattle.cap_account_states.proofs.Meets.{Free, Usable, usable-on, Old, meets-fresh, CellOver, cell-more, row-more, meets-agree, with_value, new-whole, new-share, with-agrees, variable-value}
 use Rattle.cap_account_states.proofs.Backed.{Backed, Grounded}
 
 -- ---- one variable gets a number
@@ -32,19 +33,19 @@ module _ (v : Valuation) (x : ℕ) (z : ℤ) where
   pub set-is : value (set_to v x z).whole (variable x) ≡ z
   set-is = variable-value (set_to v x z) x ∙ new-whole v x z (z *ℤ denominator v.fraction)
 
+  pub set-here-whole : IsWholeAt (set_to v x z) x
+  set-here-whole =
+      new-share v x z (z *ℤ denominator v.fraction)
+      ∙ ap (λ u. u *ℤ denominator v.fraction)
+      (sym (new-whole v x z (z *ℤ denominator v.fraction)))
+
   pub set-whole : (y : ℕ) → IsWholeAt v y → IsWholeAt (set_to v x z) y
   set-whole y h = elim (cases_eq y x) [
-    | inl e ↦ subst (IsWholeAt (set_to v x z)) (sym e) here
+    | inl e ↦ subst (IsWholeAt (set_to v x z)) (sym e) set-here-whole
     | inr ne ↦
         set-agrees.share y ne ∙ h
         ∙ ap (λ u. u *ℤ denominator v.fraction) (sym (set-agrees.whole y ne))
   ]
-    where
-      here : IsWholeAt (set_to v x z) x
-      here =
-          new-share v x z (z *ℤ denominator v.fraction)
-          ∙ ap (λ u. u *ℤ denominator v.fraction)
-          (sym (new-whole v x z (z *ℤ denominator v.fraction)))
 
 -- ---- other values of variables that are kept free
 
@@ -75,12 +76,12 @@ module _ (p : PlainProgram) (s : PlainState) where
   usable-free ks js f o x h = (h.0, f x h.1)
 
   pub grounded-free :
-      (ks js : List ℕ) (v : Valuation) → ((y : ℕ) → Free ks y → Free js y) → Grounded p ks v s →
-      Grounded p js v s
-  grounded-free ks js v f g =
+      (ks js : List ℕ) (v : Valuation) →
+      ((o : Sort) (x : ℕ) → Usable ks s.sorts o x → Usable js s.sorts o x) →
+      Grounded p ks v s → Grounded p js v s
+  grounded-free ks js v more g =
       let R = Usable ks s.sorts in
       let S = Usable js s.sorts in
-      let more = usable-free ks js f in
       let m = g.meets in
       record {
         meets = record {
@@ -92,6 +93,21 @@ module _ (p : PlainProgram) (s : PlainState) where
           store_over = m.store_over;
         };
         pieces_over = pieces-more R S more s.guards g.pieces_over;
+        pieces_fit = g.pieces_fit;
+      }
+
+  -- a new variable of sort Int
+  pub grounded-fresh :
+      (ks : List ℕ) (v w : Valuation) → Agree (Old s) v w → IsWholeAt w (length s.sorts) →
+      Grounded p ks v s → Grounded p ks w (sort_added s Int)
+  grounded-fresh ks v w a whole g =
+      let grow = λ (x : ℕ) (o : Sort) (e : slice_get s.sorts x ≡ Some o).
+      get-first s.sorts (Int ∷ []) x o e in
+      record {
+        meets = meets-fresh ks v w s Int a whole g.meets;
+        pieces_over =
+            pieces-more (Usable ks s.sorts) (Usable ks (s.sorts ++ Int ∷ []))
+            (usable-on ks s.sorts (s.sorts ++ Int ∷ []) grow) s.guards g.pieces_over;
         pieces_fit = g.pieces_fit;
       }
 

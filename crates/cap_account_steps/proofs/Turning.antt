@@ -215,7 +215,7 @@ module _ (p : PlainProgram) (ks : List ℕ) (part : Stock) (T U : Table) (j : �
       Each (IsDue ks sorts w T U (suc j)) (slice_set s.facts j g)
   due-set sorts w g grow a o e firm =
       each-set (IsDue ks s.sorts v T U j) (IsDue ks sorts w T U (suc j)) s.facts j g
-      (within s.facts j f turn.is_fact) other (o, (λ l. (e, firm)), (λ l. absurd (omega (arith, l)))) mid.due
+      other (o, (λ l. (e, firm)), (λ l. absurd (omega (arith, l)))) mid.due
     where
       lower : (i : ℕ) → i < suc j → i ≢ j → i < j
       lower i l ne = omega (arith, l, ne)
