@@ -24,3 +24,4 @@ pub mod Resting
 pub mod Reserved
 pub mod Firming
 pub mod Joining
+pub mod Marking

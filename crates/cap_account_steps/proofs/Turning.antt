@@ -14,7 +14,7 @@ use Rattle.cap_goal_spec.specs.Candidates.{later_state}
 use Rattle.cap_rules.specs.Resting.{prove_kept, prove_stable}
 use Rattle.cap_account_states.specs.Nodes.{Comes}
 use Rattle.cap_account_resources.specs.Parts.{known_as, Table}
-use Rattle.cap_account_resources.proofs.Lists.{some-same, within, map-length, set-length, all-at}
+use Rattle.cap_account_resources.proofs.Lists.{some-same, map-length, set-length, all-at}
 use Rattle.cap_account_resources.proofs.Marks.{free}
 use Rattle.cap_account_resources.proofs.Covering.{IsPartOf, free-right, Covered}
 use Rattle.cap_account_resources.proofs.Interference.{Relies, Reach}
