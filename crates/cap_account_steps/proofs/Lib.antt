@@ -10,12 +10,12 @@ pub mod Frames
 pub mod Worlds
 pub mod Statements
 pub mod Local
+pub mod Candidates
 pub mod Cells
 pub mod Callees
 pub mod OwnNames
 pub mod Entries
 pub mod Bundles
-pub mod Candidates
 pub mod Returning
 pub mod Beginning
 pub mod Allocating
@@ -24,3 +24,11 @@ pub mod CallSite
 pub mod Results
 pub mod Calling
 pub mod CallLaws
+pub mod Exact
+pub mod Turning
+pub mod Renewing
+pub mod Resting
+pub mod Reserved
+pub mod Firming
+pub mod Joining
+pub mod Marking
