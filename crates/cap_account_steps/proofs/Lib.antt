@@ -16,10 +16,15 @@ pub mod Callees
 pub mod OwnNames
 pub mod Entries
 pub mod Bundles
+pub mod Offers
+pub mod Atoms
 pub mod Returning
 pub mod Beginning
 pub mod Allocating
 pub mod Reserving
+pub mod Actions
+pub mod Moves
+pub mod Shifting
 pub mod CallSite
 pub mod Results
 pub mod Calling
