@@ -37,3 +37,4 @@ pub mod Reserved
 pub mod Firming
 pub mod Joining
 pub mod Marking
+pub mod SettledTables
