@@ -38,3 +38,4 @@ pub mod Firming
 pub mod Joining
 pub mod Marking
 pub mod SettledTables
+pub mod SettledTwice
