@@ -39,3 +39,4 @@ pub mod Joining
 pub mod Marking
 pub mod SettledTables
 pub mod SettledTwice
+pub mod StillOpen
