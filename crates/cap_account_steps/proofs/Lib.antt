@@ -40,3 +40,4 @@ pub mod Marking
 pub mod SettledTables
 pub mod SettledTwice
 pub mod StillOpen
+pub mod ClosedTables

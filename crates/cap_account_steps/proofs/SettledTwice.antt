@@ -106,7 +106,7 @@ module _ (p : PlainProgram) (V W T U : Table) (part : Stock) (as' bs : List ℤ)
 -- ---- and with what is held
 
 -- for numbers that are among them
-pub settles-for :
+abbrev pub settles-for :
     (p : PlainProgram) (V W : Table) (part held kept : Stock) (ns ms : List ℤ) →
     ((n : ℤ) → Among n ns → Among n ms) → length ms ≡ length ns →
     SettlesBy p V W part held ms kept → SettlesBy p V W part held ns kept
@@ -128,7 +128,7 @@ module _ (p : PlainProgram) (W T U : Table) (types : KeepsTypes W T) (types2 : K
       (λ a z. omega arith) (new-guards-twice p W T U types types2)
 
   -- what is kept at last, and what all these owners have, is out of what was held at first
-  budget-twice :
+  pub budget-twice :
       (held left kept : Stock) (cs cs2 ms ms2 : List Owner) →
       Inside p (both p left (both p (owned p cs) (owned p ms))) (both p held (new_guards p W T)) →
       Inside p (both p kept (both p (owned p cs2) (owned p ms2)))
@@ -163,7 +163,7 @@ module _ (p : PlainProgram) (W T U : Table) (types : KeepsTypes W T) (types2 : K
       (subst (Inside p (both p (both p left given) g2)) end
       (inside-beside p (both p left given) (both p held g) g2 h))))
 
-pub settles-again :
+abbrev pub settles-again :
     (p : PlainProgram) (V W : Table) (part held left kept : Stock) (ns ms : List ℤ) →
     (a : SettlesBy p V W part held ns left) → SettlesBy p V a.U part left ms kept →
     SettlesBy p V W part held (ns ++ ms) kept
