@@ -2,3 +2,9 @@ pub mod Giving
 pub mod Taking
 pub mod Asserted
 pub mod Laws
+pub mod GiveSlots
+pub mod GiveState
+pub mod GiveItems
+pub mod GiveLaw
+pub mod Finer
+pub mod MadeTables

@@ -71,7 +71,7 @@ pub record Facts (ks : List ℕ) (v : Valuation) (T : Table) (s : PlainState) : 
 
 -- ---- at alike values, and in a later state
 
-values-alike :
+pub values-alike :
     (P : ℕ → Type 0) (v w : Valuation) → Alike P v w → (ts : List Linear) →
     AllByRecursion (Over P) ts → map (value w.whole) ts ≡ map (value v.whole) ts
 values-alike P v w a [] h = refl

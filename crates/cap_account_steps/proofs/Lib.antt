@@ -25,3 +25,10 @@ pub mod Reserved
 pub mod Firming
 pub mod Joining
 pub mod Marking
+pub mod Beginning
+pub mod Allocating
+pub mod Reserving
+pub mod CallSite
+pub mod Results
+pub mod Calling
+pub mod CallLaws
