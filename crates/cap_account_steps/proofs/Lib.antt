@@ -32,3 +32,4 @@ pub mod CallSite
 pub mod Results
 pub mod Calling
 pub mod CallLaws
+pub mod RestLaws
