@@ -40,3 +40,4 @@ pub mod CallLaws
 pub mod CaseStates
 pub mod CaseValues
 pub mod RestLaws
+pub mod CaseHolds
