@@ -256,7 +256,7 @@ module _ (p : PlainProgram) (ks : List ℕ) (v : Valuation) (U : Table) (s : Pla
                 (λ h a e. absurd (not-both e));
           };
           backed = λ q d.
-              let e = backed-at p s ks v w q r.agree g d in
+              let e = backed-at p s ks (Free ks) v w q (λ o x h. h.1) (agree-alike (Free ks) v w r.agree) g d in
               record { cells = e.cells; guards = e.guards };
         }
       where

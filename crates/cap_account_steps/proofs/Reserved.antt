@@ -14,7 +14,7 @@ use Rattle.cap_goal_spec.specs.States.{PlainState}
 use Rattle.cap_account_resources.proofs.Lists.{all-more, get-first, Among}
 use Rattle.cap_account_resources.proofs.Stocks.{Stock}
 use Rattle.cap_account_states.proofs.Terms.{RowOver, Agree, agree-less}
-use Rattle.cap_account_states.proofs.Alike.{agree-alike, need-alike}
+use Rattle.cap_account_states.proofs.Alike.{Alike, need-alike}
 use Rattle.cap_account_states.proofs.Attempts.{sort_added}
 use Rattle.cap_account_states.proofs.Compatible.{pieces-more, covered-alike}
 use Rattle.cap_account_states.proofs.Meets.{Free, Usable, usable-on, Old, meets-fresh, CellOver, cell-more, row-more, meets-agree, with_value, new-whole, new-share, with-agrees, variable-value}
@@ -111,21 +111,21 @@ module _ (p : PlainProgram) (s : PlainState) where
         pieces_fit = g.pieces_fit;
       }
 
-  -- what is held backs the state at such values too
+  -- what is held backs the state at values that are alike on what it uses
   pub backed-at :
-      (ks : List ℕ) (v w : Valuation) (q : Stock) → Agree (Free ks) v w → Grounded p ks v s →
+      (ks : List ℕ) (P : ℕ → Type 0) (v w : Valuation) (q : Stock) →
+      ((o : Sort) (x : ℕ) → Usable ks s.sorts o x → P x) → Alike P v w → Grounded p ks v s →
       Backed p v s q → Backed p w s q
-  backed-at ks v w q a g b =
+  backed-at ks P v w q uses l g b =
       let R = Usable ks s.sorts in
-      let l = agree-alike (Free ks) v w a in
       record {
         cells = λ x z.
-            let e = need-alike R (Free ks) v w (λ y h. h.1) l s.cells g.meets.cells_over x z in
+            let e = need-alike R P v w (uses Int) l s.cells g.meets.cells_over x z in
             let i = b.cells x z in
             omega (arith, e, i);
         guards = λ n.
-            covered-alike p (Free ks) v w l s.guards n (q.guards n)
-            (pieces-more R (λ o. Free ks) (λ o y h. h.1) s.guards g.pieces_over) (b.guards n);
+            covered-alike p P v w l s.guards n (q.guards n)
+            (pieces-more R (λ o. P) uses s.guards g.pieces_over) (b.guards n);
       }
 
 -- ---- all of them but one

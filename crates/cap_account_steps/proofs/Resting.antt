@@ -95,7 +95,7 @@ comes-keep k s j f Q h =
 -- ---- the chain
 
 -- what a chain of Rests leads to: all facts say what the later table does, and are firm
-pub record Rested (p : Checked) (ks : List ℕ) (U : Table) (v : Valuation) (s : PlainState)
+pub record AtRest (p : Checked) (ks : List ℕ) (U : Table) (v : Valuation) (s : PlainState)
     (ts : List PlainTask) : Type 0 where
   pub w : Valuation
   pub after : PlainState
@@ -178,11 +178,11 @@ module _ (p : Checked) (ks : List ℕ) (part : Stock) (T U : Table)
       }
   next-turn j n ts v s mid d h = absurd (p.step h).1
 
-  pub rested-from :
+  pub at-rest-from :
       (left j n : ℕ) (ts : List PlainTask) (trees : PlainTrees) (v : Valuation) (s : PlainState) →
       j + left ≡ length s.facts → Midway p.program ks part T U j v s →
-      Open p.N trees s (to_rest j n ∷ ts) → Rested p ks U v s ts
-  rested-from zero j n ts trees v s count mid goes =
+      Open p.N trees s (to_rest j n ∷ ts) → AtRest p ks U v s ts
+  at-rest-from zero j n ts trees v s count mid goes =
       let all : (j == length s.facts) ≡ true = grind (arith, nat_tests, count) in
       let each = λ (i : ℕ) (f : PlainFact) (e : slice_get s.facts i ≡ Some f).
       (mid.due i f e).1 (let l = within s.facts i f e in omega (arith, l, count)) in
@@ -201,14 +201,14 @@ module _ (p : Checked) (ks : List ℕ) (part : Stock) (T U : Table)
         over =
             all-each (AllOver (Usable ks s.sorts Int)) s.facts (λ i f e. (mid.due i f e).0);
       }
-  rested-from (suc left) j n ts trees v s count mid goes =
+  at-rest-from (suc left) j n ts trees v s count mid goes =
       let one = one-child p.N trees s (to_rest j n ∷ ts)
       (subst (λ b. Children p.N trees (option_to_list
       (if b then goal_of s ts else Some (goal s (to_rest j n ∷ ts))))) more goes) in
       let turn = next-turn j n ts v s mid one.0 one.1 in
       let before = turn.turned.before in
       let size = before.facts in
-      let r = rested-from left (suc j) n ts turn.trees turn.turned.w turn.state
+      let r = at-rest-from left (suc j) n ts turn.trees turn.turned.w turn.state
       (omega (arith, count, size)) turn.turned.midway turn.goes in
       record {
         w = r.w;
@@ -227,15 +227,15 @@ module _ (p : Checked) (ks : List ℕ) (part : Stock) (T U : Table)
       more = grind (arith, nat_tests, count)
 
   -- from the first fact on
-  pub rested :
+  pub at-rest :
       (n : ℕ) (ts : List PlainTask) (trees : PlainTrees) (v : Valuation) (s : PlainState) →
       AllByRecursion (λ k. k < length s.sorts) ks → Grounded p.program ks v s →
       AllByRecursion (AllOver (Usable ks s.sorts Int)) s.facts →
       AllByRecursion (Exact v T) s.facts →
       ((m : ℤ) → Covered p.program v s.guards m (part.guards m)) →
-      Open p.N trees s (to_rest 0 n ∷ ts) → Rested p ks U v s ts
-  rested n ts trees v s old grounded over exact covered goes =
-      rested-from (length s.facts) 0 n ts trees v s count
+      Open p.N trees s (to_rest 0 n ∷ ts) → AtRest p ks U v s ts
+  at-rest n ts trees v s old grounded over exact covered goes =
+      at-rest-from (length s.facts) 0 n ts trees v s count
       (record {
         old = old;
         grounded = grounded;
