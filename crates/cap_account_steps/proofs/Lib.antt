@@ -45,3 +45,4 @@ pub mod CaseStates
 pub mod CaseValues
 pub mod RestLaws
 pub mod CaseHolds
+pub mod CaseTaken

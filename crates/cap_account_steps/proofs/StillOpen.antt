@@ -152,7 +152,7 @@ if-any [] P h = tt
 if-any (x ∷ xs) P h = h
 
 -- what is known beside the regions that are open
-pub record Settled (p : PlainProgram) (ks : List ℕ) (v : Valuation) (T : Table) (s : PlainState)
+pub record KnownBeside (p : PlainProgram) (ks : List ℕ) (v : Valuation) (T : Table) (s : PlainState)
     (held : Stock) : Type 0 where
   pub grounded : Grounded p ks v s
   pub facts : Facts ks v T s
@@ -224,7 +224,7 @@ module _ (p : PlainProgram) (ks js : List ℕ) (v w : Valuation) (s t : PlainSta
         (part held : Stock) (fs : List PlainFact) → t.opened ≡ fs →
         IfAny fs (t.before ≡ s.before) → AllByRecursion StaysOpen fs →
         Differ (regions_of v fs) → IfAny fs (Earlier p ks v s part) →
-        Settled p js w U t held → Closing p V U part js w t held
+        KnownBeside p js w U t held → Closing p V U part js w t held
     closing-later part held fs is before stay differ earlier r =
         let still = λ (f : PlainFact) (h : StaysOpen f). h.0.0 in
         let over = all-more StaysOpen (AllOver (Usable ks s.sorts Int)) still fs stay in
