@@ -32,7 +32,7 @@ use Rattle.cap_account_steps.proofs.Worlds.{IsStillOpen, Closing, SettlesBy}
 use Rattle.cap_account_steps.proofs.Actions.{means-earlier, region-whole}
 use Rattle.cap_account_steps.proofs.Moves.{Movable, movable-on}
 use Rattle.cap_account_steps.proofs.Shifting.{Picked, picked}
-use Rattle.cap_account_steps.proofs.StillOpen.{LaterState, if-any, StaysOpen, closing-later, usable-later}
+use Rattle.cap_account_steps.proofs.StillOpen.{LaterState, if-any, StaysOpen, closing-later, usable-later, region-later}
 use Rattle.cap_account_steps.proofs.ClosedTables.{makes-by}
 
 -- region number o and the case in which it will be: its items are given, and the move is to be proved
@@ -51,6 +51,7 @@ pub record CaseTaken (p : Checked) (V W : Table) (part : Stock) (ks : List ℕ) 
   pub t : PlainState
   pub later : LaterState ks ks v w s t
   pub movable : Movable p.program ks t f k
+  pub same_region : value w.whole f.region ≡ value v.whole f.region
   pub opened : t.opened ≡ s.opened
   pub placed : Placed ks (region_scope k x.names) t.sorts (env_at t env)
   pub args_are :
@@ -186,6 +187,8 @@ module _ (p : Checked) (program : IsWellFormed p.program) (taken : TakenLaw p) (
             movable =
                 movable-on p.program ks ks s tk.after pk.f pk.k
                 (usable-later p.program ks ks v tk.w s tk.after later Int) pk.movable;
+            same_region =
+                region-later p.program ks ks v tk.w s tk.after later pk.f pk.movable.over;
             opened = tk.goes_on.opened;
             placed = tk.ready.placed;
             args_are = λ X m.

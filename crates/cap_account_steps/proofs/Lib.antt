@@ -46,3 +46,4 @@ pub mod CaseValues
 pub mod RestLaws
 pub mod CaseHolds
 pub mod CaseTaken
+pub mod RegionClosed
