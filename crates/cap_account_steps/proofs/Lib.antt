@@ -47,3 +47,4 @@ pub mod RestLaws
 pub mod CaseHolds
 pub mod CaseTaken
 pub mod RegionClosed
+pub mod Closings
