@@ -41,3 +41,4 @@ pub mod CaseStates
 pub mod CaseValues
 pub mod RestLaws
 pub mod CaseHolds
+pub mod Entering
