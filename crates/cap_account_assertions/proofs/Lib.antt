@@ -5,3 +5,5 @@ pub mod Laws
 pub mod TreeSizes
 pub mod Follows
 pub mod TakeSteps
+pub mod TakeHeads
+pub mod TakeComps
