@@ -7,3 +7,4 @@ pub mod Follows
 pub mod TakeSteps
 pub mod TakeHeads
 pub mod TakeComps
+pub mod TakeCells

@@ -2,6 +2,8 @@
 use Rattle.std.proofs.Common.{◌≡◌, ℕ, suc, ◌<◌, ◌≤◌, ℤ, List, [], length, arith, refl, sym, ap, ◌∙◌, subst, true}
 use Rattle.std.specs.Prelude.{get_or}
 use Rattle.std.specs.List.{AllByRecursion}
+use Rattle.cap_lin.specs.Linear.{Linear}
+use Rattle.cap_gsolve.specs.declared.piece.Piece.{Piece}
 use Rattle.cap_lin.specs.Values.{Valuation}
 use Rattle.cap_lin.specs.declared.row.Sort.TheVariants.{Int}
 use Rattle.cap_prog.specs.Program.{PlainItem, Items, item, PlainProgram}
@@ -18,7 +20,7 @@ use Rattle.cap_account_states.proofs.Terms.{vars-more}
 use Rattle.cap_account_states.proofs.Alike.{Alike, alike-same, value-alike}
 use Rattle.cap_account_states.proofs.Meets.{Usable, usable-on, usable-old, Old, Same, same-state, meets-env}
 use Rattle.cap_account_states.proofs.Checked.{Checked}
-use Rattle.cap_account_states.proofs.Naming.{Placed, Stays, placed-more, at-env, others-env}
+use Rattle.cap_account_states.proofs.Naming.{Placed, Means, Stays, placed-more, at-env, others-env}
 use Rattle.cap_account_states.proofs.Matching.{Outside}
 use Rattle.cap_account_states.proofs.Facts.{facts-on}
 use Rattle.cap_account_states.proofs.Items.{AreFit}
@@ -29,6 +31,20 @@ use Rattle.cap_account_assertions.proofs.Follows.{Follows, follows-none}
 use Rattle.cap_account_assertions.proofs.TakeSteps.{Job, tasks_of, with_items, TakeStart, Took, TookLaw, Head, Claim, Turns, start-after, took-item, took-other}
 
 -- ---- environments stay as they are
+
+-- other cells and pieces
+pub same-held :
+    (s : PlainState) (cells : List (Linear × Linear)) (guards : List Piece) →
+    Same s (record s { cells = cells; guards = guards })
+same-held s cells guards = record {
+  sorts = λ x o h. h;
+  count = omega arith;
+  store = refl;
+  facts = refl;
+  opened = refl;
+  before = refl;
+  envs = refl;
+}
 
 module _ (sc : Scope) (e : ℕ) (v w : Valuation) (s t : PlainState) (same : Same s t)
     (envs : t.envs ≡ s.envs) (alike : Alike (Old s) v w) where
@@ -129,6 +145,9 @@ module _ (sc : Scope) (e : ℕ) (t : PlainState) (later : PlainEnv) (there : e <
     there = (let n = set-length t.envs e later in omega (arith, there, n));
     placed = subst (Placed ks sc t.sorts) (sym env-bound) placed;
   }
+
+  pub means-bound : (x a : Valuation) → Means sc x (env_at bound e) a → Means sc x later a
+  means-bound x a m = subst (λ env. Means sc x env a) env-bound m
 
 -- ---- the head of a rule
 
