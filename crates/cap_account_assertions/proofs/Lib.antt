@@ -8,3 +8,4 @@ pub mod TakeSteps
 pub mod TakeHeads
 pub mod TakeComps
 pub mod TakeCells
+pub mod TakeFacts
