@@ -9,3 +9,4 @@ pub mod TakeHeads
 pub mod TakeComps
 pub mod TakeCells
 pub mod TakeFacts
+pub mod TakeAtoms
