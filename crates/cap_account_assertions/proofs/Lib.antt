@@ -9,3 +9,4 @@ pub mod TakeSteps
 pub mod ManyPieces
 pub mod RuleSteps
 pub mod FreshRegions
+pub mod MadeRegions
