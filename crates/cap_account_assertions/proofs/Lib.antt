@@ -10,3 +10,4 @@ pub mod ManyPieces
 pub mod RuleSteps
 pub mod FreshRegions
 pub mod MadeRegions
+pub mod Finer
