@@ -11,3 +11,4 @@ pub mod RuleSteps
 pub mod FreshRegions
 pub mod MadeRegions
 pub mod Finer
+pub mod CaseStarts

@@ -121,7 +121,7 @@ pub record RegionMade (p : PlainProgram) (ks : List ℕ) (U : Table) (n : ℤ) (
   pub comes : P (goals_of (with_new_fact s fact) ts)
 
 -- a parameter is a whole number
-param-sort :
+pub param-sort :
     (y : PlainRegionType) (names : List Sort) (i : ℕ) → i < y.params →
     HasSort (region_scope y names) Int i
 param-sort y names i l =
