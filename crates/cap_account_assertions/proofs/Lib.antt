@@ -12,3 +12,4 @@ pub mod FreshRegions
 pub mod MadeRegions
 pub mod Finer
 pub mod CaseStarts
+pub mod CaseTaken
