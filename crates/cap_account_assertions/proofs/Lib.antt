@@ -2,6 +2,7 @@ pub mod Giving
 pub mod Taking
 pub mod Asserted
 pub mod Laws
+pub mod NewRegions
 pub mod TreeSizes
 pub mod Follows
 pub mod TakeSteps
@@ -10,3 +11,10 @@ pub mod TakeComps
 pub mod TakeCells
 pub mod TakeFacts
 pub mod TakeAtoms
+pub mod ManyPieces
+pub mod RuleSteps
+pub mod FreshRegions
+pub mod MadeRegions
+pub mod Finer
+pub mod CaseStarts
+pub mod CaseTaken

@@ -7,9 +7,9 @@ use Rattle.cap_account_resources.specs.Parts.{Known, known_as, Table}
 use Rattle.cap_account_resources.proofs.Lists.{some-same, none-some, Among}
 use Rattle.cap_account_resources.proofs.Marks.{Mark, free, joins-law}
 use Rattle.cap_account_resources.proofs.Covering.{join_marks, IsPartOf, free-right, part-trans}
-use Rattle.cap_account_resources.proofs.Interference.{ArePartOf}
+use Rattle.cap_account_resources.proofs.Interference.{ArePartOf, Relies}
 use Rattle.cap_account_resources.proofs.Room.{all_guards, room_of, room, part-join}
-use Rattle.cap_account_resources.proofs.Stocks.{Stock, no_cells, both, Inside, inside-guards}
+use Rattle.cap_account_resources.proofs.Stocks.{Stock, no_cells, both, Inside, inside-guards, inside-first}
 
 -- ---- what a table says
 
@@ -128,3 +128,23 @@ module _ (p : PlainProgram) where
       join_marks p ((new_guards p T U).guards n) ((new_guards p U W).guards n)
       ≡ (new_guards p T W).guards n
   new-guards-twice T U W f g n = new-or-not (T n) (U n) (W n) (f n) (g n)
+
+-- ---- interference keeps room
+
+-- what others do to a full table keeps the types of its regions
+pub relies-types :
+    (p : PlainProgram) (T U : Table) (q : Stock) → NoneOpen T → Relies p q.guards T U →
+    KeepsTypes T U
+relies-types p T U q full r n e h =
+    let b = full n e h in
+    let m = r n e.kind e.args b.0
+    (h ∙ ap (λ o. Some (known_as e.kind e.args o)) b.1) in
+    (known_as e.kind e.args (Some m.0), m.2, refl)
+
+-- so what is held stays within the room
+pub fits-relied :
+    (p : PlainProgram) (T U : Table) (q : Stock) → NoneOpen T → Relies p q.guards T U →
+    FitsRoom p T q → FitsRoom p U q
+fits-relied p T U q full r h =
+    fits-less p U q (both p q (new_guards p T U)) (inside-first p q (new_guards p T U))
+    (fits-later p T U q (relies-types p T U q full r) h)

@@ -1,11 +1,9 @@
 -- The variables of compatibility's rows; and what is held covers the pieces also at alike values.
-use Rattle.std.proofs.Common.{◌≡◌, inl, inr, ℕ, ◌+◌, ℤ, pos, ◌*ℤ◌, Bool, true, false, List, [], ◌∷◌, Option, Some, None, refl, sym, ap, ◌∙◌, subst, arith}
+use Rattle.std.proofs.Common.{inl, inr, ℕ, ℤ, Bool, true, false, List, [], ◌∷◌, Option, Some, None, sym, ◌∙◌, subst}
 use Rattle.std.specs.Prelude.{if◌then◌else◌}
 use Rattle.std.specs.List.{AllByRecursion}
-use Rattle.std.proofs.lemmas.Int.{ints}
-use Rattle.cap_numbers.proofs.Ring.{expand, product3}
 use Rattle.cap_lin.specs.Linear.{Linear, plus}
-use Rattle.cap_lin.specs.Values.{Valuation, denominator, amount}
+use Rattle.cap_lin.specs.Values.{Valuation}
 use Rattle.cap_lin.specs.Solves.{IsWholeAt}
 use Rattle.cap_lin.specs.declared.row.Row.{Row}
 use Rattle.cap_lin.specs.declared.row.Sort.{Sort}
@@ -20,7 +18,7 @@ use Rattle.cap_gsolve.specs.declared.piece.Piece.{Piece}
 use Rattle.cap_gsolve.specs.Pieces.{piece, same_part}
 use Rattle.cap_gsolve.specs.Merge.{zero_term, one_term, added_rows, there}
 use Rattle.cap_gsolve.specs.Compat.{share_there, fits_rows, one_rows, wanted_rows, clashes_some, compat}
-use Rattle.cap_gsolve.specs.Meaning.{IsFormElement, region_of, IsElementAt, AreElementsAt}
+use Rattle.cap_gsolve.specs.Meaning.{IsFormElement, IsElementAt, AreElementsAt}
 use Rattle.cap_gsolve.proofs.Held.{there-same, there-other}
 use Rattle.cap_prog.specs.Program.{PlainProgram}
 use Rattle.cap_machine_accounts.specs.Parts.{algebra_of}

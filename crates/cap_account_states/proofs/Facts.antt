@@ -29,7 +29,7 @@ use Rattle.cap_account_resources.proofs.Lists.{some-same, none-some, join-nil, j
 use Rattle.cap_account_states.proofs.Terms.{Over, vars-more, RowOver, row-over, agree-same}
 use Rattle.cap_account_states.proofs.Attempts.{comes-bind, comes-appended, comes-comparison, after-comparison}
 use Rattle.cap_account_states.proofs.Meets.{Free, Usable, usable-old, usable-on, Meets, Old, Same, variable-value}
-use Rattle.cap_account_states.proofs.Alike.{Alike, alike-less, value-alike}
+use Rattle.cap_account_states.proofs.Alike.{Alike, alike-same, alike-less, value-alike}
 use Rattle.cap_account_states.proofs.Naming.{Placed, Means, Stays, means-back}
 use Rattle.cap_account_states.proofs.Items.{within-same}
 use Rattle.cap_account_states.proofs.Matching.{Outside, matching}
@@ -139,6 +139,14 @@ facts-later ks v w T s t sorts e a f =
       loose = subst (AllByRecursion (LooseState ks t.sorts)) (sym e) loose;
       differ = subst (EachTwo StatesDiffer) (sym e) f.differ;
     }
+
+-- in a state with the same sorts and facts
+pub facts-same :
+    (ks : List ℕ) (v : Valuation) (T : Table) (s t : PlainState) → t.sorts ≡ s.sorts →
+    t.facts ≡ s.facts → Facts ks v T s → Facts ks v T t
+facts-same ks v T s t ss e f =
+    facts-later ks v v T s t (λ x o h. ap (λ us. slice_get us x) ss ∙ h) e
+    (alike-same (λ x. (x < length s.sorts) × Free ks x) v) f
 
 pub facts-on :
     (ks : List ℕ) (v w : Valuation) (T : Table) (s t : PlainState) → Same s t →
@@ -317,9 +325,11 @@ merging-holds ks v T s f fs tight ft h o = by (find (is_of_region f) s.facts) re
           all-both (Holds v) (equal_rows g.args f.args) (r ∷ []) (equal-hold v g.args f.args same.1)
               ((row_of-means v g.state Equal f.state Int).1 st, tt),
           all-both (RowOver R) (equal_rows g.args f.args) (r ∷ [])
-              (equal-over R g.args f.args b.0.1 o.1)
-              (row-over R g.state Equal f.state Int (state-over g.loose c.0 g.state b.0.2)
-              (state-over f.loose ft f.state o.2), tt),
+              (equal-over R g.args f.args b.0.1 o.1) (
+                row-over R g.state Equal f.state Int (state-over g.loose c.0 g.state b.0.2)
+                    (state-over f.loose ft f.state o.2),
+                tt,
+              ),
         )
 
 -- no fact of the region has another type

@@ -24,7 +24,6 @@ use Rattle.cap_rules.specs.Attempts.{Attempt, ◌>>=◌, need, found}
 use Rattle.cap_rules.specs.Making.{prove_equal, env_at, fresh, determined_slot}
 use Rattle.cap_rules.specs.Taking.{Cut, cut, cut_form, after_cut, with_form, cut_share}
 use Rattle.cap_rules.specs.Rules.{Remaining, goes, at_piece, at_no_tokens}
-use Rattle.std.proofs.lemmas.Int.{ints}
 use Rattle.cap_prog.specs.declared.assertion.Slot.{Slot}
 use Rattle.cap_prog.specs.declared.assertion.Asked.TheVariants.{One, Share, Src, Tok}
 use Rattle.cap_account_states.proofs.Terms.{Over, vars-more}

@@ -1,5 +1,5 @@
 -- An open amount is taken out of a share as half of it.
-use Rattle.std.proofs.Common.{◌≡◌, ℕ, ◌<◌, pos, ◌*ℤ◌, ◌<ℤ◌, Bool, true, false, List, [], ◌∷◌, length, Option, Some, None, refl, sym, ap, ◌∙◌, subst, arith, ◌+ℤ◌}
+use Rattle.std.proofs.Common.{◌≡◌, ℕ, ◌<◌, pos, ◌<ℤ◌, Bool, true, false, List, [], ◌∷◌, length, Option, Some, None, refl, sym, ap, ◌∙◌, subst, arith, ◌+ℤ◌}
 use Rattle.std.specs.Prelude.{is_some, ◌&&◌, if◌then◌else◌}
 use Rattle.std.specs.List.{list_all}
 use Rattle.std.proofs.lemmas.Int.{ints}
@@ -11,11 +11,10 @@ use Rattle.cap_lin.specs.declared.row.Sort.{Sort}
 use Rattle.cap_lin.specs.declared.row.Sort.TheVariants.{Perm}
 use Rattle.cap_lin.specs.declared.row.Op.TheVariants.{Lt as Less, Gt as Greater}
 use Rattle.cap_lin.proofs.Rows.{row_of-means}
-use Rattle.cap_galg.specs.declared.fraction.Fraction.{Fraction}
 use Rattle.cap_galg.specs.Elements.{Element, share}
 use Rattle.cap_galg.specs.Algebras.{PlainAlgebra, IsElement}
 use Rattle.cap_gsolve.specs.declared.piece.Form.TheVariants as form
-use Rattle.cap_gsolve.specs.Meaning.{IsValueOf, IsFormElement, Takes}
+use Rattle.cap_gsolve.specs.Meaning.{IsFormElement, Takes}
 use Rattle.cap_gsolve.proofs.Amounts.{zero-amount, amount-positive}
 use Rattle.cap_prog.specs.declared.assertion.Slot.{Slot}
 use Rattle.cap_prog.specs.declared.assertion.Slot.TheVariants.{Any, Is}

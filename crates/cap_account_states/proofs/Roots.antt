@@ -227,8 +227,7 @@ module _ (root : Root) where
   variable-of x o t (fixed i q e) k =
       let u : variable (f.params + l + i) ≡ t = some-same (variable (f.params + l + i)) t
       (sym (own-fixed f h ps ls r count hp hls i (within f.fixed i o e)) ∙ ap (term_of env)
-      (sym q) ∙ k) in
-      (
+      (sym q) ∙ k) in (
         f.params + l + i,
         sym u,
         (is-of (sorts_of f l rs) o (f.params + l + i) (fixed-usable i o e), tt),

@@ -2,7 +2,7 @@
 -- of the values.
 use Rattle.std.proofs.Common.{◌≡◌, ℕ, ◌+◌, ℤ, pos, ◌*ℤ◌, refl, sym, ap, ◌∙◌, subst}
 use Rattle.cap_lin.specs.Linear.{Linear}
-use Rattle.cap_lin.specs.Values.{Valuation, denominator, amount}
+use Rattle.cap_lin.specs.Values.{Valuation, denominator, amount, value}
 use Rattle.cap_lin.specs.declared.row.Sort.TheVariants.{Int, Perm}
 use Rattle.cap_galg.specs.declared.fraction.Fraction.{Fraction}
 use Rattle.cap_galg.specs.Fractions.{IsShare}
@@ -18,6 +18,9 @@ use Rattle.cap_account_states.proofs.Terms.{Over}
 use Rattle.cap_account_states.proofs.Alike.{Alike, above-zero, grouped, swapped, undo, value-alike, amount-alike, InScope, fits-over}
 use Rattle.cap_account_states.proofs.Values.{scaled, scaled-denominator}
 use Rattle.cap_account_states.proofs.Asking.{AskedOver}
+use Rattle.cap_galg.specs.Algebras.{PlainAlgebra, unique, divisible, counting}
+use Rattle.cap_prog.specs.WellFormed.{AskedFits}
+use Rattle.cap_rules.specs.Resting.{ask}
 
 abbrev pub AmountIs : Valuation → Slot → ℤ → Type 0
 AmountIs v Any z = Unit {0}
@@ -76,7 +79,7 @@ abbrev pub StaysWanted : Valuation → Valuation → Asked → Type 0
 StaysWanted v w (Share Any) = IsFiner v w
 StaysWanted v w asked = Unit {0}
 
-slot-alike :
+pub slot-alike :
     (sc : Scope) (v w : Valuation) → Alike (InScope sc) v w → (s : Slot) (z : ℤ) →
     SlotFits sc Int s → SlotIs v s z → SlotIs w s z
 slot-alike sc v w a Any z f h = tt
@@ -117,3 +120,11 @@ wants-finer sc v w a k asked x f h = wants-alike sc v w a asked x f (by asked) h
     by (Share (Is t)) = tt
     by (Src s) = tt
     by (Tok s) = tt
+
+pub asked-over : (sc : Scope) (b : PlainAlgebra) (asked : Asked) → AskedFits sc b asked →
+    AskedOver sc asked
+asked-over sc unique One h = tt
+asked-over sc divisible (Share s) h = h
+asked-over sc counting (Src s) h = h
+asked-over sc counting (Tok s) h = h
+asked-over sc b asked h = absurd h

@@ -17,3 +17,6 @@ pub mod Entries
 pub mod Bundles
 pub mod Candidates
 pub mod Returning
+pub mod Beginning
+pub mod Allocating
+pub mod Reserving

@@ -1,11 +1,10 @@
 -- Statements that touch neither the heap nor a region: assignments, assertions and branches.
-use Rattle.std.proofs.Common.{◌≡◌, ℕ, zero, suc, List, [], ◌∷◌, ◌++◌, map, refl, sym, ap, ◌∙◌, Bool, true, false}
+use Rattle.std.proofs.Common.{◌≡◌, ℕ, zero, suc, List, [], ◌∷◌, ◌++◌, refl, ap, ◌∙◌, Bool, true, false}
 use Rattle.std.specs.Prelude.{slice_set, if◌then◌else◌}
 use Rattle.std.specs.List.{AllByRecursion}
 use Rattle.cap_lin.specs.Linear.{Linear}
 use Rattle.cap_lin.specs.Values.{value}
-use Rattle.cap_lin.specs.Solves.{Relates, Holds}
-use Rattle.cap_lin.specs.declared.row.Row.{Row}
+use Rattle.cap_lin.specs.Solves.{Relates}
 use Rattle.cap_lin.specs.declared.row.Sort.TheVariants.{Int}
 use Rattle.cap_lin.specs.declared.row.Op.{Op}
 use Rattle.cap_farkas.specs.declared.cert.Cert.{Cert}
@@ -24,14 +23,14 @@ use Rattle.cap_account_resources.proofs.Lists.{map-set}
 use Rattle.cap_account_resources.proofs.Order.{met-relates, unmet-relates}
 use Rattle.cap_account_resources.proofs.Stocks.{Stock}
 use Rattle.cap_account_states.specs.Nodes.{Comes, Children}
-use Rattle.cap_account_states.proofs.Terms.{Over, RowOver}
+use Rattle.cap_account_states.proofs.Terms.{Over}
 use Rattle.cap_account_states.proofs.Attempts.{store_row, row_added, after-here, after-prove, after-row-here, after-with-row}
 use Rattle.cap_account_states.proofs.Meets.{Usable, Meets, meets-row, solves, proved-holds}
 use Rattle.cap_account_states.proofs.Checked.{Checked, children-split, one-child}
 use Rattle.cap_account_steps.proofs.Points.{point-act}
-use Rattle.cap_account_steps.proofs.Stores.{Store, running, here, here-value, here-over, holds-here, row-here-over, met-here}
+use Rattle.cap_account_steps.proofs.Stores.{running, here, here-value, here-over, holds-here, row-here-over, met-here}
 use Rattle.cap_account_steps.proofs.Frames.{Node, Sits}
-use Rattle.cap_account_steps.proofs.Statements.{Before, SetLaw, CheckLaw, BranchLaw}
+use Rattle.cap_account_steps.proofs.Statements.{SetLaw, CheckLaw, BranchLaw}
 
 set-all :
     {X : Type 0} (P : X → Type 0) (xs : List X) (i : ℕ) (y : X) → AllByRecursion P xs → P y →
@@ -106,7 +105,12 @@ module _ (p : Checked) (part : Stock) (T : Table) (fn : PlainFunction) (fixed : 
         pieces_over = n.grounded.pieces_over;
         pieces_fit = n.grounded.pieces_fit;
       };
-      facts = record { holds = n.facts.holds; over = n.facts.over };
+      facts = record {
+        holds = n.facts.holds;
+        over = n.facts.over;
+        loose = n.facts.loose;
+        differ = n.facts.differ;
+      };
       firm = n.firm;
       backed = record { cells = n.backed.cells; guards = n.backed.guards };
       store = record {
@@ -193,7 +197,12 @@ module _ (p : Checked) (part : Stock) (T : Table) (fn : PlainFunction) (fixed : 
         pieces_over = n.grounded.pieces_over;
         pieces_fit = n.grounded.pieces_fit;
       };
-      facts = record { holds = n.facts.holds; over = n.facts.over };
+      facts = record {
+        holds = n.facts.holds;
+        over = n.facts.over;
+        loose = n.facts.loose;
+        differ = n.facts.differ;
+      };
       firm = n.firm;
       backed = record { cells = n.backed.cells; guards = n.backed.guards };
       store = record {

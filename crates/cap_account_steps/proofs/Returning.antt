@@ -1,16 +1,16 @@
 -- Returns and loop heads: all that the frame has is taken for what it owes.
-use Rattle.std.proofs.Common.{◌≡◌, ℕ, zero, suc, ◌+◌, ◌-◌, ◌<◌, List, [], ◌∷◌, length, take, drop, arith, refl, sym, ap, ◌∙◌, subst, Option, Some, None, ◌⊎◌, inl, inr}
+use Rattle.std.proofs.Common.{◌≡◌, ℕ, ◌+◌, ◌-◌, ◌<◌, List, [], ◌∷◌, length, take, drop, arith, refl, sym, ap, ◌∙◌, subst, Some, None, ◌⊎◌, inl, inr}
 use Rattle.std.specs.Prelude.{slice_get, unwrap_or}
 use Rattle.std.specs.List.{AllByRecursion}
 use Rattle.cap_lin.specs.Linear.{Linear, variable}
-use Rattle.cap_lin.specs.Values.{Valuation, value}
+use Rattle.cap_lin.specs.Values.{value}
 use Rattle.cap_lin.specs.declared.row.Sort.{Sort}
 use Rattle.cap_lin.specs.declared.row.Sort.TheVariants.{Int}
 use Rattle.cap_prog.specs.declared.assertion.Comp.{Comp}
 use Rattle.cap_prog.specs.Program.{PlainAssertion, Items, Label, give_back, loop, Block, first, PlainFunction}
 use Rattle.cap_prog.specs.Scopes.{Scope, fixed_start, result_name, ensures_scope, invariant_scope, HasSort}
 use Rattle.cap_prog.specs.WellFormed.{IsWellFormed}
-use Rattle.cap_goal_spec.specs.States.{PlainEnv, PlainState, Home, PlainTask, to_run, to_take}
+use Rattle.cap_goal_spec.specs.States.{PlainEnv, PlainState, Home, to_run, to_take}
 use Rattle.cap_goal_spec.specs.Environments.{zero_value, term_of, bound, unbound, own_env}
 use Rattle.cap_goal_spec.specs.Choices.{node, by_absurd, by_loop, by_return, PlainTree, PlainTrees}
 use Rattle.cap_rules.specs.Attempts.{◌>>=◌}
@@ -22,28 +22,28 @@ use Rattle.cap_account_resources.specs.Parts.{Table}
 use Rattle.cap_account_resources.proofs.Lists.{some-same, none-some, within, get-map, map-length, all-at}
 use Rattle.cap_account_resources.proofs.Monoid.{none, atom}
 use Rattle.cap_account_resources.proofs.Monoid as monoid
-use Rattle.cap_account_resources.proofs.Stocks.{Stock, no_stock, both, some-inside, inside-trans, Inside}
+use Rattle.cap_account_resources.proofs.Stocks.{Stock, no_stock, both, some-inside, inside-trans}
 use Rattle.cap_account_resources.proofs.Tables.{new_guards}
 use Rattle.cap_account_resources.proofs.Owners.{owned}
 use Rattle.cap_account_states.specs.Nodes.{Comes, Children, Open}
 use Rattle.cap_account_states.proofs.Terms.{Over, vars-more}
 use Rattle.cap_account_states.proofs.Alike.{alike-same, value-alike}
 use Rattle.cap_account_states.proofs.Attempts.{env_added, after-found, after-here, after-env}
-use Rattle.cap_account_states.proofs.Meets.{Usable, usable-old, Meets, Old, meets-env}
+use Rattle.cap_account_states.proofs.Meets.{Usable, usable-old, Old, meets-env}
 use Rattle.cap_account_states.proofs.Items.{AreFit}
 use Rattle.cap_account_states.proofs.Naming.{Placed}
 use Rattle.cap_account_states.proofs.Checked.{Checked}
 use Rattle.cap_account_states.proofs.Scopes.{ensures-at, invariant-at, param-requires, fixed-requires, requires-ensures, result-ensures, store-invariant, fixed-invariant, own-param, own-local, own-fixed, own-result, rep-length, unbound-none, less_or}
 use Rattle.cap_account_states.proofs.Values.{whole-of}
 use Rattle.cap_account_states.proofs.Roots.{values-length, function-fits, flat-bound}
-use Rattle.cap_account_states.proofs.Backed.{Backed, IsOpened}
-use Rattle.cap_account_assertions.proofs.Asserted.{OwnsEnsures, OwnsInvariant, owns-all}
+use Rattle.cap_account_states.proofs.Backed.{IsOpened}
+use Rattle.cap_account_assertions.proofs.Asserted.{owns-all}
 use Rattle.cap_account_assertions.proofs.Laws.{StateAt, Taken, TakenLaw}
 use Rattle.cap_account_steps.proofs.Points.{FrameOk, point-act}
-use Rattle.cap_account_steps.proofs.Stores.{Store, running, here, here-value, here-over}
+use Rattle.cap_account_steps.proofs.Stores.{running, here, here-value, here-over}
 use Rattle.cap_account_steps.proofs.OwnNames.{take-get, get-take, get-drop, drop-length, take-length, canon, canon-means, at-new, there-new, own-placed, own-fixed-alike, store-term-alike}
-use Rattle.cap_account_steps.proofs.Frames.{Node, Sits, Roomy, HandsOver, Returns, ComesRound}
-use Rattle.cap_account_steps.proofs.Statements.{Before, ReturnLaw, LoopHeadLaw}
+use Rattle.cap_account_steps.proofs.Frames.{Node, Roomy, HandsOver, Returns, ComesRound}
+use Rattle.cap_account_steps.proofs.Statements.{ReturnLaw, LoopHeadLaw}
 use Rattle.cap_account_steps.proofs.Local.{given-up}
 
 module _ (p : Checked) (program : IsWellFormed p.program) (law : TakenLaw p) (part : Stock)
@@ -62,7 +62,12 @@ module _ (p : Checked) (program : IsWellFormed p.program) (law : TakenLaw p) (pa
       pieces_over = n.grounded.pieces_over;
       pieces_fit = n.grounded.pieces_fit;
     };
-    facts = record { holds = n.facts.holds; over = n.facts.over };
+    facts = record {
+      holds = n.facts.holds;
+      over = n.facts.over;
+      loose = n.facts.loose;
+      differ = n.facts.differ;
+    };
     opened = subst (AllByRecursion (IsOpened (Usable [] n.state.sorts Int) n.v T))
         (sym n.none_open) tt;
     there = there-new n.state env;

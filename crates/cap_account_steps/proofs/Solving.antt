@@ -10,16 +10,15 @@ use Rattle.cap_lin.specs.declared.row.Sort.{Sort}
 use Rattle.cap_lin.specs.declared.row.Sort.TheVariants.{Int, Perm}
 use Rattle.cap_lin.specs.declared.row.Op.TheVariants.{Eq as Equal}
 use Rattle.cap_lin.proofs.Rows.{row_of-means}
-use Rattle.cap_galg.specs.Algebras.{PlainAlgebra, unique, divisible, counting, atom_algebra}
+use Rattle.cap_galg.specs.Algebras.{atom_algebra}
 use Rattle.cap_gsolve.specs.declared.piece.Form.{Form}
 use Rattle.cap_gsolve.specs.Compat.{compat}
 use Rattle.cap_gsolve.specs.Meaning.{AllHold}
 use Rattle.cap_prog.specs.declared.assertion.Comp.{Comp}
 use Rattle.cap_prog.specs.declared.assertion.Asked.{Asked}
-use Rattle.cap_prog.specs.declared.assertion.Asked.TheVariants.{One, Share, Src, Tok}
 use Rattle.cap_prog.specs.Program.{PlainAction, PlainRegionType, PlainProgram}
 use Rattle.cap_prog.specs.Scopes.{Scope, HasSort, CompFits, known, whole_numbers, region_scope}
-use Rattle.cap_prog.specs.WellFormed.{AskedFits, AtomFits, ActionFits}
+use Rattle.cap_prog.specs.WellFormed.{AtomFits, ActionFits}
 use Rattle.cap_goal_spec.specs.States.{PlainFact, PlainState}
 use Rattle.cap_goal_spec.specs.Candidates.{later_state}
 use Rattle.cap_rules.specs.Resting.{Names, names_below, ask, ask_all, first_names, action_names}
@@ -35,20 +34,13 @@ use Rattle.cap_account_resources.proofs.Covering.{join_marks, Covered}
 use Rattle.cap_account_states.proofs.Guarding.{FormOver}
 use Rattle.cap_account_resources.proofs.Interference.{AsksAtoms}
 use Rattle.cap_account_states.proofs.Wanting.{Low, length-below, whole-agree, named_term, NamesOk, fresh-agree, named-value, named-whole, scope-low}
-use Rattle.cap_account_states.proofs.Asking.{AskedOver, SlotsOk, Answered, all-asked, forms_over, form-whole}
+use Rattle.cap_account_states.proofs.Asking.{SlotsOk, Answered, all-asked, forms_over, form-whole}
 use Rattle.cap_account_steps.proofs.Fitting.{IsOfKind, wanted-compatible, are-forms}
 use Rattle.cap_account_steps.proofs.Grains.{AllOver, Common, common}
 use Rattle.cap_account_steps.proofs.Others.{condition_row, source_row, action_rows, action_forms, Resting, resting-scaled, first_values, names-first, conditions-hold}
 use Rattle.cap_account_states.proofs.Compatible.{AnswerOver, compat-over, Whole, form-over-whole, pieces-more, covered-alike}
 use Rattle.cap_account_states.proofs.Alike.{scaled-agree-alike}
-
-asked-over : (sc : Scope) (b : PlainAlgebra) (asked : Asked) → AskedFits sc b asked →
-    AskedOver sc asked
-asked-over sc unique One h = tt
-asked-over sc divisible (Share s) h = h
-asked-over sc counting (Src s) h = h
-asked-over sc counting (Tok s) h = h
-asked-over sc b asked h = absurd h
+use Rattle.cap_account_states.proofs.Wants.{asked-over}
 
 all-over :
     (sc : Scope) (k : PlainRegionType) (gs : List (ℕ × Asked)) →

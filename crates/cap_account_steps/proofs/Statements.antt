@@ -1,5 +1,5 @@
 -- What each statement leads to: the laws that a run rests on.
-use Rattle.std.specs.Prelude.{◌≡◌, ℕ, ℤ, pos, ◌≤ℤ◌, if◌then◌else◌, true, List, [], ◌∷◌, length, map, slice_get, Option, Some}
+use Rattle.std.specs.Prelude.{◌≡◌, ℕ, ℤ, pos, ◌≤ℤ◌, if◌then◌else◌, true, List, length, map, slice_get, Option, Some}
 use Rattle.cap_lin.specs.Linear.{Linear}
 use Rattle.cap_prog.specs.declared.assertion.Comp.{Comp}
 use Rattle.cap_prog.specs.Program.{PlainAssertion, Label, PlainAct, set, alloc, call, fork, branch, loop, check, give_back, Block, first, append, PlainFunction}

@@ -189,6 +189,15 @@ pub record Closed (p : Checked) (V W : Table) (part : Stock) (ks : List ℕ) (v 
   pub count : length s.sorts ≤ length after.sorts
   pub backed : Backed p.program w after left
 
+-- closing them all, where the table's regions are listed
+abbrev pub ClosingLaw : Checked → Type 0
+ClosingLaw p =
+    (V W : Table) (part held : Stock) (ks : List ℕ) (v : Valuation) (s : PlainState) (n : ℕ)
+    (ts : List PlainTask) (trees : PlainTrees) (bound : List ℤ) →
+    Open p.N trees s (closes n (length s.opened) ts) → TableFits p.program W → AreListed bound W →
+    Closing p.program V W part ks v s held → FitsRoom p.program V part →
+    Closed p V W part ks v s held ts
+
 -- ---- the whole statement
 
 -- what the cell has afterwards, and the frame
