@@ -10,6 +10,7 @@ pub mod TakeHeads
 pub mod TakeComps
 pub mod TakeCells
 pub mod TakeFacts
+pub mod PieceCuts
 pub mod TakeAtoms
 pub mod ManyPieces
 pub mod RuleSteps
