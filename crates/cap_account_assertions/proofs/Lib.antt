@@ -19,3 +19,5 @@ pub mod MadeRegions
 pub mod Finer
 pub mod CaseStarts
 pub mod CaseTaken
+pub mod FullsGone
+pub mod TakeConvert

@@ -1,14 +1,36 @@
 -- What is held once guards are cut out of a piece: at the piece's region less, elsewhere the same.
-use Rattle.std.proofs.Common.{◌≡◌, ◌≢◌, ℤ, List, Option, Some, sym, subst, arith, inl, inr}
+use Rattle.std.proofs.Common.{◌≡◌, ◌≢◌, ℤ, List, Bool, true, false, Option, Some, refl, sym, subst, arith, inl, inr}
+use Rattle.std.specs.Prelude.{if◌then◌else◌}
+use Rattle.cap_lin.specs.Linear.{same_number}
 use Rattle.cap_lin.specs.Values.{Valuation}
 use Rattle.cap_gsolve.specs.declared.piece.Piece.{Piece}
 use Rattle.cap_prog.specs.Program.{PlainProgram}
 use Rattle.cap_account_resources.proofs.Marks.{Mark, free, joins-law}
-use Rattle.cap_account_resources.proofs.Covering.{IsPartOf}
+use Rattle.cap_account_resources.proofs.Covering.{join_marks, IsPartOf}
 use Rattle.cap_account_resources.proofs.Interference.{Holding}
-use Rattle.cap_account_resources.proofs.Room.{alone, alone-here, alone-away, here-or}
-use Rattle.cap_account_resources.proofs.Stocks.{Stock, guard_stock, both, Inside, inside-by}
+use Rattle.cap_account_resources.proofs.Room.{alone, alone-here, alone-away, here-or, alone-join}
+use Rattle.cap_account_resources.proofs.Stocks.{Stock, no_stock, same-stock, guard_stock, both, Inside, inside-by}
 use Rattle.cap_account_states.proofs.Pieces.{CutAt}
+
+-- ---- guards at one region
+
+-- none are held as nothing is
+pub none-alone : (n : ℤ) → guard_stock n (Some free) ≡ no_stock
+none-alone n =
+    same-stock (guard_stock n (Some free)) no_stock (λ a z. refl) (λ z. by (same_number n z))
+  where
+    by : (b : Bool) → (if b then Some free else Some free) ≡ Some free
+    by true = refl
+    by false = refl
+
+pub guards-joined :
+    (p : PlainProgram) (n : ℤ) (a b : Option Mark) →
+    both p (guard_stock n a) (guard_stock n b) ≡ guard_stock n (join_marks p a b)
+guards-joined p n a b =
+    same-stock (both p (guard_stock n a) (guard_stock n b)) (guard_stock n (join_marks p a b))
+    (λ y z. omega arith) (alone-join p n a b)
+
+-- ---- cuts
 
 module _ (p : PlainProgram) (v : Valuation) (left : List Piece) (n : ℤ)
     (taken : Option Mark) where

@@ -1,8 +1,7 @@
 -- Guards are taken: no tokens, and atoms cut out of a piece (the rule `guard`).
-use Rattle.std.proofs.Common.{◌≡◌, ◌≢◌, ℕ, ◌<◌, ℤ, List, length, arith, refl, sym, ap, ◌∙◌, subst, Bool, true, false, Option, Some, None, inl, inr}
-use Rattle.std.specs.Prelude.{if◌then◌else◌, slice_get, IsSomeAnd}
+use Rattle.std.proofs.Common.{◌≡◌, ◌≢◌, ℕ, ◌<◌, ℤ, List, length, arith, refl, sym, ap, ◌∙◌, subst, Option, Some, None}
+use Rattle.std.specs.Prelude.{slice_get, IsSomeAnd}
 use Rattle.std.specs.List.{AllByRecursion}
-use Rattle.cap_lin.specs.Linear.{same_number}
 use Rattle.cap_lin.specs.Values.{Valuation}
 use Rattle.cap_lin.specs.declared.row.Sort.TheVariants.{Int}
 use Rattle.cap_galg.specs.Elements.{nothing}
@@ -13,7 +12,7 @@ use Rattle.cap_syntax.specs.declared.place.Place.{Place}
 use Rattle.cap_prog.specs.declared.assertion.Slot.{Slot}
 use Rattle.cap_prog.specs.declared.assertion.Asked.{Asked}
 use Rattle.cap_prog.specs.declared.assertion.Asked.TheVariants.{One, Share, Src, Tok}
-use Rattle.cap_prog.specs.Program.{atom, Items, PlainRegionType, PlainProgram}
+use Rattle.cap_prog.specs.Program.{atom, Items, PlainRegionType}
 use Rattle.cap_prog.specs.Scopes.{Scope}
 use Rattle.cap_prog.specs.WellFormed.{AskedFits, AtomFits, ItemFits}
 use Rattle.cap_machine_accounts.specs.Parts.{algebra_of}
@@ -22,24 +21,23 @@ use Rattle.cap_goal_spec.specs.Choices.{PlainTrees}
 use Rattle.cap_rules.specs.Rules.{at_no_tokens, at_piece}
 use Rattle.cap_account_resources.specs.Parts.{Table}
 use Rattle.cap_account_resources.proofs.Lists.{all-more}
-use Rattle.cap_account_resources.proofs.Marks.{Mark, free, joins-law}
-use Rattle.cap_account_resources.proofs.Covering.{IsPartOf, mark, Covered}
-use Rattle.cap_account_resources.proofs.Room.{alone, alone-here, alone-away, here-or}
-use Rattle.cap_account_resources.proofs.Stocks.{Stock, no_stock, guard_stock, both, Inside, same-stock, inside-same, inside-is, inside-by}
+use Rattle.cap_account_resources.proofs.Marks.{Mark, free}
+use Rattle.cap_account_resources.proofs.Covering.{mark, Covered}
+use Rattle.cap_account_resources.proofs.Stocks.{Stock, no_stock, guard_stock, both, Inside, inside-same, inside-is}
 use Rattle.cap_account_states.specs.Nodes.{Comes, Children}
 use Rattle.cap_account_states.proofs.Alike.{need-alike}
 use Rattle.cap_account_states.proofs.Meets.{Usable, usable-old, need, Old, same-trans}
 use Rattle.cap_account_states.proofs.Checked.{Checked}
 use Rattle.cap_account_states.proofs.Asking.{AskedOver}
 use Rattle.cap_account_states.proofs.Adding.{PieceOver}
-use Rattle.cap_account_states.proofs.Pieces.{AllFit, left_pieces, CutAt}
+use Rattle.cap_account_states.proofs.Pieces.{AllFit, left_pieces}
 use Rattle.cap_account_states.proofs.Guards.{GuardTaken, guard-taken, no-tokens-taken}
 use Rattle.cap_account_states.proofs.Backed.{Backed, Grounded}
 use Rattle.cap_account_assertions.proofs.Asserted.{WantsAtom}
 use Rattle.cap_account_assertions.proofs.Laws.{StateAt}
-use Rattle.cap_account_assertions.proofs.PieceCuts.{CutsOut, cuts-out, stock_left, left-apart}
+use Rattle.cap_account_assertions.proofs.PieceCuts.{none-alone, CutsOut, cuts-out, stock_left, left-apart}
 use Rattle.cap_account_assertions.proofs.TakeSteps.{Job, remaining, Head, Claim}
-use Rattle.cap_account_assertions.proofs.TakeHeads.{same-held, means-bound, head-same, head-kept, head-bound, ItemTaken}
+use Rattle.cap_account_assertions.proofs.TakeHeads.{same-parts, means-bound, head-same, head-kept, head-bound, ItemTaken}
 
 -- ---- what is asked
 
@@ -58,14 +56,6 @@ atom-over :
     IsSomeAnd o (λ type. AtomFits sc type i asked) → AskedOver sc asked
 atom-over sc None i asked h = absurd h
 atom-over sc (Some type) i asked h = asked-over sc (atom_algebra type.algebra i) asked h.form
-
--- no guards are held as nothing is
-none-alone : (n : ℤ) → guard_stock n (Some free) ≡ no_stock
-none-alone n = same-stock (guard_stock n (Some free)) no_stock (λ a z. refl) (λ z. by (same_number n z))
-  where
-    by : (b : Bool) → (if b then Some free else Some free) ≡ Some free
-    by true = refl
-    by false = refl
 
 module _ (p : Checked) (ks : List ℕ) (T : Table) (j : Job) (v : Valuation) (s : PlainState)
     (c : Stock) (st : StateAt p.program ks T j.scope j.env v s) (backed : Backed p.program v s c)
@@ -156,7 +146,7 @@ module _ (p : Checked) (ks : List ℕ) (T : Table) (j : Job) (v : Valuation) (s 
         (head-kept p.program ks T j v s c st g.w state_left rest
         (guard_stock region_taken guards_taken)
         (same-trans s g.after state_left g.same
-        (same-held g.after g.after.cells state_left.guards)) g.envs g.alike grounded-left
+        (same-parts g.after g.after.rows g.after.cells state_left.guards)) g.envs g.alike grounded-left
         backed-left
         (left-apart p.program g.w pieces_then region_taken guards_taken c cuts)) g.later g.placed g.stays g.outside g.size
 
