@@ -13,3 +13,4 @@ pub mod MadeRegions
 pub mod Finer
 pub mod CaseStarts
 pub mod CaseTaken
+pub mod Creating
