@@ -14,3 +14,8 @@ pub mod Finer
 pub mod CaseStarts
 pub mod CaseTaken
 pub mod Creating
+pub mod TakeHeads
+pub mod TakeComps
+pub mod TakeCells
+pub mod TakeFacts
+pub mod TakeAtoms
