@@ -60,7 +60,7 @@ create-budget p left given own between part made held full guards more h k =
     k))))
 
 -- the tree of one goal
-one-tree :
+pub one-tree :
     (N : NodePredicate) (trees : PlainTrees) (s : PlainState) (ts : List PlainTask) →
     Children N trees (goal s ts ∷ []) → (d : PlainTree) × N d s ts × (tree_size d ≤ trees_size trees)
 one-tree N no_trees s ts h = absurd h

@@ -19,3 +19,4 @@ pub mod TakeComps
 pub mod TakeCells
 pub mod TakeFacts
 pub mod TakeAtoms
+pub mod TakeAll
