@@ -20,3 +20,4 @@ pub mod TakeCells
 pub mod TakeFacts
 pub mod TakeAtoms
 pub mod TakeAll
+pub mod TakenLaws
