@@ -21,3 +21,8 @@ pub mod TakeFacts
 pub mod TakeAtoms
 pub mod TakeAll
 pub mod TakenLaws
+pub mod GiveSlots
+pub mod GiveState
+pub mod GiveItems
+pub mod GiveLaw
+pub mod MadeTables
