@@ -26,3 +26,4 @@ pub mod GiveState
 pub mod GiveItems
 pub mod GiveLaw
 pub mod MadeTables
+pub mod TakenStill
