@@ -1,6 +1,6 @@
 -- Assertions over stocks: what an item draws out of what is held, and what contracts, invariants and
 -- interpretations own.
-use Rattle.std.proofs.Common.{◌≡◌, ◌⊎◌, ℕ, suc, ◌+◌, ◌≤◌, ℤ, pos, ◌<ℤ◌, List, ◌∷◌, length, Option, Some, refl, inl, inr}
+use Rattle.std.proofs.Common.{◌≡◌, ◌⊎◌, ℕ, suc, ℤ, pos, ◌<ℤ◌, List, ◌∷◌, length, Option, Some, inl, inr}
 use Rattle.std.specs.Prelude.{slice_get}
 use Rattle.std.specs.List.{AllByRecursion}
 use Rattle.cap_lin.specs.Values.{Valuation, value}
@@ -16,7 +16,7 @@ use Rattle.cap_account_resources.specs.Parts.{known_as, Table}
 use Rattle.cap_account_resources.proofs.Marks.{Mark}
 use Rattle.cap_account_resources.proofs.Covering.{mark}
 use Rattle.cap_account_resources.proofs.Stocks.{Stock, no_stock, cell_stock, guard_stock, both, Inside, none-right, inside-same, inside-trans, inside-is}
-use Rattle.cap_account_resources.proofs.Tables.{Extends, KeepsStates, extends-states}
+use Rattle.cap_account_resources.proofs.Tables.{KeepsStates}
 use Rattle.cap_account_states.proofs.Wants.{Wants}
 
 -- ---- definitions

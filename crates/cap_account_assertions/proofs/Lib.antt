@@ -21,3 +21,12 @@ pub mod CaseStarts
 pub mod CaseTaken
 pub mod FullsGone
 pub mod TakeConvert
+pub mod Creating
+pub mod TakeAll
+pub mod TakenLaws
+pub mod GiveSlots
+pub mod GiveState
+pub mod GiveItems
+pub mod GiveLaw
+pub mod MadeTables
+pub mod TakenStill

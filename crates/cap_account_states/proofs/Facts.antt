@@ -71,7 +71,7 @@ pub record Facts (ks : List ℕ) (v : Valuation) (T : Table) (s : PlainState) : 
 
 -- ---- at alike values, and in a later state
 
-values-alike :
+pub values-alike :
     (P : ℕ → Type 0) (v w : Valuation) → Alike P v w → (ts : List Linear) →
     AllByRecursion (Over P) ts → map (value w.whole) ts ≡ map (value v.whole) ts
 values-alike P v w a [] h = refl
@@ -272,7 +272,7 @@ found-all P test (y ∷ xs) x h e = by (test y) refl e (λ k. found-all P test x
     by true q e f = let r = some-same y x e in (subst P r h.0, subst (λ z. test z ≡ true) r q)
     by false q e f = f e
 
-all-without :
+pub all-without :
     {X : Type 0} (P : X → Type 0) (test : X → Bool) (xs : List X) → AllByRecursion P xs →
     AllByRecursion P (without_first test xs)
 all-without P test [] h = tt

@@ -25,3 +25,5 @@ pub mod Backed
 pub mod Sums
 pub mod Environments
 pub mod Cases
+pub mod KnowsLater
+pub mod PiecesHeld

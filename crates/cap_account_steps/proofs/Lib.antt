@@ -20,3 +20,7 @@ pub mod Returning
 pub mod Beginning
 pub mod Allocating
 pub mod Reserving
+pub mod CallSite
+pub mod Results
+pub mod Calling
+pub mod CallLaws

@@ -12,7 +12,6 @@ use Rattle.cap_account_resources.proofs.Lists.{all-more, Among}
 use Rattle.cap_account_resources.proofs.Covering.{Covered}
 use Rattle.cap_account_resources.proofs.Stocks.{Stock}
 use Rattle.cap_account_states.proofs.Meets.{Usable, Meets, need}
-
 use Rattle.cap_account_states.proofs.Alike.{Alike, need-alike}
 use Rattle.cap_account_states.proofs.Adding.{PieceOver}
 use Rattle.cap_account_states.proofs.Pieces.{AllFit}

@@ -1,0 +1,241 @@
+-- Giving the items of an assertion, one after the other: the law.
+use Rattle.std.proofs.Common.{ℕ, zero, suc, ◌+◌, ◌≤◌, List, [], ◌∷◌, arith, inl, inr}
+use Rattle.cap_lin.specs.Rows.{row_of}
+use Rattle.cap_lin.specs.Values.{Valuation}
+use Rattle.cap_lin.specs.declared.row.Op.{Op}
+use Rattle.cap_prog.specs.declared.assertion.Comp.{Comp}
+use Rattle.cap_prog.specs.Program.{PlainItem, compare, choose, fact, atom, cell, Items, none, item, append_items}
+use Rattle.cap_prog.specs.Parts.{all_items}
+use Rattle.cap_prog.specs.Scopes.{Scope}
+use Rattle.cap_prog.specs.WellFormed.{ItemFits}
+use Rattle.cap_goal_spec.specs.States.{PlainState, PlainTask, to_give, goals_of}
+use Rattle.cap_goal_spec.specs.Choices.{PlainTree, node, PlainTrees, by_absurd, by_give}
+use Rattle.cap_rules.specs.Making.{opposite}
+use Rattle.cap_rules.specs.Giving.{give_sides, give_item, give}
+use Rattle.cap_account_resources.specs.Parts.{Table}
+use Rattle.cap_account_resources.proofs.Lists.{all-first, all-second}
+use Rattle.cap_account_resources.proofs.Order.{unless-relates}
+use Rattle.cap_account_resources.proofs.Stocks.{Stock, both, Composes, inside-trans, inside-first, inside-same}
+use Rattle.cap_account_states.specs.Nodes.{Comes, Children, Open}
+use Rattle.cap_account_states.proofs.Attempts.{comes-bind, after-comparison, row_added}
+use Rattle.cap_account_states.proofs.Meets.{solves}
+use Rattle.cap_account_states.proofs.Checked.{Checked, children-split, one-child}
+use Rattle.cap_account_states.proofs.Naming.{Step}
+use Rattle.cap_account_states.proofs.Items.{items_size, size-positive, append-size, AreFit, fits-append, fits-more, fits-sides}
+use Rattle.cap_account_states.proofs.KnowsLater.{backed-more}
+use Rattle.cap_account_assertions.proofs.Asserted.{DrawsAll, draws-join}
+use Rattle.cap_account_assertions.proofs.Laws.{Given, GivenLaw}
+use Rattle.cap_account_assertions.proofs.Giving.{sides-given, sides-row}
+use Rattle.cap_account_assertions.proofs.GiveState.{Onward, onward-none, onward-step, onward-trans, underway-step, Due}
+use Rattle.cap_account_assertions.proofs.GiveItems.{IsPlain, item-gives}
+
+-- what is given to a state that went on is given to the first one
+given-on :
+    (p : Checked) (T : Table) (e : ℕ) (v w : Valuation) (total : Stock) (s t : PlainState)
+    (ts : List PlainTask) → Onward e v w s t → Given p T e w total t ts → Given p T e v total s ts
+given-on p T e v w total s t ts o g =
+    let on =
+    onward-trans e v w g.w s t g.after o
+    (record { agree = g.agree; goes_on = g.goes_on; others = g.others }) in
+    record {
+      w = g.w;
+      after = g.after;
+      children = g.children;
+      goes = g.goes;
+      grounded = g.grounded;
+      facts = g.facts;
+      firm = g.firm;
+      backed = g.backed;
+      agree = on.agree;
+      goes_on = on.goes_on;
+      others = on.others;
+    }
+
+-- ---- the two sides of a conditional item
+
+module _ (p : Checked) (T : Table) (sc : Scope) (e : ℕ) (a : Valuation) (total : Stock)
+    (ne : Composes total) (n : ℕ) (ts : List PlainTask) where
+  abbrev IsDue : Items → Valuation → PlainState → Type 0
+  IsDue items v s = Due p.program T sc e a total items v s
+
+  abbrev IsOpen : PlainTrees → PlainState → Items → Type 0
+  IsOpen ks s items = Open p.N ks s (to_give items e n ∷ ts)
+
+  given-none :
+      (ks : PlainTrees) (v : Valuation) (s : PlainState) → Open p.N ks s ts → IsDue none v s →
+      Given p T e v total s ts
+  given-none ks v s h d =
+      let u = d.underway in
+      let on = onward-none e v s in
+      record {
+        w = v;
+        after = s;
+        children = ks;
+        goes = h;
+        grounded = record {
+          meets = u.ready.meets;
+          pieces_over = u.knows.pieces_over;
+          pieces_fit = u.knows.pieces_fit;
+        };
+        facts = u.knows.facts;
+        firm = u.firm;
+        backed =
+            backed-more p.program v s d.held total
+            (inside-trans p.program d.held (both p.program d.held d.left) total
+            (inside-first p.program d.held d.left) d.room) u.knows.backed;
+        agree = on.agree;
+        goes_on = on.goes_on;
+        others = on.others;
+      }
+
+  -- the items of a side are due before those that follow
+  side-due :
+      (c : Comp) (x y side more : Items) (v : Valuation) (s t : PlainState)
+      (d : IsDue (item (choose c x y) more) v s) (m : Step sc e a v s t) →
+      AreFit p.program sc side → DrawsAll p.program T a side d.left d.draws.0 →
+      IsDue (append_items side more) m.w t
+  side-due c x y side more v s t d m f h = record {
+    held = d.held;
+    left = d.left;
+    rest = d.rest;
+    underway = underway-step p.program T sc e a v s t d.held d.underway m;
+    fit = fits-append p.program sc side more f (fits-more p.program sc (choose c x y) more d.fit);
+    draws = draws-join p.program T a side more d.left d.draws.0 d.rest h d.draws.2;
+    room = d.room;
+  }
+
+  -- ---- items one after the other
+
+  -- up to this size; and up to the first conditional item
+  abbrev AllGiven : ℕ → Type 0
+  AllGiven size =
+      (items : Items) → items_size items ≤ size → (ks : PlainTrees) (v : Valuation)
+      (s : PlainState) → IsOpen ks s items → IsDue items v s → Given p T e v total s ts
+
+  abbrev ListGiven : Items → Type 0
+  ListGiven items =
+      (ks : PlainTrees) (v : Valuation) (s : PlainState) →
+      Comes (give p.program s e n ts items) (Children p.N ks) → IsDue items v s →
+      Given p T e v total s ts
+
+  -- an item that isn't conditional, and those that follow
+  after-item :
+      (i : PlainItem) (more : Items) → IsPlain i → ListGiven more →
+      (ks : PlainTrees) (v : Valuation) (s : PlainState) →
+      Comes (give_item p.program s e i)
+      (λ t. Comes (give p.program t e n ts more) (Children p.N ks)) → IsDue (item i more) v s →
+      Given p T e v total s ts
+  after-item i more ok law ks v s h d =
+      let g =
+      item-gives p.program T sc e a total ne i ok more v s
+      (λ t. Comes (give p.program t e n ts more) (Children p.N ks)) d h in
+      given-on p T e v g.w total s g.after ts g.onward (law ks g.w g.after g.comes g.due)
+
+  -- by the side that the values choose
+  after-choice :
+      (size : ℕ) → AllGiven size → (c : Comp) (x y more : Items) →
+      items_size (append_items x more) ≤ size → items_size (append_items y more) ≤ size →
+      ListGiven (item (choose c x y) more)
+  after-choice size law c x y more small_x small_y ks v s h d =
+      let fit = fits-sides p.program sc (choose c x y) more d.fit in
+      let g =
+      sides-given sc e a v s c _ d.underway.ready d.fit.0
+      (comes-bind (give_sides s e c) _ (Children p.N ks) h) in
+      let after = λ (op : Op). row_added g.after (row_of g.left op g.right c.sort) in
+      let todo = λ (side : Items). to_give (append_items side more) e n ∷ ts in
+      let first = after-comparison g.after g.left c.op g.right c.sort _ (Children p.N ks) g.comes in
+      let second =
+      after-comparison g.after g.left (opposite c.op) g.right c.sort _ (Children p.N ks) first in
+      let k =
+      children-split p.N ks (goals_of (after c.op) (todo x))
+      (goals_of (after (opposite c.op)) (todo y)) second.1 in
+      let by =
+      λ (op : Op) (side : Items) (m : Step sc e a v s (after op))
+      (small : items_size (append_items side more) ≤ size) (f : AreFit p.program sc side)
+      (took : DrawsAll p.program T a side d.left d.draws.0) (ls : PlainTrees)
+      (o : Open p.N ls (after op) (todo side)).
+      given-on p T e v m.w total s (after op) ts (onward-step sc e a v s (after op) m)
+      (law (append_items side more) small ls m.w (after op) o
+      (side-due c x y side more v s (after op) d m f took)) in
+      elim d.draws.1 [
+        | inl w ↦ by c.op x (sides-row sc e a v s c c.op _ g w.0) small_x
+            (all-first (ItemFits p.program sc) (all_items x) (all_items y) fit) w.1 k.left k.first
+        | inr w ↦ by (opposite c.op) y
+            (sides-row sc e a v s c (opposite c.op) _ g (unless-relates c.op _ _ w.0)) small_y
+            (all-second (ItemFits p.program sc) (all_items x) (all_items y) fit) w.1 k.right
+            k.second
+      ]
+
+  list-given : (size : ℕ) → AllGiven size → (items : Items) → items_size items ≤ size + 1 →
+      ListGiven items
+  list-given size law none le ks v s h d = given-none ks v s h.1 d
+  list-given size law (item (compare c) more) le ks v s h d =
+      after-item (compare c) more tt (list-given size law more (omega (arith, le))) ks v s
+      (comes-bind (give_item p.program s e (compare c)) _ (Children p.N ks) h) d
+  list-given size law (item (choose c x y) more) le ks v s h d =
+      let l = append-size x more in
+      let r = append-size y more in
+      after-choice size law c x y more (omega (arith, le, l)) (omega (arith, le, r)) ks v s h d
+  list-given size law (item (fact place m k args x) more) le ks v s h d =
+      after-item (fact place m k args x) more tt (list-given size law more (omega (arith, le))) ks v
+      s
+      (comes-bind (give_item p.program s e (fact place m k args x))
+      _ (Children p.N ks) h) d
+  list-given size law (item (atom place m k i asked) more) le ks v s h d =
+      after-item (atom place m k i asked) more tt (list-given size law more (omega (arith, le))) ks
+      v s
+      (comes-bind (give_item p.program s e (atom place m k i asked))
+      _ (Children p.N ks) h) d
+  list-given size law (item (cell place x y) more) le ks v s h d =
+      after-item (cell place x y) more tt (list-given size law more (omega (arith, le))) ks v s
+      (comes-bind (give_item p.program s e (cell place x y)) _ (Children p.N ks) h) d
+
+  -- a node gives them, or has no values
+  node-given :
+      (size : ℕ) → AllGiven size → (i : PlainItem) (more : Items) →
+      items_size (item i more) ≤ size + 1 → (t : PlainTree) (v : Valuation) (s : PlainState) →
+      p.N t s (to_give (item i more) e n ∷ ts) → IsDue (item i more) v s →
+      Given p T e v total s ts
+  node-given size law i more le (node (by_absurd c) ks) v s h d =
+      absurd ((p.step h).0.0 v (solves [] v s d.underway.ready.meets))
+  node-given size law i more le (node by_give ks) v s h d =
+      list-given size law (item i more) le ks v s (p.step h) d
+  node-given size law i more le t v s h d = absurd (p.step h).1
+
+  all-given : (size : ℕ) → AllGiven size
+  all-given size none le ks v s h d = given-none ks v s h d
+  all-given zero (item i more) le ks v s h d =
+      absurd (let q = size-positive i in omega (arith, le, q))
+  all-given (suc size) (item i more) le ks v s h d =
+      let t = one-child p.N ks s (to_give (item i more) e n ∷ ts) h in
+      node-given size (all-given size) i more (omega (arith, le)) t.0 v s t.1 d
+
+-- ---- the law
+
+pub given-law : (p : Checked) → GivenLaw p
+given-law p T sc e n a held h r items ts trees v s hd at firm means fit draws backed ne =
+    all-given p T sc e a (both p.program held h) ne n ts (items_size items) items (omega arith)
+    trees v s hd (record {
+      held = held;
+      left = h;
+      rest = r;
+      underway = record {
+        ready = record {
+          meets = at.grounded.meets;
+          there = at.there;
+          placed = at.placed;
+          means = means;
+        };
+        knows = record {
+          facts = at.facts;
+          pieces_over = at.grounded.pieces_over;
+          pieces_fit = at.grounded.pieces_fit;
+          opened = at.opened;
+          backed = backed;
+        };
+        firm = firm;
+      };
+      fit = fit;
+      draws = draws;
+      room = inside-same p.program (both p.program held h);
+    })
