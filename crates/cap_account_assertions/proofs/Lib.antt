@@ -20,10 +20,10 @@ pub mod Finer
 pub mod CaseStarts
 pub mod CaseTaken
 pub mod FullsGone
-pub mod TakeConvert
 pub mod Creating
 pub mod TakeAll
 pub mod TakenLaws
+pub mod TakeConvert
 pub mod GiveSlots
 pub mod GiveState
 pub mod GiveItems

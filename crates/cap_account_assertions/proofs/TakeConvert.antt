@@ -2,14 +2,16 @@
 -- (the rule `convert`).
 use Rattle.std.proofs.Common.{◌≡◌, ℕ, zero, suc, List, ◌∷◌, Some, arith, refl, sym, ap, subst}
 use Rattle.std.specs.Prelude.{slice_get}
+use Rattle.std.specs.List.{AllByRecursion}
 use Rattle.cap_lin.specs.Linear.{Linear}
 use Rattle.cap_lin.specs.Values.{Valuation, value}
 use Rattle.cap_lin.specs.declared.row.Sort.TheVariants.{Int}
 use Rattle.cap_galg.specs.Elements.{Element}
 use Rattle.cap_galg.specs.Algebras.{PlainAlgebra}
 use Rattle.cap_gsolve.specs.declared.piece.Piece.{Piece}
-use Rattle.cap_prog.specs.Program.{PlainItem, Items, item, PlainRegionType}
+use Rattle.cap_prog.specs.Program.{atom, PlainItem, Items, item, PlainRegionType}
 use Rattle.cap_prog.specs.Scopes.{HasSort}
+use Rattle.cap_prog.specs.WellFormed.{RegionFits}
 use Rattle.cap_machine_accounts.specs.Parts.{kind_algebra, algebra_of}
 use Rattle.cap_goal_spec.specs.States.{PlainState, PlainGoal}
 use Rattle.cap_goal_spec.specs.Environments.{term_of}
@@ -21,6 +23,7 @@ use Rattle.cap_rules.specs.Rules.{leaves, stays, at_convert}
 use Rattle.cap_account_resources.specs.Parts.{Table}
 use Rattle.cap_account_resources.proofs.Lists.{some-same, none-some}
 use Rattle.cap_account_resources.proofs.Covering.{mark}
+use Rattle.cap_account_resources.proofs.Room.{part-some}
 use Rattle.cap_account_resources.proofs.Stocks.{Stock, no_stock, guard_stock, both, Inside, Composes, composes-inside, inside-second, inside-same, none-right}
 use Rattle.cap_account_states.specs.Nodes.{Comes, Children}
 use Rattle.cap_account_states.proofs.Attempts.{comes-bind, after-found}
@@ -31,7 +34,9 @@ use Rattle.cap_account_states.proofs.Sums.{Full, sides-full, SidesFull}
 use Rattle.cap_account_states.proofs.Items.{AreFit}
 use Rattle.cap_account_states.proofs.Backed.{Backed}
 use Rattle.cap_account_assertions.proofs.Asserted.{DrawsAll, draws-all-more}
-use Rattle.cap_account_assertions.proofs.Laws.{StateAt}
+use Rattle.cap_account_assertions.proofs.Laws.{StateAt, TakenLaw}
+use Rattle.cap_account_assertions.proofs.TakeAll.{ConvertLaw}
+use Rattle.cap_account_assertions.proofs.TakenLaws.{taken-law}
 use Rattle.cap_account_assertions.proofs.ManyPieces.{with_parts, pieces-held}
 use Rattle.cap_account_assertions.proofs.FullsGone.{with_guards, fulls-gone}
 use Rattle.cap_account_assertions.proofs.TakeSteps.{Job, remaining}
@@ -155,3 +160,15 @@ module _ (p : Checked) (ks : List ℕ) (T : Table) (j : Job) (v : Valuation) (s 
       ItemsTurned p ks T j v s c trees
   convert-turned m side n k i more is fits hn ok h =
       converted m side n k i more is fits hn ok (asks m side n k i more h)
+
+pub convert-law : (p : Checked) (ks : List ℕ) → ConvertLaw p ks
+convert-law p ks T next lim j v s c trees st m side place n k i asked more is h =
+    let fits = subst (AreFit p.program j.scope) is st.fits in
+    convert-turned p ks T j v s c st.ready st.backed trees m side n k (atom place n k i asked) more
+    is fits fits.0.0
+    (λ z. part-some p.program (c.guards z) (lim z) (st.within z) (st.composes z)) h
+
+-- with it, the law of taking
+pub taken-always :
+    (p : Checked) → AllByRecursion (RegionFits p.program) p.program.regions → TakenLaw p
+taken-always p regions = taken-law p regions (convert-law p)
