@@ -43,7 +43,8 @@ use Rattle.cap_account_assertions.proofs.TakeSteps.{Job, remaining}
 use Rattle.cap_account_assertions.proofs.TakeHeads.{same-parts, head-kept, ItemsTurned}
 
 -- the side that is held, and the other one, are all of it
-record Converts (w : PlainAlgebra) (k : ℕ) (v : Valuation) (r : Linear) (held other : Side) : Type 0 where
+record Converts (w : PlainAlgebra) (k : ℕ) (v : Valuation) (r : Linear)
+    (held other : Side) : Type 0 where
   element : Element
   gone : Full w k v r (side_pieces held r k) element
   come : Full w k v r (side_pieces other r k) element
@@ -66,13 +67,14 @@ module _ (p : Checked) (ks : List ℕ) (T : Table) (j : Job) (v : Valuation) (s 
     abbrev P : List PlainGoal → Type 0
     P = Children p.N trees
 
-    -- what is converted into what, and of which region
+    -- the steps of the rule that come last
     abbrev end : PlainState → Attempt (List PlainGoal)
     end t = leaves t (stays t i j.most (remaining j more) ∷ j.tasks)
 
     abbrev adding : Side → Linear → List Piece → Attempt (List PlainGoal)
     adding y t gs = with_pieces p.program (with_guards s gs) (side_pieces y t k) >>= end
 
+    -- what is converted into what, and of which region
     record Asks : Type 0 where
       held : Side
       other : Side
@@ -134,8 +136,8 @@ module _ (p : Checked) (ks : List ℕ) (T : Table) (j : Job) (v : Valuation) (s 
         end P gone.2) in
         record {
           head =
-              head-kept p.program ks T j v s c st v (with_parts s come.rows come.guards) now no_stock
-              (same-parts s come.rows s.cells come.guards) refl (alike-same (Old s) v)
+              head-kept p.program ks T j v s c st v (with_parts s come.rows come.guards) now
+              no_stock (same-parts s come.rows s.cells come.guards) refl (alike-same (Old s) v)
               (record {
                 meets = come.grounded.meets;
                 pieces_over = come.grounded.pieces_over;
