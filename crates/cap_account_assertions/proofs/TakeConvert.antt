@@ -37,6 +37,7 @@ use Rattle.cap_account_assertions.proofs.Asserted.{DrawsAll, draws-all-more}
 use Rattle.cap_account_assertions.proofs.Laws.{StateAt, TakenLaw}
 use Rattle.cap_account_assertions.proofs.TakeAll.{ConvertLaw}
 use Rattle.cap_account_assertions.proofs.TakenLaws.{taken-law}
+use Rattle.cap_account_assertions.proofs.TakenStill.{StillLaw, still-law}
 use Rattle.cap_account_assertions.proofs.ManyPieces.{with_parts, pieces-held}
 use Rattle.cap_account_assertions.proofs.FullsGone.{with_guards, fulls-gone}
 use Rattle.cap_account_assertions.proofs.TakeSteps.{Job, remaining}
@@ -170,7 +171,11 @@ convert-law p ks T next lim j v s c trees st m side place n k i asked more is h 
     is fits fits.0.0
     (λ z. part-some p.program (c.guards z) (lim z) (st.within z) (st.composes z)) h
 
--- with it, the law of taking
+-- with it, the laws of taking
 pub taken-always :
     (p : Checked) → AllByRecursion (RegionFits p.program) p.program.regions → TakenLaw p
 taken-always p regions = taken-law p regions (convert-law p)
+
+pub still-always :
+    (p : Checked) → AllByRecursion (RegionFits p.program) p.program.regions → StillLaw p
+still-always p regions = still-law p regions (convert-law p)
