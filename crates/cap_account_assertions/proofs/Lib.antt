@@ -27,3 +27,4 @@ pub mod GiveItems
 pub mod GiveLaw
 pub mod MadeTables
 pub mod TakenStill
+pub mod Again
