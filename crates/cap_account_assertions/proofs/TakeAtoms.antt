@@ -1,8 +1,7 @@
 -- Guards are taken: no tokens, and atoms cut out of a piece (the rule `guard`).
-use Rattle.std.proofs.Common.{◌≡◌, ◌≢◌, ℕ, ◌<◌, ℤ, List, length, arith, refl, sym, ap, ◌∙◌, subst, Bool, true, false, Option, Some, None, inl, inr}
-use Rattle.std.specs.Prelude.{if◌then◌else◌, slice_get, IsSomeAnd}
+use Rattle.std.proofs.Common.{◌≡◌, ◌≢◌, ℕ, ◌<◌, ℤ, List, length, arith, refl, sym, ap, ◌∙◌, subst, Option, Some, None}
+use Rattle.std.specs.Prelude.{slice_get, IsSomeAnd}
 use Rattle.std.specs.List.{AllByRecursion}
-use Rattle.cap_lin.specs.Linear.{same_number}
 use Rattle.cap_lin.specs.Values.{Valuation}
 use Rattle.cap_lin.specs.declared.row.Sort.TheVariants.{Int}
 use Rattle.cap_galg.specs.Elements.{nothing}
@@ -13,7 +12,7 @@ use Rattle.cap_syntax.specs.declared.place.Place.{Place}
 use Rattle.cap_prog.specs.declared.assertion.Slot.{Slot}
 use Rattle.cap_prog.specs.declared.assertion.Asked.{Asked}
 use Rattle.cap_prog.specs.declared.assertion.Asked.TheVariants.{One, Share, Src, Tok}
-use Rattle.cap_prog.specs.Program.{atom, Items, PlainRegionType, PlainProgram}
+use Rattle.cap_prog.specs.Program.{atom, Items, PlainRegionType}
 use Rattle.cap_prog.specs.Scopes.{Scope}
 use Rattle.cap_prog.specs.WellFormed.{AskedFits, AtomFits, ItemFits}
 use Rattle.cap_machine_accounts.specs.Parts.{algebra_of}
@@ -22,23 +21,23 @@ use Rattle.cap_goal_spec.specs.Choices.{PlainTrees}
 use Rattle.cap_rules.specs.Rules.{at_no_tokens, at_piece}
 use Rattle.cap_account_resources.specs.Parts.{Table}
 use Rattle.cap_account_resources.proofs.Lists.{all-more}
-use Rattle.cap_account_resources.proofs.Marks.{Mark, free, joins-law}
-use Rattle.cap_account_resources.proofs.Covering.{IsPartOf, mark, Covered}
-use Rattle.cap_account_resources.proofs.Room.{alone, alone-here, alone-away, here-or}
-use Rattle.cap_account_resources.proofs.Stocks.{Stock, no_stock, guard_stock, both, Inside, same-stock, inside-same, inside-is, inside-by}
+use Rattle.cap_account_resources.proofs.Marks.{Mark, free}
+use Rattle.cap_account_resources.proofs.Covering.{mark, Covered}
+use Rattle.cap_account_resources.proofs.Stocks.{Stock, no_stock, guard_stock, both, Inside, inside-same, inside-is}
 use Rattle.cap_account_states.specs.Nodes.{Comes, Children}
 use Rattle.cap_account_states.proofs.Alike.{need-alike}
 use Rattle.cap_account_states.proofs.Meets.{Usable, usable-old, need, Old, same-trans}
 use Rattle.cap_account_states.proofs.Checked.{Checked}
 use Rattle.cap_account_states.proofs.Asking.{AskedOver}
 use Rattle.cap_account_states.proofs.Adding.{PieceOver}
-use Rattle.cap_account_states.proofs.Pieces.{AllFit, left_pieces, CutAt}
+use Rattle.cap_account_states.proofs.Pieces.{AllFit, left_pieces}
 use Rattle.cap_account_states.proofs.Guards.{GuardTaken, guard-taken, no-tokens-taken}
 use Rattle.cap_account_states.proofs.Backed.{Backed, Grounded}
 use Rattle.cap_account_assertions.proofs.Asserted.{WantsAtom}
 use Rattle.cap_account_assertions.proofs.Laws.{StateAt}
+use Rattle.cap_account_assertions.proofs.PieceCuts.{none-alone, CutsOut, cuts-out, stock_left, left-apart}
 use Rattle.cap_account_assertions.proofs.TakeSteps.{Job, remaining, Head, Claim}
-use Rattle.cap_account_assertions.proofs.TakeHeads.{same-held, means-bound, head-same, head-kept, head-bound, ItemTaken}
+use Rattle.cap_account_assertions.proofs.TakeHeads.{same-parts, means-bound, head-same, head-kept, head-bound, ItemTaken}
 
 -- ---- what is asked
 
@@ -57,28 +56,6 @@ atom-over :
     IsSomeAnd o (λ type. AtomFits sc type i asked) → AskedOver sc asked
 atom-over sc None i asked h = absurd h
 atom-over sc (Some type) i asked h = asked-over sc (atom_algebra type.algebra i) asked h.form
-
--- no guards are held as nothing is
-none-alone : (n : ℤ) → guard_stock n (Some free) ≡ no_stock
-none-alone n = same-stock (guard_stock n (Some free)) no_stock (λ a z. refl) (λ z. by (same_number n z))
-  where
-    by : (b : Bool) → (if b then Some free else Some free) ≡ Some free
-    by true = refl
-    by false = refl
-
--- ---- what is left at each region
-
--- a mark at one region is cut out of what is held, and elsewhere none
-cut-all :
-    (p : PlainProgram) (v : Valuation) (left : List Piece) (n : ℤ) (taken : Option Mark)
-    (held : ℤ → Option Mark) → CutAt p v left n taken (held n) →
-    ((z : ℤ) → n ≢ z → CutAt p v left z (Some free) (held z)) → (z : ℤ) →
-    CutAt p v left z (alone n taken z) (held z)
-cut-all p v left n taken held here away z = elim (here-or n z) [
-  | inl e ↦ subst (λ m. CutAt p v left z m (held z)) (sym (alone-here n taken z e))
-      (subst (λ y. CutAt p v left y taken (held y)) e here)
-  | inr ne ↦ subst (λ m. CutAt p v left z m (held z)) (sym (alone-away n taken z ne)) (away z ne)
-]
 
 module _ (p : Checked) (ks : List ℕ) (T : Table) (j : Job) (v : Valuation) (s : PlainState)
     (c : Stock) (st : StateAt p.program ks T j.scope j.env v s) (backed : Backed p.program v s c)
@@ -117,22 +94,21 @@ module _ (p : Checked) (ks : List ℕ) (T : Table) (j : Job) (v : Valuation) (s 
     abbrev region_taken : ℤ
     region_taken = region_of g.w g.piece
 
-    abbrev cuts :
-        (z : ℤ) →
-        CutAt p.program g.w (left_pieces s.guards i g.piece g.left) z
-        (alone region_taken guards_taken z) (c.guards z)
+    abbrev pieces_then : List Piece
+    pieces_then = left_pieces s.guards i g.piece g.left
+
+    abbrev cuts : CutsOut p.program g.w pieces_then region_taken guards_taken c.guards
     cuts =
-        cut-all p.program g.w (left_pieces s.guards i g.piece g.left) region_taken guards_taken
-        c.guards g.here g.away
+        cuts-out p.program g.w pieces_then region_taken guards_taken c.guards g.here g.away
 
     -- the state without them, and what it has
     abbrev state_left : PlainState
     state_left = record g.after { guards = left_pieces g.after.guards i g.piece g.left }
 
-    abbrev stock_left : Stock
-    stock_left = record { cells = c.cells; guards = λ z. (cuts z).rest }
+    abbrev rest : Stock
+    rest = stock_left p.program g.w pieces_then region_taken guards_taken c cuts
 
-    pieces-left : state_left.guards ≡ left_pieces s.guards i g.piece g.left
+    pieces-left : state_left.guards ≡ pieces_then
     pieces-left = ap (λ qs. left_pieces qs i g.piece g.left) g.guards
 
     grounded-left : Grounded p.program ks g.w state_left
@@ -151,7 +127,7 @@ module _ (p : Checked) (ks : List ℕ) (T : Table) (j : Job) (v : Valuation) (s 
       pieces_fit = subst (AllFit p.program) (sym pieces-left) g.fit;
     }
 
-    backed-left : Backed p.program g.w state_left stock_left
+    backed-left : Backed p.program g.w state_left rest
     backed-left = record {
       cells = λ a z.
           let R = Usable ks s.sorts in
@@ -164,23 +140,15 @@ module _ (p : Checked) (ks : List ℕ) (T : Table) (j : Job) (v : Valuation) (s 
           subst (λ qs. Covered p.program g.w qs z (cuts z).rest) (sym pieces-left) (cuts z).covered;
     }
 
-    cut-apart :
-        Inside p.program (both p.program stock_left (guard_stock region_taken guards_taken)) c
-    cut-apart =
-        inside-by p.program (both p.program stock_left (guard_stock region_taken guards_taken)) c
-        (λ a z. omega arith)
-        (λ z. subst (λ q. IsPartOf p.program q (c.guards z))
-        ((joins-law p.program).comm (alone region_taken guards_taken z) (cuts z).rest)
-        (cuts z).within)
-
     abbrev head-piece : Head p.program ks T j v s c
     head-piece =
         head-bound p.program ks T j v s c st
-        (head-kept p.program ks T j v s c st g.w state_left stock_left
+        (head-kept p.program ks T j v s c st g.w state_left rest
         (guard_stock region_taken guards_taken)
         (same-trans s g.after state_left g.same
-        (same-held g.after g.after.cells state_left.guards)) g.envs g.alike grounded-left
-        backed-left cut-apart) g.later g.placed g.stays g.outside g.size
+        (same-parts g.after g.after.rows g.after.cells state_left.guards)) g.envs g.alike grounded-left
+        backed-left
+        (left-apart p.program g.w pieces_then region_taken guards_taken c cuts)) g.later g.placed g.stays g.outside g.size
 
     there-left : j.env < length state_left.envs
     there-left = subst (λ es. j.env < length es) (sym g.envs) st.there

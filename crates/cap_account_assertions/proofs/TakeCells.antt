@@ -34,7 +34,7 @@ use Rattle.cap_account_states.proofs.Backed.{Backed}
 use Rattle.cap_account_assertions.proofs.Laws.{StateAt}
 use Rattle.cap_account_assertions.proofs.Follows.{means-before}
 use Rattle.cap_account_assertions.proofs.TakeSteps.{Job, remaining, Head}
-use Rattle.cap_account_assertions.proofs.TakeHeads.{same-held, means-bound, head-kept, head-bound, ItemTaken}
+use Rattle.cap_account_assertions.proofs.TakeHeads.{same-parts, means-bound, head-kept, head-bound, ItemTaken}
 
 -- cells are one of them and the others
 need-apart :
@@ -67,7 +67,7 @@ module _ (p : Checked) (ks : List ℕ) (T : Table) (j : Job) (v : Valuation) (s 
   head-cell i d e =
       let me = st.grounded.meets in
       head-kept p.program ks T j v s c st v (without_cell i) (others_than d) (cell_of d)
-      (same-held s (remove s.cells i) s.guards) refl
+      (same-parts s s.rows (remove s.cells i) s.guards) refl
       (alike-same (Old s) v) (record {
         meets = record {
           sorted = me.sorted;

@@ -5,6 +5,7 @@ use Rattle.std.specs.List.{AllByRecursion}
 use Rattle.cap_lin.specs.Linear.{Linear}
 use Rattle.cap_gsolve.specs.declared.piece.Piece.{Piece}
 use Rattle.cap_lin.specs.Values.{Valuation}
+use Rattle.cap_lin.specs.declared.row.Row.{Row}
 use Rattle.cap_lin.specs.declared.row.Sort.TheVariants.{Int}
 use Rattle.cap_prog.specs.Program.{PlainItem, Items, item, PlainProgram}
 use Rattle.cap_prog.specs.Scopes.{Scope}
@@ -32,11 +33,11 @@ use Rattle.cap_account_assertions.proofs.TakeSteps.{Job, tasks_of, with_items, T
 
 -- ---- environments stay as they are
 
--- other cells and pieces
-pub same-held :
-    (s : PlainState) (cells : List (Linear × Linear)) (guards : List Piece) →
-    Same s (record s { cells = cells; guards = guards })
-same-held s cells guards = record {
+-- other rows, cells and pieces
+pub same-parts :
+    (s : PlainState) (rows : List Row) (cells : List (Linear × Linear)) (guards : List Piece) →
+    Same s (record s { rows = rows; cells = cells; guards = guards })
+same-parts s rows cells guards = record {
   sorts = λ x o h. h;
   count = omega arith;
   store = refl;
