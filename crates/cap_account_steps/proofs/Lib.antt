@@ -25,3 +25,4 @@ pub mod Results
 pub mod Calling
 pub mod CallLaws
 pub mod RootNames
+pub mod StableContracts
