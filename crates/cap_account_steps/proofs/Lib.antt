@@ -43,3 +43,4 @@ pub mod CaseStates
 pub mod CaseValues
 pub mod RestLaws
 pub mod CaseHolds
+pub mod CaseRoots
