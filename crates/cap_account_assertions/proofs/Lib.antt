@@ -23,10 +23,11 @@ pub mod FullsGone
 pub mod Creating
 pub mod TakeAll
 pub mod TakenLaws
+pub mod TakeConvert
 pub mod GiveSlots
 pub mod GiveState
 pub mod GiveItems
 pub mod GiveLaw
 pub mod MadeTables
 pub mod TakenStill
-pub mod TakeConvert
+pub mod Again

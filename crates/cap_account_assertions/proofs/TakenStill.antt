@@ -30,6 +30,7 @@ use Rattle.cap_account_assertions.proofs.TakeSteps.{Job, Took}
 use Rattle.cap_account_assertions.proofs.MadeRegions.{known-extends}
 use Rattle.cap_account_assertions.proofs.CaseStarts.{known-at, state-at}
 use Rattle.cap_account_assertions.proofs.TakeAll.{ConvertLaw, took}
+use Rattle.cap_account_assertions.proofs.TakeConvert.{convert-law}
 
 -- what is held has the items at the values of the names in the end, by the same table
 pub record Still (p : Checked) (ks : List ℕ) (T : Table) (sc : Scope) (e : ℕ) (v : Valuation)
@@ -117,3 +118,7 @@ still-law p regions convert ks T sc e n items ts trees v s held goes at low fits
             (t.draws t.w (alike-same (Old t.after) t.w) a m no_stock)),
       );
     }
+
+pub still-always :
+    (p : Checked) → AllByRecursion (RegionFits p.program) p.program.regions → StillLaw p
+still-always p regions = still-law p regions (convert-law p)

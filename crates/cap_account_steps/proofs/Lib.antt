@@ -37,8 +37,11 @@ pub mod CallSite
 pub mod Results
 pub mod Calling
 pub mod CallLaws
+pub mod RootNames
+pub mod StableContracts
 pub mod CaseStates
 pub mod CaseValues
 pub mod RestLaws
 pub mod CaseHolds
 pub mod Entering
+pub mod CaseRoots
