@@ -33,3 +33,4 @@ pub mod Results
 pub mod Calling
 pub mod CallLaws
 pub mod RestLaws
+pub mod Rivals
