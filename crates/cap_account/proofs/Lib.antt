@@ -14,3 +14,10 @@ mod Steps
 mod Soundness
 mod Unsafe
 mod Storing
+mod Stocked
+mod Tracks
+mod Totals
+mod Parts
+mod Drawn
+mod Valid
+mod Begins

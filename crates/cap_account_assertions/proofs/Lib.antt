@@ -2,6 +2,13 @@ pub mod Giving
 pub mod Taking
 pub mod Asserted
 pub mod Laws
+pub mod NewRegions
+pub mod TreeSizes
+pub mod Follows
+pub mod TakeSteps
+pub mod ManyPieces
+pub mod RuleSteps
+pub mod FreshRegions
 pub mod GiveSlots
 pub mod GiveState
 pub mod GiveItems

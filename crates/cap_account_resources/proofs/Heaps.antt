@@ -5,7 +5,7 @@ use Rattle.std.specs.Ordering.{int_cmp, MatchOrdering, is_eq}
 use Rattle.std.specs.declared.cmp.Ordering.{Ordering}
 use Rattle.std.specs.declared.cmp.Ordering.TheVariants.{Less, Equal, Greater}
 use Rattle.std.specs.Cmp.{int_cmp_total, int_ranks}
-use Rattle.std.specs.FinMap.{get, insert, remove, get-insert, get-remove}
+use Rattle.std.specs.FinMap.{FinMap, get, insert, remove, get-insert, get-remove}
 use Rattle.std.proofs.lemmas.Int.{ints}
 use Rattle.cap_lin.specs.Linear.{same_number}
 use Rattle.cap_machine.specs.Machine.{Heap, with_cells, are_free}
@@ -33,22 +33,26 @@ test-other b a Less m e = refl
 test-other b a Equal m e = absurd (e m)
 test-other b a Greater m e = refl
 
-pub insert-same : (h : Heap) (a w b : ℤ) → b ≡ a → get (insert h a w) b ≡ Some w
+pub insert-same :
+    {X : Type 0} (h : FinMap int_cmp X) (a : ℤ) (w : X) (b : ℤ) → b ≡ a → get (insert h a w) b ≡ Some w
 insert-same h a w b e =
     get-insert int_cmp_total h a w b
     ∙ ap (λ t. cond t (Some w) (get h b)) (test-equal b a (int_cmp b a) (int_ranks b a) e)
 
-pub insert-other : (h : Heap) (a w b : ℤ) → b ≢ a → get (insert h a w) b ≡ get h b
+pub insert-other :
+    {X : Type 0} (h : FinMap int_cmp X) (a : ℤ) (w : X) (b : ℤ) → b ≢ a → get (insert h a w) b ≡ get h b
 insert-other h a w b e =
     get-insert int_cmp_total h a w b
     ∙ ap (λ t. cond t (Some w) (get h b)) (test-other b a (int_cmp b a) (int_ranks b a) e)
 
-pub remove-same : (h : Heap) (a b : ℤ) → b ≡ a → get (remove h a) b ≡ None
+pub remove-same :
+    {X : Type 0} (h : FinMap int_cmp X) (a b : ℤ) → b ≡ a → get (remove h a) b ≡ None
 remove-same h a b e =
     get-remove int_cmp_total h a b
     ∙ ap (λ t. cond t None (get h b)) (test-equal b a (int_cmp b a) (int_ranks b a) e)
 
-pub remove-other : (h : Heap) (a b : ℤ) → b ≢ a → get (remove h a) b ≡ get h b
+pub remove-other :
+    {X : Type 0} (h : FinMap int_cmp X) (a b : ℤ) → b ≢ a → get (remove h a) b ≡ get h b
 remove-other h a b e =
     get-remove int_cmp_total h a b
     ∙ ap (λ t. cond t None (get h b)) (test-other b a (int_cmp b a) (int_ranks b a) e)

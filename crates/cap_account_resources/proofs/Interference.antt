@@ -203,7 +203,7 @@ module _ (p : PlainProgram) where
           absurd (none-some (sym (ap (λ t. meet_if t g.kind g.element h.element) q) ∙ e))
 
   -- the second of two marks that meet is a guard, where what they meet to is
-  met-guard : (a b c : Mark) → meet p a b ≡ Some c → IsGuard p c → IsGuard p b
+  pub met-guard : (a b c : Mark) → meet p a b ≡ Some c → IsGuard p c → IsGuard p b
   met-guard None b c e h = subst (IsGuard p) (sym (some-same b c e)) h
   met-guard (Some g) None c e h = tt
   met-guard (Some g) (Some d) c e h = by (fit p g.kind g.element d.kind d.element) refl

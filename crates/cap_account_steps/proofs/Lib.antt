@@ -16,6 +16,8 @@ pub mod Callees
 pub mod OwnNames
 pub mod Entries
 pub mod Bundles
+pub mod Offers
+pub mod Atoms
 pub mod Returning
 pub mod Exact
 pub mod Turning
@@ -28,9 +30,15 @@ pub mod Marking
 pub mod Beginning
 pub mod Allocating
 pub mod Reserving
+pub mod Actions
+pub mod Moves
+pub mod Shifting
 pub mod CallSite
 pub mod Results
 pub mod Calling
 pub mod CallLaws
+pub mod CaseStates
+pub mod CaseValues
 pub mod RestLaws
 pub mod Rivals
+pub mod CaseHolds
