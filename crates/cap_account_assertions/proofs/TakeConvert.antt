@@ -37,15 +37,13 @@ use Rattle.cap_account_assertions.proofs.Asserted.{DrawsAll, draws-all-more}
 use Rattle.cap_account_assertions.proofs.Laws.{StateAt, TakenLaw}
 use Rattle.cap_account_assertions.proofs.TakeAll.{ConvertLaw}
 use Rattle.cap_account_assertions.proofs.TakenLaws.{taken-law}
-use Rattle.cap_account_assertions.proofs.TakenStill.{StillLaw, still-law}
 use Rattle.cap_account_assertions.proofs.ManyPieces.{with_parts, pieces-held}
 use Rattle.cap_account_assertions.proofs.FullsGone.{with_guards, fulls-gone}
 use Rattle.cap_account_assertions.proofs.TakeSteps.{Job, remaining}
 use Rattle.cap_account_assertions.proofs.TakeHeads.{same-parts, head-kept, ItemsTurned}
 
 -- the side that is held, and the other one, are all of it
-record Converts (w : PlainAlgebra) (k : ℕ) (v : Valuation) (r : Linear)
-    (held other : Side) : Type 0 where
+record Converts (w : PlainAlgebra) (k : ℕ) (v : Valuation) (r : Linear) (held other : Side) : Type 0 where
   element : Element
   gone : Full w k v r (side_pieces held r k) element
   come : Full w k v r (side_pieces other r k) element
@@ -68,14 +66,13 @@ module _ (p : Checked) (ks : List ℕ) (T : Table) (j : Job) (v : Valuation) (s 
     abbrev P : List PlainGoal → Type 0
     P = Children p.N trees
 
-    -- the steps of the rule that come last
+    -- what is converted into what, and of which region
     abbrev end : PlainState → Attempt (List PlainGoal)
     end t = leaves t (stays t i j.most (remaining j more) ∷ j.tasks)
 
     abbrev adding : Side → Linear → List Piece → Attempt (List PlainGoal)
     adding y t gs = with_pieces p.program (with_guards s gs) (side_pieces y t k) >>= end
 
-    -- what is converted into what, and of which region
     record Asks : Type 0 where
       held : Side
       other : Side
@@ -137,8 +134,8 @@ module _ (p : Checked) (ks : List ℕ) (T : Table) (j : Job) (v : Valuation) (s 
         end P gone.2) in
         record {
           head =
-              head-kept p.program ks T j v s c st v (with_parts s come.rows come.guards) now
-              no_stock (same-parts s come.rows s.cells come.guards) refl (alike-same (Old s) v)
+              head-kept p.program ks T j v s c st v (with_parts s come.rows come.guards) now no_stock
+              (same-parts s come.rows s.cells come.guards) refl (alike-same (Old s) v)
               (record {
                 meets = come.grounded.meets;
                 pieces_over = come.grounded.pieces_over;
@@ -171,11 +168,7 @@ convert-law p ks T next lim j v s c trees st m side place n k i asked more is h 
     is fits fits.0.0
     (λ z. part-some p.program (c.guards z) (lim z) (st.within z) (st.composes z)) h
 
--- with it, the laws of taking
+-- with it, the law of taking
 pub taken-always :
     (p : Checked) → AllByRecursion (RegionFits p.program) p.program.regions → TakenLaw p
 taken-always p regions = taken-law p regions (convert-law p)
-
-pub still-always :
-    (p : Checked) → AllByRecursion (RegionFits p.program) p.program.regions → StillLaw p
-still-always p regions = still-law p regions (convert-law p)
