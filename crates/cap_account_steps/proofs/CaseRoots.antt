@@ -176,9 +176,11 @@ module _ (p : PlainProgram) (y : PlainRegionType) (k : ℕ) (c : PlainCase) (a :
               let size = variables-length 0 n in
               omega (arith, low, all, params, names, size);
           over = λ x o i t q.
-              subst (Over (Usable [] sorts o)) (name-is n x t q)
-              (subst (Usable [] sorts o) (sym (plain x))
-              (is-of sorts o x (sort-known y c.names o x i), tt), tt);
+              subst (Over (Usable [] sorts o)) (name-is n x t q) (
+                subst (Usable [] sorts o) (sym (plain x))
+                    (is-of sorts o x (sort-known y c.names o x i), tt),
+                tt,
+              );
         };
       }
 

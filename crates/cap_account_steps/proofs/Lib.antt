@@ -46,3 +46,4 @@ pub mod Rivals
 pub mod CaseHolds
 pub mod Entering
 pub mod CaseRoots
+pub mod HeapLaws

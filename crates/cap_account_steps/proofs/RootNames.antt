@@ -38,16 +38,20 @@ module _ (root : Root) where
   pub param-bound : (x : ℕ) → x < root.f.params → Bound (root_names root) x
   param-bound x l =
       let f = root.f in
-      let h : Home = record { function = root.n; fixed = f.params + root.l } in
-      (variable (0 + x), own-param f h (variables_from 0 f.params) root.ls root.r (length root.new)
-          (variables-length 0 f.params) root.hls x l ∙ variables-at 0 f.params x l)
+      let h : Home = record { function = root.n; fixed = f.params + root.l } in (
+        variable (0 + x),
+        own-param f h (variables_from 0 f.params) root.ls root.r (length root.new)
+            (variables-length 0 f.params) root.hls x l ∙ variables-at 0 f.params x l,
+      )
 
   pub fixed-bound : (i : ℕ) → i < length root.f.fixed → Bound (root_names root) (fixed_start root.f + i)
   fixed-bound i l =
       let f = root.f in
-      let h : Home = record { function = root.n; fixed = f.params + root.l } in
-      (variable (h.fixed + i), own-fixed f h (variables_from 0 f.params) root.ls root.r
-          (length root.new) (variables-length 0 f.params) root.hls i l)
+      let h : Home = record { function = root.n; fixed = f.params + root.l } in (
+        variable (h.fixed + i),
+        own-fixed f h (variables_from 0 f.params) root.ls root.r
+            (length root.new) (variables-length 0 f.params) root.hls i l,
+      )
 
   -- the first locals are bound
   abbrev pub LocalsBound : Type 0
