@@ -60,7 +60,7 @@ state-at p ks T sc e v s c h there placed = record {
 }
 
 -- with other environments
-known-envs :
+pub known-envs :
     (p : PlainProgram) (ks : List ℕ) (T : Table) (v : Valuation) (s : PlainState) (c : Stock)
     (envs : List PlainEnv) → IsKnown p ks T v s c → IsKnown p ks T v (record s { envs = envs }) c
 known-envs p ks T v s c envs h = record {

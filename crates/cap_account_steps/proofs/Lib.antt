@@ -44,3 +44,4 @@ pub mod CaseValues
 pub mod RestLaws
 pub mod CaseHolds
 pub mod CaseRoots
+pub mod StableRegions
