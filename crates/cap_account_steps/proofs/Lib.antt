@@ -45,3 +45,4 @@ pub mod RestLaws
 pub mod CaseHolds
 pub mod CaseRoots
 pub mod StableRegions
+pub mod StableLaws
