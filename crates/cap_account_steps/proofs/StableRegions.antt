@@ -1,12 +1,12 @@
 -- What a region owns meets its interpretation also once others took steps.
-use Rattle.std.proofs.Common.{◌≡◌, ℕ, zero, suc, ◌+◌, ◌-◌, ◌<◌, ◌≤◌, ℤ, List, [], ◌∷◌, ◌++◌, length, map, arith, refl, sym, ap, ◌∙◌, subst, Option, Some, Bool, true, false}
-use Rattle.std.specs.Prelude.{slice_get, unwrap_or, nat_le, ◌==◌, ◌&&◌, ◌||◌}
+use Rattle.std.proofs.Common.{◌≡◌, ℕ, suc, ◌+◌, ◌-◌, ◌<◌, ℤ, List, [], ◌∷◌, length, map, arith, refl, sym, ap, ◌∙◌, subst, Some, Bool, true, false}
+use Rattle.std.specs.Prelude.{slice_get, unwrap_or, nat_le, ◌==◌, ◌&&◌}
 use Rattle.std.specs.List.{AllByRecursion}
 use Rattle.std.proofs.lemmas.Bool.Decides.{nat_tests}
-use Rattle.cap_lin.specs.Linear.{Linear, variable}
+use Rattle.cap_lin.specs.Linear.{Linear}
 use Rattle.cap_lin.specs.Values.{Valuation, value}
 use Rattle.cap_lin.specs.declared.row.Sort.TheVariants.{Int}
-use Rattle.cap_prog.specs.Program.{PlainCase, PlainRegionType, PlainProgram}
+use Rattle.cap_prog.specs.Program.{PlainCase, PlainRegionType}
 use Rattle.cap_prog.specs.Scopes.{region_scope}
 use Rattle.cap_prog.specs.WellFormed.{CaseFits, RegionFits}
 use Rattle.cap_machine_accounts.specs.Assertions.{AreWhole}
@@ -39,7 +39,7 @@ use Rattle.cap_account_assertions.proofs.MadeRegions.{param-sort}
 use Rattle.cap_account_assertions.proofs.CaseStarts.{state-at, known-envs}
 use Rattle.cap_account_assertions.proofs.Creating.{one-tree}
 use Rattle.cap_account_assertions.proofs.TakenStill.{Still, StillLaw}
-use Rattle.cap_account_assertions.proofs.Again.{GivenRested, given-rested}
+use Rattle.cap_account_assertions.proofs.Again.{given-rested}
 use Rattle.cap_account_steps.proofs.Stores.{values-alike}
 use Rattle.cap_account_steps.proofs.Worlds.{AllOver}
 use Rattle.cap_account_steps.proofs.Moves.{Movable, movable-on, kept-says}
