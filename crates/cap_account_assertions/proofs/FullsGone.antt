@@ -1,5 +1,5 @@
--- Full pieces go: pieces that are proved to be all of their guards are taken out of a state, with the
--- guards that they are.
+-- Full pieces go: pieces that are proved to be all of their guards are taken out of a state, with
+-- the guards that they are.
 use Rattle.std.proofs.Common.{◌≡◌, ℕ, suc, ◌+◌, ℤ, pos, List, [], ◌∷◌, ◌++◌, take, drop, arith, refl, sym, ap, ◌∙◌, subst, Bool, true, false, Option, Some, inl, inr}
 use Rattle.std.specs.Prelude.{slice_get, find, cond, if◌then◌else◌}
 use Rattle.std.specs.List.{AllByRecursion}
@@ -177,7 +177,8 @@ module _ (p : PlainProgram) (ks : List ℕ) (v : Valuation) (r : Linear) (k : �
       let fits = all-at (λ (y : Piece). Fits (algebra_of p y.kind) y) ps i q g.pieces_fit
       first.is_there in
       let over = all-at (PieceOver (Usable ks s.sorts)) ps i q g.pieces_over first.is_there in
-      let cut = cut-here p v ps i q n (c.guards n) g.pieces_fit first.is_there region (b.guards n) in
+      let cut = cut-here p v ps i q n (c.guards n) g.pieces_fit first.is_there region
+      (b.guards n) in
       let own : cut.own ≡ here.0 =
       full-one (atom_algebra w f.atom) v q.form f.form cut.own here.0
       (subst (λ a. Takes a q.form) algebras fits.1) full.fits.1 m (full-at v f.form full.full)

@@ -146,9 +146,10 @@ module _ (p : Checked) (ks : List ℕ) (T : Table) (j : Job) (v : Valuation) (s 
         (head-kept p.program ks T j v s c st g.w state_left rest
         (guard_stock region_taken guards_taken)
         (same-trans s g.after state_left g.same
-        (same-parts g.after g.after.rows g.after.cells state_left.guards)) g.envs g.alike grounded-left
-        backed-left
-        (left-apart p.program g.w pieces_then region_taken guards_taken c cuts)) g.later g.placed g.stays g.outside g.size
+        (same-parts g.after g.after.rows g.after.cells state_left.guards)) g.envs g.alike
+        grounded-left backed-left
+        (left-apart p.program g.w pieces_then region_taken guards_taken c cuts)) g.later g.placed
+        g.stays g.outside g.size
 
     there-left : j.env < length state_left.envs
     there-left = subst (λ es. j.env < length es) (sym g.envs) st.there

@@ -128,7 +128,8 @@ module _ (p : Checked) (ks : List ℕ) (T : Table) (j : Job) (v : Valuation) (s 
       record {
         head = head;
         claim = λ w l b m r.
-            let before = means-before ks j.scope j.env v v s head.after head.follows st.placed w b m in
+            let before = means-before ks j.scope j.env v v s head.after head.follows st.placed w b
+            m in
             let here : value b.whole x ≡ value v.whole d.0 =
             sym (term-number j.scope w env b Int x before fx bd)
             ∙ value-alike (Old s) v w l (term_in env x)

@@ -86,8 +86,8 @@ module _ (p : Checked) (ks : List ℕ) (T : Table) (j : Job) (v : Valuation) (s 
         let over = comp-over ks j.scope s.sorts env x op st.placed f bd in
         record {
           head =
-              head-kept p.program ks T j v s c st v (row_added s row) c no_stock (same-row s row) refl
-              (alike-same (Old s) v) (record {
+              head-kept p.program ks T j v s c st v (row_added s row) c no_stock (same-row s row)
+              refl (alike-same (Old s) v) (record {
                 meets = meets-row ks v s row st.grounded.meets holds over;
                 pieces_over = st.grounded.pieces_over;
                 pieces_fit = st.grounded.pieces_fit;
@@ -140,13 +140,13 @@ module _ (p : Checked) (ks : List ℕ) (T : Table) (j : Job) (v : Valuation) (s 
       let n = kids.sizes in
       elim (relates-or x.op l g) [
         | inl m ↦ side-turned x y z more is f.0 bd x.op y
-            (fits-append p.program j.scope y more (all-first Fits (all_items y) (all_items z) sides)
-            behind)
+            (fits-append p.program j.scope y more
+            (all-first Fits (all_items y) (all_items z) sides) behind)
             ((row_of-means v (term_in env x.left) x.op (term_in env x.right) x.sort).1 m)
             kids.before (omega (arith, n)) kids.of_first (λ U a q r k i. inl (k, i))
         | inr m ↦ side-turned x y z more is f.0 bd (opposite x.op) z
-            (fits-append p.program j.scope z more (all-second Fits (all_items y) (all_items z) sides)
-            behind)
+            (fits-append p.program j.scope z more
+            (all-second Fits (all_items y) (all_items z) sides) behind)
             ((row_of-means v (term_in env x.left) (opposite x.op) (term_in env x.right) x.sort).1 m)
             kids.behind (omega (arith, n)) kids.of_second
             (λ U a q r k i. inr (unmet-not x.op _ _ k, i))

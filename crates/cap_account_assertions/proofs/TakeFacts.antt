@@ -96,8 +96,8 @@ module _ (p : Checked) (ks : List ℕ) (T : Table) (j : Job) (v : Valuation) (s 
       (comes-bind (match_slots s.rows env slots (terms f)) end P b.1) in
       record {
         head =
-            head-bound p.program ks T j v s c st (head-same p.program ks T j v s c st backed) g.later
-            g.placed g.stays g.outside g.size;
+            head-bound p.program ks T j v s c st (head-same p.program ks T j v s c st backed)
+            g.later g.placed g.stays g.outside g.size;
         claim = λ w l x m r.
             let at = fact-meets v T f x place n args y nothing known t.firm
             (g.means w l x (means-bound j.scope j.env s g.later st.there w x m)) in (

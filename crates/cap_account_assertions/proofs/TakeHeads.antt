@@ -185,7 +185,8 @@ module _ (p : PlainProgram) (ks : List ℕ) (T : Table) (j : Job) (v : Valuation
     w = h.w;
     after = with_env_at h.after j.env later;
     follows =
-        follows-bound j.scope j.env h.after later h.ready.there v h.w s h.follows stays outside size;
+        follows-bound j.scope j.env h.after later h.ready.there v h.w s h.follows stays outside
+        size;
     ready = ready-bound j.scope j.env h.after later h.ready.there p ks T h.w h.ready placed;
     left = h.left;
     backed = record { cells = h.backed.cells; guards = h.backed.guards };

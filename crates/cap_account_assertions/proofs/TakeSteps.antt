@@ -212,8 +212,8 @@ module _ (p : Checked) (ks : List ℕ) (T : Table) (next : ℤ) (j : Job) (v : V
         (guards_of_all p.program t.new) t.budget h.apart;
     draws = λ x l a m r.
         let now = alike-between h.after t.after h.w t.w x t.follows.goes_on t.follows.alike l in
-        let before = means-before ks j.scope j.env h.w t.w h.after t.after t.follows h.ready.placed x
-        a m in
+        let before = means-before ks j.scope j.env h.w t.w h.after t.after t.follows
+        h.ready.placed x a m in
         subst (λ q. DrawsAll p.program t.U a j.items q r)
         (sym ((stock-laws p.program).assoc h.taken t.given r))
         (turns t.U t.made.extends x now a before (both p.program t.given r) r (t.draws x l a m r));

@@ -42,7 +42,9 @@ pub mod StableContracts
 pub mod CaseStates
 pub mod CaseValues
 pub mod RestLaws
+pub mod Rivals
 pub mod CaseHolds
+pub mod Entering
 pub mod CaseRoots
 pub mod StableRegions
 pub mod StableLaws
