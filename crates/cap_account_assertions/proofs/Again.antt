@@ -1,5 +1,5 @@
 -- An assertion that is given can be taken again of the same part, by a table that others led to.
-use Rattle.std.proofs.Common.{◌≡◌, ◌≢◌, ℕ, suc, ◌+◌, ◌<◌, ℤ, pos, ◌*ℤ◌, List, [], ◌∷◌, length, arith, refl, sym, ap, ◌∙◌, subst, Some}
+use Rattle.std.proofs.Common.{◌≡◌, ◌≢◌, ℕ, suc, ◌+◌, ◌<◌, ℤ, pos, ◌*ℤ◌, List, [], ◌∷◌, length, arith, sym, ap, ◌∙◌, subst, Some}
 use Rattle.std.specs.Prelude.{get_or, unwrap_or}
 use Rattle.std.specs.List.{AllByRecursion}
 use Rattle.cap_lin.specs.Linear.{Linear}
@@ -16,7 +16,7 @@ use Rattle.cap_rules.specs.Making.{env_at}
 use Rattle.cap_account_resources.specs.Parts.{Table}
 use Rattle.cap_account_resources.proofs.Room.{room, room-some, part-some}
 use Rattle.cap_account_resources.proofs.Stocks.{Stock, no_stock, both, Composes, stock-laws}
-use Rattle.cap_account_resources.proofs.Tables.{FitsRoom, fits-relied}
+use Rattle.cap_account_resources.proofs.Tables.{fits-relied}
 use Rattle.cap_account_states.specs.Nodes.{Open}
 use Rattle.cap_account_states.proofs.Terms.{Over, vars-more, Agree, agree-trans, agree-less}
 use Rattle.cap_account_states.proofs.Alike.{Alike, agree-alike, value-alike, amount-alike, undo, above-zero, swapped}

@@ -47,3 +47,5 @@ pub mod CaseHolds
 pub mod Entering
 pub mod CaseRoots
 pub mod HeapLaws
+pub mod StableRegions
+pub mod StableLaws

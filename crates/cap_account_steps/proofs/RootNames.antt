@@ -1,12 +1,12 @@
 -- What a function's assertion knows at a root: it can be taken again, and known names keep their
 -- values.
-use Rattle.std.proofs.Common.{◌≡◌, ℕ, zero, suc, ◌+◌, ◌-◌, ◌<◌, ◌≤◌, ℤ, List, [], ◌∷◌, length, arith, refl, sym, ap, ◌∙◌, subst, Option, Some, None, inl, inr}
+use Rattle.std.proofs.Common.{◌≡◌, ℕ, ◌+◌, ◌-◌, ◌<◌, ◌≤◌, ℤ, List, [], ◌∷◌, length, arith, refl, sym, ap, ◌∙◌, Some, None, inl, inr}
 use Rattle.std.specs.Prelude.{slice_get, unwrap_or}
 use Rattle.std.specs.List.{AllByRecursion}
 use Rattle.cap_lin.specs.Linear.{Linear, variable}
 use Rattle.cap_lin.specs.Values.{Valuation}
 use Rattle.cap_lin.specs.declared.row.Sort.TheVariants.{Int}
-use Rattle.cap_prog.specs.Program.{Items, PlainProgram}
+use Rattle.cap_prog.specs.Program.{Items}
 use Rattle.cap_prog.specs.Scopes.{fixed_start}
 use Rattle.cap_machine_accounts.specs.Assertions.{NameValue, ValuesFit, AreNamed, AreWhole}
 use Rattle.cap_goal_spec.specs.Terms.{variables_from}
