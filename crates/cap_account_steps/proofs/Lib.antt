@@ -49,3 +49,4 @@ pub mod CaseRoots
 pub mod HeapLaws
 pub mod StableRegions
 pub mod StableLaws
+pub mod StatementLaws
