@@ -172,7 +172,8 @@ begun p ks T next lim j v s c n m k left args x i more P comes st some fits =
     let k3 = after-need (is_none (term_of env m)) (fourth y z) P k2.2 in
     let fit : FactFits j.scope y args x =
     subst (λ o. IsSomeAnd o (λ y. FactFits j.scope y args x)) k1.1 fits in
-    let placed = placed-more ks j.scope s.sorts sorts env (same-fresh s Int).sorts st.ready.placed in
+    let placed = placed-more ks j.scope s.sorts sorts env (same-fresh s Int).sorts
+    st.ready.placed in
     let us = slots-given ks j.scope sorts env placed args fit.slots (λ us. Comes (fifth y z us) P)
     (comes-bind (each (determined_slot env) args) (fifth y z) P k3.1) in
     let region-there = fresh-region p ks T next v s c y k (λ u. Comes (sixth y z us.terms u) P) k1.1

@@ -61,7 +61,8 @@ create-budget p left given own between part made held full guards more h k =
 -- the tree of one goal
 pub one-tree :
     (N : NodePredicate) (trees : PlainTrees) (s : PlainState) (ts : List PlainTask) →
-    Children N trees (goal s ts ∷ []) → (d : PlainTree) × N d s ts × (tree_size d ≤ trees_size trees)
+    Children N trees (goal s ts ∷ []) →
+    (d : PlainTree) × N d s ts × (tree_size d ≤ trees_size trees)
 one-tree N no_trees s ts h = absurd h
 one-tree N (tree d no_trees) s ts h = (d, h.0, omega arith)
 one-tree N (tree d (tree e more)) s ts h = absurd h.1
@@ -156,7 +157,8 @@ module _ (p : Checked) (regions : AllByRecursion (RegionFits p.program) p.progra
               (guard_stock next (all_guards pp k)) (guards_of_all pp t.new) (guards_of_all pp u.new)
               u.budget t.budget));
           draws = λ x l b f r.
-              subst (λ is. DrawsAll pp u.U b is (both pp u.given r) r) (sym are) (u.draws x l b f r);
+              subst (λ is. DrawsAll pp u.U b is (both pp u.given r) r) (sym are)
+              (u.draws x l b f r);
         }
 
     -- rule `made`, and the rest

@@ -176,8 +176,8 @@ fresh-region p ks T n v s c y k P is h low none ok comes =
     ≡ guard_stock n (all_guards p k) =
     ap (λ z. guard_stock z (mark k (full (algebra_of p k)))) number
     ∙ ap (guard_stock n) (full-mark p k) in
-    let held = pieces-held p ks w t k (full_pieces (algebra_of p k) t k) (full (algebra_of p k)) s2 c
-    P (all-full (algebra_of p k) k w t) over
+    let held = pieces-held p ks w t k (full_pieces (algebra_of p k) t k) (full (algebra_of p k)) s2
+    c P (all-full (algebra_of p k) k w t) over
     (record {
       meets = a.1;
       pieces_over = g.grounded.pieces_over;

@@ -120,7 +120,8 @@ module _ (p : Checked) (regions : AllByRecursion (RegionFits p.program) p.progra
 
     took-node :
         (i : PlainItem) (more : Items) → j.items ≡ item i more → (d : PlainTree) →
-        tree_size d ≤ suc size → p.N d s (to_take (item i more) j.env j.most j.statement ∷ j.tasks) →
+        tree_size d ≤ suc size →
+        p.N d s (to_take (item i more) j.env j.most j.statement ∷ j.tasks) →
         Took p ks T next j v s c (suc size)
     took-node i more are (node (by_absurd x) trees) le h =
         absurd ((p.step h).0.0 v (solves ks v s st.ready.grounded.meets))

@@ -44,7 +44,8 @@ module _ (root : Root) where
             (variables-length 0 f.params) root.hls x l ∙ variables-at 0 f.params x l,
       )
 
-  pub fixed-bound : (i : ℕ) → i < length root.f.fixed → Bound (root_names root) (fixed_start root.f + i)
+  pub fixed-bound :
+      (i : ℕ) → i < length root.f.fixed → Bound (root_names root) (fixed_start root.f + i)
   fixed-bound i l =
       let f = root.f in
       let h : Home = record { function = root.n; fixed = f.params + root.l } in (

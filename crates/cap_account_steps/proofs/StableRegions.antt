@@ -103,7 +103,8 @@ module _ (p : Checked) (y : PlainRegionType) (k : ℕ) (c : PlainCase) (a : Valu
   abbrev v : Valuation
   v = case_root_values p.program y k c a fits
 
-  fact-says : AreWhole a 0 (n ∷ args) → value a.whole c.state ≡ b → Says v (case_fact y k c) n k args b
+  fact-says :
+      AreWhole a 0 (n ∷ args) → value a.whole c.state ≡ b → Says v (case_fact y k c) n k args b
   fact-says are state = record {
     region_is = variable-value v 0 ∙ are.0;
     kind_is = refl;
@@ -259,7 +260,8 @@ region-stable p regions roots gives rests still T U h n k args b reached before 
     let f = case_fact y k c in
     let v = case_root_values pp y k c a fits in
     let trees = roots.cases k y i.is_type i.number c i.is_case in
-    let says = fact-says p y k c a n args b i.is_type type_fits fits i.arity i.args_are i.state_is in
+    let says = fact-says p y k c a n args b i.is_type type_fits fits i.arity i.args_are
+    i.state_is in
     let is = fact-movable p y k c a n args b i.is_type type_fits fits i.arity in
     let g = given-rested p gives rests T U (region_scope y c.names) a v s h i.met.0 c.items
     (to_close false 0 ∷ []) trees.0 trees.1
@@ -273,7 +275,8 @@ region-stable p regions roots gives rests still T U h n k args b reached before 
       all-more (Over R) (Over (Old s)) (λ u o. vars-more R (Old s) old u.parts o) f.args is.over.1,
       vars-more R (Old s) old f.state.parts is.over.2,
     ) in
-    let later = says-alike (Old s) v g.w (agree-alike (Old s) v g.w g.agree) f over n k args b says in
+    let later = says-alike (Old s) v g.w (agree-alike (Old s) v g.w g.agree) f over n k args b
+    says in
     let now = movable-on pp [] [] s g.after f y
     (usable-on [] s.sorts g.after.sorts g.goes_on.sorts Int) is in
     let S = Usable [] g.after.sorts Int in
@@ -292,8 +295,8 @@ region-stable p regions roots gives rests still T U h n k args b reached before 
       backed = g.backed;
     } in
     let d = one-tree p.N g.children g.after (to_close false 0 ∷ []) g.goes in
-    picked-owns p still U h (fits-relied pp T U h reached.full reached.relies reached.room) n k args b
-    after g.w g.after known
+    picked-owns p still U h (fits-relied pp T U h reached.full reached.relies reached.room) n k args
+    b after g.w g.after known
     (subst (AllByRecursion (Told p still U h
     (fits-relied pp T U h reached.full reached.relies reached.room) n k args b after g.w g.after
     known)) (sym g.goes_on.opened) ((later, y, now), tt)) d.0 d.1
