@@ -1,5 +1,5 @@
 -- Where all facts rest, each says what a table does that others can reach, also where some were loose.
-use Rattle.std.proofs.Common.{◌≡◌, ℕ, ◌<◌, ◌≤◌, ℤ, List, [], ◌∷◌, length, Some, Bool, true, false, refl, sym, subst}
+use Rattle.std.proofs.Common.{◌≡◌, ℕ, ◌<◌, ℤ, List, [], ◌∷◌, length, Some, Bool, true, false, refl}
 use Rattle.std.specs.List.{AllByRecursion}
 use Rattle.cap_lin.specs.Linear.{Linear}
 use Rattle.cap_lin.specs.Values.{Valuation, value}
@@ -10,19 +10,18 @@ use Rattle.cap_goal_spec.specs.Choices.{PlainTrees}
 use Rattle.cap_account_states.specs.Nodes.{Open}
 use Rattle.cap_account_resources.specs.Parts.{Table}
 use Rattle.cap_account_resources.proofs.Lists.{all-more}
-use Rattle.cap_account_resources.proofs.Covering.{Covered}
 use Rattle.cap_account_resources.proofs.Stocks.{Stock}
 use Rattle.cap_account_states.proofs.Checked.{Checked}
 use Rattle.cap_account_states.proofs.Terms.{Over, Agree, agree-trans, agree-less}
 use Rattle.cap_account_states.proofs.Alike.{agree-alike}
-use Rattle.cap_account_states.proofs.Meets.{Free, Usable, usable-old, Old, need}
+use Rattle.cap_account_states.proofs.Meets.{Free, Usable, Old}
 use Rattle.cap_account_states.proofs.Facts.{FactHolds, FactOver, StateHolds, StateOver, Facts}
 use Rattle.cap_account_states.proofs.Backed.{IsFirm, Backed, Grounded, GoesOn}
 use Rattle.cap_account_assertions.proofs.Laws.{Reached, RestsLaw}
 use Rattle.cap_account_steps.proofs.Worlds.{Exact, AllOver}
 use Rattle.cap_account_steps.proofs.Reserved.{backed-at}
 use Rattle.cap_account_steps.proofs.Reserving.{firm-loose, firm-differ}
-use Rattle.cap_account_steps.proofs.Turning.{Reaching}
+use Rattle.cap_account_steps.proofs.Turning.{backed-before, Reaching}
 use Rattle.cap_account_steps.proofs.Resting.{at-rest}
 use Rattle.cap_account_steps.proofs.Firming.{firmed}
 
@@ -85,8 +84,6 @@ rests-loose p wf ks part T U n ts trees v s reached goes g fs backed =
     let r = at-rest p [] part T U reaching n ts trees fm.w s tt fm.grounded fm.over fm.exact b.guards
     goes in
     let c = r.as_before in
-    let d = backed-at q s [] (Old s) fm.w r.w part (usable-old [] s.sorts)
-    (agree-alike (Old s) fm.w r.w c.agree) fm.grounded b in
     let P : ℕ → Type 0 = λ x. (x < length s.sorts) × Free ks x in
     record {
       w = r.w;
@@ -96,12 +93,7 @@ rests-loose p wf ks part T U n ts trees v s reached goes g fs backed =
       grounded = r.grounded;
       facts = exact-facts r.w U r.after r.firm r.exact r.over;
       firm = r.firm;
-      backed = record {
-        cells = λ a z.
-            subst (λ cs. need r.w cs a z ≤ part.cells a z) (sym c.cells) (d.cells a z);
-        guards = λ n.
-            subst (λ ps. Covered q r.w ps n (part.guards n)) (sym c.guards) (d.guards n);
-      };
+      backed = backed-before q [] fm.w r.w s r.after c fm.grounded part b;
       agree =
           agree-trans P v fm.w r.w (agree-less P (Free ks) v fm.w (λ x h. h.1) fm.agree)
           (agree-less P (Old s) fm.w r.w (λ x h. h.0) c.agree);

@@ -22,12 +22,13 @@ use Rattle.cap_account_resources.proofs.Stocks.{Stock}
 use Rattle.cap_account_resources.proofs.Tables.{TableFits, FitsRoom}
 use Rattle.cap_account_states.proofs.Terms.{Agree, agree-same, agree-trans, agree-less}
 use Rattle.cap_account_states.proofs.Alike.{agree-alike}
-use Rattle.cap_account_states.proofs.Meets.{Usable, usable-on, usable-old, Old}
-use Rattle.cap_account_states.proofs.Backed.{IsFirm, Grounded, GoesOn}
+use Rattle.cap_account_states.proofs.Meets.{Usable, usable-on, usable-old, Old, need}
+use Rattle.cap_account_states.proofs.Backed.{IsFirm, Backed, Grounded, GoesOn}
 use Rattle.cap_account_steps.proofs.Others.{Resting}
 use Rattle.cap_account_steps.proofs.Keeping.{same_row, kept-rests}
 use Rattle.cap_account_steps.proofs.Settling.{IsCandidate, HoldsAt, settled-rests}
 use Rattle.cap_account_steps.proofs.Worlds.{Exact, AllOver}
+use Rattle.cap_account_steps.proofs.Reserved.{backed-at}
 use Rattle.cap_account_steps.proofs.Exact.{exact-alike, over-more, Each, each-set, HeldOf, held-of}
 
 -- ---- what stays as it was
@@ -84,6 +85,18 @@ before-trans u v w r s t a b =
       cells = b.cells ∙ a.cells;
       guards = b.guards ∙ a.guards;
       envs = b.envs ∙ a.envs;
+    }
+
+-- what was held backs the later state
+pub backed-before :
+    (p : PlainProgram) (ks : List ℕ) (v w : Valuation) (s t : PlainState) → AsBefore v w s t →
+    Grounded p ks v s → (q : Stock) → Backed p v s q → Backed p w t q
+backed-before p ks v w s t c g q b =
+    let d = backed-at p s ks (Old s) v w q (usable-old ks s.sorts)
+    (agree-alike (Old s) v w c.agree) g b in
+    record {
+      cells = λ a z. subst (λ cs. need w cs a z ≤ q.cells a z) (sym c.cells) (d.cells a z);
+      guards = λ n. subst (λ ps. Covered p w ps n (q.guards n)) (sym c.guards) (d.guards n);
     }
 
 -- ---- midway
