@@ -57,3 +57,4 @@ pub mod HeapLaws
 pub mod StableRegions
 pub mod StableLaws
 pub mod StatementLaws
+pub mod Finishing
