@@ -46,3 +46,5 @@ pub mod Rivals
 pub mod CaseHolds
 pub mod Entering
 pub mod CaseRoots
+pub mod OpenTables
+pub mod Changing
