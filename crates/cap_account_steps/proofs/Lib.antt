@@ -48,3 +48,4 @@ pub mod Entering
 pub mod CaseRoots
 pub mod OpenTables
 pub mod Changing
+pub mod Clashing

@@ -1,17 +1,19 @@
 -- The table in which regions are open: types, arguments and room are as they were.
-use Rattle.std.proofs.Common.{◌≡◌, ℕ, ℤ, List, [], ◌∷◌, Option, Some, None, Bool, true, false, refl, ap, ◌∙◌, sym, subst}
+use Rattle.std.proofs.Common.{◌≡◌, ℤ, List, [], ◌∷◌, map, Option, Some, None, Bool, true, false, refl, ap, ◌∙◌, sym, subst}
 use Rattle.std.specs.List.{AllByRecursion, list_any}
 use Rattle.cap_lin.specs.Linear.{same_number}
 use Rattle.cap_lin.specs.Values.{Valuation, value}
+use Rattle.cap_lin.specs.declared.row.Sort.TheVariants.{Int}
 use Rattle.cap_prog.specs.Program.{PlainProgram}
-use Rattle.cap_goal_spec.specs.States.{PlainFact}
+use Rattle.cap_goal_spec.specs.States.{PlainFact, PlainState}
 use Rattle.cap_account_resources.specs.Parts.{Known, known_as, Table}
 use Rattle.cap_account_resources.proofs.Lists.{some-same, none-some}
 use Rattle.cap_account_resources.proofs.Covering.{IsPartOf}
 use Rattle.cap_account_resources.proofs.Room.{room_of}
-use Rattle.cap_account_resources.proofs.Stocks.{Stock, both, all_of, inside-first}
-use Rattle.cap_account_resources.proofs.Tables.{TableFits, FitsRoom, AreListed, fits-less}
-use Rattle.cap_account_steps.proofs.Worlds.{IsThere, World, Exact, regions_of, opened_at, opened_table}
+use Rattle.cap_account_resources.proofs.Stocks.{Stock}
+use Rattle.cap_account_resources.proofs.Tables.{TableFits, FitsRoom, AreListed}
+use Rattle.cap_account_states.proofs.Meets.{Usable}
+use Rattle.cap_account_steps.proofs.Worlds.{AllOver, IsThere, Exact, regions_of, opened_at, opened_table}
 
 -- an entry of which the state is forgotten
 forgotten : (b : Bool) (o : Option Known) → opened_at true (opened_at b o) ≡ opened_at true o
@@ -58,9 +60,19 @@ module _ (p : PlainProgram) (ns : List ℤ) (V : Table) where
       ∙ room-forgotten (W n) in
       subst (IsPartOf p (q.guards n)) e (fits n)
 
--- regions of which facts tell a state are in the table
-pub exact-there :
-    (v : Valuation) (V : Table) (fs : List PlainFact) → AllByRecursion (Exact v V) fs →
-    AllByRecursion (IsThere V) (regions_of v fs)
-exact-there v V [] h = tt
-exact-there v V (f ∷ fs) h = ((_, h.0), exact-there v V fs h.1)
+-- opened regions are in the table
+pub opened-there :
+    (v : Valuation) (V : Table) (s : PlainState) →
+    AllByRecursion (λ f. AllOver (Usable [] s.sorts Int) f × Exact v V f) s.opened →
+    AllByRecursion (IsThere V) (regions_of v s.opened)
+opened-there v V s os = each s.opened os
+  where
+    each :
+        (fs : List PlainFact) →
+        AllByRecursion (λ f. AllOver (Usable [] s.sorts Int) f × Exact v V f) fs →
+        AllByRecursion (IsThere V) (regions_of v fs)
+    each [] h = tt
+    each (f ∷ fs) h = (
+      (known_as f.kind (map (value v.whole) f.args) (Some (value v.whole f.state)), h.0.1),
+      each fs h.1,
+    )
