@@ -49,3 +49,4 @@ pub mod CaseRoots
 pub mod OpenTables
 pub mod Changing
 pub mod Clashing
+pub mod AtCell
