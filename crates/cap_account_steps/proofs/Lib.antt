@@ -50,3 +50,5 @@ pub mod OpenTables
 pub mod Changing
 pub mod Clashing
 pub mod AtCell
+pub mod Acts
+pub mod Acting
