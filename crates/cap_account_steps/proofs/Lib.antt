@@ -58,3 +58,9 @@ pub mod StableRegions
 pub mod StableLaws
 pub mod StatementLaws
 pub mod Finishing
+pub mod OpenTables
+pub mod Changing
+pub mod Clashing
+pub mod AtCell
+pub mod Acts
+pub mod Acting
