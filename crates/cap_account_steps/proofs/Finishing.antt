@@ -1,12 +1,12 @@
 -- After a heap statement: once all regions are closed again, and the facts rest, the frame stands.
-use Rattle.std.proofs.Common.{◌≡◌, ℕ, ◌+◌, ◌<◌, ℤ, List, [], ◌∷◌, length, map, Some, sym, ap, ◌∙◌, subst, arith}
+use Rattle.std.proofs.Common.{◌≡◌, ℕ, ◌+◌, ◌<◌, ℤ, List, [], ◌∷◌, ◌++◌, length, map, Some, sym, ap, ◌∙◌, subst, arith}
 use Rattle.std.specs.Prelude.{slice_get}
 use Rattle.std.specs.List.{AllByRecursion}
 use Rattle.cap_lin.specs.Linear.{Linear}
 use Rattle.cap_lin.specs.Values.{Valuation, value}
 use Rattle.cap_lin.specs.declared.row.Sort.{Sort}
 use Rattle.cap_lin.specs.declared.row.Sort.TheVariants.{Int}
-use Rattle.cap_prog.specs.Program.{PlainFunction}
+use Rattle.cap_prog.specs.Program.{PlainFunction, PlainProgram}
 use Rattle.cap_prog.specs.WellFormed.{IsWellFormed}
 use Rattle.cap_goal_spec.specs.States.{PlainState, Home, to_rest}
 use Rattle.cap_goal_spec.specs.Choices.{PlainTrees}
@@ -14,11 +14,11 @@ use Rattle.cap_machine.specs.Machine.{Frame}
 use Rattle.cap_machine_accounts.specs.Assertions.{NameValue}
 use Rattle.cap_account_states.specs.Nodes.{Open}
 use Rattle.cap_account_resources.specs.Parts.{Table}
-use Rattle.cap_account_resources.proofs.Lists.{all-more, map-length, there-is, within}
+use Rattle.cap_account_resources.proofs.Lists.{all-more, there-is, within, Among}
 use Rattle.cap_account_resources.proofs.Interference.{Relies}
 use Rattle.cap_account_resources.proofs.Stocks.{Stock, both, inside-first, inside-trans}
 use Rattle.cap_account_resources.proofs.Tables.{TableFits, NoneOpen, AreListed, FitsRoom, new_guards, fits-less, fits-later}
-use Rattle.cap_account_resources.proofs.Owners.{owned}
+use Rattle.cap_account_resources.proofs.Owners.{owned, numbers_of}
 use Rattle.cap_account_states.proofs.Terms.{Over, vars-more}
 use Rattle.cap_account_states.proofs.Alike.{Alike, agree-alike}
 use Rattle.cap_account_states.proofs.Meets.{Free, Usable}
@@ -30,12 +30,14 @@ use Rattle.cap_account_states.proofs.Backed.{Backed, Grounded}
 use Rattle.cap_account_states.proofs.KnowsLater.{Steady, usable-steady}
 use Rattle.cap_account_steps.proofs.Points.{FrameOk}
 use Rattle.cap_account_steps.proofs.Stores.{Store, running, values-alike, name-alike, fixed-name}
-use Rattle.cap_account_steps.proofs.Frames.{Sits, Roomy, Stands}
-use Rattle.cap_account_steps.proofs.Worlds.{regions_of, opened_table, Closing, SettlesBy, closes, Closed, ClosingLaw}
+use Rattle.cap_account_steps.proofs.Frames.{Roomy, Stands}
+use Rattle.cap_account_steps.proofs.Worlds.{regions_of, opened_table, SettlesBy, ClosingLaw}
 use Rattle.cap_account_steps.proofs.RestLaws.{rests-loose}
 use Rattle.cap_account_steps.proofs.SettledTables.{settled-types, settled-fits, settled-listed, settled-full}
+use Rattle.cap_account_steps.proofs.SettledTwice.{settles-for}
 use Rattle.cap_account_steps.proofs.StillOpen.{LaterState, usable-later}
 use Rattle.cap_account_steps.proofs.Closings.{later-of}
+use Rattle.cap_account_steps.proofs.Acting.{FinishingLaw}
 
 -- ---- a frame's store in a state where other variables are kept free
 
@@ -124,4 +126,55 @@ module _ (h : Home) (fn : PlainFunction) (fixed : List NameValue) (f : Frame) wh
                   r.goes_on.sorts r.goes_on.store b;
             };
           };
+    }
+
+-- ---- all open regions are closed, and then the facts rest
+
+-- what is kept is within the last table's room
+settled-roomy :
+    (p : PlainProgram) (V W : Table) (part held kept : Stock) (ns bound : List ℤ) →
+    (b : SettlesBy p V W part held ns kept) → TableFits p W → AreListed bound W →
+    FitsRoom p W held → NoneOpen b.U → Roomy p b.U kept
+settled-roomy p V W part held kept ns bound b fits listed room full =
+    let owners = both p (owned p b.closed) (owned p b.made) in
+    let all = both p held (new_guards p W b.U) in
+    let types = settled-types p V W b.U part b.opened b.closed b.made b.settles in
+    record {
+      fits = settled-fits p V W b.U part b.opened b.closed b.made b.settles fits;
+      full = full;
+      room =
+          fits-less p b.U kept all
+          (inside-trans p kept (both p kept owners) all (inside-first p kept owners) b.budget)
+          (fits-later p W b.U held types room);
+      bound = numbers_of b.made ++ bound;
+      listed = settled-listed p V W b.U part b.opened b.closed b.made b.settles bound listed;
+    }
+
+pub finishing-law : (p : Checked) → IsWellFormed p.program → ClosingLaw p → FinishingLaw p
+finishing-law p program closing V part held ns ks v s n h fn fixed f trees bound are ok goes fits
+    listed full room c over free store =
+    let q = p.program in
+    let W = opened_table ns V in
+    let tasks = to_rest 0 n ∷ running f.rest h in
+    let cl = closing V W part held ks v s n tasks trees bound goes fits listed c room in
+    let b = cl.by in
+    let all-full = settled-full q V b.U part ns b.opened b.closed b.made b.settles
+    (λ m a. b.all_of_them m (subst (Among m) (sym are) a)) full in
+    let beside = beside-later h fn fixed f p ks cl.js v cl.w s cl.after
+    (later-of p V part tasks W held ks v s cl)
+    (record {
+      store = store;
+      over = over;
+      free = free;
+      count = values-length fn.fixed fixed ok.values;
+    }) in
+    record {
+      kept = cl.left;
+      by = settles-for q V W part held cl.left ns (regions_of v s.opened)
+          (λ m a. subst (Among m) (sym are) a) (ap length are) b;
+      stands =
+          rest-stands h fn fixed f p program ok cl.js cl.left b.U cl.children cl.after cl.w n
+          (settled-roomy q V W part held cl.left (regions_of v s.opened) bound b fits listed c.room
+          all-full)
+          cl.goes cl.none_open cl.grounded cl.facts cl.backed beside;
     }
