@@ -276,7 +276,9 @@ module _ (p : PlainProgram) (ks : List ℕ) (v : Valuation) (s : PlainState) (me
       let w = comparisons-hold ks sc v s n.later X me n.placed means a.when fits.when P n.comes in (
         record {
           values = X;
-          args = region-whole k a.names f v X names arity (means-earlier sc v X start n.later n.stays means);
+          args =
+              region-whole k a.names f v X names arity
+              (means-earlier sc v X start n.later n.stays means);
           source_is = ended.0;
           target_is = ended.1.0;
           conditions = w.0;

@@ -1,8 +1,7 @@
--- A region is to be closed: a case and a move are chosen, and the case's items are taken out of what
--- is held.
-use Rattle.std.proofs.Common.{◌≡◌, ◌≢◌, inl, inr, ℕ, ◌<◌, ℤ, List, [], ◌∷◌, length, map, Some, None, true, refl, sym, ap, ◌∙◌, subst, arith}
+-- A region is to be closed: a case and a move are chosen, and the case's items are taken out of
+-- what is held.
+use Rattle.std.proofs.Common.{◌≡◌, ℕ, ◌<◌, ℤ, List, [], ◌∷◌, length, map, Some, None, true, refl, sym, ◌∙◌, subst, arith}
 use Rattle.std.specs.Prelude.{slice_get}
-use Rattle.std.specs.List.{AllByRecursion}
 use Rattle.cap_lin.specs.Values.{Valuation, value}
 use Rattle.cap_lin.specs.declared.row.Sort.TheVariants.{Int}
 use Rattle.cap_prog.specs.Program.{PlainCase, PlainRegionType}
@@ -35,7 +34,7 @@ use Rattle.cap_account_steps.proofs.Shifting.{Picked, picked}
 use Rattle.cap_account_steps.proofs.StillOpen.{LaterState, if-any, StaysOpen, closing-later, usable-later, region-later}
 use Rattle.cap_account_steps.proofs.ClosedTables.{makes-by}
 
--- region number o and the case in which it will be: its items are given, and the move is to be proved
+-- region number o and the case in which it will be: its items are given, its move is to be proved
 pub record CaseTaken (p : Checked) (V W : Table) (part : Stock) (ks : List ℕ) (v : Valuation)
     (s : PlainState) (held : Stock) (n : ℕ) (ts : List PlainTask) : Type 0 where
   pub o : ℕ
@@ -132,8 +131,8 @@ module _ (p : Checked) (program : IsWellFormed p.program) (taken : TakenLaw p) (
 
     take-case : TakenHere
     take-case =
-        taken ks W sc e 1 n pk.x.items (to_shift o number move e n ∷ ts) kids v s1 held bound pk.goes
-        start c.old case-fits.items.items
+        taken ks W sc e 1 n pk.x.items (to_shift o number move e n ∷ ts) kids v s1 held bound
+        pk.goes start c.old case-fits.items.items
         (record { cells = c.backed.cells; guards = c.backed.guards }) c.room listed
 
     module _ (tk : TakenHere) where
@@ -152,8 +151,11 @@ module _ (p : Checked) (program : IsWellFormed p.program) (taken : TakenLaw p) (
           tk.goes_on.opened (if-any s.opened (tk.after.before ≡ s.before) tk.goes_on.before)
           (all-more (IsStillOpen ks v V W s)
           (StaysOpen p.program ks ks v tk.w s tk.after later V W tk.U)
-          (λ f i. (i, made-extends p.program W tk.U tk.new tk.made (value v.whole f.region)
-          (known_as f.kind (map (value v.whole) f.args) None) i.2 ∙ sym i.2)) s.opened c.opened)
+          (λ f i. (
+            i,
+            made-extends p.program W tk.U tk.new tk.made (value v.whole f.region)
+                (known_as f.kind (map (value v.whole) f.args) None) i.2 ∙ sym i.2,
+          )) s.opened c.opened)
           c.differ c.earlier
           (record {
             grounded = tk.ready.grounded;

@@ -1,6 +1,5 @@
 -- The table once an open region is closed, and once regions are made: how each settles.
-use Rattle.std.proofs.Common.{◌≡◌, ◌≢◌, inl, inr, ℕ, ℤ, List, [], ◌∷◌, map, Option, Some, None, Bool, true, false, refl, sym, ap, ◌∙◌}
-use Rattle.std.specs.List.{AllByRecursion}
+use Rattle.std.proofs.Common.{◌≡◌, inl, inr, ℕ, ℤ, List, [], ◌∷◌, map, Some, None, Bool, true, false, refl, sym, ap, ◌∙◌}
 use Rattle.cap_lin.specs.Values.{Valuation, value}
 use Rattle.cap_prog.specs.Program.{PlainProgram}
 use Rattle.cap_goal_spec.specs.States.{PlainFact, PlainState}
@@ -64,7 +63,8 @@ module _ (T : Table) (r : Owner) (is_open : T r.number ≡ Some (open_of r)) whe
       (ks : List ℕ) (v : Valuation) (s : PlainState) → Facts ks v T s →
       Facts ks v (closed_table T r) s
   facts-closed ks v s f = record {
-    holds = all-more (FactHolds v T) (FactHolds v (closed_table T r)) (fact-closed v) s.facts f.holds;
+    holds =
+        all-more (FactHolds v T) (FactHolds v (closed_table T r)) (fact-closed v) s.facts f.holds;
     over = f.over;
     loose = f.loose;
     differ = f.differ;

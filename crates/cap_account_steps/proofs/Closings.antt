@@ -1,7 +1,6 @@
 -- All regions that are open are closed, one after the other.
-use Rattle.std.proofs.Common.{◌≡◌, ◌⊎◌, inl, inr, ℕ, zero, suc, ℤ, List, [], ◌∷◌, ◌++◌, length, true, refl, sym, ap, ◌∙◌, subst, arith}
+use Rattle.std.proofs.Common.{◌≡◌, inl, inr, ℕ, zero, suc, ℤ, List, [], ◌∷◌, ◌++◌, length, true, refl, sym, ap, ◌∙◌, subst, arith}
 use Rattle.std.specs.Prelude.{remove}
-use Rattle.std.specs.List.{AllByRecursion}
 use Rattle.cap_lin.specs.Values.{Valuation, value}
 use Rattle.cap_lin.specs.declared.row.Sort.TheVariants.{Int}
 use Rattle.cap_prog.specs.WellFormed.{IsWellFormed}
@@ -43,7 +42,8 @@ module _ (p : Checked) (V : Table) (part : Stock) (ts : List PlainTask) where
 
   module _ (W : Table) (held : Stock) (ks : List ℕ) (v : Valuation) (s : PlainState) where
     -- nothing is left to close
-    abbrev nothing-by : s.opened ≡ [] → SettlesBy p.program V W part held (regions_of v s.opened) held
+    abbrev nothing-by :
+        s.opened ≡ [] → SettlesBy p.program V W part held (regions_of v s.opened) held
     nothing-by e =
         settles-for p.program V W part held held (regions_of v s.opened) []
         (λ n a. subst (λ fs. Among n (regions_of v fs)) e a)

@@ -1,5 +1,5 @@
 -- After a heap statement: once all regions are closed again, and the facts rest, the frame stands.
-use Rattle.std.proofs.Common.{◌≡◌, ℕ, ◌+◌, ◌<◌, ℤ, List, [], ◌∷◌, ◌++◌, length, map, Some, sym, ap, ◌∙◌, subst, arith}
+use Rattle.std.proofs.Common.{◌≡◌, ℕ, ◌+◌, ℤ, List, [], ◌∷◌, ◌++◌, length, map, Some, sym, ap, ◌∙◌, subst, arith}
 use Rattle.std.specs.Prelude.{slice_get}
 use Rattle.std.specs.List.{AllByRecursion}
 use Rattle.cap_lin.specs.Linear.{Linear}
@@ -15,7 +15,6 @@ use Rattle.cap_machine_accounts.specs.Assertions.{NameValue}
 use Rattle.cap_account_states.specs.Nodes.{Open}
 use Rattle.cap_account_resources.specs.Parts.{Table}
 use Rattle.cap_account_resources.proofs.Lists.{all-more, there-is, within, Among}
-use Rattle.cap_account_resources.proofs.Interference.{Relies}
 use Rattle.cap_account_resources.proofs.Stocks.{Stock, both, inside-first, inside-trans}
 use Rattle.cap_account_resources.proofs.Tables.{TableFits, NoneOpen, AreListed, FitsRoom, new_guards, fits-less, fits-later}
 use Rattle.cap_account_resources.proofs.Owners.{owned, numbers_of}
@@ -58,7 +57,8 @@ module _ (h : Home) (fn : PlainFunction) (fixed : List NameValue) (f : Frame) wh
       let st = b.store in
       let R = Usable ks s.sorts Int in
       let P = Steady ks s in
-      let steady = λ (u : Linear) (o : Over R u). vars-more R P (usable-steady ks s Int) u.parts o in
+      let steady = λ (u : Linear) (o : Over R u).
+      vars-more R P (usable-steady ks s Int) u.parts o in
       record {
         home = st.home;
         store =
@@ -85,7 +85,8 @@ module _ (h : Home) (fn : PlainFunction) (fixed : List NameValue) (f : Frame) wh
       record {
         store = store-later ks v w s t l.alike l.sorts l.store b;
         over =
-            subst (AllByRecursion (Over S)) (sym l.store) (all-more (Over R) (Over S) more s.store b.over);
+            subst (AllByRecursion (Over S)) (sym l.store)
+            (all-more (Over R) (Over S) more s.store b.over);
         free = λ i o e.
             l.less (h.fixed + i)
             (within s.sorts (h.fixed + i) o (b.store.fixed_known i o e), b.free i o e);
@@ -94,7 +95,8 @@ module _ (h : Home) (fn : PlainFunction) (fixed : List NameValue) (f : Frame) wh
 
   -- ---- the facts rest
 
-  module _ (p : Checked) (program : IsWellFormed p.program) (ok : FrameOk p.program fn fixed f) where
+  module _ (p : Checked) (program : IsWellFormed p.program)
+      (ok : FrameOk p.program fn fixed f) where
     pub rest-stands :
         (ks : List ℕ) (part : Stock) (T : Table) (trees : PlainTrees) (s : PlainState)
         (v : Valuation) (n : ℕ) → Roomy p.program T part →

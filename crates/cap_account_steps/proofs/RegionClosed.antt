@@ -1,5 +1,5 @@
--- A region is closed: its move is proved, what its case has is its own, and its fact joins the others.
-use Rattle.std.proofs.Common.{◌≡◌, ◌≢◌, inl, inr, ℕ, suc, ◌+◌, ◌<◌, ℤ, List, [], ◌∷◌, length, map, Option, Some, None, true, refl, sym, ap, ◌∙◌, subst, arith}
+-- A region is closed: its move is proved, it has what its case says, and its fact joins the others.
+use Rattle.std.proofs.Common.{◌≡◌, ◌≢◌, inl, inr, ℕ, suc, ℤ, List, [], ◌∷◌, length, map, Some, None, true, refl, sym, ap, ◌∙◌, arith}
 use Rattle.std.specs.Prelude.{slice_get, remove, if◌then◌else◌}
 use Rattle.std.specs.List.{AllByRecursion}
 use Rattle.cap_gsolve.specs.declared.piece.Piece.{Piece}
@@ -12,7 +12,7 @@ use Rattle.cap_goal_spec.specs.States.{PlainFact, PlainState, PlainTask, to_clos
 use Rattle.cap_goal_spec.specs.Choices.{PlainTree, node, PlainTrees, by_absurd, by_shift}
 use Rattle.cap_rules.specs.Making.{is_empty, env_at}
 use Rattle.cap_account_states.specs.Nodes.{Open}
-use Rattle.cap_account_resources.specs.Parts.{known_as, Table}
+use Rattle.cap_account_resources.specs.Parts.{Table}
 use Rattle.cap_account_resources.proofs.Lists.{none-some, map-length, all-at, all-remove}
 use Rattle.cap_account_resources.proofs.Stocks.{Stock, both}
 use Rattle.cap_account_resources.proofs.Tables.{TableFits, AreListed}
@@ -21,8 +21,7 @@ use Rattle.cap_account_states.proofs.Alike.{alike-less, agree-alike}
 use Rattle.cap_account_states.proofs.Meets.{Free, Usable, solves}
 use Rattle.cap_account_states.proofs.Facts.{FactHolds, FactOver, Facts}
 use Rattle.cap_account_states.proofs.Checked.{Checked}
-use Rattle.cap_account_states.proofs.Naming.{Means, values_in, values-mean}
-use Rattle.cap_account_states.proofs.Backed.{Grounded}
+use Rattle.cap_account_states.proofs.Naming.{values_in, values-mean}
 use Rattle.cap_account_states.proofs.KnowsLater.{Steady}
 use Rattle.cap_account_assertions.proofs.Asserted.{OwnsRegion}
 use Rattle.cap_account_assertions.proofs.Laws.{TakenLaw}

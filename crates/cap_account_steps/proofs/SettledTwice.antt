@@ -1,13 +1,13 @@
 -- Regions are closed and made, and then more of them are.
-use Rattle.std.proofs.Common.{◌≡◌, ◌≢◌, inl, inr, ℕ, ◌+◌, ℤ, List, [], ◌∷◌, ◌++◌, length, map, Option, Some, None, refl, sym, ap, ◌∙◌, subst, arith}
+use Rattle.std.proofs.Common.{◌≡◌, ◌≢◌, inl, inr, ◌+◌, ℤ, List, [], ◌∷◌, ◌++◌, length, Option, Some, None, refl, sym, ap, ◌∙◌, subst, arith}
 use Rattle.std.specs.List.{AllByRecursion}
 use Rattle.cap_prog.specs.Program.{PlainProgram}
 use Rattle.cap_machine_accounts.specs.Accounts.{EachTwo}
-use Rattle.cap_account_resources.specs.Parts.{Known, known_as, Table}
+use Rattle.cap_account_resources.specs.Parts.{Known, Table}
 use Rattle.cap_account_resources.proofs.Lists.{none-some, all-both, all-more, map-join, Among, among-left, among-right, among-either}
 use Rattle.cap_account_resources.proofs.Monoid.{atom}
 use Rattle.cap_account_resources.proofs.Monoid as monoid
-use Rattle.cap_account_resources.proofs.Stocks.{Stock, both, Inside, same-stock, reordered, inside-trans, inside-is, inside-beside}
+use Rattle.cap_account_resources.proofs.Stocks.{Stock, both, Inside, same-stock, reordered, inside-trans, inside-beside}
 use Rattle.cap_account_resources.proofs.Tables.{KeepsStates, KeepsTypes, new_guards, new-guards-twice}
 use Rattle.cap_account_resources.proofs.Owners.{Owner, owned, owned-join, numbers_of}
 use Rattle.cap_account_states.proofs.Scopes.{length-join}

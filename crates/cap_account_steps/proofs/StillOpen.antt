@@ -1,4 +1,4 @@
--- While regions are closed: later states, and what is known there of the regions that are still open.
+-- While regions are closed: later states, and what is known there of those that are still open.
 use Rattle.std.proofs.Common.{◌≡◌, ◌≢◌, ◌⊎◌, inl, inr, ℕ, zero, suc, ◌<◌, ◌≤◌, ℤ, List, [], ◌∷◌, length, map, Some, None, refl, sym, ap, ◌∙◌, subst, arith}
 use Rattle.std.specs.Prelude.{slice_get, remove}
 use Rattle.std.specs.List.{AllByRecursion}
@@ -14,14 +14,14 @@ use Rattle.cap_account_resources.proofs.Covering.{Covered}
 use Rattle.cap_account_resources.proofs.Stocks.{Stock}
 use Rattle.cap_account_resources.proofs.Tables.{FitsRoom}
 use Rattle.cap_account_states.proofs.Alike.{Alike, alike-same, alike-trans, alike-less, value-alike}
-use Rattle.cap_account_states.proofs.Meets.{Free, Usable, usable-on, usable-old}
+use Rattle.cap_account_states.proofs.Meets.{Free, Usable, usable-on}
 use Rattle.cap_account_states.proofs.Adding.{PieceOver}
 use Rattle.cap_account_states.proofs.Pieces.{AllFit}
 use Rattle.cap_account_states.proofs.Compatible.{pieces-more, covered-alike}
 use Rattle.cap_account_states.proofs.Facts.{Facts}
 use Rattle.cap_account_states.proofs.Backed.{Backed, Grounded}
 use Rattle.cap_account_states.proofs.KnowsLater.{Steady, usable-steady}
-use Rattle.cap_account_steps.proofs.Exact.{terms-alike, exact-alike, over-more, all-two}
+use Rattle.cap_account_steps.proofs.Exact.{terms-alike, exact-alike, over-more}
 use Rattle.cap_account_steps.proofs.Worlds.{Differ, AllOver, regions_of, Earlier, IfAny, IsStillOpen, Closing}
 
 -- ---- lists without one member
