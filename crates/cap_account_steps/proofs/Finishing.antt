@@ -27,6 +27,7 @@ use Rattle.cap_account_states.proofs.Roots.{values-length}
 use Rattle.cap_account_states.proofs.Values.{named-of}
 use Rattle.cap_account_states.proofs.Backed.{Backed, Grounded}
 use Rattle.cap_account_states.proofs.KnowsLater.{Steady, usable-steady}
+use Rattle.cap_account_assertions.proofs.Laws.{TakenLaw}
 use Rattle.cap_account_steps.proofs.Points.{FrameOk}
 use Rattle.cap_account_steps.proofs.Stores.{Store, running, values-alike, name-alike, fixed-name}
 use Rattle.cap_account_steps.proofs.Frames.{Roomy, Stands}
@@ -35,8 +36,9 @@ use Rattle.cap_account_steps.proofs.RestLaws.{rests-loose}
 use Rattle.cap_account_steps.proofs.SettledTables.{settled-types, settled-fits, settled-listed, settled-full}
 use Rattle.cap_account_steps.proofs.SettledTwice.{settles-for}
 use Rattle.cap_account_steps.proofs.StillOpen.{LaterState, usable-later}
-use Rattle.cap_account_steps.proofs.Closings.{later-of}
-use Rattle.cap_account_steps.proofs.Acting.{FinishingLaw}
+use Rattle.cap_account_steps.proofs.Closings.{later-of, closing-law}
+use Rattle.cap_account_steps.proofs.Acting.{FinishingLaw, acts-law}
+use Rattle.cap_account_steps.proofs.HeapLaws.{ActsLaw}
 
 -- ---- a frame's store in a state where other variables are kept free
 
@@ -180,3 +182,7 @@ finishing-law p program closing V part held ns ks v s n h fn fixed f trees bound
           all-full)
           cl.goes cl.none_open cl.grounded cl.facts cl.backed beside;
     }
+
+-- so a heap statement acts where regions are open
+pub acts : (p : Checked) → IsWellFormed p.program → TakenLaw p → ActsLaw p
+acts p program taken = acts-law p (finishing-law p program (closing-law p program taken))

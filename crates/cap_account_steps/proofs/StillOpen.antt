@@ -21,6 +21,7 @@ use Rattle.cap_account_states.proofs.Compatible.{pieces-more, covered-alike}
 use Rattle.cap_account_states.proofs.Facts.{Facts}
 use Rattle.cap_account_states.proofs.Backed.{Backed, Grounded}
 use Rattle.cap_account_states.proofs.KnowsLater.{Steady, usable-steady}
+use Rattle.cap_account_steps.proofs.Callees.{slice-map}
 use Rattle.cap_account_steps.proofs.Exact.{terms-alike, exact-alike, over-more}
 use Rattle.cap_account_steps.proofs.Worlds.{Differ, AllOver, regions_of, Earlier, IfAny, IsStillOpen, Closing}
 
@@ -57,13 +58,6 @@ all-unmap :
 all-unmap P g [] h = tt
 all-unmap P g (x ∷ xs) h = (h.0, all-unmap P g xs h.1)
 
-get-of-map :
-    {X Y : Type 0} (g : X → Y) (xs : List X) (i : ℕ) (x : X) → slice_get xs i ≡ Some x →
-    slice_get (map g xs) i ≡ Some (g x)
-get-of-map g [] i x e = absurd (none-some e)
-get-of-map g (y ∷ ys) zero x e = ap (λ z. Some (g z)) (some-same y x e)
-get-of-map g (y ∷ ys) (suc i) x e = get-of-map g ys i x e
-
 among-remove :
     {X : Type 0} (xs : List X) (i : ℕ) (x z : X) → slice_get xs i ≡ Some x → Among z xs →
     (x ≡ z) ⊎ Among z (remove xs i)
@@ -96,7 +90,7 @@ module _ (v : Valuation) (fs : List PlainFact) (o : ℕ) (f : PlainFact)
       all-unmap P number (remove fs o)
       (subst (AllByRecursion P) (sym (map-remove number fs o))
       (others-remove (λ m n. m ≢ n) (λ m n d e. d (sym e)) (map number fs) o (number f)
-      (get-of-map number fs o f is) h))
+      (slice-map number fs o f is) h))
 
   pub differ-remove : Differ (regions_of v fs) → Differ (regions_of v (remove fs o))
   differ-remove h =
@@ -108,7 +102,7 @@ module _ (v : Valuation) (fs : List PlainFact) (o : ℕ) (f : PlainFact)
       (value v.whole f.region ≡ n) ⊎ Among n (regions_of v (remove fs o))
   region-or n a =
       subst (λ ns. (number f ≡ n) ⊎ Among n ns) (sym (map-remove number fs o))
-      (among-remove (map number fs) o (number f) n (get-of-map number fs o f is) a)
+      (among-remove (map number fs) o (number f) n (slice-map number fs o f is) a)
 
 -- ---- later states
 
