@@ -16,7 +16,7 @@ use Rattle.cap_rules.specs.Rules.{at_clash}
 use Rattle.cap_machine.specs.Machine.{Heap}
 use Rattle.cap_account_states.specs.Nodes.{Comes, Children}
 use Rattle.cap_account_resources.specs.Parts.{one_cell, cells_of, Table}
-use Rattle.cap_account_resources.proofs.Lists.{some-same, all-at, all-more}
+use Rattle.cap_account_resources.proofs.Lists.{some-same, all-at}
 use Rattle.cap_account_resources.proofs.Heaps.{one-itself, count-at-most, there-in}
 use Rattle.cap_account_resources.proofs.Stocks.{Stock}
 use Rattle.cap_account_states.proofs.Attempts.{after-found, after-need, after-proved}
@@ -24,7 +24,7 @@ use Rattle.cap_account_states.proofs.Checked.{Checked}
 use Rattle.cap_account_states.proofs.Meets.{Usable, CellOver, Meets, need}
 use Rattle.cap_account_steps.proofs.Stores.{running}
 use Rattle.cap_account_steps.proofs.Cells.{Cell, cell_here, need-one, need-two, equal-here}
-use Rattle.cap_account_steps.proofs.Worlds.{World, Exact, regions_of, Opening}
+use Rattle.cap_account_steps.proofs.Worlds.{World, regions_of, Opening}
 use Rattle.cap_account_steps.proofs.OpenTables.{opened-there}
 
 -- a heap counts no address twice
