@@ -125,7 +125,7 @@ module _ (p : Checked) (V : Table) (share : ℤ → Stock) (part : Stock) (fn : 
             facts = k.facts;
             old = r.old;
             opened = k.opened;
-            differ = subst Differ (sym k.regions) o.differ;
+            differ = differ-again (regions_of w t.opened) k.regions;
             backed = k.backed held o.backed;
             room = open-room p.program ns V held room;
             earlier = k.earlier part o.earlier;
@@ -154,6 +154,9 @@ module _ (p : Checked) (V : Table) (share : ℤ → Stock) (part : Stock) (fn : 
             (comes-bind (acted t j c a) ends N r.comes);
       }
     where
+      differ-again : (ms : List ℤ) → ms ≡ regions_of v s.opened → Differ ms
+      differ-again ms e = subst Differ (sym e) o.differ
+
       now :
           (t : PlainState) → t.opened ≡ s.opened → (states : List PlainState) →
           Children p.N trees
