@@ -1,5 +1,5 @@
 -- An assertion that is given can be taken again of the same part, by a table that others led to.
-use Rattle.std.proofs.Common.{◌≡◌, ◌≢◌, ℕ, suc, ◌+◌, ◌<◌, ℤ, pos, ◌*ℤ◌, List, [], ◌∷◌, length, arith, refl, sym, ap, ◌∙◌, subst, Some}
+use Rattle.std.proofs.Common.{◌≡◌, ◌≢◌, ℕ, suc, ◌+◌, ◌<◌, ℤ, pos, ◌*ℤ◌, List, [], ◌∷◌, length, arith, sym, ap, ◌∙◌, subst, Some}
 use Rattle.std.specs.Prelude.{get_or, unwrap_or}
 use Rattle.std.specs.List.{AllByRecursion}
 use Rattle.cap_lin.specs.Linear.{Linear}
@@ -16,7 +16,7 @@ use Rattle.cap_rules.specs.Making.{env_at}
 use Rattle.cap_account_resources.specs.Parts.{Table}
 use Rattle.cap_account_resources.proofs.Room.{room, room-some, part-some}
 use Rattle.cap_account_resources.proofs.Stocks.{Stock, no_stock, both, Composes, stock-laws}
-use Rattle.cap_account_resources.proofs.Tables.{FitsRoom, fits-relied}
+use Rattle.cap_account_resources.proofs.Tables.{fits-relied}
 use Rattle.cap_account_states.specs.Nodes.{Open}
 use Rattle.cap_account_states.proofs.Terms.{Over, vars-more, Agree, agree-trans, agree-less}
 use Rattle.cap_account_states.proofs.Alike.{Alike, agree-alike, value-alike, amount-alike, undo, above-zero, swapped}
@@ -154,8 +154,8 @@ pub again :
     Means sc v (env_at s 1) a → AreFit p.program sc items → Owns p.program T h a items →
     Backed p.program v s no_stock → Reached p.program T U h →
     Again p.program U h sc (env_at s 1) a items
-again p gives rests still T U sc a v s h items trees goes at firm none means two placed same fits owns
-    backed reached =
+again p gives rests still T U sc a v s h items trees goes at firm none means two placed same fits
+    owns backed reached =
     let pp = p.program in
     let g = given-rested p gives rests T U sc a v s h owns.0 items (to_take items 1 0 0 ∷ []) trees
     goes at firm means fits owns.1 backed reached in
@@ -178,6 +178,7 @@ again p gives rests still T U sc a v s h items trees goes at firm none means two
       kept =
           names-kept [] sc s v t.w (env_at s 1) late a placed
           (alike-between s g.after v g.w t.w on (agree-alike (Old s) v g.w g.agree)
-          t.follows.alike) (λ x o i u e. t.follows.stays x o i u (ap (λ y. term_of y x) env ∙ e)) same;
+          t.follows.alike)
+          (λ x o i u e. t.follows.stays x o i u (ap (λ y. term_of y x) env ∙ e)) same;
       met = t.met (values_in t.w late) (values-mean sc t.w late);
     }

@@ -1,6 +1,6 @@
 -- Rule `create` up to where the case is taken: what that starts from.
-use Rattle.std.proofs.Common.{◌≡◌, ℕ, zero, suc, ◌+◌, ◌-◌, ◌<◌, ◌≤◌, ℤ, pos, ◌+ℤ◌, ◌≤ℤ◌, List, [], ◌∷◌, ◌++◌, length, arith, refl, sym, ap, ◌∙◌, subst, Option, Some, None}
-use Rattle.std.specs.Prelude.{slice_get, get_or, is_none, IsSomeAnd}
+use Rattle.std.proofs.Common.{◌≡◌, ℕ, ◌+◌, ◌-◌, ◌<◌, ◌≤◌, ℤ, pos, ◌+ℤ◌, ◌≤ℤ◌, List, [], ◌∷◌, ◌++◌, length, arith, refl, sym, ap, ◌∙◌, subst, Some}
+use Rattle.std.specs.Prelude.{slice_get, is_none, IsSomeAnd}
 use Rattle.std.specs.List.{AllByRecursion}
 use Rattle.std.proofs.lemmas.Int.{ints}
 use Rattle.cap_lin.specs.Linear.{Linear}
@@ -8,12 +8,11 @@ use Rattle.cap_lin.specs.Values.{Valuation}
 use Rattle.cap_lin.specs.declared.row.Row.{Row}
 use Rattle.cap_lin.specs.declared.row.Sort.TheVariants.{Int}
 use Rattle.cap_gsolve.specs.declared.piece.Piece.{Piece}
-use Rattle.cap_syntax.specs.declared.place.Place.{Place}
 use Rattle.cap_prog.specs.declared.assertion.Slot.{Slot}
 use Rattle.cap_prog.specs.Program.{PlainItem, fact, Items, item, PlainCase, PlainRegionType, PlainProgram}
 use Rattle.cap_prog.specs.Scopes.{Scope, region_scope}
 use Rattle.cap_prog.specs.WellFormed.{FactFits, CaseFits, RegionFits}
-use Rattle.cap_goal_spec.specs.States.{PlainFact, PlainEnv, PlainState, PlainTask, PlainGoal, to_take, to_make, goals_of}
+use Rattle.cap_goal_spec.specs.States.{PlainEnv, PlainState, PlainTask, PlainGoal, to_take, to_make, goals_of}
 use Rattle.cap_goal_spec.specs.Environments.{zero_value, term_of, region_env}
 use Rattle.cap_rules.specs.Attempts.{Attempt, ◌>>=◌, need, found, each}
 use Rattle.cap_rules.specs.Making.{determined_slot, with_env, fresh, fact_of, env_at}
@@ -21,7 +20,7 @@ use Rattle.cap_rules.specs.Taking.{with_new_region, case_env}
 use Rattle.cap_rules.specs.Rules.{leaves, stays, at_create}
 use Rattle.cap_account_resources.specs.Parts.{Table}
 use Rattle.cap_account_resources.proofs.Lists.{get-or-push, push-length, all-at, all-more}
-use Rattle.cap_account_resources.proofs.Marks.{Mark, free}
+use Rattle.cap_account_resources.proofs.Marks.{free}
 use Rattle.cap_account_resources.proofs.Covering.{join_marks, free-right}
 use Rattle.cap_account_resources.proofs.Interference.{Holding}
 use Rattle.cap_account_resources.proofs.Room.{all_guards, alone, alone-away, part-join}
@@ -35,7 +34,7 @@ use Rattle.cap_account_states.proofs.Backed.{Backed}
 use Rattle.cap_account_states.proofs.Naming.{Placed, placed-more}
 use Rattle.cap_account_states.proofs.Cases.{slot-yields, slots-given, comes-case, case-placed}
 use Rattle.cap_account_assertions.proofs.Laws.{StateAt}
-use Rattle.cap_account_assertions.proofs.TakeSteps.{Job, tasks_of, with_items, remaining, TakeStart}
+use Rattle.cap_account_assertions.proofs.TakeSteps.{Job, tasks_of, remaining, TakeStart}
 use Rattle.cap_account_assertions.proofs.FreshRegions.{IsKnown, fresh_values, fresh-usable, fresh_state, fresh-region, fresh-composes}
 use Rattle.cap_account_assertions.proofs.MadeRegions.{param-sort}
 
@@ -60,7 +59,7 @@ state-at p ks T sc e v s c h there placed = record {
 }
 
 -- with other environments
-known-envs :
+pub known-envs :
     (p : PlainProgram) (ks : List ℕ) (T : Table) (v : Valuation) (s : PlainState) (c : Stock)
     (envs : List PlainEnv) → IsKnown p ks T v s c → IsKnown p ks T v (record s { envs = envs }) c
 known-envs p ks T v s c envs h = record {
@@ -173,7 +172,8 @@ begun p ks T next lim j v s c n m k left args x i more P comes st some fits =
     let k3 = after-need (is_none (term_of env m)) (fourth y z) P k2.2 in
     let fit : FactFits j.scope y args x =
     subst (λ o. IsSomeAnd o (λ y. FactFits j.scope y args x)) k1.1 fits in
-    let placed = placed-more ks j.scope s.sorts sorts env (same-fresh s Int).sorts st.ready.placed in
+    let placed = placed-more ks j.scope s.sorts sorts env (same-fresh s Int).sorts
+    st.ready.placed in
     let us = slots-given ks j.scope sorts env placed args fit.slots (λ us. Comes (fifth y z us) P)
     (comes-bind (each (determined_slot env) args) (fifth y z) P k3.1) in
     let region-there = fresh-region p ks T next v s c y k (λ u. Comes (sixth y z us.terms u) P) k1.1

@@ -1,28 +1,24 @@
 -- Rule `create` once the case is taken: the region is made, and the fact is to be taken again.
-use Rattle.std.proofs.Common.{◌≡◌, ◌≢◌, ℕ, zero, suc, ◌+◌, ◌<◌, ◌≤◌, ℤ, pos, ◌+ℤ◌, ◌≤ℤ◌, ◌<ℤ◌, List, [], ◌∷◌, ◌++◌, length, arith, refl, sym, ap, ◌∙◌, subst, inl, inr, true, false, Option, Some, None}
+use Rattle.std.proofs.Common.{◌≡◌, ℕ, zero, suc, ◌+◌, ◌<◌, ◌≤◌, ℤ, pos, ◌+ℤ◌, ◌≤ℤ◌, ◌<ℤ◌, List, [], ◌∷◌, ◌++◌, length, arith, refl, sym, ap, ◌∙◌, subst, inr, true, false, Some, None}
 use Rattle.std.specs.Prelude.{get_or}
-use Rattle.std.specs.List.{AllByRecursion}
 use Rattle.std.proofs.lemmas.Int.{ints}
-use Rattle.cap_lin.specs.Linear.{Linear}
-use Rattle.cap_lin.specs.Values.{Valuation, value}
+use Rattle.cap_lin.specs.Values.{Valuation}
 use Rattle.cap_lin.specs.declared.row.Sort.TheVariants.{Int}
-use Rattle.cap_prog.specs.Program.{PlainItem, Items, item, PlainProgram}
+use Rattle.cap_prog.specs.Program.{PlainItem, Items, item}
 use Rattle.cap_prog.specs.Scopes.{region_scope}
-use Rattle.cap_goal_spec.specs.States.{PlainFact, PlainState, PlainTask, PlainGoal}
+use Rattle.cap_goal_spec.specs.States.{PlainState, PlainTask, PlainGoal}
 use Rattle.cap_goal_spec.specs.Environments.{term_of}
 use Rattle.cap_rules.specs.Making.{fresh, env_at}
 use Rattle.cap_account_resources.specs.Parts.{Known, known_as, Table}
 use Rattle.cap_account_resources.proofs.Lists.{get-first, push-length, all-both, all-more, Among}
 use Rattle.cap_account_resources.proofs.Marks.{free, joins-law}
 use Rattle.cap_account_resources.proofs.Covering.{join_marks, IsPartOf, part-trans}
-use Rattle.cap_account_resources.proofs.Monoid.{atom, both as plus}
 use Rattle.cap_account_resources.proofs.Interference.{Holding}
 use Rattle.cap_account_resources.proofs.Room.{all_guards, with_known, part-join}
-use Rattle.cap_account_resources.proofs.Stocks.{Stock, guard_stock, both, Inside, inside-first, inside-trans, inside-guards}
-use Rattle.cap_account_resources.proofs.Owners.{Owner, owned, guards_of_all, numbers_of, numbered-up, numbered-between, numbered-differ}
-use Rattle.cap_account_states.proofs.Terms.{Over}
-use Rattle.cap_account_states.proofs.Alike.{Alike, alike-same, value-alike}
-use Rattle.cap_account_states.proofs.Meets.{Usable, usable-on, usable-old, Old}
+use Rattle.cap_account_resources.proofs.Stocks.{Stock, guard_stock, both, inside-first, inside-trans, inside-guards}
+use Rattle.cap_account_resources.proofs.Owners.{owned, guards_of_all, numbers_of, numbered-up, numbered-between, numbered-differ}
+use Rattle.cap_account_states.proofs.Alike.{alike-same, value-alike}
+use Rattle.cap_account_states.proofs.Meets.{usable-on, usable-old, Old}
 use Rattle.cap_account_states.proofs.Checked.{Checked}
 use Rattle.cap_account_states.proofs.Naming.{Placed, placed-more}
 use Rattle.cap_account_states.proofs.Items.{AreFit}
@@ -30,7 +26,7 @@ use Rattle.cap_account_states.proofs.Backed.{GoesOn}
 use Rattle.cap_account_assertions.proofs.Follows.{Follows, alike-between}
 use Rattle.cap_account_assertions.proofs.NewRegions.{told-apart, guards-outside, composes-with-new}
 use Rattle.cap_account_assertions.proofs.TakeSteps.{Job, tasks_of, TakeStart, Took}
-use Rattle.cap_account_assertions.proofs.FreshRegions.{IsKnown, fresh_values, fresh-number, fresh-alike, fresh-usable}
+use Rattle.cap_account_assertions.proofs.FreshRegions.{fresh_values, fresh-number, fresh-alike, fresh-usable}
 use Rattle.cap_account_assertions.proofs.MadeRegions.{with_new_fact, Pending, RegionMade, param-sort}
 use Rattle.cap_account_assertions.proofs.CaseStarts.{known-at, state-at, lim_with, lim-above, case_state, case_job, fact_job, CaseStart}
 
@@ -96,8 +92,11 @@ module _ (p : Checked) (ks : List ℕ) (T : Table) (next : ℤ) (lim : Holding) 
               value-alike (Old at_case) (fresh_values s v next) t.w t.follows.alike (fresh s)
               (usable-old ks at_case.sorts Int (length s.sorts) at, tt)
               ∙ fresh-number s v next;
-          over = (usable-on ks at_case.sorts t.after.sorts t.follows.goes_on.sorts Int
-              (length s.sorts) at, tt);
+          over = (
+            usable-on ks at_case.sorts t.after.sorts t.follows.goes_on.sorts Int
+                (length s.sorts) at,
+            tt,
+          );
           draws = λ b m r. t.draws t.w (alike-same (Old t.after) t.w) b m r;
         }
 

@@ -1,9 +1,8 @@
 -- Rule `create`: the case is taken, the region is made, and the fact is taken again.
-use Rattle.std.proofs.Common.{◌≡◌, ◌≢◌, ℕ, zero, suc, ◌+◌, ◌<◌, ◌≤◌, ℤ, pos, ◌+ℤ◌, List, [], ◌∷◌, ◌++◌, arith, refl, sym, ap, ◌∙◌, subst, inl, inr, Some}
+use Rattle.std.proofs.Common.{◌≡◌, ℕ, suc, ◌+◌, ◌<◌, ◌≤◌, ℤ, pos, ◌+ℤ◌, List, [], ◌∷◌, ◌++◌, arith, refl, sym, ◌∙◌, subst, inl, inr, Some}
 use Rattle.std.specs.Prelude.{length, slice_get, IsSomeAnd}
 use Rattle.std.specs.List.{AllByRecursion}
 use Rattle.cap_lin.specs.Values.{Valuation}
-use Rattle.cap_syntax.specs.declared.place.Place.{Place}
 use Rattle.cap_prog.specs.declared.assertion.Slot.{Slot}
 use Rattle.cap_prog.specs.Program.{PlainItem, fact, Items, item, PlainProgram}
 use Rattle.cap_prog.specs.WellFormed.{FactFits, RegionFits}
@@ -17,9 +16,9 @@ use Rattle.cap_account_resources.proofs.Monoid.{atom, both as plus}
 use Rattle.cap_account_resources.proofs.Interference.{Holding}
 use Rattle.cap_account_resources.proofs.Room.{all_guards, with_known}
 use Rattle.cap_account_resources.proofs.Stocks.{Stock, guard_stock, both, Inside, total_of, reordered, inside-trans, inside-beside}
-use Rattle.cap_account_resources.proofs.Tables.{Extends, extends-trans}
+use Rattle.cap_account_resources.proofs.Tables.{extends-trans}
 use Rattle.cap_account_resources.proofs.Owners.{Owner, owned, guards_of_all, owned-join, guards-join, numbered-join}
-use Rattle.cap_account_states.specs.Nodes.{NodePredicate, Comes, Children, Open}
+use Rattle.cap_account_states.specs.Nodes.{NodePredicate, Comes, Children}
 use Rattle.cap_account_states.proofs.Meets.{solves}
 use Rattle.cap_account_states.proofs.Checked.{Checked}
 use Rattle.cap_account_assertions.proofs.Asserted.{DrawsAll}
@@ -27,11 +26,11 @@ use Rattle.cap_account_assertions.proofs.Laws.{IsOwner}
 use Rattle.cap_account_assertions.proofs.TreeSizes.{tree_size, trees_size}
 use Rattle.cap_account_assertions.proofs.Follows.{follows-trans}
 use Rattle.cap_account_assertions.proofs.NewRegions.{told-here, told-apart, told-extends, owner-extends, none-of-both}
-use Rattle.cap_account_assertions.proofs.TakeSteps.{Job, tasks_of, with_items, remaining, TakeStart, Took, TookLaw}
+use Rattle.cap_account_assertions.proofs.TakeSteps.{Job, tasks_of, remaining, TakeStart, Took, TookLaw}
 use Rattle.cap_account_assertions.proofs.FreshRegions.{fresh_values}
 use Rattle.cap_account_assertions.proofs.MadeRegions.{RegionMade, made-region}
 use Rattle.cap_account_assertions.proofs.CaseStarts.{lim_with, case_state, case_job, fact_job, CaseStart, case-start}
-use Rattle.cap_account_assertions.proofs.CaseTaken.{CaseTook, case-pending, past, made_state, made_known, made-follows, lim_made, start-again}
+use Rattle.cap_account_assertions.proofs.CaseTaken.{CaseTook, case-pending, made_state, made_known, made-follows, lim_made, start-again}
 
 -- ---- sums of stocks
 
@@ -62,7 +61,8 @@ create-budget p left given own between part made held full guards more h k =
 -- the tree of one goal
 pub one-tree :
     (N : NodePredicate) (trees : PlainTrees) (s : PlainState) (ts : List PlainTask) →
-    Children N trees (goal s ts ∷ []) → (d : PlainTree) × N d s ts × (tree_size d ≤ trees_size trees)
+    Children N trees (goal s ts ∷ []) →
+    (d : PlainTree) × N d s ts × (tree_size d ≤ trees_size trees)
 one-tree N no_trees s ts h = absurd h
 one-tree N (tree d no_trees) s ts h = (d, h.0, omega arith)
 one-tree N (tree d (tree e more)) s ts h = absurd h.1
@@ -157,7 +157,8 @@ module _ (p : Checked) (regions : AllByRecursion (RegionFits p.program) p.progra
               (guard_stock next (all_guards pp k)) (guards_of_all pp t.new) (guards_of_all pp u.new)
               u.budget t.budget));
           draws = λ x l b f r.
-              subst (λ is. DrawsAll pp u.U b is (both pp u.given r) r) (sym are) (u.draws x l b f r);
+              subst (λ is. DrawsAll pp u.U b is (both pp u.given r) r) (sym are)
+              (u.draws x l b f r);
         }
 
     -- rule `made`, and the rest

@@ -1,6 +1,6 @@
 -- A region gets into the table, with what its case was taken from.
-use Rattle.std.proofs.Common.{◌≡◌, ℕ, suc, ◌+◌, ◌-◌, ◌<◌, ◌≤◌, ℤ, List, [], ◌∷◌, ◌++◌, length, map, drop, take, arith, refl, sym, ap, ◌∙◌, subst, Option, Some, None, Bool, true, false}
-use Rattle.std.specs.Prelude.{find, slice_get, unwrap_or, ◌==◌, if◌then◌else◌}
+use Rattle.std.proofs.Common.{◌≡◌, ℕ, suc, ◌+◌, ◌-◌, ◌<◌, ◌≤◌, ℤ, List, [], ◌∷◌, ◌++◌, length, map, drop, arith, refl, sym, ap, ◌∙◌, subst, Some, None, Bool, true, false}
+use Rattle.std.specs.Prelude.{find, slice_get, unwrap_or}
 use Rattle.std.specs.List.{AllByRecursion}
 use Rattle.cap_lin.specs.Linear.{Linear, same_term}
 use Rattle.cap_lin.specs.Values.{Valuation, value}
@@ -12,7 +12,7 @@ use Rattle.cap_prog.specs.Scopes.{HasSort, known, whole_numbers, region_scope}
 use Rattle.cap_prog.specs.WellFormed.{CaseFits, RegionFits}
 use Rattle.cap_goal_spec.specs.States.{PlainFact, PlainEnv, PlainState, PlainTask, PlainGoal, goals_of}
 use Rattle.cap_goal_spec.specs.Environments.{zero_value, term_of, term_in}
-use Rattle.cap_rules.specs.Attempts.{Attempt, ◌>>=◌, found, each}
+use Rattle.cap_rules.specs.Attempts.{Attempt, ◌>>=◌, found}
 use Rattle.cap_rules.specs.Making.{determined, with_fact, prove_comparisons, fact_of, env_at, is_of_region, without_first}
 use Rattle.cap_rules.specs.Rules.{leaves, args_in, at_made}
 use Rattle.cap_account_resources.specs.Parts.{known_as, Table}

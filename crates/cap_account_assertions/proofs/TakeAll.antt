@@ -1,5 +1,5 @@
 -- Items are taken one after the other, by the size of the trees.
-use Rattle.std.proofs.Common.{◌≡◌, ℕ, zero, suc, ◌+◌, ◌<◌, ◌≤◌, ℤ, List, [], ◌∷◌, length, arith, refl, sym, subst}
+use Rattle.std.proofs.Common.{◌≡◌, ℕ, zero, suc, ◌≤◌, ℤ, List, ◌∷◌, arith, refl, subst}
 use Rattle.std.specs.List.{AllByRecursion}
 use Rattle.cap_lin.specs.Values.{Valuation}
 use Rattle.cap_syntax.specs.declared.place.Place.{Place}
@@ -8,7 +8,7 @@ use Rattle.cap_prog.specs.declared.assertion.Asked.{Asked}
 use Rattle.cap_prog.specs.declared.assertion.Asked.TheVariants.{One, Share, Src, Tok}
 use Rattle.cap_prog.specs.Program.{PlainItem, compare, choose, fact, atom, cell, Items, none, item}
 use Rattle.cap_prog.specs.WellFormed.{ItemFits, RegionFits}
-use Rattle.cap_goal_spec.specs.States.{PlainState, PlainTask, PlainGoal, goal, to_take, goals_of}
+use Rattle.cap_goal_spec.specs.States.{PlainState, to_take}
 use Rattle.cap_goal_spec.specs.Choices.{PlainTree, node, PlainTrees, by_absurd, by_fact, by_cases, by_cell, by_region, by_guard, by_convert, by_create}
 use Rattle.cap_rules.specs.Rules.{at_guard, at_convert, creates}
 use Rattle.cap_account_resources.specs.Parts.{Table}
@@ -19,7 +19,7 @@ use Rattle.cap_account_states.proofs.Meets.{solves}
 use Rattle.cap_account_states.proofs.Checked.{Checked}
 use Rattle.cap_account_states.proofs.Items.{AreFit, fits-more}
 use Rattle.cap_account_assertions.proofs.TreeSizes.{tree_size, trees_size}
-use Rattle.cap_account_assertions.proofs.TakeSteps.{Job, tasks_of, with_items, remaining, TakeStart, Took, TookLaw, took-none}
+use Rattle.cap_account_assertions.proofs.TakeSteps.{Job, remaining, TakeStart, Took, TookLaw, took-none}
 use Rattle.cap_account_assertions.proofs.TakeHeads.{ItemTaken, ItemsTurned, took-taken, took-turned}
 use Rattle.cap_account_assertions.proofs.TakeComps.{compare-taken, choose-turned}
 use Rattle.cap_account_assertions.proofs.TakeCells.{cell-taken}
@@ -120,7 +120,8 @@ module _ (p : Checked) (regions : AllByRecursion (RegionFits p.program) p.progra
 
     took-node :
         (i : PlainItem) (more : Items) → j.items ≡ item i more → (d : PlainTree) →
-        tree_size d ≤ suc size → p.N d s (to_take (item i more) j.env j.most j.statement ∷ j.tasks) →
+        tree_size d ≤ suc size →
+        p.N d s (to_take (item i more) j.env j.most j.statement ∷ j.tasks) →
         Took p ks T next j v s c (suc size)
     took-node i more are (node (by_absurd x) trees) le h =
         absurd ((p.step h).0.0 v (solves ks v s st.ready.grounded.meets))

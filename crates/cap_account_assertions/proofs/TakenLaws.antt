@@ -1,5 +1,5 @@
 -- Taking an assertion by a table whose numbers are listed.
-use Rattle.std.proofs.Common.{◌≡◌, ℕ, ◌<◌, ℤ, pos, ◌+ℤ◌, ◌≤ℤ◌, ◌<ℤ◌, List, [], ◌∷◌, length, arith, refl, sym, ap, ◌∙◌, subst, inl, inr, Option, Some, None}
+use Rattle.std.proofs.Common.{◌≡◌, ℕ, ◌<◌, ℤ, pos, ◌+ℤ◌, ◌≤ℤ◌, ◌<ℤ◌, List, [], ◌∷◌, length, arith, refl, ap, subst, inl, inr, Option, Some, None}
 use Rattle.std.specs.List.{AllByRecursion}
 use Rattle.std.proofs.lemmas.Int.{ints}
 use Rattle.cap_lin.specs.Values.{Valuation}
@@ -12,7 +12,7 @@ use Rattle.cap_account_resources.specs.Parts.{Known, Table}
 use Rattle.cap_account_resources.proofs.Lists.{Among}
 use Rattle.cap_account_resources.proofs.Room.{room_of, room, room-some}
 use Rattle.cap_account_resources.proofs.Stocks.{Stock, both, Inside}
-use Rattle.cap_account_resources.proofs.Tables.{AreListed, FitsRoom}
+use Rattle.cap_account_resources.proofs.Tables.{FitsRoom}
 use Rattle.cap_account_resources.proofs.Owners.{Owner, owned, numbers_of, Numbered, numbered-between, numbered-differ}
 use Rattle.cap_account_states.specs.Nodes.{Open}
 use Rattle.cap_account_states.proofs.Checked.{Checked}
@@ -20,7 +20,7 @@ use Rattle.cap_account_states.proofs.Items.{AreFit}
 use Rattle.cap_account_states.proofs.Backed.{Backed}
 use Rattle.cap_account_assertions.proofs.TreeSizes.{trees_size}
 use Rattle.cap_account_assertions.proofs.NewRegions.{below-or, made-guards}
-use Rattle.cap_account_assertions.proofs.TakeSteps.{Job, MadeFrom, Took}
+use Rattle.cap_account_assertions.proofs.TakeSteps.{Job, MadeFrom}
 use Rattle.cap_account_assertions.proofs.TakeAll.{ConvertLaw, took}
 use Rattle.cap_account_assertions.proofs.Laws.{StateAt, Made, Taken, TakenLaw}
 
@@ -49,7 +49,7 @@ each-number P [] f = tt
 each-number P (r ∷ rs) f = (f r.number (inl refl), each-number P rs (λ n h. f n (inr h)))
 
 -- the table has no region from a number on: regions that are numbered from there are made
-abbrev FreeFrom : Table → ℤ → Type 0
+abbrev pub FreeFrom : Table → ℤ → Type 0
 FreeFrom T next = (n : ℤ) → next ≤ℤ n → T n ≡ None
 
 numbered-made :

@@ -1,5 +1,5 @@
 -- Taking an assertion where no region may be created: what is held has it.
-use Rattle.std.proofs.Common.{◌≡◌, ℕ, ◌<◌, ℤ, pos, List, [], ◌∷◌, length, arith, refl, sym, ap, ◌∙◌, subst}
+use Rattle.std.proofs.Common.{◌≡◌, ℕ, ◌<◌, ℤ, pos, List, [], ◌∷◌, length, arith, refl, sym, ◌∙◌, subst}
 use Rattle.std.specs.List.{AllByRecursion}
 use Rattle.cap_lin.specs.Values.{Valuation}
 use Rattle.cap_prog.specs.Program.{Items, PlainProgram}
@@ -22,11 +22,11 @@ use Rattle.cap_account_states.proofs.Checked.{Checked}
 use Rattle.cap_account_states.proofs.Naming.{Means}
 use Rattle.cap_account_states.proofs.Items.{AreFit}
 use Rattle.cap_account_states.proofs.Backed.{Backed}
-use Rattle.cap_account_assertions.proofs.Asserted.{Owns, draws-all-kept, owns-all, draws-all-more}
+use Rattle.cap_account_assertions.proofs.Asserted.{Owns, draws-all-kept, draws-all-more}
 use Rattle.cap_account_assertions.proofs.Laws.{StateAt}
 use Rattle.cap_account_assertions.proofs.TreeSizes.{trees_size}
 use Rattle.cap_account_assertions.proofs.Follows.{Follows}
-use Rattle.cap_account_assertions.proofs.TakeSteps.{Job, Took}
+use Rattle.cap_account_assertions.proofs.TakeSteps.{Job}
 use Rattle.cap_account_assertions.proofs.MadeRegions.{known-extends}
 use Rattle.cap_account_assertions.proofs.CaseStarts.{known-at, state-at}
 use Rattle.cap_account_assertions.proofs.TakeAll.{ConvertLaw, took}

@@ -1,12 +1,12 @@
 -- The state at the root of a region type's case holds at values at which the case does.
-use Rattle.std.proofs.Common.{◌≡◌, ℕ, zero, suc, ◌+◌, ◌-◌, ◌<◌, ◌≤◌, ℤ, List, [], ◌∷◌, ◌++◌, length, map, replicate, arith, refl, sym, ap, ◌∙◌, subst, Option, Some, None}
+use Rattle.std.proofs.Common.{◌≡◌, ℕ, zero, suc, ◌+◌, ◌-◌, ◌<◌, List, [], ◌∷◌, ◌++◌, length, map, replicate, arith, refl, sym, ap, ◌∙◌, subst, Some}
 use Rattle.std.specs.Prelude.{slice_get}
 use Rattle.std.specs.List.{AllByRecursion}
 use Rattle.cap_lin.specs.Linear.{Linear, variable}
 use Rattle.cap_lin.specs.Values.{Valuation, value, amount}
 use Rattle.cap_lin.specs.Solves.{Holds}
 use Rattle.cap_lin.specs.declared.row.Sort.{Sort}
-use Rattle.cap_lin.specs.declared.row.Sort.TheVariants.{Int, Perm}
+use Rattle.cap_lin.specs.declared.row.Sort.TheVariants.{Int}
 use Rattle.cap_lin.proofs.Rows.{row_of-means}
 use Rattle.cap_prog.specs.declared.assertion.Comp.{Comp}
 use Rattle.cap_prog.specs.Program.{PlainCase, PlainRegionType, PlainProgram}
@@ -15,7 +15,7 @@ use Rattle.cap_prog.specs.WellFormed.{CaseFits}
 use Rattle.cap_machine_accounts.specs.Assertions.{CompHolds}
 use Rattle.cap_goal_spec.specs.Terms.{variables_from}
 use Rattle.cap_goal_spec.specs.Environments.{term_of, bound}
-use Rattle.cap_goal_spec.specs.Roots.{written_row, case_fact, case_state}
+use Rattle.cap_goal_spec.specs.Roots.{written_row, case_state}
 use Rattle.cap_account_resources.specs.Parts.{Known, Table}
 use Rattle.cap_account_resources.proofs.Lists.{some-same, within, get-map, map-length, map-join}
 use Rattle.cap_account_resources.proofs.Covering.{covered-none}
@@ -176,9 +176,11 @@ module _ (p : PlainProgram) (y : PlainRegionType) (k : ℕ) (c : PlainCase) (a :
               let size = variables-length 0 n in
               omega (arith, low, all, params, names, size);
           over = λ x o i t q.
-              subst (Over (Usable [] sorts o)) (name-is n x t q)
-              (subst (Usable [] sorts o) (sym (plain x))
-              (is-of sorts o x (sort-known y c.names o x i), tt), tt);
+              subst (Over (Usable [] sorts o)) (name-is n x t q) (
+                subst (Usable [] sorts o) (sym (plain x))
+                    (is-of sorts o x (sort-known y c.names o x i), tt),
+                tt,
+              );
         };
       }
 

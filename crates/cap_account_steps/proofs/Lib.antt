@@ -52,3 +52,7 @@ pub mod Clashing
 pub mod AtCell
 pub mod Acts
 pub mod Acting
+pub mod HeapLaws
+pub mod StableRegions
+pub mod StableLaws
+pub mod StatementLaws

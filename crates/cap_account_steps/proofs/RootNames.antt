@@ -1,12 +1,12 @@
 -- What a function's assertion knows at a root: it can be taken again, and known names keep their
 -- values.
-use Rattle.std.proofs.Common.{◌≡◌, ℕ, zero, suc, ◌+◌, ◌-◌, ◌<◌, ◌≤◌, ℤ, List, [], ◌∷◌, length, arith, refl, sym, ap, ◌∙◌, subst, Option, Some, None, inl, inr}
+use Rattle.std.proofs.Common.{◌≡◌, ℕ, ◌+◌, ◌-◌, ◌<◌, ◌≤◌, ℤ, List, [], ◌∷◌, length, arith, refl, sym, ap, ◌∙◌, Some, None, inl, inr}
 use Rattle.std.specs.Prelude.{slice_get, unwrap_or}
 use Rattle.std.specs.List.{AllByRecursion}
 use Rattle.cap_lin.specs.Linear.{Linear, variable}
 use Rattle.cap_lin.specs.Values.{Valuation}
 use Rattle.cap_lin.specs.declared.row.Sort.TheVariants.{Int}
-use Rattle.cap_prog.specs.Program.{Items, PlainProgram}
+use Rattle.cap_prog.specs.Program.{Items}
 use Rattle.cap_prog.specs.Scopes.{fixed_start}
 use Rattle.cap_machine_accounts.specs.Assertions.{NameValue, ValuesFit, AreNamed, AreWhole}
 use Rattle.cap_goal_spec.specs.Terms.{variables_from}
@@ -38,16 +38,21 @@ module _ (root : Root) where
   pub param-bound : (x : ℕ) → x < root.f.params → Bound (root_names root) x
   param-bound x l =
       let f = root.f in
-      let h : Home = record { function = root.n; fixed = f.params + root.l } in
-      (variable (0 + x), own-param f h (variables_from 0 f.params) root.ls root.r (length root.new)
-          (variables-length 0 f.params) root.hls x l ∙ variables-at 0 f.params x l)
+      let h : Home = record { function = root.n; fixed = f.params + root.l } in (
+        variable (0 + x),
+        own-param f h (variables_from 0 f.params) root.ls root.r (length root.new)
+            (variables-length 0 f.params) root.hls x l ∙ variables-at 0 f.params x l,
+      )
 
-  pub fixed-bound : (i : ℕ) → i < length root.f.fixed → Bound (root_names root) (fixed_start root.f + i)
+  pub fixed-bound :
+      (i : ℕ) → i < length root.f.fixed → Bound (root_names root) (fixed_start root.f + i)
   fixed-bound i l =
       let f = root.f in
-      let h : Home = record { function = root.n; fixed = f.params + root.l } in
-      (variable (h.fixed + i), own-fixed f h (variables_from 0 f.params) root.ls root.r
-          (length root.new) (variables-length 0 f.params) root.hls i l)
+      let h : Home = record { function = root.n; fixed = f.params + root.l } in (
+        variable (h.fixed + i),
+        own-fixed f h (variables_from 0 f.params) root.ls root.r
+            (length root.new) (variables-length 0 f.params) root.hls i l,
+      )
 
   -- the first locals are bound
   abbrev pub LocalsBound : Type 0

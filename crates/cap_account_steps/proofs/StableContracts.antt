@@ -1,5 +1,5 @@
 -- Contracts and invariants stay true of a part, whatever others do.
-use Rattle.std.proofs.Common.{◌≡◌, ℕ, zero, suc, ◌+◌, ◌<◌, ◌≤◌, ℤ, List, [], ◌∷◌, ◌++◌, length, replicate, arith, refl, sym, ap, ◌∙◌, subst, Option, Some, None, inl, inr}
+use Rattle.std.proofs.Common.{◌≡◌, ℕ, zero, suc, ◌+◌, ◌<◌, ℤ, List, [], ◌∷◌, ◌++◌, length, replicate, arith, refl, sym, ◌∙◌, subst, Some, None}
 use Rattle.std.specs.Prelude.{slice_get}
 use Rattle.std.specs.List.{AllByRecursion}
 use Rattle.cap_lin.specs.Linear.{variable}
@@ -22,7 +22,7 @@ use Rattle.cap_account_states.proofs.Terms.{Over}
 use Rattle.cap_account_states.proofs.Meets.{Usable}
 use Rattle.cap_account_states.proofs.Checked.{Checked}
 use Rattle.cap_account_states.proofs.Scopes.{ensures-at, requires-ensures, result-ensures, param-requires, fixed-requires, own-result, variables-length, variables-at, rep-length, rep-in, unbound-none}
-use Rattle.cap_account_states.proofs.Roots.{function-fits, flat-bound, sorts_of, Root, root_names, variables-over, zeros-over}
+use Rattle.cap_account_states.proofs.Roots.{function-fits, flat-bound, sorts_of, Root, variables-over, zeros-over}
 use Rattle.cap_account_assertions.proofs.Asserted.{OwnsRequires, OwnsEnsures, OwnsInvariant}
 use Rattle.cap_account_assertions.proofs.Laws.{GivenLaw, Reached, RestsLaw}
 use Rattle.cap_account_assertions.proofs.Follows.{all-among}

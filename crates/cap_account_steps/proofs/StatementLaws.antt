@@ -1,0 +1,35 @@
+-- The laws of all statements, where the law of heap statements is one of them.
+use Rattle.cap_prog.specs.WellFormed.{IsWellFormed}
+use Rattle.cap_account_states.proofs.Checked.{Checked}
+use Rattle.cap_account_assertions.proofs.GiveLaw.{given-law}
+use Rattle.cap_account_assertions.proofs.Laws.{GivenLaw, TakenLaw, RestsLaw, Stable}
+use Rattle.cap_account_assertions.proofs.TakeConvert.{taken-always}
+use Rattle.cap_account_steps.proofs.Allocating.{alloc-law}
+use Rattle.cap_account_steps.proofs.Beginning.{body-law, turn-law}
+use Rattle.cap_account_steps.proofs.Bundles.{UnitRoots}
+use Rattle.cap_account_steps.proofs.CallLaws.{call-law, fork-law}
+use Rattle.cap_account_steps.proofs.Local.{set-law, check-law, branch-law}
+use Rattle.cap_account_steps.proofs.RestLaws.{rests}
+use Rattle.cap_account_steps.proofs.Returning.{return-law, loop-head-law}
+use Rattle.cap_account_steps.proofs.Statements.{HeapLaw, Statements}
+
+pub statements :
+    (p : Checked) → IsWellFormed p.program → UnitRoots p → Stable p.program → HeapLaw p →
+    Statements p
+statements p program roots stable heaps =
+    let give : GivenLaw p = given-law p in
+    let take : TakenLaw p = taken-always p program.regions in
+    let rest : RestsLaw p = rests p program in
+    record {
+      sets = set-law p;
+      branches = branch-law p;
+      checks = check-law p;
+      allocs = alloc-law p;
+      calls = call-law p program give take rest stable;
+      forks = fork-law p program give take rest stable;
+      returns = return-law p program take;
+      loop_heads = loop-head-law p program take;
+      bodies = body-law p program give stable roots;
+      turns = turn-law p program give stable roots;
+      heaps = heaps;
+    }
