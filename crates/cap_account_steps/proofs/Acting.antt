@@ -1,17 +1,14 @@
 -- A heap statement acts where up to two regions are open, and they are closed again.
-use Rattle.std.proofs.Common.{◌≡◌, ℕ, ◌+◌, ◌≤◌, ℤ, List, [], length, arith, sym, ap, ◌∙◌, subst, Option, Some}
+use Rattle.std.proofs.Common.{◌≡◌, ℕ, ◌+◌, ℤ, List, [], length, arith, sym, ap, ◌∙◌, subst, Some}
 use Rattle.std.specs.Prelude.{slice_get, is_some, map}
 use Rattle.std.specs.List.{AllByRecursion}
-use Rattle.cap_lin.specs.Linear.{Linear}
 use Rattle.cap_lin.specs.Values.{Valuation, value}
 use Rattle.cap_lin.specs.declared.row.Sort.{Sort}
 use Rattle.cap_lin.specs.declared.row.Sort.TheVariants.{Int}
-use Rattle.cap_farkas.specs.declared.cert.Cert.{Cert}
-use Rattle.cap_prog.specs.Program.{Label, PlainAct, Block, first, PlainFunction}
+use Rattle.cap_prog.specs.Program.{PlainFunction}
 use Rattle.cap_goal_spec.specs.States.{PlainFact, PlainState, Home}
-use Rattle.cap_goal_spec.specs.Choices.{node, by_act, PlainTrees}
-use Rattle.cap_rules.specs.Closing.{address_of}
-use Rattle.cap_machine.specs.Machine.{Heap, Frame, value_in, with_rest}
+use Rattle.cap_goal_spec.specs.Choices.{PlainTrees}
+use Rattle.cap_machine.specs.Machine.{Frame, value_in, with_rest}
 use Rattle.cap_machine_accounts.specs.Assertions.{NameValue}
 use Rattle.cap_account_states.specs.Nodes.{Open}
 use Rattle.cap_account_resources.specs.Parts.{Table}
@@ -23,9 +20,10 @@ use Rattle.cap_account_states.proofs.Terms.{Over}
 use Rattle.cap_account_states.proofs.Checked.{Checked}
 use Rattle.cap_account_states.proofs.Meets.{Free, Usable}
 use Rattle.cap_account_steps.proofs.Points.{FrameOk}
-use Rattle.cap_account_steps.proofs.Stores.{Store, running}
+use Rattle.cap_account_steps.proofs.Stores.{Store}
 use Rattle.cap_account_steps.proofs.Frames.{Stands}
-use Rattle.cap_account_steps.proofs.Worlds.{World, regions_of, Opening, opened_table, Closing, SettlesBy, after_act, recelled, HeapStep}
+use Rattle.cap_account_steps.proofs.Worlds.{regions_of, opened_table, Closing, SettlesBy, after_act, recelled}
+use Rattle.cap_account_steps.proofs.HeapLaws.{ActsLaw}
 use Rattle.cap_account_steps.proofs.OpenTables.{opened-there, open-fits, open-listed}
 use Rattle.cap_account_steps.proofs.Changing.{holds-cell}
 use Rattle.cap_account_steps.proofs.AtCell.{then_close, at-cell}
@@ -54,16 +52,7 @@ FinishingLaw p =
 
 -- ---- the statement
 
-pub acts-law :
-    (p : Checked) → FinishingLaw p → (V : Table) (share : ℤ → Stock) (part : Stock) (heap : Heap)
-    (fn : PlainFunction) (fixed : List NameValue) (f : Frame) (l : Label) (a : PlainAct)
-    (b : Block) (x : Linear) → address_of a ≡ Some x → World p.program V share part heap →
-    ((z : ℤ) → FrameOk p.program fn fixed (after_act a f b z).1) → (v : Valuation)
-    (s : PlainState) (h : Home) → Opening p.program V share part v s → length s.opened ≤ 2 →
-    Store v s h fn fixed (with_rest f (first l a b)) → length fixed ≡ length fn.fixed → (j : ℕ)
-    (cs : List Cert) (ms : List (Option Cert)) (ks : PlainTrees) →
-    p.N (node (by_act j cs ms) ks) s (running (first l a b) h) →
-    HeapStep p V share part heap fixed f a b x
+pub acts-law : (p : Checked) → FinishingLaw p → ActsLaw p
 acts-law p finish V share part heap fn fixed f l a b x is-address world ok v s h o two st size j cs
     ms ks valid =
     let ns = regions_of v s.opened in
