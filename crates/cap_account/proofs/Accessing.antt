@@ -1,8 +1,6 @@
 -- Heap statements, where no region is open.
-use Rattle.std.proofs.Common.{◌≡◌, ℕ, ◌<◌, ◌≤◌, ℤ, List, [], ◌∷◌, length, map, arith, sym, ap, ◌∙◌, subst, Some, Bool}
+use Rattle.std.proofs.Common.{◌≡◌, ℕ, ◌≤◌, ℤ, List, [], ◌∷◌, length, map, arith, sym, ap, ◌∙◌, subst, Some, Bool}
 use Rattle.std.specs.Prelude.{slice_get, nat_lt, is_some, flat_map}
-use Rattle.std.specs.FinMap.{get}
-use Rattle.std.proofs.lemmas.Bool.Decides.{nat_tests}
 use Rattle.cap_lin.specs.Linear.{Linear}
 use Rattle.cap_lin.specs.Values.{Valuation, value}
 use Rattle.cap_lin.specs.declared.row.Sort.TheVariants.{Int}
@@ -13,19 +11,19 @@ use Rattle.cap_goal_spec.specs.Choices.{node, by_absurd, by_clash, by_enter, by_
 use Rattle.cap_rules.specs.Attempts.{Attempt, ◌>>=◌, unit}
 use Rattle.cap_rules.specs.Making.{prove_equal}
 use Rattle.cap_rules.specs.Closing.{address_of, Rival, rivals, rivals_from, with_marks, acted, closing}
-use Rattle.cap_rules.specs.Rules.{at_act, at_clash, at_enter}
+use Rattle.cap_rules.specs.Rules.{at_act, at_enter}
 use Rattle.cap_machine.specs.Machine.{Heap, Frame}
 use Rattle.cap_machine_accounts.specs.Assertions.{NameValue}
 use Rattle.cap_account_states.specs.Nodes.{Comes, Children}
-use Rattle.cap_account_resources.specs.Parts.{one_cell, cells_of, Hold}
+use Rattle.cap_account_resources.specs.Parts.{cells_of, Hold}
 use Rattle.cap_account_resources.proofs.Lists.{some-same, none-some, all-at}
 use Rattle.cap_account_states.proofs.Attempts.{comes-bind, comes-more, after-found, after-need, after-here, after-proved}
-use Rattle.cap_account_states.proofs.Meets.{Usable, CellOver, Meets, need, solves}
+use Rattle.cap_account_states.proofs.Meets.{Usable, CellOver, Meets, solves}
 use Rattle.cap_account_states.proofs.Checked.{Checked}
 use Rattle.cap_account_steps.proofs.Stores.{running, here, here-over}
 use Rattle.cap_account.proofs.Standing.{Node}
-use Rattle.cap_account_resources.proofs.Heaps.{one-itself, count-at-most, there-in}
-use Rattle.cap_account_steps.proofs.Cells.{Cell, cell_here, need-one, need-two, equal-here}
+use Rattle.cap_account_steps.proofs.Clashing.{never-clashes}
+use Rattle.cap_account_steps.proofs.Cells.{Cell, equal-here}
 
 -- ---- cells of a list
 
@@ -95,44 +93,6 @@ module _ (p : Checked) (part : Hold) (fn : PlainFunction) (fixed : List NameValu
             z;
       }
 
-  -- two cells at one address are not both in a heap
-  clash-case :
-      (heap : Heap) (s : PlainState) (v : Valuation) (i j : ℕ) (a : PlainAct) (ks : PlainTrees) →
-      ((y z : ℤ) → need v s.cells y z ≤ cells_of heap y z) → Meets [] v s →
-      Comes (at_clash s i j a) (Children p.N ks) → ⊥
-  clash-case heap s v i j a ks le m hd =
-      let N = Children p.N ks in
-      let o = after-found (address_of a) _ N hd in
-      let t = after-need (nat_lt i j) _ N o.2 in
-      let q = after-found (slice_get s.cells i) _ N t.1 in
-      let r = after-found (slice_get s.cells j) _ N q.2 in
-      let c = q.0 in
-      let d = r.0 in
-      let w = after-proved s.rows c.0 Equal d.0 Int (λ _. unit []) N r.2 in
-      let test = t.0 in
-      let l : i < j = grind (arith, nat_tests) in
-      let co = all-at (CellOver (Usable [] s.sorts)) s.cells i c m.cells_over q.1 in
-      let do' = all-at (CellOver (Usable [] s.sorts)) s.cells j d m.cells_over r.1 in
-      let eq = equal-here v s c.0 d.0 m w.0 co.0 do'.0 in
-      let x = value v.whole d.0 in
-      let y = value v.whole d.1 in
-      let h1 = there-in heap (value v.whole c.0) (value v.whole c.1)
-      (λ y z. let u = need-one v s.cells i c y z q.1 in let k = le y z in omega
-      (arith, u, k)) in
-      let h2 = there-in heap x y
-      (λ y z. let u = need-one v s.cells j d y z r.1 in let k = le y z in omega
-      (arith, u, k)) in
-      let same : value v.whole c.1 ≡ y =
-      some-same (value v.whole c.1) y (sym h1 ∙ (ap (get heap) eq ∙ h2)) in
-      let two = need-two v s.cells i j c d x y l q.1 r.1 in
-      let k = le x y in
-      let one1 = one-itself x y in
-      let one2 : cell_here v c x y ≡ 1 =
-      ap (λ a. one_cell a (value v.whole c.1) x y) eq
-      ∙ (ap (λ z. one_cell x z x y) same ∙ one1) in
-      let most = count-at-most (get heap x) y in
-      omega (arith, two, k, one1, one2, most)
-
   enter-case :
       (s : PlainState) (i : ℕ) (l : Label) (a : PlainAct) (ts : List PlainTask) (ks : PlainTrees) →
       s.facts ≡ [] → Comes (at_enter p.program s i l a ts) (Children p.N ks) → ⊥
@@ -151,7 +111,7 @@ module _ (p : Checked) (part : Hold) (fn : PlainFunction) (fixed : List NameValu
   access heap le a x ea l b f (node (by_absurd u) ks) n =
       absurd ((p.step n.valid).0.0 n.v (solves [] n.v n.state n.meets))
   access heap le a x ea l b f (node (by_clash i j cs) ks) n =
-      absurd (clash-case heap n.state n.v i j a ks
+      absurd (never-clashes p heap n.v n.state i j a ks
       (λ y z. let i = n.have y z in let j = le y z in omega (arith, i, j)) n.meets (p.step n.valid))
   access heap le a x ea l b f (node (by_enter i cs) ks) n =
       absurd (enter-case n.state i l a (running (first l a b) n.home) ks n.no_facts

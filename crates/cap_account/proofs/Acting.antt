@@ -32,7 +32,8 @@ use Rattle.cap_account_steps.proofs.Stores.{Store, running, here, here-value, he
 use Rattle.cap_account.proofs.Standing.{Covers, Node, Sits, Stands}
 use Rattle.cap_account_steps.proofs.Points.{FrameOk}
 use Rattle.cap_account_resources.proofs.Heaps.{there-in, fresh_cells}
-use Rattle.cap_account_steps.proofs.Cells.{all-set, need-one, need-set, store-local, new_cells, comes-new-cells, number-is, address-is, need-both, new-cells-need, new-cells-all}
+use Rattle.cap_account_steps.proofs.Changing.{meets-local, meets-content}
+use Rattle.cap_account_steps.proofs.Cells.{need-one, need-set, store-local, new_cells, comes-new-cells, number-is, address-is, need-both, new-cells-need, new-cells-all}
 use Rattle.cap_account.proofs.Accessing.{Access, access}
 
 abbrev Cell : Type 0
@@ -67,33 +68,6 @@ rest-stands p part T fn fx f ok ks t v h n gs hd o none m have st = record {
           store = st;
         };
       };
-}
-
-meets-local :
-    (v : Valuation) (s : PlainState) (y : ℕ) (t : Linear) → Meets [] v s →
-    Over (Usable [] s.sorts Int) t → Meets [] v (with_local s y t)
-meets-local v s y t m o = record {
-  sorted = m.sorted;
-  rows = m.rows;
-  rows_over = m.rows_over;
-  cells_over = m.cells_over;
-  positive = m.positive;
-  store_over = all-set (Over (Usable [] s.sorts Int)) s.store y t m.store_over o;
-}
-
-meets-content :
-    (v : Valuation) (s : PlainState) (j : ℕ) (c : Cell) (u : Linear) → Meets [] v s →
-    slice_get s.cells j ≡ Some c → Over (Usable [] s.sorts Int) u →
-    Meets [] v (with_content s j c u)
-meets-content v s j c u m e o = record {
-  sorted = m.sorted;
-  rows = m.rows;
-  rows_over = m.rows_over;
-  cells_over = all-set (CellOver (Usable [] s.sorts)) s.cells j (c.0, u) m.cells_over
-      ((all-at (CellOver (Usable [] s.sorts)) s.cells j c m.cells_over e).0, o);
-  positive = all-set (λ d. pos 0 <ℤ value v.whole d.0) s.cells j (c.0, u) m.positive
-      (all-at (λ d. pos 0 <ℤ value v.whole d.0) s.cells j c m.positive e);
-  store_over = m.store_over;
 }
 
 -- what is held, with another value of one cell
@@ -176,7 +150,7 @@ module _ (p : Checked) (heap : Heap) (part : Hold)
         goes_on = rest-stands p part T fn fx (with_value (with_rest f b) y (value n.v.whole c.1))
             (ok (value n.v.whole c.1)) ac.kids
             (with_local s y c.1) n.v n.home l.number [] ac.goals.1
-            n.opened n.no_facts (meets-local n.v s y c.1 n.meets co.1) n.have
+            n.opened n.no_facts (meets-local [] n.v s y c.1 n.meets co.1) n.have
             (store-local n.v s n.home fn fx f y c.1 (value n.v.whole c.1) b refl
             (store-of f (first l (read y x) b) k.tree n));
       }
@@ -227,7 +201,7 @@ module _ (p : Checked) (heap : Heap) (part : Hold)
             (with_rest f b) ok ac.kids
             (with_content s ac.j c (here s u)) n.v n.home l.number [] hd.1
             n.opened n.no_facts
-            (meets-content n.v s ac.j c (here s u) n.meets ac.is (here-over [] n.v s u n.meets))
+            (meets-content [] n.v s ac.j c (here s u) n.meets ac.is (here-over [] n.v s u n.meets))
             (swapped-covers f x r k.tree n ac.j c (here s u) (value_in f.store u) ac.is g
             (here-value n.v s f.store u st.store))
             (record {
@@ -298,11 +272,11 @@ module _ (p : Checked) (heap : Heap) (part : Hold)
           succeeds = λ q.
               let m1 = meets-row [] v s row1 m ((row_of-means v c.1 Equal e Int).1 (q ∙ sym ev))
               (row-over (Usable [] s.sorts) c.1 Equal e Int co.1 (here-over [] v s old m)) in
-              let m2 = meets-content v s1 ac.j c (here s new) m1 ac.is (here-over [] v s new m) in
+              let m2 = meets-content [] v s1 ac.j c (here s new) m1 ac.is (here-over [] v s new m) in
               rest-stands p
               (swapped part (value_in f.store x) (value v.whole c.1) (value_in f.store new)) T fn fx
               (with_value (with_rest f b) y (pos 1)) (ok (pos 1)) ac.kids w1 v n.home l.number _ h3
-              n.opened n.no_facts (meets-local v t1 y one_value m2 tt)
+              n.opened n.no_facts (meets-local [] v t1 y one_value m2 tt)
               (swapped-covers f x r k.tree n ac.j c (here s new) (value_in f.store new) ac.is g
               (here-value v s f.store new st.store))
               (store-local v t1 n.home fn fx f y one_value (pos 1) b (number-is v.whole (pos 1))
@@ -319,7 +293,7 @@ module _ (p : Checked) (heap : Heap) (part : Hold)
               rest-stands p part T fn fx (with_value (with_rest f b) y (pos 0))
               (ok (pos 0)) two.right
               w2 v n.home l.number [] two.second n.opened n.no_facts
-              (meets-local v s2 y zero_value m1 tt) n.have
+              (meets-local [] v s2 y zero_value m1 tt) n.have
               (store-local v s2 n.home fn fx f y zero_value (pos 0) b (number-is v.whole (pos 0))
               (record {
                 home = st.home;
@@ -407,7 +381,7 @@ module _ (p : Checked) (part : Hold) (fn : PlainFunction) (fx : List NameValue)
               valid = q.1;
               opened = k.opened;
               no_facts = k.no_facts;
-              meets = meets-local w s3 x u m3 uo;
+              meets = meets-local [] w s3 x u m3 uo;
               have = λ a z.
                   (let i = need-both w s.cells (new_cells u 0 n) a z in
                   let j = new-cells-need w u 0 n a z in

@@ -1,35 +1,33 @@
 -- A heap statement acts where up to two regions are open, and they are closed again.
-use Rattle.std.proofs.Common.{◌≡◌, ℕ, ◌+◌, ◌≤◌, ℤ, List, [], length, arith, refl, sym, ap, ◌∙◌, subst, Option, Some}
+use Rattle.std.proofs.Common.{◌≡◌, ℕ, ◌+◌, ℤ, List, [], length, arith, sym, ap, ◌∙◌, subst, Some}
 use Rattle.std.specs.Prelude.{slice_get, is_some, map}
 use Rattle.std.specs.List.{AllByRecursion}
-use Rattle.cap_lin.specs.Linear.{Linear}
 use Rattle.cap_lin.specs.Values.{Valuation, value}
 use Rattle.cap_lin.specs.declared.row.Sort.{Sort}
 use Rattle.cap_lin.specs.declared.row.Sort.TheVariants.{Int}
-use Rattle.cap_farkas.specs.declared.cert.Cert.{Cert}
-use Rattle.cap_prog.specs.Program.{Label, PlainAct, Block, first, PlainFunction}
+use Rattle.cap_prog.specs.Program.{PlainFunction}
 use Rattle.cap_goal_spec.specs.States.{PlainFact, PlainState, Home}
-use Rattle.cap_goal_spec.specs.Choices.{node, by_act, PlainTrees}
-use Rattle.cap_rules.specs.Closing.{address_of}
-use Rattle.cap_machine.specs.Machine.{Heap, Frame, value_in, with_rest}
+use Rattle.cap_goal_spec.specs.Choices.{PlainTrees}
+use Rattle.cap_machine.specs.Machine.{Frame, value_in, with_rest}
 use Rattle.cap_machine_accounts.specs.Assertions.{NameValue}
 use Rattle.cap_account_states.specs.Nodes.{Open}
-use Rattle.cap_account_resources.specs.Parts.{one_cell, cells_of, Table}
+use Rattle.cap_account_resources.specs.Parts.{Table}
 use Rattle.cap_account_resources.proofs.Lists.{map-length}
 use Rattle.cap_account_resources.proofs.Heaps.{there-in}
-use Rattle.cap_account_resources.proofs.Stocks.{Stock, no_stock, both, all_of, none-right, inside-first}
+use Rattle.cap_account_resources.proofs.Stocks.{Stock, no_stock, both, all_of, inside-first}
 use Rattle.cap_account_resources.proofs.Tables.{TableFits, NoneOpen, FitsRoom, AreListed, fits-less}
 use Rattle.cap_account_states.proofs.Terms.{Over}
 use Rattle.cap_account_states.proofs.Checked.{Checked}
 use Rattle.cap_account_states.proofs.Meets.{Free, Usable}
 use Rattle.cap_account_steps.proofs.Points.{FrameOk}
-use Rattle.cap_account_steps.proofs.Stores.{Store, running}
+use Rattle.cap_account_steps.proofs.Stores.{Store}
 use Rattle.cap_account_steps.proofs.Frames.{Stands}
-use Rattle.cap_account_steps.proofs.Worlds.{World, regions_of, Opening, opened_table, Closing, SettlesBy, after_act, recelled, HeapStep}
+use Rattle.cap_account_steps.proofs.Worlds.{regions_of, opened_table, Closing, SettlesBy, after_act, recelled}
+use Rattle.cap_account_steps.proofs.HeapLaws.{ActsLaw}
 use Rattle.cap_account_steps.proofs.OpenTables.{opened-there, open-fits, open-listed}
-use Rattle.cap_account_steps.proofs.Changing.{Ready, holds-cell}
-use Rattle.cap_account_steps.proofs.AtCell.{then_close, AtCell, at-cell}
-use Rattle.cap_account_steps.proofs.Acts.{Done, statement-done}
+use Rattle.cap_account_steps.proofs.Changing.{holds-cell}
+use Rattle.cap_account_steps.proofs.AtCell.{then_close, at-cell}
+use Rattle.cap_account_steps.proofs.Acts.{statement-done}
 
 -- ---- after the statement
 
@@ -54,24 +52,15 @@ FinishingLaw p =
 
 -- ---- the statement
 
-pub acts-law :
-    (p : Checked) → FinishingLaw p → (V : Table) (share : ℤ → Stock) (part : Stock) (heap : Heap)
-    (fn : PlainFunction) (fixed : List NameValue) (f : Frame) (l : Label) (a : PlainAct)
-    (b : Block) (x : Linear) → address_of a ≡ Some x → World p.program V share part heap →
-    ((z : ℤ) → FrameOk p.program fn fixed (after_act a f b z).1) → (v : Valuation)
-    (s : PlainState) (h : Home) → Opening p.program V share part v s → length s.opened ≤ 2 →
-    Store v s h fn fixed (with_rest f (first l a b)) → length fixed ≡ length fn.fixed → (j : ℕ)
-    (cs : List Cert) (ms : List (Option Cert)) (ks : PlainTrees) →
-    p.N (node (by_act j cs ms) ks) s (running (first l a b) h) →
-    HeapStep p V share part heap fixed f a b x
+pub acts-law : (p : Checked) → FinishingLaw p → ActsLaw p
 acts-law p finish V share part heap fn fixed f l a b x is-address world ok v s h o two st size j cs
     ms ks valid =
     let ns = regions_of v s.opened in
     let held = both p.program part (all_of p.program ns share) in
     let there = opened-there v V s o.opened in
     let at = value_in f.store x in
-    let k = at-cell p V share part fn fixed f l a b h v s x is-address o (world.room ns o.differ there)
-    st size j (map is_some ms) ks (p.step valid) in
+    let k = at-cell p V share part fn fixed f l a b h v s x is-address o
+    (world.room ns o.differ there) st size j (map is_some ms) ks (p.step valid) in
     let z = value k.v.whole k.c.1 in
     let had = holds-cell p.program V (opened_table ns V) part k.ks k.v k.s held h fn fixed
     (with_rest f b) k.ready k.j k.c k.is at k.address in
@@ -82,7 +71,8 @@ acts-law p finish V share part heap fn fixed f l a b x is-address world ok v s h
     (inside-first p.program part no_stock) (world.room [] tt tt) in
     let finished = finish V part (recelled held at z r.0) ns k.ks k.v done.t l.number h fn fixed r.1
     done.trees world.bound (ap (regions_of k.v) done.opened ∙ k.regions) (ok z)
-    (subst (λ m. Open p.N done.trees done.t (then_close l.number m r.1.rest h)) (sym count) done.goes)
+    (subst (λ m. Open p.N done.trees done.t (then_close l.number m r.1.rest h)) (sym count)
+    done.goes)
     (open-fits p.program ns V world.fits) (open-listed p.program ns V world.bound world.listed)
     world.full room done.ready.closing done.ready.over k.names done.ready.store in
     record {

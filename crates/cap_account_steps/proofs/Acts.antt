@@ -1,45 +1,37 @@
--- A heap statement acts: it reads or writes the cell at its address, or swaps its content if that is
--- the expected one. Then the regions that are open are closed.
-use Rattle.std.proofs.Common.{◌≡◌, ℕ, ◌+◌, ◌≤◌, ℤ, pos, List, [], ◌∷◌, ◌++◌, length, arith, refl, sym, ap, ◌∙◌, Option, Some, Bool, true, false}
-use Rattle.std.specs.Prelude.{slice_get, flat_map, is_some, map}
-use Rattle.std.specs.List.{AllByRecursion}
+-- A heap statement acts: it reads or writes the cell at its address, or swaps its content if that
+-- is the expected one.
+use Rattle.std.proofs.Common.{◌≡◌, ℕ, ℤ, pos, List, [], ◌∷◌, length, refl, sym, ◌∙◌, Option, Some, Bool, true, false}
+use Rattle.std.specs.Prelude.{flat_map}
 use Rattle.cap_lin.specs.Linear.{Linear, same_number}
 use Rattle.cap_lin.specs.Values.{Valuation, value}
 use Rattle.cap_lin.specs.Rows.{row_of}
 use Rattle.cap_lin.specs.declared.row.Row.{Row}
-use Rattle.cap_lin.specs.declared.row.Sort.{Sort}
 use Rattle.cap_lin.specs.declared.row.Sort.TheVariants.{Int}
 use Rattle.cap_lin.specs.declared.row.Op.TheVariants.{Eq as Equal, Ne as Unequal}
 use Rattle.cap_lin.proofs.Rows.{row_of-means}
-use Rattle.cap_farkas.specs.declared.cert.Cert.{Cert}
-use Rattle.cap_prog.specs.Program.{Label, PlainAct, set, read, write, cas, alloc, call, fork, branch, loop, check, give_back, Block, first, PlainFunction}
-use Rattle.cap_goal_spec.specs.States.{PlainState, Home, PlainTask, goals_of}
+use Rattle.cap_prog.specs.Program.{PlainAct, set, read, write, cas, alloc, call, fork, branch, loop, check, give_back, Block, first, PlainFunction}
+use Rattle.cap_goal_spec.specs.States.{PlainState, Home, goals_of}
 use Rattle.cap_goal_spec.specs.Environments.{zero_value, one_value}
-use Rattle.cap_goal_spec.specs.Choices.{node, by_act, PlainTrees}
+use Rattle.cap_goal_spec.specs.Choices.{PlainTrees}
 use Rattle.cap_rules.specs.Attempts.{unit, ◌>>=◌}
 use Rattle.cap_rules.specs.Making.{value_here, with_comparison, with_local}
 use Rattle.cap_rules.specs.Closing.{address_of, with_content}
-use Rattle.cap_machine.specs.Machine.{Heap, Frame, value_in, with_rest}
+use Rattle.cap_machine.specs.Machine.{Frame, value_in, with_rest}
 use Rattle.cap_machine_accounts.specs.Assertions.{NameValue}
 use Rattle.cap_account_states.specs.Nodes.{Children, Open}
 use Rattle.cap_account_resources.specs.Parts.{Table}
-use Rattle.cap_account_resources.proofs.Lists.{none-some, all-at, map-length}
+use Rattle.cap_account_resources.proofs.Lists.{none-some, all-at}
 use Rattle.cap_account_resources.proofs.Order.{same-int, other-int}
-use Rattle.cap_account_resources.proofs.Heaps.{there-in}
-use Rattle.cap_account_resources.proofs.Stocks.{Stock, both, all_of, none-right}
-use Rattle.cap_account_resources.proofs.Tables.{TableFits, NoneOpen, FitsRoom, AreListed}
+use Rattle.cap_account_resources.proofs.Stocks.{Stock}
 use Rattle.cap_account_states.proofs.Attempts.{row_added, after-here, after-comparison}
 use Rattle.cap_account_states.proofs.Terms.{Over, row-over}
 use Rattle.cap_account_states.proofs.Checked.{Checked, Split, children-split}
-use Rattle.cap_account_states.proofs.Meets.{Free, Usable, CellOver}
-use Rattle.cap_account_steps.proofs.Points.{FrameOk}
-use Rattle.cap_account_steps.proofs.Stores.{Store, running, here, here-value}
-use Rattle.cap_account_steps.proofs.Cells.{Cell, number-is}
-use Rattle.cap_account_steps.proofs.Frames.{Stands}
-use Rattle.cap_account_steps.proofs.Worlds.{World, regions_of, Opening, opened_table, Closing, SettlesBy, after_cas, after_act, recelled, HeapStep}
-use Rattle.cap_account_steps.proofs.OpenTables.{opened-there, open-fits, open-listed}
-use Rattle.cap_account_steps.proofs.Changing.{Ready, here-free, ready-row, ready-local, ready-same, ready-content, holds-cell}
-use Rattle.cap_account_steps.proofs.AtCell.{then_close, AtCell, at-cell}
+use Rattle.cap_account_states.proofs.Meets.{Usable, CellOver}
+use Rattle.cap_account_steps.proofs.Stores.{here, here-value}
+use Rattle.cap_account_steps.proofs.Cells.{number-is}
+use Rattle.cap_account_steps.proofs.Worlds.{opened_table, after_cas, after_act, recelled}
+use Rattle.cap_account_steps.proofs.Changing.{Ready, here-free, ready-row, ready-local, ready-same, ready-content}
+use Rattle.cap_account_steps.proofs.AtCell.{then_close, AtCell}
 
 module _ (p : Checked) (V : Table) (part held : Stock) (ns : List ℤ) (fn : PlainFunction)
     (fixed : List NameValue) (f : Frame) (h : Home) (n : ℕ) (b : Block) (x : Linear) where
@@ -96,7 +88,9 @@ module _ (p : Checked) (V : Table) (part held : Stock) (ns : List ℤ) (fn : Pla
     term-value : (t : Linear) → value v.whole (here s t) ≡ value_in f.store t
     term-value t = here-value v s f.store t k.ready.store.store
 
-    same-cell : Ready p.program V W part ks v s (recelled held (value_in f.store x) content (Some content)) h fn fixed g
+    same-cell :
+        Ready p.program V W part ks v s
+        (recelled held (value_in f.store x) content (Some content)) h fn fixed g
     same-cell =
         ready-same p.program V W part ks v s held h fn fixed g k.ready k.j k.c k.is
         (value_in f.store x) k.address
@@ -134,7 +128,8 @@ module _ (p : Checked) (V : Table) (part held : Stock) (ns : List ℤ) (fn : Pla
       let a = write u t in
       let new = here k.s t in
       let after = with_content k.s k.j k.c new in
-      let all = after-here k.s t (λ w. unit (with_content k.s k.j k.c w ∷ [])) (AllTrees a k) k.goals in
+      let all = after-here k.s t (λ w. unit (with_content k.s k.j k.c w ∷ [])) (AllTrees a k) k.goals
+      in
       let trees = first-trees a k after [] all.1 in
       record {
         t = after;

@@ -27,8 +27,8 @@ use Rattle.cap_account_states.proofs.Checked.{Checked}
 use Rattle.cap_account_states.proofs.Meets.{Free, Usable, usable-old, Old, CellOver}
 use Rattle.cap_account_steps.proofs.Stores.{Store, running, here, here-value, here-over, store-same}
 use Rattle.cap_account_steps.proofs.Cells.{Cell, equal-here}
-use Rattle.cap_account_steps.proofs.Worlds.{Differ, regions_of, Opening, opened_table, Closing, closes}
-use Rattle.cap_account_steps.proofs.OpenTables.{opened-there, open-room}
+use Rattle.cap_account_steps.proofs.Worlds.{Differ, regions_of, Opening, opened_table, closes}
+use Rattle.cap_account_steps.proofs.OpenTables.{open-room}
 use Rattle.cap_account_steps.proofs.Rivals.{acting}
 use Rattle.cap_account_steps.proofs.Changing.{Ready}
 
@@ -125,7 +125,7 @@ module _ (p : Checked) (V : Table) (share : ℤ → Stock) (part : Stock) (fn : 
             facts = k.facts;
             old = r.old;
             opened = k.opened;
-            differ = subst Differ (sym k.regions) o.differ;
+            differ = differ-again (regions_of w t.opened) k.regions;
             backed = k.backed held o.backed;
             room = open-room p.program ns V held room;
             earlier = k.earlier part o.earlier;
@@ -150,13 +150,21 @@ module _ (p : Checked) (V : Table) (share : ℤ → Stock) (part : Stock) (fn : 
             ∙ here-value v s f.store x st.store;
         trees = trees;
         goals = comes-more (acted t j c a) (λ states. Comes (ends states) N) (After t)
-            (λ states q. subst (λ ts. Children p.N trees (flat_map (λ u. goals_of u ts) states)) (tasks t be.goes_on.opened)
-            q.1) (comes-bind (acted t j c a) ends N r.comes);
+            (λ states q. now t be.goes_on.opened states q.1)
+            (comes-bind (acted t j c a) ends N r.comes);
       }
     where
-      tasks :
-          (t : PlainState) → t.opened ≡ s.opened →
-          closing s.opened l.number (running b h) ≡ then_close l.number (length t.opened) b h
-      tasks t e =
-          closing-closes s.opened l.number (running b h)
-          ∙ ap (λ os. then_close l.number (length os) b h) (sym e)
+      differ-again : (ms : List ℤ) → ms ≡ regions_of v s.opened → Differ ms
+      differ-again ms e = subst Differ (sym e) o.differ
+
+      now :
+          (t : PlainState) → t.opened ≡ s.opened → (states : List PlainState) →
+          Children p.N trees
+          (flat_map (λ u. goals_of u (closing s.opened l.number (running b h))) states) →
+          Children p.N trees
+          (flat_map (λ u. goals_of u (then_close l.number (length t.opened) b h)) states)
+      now t e states =
+          subst
+          (λ ts. Children p.N trees (flat_map (λ u. goals_of u ts) states))
+          (closing-closes s.opened l.number (running b h)
+          ∙ ap (λ os. then_close l.number (length os) b h) (sym e))

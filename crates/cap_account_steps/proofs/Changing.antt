@@ -1,7 +1,7 @@
--- While regions are open a statement acts on one cell: rows come, the cell gets another content and a
--- local another value.
-use Rattle.std.proofs.Common.{◌≡◌, ℕ, ◌+◌, ◌-◌, ◌≤◌, ℤ, pos, ◌<ℤ◌, List, [], ◌∷◌, Option, Some, None, arith, refl, ap, ◌∙◌}
-use Rattle.std.specs.Prelude.{slice_get, slice_set}
+-- While regions are open a statement acts on one cell: rows come, the cell gets another content and
+-- a local another value.
+use Rattle.std.proofs.Common.{◌≡◌, ℕ, ◌-◌, ◌≤◌, ℤ, pos, ◌<ℤ◌, List, [], ◌∷◌, Some, arith, ap, ◌∙◌}
+use Rattle.std.specs.Prelude.{slice_get}
 use Rattle.std.specs.List.{AllByRecursion}
 use Rattle.cap_lin.specs.Linear.{Linear}
 use Rattle.cap_lin.specs.Values.{Valuation, value}
@@ -16,7 +16,7 @@ use Rattle.cap_rules.specs.Closing.{with_content}
 use Rattle.cap_machine.specs.Machine.{Frame, with_rest, with_value}
 use Rattle.cap_machine_accounts.specs.Assertions.{NameValue}
 use Rattle.cap_account_resources.specs.Parts.{one_cell, Table}
-use Rattle.cap_account_resources.proofs.Lists.{all-at, all-more}
+use Rattle.cap_account_resources.proofs.Lists.{all-at}
 use Rattle.cap_account_resources.proofs.Stocks.{Stock}
 use Rattle.cap_account_resources.proofs.Tables.{FitsRoom}
 use Rattle.cap_account_states.proofs.Terms.{Over, RowOver, vars-more, over-over}
@@ -55,7 +55,8 @@ meets-local ks v s y t m o =
 
 pub meets-content :
     (ks : List ℕ) (v : Valuation) (s : PlainState) (j : ℕ) (c : Cell) (u : Linear) → Meets ks v s →
-    slice_get s.cells j ≡ Some c → Over (Usable ks s.sorts Int) u → Meets ks v (with_content s j c u)
+    slice_get s.cells j ≡ Some c → Over (Usable ks s.sorts Int) u →
+    Meets ks v (with_content s j c u)
 meets-content ks v s j c u m is o =
     let R = CellOver (Usable ks s.sorts) in
     let Positive = λ (d : Cell). pos 0 <ℤ value v.whole d.0 in
@@ -195,8 +196,8 @@ module _ (p : PlainProgram) (V W : Table) (part : Stock) (ks : List ℕ) (v : Va
       -- it has another content
       pub ready-content :
           (u : Linear) (w : ℤ) → Over (Usable ks s.sorts Int) u → value v.whole u ≡ w →
-          Ready p V W part ks v (with_content s j c u) (recelled held a (value v.whole c.1) (Some w))
-          h fn fixed f
+          Ready p V W part ks v (with_content s j c u)
+          (recelled held a (value v.whole c.1) (Some w)) h fn fixed f
       ready-content u w over e =
           let t = with_content s j c u in
           record {

@@ -6,25 +6,23 @@ use Rattle.std.proofs.lemmas.Bool.Decides.{nat_tests}
 use Rattle.cap_lin.specs.Values.{Valuation, value}
 use Rattle.cap_lin.specs.declared.row.Sort.TheVariants.{Int}
 use Rattle.cap_lin.specs.declared.row.Op.TheVariants.{Eq as Equal}
-use Rattle.cap_farkas.specs.declared.cert.Cert.{Cert}
-use Rattle.cap_prog.specs.Program.{Label, PlainAct, Block, first}
-use Rattle.cap_goal_spec.specs.States.{PlainState, Home}
-use Rattle.cap_goal_spec.specs.Choices.{node, by_clash, PlainTrees}
+use Rattle.cap_prog.specs.Program.{PlainAct, first}
+use Rattle.cap_goal_spec.specs.States.{PlainState}
+use Rattle.cap_goal_spec.specs.Choices.{PlainTrees}
 use Rattle.cap_rules.specs.Attempts.{unit}
 use Rattle.cap_rules.specs.Closing.{address_of}
 use Rattle.cap_rules.specs.Rules.{at_clash}
 use Rattle.cap_machine.specs.Machine.{Heap}
 use Rattle.cap_account_states.specs.Nodes.{Comes, Children}
-use Rattle.cap_account_resources.specs.Parts.{one_cell, cells_of, Table}
-use Rattle.cap_account_resources.proofs.Lists.{some-same, all-at, all-more}
+use Rattle.cap_account_resources.specs.Parts.{one_cell, cells_of}
+use Rattle.cap_account_resources.proofs.Lists.{some-same, all-at}
 use Rattle.cap_account_resources.proofs.Heaps.{one-itself, count-at-most, there-in}
-use Rattle.cap_account_resources.proofs.Stocks.{Stock}
 use Rattle.cap_account_states.proofs.Attempts.{after-found, after-need, after-proved}
 use Rattle.cap_account_states.proofs.Checked.{Checked}
 use Rattle.cap_account_states.proofs.Meets.{Usable, CellOver, Meets, need}
-use Rattle.cap_account_steps.proofs.Stores.{running}
 use Rattle.cap_account_steps.proofs.Cells.{Cell, cell_here, need-one, need-two, equal-here}
-use Rattle.cap_account_steps.proofs.Worlds.{World, Exact, regions_of, Opening}
+use Rattle.cap_account_steps.proofs.Worlds.{regions_of}
+use Rattle.cap_account_steps.proofs.HeapLaws.{ClashLaw}
 use Rattle.cap_account_steps.proofs.OpenTables.{opened-there}
 
 -- a heap counts no address twice
@@ -67,11 +65,7 @@ module _ (p : Checked) where
       (equal-here v s c.0.0 d.0.0 m equal.0 (all-at R s.cells i c.0 m.cells_over c.1).0
       (all-at R s.cells j d.0 m.cells_over d.1).0)
 
-  pub clash-law :
-      (V : Table) (share : ℤ → Stock) (part : Stock) (heap : Heap) (l : Label) (a : PlainAct)
-      (b : Block) → World p.program V share part heap → (v : Valuation) (s : PlainState)
-      (h : Home) → Opening p.program V share part v s → (i j : ℕ) (cs : List Cert)
-      (ks : PlainTrees) → p.N (node (by_clash i j cs) ks) s (running (first l a b) h) → ⊥
+  pub clash-law : ClashLaw p
   clash-law V share part heap l a b world v s h o i j cs ks valid =
       let ns = regions_of v s.opened in
       never-clashes heap v s i j a ks
