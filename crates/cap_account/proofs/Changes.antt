@@ -33,9 +33,13 @@ module _ (p : PlainProgram) (T : Table) (rs : List Owner)
       (n : ℤ) (e : Known) → table_by rs n ≡ Some e →
       (r : Owner) × Among r rs × (r.number ≡ n) × (known_by r ≡ e) × (share_by rs n ≡ r.stock)
   told n e h = elim (look rs n) [
-    | found r m k q ↦
-        (r, m, k, some-same (known_by r) e (sym (ap (option_map known_by) q) ∙ h),
-        ap stock_or_none q)
+    | found r m k q ↦ (
+      r,
+      m,
+      k,
+      some-same (known_by r) e (sym (ap (option_map known_by) q) ∙ h),
+      ap stock_or_none q,
+    )
     | missing f q ↦ absurd (none-some (sym (ap (option_map known_by) q) ∙ h))
   ]
 

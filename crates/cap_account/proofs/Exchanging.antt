@@ -147,9 +147,11 @@ module _ (p : PlainProgram) (old_heap heap : Heap) (V U : Table) (before after :
               (old-guards n (tells b.0) (was n b.0 b.1))))
           | inr b ↦
               let all = full-room n (tells b.0) (is n b.0 b.1) ∙ ap Some (sym b.2) in
-              at-most p U n g h
-              (Some free, ap (λ o. join_marks p o (Some free)) (sym all)
-              ∙ free-right p (room p U n))
+              at-most p U n g h (
+                Some free,
+                ap (λ o. join_marks p o (Some free)) (sym all)
+                    ∙ free-right p (room p U n),
+              )
               (subst (λ o. IsPartOf p o (Some h)) mine
               (subst (IsPartOf p ((parts_stock p after).guards n)) all (x.room_after n)))
         ];

@@ -31,3 +31,5 @@ mod Succeeding
 mod Strides
 mod Ordinary
 mod Touching
+mod Handing
+mod Returning

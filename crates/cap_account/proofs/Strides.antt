@@ -186,8 +186,7 @@ module _ (p : Checked) (stable : Stable p.program) (x : Turn p) (y : Stride p x)
       }) event)
   goes-on g event stands waits frames keeps shut access =
       let P = p.program in
-      let is = cut-is p stable x y y.left left-all in
-      (
+      let is = cut-is p stable x y y.left left-all in (
         account p stable x y later_threads,
         no_part,
         follows p stable x y (mine.part ∷ []) (none-right P (part_stock mine.part) ∙ is) event
