@@ -8,3 +8,13 @@ mod Parts
 mod Drawn
 mod Valid
 mod Begins
+mod Chosen
+mod Renewed
+mod Changes
+mod Exchanging
+mod Successors
+mod Following
+mod Succeeding
+mod Strides
+mod Ordinary
+mod Touching
