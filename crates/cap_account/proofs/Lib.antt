@@ -1,16 +1,3 @@
-mod Bridge
-mod Standing
-mod Accessing
-mod Acting
-mod Waiting
-mod Global
-mod Accounting
-mod Entering
-mod Stability
-mod Running
-mod Leaving
-mod Calling
-mod Steps
 mod Soundness
 mod Unsafe
 mod Storing

@@ -11,7 +11,7 @@ use Rattle.cap_machine_accounts.specs.Parts.{Part, guard_at}
 use Rattle.cap_machine_accounts.specs.Assertions.{Met}
 use Rattle.cap_machine_accounts.specs.Accounts.{Held, table_of}
 use Rattle.cap_machine_accounts.specs.Following.{Joins, SomeHasCell}
-use Rattle.cap_machine_accounts.specs.Safety.{top_of, TopFrame, Safe}
+use Rattle.cap_machine_accounts.specs.Safety.{top_of, TopFrame}
 use Rattle.cap_account_resources.specs.Parts.{Table, cells_of}
 use Rattle.cap_account_resources.proofs.Heaps.{counted-is, count-one}
 use Rattle.cap_account_resources.proofs.Monoid.{atom as at, both as plus}
@@ -25,9 +25,6 @@ use Rattle.cap_account_steps.proofs.Frames.{Stands, HandsOver, Returns}
 use Rattle.cap_account_steps.proofs.Statements.{Statements}
 use Rattle.cap_account.proofs.Stocked.{part_stock, frames_stock, account_table, callee_of, AllWait, Turn, spot_of, Advances}
 use Rattle.cap_account.proofs.Totals.{parts_stock, sum-guards}
-use Rattle.cap_account.proofs.Tracks.{safe}
-use Rattle.cap_account.proofs.Valid.{accounts-are-valid}
-use Rattle.cap_account.proofs.Begins.{body-begins}
 use Rattle.cap_account.proofs.Changes.{roomy}
 use Rattle.cap_account.proofs.Successors.{others, scene, Stride, all, cut, cut-is, kept, news, account, left-inside, handed-fits, handed-within}
 use Rattle.cap_account.proofs.Following.{before, follows}
@@ -285,9 +282,3 @@ pub all-advance : (p : Checked) → Statements p → Stable p.program → Advanc
 all-advance p ls stable x base =
     advance p ls stable x base x.frame.rest
     (x.sound.stacks x.thread (x.frame ∷ x.below) (x.held ∷ x.waiting) x.has_frames x.has_parts).0
-
--- the laws of statements make all runs safe
-pub statements-safe :
-    (p : Checked) → Statements p → Stable p.program → Safe p.program
-statements-safe p ls stable =
-    safe p (all-advance p ls stable) (accounts-are-valid p) (body-begins p ls.bodies)

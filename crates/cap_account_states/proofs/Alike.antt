@@ -272,7 +272,7 @@ whole-alike P v w a x h i =
     (a.share x h ∙ ap (λ z. z *ℤ e) i ∙ swapped (v.whole x) d e
     ∙ ap (λ z. z *ℤ e *ℤ d) (sym (a.whole x h)))
 
-positive-alike :
+pub positive-alike :
     (R : Sort → ℕ → Type 0) (P : ℕ → Type 0) (v w : Valuation) → ((x : ℕ) → R Int x → P x) →
     Alike P v w → (cs : List (Linear × Linear)) → AllByRecursion (CellOver R) cs →
     AllByRecursion (λ c. pos 0 <ℤ value v.whole c.0) cs →

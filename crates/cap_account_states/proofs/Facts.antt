@@ -227,7 +227,7 @@ comes-fact s f P e h =
 -- ---- it holds, where the fact does
 
 -- two facts of one region say the same of it
-knowns-same :
+pub knowns-same :
     (v : Valuation) (T : Table) (f g : PlainFact) →
     value v.whole g.region ≡ value v.whole f.region → (h : FactHolds v T f) →
     (k : FactHolds v T g) → (g.kind ≡ f.kind)
@@ -240,7 +240,7 @@ knowns-same v T f g e h k =
 heads-same : (x y : ℤ) (xs ys : List ℤ) → x ∷ xs ≡ y ∷ ys → (x ≡ y) × (xs ≡ ys)
 heads-same x y xs ys e = (ap (λ zs. get_or zs 0 x) e, ap (drop 1) e)
 
-equal-hold :
+pub equal-hold :
     (v : Valuation) (as' bs : List Linear) → map (value v.whole) as' ≡ map (value v.whole) bs →
     AllByRecursion (Holds v) (equal_rows as' bs)
 equal-hold v [] [] e = tt
@@ -251,7 +251,7 @@ equal-hold v (a ∷ as') (b ∷ bs) e =
     (map (value v.whole) bs) e in
     ((row_of-means v a Equal b Int).1 q.0, equal-hold v as' bs q.1)
 
-equal-over :
+pub equal-over :
     (R : Sort → ℕ → Type 0) (as' bs : List Linear) → AllByRecursion (Over (R Int)) as' →
     AllByRecursion (Over (R Int)) bs → AllByRecursion (RowOver R) (equal_rows as' bs)
 equal-over R [] [] h k = tt
@@ -260,7 +260,7 @@ equal-over R (a ∷ as') [] h k = tt
 equal-over R (a ∷ as') (b ∷ bs) h k =
     (row-over R a Equal b Int h.0 k.0, equal-over R as' bs h.1 k.1)
 
-found-all :
+pub found-all :
     {X : Type 0} (P : X → Type 0) (test : X → Bool) (xs : List X) (x : X) → AllByRecursion P xs →
     find test xs ≡ Some x → P x × (test x ≡ true)
 found-all P test [] x h e = absurd (none-some e)
@@ -284,11 +284,11 @@ all-without P test (x ∷ xs) h = by (test x) (all-without P test xs h.1)
     by true k = h.1
     by false k = (h.0, k)
 
-both-true : (a b : Bool) → (a && b) ≡ true → (a ≡ true) × (b ≡ true)
+pub both-true : (a b : Bool) → (a && b) ≡ true → (a ≡ true) × (b ≡ true)
 both-true true b e = (refl, e)
 both-true false b e = absurd (cc)
 
-tight-state : (b : Bool) (q : Option ℤ) (z : ℤ) → b ≡ false → StateHolds b q z → q ≡ Some z
+pub tight-state : (b : Bool) (q : Option ℤ) (z : ℤ) → b ≡ false → StateHolds b q z → q ≡ Some z
 tight-state true q z e m = absurd (cc)
 tight-state false q z e m = m
 
@@ -353,7 +353,7 @@ no-other-type v T f (g ∷ fs) h k =
         absurd (cc)
     by false x b y e = e
 
-each-without :
+pub each-without :
     {X : Type 0} (R : X → X → Type 0) (test : X → Bool) (xs : List X) → EachTwo R xs →
     EachTwo R (without_first test xs)
 each-without R test [] h = tt
@@ -365,7 +365,7 @@ each-without R test (x ∷ xs) h = by (test x) (each-without R test xs h.1)
     by true k = h.1
     by false k = (all-without (R x) test xs h.0, k)
 
-each-last :
+pub each-last :
     {X : Type 0} (R : X → X → Type 0) (xs : List X) (y : X) → EachTwo R xs → ((x : X) → R x y) →
     EachTwo R (xs ++ y ∷ [])
 each-last R [] y h f = (tt, tt)

@@ -107,7 +107,7 @@ name-settled : (y : Option ℕ) (u : Linear) → read_name y ≡ settled u → �
 name-settled None u e = absurd (cc)
 name-settled (Some x) u e = absurd (cc)
 
-settled-slot :
+pub settled-slot :
     (ks : List ℕ) (sc : Scope) (s : PlainState) (env : PlainEnv) (x : Slot) (o : Sort)
     (t : Linear) → Placed ks sc s.sorts env → SlotFits sc o x →
     reading env x ≡ settled t → IsSettled ks sc s env x o t

@@ -90,7 +90,7 @@ pub record GuardTaken (p : PlainProgram) (ks : List ℕ) (sc : Scope) (v : Valua
   pub comes : Comes (goes (after_cut r.env j piece (cut later after left)) r) P
 
 -- pieces with other forms that fit the atom
-forms-fit :
+pub forms-fit :
     (p : PlainProgram) (q : Piece) (fs : List Form) → Fits (algebra_of p q.kind) q →
     AllByRecursion (Takes (atom_algebra (algebra_of p q.kind) q.atom)) fs →
     AllFit p (map (with_form q) fs)
