@@ -69,9 +69,6 @@ module _ (p : Checked) (V : Table) (part held : Stock) (ns : List ℤ) (fn : Pla
     abbrev content : ℤ
     content = value k.v.whole k.c.1
 
-    abbrev ToClose : PlainState → PlainTrees → Type 0
-    ToClose t trees = Open p.N trees t (then_close n (length k.s.opened) b h)
-
     abbrev AllTrees : List PlainState → Type 0
     AllTrees states =
         Children p.N k.trees
