@@ -6,9 +6,10 @@ use Rattle.cap_prog.specs.Scopes.{Scope}
 use Rattle.cap_goal_spec.specs.States.{PlainState}
 use Rattle.cap_rules.specs.Making.{env_at}
 use Rattle.cap_account_resources.proofs.Lists.{all-more, Among}
+use Rattle.cap_account_states.proofs.Terms.{agree-same}
 use Rattle.cap_account_states.proofs.Alike.{Alike, alike-same, alike-trans, alike-less}
 use Rattle.cap_account_states.proofs.Meets.{Old}
-use Rattle.cap_account_states.proofs.Naming.{Stays}
+use Rattle.cap_account_states.proofs.Naming.{Placed, Means, Stays, means-back}
 use Rattle.cap_account_states.proofs.Matching.{Outside}
 use Rattle.cap_account_states.proofs.Backed.{GoesOn, OtherEnvs}
 
@@ -95,3 +96,11 @@ follows-trans sc e u v w r s t f g =
       others = λ x l ne.
           (let m = first.envs in g.others x (omega (arith, l, m)) ne) ∙ f.others x l ne;
     }
+
+-- what names that were bound before have in the end
+pub means-before :
+    (ks : List ℕ) (sc : Scope) (e : ℕ) (v w : Valuation) (s t : PlainState) →
+    Follows sc e v s w t → Placed ks sc s.sorts (env_at s e) → (x a : Valuation) →
+    Means sc x (env_at t e) a → Means sc x (env_at s e) a
+means-before ks sc e v w s t f placed x a m =
+    means-back ks sc s x x (env_at s e) (env_at t e) a placed (agree-same (Old s) x) f.stays m

@@ -1,13 +1,11 @@
 -- A fresh region with all its guards, which no fact names: the state in which its case is taken.
-use Rattle.std.proofs.Common.{◌≡◌, ◌≢◌, ℕ, ◌+◌, ◌<◌, ℤ, ◌*ℤ◌, ◌≤ℤ◌, List, [], ◌∷◌, ◌++◌, length, Option, Some, None, refl, sym, ap, ◌∙◌, subst, arith, inl, inr}
+use Rattle.std.proofs.Common.{◌≡◌, ◌≢◌, ℕ, ◌+◌, ◌<◌, ℤ, ◌*ℤ◌, List, [], ◌∷◌, ◌++◌, length, Option, Some, None, sym, ap, ◌∙◌, subst, arith, inl, inr}
 use Rattle.std.specs.Prelude.{slice_get}
 use Rattle.std.specs.List.{AllByRecursion}
-use Rattle.std.proofs.lemmas.Int.{ints}
 use Rattle.cap_lin.specs.Linear.{Linear}
 use Rattle.cap_lin.specs.Values.{Valuation, denominator, value}
 use Rattle.cap_lin.specs.Solves.{IsWholeAt}
 use Rattle.cap_lin.specs.declared.row.Row.{Row}
-use Rattle.cap_lin.specs.declared.row.Sort.{Sort}
 use Rattle.cap_lin.specs.declared.row.Sort.TheVariants.{Int}
 use Rattle.cap_galg.specs.Algebras.{full}
 use Rattle.cap_gsolve.specs.declared.piece.Piece.{Piece}
@@ -22,21 +20,20 @@ use Rattle.cap_account_resources.specs.Parts.{Table}
 use Rattle.cap_account_resources.proofs.Lists.{none-some, get-last, all-more, all-both}
 use Rattle.cap_account_resources.proofs.Marks.{Mark, free, joins-law}
 use Rattle.cap_account_resources.proofs.Covering.{join_marks, mark, free-right}
-use Rattle.cap_account_resources.proofs.Room.{all_guards, alone, alone-here, alone-away, here-or, part-some, part-join}
+use Rattle.cap_account_resources.proofs.Room.{all_guards, alone, alone-here, alone-away, here-or}
 use Rattle.cap_account_resources.proofs.Stocks.{Stock, guard_stock, both, Composes}
 use Rattle.cap_account_states.specs.Nodes.{Comes}
 use Rattle.cap_account_states.proofs.Terms.{Over, vars-more}
 use Rattle.cap_account_states.proofs.Alike.{Alike, agree-alike, value-alike, need-alike}
 use Rattle.cap_account_states.proofs.Attempts.{comes-bind, after-sort, sort_added}
-use Rattle.cap_account_states.proofs.Meets.{Free, Usable, usable-on, usable-old, need, Old, same-fresh, with_value, new-whole, new-share, with-agrees, variable-value, meets-fresh}
-use Rattle.cap_account_states.proofs.Adding.{PieceOver}
+use Rattle.cap_account_states.proofs.Meets.{Free, Usable, usable-on, usable-old, Old, same-fresh, with_value, new-whole, new-share, with-agrees, variable-value, meets-fresh}
 use Rattle.cap_account_states.proofs.Compatible.{pieces-more, covered-alike}
 use Rattle.cap_account_states.proofs.Facts.{FactHolds, FactOver, Facts, facts-on}
 use Rattle.cap_account_states.proofs.Budgets.{full-mark}
 use Rattle.cap_account_states.proofs.Sums.{all-full}
 use Rattle.cap_account_states.proofs.Backed.{IsOpened, Backed, Grounded}
 use Rattle.cap_account_assertions.proofs.RuleSteps.{with_rows_of, IsApart, apart-from}
-use Rattle.cap_account_assertions.proofs.ManyPieces.{with_parts, PiecesHeld, pieces-held}
+use Rattle.cap_account_assertions.proofs.ManyPieces.{with_parts, pieces-held}
 
 -- ---- what is known of a state by a table
 
@@ -179,8 +176,8 @@ fresh-region p ks T n v s c y k P is h low none ok comes =
     ≡ guard_stock n (all_guards p k) =
     ap (λ z. guard_stock z (mark k (full (algebra_of p k)))) number
     ∙ ap (guard_stock n) (full-mark p k) in
-    let held = pieces-held p ks w t k (full_pieces (algebra_of p k) t k) (full (algebra_of p k)) s2 c
-    P (all-full (algebra_of p k) k w t) over
+    let held = pieces-held p ks w t k (full_pieces (algebra_of p k) t k) (full (algebra_of p k)) s2
+    c P (all-full (algebra_of p k) k w t) over
     (record {
       meets = a.1;
       pieces_over = g.grounded.pieces_over;

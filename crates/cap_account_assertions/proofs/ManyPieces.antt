@@ -1,6 +1,6 @@
 -- Several pieces of one region are added to a state: what it has then is held, where their guards
 -- are.
-use Rattle.std.proofs.Common.{◌≡◌, ℕ, ℤ, List, [], ◌∷◌, ◌++◌, Option, Some, None, refl, sym, ap, subst, arith}
+use Rattle.std.proofs.Common.{◌≡◌, ℕ, List, [], ◌∷◌, ◌++◌, Option, Some, None, refl, sym, ap, subst, arith}
 use Rattle.std.specs.Prelude.{IsSomeAnd}
 use Rattle.std.specs.List.{AllByRecursion}
 use Rattle.cap_lin.specs.Linear.{Linear}
@@ -24,7 +24,7 @@ use Rattle.cap_account_resources.proofs.Stocks.{Stock, guard_stock, both, Compos
 use Rattle.cap_account_states.specs.Nodes.{Comes}
 use Rattle.cap_account_states.proofs.Terms.{Over, RowOver}
 use Rattle.cap_account_states.proofs.Attempts.{comes-bind}
-use Rattle.cap_account_states.proofs.Meets.{Usable, Meets}
+use Rattle.cap_account_states.proofs.Meets.{Usable}
 use Rattle.cap_account_states.proofs.Adding.{PieceOver, comes-piece, merging-rows-over, merged-over}
 use Rattle.cap_account_states.proofs.Pieces.{AllFit}
 use Rattle.cap_account_states.proofs.Budgets.{pieces-added}

@@ -1,6 +1,6 @@
 -- Regions that a table gets: what it tells then, and that all their guards are what it has room for
 -- beyond the first one.
-use Rattle.std.proofs.Common.{◌≡◌, ◌≢◌, ◌⊎◌, ℕ, ℤ, ◌≤ℤ◌, ◌<ℤ◌, Bool, true, false, List, [], ◌∷◌, ◌++◌, Option, Some, None, refl, sym, ap, ◌∙◌, subst, inl, inr, arith}
+use Rattle.std.proofs.Common.{◌≡◌, ◌≢◌, ◌⊎◌, ℕ, ℤ, ◌≤ℤ◌, ◌<ℤ◌, Bool, true, false, List, [], ◌∷◌, ◌++◌, Option, Some, None, refl, sym, ap, ◌∙◌, inl, inr, arith}
 use Rattle.std.specs.Prelude.{if◌then◌else◌}
 use Rattle.std.specs.List.{AllByRecursion}
 use Rattle.std.proofs.lemmas.Int.{ints}
@@ -12,8 +12,8 @@ use Rattle.cap_account_resources.specs.Parts.{Known, known_as, Table}
 use Rattle.cap_account_resources.proofs.Lists.{none-some, Among}
 use Rattle.cap_account_resources.proofs.Order.{same-int, same-refl, relates-or}
 use Rattle.cap_account_resources.proofs.Marks.{Mark, free, joins-law}
-use Rattle.cap_account_resources.proofs.Covering.{join_marks, IsPartOf, free-right}
-use Rattle.cap_account_resources.proofs.Room.{all_guards, alone, alone-here, alone-away, here-or, with_known}
+use Rattle.cap_account_resources.proofs.Covering.{join_marks, free-right}
+use Rattle.cap_account_resources.proofs.Room.{all_guards, alone-here, alone-away, here-or, with_known}
 use Rattle.cap_account_resources.proofs.Stocks.{same-stock}
 use Rattle.cap_account_resources.proofs.Tables.{Extends, extends-states, guards_if_new, new_guards}
 use Rattle.cap_account_resources.proofs.Owners.{Owner, guards_of_all, numbers_of, Numbered, numbered-between, no-guards-of, no-cells-in}

@@ -18,14 +18,13 @@ use Rattle.cap_account_resources.proofs.Stocks.{Stock, no_stock, both, Inside, s
 use Rattle.cap_account_resources.proofs.Tables.{Extends, extends-states}
 use Rattle.cap_account_resources.proofs.Owners.{Owner, owned, guards_of_all, numbers_of, Numbered}
 use Rattle.cap_account_states.specs.Nodes.{Open}
-use Rattle.cap_account_states.proofs.Terms.{agree-same}
 use Rattle.cap_account_states.proofs.Alike.{Alike}
 use Rattle.cap_account_states.proofs.Meets.{Old}
 use Rattle.cap_account_states.proofs.Checked.{Checked}
-use Rattle.cap_account_states.proofs.Naming.{Means, means-back}
+use Rattle.cap_account_states.proofs.Naming.{Means}
 use Rattle.cap_account_states.proofs.Items.{AreFit}
 use Rattle.cap_account_states.proofs.Backed.{Backed}
-use Rattle.cap_account_assertions.proofs.Follows.{Follows, follows-none, follows-trans, alike-between}
+use Rattle.cap_account_assertions.proofs.Follows.{Follows, follows-none, follows-trans, alike-between, means-before}
 use Rattle.cap_account_assertions.proofs.TreeSizes.{trees_size}
 use Rattle.cap_account_assertions.proofs.Asserted.{Draws, DrawsAll, draws-kept}
 use Rattle.cap_account_assertions.proofs.Laws.{StateAt, IsOwner}
@@ -213,8 +212,8 @@ module _ (p : Checked) (ks : List ℕ) (T : Table) (next : ℤ) (j : Job) (v : V
         (guards_of_all p.program t.new) t.budget h.apart;
     draws = λ x l a m r.
         let now = alike-between h.after t.after h.w t.w x t.follows.goes_on t.follows.alike l in
-        let before = means-back ks j.scope h.after x x (env_at h.after j.env)
-        (env_at t.after j.env) a h.ready.placed (agree-same (Old h.after) x) t.follows.stays m in
+        let before = means-before ks j.scope j.env h.w t.w h.after t.after t.follows
+        h.ready.placed x a m in
         subst (λ q. DrawsAll p.program t.U a j.items q r)
         (sym ((stock-laws p.program).assoc h.taken t.given r))
         (turns t.U t.made.extends x now a before (both p.program t.given r) r (t.draws x l a m r));

@@ -13,7 +13,6 @@ use Rattle.cap_lin.specs.declared.row.Sort.{Sort}
 use Rattle.cap_lin.specs.declared.row.Sort.TheVariants.{Int}
 use Rattle.cap_lin.specs.declared.row.Op.TheVariants.{Eq as Equal}
 use Rattle.cap_lin.proofs.Rows.{row_of-means}
-use Rattle.cap_syntax.specs.declared.place.Place.{Place}
 use Rattle.cap_prog.specs.declared.assertion.Slot.{Slot}
 use Rattle.cap_prog.specs.declared.assertion.Slot.TheVariants.{Is}
 use Rattle.cap_prog.specs.Program.{fact}
@@ -24,14 +23,13 @@ use Rattle.cap_goal_spec.specs.States.{PlainFact, PlainEnv, PlainState}
 use Rattle.cap_rules.specs.Attempts.{Attempt, unit, ◌>>=◌, appended}
 use Rattle.cap_rules.specs.Making.{match_slot, match_slots, is_of_region, is_of_other_type, without_first, with_comparison, with_equalities, with_same, with_false, with_fact}
 use Rattle.cap_account_states.specs.Nodes.{Comes}
-use Rattle.cap_account_resources.specs.Parts.{Hold, known_as, Table, SpendsOne}
+use Rattle.cap_account_resources.specs.Parts.{known_as, Table}
 use Rattle.cap_account_resources.proofs.Lists.{some-same, none-some, join-nil, join-assoc, map-join, all-both, all-more, Among}
 use Rattle.cap_account_states.proofs.Terms.{Over, vars-more, RowOver, row-over, agree-same}
 use Rattle.cap_account_states.proofs.Attempts.{comes-bind, comes-appended, comes-comparison, after-comparison}
 use Rattle.cap_account_states.proofs.Meets.{Free, Usable, usable-old, usable-on, Meets, Old, Same, variable-value}
 use Rattle.cap_account_states.proofs.Alike.{Alike, alike-same, alike-less, value-alike}
 use Rattle.cap_account_states.proofs.Naming.{Placed, Means, Stays, means-back}
-use Rattle.cap_account_states.proofs.Items.{within-same}
 use Rattle.cap_account_states.proofs.Matching.{Outside, matching}
 
 -- the state of a loose fact isn't known
@@ -227,7 +225,7 @@ comes-fact s f P e h =
 -- ---- it holds, where the fact does
 
 -- two facts of one region say the same of it
-knowns-same :
+pub knowns-same :
     (v : Valuation) (T : Table) (f g : PlainFact) →
     value v.whole g.region ≡ value v.whole f.region → (h : FactHolds v T f) →
     (k : FactHolds v T g) → (g.kind ≡ f.kind)
@@ -240,7 +238,7 @@ knowns-same v T f g e h k =
 heads-same : (x y : ℤ) (xs ys : List ℤ) → x ∷ xs ≡ y ∷ ys → (x ≡ y) × (xs ≡ ys)
 heads-same x y xs ys e = (ap (λ zs. get_or zs 0 x) e, ap (drop 1) e)
 
-equal-hold :
+pub equal-hold :
     (v : Valuation) (as' bs : List Linear) → map (value v.whole) as' ≡ map (value v.whole) bs →
     AllByRecursion (Holds v) (equal_rows as' bs)
 equal-hold v [] [] e = tt
@@ -251,7 +249,7 @@ equal-hold v (a ∷ as') (b ∷ bs) e =
     (map (value v.whole) bs) e in
     ((row_of-means v a Equal b Int).1 q.0, equal-hold v as' bs q.1)
 
-equal-over :
+pub equal-over :
     (R : Sort → ℕ → Type 0) (as' bs : List Linear) → AllByRecursion (Over (R Int)) as' →
     AllByRecursion (Over (R Int)) bs → AllByRecursion (RowOver R) (equal_rows as' bs)
 equal-over R [] [] h k = tt
@@ -260,7 +258,7 @@ equal-over R (a ∷ as') [] h k = tt
 equal-over R (a ∷ as') (b ∷ bs) h k =
     (row-over R a Equal b Int h.0 k.0, equal-over R as' bs h.1 k.1)
 
-found-all :
+pub found-all :
     {X : Type 0} (P : X → Type 0) (test : X → Bool) (xs : List X) (x : X) → AllByRecursion P xs →
     find test xs ≡ Some x → P x × (test x ≡ true)
 found-all P test [] x h e = absurd (none-some e)
@@ -284,11 +282,11 @@ all-without P test (x ∷ xs) h = by (test x) (all-without P test xs h.1)
     by true k = h.1
     by false k = (h.0, k)
 
-both-true : (a b : Bool) → (a && b) ≡ true → (a ≡ true) × (b ≡ true)
+pub both-true : (a b : Bool) → (a && b) ≡ true → (a ≡ true) × (b ≡ true)
 both-true true b e = (refl, e)
 both-true false b e = absurd (cc)
 
-tight-state : (b : Bool) (q : Option ℤ) (z : ℤ) → b ≡ false → StateHolds b q z → q ≡ Some z
+pub tight-state : (b : Bool) (q : Option ℤ) (z : ℤ) → b ≡ false → StateHolds b q z → q ≡ Some z
 tight-state true q z e m = absurd (cc)
 tight-state false q z e m = m
 
@@ -353,7 +351,7 @@ no-other-type v T f (g ∷ fs) h k =
         absurd (cc)
     by false x b y e = e
 
-each-without :
+pub each-without :
     {X : Type 0} (R : X → X → Type 0) (test : X → Bool) (xs : List X) → EachTwo R xs →
     EachTwo R (without_first test xs)
 each-without R test [] h = tt
@@ -365,7 +363,7 @@ each-without R test (x ∷ xs) h = by (test x) (each-without R test xs h.1)
     by true k = h.1
     by false k = (all-without (R x) test xs h.0, k)
 
-each-last :
+pub each-last :
     {X : Type 0} (R : X → X → Type 0) (xs : List X) (y : X) → EachTwo R xs → ((x : X) → R x y) →
     EachTwo R (xs ++ y ∷ [])
 each-last R [] y h f = (tt, tt)
@@ -457,12 +455,13 @@ slots-split a (u ∷ xs) x (y ∷ zs) z h = let r = slots-split a xs x zs z h.1 
 
 -- a fact that isn't loose meets the item that it was matched with
 pub fact-meets :
-    (v : Valuation) (T : Table) (f : PlainFact) (a : Valuation) (place : Place) (r : ℕ)
-    (args : List Slot) (x : Slot) (q : Hold) → FactHolds v T f → f.loose ≡ false →
+    (v : Valuation) (T : Table) (f : PlainFact) (a : Valuation) (r : ℕ) (args : List Slot)
+    (x : Slot) → FactHolds v T f → f.loose ≡ false →
     SlotsAre a (Is (variable r) ∷ (args ++ x ∷ []))
     (map (value v.whole) (f.region ∷ (f.args ++ f.state ∷ []))) →
-    SpendsOne T a (fact place r f.kind args x) q q
-fact-meets v T f a place r args x q h tight m =
+    (zs : List ℤ) × (z : ℤ) × (T (a.whole r) ≡ Some (known_as f.kind zs (Some z)))
+    × SlotsAre a args zs × SlotIs a x z
+fact-meets v T f a r args x h tight m =
     let e : a.whole r ≡ value v.whole f.region = sym (variable-value a r) ∙ m.0 in
     let sp = slots-split a args x (map (value v.whole) f.args) (value v.whole f.state)
     (subst (SlotsAre a (args ++ x ∷ []))
@@ -473,5 +472,4 @@ fact-meets v T f a place r args x q h tight m =
           (tight-state f.loose h.0 (value v.whole f.state) tight h.2),
       sp.0,
       sp.1,
-      within-same q,
     )

@@ -113,7 +113,7 @@ put-at a k v n ps j q u s qs z t c e =
 
 -- ---- elements of a type's guards
 
-form-element :
+pub form-element :
     (b : PlainAlgebra) (v : Valuation) (f : Form) (x : Element) → Takes b f → IsFormElement v f x →
     IsElement b x
 form-element unique v One x t h = subst (IsElement unique) (sym h) tt

@@ -163,7 +163,7 @@ IsClosed k s f named a =
     AllByRecursion
     (λ r. Proves rows (row_at s (named_term (action_names k s f a) a.target) r)) named
 
-comes-at :
+pub comes-at :
     (s : PlainState) (rows : List Row) (t : Linear) (rs : List Row) (P : Unit {0} → Type 0) →
     Comes (prove_at s rows t rs) P → AllByRecursion (λ r. Proves rows (row_at s t r)) rs × P tt
 comes-at s rows t [] P h = (tt, h.1)

@@ -1,0 +1,251 @@
+-- A chain of Rests leads to any table that others can reach: each fact in turn goes over to it.
+use Rattle.std.proofs.Common.{◌≡◌, ℕ, zero, suc, ◌+◌, ◌<◌, ℤ, List, [], ◌∷◌, ◌++◌, length, Some, true, false, subst, arith}
+use Rattle.std.specs.Prelude.{slice_get, slice_set, option_to_list, ◌==◌, if◌then◌else◌}
+use Rattle.std.specs.List.{AllByRecursion}
+use Rattle.std.proofs.lemmas.Bool.Decides.{nat_tests}
+use Rattle.cap_lin.specs.Rows.{row_of_steps}
+use Rattle.cap_lin.specs.Solves.{Proves}
+use Rattle.cap_lin.specs.Values.{Valuation}
+use Rattle.cap_lin.specs.declared.row.Op.TheVariants.{Eq as Equal}
+use Rattle.cap_lin.specs.declared.row.Row.{Row}
+use Rattle.cap_lin.specs.declared.row.Sort.TheVariants.{Int}
+use Rattle.cap_prog.specs.Program.{PlainRegionType}
+use Rattle.cap_goal_spec.specs.States.{PlainFact, PlainState, PlainTask, to_rest, goal, goal_of, with_state}
+use Rattle.cap_goal_spec.specs.Candidates.{later_state, candidates}
+use Rattle.cap_goal_spec.specs.Choices.{PlainTree, node, PlainTrees, by_absurd, by_settle, by_keep}
+use Rattle.cap_rules.specs.Attempts.{unit, found, ◌>>=◌}
+use Rattle.cap_rules.specs.Making.{with_rows}
+use Rattle.cap_rules.specs.Resting.{named_candidates, prove_at, prove_stable, with_settled, settle, prove_kept, keep}
+use Rattle.cap_rules.specs.Rules.{leaves}
+use Rattle.cap_account_states.specs.Nodes.{Comes, Children, Open}
+use Rattle.cap_account_resources.specs.Parts.{Table}
+use Rattle.cap_account_resources.proofs.Lists.{within, all-at}
+use Rattle.cap_account_resources.proofs.Covering.{Covered}
+use Rattle.cap_account_resources.proofs.Stocks.{Stock}
+use Rattle.cap_account_states.proofs.Terms.{RowOver}
+use Rattle.cap_account_states.proofs.Attempts.{comes-bind, comes-more, after-found, after-sort, after-computed, sort_added}
+use Rattle.cap_account_states.proofs.Adding.{comes-rows}
+use Rattle.cap_account_states.proofs.Checked.{Checked, one-child}
+use Rattle.cap_account_states.proofs.Meets.{Free, Usable, solves}
+use Rattle.cap_account_states.proofs.Backed.{IsFirm, Grounded}
+use Rattle.cap_account_steps.proofs.Keeping.{same_row, comes-kept}
+use Rattle.cap_account_steps.proofs.Settling.{IsCandidate, row_at, comes-at, comes-stable}
+use Rattle.cap_account_steps.proofs.Worlds.{Exact, AllOver}
+use Rattle.cap_account_steps.proofs.Candidates.{named-candidates}
+use Rattle.cap_account_steps.proofs.Exact.{all-each}
+use Rattle.cap_account_steps.proofs.Turning.{AsBefore, before-same, before-trans, Midway, Turned, kept_state, settled_state, Reaching, Turn, own, kept}
+use Rattle.cap_account_steps.proofs.Renewing.{new-free, settled}
+
+-- ---- what the two rules prove
+
+abbrev Done : Unit {0} → Type 0
+Done x = Unit {0}
+
+-- candidates follow from the rows and stay true; then they are known
+record SettledBy (ks : List ℕ) (k : PlainRegionType) (s : PlainState) (j : ℕ) (f : PlainFact)
+    (Q : PlainState → Type 0) : Type 0 where
+  named : List Row
+  are : AllByRecursion (IsCandidate s) named
+  over : AllByRecursion (RowOver (Usable ks (s.sorts ++ Int ∷ []))) named
+  proved : AllByRecursion (λ r. Proves s.rows (row_at s f.state r)) named
+  stable : Comes (prove_stable k s f named k.actions) Done
+  comes : Q (settled_state s j f named)
+
+comes-settle :
+    (ks : List ℕ) (k : PlainRegionType) (s : PlainState) (j : ℕ) (f : PlainFact)
+    (list : List ℕ) (Q : PlainState → Type 0) → Free ks (length s.sorts) →
+    AllOver (Usable ks s.sorts Int) f → Comes (settle k s j f list) Q → SettledBy ks k s j f Q
+comes-settle ks k s j f list Q new over h =
+    let g = with_state f (later_state s) in
+    let third = λ (named : List Row) (x : Unit {0}). with_settled s j f named in
+    let second = λ (named : List Row) (x : Unit {0}).
+    prove_stable k s f named k.actions >>= third named in
+    let first = λ (named : List Row). prove_at s s.rows f.state named >>= second named in
+    let n = named-candidates ks k s f 1 list (λ named. Comes (first named) Q) new over.0 over.1
+    over.2 (comes-bind (named_candidates 1 (candidates k s f) list) first Q h) in
+    let at = comes-at s s.rows f.state n.rows (λ x. Comes (second n.rows x) Q)
+    (comes-bind (prove_at s s.rows f.state n.rows) (second n.rows) Q n.comes) in
+    let R = λ (x : Unit {0}). Comes (third n.rows x) Q in
+    let stable = comes-bind (prove_stable k s f n.rows k.actions) (third n.rows) Q at.1 in
+    let last = λ (t : PlainState). with_rows (record t { facts = slice_set s.facts j g }) n.rows in
+    record {
+      named = n.rows;
+      are = n.are;
+      over = n.over;
+      proved = at.0;
+      stable = comes-more (prove_stable k s f n.rows k.actions) R Done (λ x y. tt) stable;
+      comes = comes-rows n.rows (record (sort_added s Int) { facts = slice_set s.facts j g }) Q
+          (after-sort s Int last Q (comes-stable k s f n.rows k.actions R stable).1);
+    }
+
+comes-keep :
+    (k : PlainRegionType) (s : PlainState) (j : ℕ) (f : PlainFact) (Q : PlainState → Type 0) →
+    Comes (keep k s j f) Q →
+    Comes (prove_kept k s f (same_row s f) k.actions) Done × Q (kept_state s j f)
+comes-keep k s j f Q h =
+    let last = λ (x : Unit {0}). unit (kept_state s j f) in
+    let first = λ (r : Row). prove_kept k s f r k.actions >>= last in
+    let R = λ (x : Unit {0}). Comes (last x) Q in
+    let c = comes-bind (prove_kept k s f (same_row s f) k.actions) last Q
+    (after-computed (same_row s f) (row_of_steps (later_state s) Equal f.state Int) first Q h) in (
+      comes-more (prove_kept k s f (same_row s f) k.actions) R Done (λ x y. tt) c,
+      (comes-kept k s f k.actions R c).1.1,
+    )
+
+-- ---- the chain
+
+-- what a chain of Rests leads to: all facts say what the later table does, and are firm
+pub record AtRest (p : Checked) (ks : List ℕ) (U : Table) (v : Valuation) (s : PlainState)
+    (ts : List PlainTask) : Type 0 where
+  pub w : Valuation
+  pub after : PlainState
+  pub children : PlainTrees
+  pub goes : Open p.N children after ts
+  pub as_before : AsBefore v w s after
+  pub old : AllByRecursion (λ k. k < length after.sorts) ks
+  pub grounded : Grounded p.program ks w after
+  pub exact : AllByRecursion (Exact w U) after.facts
+  pub firm : AllByRecursion IsFirm after.facts
+  pub over : AllByRecursion (AllOver (Usable ks after.sorts Int)) after.facts
+
+module _ (p : Checked) (ks : List ℕ) (part : Stock) (T U : Table)
+    (reaching : Reaching p.program part T U) where
+  -- one turn later
+  record Next (j n : ℕ) (ts : List PlainTask) (v : Valuation) (s : PlainState) : Type 0 where
+    state : PlainState
+    trees : PlainTrees
+    goes : Open p.N trees state (to_rest (suc j) n ∷ ts)
+    turned : Turned p.program ks part T U j v s state
+
+  one-on :
+      (j n : ℕ) (ts : List PlainTask) (t : PlainState) (trees : PlainTrees) →
+      Open p.N trees t (to_rest (j + 1) n ∷ ts) → Open p.N trees t (to_rest (suc j) n ∷ ts)
+  one-on j n ts t trees h =
+      let same : j + 1 ≡ suc j = omega arith in
+      subst (λ i. Open p.N trees t (to_rest i n ∷ ts)) same h
+
+  abbrev turn-of :
+      (j : ℕ) (v : Valuation) (s : PlainState) → Midway p.program ks part T U j v s →
+      (f : PlainFact) → slice_get s.facts j ≡ Some f → (k : PlainRegionType) →
+      slice_get p.program.regions f.kind ≡ Some k → Turn p.program ks part T U j v s
+  turn-of j v s mid f e k i = record {
+    reaching = reaching;
+    midway = mid;
+    f = f;
+    is_fact = e;
+    k = k;
+    is_type = i;
+  }
+
+  next-turn :
+      (j n : ℕ) (ts : List PlainTask) (v : Valuation) (s : PlainState) →
+      Midway p.program ks part T U j v s → (d : PlainTree) → p.N d s (to_rest j n ∷ ts) →
+      Next j n ts v s
+  next-turn j n ts v s mid (node (by_absurd c) kids) h =
+      absurd ((p.step h).0.0 v (solves ks v s mid.grounded.meets))
+  next-turn j n ts v s mid (node (by_settle list cs) kids) h =
+      let P = Children p.N kids in
+      let last = λ (t : PlainState). leaves t (to_rest (j + 1) n ∷ ts) in
+      let first = λ (f : PlainFact) (k : PlainRegionType). settle k s j f list >>= last in
+      let f = after-found (slice_get s.facts j)
+      (λ f. found (slice_get p.program.regions f.kind) >>= first f) P (p.step h) in
+      let k = after-found (slice_get p.program.regions f.0.kind) (first f.0) P f.2 in
+      let turn = turn-of j v s mid f.0 f.1 k.0 k.1 in
+      let r = comes-settle ks k.0 s j f.0 list
+      (λ t. Comes (last t) P) (new-free p.program ks part T U j v s turn)
+      (own p.program ks part T U j v s turn)
+      (comes-bind (settle k.0 s j f.0 list) last P k.2) in
+      record {
+        state = settled_state s j f.0 r.named;
+        trees = kids;
+        goes = one-on j n ts (settled_state s j f.0 r.named) kids r.comes.1;
+        turned = settled p.program ks part T U j v s turn r.named r.are r.over r.proved r.stable;
+      }
+  next-turn j n ts v s mid (node (by_keep cs) kids) h =
+      let P = Children p.N kids in
+      let last = λ (t : PlainState). leaves t (to_rest (j + 1) n ∷ ts) in
+      let first = λ (f : PlainFact) (k : PlainRegionType). keep k s j f >>= last in
+      let f = after-found (slice_get s.facts j)
+      (λ f. found (slice_get p.program.regions f.kind) >>= first f) P (p.step h) in
+      let k = after-found (slice_get p.program.regions f.0.kind) (first f.0) P f.2 in
+      let r = comes-keep k.0 s j f.0 (λ t. Comes (last t) P)
+      (comes-bind (keep k.0 s j f.0) last P k.2) in
+      record {
+        state = kept_state s j f.0;
+        trees = kids;
+        goes = one-on j n ts (kept_state s j f.0) kids r.1.1;
+        turned = kept p.program ks part T U j v s (turn-of j v s mid f.0 f.1 k.0 k.1) r.0;
+      }
+  next-turn j n ts v s mid d h = absurd (p.step h).1
+
+  pub at-rest-from :
+      (left j n : ℕ) (ts : List PlainTask) (trees : PlainTrees) (v : Valuation) (s : PlainState) →
+      j + left ≡ length s.facts → Midway p.program ks part T U j v s →
+      Open p.N trees s (to_rest j n ∷ ts) → AtRest p ks U v s ts
+  at-rest-from zero j n ts trees v s count mid goes =
+      let all : (j == length s.facts) ≡ true = grind (arith, nat_tests, count) in
+      let each = λ (i : ℕ) (f : PlainFact) (e : slice_get s.facts i ≡ Some f).
+      (mid.due i f e).1 (let l = within s.facts i f e in omega (arith, l, count)) in
+      record {
+        w = v;
+        after = s;
+        children = trees;
+        goes =
+            subst (λ b. Children p.N trees (option_to_list
+            (if b then goal_of s ts else Some (goal s (to_rest j n ∷ ts))))) all goes;
+        as_before = before-same v s;
+        old = mid.old;
+        grounded = mid.grounded;
+        exact = all-each (Exact v U) s.facts (λ i f e. (each i f e).0);
+        firm = all-each IsFirm s.facts (λ i f e. (each i f e).1);
+        over =
+            all-each (AllOver (Usable ks s.sorts Int)) s.facts (λ i f e. (mid.due i f e).0);
+      }
+  at-rest-from (suc left) j n ts trees v s count mid goes =
+      let one = one-child p.N trees s (to_rest j n ∷ ts)
+      (subst (λ b. Children p.N trees (option_to_list
+      (if b then goal_of s ts else Some (goal s (to_rest j n ∷ ts))))) more goes) in
+      let turn = next-turn j n ts v s mid one.0 one.1 in
+      let before = turn.turned.before in
+      let size = before.facts in
+      let r = at-rest-from left (suc j) n ts turn.trees turn.turned.w turn.state
+      (omega (arith, count, size)) turn.turned.midway turn.goes in
+      record {
+        w = r.w;
+        after = r.after;
+        children = r.children;
+        goes = r.goes;
+        as_before = before-trans v turn.turned.w r.w s turn.state r.after before r.as_before;
+        old = r.old;
+        grounded = r.grounded;
+        exact = r.exact;
+        firm = r.firm;
+        over = r.over;
+      }
+    where
+      more : (j == length s.facts) ≡ false
+      more = grind (arith, nat_tests, count)
+
+  -- from the first fact on
+  pub at-rest :
+      (n : ℕ) (ts : List PlainTask) (trees : PlainTrees) (v : Valuation) (s : PlainState) →
+      AllByRecursion (λ k. k < length s.sorts) ks → Grounded p.program ks v s →
+      AllByRecursion (AllOver (Usable ks s.sorts Int)) s.facts →
+      AllByRecursion (Exact v T) s.facts →
+      ((m : ℤ) → Covered p.program v s.guards m (part.guards m)) →
+      Open p.N trees s (to_rest 0 n ∷ ts) → AtRest p ks U v s ts
+  at-rest n ts trees v s old grounded over exact covered goes =
+      at-rest-from (length s.facts) 0 n ts trees v s count
+      (record {
+        old = old;
+        grounded = grounded;
+        due = λ i f e. (
+          all-at (AllOver (Usable ks s.sorts Int)) s.facts i f over e,
+          (λ l. absurd (omega (arith, l))),
+          (λ l. all-at (Exact v T) s.facts i f exact e),
+        );
+        covered = covered;
+      }) goes
+    where
+      count : 0 + length s.facts ≡ length s.facts
+      count = omega arith
