@@ -24,17 +24,17 @@ use Rattle.cap_goal_spec.specs.States.{PlainFact, PlainState}
 use Rattle.cap_goal_spec.specs.Environments.{one_value}
 use Rattle.cap_rules.specs.Making.{fact_of, with_fact}
 use Rattle.cap_rules.specs.Giving.{give_term, give_slot, give_slots, give_form, give_sides, give_item}
+use Rattle.cap_account_states.proofs.Alike.{values-alike, agree-alike, alike-less}
 use Rattle.cap_account_resources.specs.Parts.{Table, known_as}
 use Rattle.cap_account_resources.proofs.Lists.{all-more, all-both}
 use Rattle.cap_account_resources.proofs.Stocks.{Stock, cell_stock, guard_stock, both, Inside, Composes, inside-trans, inside-first, composes-inside}
 use Rattle.cap_account_states.specs.Nodes.{Comes}
 use Rattle.cap_account_states.proofs.Terms.{Over, row-over, value-number, Agree}
 use Rattle.cap_account_states.proofs.Attempts.{comes-bind, comes-comparison, after-cell, cell_added, row_added}
-use Rattle.cap_account_states.proofs.Alike.{agree-alike, alike-less}
 use Rattle.cap_account_states.proofs.Meets.{Usable, usable-old, CellOver, Meets, Old, meets-row, variable-value}
 use Rattle.cap_account_states.proofs.Naming.{Ready, Step, step-trans}
 use Rattle.cap_account_states.proofs.Adding.{comes-piece, piece_added}
-use Rattle.cap_account_states.proofs.Facts.{StateHolds, values-alike, facts-same, FactHolds, FactOver, fact_added, comes-fact, no-other-type}
+use Rattle.cap_account_states.proofs.Facts.{StateHolds, facts-same, FactHolds, FactOver, fact_added, comes-fact, no-other-type}
 use Rattle.cap_account_states.proofs.Backed.{IsFirm, Knows}
 use Rattle.cap_account_states.proofs.KnowsLater.{knows-more}
 use Rattle.cap_account_states.proofs.PiecesHeld.{fact-known, piece_stock, piece-known}

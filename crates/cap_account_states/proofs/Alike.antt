@@ -1,6 +1,6 @@
 -- Values that are alike on some variables: the same whole numbers and, whatever the denominators,
 -- the same fractions. What is said of these variables holds at both or at neither.
-use Rattle.std.proofs.Common.{◌≡◌, ℕ, ◌+◌, ℤ, pos, ◌+ℤ◌, ◌*ℤ◌, ◌<ℤ◌, List, [], ◌∷◌, arith, refl, sym, ap, ◌∙◌, subst, inl, inr}
+use Rattle.std.proofs.Common.{◌≡◌, ℕ, ◌+◌, ℤ, pos, ◌+ℤ◌, ◌*ℤ◌, ◌<ℤ◌, List, [], ◌∷◌, map, arith, refl, sym, ap, ◌∙◌, subst, inl, inr}
 use Rattle.std.specs.List.{AllByRecursion}
 use Rattle.std.proofs.lemmas.Int.{ints}
 use Rattle.cap_numbers.proofs.Ring.{expand, product3}
@@ -166,6 +166,14 @@ pub value-alike :
 value-alike P v w a t h =
     value-is w.whole t ∙ ap (λ z. t.constant +ℤ z) (sum-agree P v.whole w.whole a.whole t.parts h)
     ∙ sym (value-is v.whole t)
+
+pub values-alike :
+    (P : ℕ → Type 0) (v w : Valuation) → Alike P v w → (ts : List Linear) →
+    AllByRecursion (Over P) ts → map (value w.whole) ts ≡ map (value v.whole) ts
+values-alike P v w a [] h = refl
+values-alike P v w a (t ∷ ts) h =
+    ap (λ z. z ∷ map (value w.whole) ts) (value-alike P v w a t h.0)
+    ∙ ap (λ zs. value v.whole t ∷ zs) (values-alike P v w a ts h.1)
 
 pub amount-alike :
     (P : ℕ → Type 0) (v w : Valuation) → Alike P v w → (t : Linear) → Over P t →

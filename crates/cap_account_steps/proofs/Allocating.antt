@@ -1,27 +1,25 @@
 -- Allocation: the state has new cells behind a fresh variable.
-use Rattle.std.proofs.Common.{◌≡◌, ℕ, ◌+◌, ◌<◌, ◌≤◌, ℤ, pos, ◌*ℤ◌, ◌<ℤ◌, ◌≤ℤ◌, List, [], ◌∷◌, ◌++◌, length, arith, refl, sym, ap, ◌∙◌, subst}
-use Rattle.std.specs.List.{AllByRecursion}
+use Rattle.std.proofs.Common.{◌≡◌, ℕ, ◌+◌, ◌<◌, ◌≤◌, ℤ, pos, ◌*ℤ◌, ◌<ℤ◌, ◌≤ℤ◌, List, [], ◌++◌, length, arith, refl, sym, ap, ◌∙◌, subst}
 use Rattle.std.proofs.lemmas.Int.{ints}
 use Rattle.cap_lin.specs.Linear.{Linear, number}
 use Rattle.cap_lin.specs.Rows.{row_of}
 use Rattle.cap_lin.specs.Values.{Valuation, denominator, value}
 use Rattle.cap_lin.specs.Solves.{IsWholeAt}
-use Rattle.cap_lin.specs.declared.row.Row.{Row}
 use Rattle.cap_lin.specs.declared.row.Sort.TheVariants.{Int}
 use Rattle.cap_lin.specs.declared.row.Op.TheVariants.{Ge as AtLeast}
 use Rattle.cap_lin.proofs.Rows.{row_of-means}
 use Rattle.cap_prog.specs.Program.{Label, alloc, Block, first, PlainFunction}
 use Rattle.cap_goal_spec.specs.States.{PlainState, to_run}
 use Rattle.cap_goal_spec.specs.Environments.{one_value}
-use Rattle.cap_goal_spec.specs.Choices.{node, by_absurd, by_alloc, PlainTree, PlainTrees}
+use Rattle.cap_goal_spec.specs.Choices.{node, by_absurd, by_alloc, PlainTree}
 use Rattle.cap_rules.specs.Attempts.{◌>>=◌}
 use Rattle.cap_rules.specs.Making.{fresh, with_comparison, with_local}
 use Rattle.cap_rules.specs.Rules.{leaves, with_new_cells}
 use Rattle.cap_machine.specs.Machine.{Frame, with_rest, with_value}
 use Rattle.cap_machine_accounts.specs.Assertions.{NameValue}
+use Rattle.cap_account_resources.proofs.Lists.{all-set, get-last, all-both}
 use Rattle.cap_account_resources.specs.Parts.{Table}
 use Rattle.cap_account_resources.proofs.Heaps.{fresh_cells}
-use Rattle.cap_account_resources.proofs.Lists.{get-last, all-both}
 use Rattle.cap_account_resources.proofs.Covering.{Covered, free-right}
 use Rattle.cap_account_resources.proofs.Stocks.{Stock, no_guards, both}
 use Rattle.cap_account_states.specs.Nodes.{Comes, Children}
@@ -34,8 +32,8 @@ use Rattle.cap_account_states.proofs.Compatible.{pieces-more, covered-alike}
 use Rattle.cap_account_states.proofs.Facts.{Facts, facts-on}
 use Rattle.cap_account_states.proofs.Checked.{Checked, one-child}
 use Rattle.cap_account_states.proofs.Roots.{values-length}
-use Rattle.cap_account_steps.proofs.Stores.{Store, running, store-alike}
-use Rattle.cap_account_steps.proofs.Cells.{all-set, new_cells, comes-new-cells, number-is, address-is, need-both, new-cells-need, new-cells-all, store-local}
+use Rattle.cap_account_steps.proofs.Stores.{running, store-alike}
+use Rattle.cap_account_steps.proofs.Cells.{new_cells, comes-new-cells, number-is, address-is, need-both, new-cells-need, new-cells-all, store-local}
 use Rattle.cap_account_steps.proofs.Frames.{Node, Sits}
 use Rattle.cap_account_steps.proofs.Statements.{AllocLaw}
 use Rattle.cap_account_steps.proofs.Local.{given-up}
