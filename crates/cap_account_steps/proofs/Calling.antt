@@ -37,7 +37,7 @@ use Rattle.cap_account_steps.proofs.Points.{FrameOk}
 use Rattle.cap_account_steps.proofs.Stores.{Store, running, fixed-alike}
 use Rattle.cap_account_steps.proofs.Callees.{fixed-fit, put_at, map-put, receives-is}
 use Rattle.cap_account_steps.proofs.Frames.{Sits, Roomy, Waits, HandsOver, Calls}
-use Rattle.cap_account_steps.proofs.Reserving.{Between, facts-between, grounded-between, backed-between}
+use Rattle.cap_account_steps.proofs.FirmStates.{Between, facts-between, grounded-between, backed-between}
 use Rattle.cap_account_steps.proofs.CallSite.{Caller, TakenHere, kept, v1, s1, args_are, at-call, backed1, env2, a1, callee_fixed}
 use Rattle.cap_account_steps.proofs.Results.{with_result, alike4, result-value, firm2, grounded2, facts2, backed2, placed2, means2}
 

@@ -1,5 +1,5 @@
 -- A region is opened: what it has is given to the state, in the case in which the region is.
-use Rattle.std.proofs.Common.{◌≡◌, ◌≢◌, ℕ, suc, ◌+◌, ◌<◌, ◌≤◌, ℤ, pos, List, [], ◌∷◌, ◌++◌, length, map, arith, refl, sym, ap, ◌∙◌, subst, Option, Some, None, Bool, true, false, inl, inr}
+use Rattle.std.proofs.Common.{◌≡◌, ◌≢◌, ℕ, suc, ◌+◌, ◌<◌, ℤ, List, [], ◌∷◌, ◌++◌, length, map, arith, refl, sym, ap, ◌∙◌, subst, Some, Bool, true, false}
 use Rattle.std.specs.Prelude.{slice_get, nat_lt, remove, ◌==◌, if◌then◌else◌}
 use Rattle.std.specs.List.{AllByRecursion}
 use Rattle.std.proofs.lemmas.Bool.Decides.{nat_tests}
@@ -15,20 +15,18 @@ use Rattle.cap_gsolve.specs.declared.piece.Piece.{Piece}
 use Rattle.cap_prog.specs.Program.{PlainAct, Block, first, PlainCase, PlainRegionType, Label, PlainFunction, PlainProgram}
 use Rattle.cap_prog.specs.Scopes.{Scope, region_scope}
 use Rattle.cap_prog.specs.WellFormed.{IsWellFormed, RegionFits, CaseFits}
-use Rattle.cap_goal_spec.specs.States.{PlainFact, PlainState, Home, PlainTask, to_give, PlainGoal, goals_of}
+use Rattle.cap_goal_spec.specs.States.{PlainFact, PlainState, Home, PlainTask, to_give, goals_of}
 use Rattle.cap_goal_spec.specs.Choices.{PlainTree, PlainTrees}
-use Rattle.cap_rules.specs.Attempts.{Attempt, unit, ◌>>=◌}
-use Rattle.cap_rules.specs.Making.{is_empty, env_at}
+use Rattle.cap_rules.specs.Making.{is_empty}
 use Rattle.cap_rules.specs.Closing.{address_of, of_type, prove_other, with_opened, case_names, case_goals}
 use Rattle.cap_rules.specs.Rules.{at_enter}
 use Rattle.cap_machine.specs.Machine.{Heap, Frame}
-use Rattle.cap_machine_accounts.specs.Accounts.{EachTwo}
 use Rattle.cap_machine_accounts.specs.Assertions.{NameValue}
 use Rattle.cap_account_resources.specs.Parts.{Known, known_as, Table}
-use Rattle.cap_account_resources.proofs.Lists.{some-same, all-more, all-both, all-at, all-remove, map-join, map-length, get-or-push, push-length, Among}
+use Rattle.cap_account_resources.proofs.Lists.{some-same, all-more, all-both, all-at, all-remove, map-join, map-length, get-or-push, push-length}
 use Rattle.cap_account_resources.proofs.Covering.{Covered}
 use Rattle.cap_account_resources.proofs.Room.{room, room-some, part-some}
-use Rattle.cap_account_resources.proofs.Stocks.{Stock, no_stock, both, all_of, none-right, stock-laws, Composes}
+use Rattle.cap_account_resources.proofs.Stocks.{Stock, both, all_of, none-right, stock-laws, Composes}
 use Rattle.cap_account_states.specs.Nodes.{Comes, Children, Open}
 use Rattle.cap_account_states.proofs.Terms.{Over, row-over, vars-more}
 use Rattle.cap_account_states.proofs.Alike.{Alike, InScope, alike-trans, alike-less, agree-alike, scaled-alike, value-alike}
@@ -49,8 +47,8 @@ use Rattle.cap_account_assertions.proofs.Laws.{StateAt, Given, GivenLaw}
 use Rattle.cap_account_steps.proofs.Stores.{Store, running, store-alike}
 use Rattle.cap_account_steps.proofs.Exact.{exact-alike, over-more}
 use Rattle.cap_account_steps.proofs.Worlds.{Differ, IsThere, World, Exact, AllOver, regions_of, Earlier, IfAny, Opening}
-use Rattle.cap_account_steps.proofs.Reserving.{firm-loose, firm-differ, Between, facts-between, grounded-between, backed-between}
-use Rattle.cap_account_steps.proofs.CaseStates.{case_state, InCase, CaseGoal, case-goal}
+use Rattle.cap_account_steps.proofs.FirmStates.{firm-loose, firm-differ, Between, facts-between, grounded-between, backed-between}
+use Rattle.cap_account_steps.proofs.CaseStates.{case_state, CaseGoal, case-goal}
 use Rattle.cap_account_steps.proofs.CaseValues.{case_values, names_values}
 use Rattle.cap_account_steps.proofs.CaseHolds as holds
 use Rattle.cap_account_steps.proofs.CaseHolds.{IsInCase, meets-case}

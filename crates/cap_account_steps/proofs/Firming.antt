@@ -20,7 +20,7 @@ use Rattle.cap_account_states.proofs.Facts.{StateHolds, FactHolds, StateOver, Fa
 use Rattle.cap_account_states.proofs.Backed.{Grounded}
 use Rattle.cap_account_steps.proofs.Worlds.{Exact, AllOver}
 use Rattle.cap_account_steps.proofs.Exact.{told-alike, all-two}
-use Rattle.cap_account_steps.proofs.Reserved.{set_to, set-agrees, set-is, set-whole, kept-other, AllSorted, grounded-at, usable-free, grounded-free}
+use Rattle.cap_account_steps.proofs.KeptFree.{set_to, set-agrees, set-is, set-whole, kept-other, AllSorted, grounded-at, usable-free, grounded-free}
 
 -- ---- the table's states
 

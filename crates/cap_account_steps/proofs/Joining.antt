@@ -16,6 +16,7 @@ use Rattle.cap_prog.specs.Program.{PlainProgram}
 use Rattle.cap_machine_accounts.specs.Accounts.{EachTwo}
 use Rattle.cap_goal_spec.specs.States.{PlainFact, PlainState}
 use Rattle.cap_rules.specs.Making.{is_of_region, without_first}
+use Rattle.cap_account_states.proofs.KnowsLater.{backed-at}
 use Rattle.cap_account_resources.specs.Parts.{Table}
 use Rattle.cap_account_resources.proofs.Lists.{some-same, none-some, all-more, all-both}
 use Rattle.cap_account_resources.proofs.Stocks.{Stock}
@@ -25,7 +26,7 @@ use Rattle.cap_account_states.proofs.Meets.{Free, Usable}
 use Rattle.cap_account_states.proofs.Facts.{FactHolds, StateOver, FactOver, LooseState, StatesDiffer, Facts, facts-alike, fact-more, equal_rows, merging_rows, fact_added, knowns-same, equal-hold, equal-over, found-all, all-without, both-true, tight-state, each-without, each-last}
 use Rattle.cap_account_states.proofs.Backed.{IsFirm, Grounded, Backed}
 use Rattle.cap_account_steps.proofs.Exact.{all-two}
-use Rattle.cap_account_steps.proofs.Reserved.{set_to, set-agrees, set-is, set-whole, kept-other, AllSorted, grounded-at, usable-free, grounded-free, backed-at, all_but, all-but, but-free, among-but}
+use Rattle.cap_account_steps.proofs.KeptFree.{set_to, set-agrees, set-is, set-whole, kept-other, AllSorted, grounded-at, usable-free, grounded-free, all_but, all-but, but-free, among-but}
 
 -- what is found stands to all others as each two of the list do
 found-rest :

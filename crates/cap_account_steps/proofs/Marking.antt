@@ -25,7 +25,7 @@ use Rattle.cap_account_states.proofs.Meets.{Free, Usable, usable-on, usable-old,
 use Rattle.cap_account_states.proofs.Facts.{FactHolds, FactOver, LooseState, StatesDiffer, Facts, facts-alike, fact-more}
 use Rattle.cap_account_states.proofs.Backed.{Grounded}
 use Rattle.cap_account_steps.proofs.Exact.{Each, set-here, each-set, each-two-set}
-use Rattle.cap_account_steps.proofs.Reserved.{set_to, set-agrees, set-here-whole, grounded-free, grounded-fresh}
+use Rattle.cap_account_steps.proofs.KeptFree.{set_to, set-agrees, set-here-whole, grounded-free, grounded-fresh}
 use Rattle.cap_account_steps.proofs.Firming.{lone}
 use Rattle.cap_account_steps.proofs.Turning.{AsBefore, before-same, before-trans}
 

@@ -7,6 +7,7 @@ use Rattle.cap_lin.specs.declared.row.Sort.TheVariants.{Int}
 use Rattle.cap_prog.specs.WellFormed.{IsWellFormed}
 use Rattle.cap_goal_spec.specs.States.{PlainState, PlainTask, to_rest}
 use Rattle.cap_goal_spec.specs.Choices.{PlainTrees}
+use Rattle.cap_account_states.proofs.KnowsLater.{backed-at}
 use Rattle.cap_account_states.specs.Nodes.{Open}
 use Rattle.cap_account_resources.specs.Parts.{Table}
 use Rattle.cap_account_resources.proofs.Lists.{all-more}
@@ -19,8 +20,7 @@ use Rattle.cap_account_states.proofs.Facts.{FactHolds, FactOver, StateHolds, Sta
 use Rattle.cap_account_states.proofs.Backed.{IsFirm, Backed, Grounded, GoesOn}
 use Rattle.cap_account_assertions.proofs.Laws.{Reached, RestsLaw}
 use Rattle.cap_account_steps.proofs.Worlds.{Exact, AllOver}
-use Rattle.cap_account_steps.proofs.Reserved.{backed-at}
-use Rattle.cap_account_steps.proofs.Reserving.{firm-loose, firm-differ}
+use Rattle.cap_account_steps.proofs.FirmStates.{firm-loose, firm-differ}
 use Rattle.cap_account_steps.proofs.Turning.{backed-before, Reaching}
 use Rattle.cap_account_steps.proofs.Resting.{at-rest}
 use Rattle.cap_account_steps.proofs.Firming.{firmed}

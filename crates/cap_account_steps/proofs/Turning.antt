@@ -12,6 +12,7 @@ use Rattle.cap_prog.specs.WellFormed.{ActionFits, RegionFits}
 use Rattle.cap_goal_spec.specs.States.{PlainFact, PlainState, with_state}
 use Rattle.cap_goal_spec.specs.Candidates.{later_state}
 use Rattle.cap_rules.specs.Resting.{prove_kept, prove_stable}
+use Rattle.cap_account_states.proofs.KnowsLater.{backed-at}
 use Rattle.cap_account_states.specs.Nodes.{Comes}
 use Rattle.cap_account_resources.specs.Parts.{known_as, Table}
 use Rattle.cap_account_resources.proofs.Lists.{some-same, map-length, set-length, all-at}
@@ -28,7 +29,6 @@ use Rattle.cap_account_steps.proofs.Others.{Resting}
 use Rattle.cap_account_steps.proofs.Keeping.{same_row, kept-rests}
 use Rattle.cap_account_steps.proofs.Settling.{IsCandidate, HoldsAt, settled-rests}
 use Rattle.cap_account_steps.proofs.Worlds.{Exact, AllOver}
-use Rattle.cap_account_steps.proofs.Reserved.{backed-at}
 use Rattle.cap_account_steps.proofs.Exact.{exact-alike, over-more, Each, each-set, HeldOf, held-of}
 
 -- ---- what stays as it was
