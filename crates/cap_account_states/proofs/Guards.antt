@@ -26,8 +26,8 @@ use Rattle.cap_rules.specs.Taking.{Cut, cut, cut_form, after_cut, with_form, cut
 use Rattle.cap_rules.specs.Rules.{Remaining, goes, at_piece, at_no_tokens}
 use Rattle.cap_prog.specs.declared.assertion.Slot.{Slot}
 use Rattle.cap_prog.specs.declared.assertion.Asked.TheVariants.{One, Share, Src, Tok}
+use Rattle.cap_account_states.proofs.Alike.{usable-alike, Alike, alike-same, alike-on}
 use Rattle.cap_account_states.proofs.Terms.{Over, vars-more}
-use Rattle.cap_account_states.proofs.Alike.{Alike, alike-same, alike-on, value-alike}
 use Rattle.cap_account_states.proofs.Compatible.{pieces-more, form-alike, covered-alike}
 use Rattle.cap_account_states.proofs.Cutting.{Cuts, one-fraction}
 use Rattle.cap_account_states.proofs.Halving.{halved, half_state, half-cut}
@@ -130,14 +130,7 @@ region-near :
     value v.whole u ≡ value v.whole t → (x : Valuation) → Alike (Old s) v x → (n : ℤ) →
     value x.whole t ≡ n → n ≡ value w.whole u
 region-near ks v w s t u l to uo e x m n h =
-    sym h ∙ kept x m t to ∙ sym e ∙ sym (kept w l u uo)
-  where
-    kept :
-        (w : Valuation) → Alike (Old s) v w → (t : Linear) → Over (Usable ks s.sorts Int) t →
-        value w.whole t ≡ value v.whole t
-    kept w g t o =
-        value-alike (Old s) v w g t
-        (vars-more (Usable ks s.sorts Int) (Old s) (usable-old ks s.sorts Int) t.parts o)
+    sym h ∙ usable-alike ks s v x m t to ∙ sym e ∙ sym (usable-alike ks s v w l u uo)
 
 kinds : (a b x y : ℕ) → ((a == b) && (x == y)) ≡ true → (a ≡ b) × (x ≡ y)
 kinds a b x y h = (grind (arith, nat_tests), grind (arith, nat_tests))
@@ -371,13 +364,11 @@ no-tokens-taken ks sc v s j (Is u) r P me pl h c =
     let eq : value v.whole (term_in env u) ≡ value v.whole zero_value =
     proved-relates ks v s (term_in env u) Equal zero_value Int me k3.0
     (term-over ks sc s.sorts env Int u pl h b) tt in
-    let over = term-over ks sc s.sorts env Int u pl h b in
-    let old = vars-more (Usable ks s.sorts Int) (Old s) (usable-old ks s.sorts Int)
-    (term_in env u).parts over in (
+    let over = term-over ks sc s.sorts env Int u pl h b in (
       λ w l X m. (
         0,
         sym (term-number sc w env X Int u m h b)
-            ∙ value-alike (Old s) v w l (term_in env u) old ∙ eq ∙ zero-value v.whole,
+            ∙ usable-alike ks s v w l (term_in env u) over ∙ eq ∙ zero-value v.whole,
         refl,
       ),
       k3.1,

@@ -30,11 +30,11 @@ use Rattle.cap_account_states.specs.Nodes.{Comes}
 use Rattle.cap_account_resources.proofs.Lists.{some-same, set-length, get-last}
 use Rattle.cap_account_states.proofs.Terms.{Vars, Over, vars-more, over-minus, row-over, Agree, amount-agree}
 use Rattle.cap_account_states.proofs.Attempts.{sort_added, row_added, after-sort, after-comparison, after-computed}
-use Rattle.cap_account_states.proofs.Meets.{Free, Usable, usable-on, usable-old, Meets, Old, Same, same-trans, meets-fresh, meets-row, same-fresh, same-row, with-agrees, variable-amount, with_value, new-share}
+use Rattle.cap_account_states.proofs.Meets.{Free, Usable, usable-on, usable-old, Meets, Old, Same, same-trans, meets-row, same-fresh, same-row, with-agrees, variable-amount, with_value, new-share}
+use Rattle.cap_account_states.proofs.Alike.{meets-fresh, Alike, scaled-agree-alike}
 use Rattle.cap_account_states.proofs.Naming.{Placed, Means, Stays, term-same, term-other, placed-set, placed-more, stays-set}
 use Rattle.cap_account_states.proofs.Matching.{Outside, lone-is}
 use Rattle.cap_account_states.proofs.Values.{scaled, meets-scaled, scaled-amount}
-use Rattle.cap_account_states.proofs.Alike.{Alike, scaled-agree-alike}
 use Rattle.cap_account_states.proofs.Wants.{AmountIs, value-of-alike, share-wants}
 use Rattle.cap_account_states.proofs.Guarding.{WantedNear, shared}
 use Rattle.cap_account_states.proofs.Cutting.{Cuts, cut-share}

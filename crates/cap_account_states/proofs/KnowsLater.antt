@@ -102,7 +102,7 @@ knows-on p ks v w s t k T q m e h =
     let R = Usable ks s.sorts in
     let S = Usable ks t.sorts in
     let g : Grounded p ks v s =
-        record { meets = m; pieces_over = h.pieces_over; pieces_fit = h.pieces_fit } in
+    record { meets = m; pieces_over = h.pieces_over; pieces_fit = h.pieces_fit } in
     record {
       facts = facts-later ks v w T s t k.sorts k.facts k.alike h.facts;
       pieces_over =

@@ -24,10 +24,10 @@ use Rattle.cap_account_resources.proofs.Covering.{Covered, free-right}
 use Rattle.cap_account_resources.proofs.Stocks.{Stock, no_guards, both}
 use Rattle.cap_account_states.specs.Nodes.{Comes, Children}
 use Rattle.cap_account_states.proofs.Terms.{Over, over-plus, row-over, Agree}
-use Rattle.cap_account_states.proofs.Alike.{agree-alike}
+use Rattle.cap_account_states.proofs.Alike.{agree-alike, meets-fresh, need-alike}
 use Rattle.cap_account_states.proofs.Attempts.{sort_added, row_added, after-sort, after-comparison, comes-bind}
 use Rattle.cap_account_states.proofs.Meets as meets
-use Rattle.cap_account_states.proofs.Meets.{Usable, usable-old, usable-on, CellOver, Meets, need, need-agree, Old, new-whole, new-share, with-agrees, meets-fresh, meets-row, same-fresh, variable-value}
+use Rattle.cap_account_states.proofs.Meets.{Usable, usable-old, usable-on, CellOver, Meets, need, Old, new-whole, new-share, with-agrees, meets-row, same-fresh, variable-value}
 use Rattle.cap_account_states.proofs.Compatible.{pieces-more, covered-alike}
 use Rattle.cap_account_states.proofs.Facts.{Facts, facts-on}
 use Rattle.cap_account_states.proofs.Checked.{Checked, one-child}
@@ -134,8 +134,9 @@ module _ (p : Checked) (part : Stock) (T : Table) (fn : PlainFunction) (fixed : 
         let e = ap (λ y. fresh_cells y n a z) is-base in
         let i0 : 0 + n ≡ n = omega arith in
         let e0 = ap (λ y. fresh_cells (value w.whole u) y a z) i0 in
-        let c = need-agree (Usable [] s.sorts) (Old s) v w
-        (λ y l. usable-old [] s.sorts Int y l) agrees s.cells k.grounded.meets.cells_over a z in
+        let c = need-alike (Usable [] s.sorts) (Old s) v w
+        (λ y l. usable-old [] s.sorts Int y l) (agree-alike (Old s) v w agrees) s.cells
+        k.grounded.meets.cells_over a z in
         let g = k.backed.cells a z in
         omega (arith, i, j, e, e0, c, g)
 

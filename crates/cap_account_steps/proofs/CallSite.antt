@@ -18,9 +18,9 @@ use Rattle.cap_account_resources.specs.Parts.{Table}
 use Rattle.cap_account_resources.proofs.Lists.{none-some, within, get-map, get-last, map-length, get-or-push, push-length, get-first}
 use Rattle.cap_account_resources.proofs.Stocks.{Stock, no_stock}
 use Rattle.cap_account_states.proofs.Terms.{Over, vars-more, Agree}
-use Rattle.cap_account_states.proofs.Alike.{Alike, alike-same, alike-trans, alike-less, agree-alike, value-alike}
+use Rattle.cap_account_states.proofs.Alike.{Alike, alike-same, alike-trans, alike-less, agree-alike, value-alike, meets-fresh}
 use Rattle.cap_account_states.proofs.Meets as meets
-use Rattle.cap_account_states.proofs.Meets.{Usable, usable-old, usable-on, Meets, Old, new-whole, new-share, with-agrees, meets-fresh}
+use Rattle.cap_account_states.proofs.Meets.{Usable, usable-old, usable-on, Meets, Old, new-whole, new-share, with-agrees}
 use Rattle.cap_account_states.proofs.Checked.{Checked}
 use Rattle.cap_account_states.proofs.Facts.{Facts}
 use Rattle.cap_account_states.proofs.Naming.{Placed}

@@ -15,7 +15,8 @@ use Rattle.cap_account_resources.proofs.Lists.{all-more, get-first, Among}
 use Rattle.cap_account_states.proofs.Terms.{RowOver, Agree, agree-less}
 use Rattle.cap_account_states.proofs.Attempts.{sort_added}
 use Rattle.cap_account_states.proofs.Compatible.{pieces-more}
-use Rattle.cap_account_states.proofs.Meets.{Free, Usable, usable-on, Old, meets-fresh, CellOver, cell-more, row-more, meets-agree, with_value, new-whole, new-share, with-agrees, variable-value}
+use Rattle.cap_account_states.proofs.Meets.{Free, Usable, usable-on, Old, CellOver, cell-more, row-more, with_value, new-whole, new-share, with-agrees, variable-value}
+use Rattle.cap_account_states.proofs.Alike.{meets-fresh, meets-agree}
 use Rattle.cap_account_states.proofs.Backed.{Grounded}
 
 -- ---- one variable gets a number

@@ -18,10 +18,10 @@ use Rattle.cap_account_resources.specs.Parts.{Table}
 use Rattle.cap_account_resources.proofs.Lists.{push-length, set-length, get-first, get-last, all-more, all-both}
 use Rattle.cap_account_resources.proofs.Stocks.{Stock}
 use Rattle.cap_account_states.proofs.Terms.{Over, vars-more, RowOver, fits-sort, Agree, value-agree}
-use Rattle.cap_account_states.proofs.Alike.{agree-alike}
+use Rattle.cap_account_states.proofs.Alike.{agree-alike, meets-fresh}
 use Rattle.cap_account_states.proofs.Attempts.{sort_added}
 use Rattle.cap_account_states.proofs.Compatible.{pieces-more}
-use Rattle.cap_account_states.proofs.Meets.{Free, Usable, usable-on, usable-old, Old, Meets, solves, new-whole, new-share, with-agrees, variable-value, meets-fresh}
+use Rattle.cap_account_states.proofs.Meets.{Free, Usable, usable-on, usable-old, Old, Meets, solves, new-whole, new-share, with-agrees, variable-value}
 use Rattle.cap_account_steps.proofs.Others.{first_values}
 use Rattle.cap_account_steps.proofs.Settling.{changed, replaced-value, replaced-over, IsCandidate, HoldsAt, row_at}
 use Rattle.cap_account_steps.proofs.Worlds.{Exact, AllOver}

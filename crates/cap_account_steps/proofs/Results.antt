@@ -19,9 +19,9 @@ use Rattle.cap_account_resources.specs.Parts.{Table}
 use Rattle.cap_account_resources.proofs.Lists.{some-same, none-some, within, there-is, get-last}
 use Rattle.cap_account_resources.proofs.Stocks.{Stock}
 use Rattle.cap_account_states.proofs.Terms.{Over, vars-more, Agree, agree-less, value-agree, amount-agree}
-use Rattle.cap_account_states.proofs.Alike.{Alike, alike-trans, alike-less, agree-alike}
+use Rattle.cap_account_states.proofs.Alike.{Alike, alike-trans, alike-less, agree-alike, meets-agree}
 use Rattle.cap_account_states.proofs.Meets as meets
-use Rattle.cap_account_states.proofs.Meets.{Free, Usable, Meets, Old, new-whole, new-share, with-agrees, meets-agree, variable-value}
+use Rattle.cap_account_states.proofs.Meets.{Free, Usable, Meets, Old, new-whole, new-share, with-agrees, variable-value}
 use Rattle.cap_account_states.proofs.Checked.{Checked}
 use Rattle.cap_account_states.proofs.Facts.{Facts}
 use Rattle.cap_account_states.proofs.Naming.{Placed, Means}
