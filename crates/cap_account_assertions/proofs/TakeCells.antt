@@ -102,7 +102,6 @@ module _ (p : Checked) (ks : List ℕ) (T : Table) (j : Job) (v : Valuation) (s 
   cell-taken i place x y more fx fy h =
       let P = Children p.N trees in
       let env = env_at s j.env in
-      let R = Usable ks s.sorts Int in
       let end : PlainEnv → Attempt (List PlainGoal) = λ later.
       goes (with_env_at (without_cell i) j.env later) (remaining j more) in
       let content : Linear × Linear → Attempt (List PlainGoal) = λ d.

@@ -112,7 +112,6 @@ module _ (p : Checked) (ks : List ℕ) (T : Table) (j : Job) (v : Valuation) (s 
         j.items ≡ item i more → AreFit p.program j.scope (item i more) → HasSort j.scope Int n →
         Composes c → Asks → ItemsTurned p ks T j v s c trees
     converted is fits hn ok a =
-        let w = algebra_of p.program k in
         let x = a.full.element in
         let g = guard_stock (value v.whole a.term) (mark k x) in
         let gone = fulls-gone p.program ks v a.term k s (side_pieces a.held a.term k)
