@@ -47,9 +47,9 @@ use Rattle.cap_account_states.proofs.Pieces.{AllFit, left_pieces, CutAt, cut-awa
 use Rattle.cap_account_states.proofs.Adding.{PieceOver}
 use Rattle.cap_account_states.proofs.Guarding.{WantedNear, is_open, is_open_reading, form-cut, proved-relates, FormOver, share-takes}
 
--- the guard is taken at alike values, over a multiple of the denominator, in a state that goes on with
--- the same cells, pieces and environments; it is of the region that is asked, and wanted, at all
--- values that are alike to these
+-- the guard is taken at alike values, over a multiple of the denominator, in a state that goes on
+-- with the same cells, pieces and environments; it is of the region that is asked, and wanted, at
+-- all values that are alike to these
 pub record GuardTaken (p : PlainProgram) (ks : List ℕ) (sc : Scope) (v : Valuation) (s : PlainState)
     (j n k i : ℕ) (asked : Asked) (r : Remaining) (held : ℤ → Option Mark)
     (P : List PlainGoal → Type 0) : Type 0 where
@@ -305,7 +305,8 @@ open-taken p ks sc v s j way n k i x y r held P me apart ov fit cover pl hn ao o
       taken = ho.taken;
       wanted = ho.wanted;
       is_element = el;
-      pieces_over = left-over S s.guards j q left (pieces-more (Usable ks s.sorts) S more s.guards ov)
+      pieces_over = left-over S s.guards j q left
+          (pieces-more (Usable ks s.sorts) S more s.guards ov)
           (vars-more (Usable ks s.sorts Int) (S Int) (more Int) q.region.parts o.0)
           (ho.left_over, tt);
       fit = left-fits p s.guards j q left fit lf;

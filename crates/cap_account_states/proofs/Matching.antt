@@ -118,7 +118,8 @@ matching ks sc v s env (Is u) t P me pl h o c = by_test (is_determined env u) re
           size = set-length env x (Some t);
           means =
               λ w g a n. lone-value u x a l
-              ∙ sym (n.whole x i t (term-same env x t (pl.room x Int i))) ∙ usable-alike ks s v w g t o;
+              ∙ sym (n.whole x i t (term-same env x t (pl.room x Int i))) ∙ usable-alike ks s v w g
+              t o;
           comes = c.1;
         }
       where

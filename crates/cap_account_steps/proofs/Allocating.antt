@@ -43,8 +43,8 @@ module _ (p : Checked) (part : Stock) (T : Table) (fn : PlainFunction) (fixed : 
   abbrev enlarged : Stock
   enlarged = both p.program part (record { cells = fresh_cells base n; guards = no_guards })
 
-  -- the states on the way: a fresh variable, a row that it is above 0, cells from it on, and it is in
-  -- the store
+  -- the states on the way: a fresh variable, a row that it is above 0, cells from it on, and it is
+  -- in the store
   abbrev above_one : PlainState → PlainState
   above_one s = row_added (sort_added s Int) (row_of (fresh s) AtLeast one_value Int)
 
@@ -116,7 +116,8 @@ module _ (p : Checked) (part : Stock) (T : Table) (fn : PlainFunction) (fixed : 
           positive =
               all-both (λ c. pos 0 <ℤ value w.whole c.0) s.cells (new_cells u 0 n) m.positive
               (new-cells-all (λ c. pos 0 <ℤ value w.whole c.0) u 0 n
-              (λ i. let e = address-is w u i in let at = is-base in omega (arith, ints, e, at, up)));
+              (λ i. let e = address-is w u i in let at = is-base in
+              omega (arith, ints, e, at, up)));
           store_over = all-set (Over (Usable [] (above_one s).sorts Int)) s.store x u m.store_over
               fresh-over;
         }
@@ -172,7 +173,8 @@ module _ (p : Checked) (part : Stock) (T : Table) (fn : PlainFunction) (fixed : 
         backed = record { cells = cells-allocated; guards = guards-allocated };
         store = store-local w (with_cells s) k.home fn fixed f x u base b is-base
             (let st = store-alike v w s (sort_added s Int) k.home fn fixed f
-            k.grounded.meets.store_over (agree-alike (Old s) v w agrees) (same-fresh s Int).sorts refl
+            k.grounded.meets.store_over (agree-alike (Old s) v w agrees) (same-fresh s Int).sorts
+            refl
             size (record {
               home = k.store.home;
               store = k.store.store;

@@ -119,7 +119,13 @@ own-placed s v fn h fx f ls r new sc m st size hl fl fr at_position = record {
         let look = own-fixed fn h ps ls r (length new) hp hl i (within fn.fixed i o y) in
         let u : variable (h.fixed + i) ≡ t =
         some-same (variable (h.fixed + i)) t (sym look ∙ (ap (term_of env) (sym q) ∙ e)) in
-        subst (Over (Usable [] s.sorts o)) u ((is-of s.sorts o (h.fixed + i) (st.fixed_known i o y), tt), tt)
+        subst (Over (Usable [] s.sorts o)) u (
+          (
+            is-of s.sorts o (h.fixed + i) (st.fixed_known i o y),
+            tt,
+          ),
+          tt,
+        )
     over x o t (result q y) e =
         subst (λ z. Over (Usable [] s.sorts z) t) y
         (fr t (sym (own-result fn h ps ls r (length new) hp hl) ∙ (ap (term_of env) (sym q) ∙ e)))

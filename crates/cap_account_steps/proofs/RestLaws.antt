@@ -1,4 +1,5 @@
--- Where all facts rest, each says what a table does that others can reach, also where some were loose.
+-- Where all facts rest, each says what a table does that others can reach, also where some were
+-- loose.
 use Rattle.std.proofs.Common.{◌≡◌, ℕ, ◌<◌, ℤ, List, [], ◌∷◌, length, Some, Bool, true, false, refl}
 use Rattle.std.specs.List.{AllByRecursion}
 use Rattle.cap_lin.specs.Linear.{Linear}
@@ -32,7 +33,8 @@ exact-facts :
     AllByRecursion (AllOver (Usable [] s.sorts Int)) s.facts → Facts [] v T s
 exact-facts v T s firm exact over = record {
   holds = all-more (Exact v T) (FactHolds v T)
-      (λ f e. (Some (value v.whole f.state), e, known f.loose (value v.whole f.state))) s.facts exact;
+      (λ f e. (Some (value v.whole f.state), e, known f.loose (value v.whole f.state))) s.facts
+      exact;
   over = all-more (AllOver (Usable [] s.sorts Int)) (FactOver (Usable [] s.sorts Int))
       (λ f o. (o.0, o.1, state-over f.loose f.state o.2)) s.facts over;
   loose = firm-loose [] s.sorts s.facts firm;
@@ -81,7 +83,8 @@ rests-loose p wf ks part T U n ts trees v s reached goes g fs backed =
       room = reached.room;
       relies = reached.relies;
     } in
-    let r = at-rest p [] part T U reaching n ts trees fm.w s tt fm.grounded fm.over fm.exact b.guards
+    let r = at-rest p [] part T U reaching n ts trees fm.w s tt fm.grounded fm.over fm.exact
+    b.guards
     goes in
     let c = r.as_before in
     let P : ℕ → Type 0 = λ x. (x < length s.sorts) × Free ks x in
@@ -113,7 +116,8 @@ rests p wf part T U n ts trees v s reached goes g fs firm backed =
       facts = r.facts;
       firm = r.firm;
       backed = r.backed;
-      agree = agree-less (Old s) (λ x. (x < length s.sorts) × Free [] x) v r.w (λ x h. (h, tt)) r.agree;
+      agree = agree-less (Old s)
+          (λ x. (x < length s.sorts) × Free [] x) v r.w (λ x h. (h, tt)) r.agree;
       goes_on = r.goes_on;
       envs = r.envs;
     }

@@ -1,5 +1,5 @@
--- A callee's result arrives: its variable has the value, and the names of `ensures` are what the callee
--- says.
+-- A callee's result arrives: its variable has the value, and the names of `ensures` are what the
+-- callee says.
 use Rattle.std.proofs.Common.{◌≡◌, ◌≢◌, ℕ, suc, ◌+◌, ◌<◌, ◌≤◌, ℤ, pos, ◌*ℤ◌, List, [], length, map, arith, refl, sym, ap, ◌∙◌, subst, Some, inl, inr}
 use Rattle.std.specs.Prelude.{slice_get, unwrap_or}
 use Rattle.std.specs.List.{AllByRecursion}
@@ -116,7 +116,8 @@ module _ (p : Checked) (part : Stock) (T : Table) (store : List ℤ) (c : Caller
       let n = scope-length c.g in
       omega (arith, l, q, n)
 
-  -- such a name stands for an argument, for what the callee bound a fixed name to, or for the result
+  -- such a name stands for an argument, for what the callee bound a fixed name to, or for the
+  -- result
   data Late (x : ℕ) (o : Sort) (t : Linear) : Type 0 where
     an_argument :
         (u : Linear) → x < c.g.params → Int ≡ o → slice_get c.args x ≡ Some u → t ≡ here c.s u →
