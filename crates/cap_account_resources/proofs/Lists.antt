@@ -167,6 +167,14 @@ all-at P [] j x h e = absurd (none-some e)
 all-at P (y ∷ xs) zero x h e = subst P (some-same y x e) h.0
 all-at P (y ∷ xs) (suc j) x h e = all-at P xs j x h.1 e
 
+-- where one is replaced
+pub all-set :
+    {X : Type 0} (P : X → Type 0) (xs : List X) (i : ℕ) (y : X) → AllByRecursion P xs → P y →
+    AllByRecursion P (slice_set xs i y)
+all-set P [] i y h k = tt
+all-set P (x ∷ xs) zero y h k = (k, h.1)
+all-set P (x ∷ xs) (suc i) y h k = (h.0, all-set P xs i y h.1 k)
+
 -- ---- members of lists
 
 abbrev pub Among : {X : Type 0} → X → List X → Type 0

@@ -22,13 +22,13 @@ use Rattle.cap_machine_accounts.specs.Accounts.{EachTwo}
 use Rattle.cap_goal_spec.specs.States.{PlainFact, PlainEnv, PlainState}
 use Rattle.cap_rules.specs.Attempts.{Attempt, unit, ◌>>=◌, appended}
 use Rattle.cap_rules.specs.Making.{match_slot, match_slots, is_of_region, is_of_other_type, without_first, with_comparison, with_equalities, with_same, with_false, with_fact}
+use Rattle.cap_account_states.proofs.Alike.{values-alike, Alike, alike-same, alike-less, value-alike}
 use Rattle.cap_account_states.specs.Nodes.{Comes}
 use Rattle.cap_account_resources.specs.Parts.{known_as, Table}
 use Rattle.cap_account_resources.proofs.Lists.{some-same, none-some, join-nil, join-assoc, map-join, all-both, all-more, Among}
 use Rattle.cap_account_states.proofs.Terms.{Over, vars-more, RowOver, row-over, agree-same}
 use Rattle.cap_account_states.proofs.Attempts.{comes-bind, comes-appended, comes-comparison, after-comparison}
 use Rattle.cap_account_states.proofs.Meets.{Free, Usable, usable-old, usable-on, Meets, Old, Same, variable-value}
-use Rattle.cap_account_states.proofs.Alike.{Alike, alike-same, alike-less, value-alike}
 use Rattle.cap_account_states.proofs.Naming.{Placed, Means, Stays, means-back}
 use Rattle.cap_account_states.proofs.Matching.{Outside, matching}
 
@@ -68,14 +68,6 @@ pub record Facts (ks : List ℕ) (v : Valuation) (T : Table) (s : PlainState) : 
   pub differ : EachTwo StatesDiffer s.facts
 
 -- ---- at alike values, and in a later state
-
-pub values-alike :
-    (P : ℕ → Type 0) (v w : Valuation) → Alike P v w → (ts : List Linear) →
-    AllByRecursion (Over P) ts → map (value w.whole) ts ≡ map (value v.whole) ts
-values-alike P v w a [] h = refl
-values-alike P v w a (t ∷ ts) h =
-    ap (λ z. z ∷ map (value w.whole) ts) (value-alike P v w a t h.0) ∙ ap
-    (λ zs. value v.whole t ∷ zs) (values-alike P v w a ts h.1)
 
 state-alike :
     (P : ℕ → Type 0) (v w : Valuation) → Alike P v w → (b : Bool) (o : Option ℤ) (t : Linear) →

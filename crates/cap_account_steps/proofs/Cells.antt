@@ -32,13 +32,6 @@ use Rattle.cap_goal_spec.specs.Environments.{zero_value}
 abbrev pub Cell : Type 0
 Cell = Linear × Linear
 
-pub all-set :
-    {X : Type 0} (P : X → Type 0) (xs : List X) (i : ℕ) (y : X) → AllByRecursion P xs → P y →
-    AllByRecursion P (slice_set xs i y)
-all-set P [] i y h k = tt
-all-set P (z ∷ xs) zero y h k = (k, h.1)
-all-set P (z ∷ xs) (suc i) y h k = (h.0, all-set P xs i y h.1 k)
-
 abbrev pub cell_here : Valuation → Cell → ℤ → ℤ → ℕ
 cell_here v c a z = one_cell (value v.whole c.0) (value v.whole c.1) a z
 

@@ -15,8 +15,8 @@ use Rattle.cap_rules.specs.Making.{in_store, with_local}
 use Rattle.cap_rules.specs.Closing.{with_content}
 use Rattle.cap_machine.specs.Machine.{Frame, with_rest, with_value}
 use Rattle.cap_machine_accounts.specs.Assertions.{NameValue}
+use Rattle.cap_account_resources.proofs.Lists.{all-set, all-at}
 use Rattle.cap_account_resources.specs.Parts.{one_cell, Table}
-use Rattle.cap_account_resources.proofs.Lists.{all-at}
 use Rattle.cap_account_resources.proofs.Stocks.{Stock}
 use Rattle.cap_account_resources.proofs.Tables.{FitsRoom}
 use Rattle.cap_account_states.proofs.Terms.{Over, RowOver, vars-more, over-over}
@@ -24,7 +24,7 @@ use Rattle.cap_account_states.proofs.Attempts.{row_added}
 use Rattle.cap_account_states.proofs.Meets.{Usable, CellOver, Meets, meets-row}
 use Rattle.cap_account_states.proofs.Backed.{Backed}
 use Rattle.cap_account_steps.proofs.Stores.{Store, here, get-over, vars-any}
-use Rattle.cap_account_steps.proofs.Cells.{Cell, all-set, need-one, need-set, store-local}
+use Rattle.cap_account_steps.proofs.Cells.{Cell, need-one, need-set, store-local}
 use Rattle.cap_account_steps.proofs.Worlds.{Earlier, IfAny, Closing, recelled}
 
 -- ---- a state alone

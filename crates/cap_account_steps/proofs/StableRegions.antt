@@ -17,6 +17,7 @@ use Rattle.cap_goal_spec.specs.Choices.{PlainTree, node, PlainTrees, by_absurd, 
 use Rattle.cap_goal_spec.specs.Roots.{case_fact, case_state}
 use Rattle.cap_rules.specs.Making.{env_at}
 use Rattle.cap_rules.specs.Closing.{may_move, prove_move}
+use Rattle.cap_account_states.proofs.Alike.{values-alike, Alike, agree-alike, value-alike}
 use Rattle.cap_account_resources.specs.Parts.{known_as, Table}
 use Rattle.cap_account_resources.proofs.Lists.{within, get-map, get-or-push, push-length, map-length, all-at, all-more}
 use Rattle.cap_account_resources.proofs.Stocks.{Stock}
@@ -24,7 +25,6 @@ use Rattle.cap_account_resources.proofs.Tables.{FitsRoom, fits-relied}
 use Rattle.cap_account_states.specs.Nodes.{Comes, Open}
 use Rattle.cap_account_states.proofs.Terms.{Over, vars-more}
 use Rattle.cap_account_states.proofs.Attempts.{env_added}
-use Rattle.cap_account_states.proofs.Alike.{Alike, agree-alike, value-alike}
 use Rattle.cap_account_states.proofs.Meets.{Usable, usable-on, usable-old, Old, solves, variable-value}
 use Rattle.cap_account_states.proofs.Checked.{Checked}
 use Rattle.cap_account_states.proofs.Scopes.{bound-first, variables-length}
@@ -40,7 +40,6 @@ use Rattle.cap_account_assertions.proofs.CaseStarts.{state-at, known-envs}
 use Rattle.cap_account_assertions.proofs.Creating.{one-tree}
 use Rattle.cap_account_assertions.proofs.TakenStill.{Still, StillLaw}
 use Rattle.cap_account_assertions.proofs.Again.{given-rested}
-use Rattle.cap_account_steps.proofs.Stores.{values-alike}
 use Rattle.cap_account_steps.proofs.Worlds.{AllOver}
 use Rattle.cap_account_steps.proofs.Moves.{Movable, movable-on, kept-says}
 use Rattle.cap_account_steps.proofs.Shifting.{Picked, picked, none-other, closed_state, shifted}

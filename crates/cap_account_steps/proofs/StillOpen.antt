@@ -8,12 +8,12 @@ use Rattle.cap_lin.specs.declared.row.Sort.TheVariants.{Int}
 use Rattle.cap_prog.specs.Program.{PlainProgram}
 use Rattle.cap_machine_accounts.specs.Accounts.{EachTwo}
 use Rattle.cap_goal_spec.specs.States.{PlainFact, PlainState}
+use Rattle.cap_account_states.proofs.Alike.{values-alike, Alike, alike-same, alike-trans, alike-less, value-alike}
 use Rattle.cap_account_resources.specs.Parts.{known_as, Table}
 use Rattle.cap_account_resources.proofs.Lists.{some-same, none-some, all-more, all-remove, all-at, Among}
 use Rattle.cap_account_resources.proofs.Covering.{Covered}
 use Rattle.cap_account_resources.proofs.Stocks.{Stock}
 use Rattle.cap_account_resources.proofs.Tables.{FitsRoom}
-use Rattle.cap_account_states.proofs.Alike.{Alike, alike-same, alike-trans, alike-less, value-alike}
 use Rattle.cap_account_states.proofs.Meets.{Free, Usable, usable-on}
 use Rattle.cap_account_states.proofs.Adding.{PieceOver}
 use Rattle.cap_account_states.proofs.Pieces.{AllFit}
@@ -22,7 +22,7 @@ use Rattle.cap_account_states.proofs.Facts.{Facts}
 use Rattle.cap_account_states.proofs.Backed.{Backed, Grounded}
 use Rattle.cap_account_states.proofs.KnowsLater.{Steady, usable-steady}
 use Rattle.cap_account_steps.proofs.Callees.{slice-map}
-use Rattle.cap_account_steps.proofs.Exact.{terms-alike, exact-alike, over-more}
+use Rattle.cap_account_steps.proofs.Exact.{exact-alike, over-more}
 use Rattle.cap_account_steps.proofs.Worlds.{Differ, AllOver, regions_of, Earlier, IfAny, IsStillOpen, Closing}
 
 -- ---- lists without one member
@@ -207,7 +207,7 @@ module _ (p : PlainProgram) (ks js : List ℕ) (v w : Valuation) (s t : PlainSta
     still-open f h =
         let o = over-steady f h.0.0 in
         let n = region-later f h.0.0 in
-        let zs = terms-alike (Steady ks s) v w l.alike f.args o.1 in (
+        let zs = values-alike (Steady ks s) v w l.alike f.args o.1 in (
           over-later f h.0.0,
           exact-alike (Steady ks s) v w V l.alike f o h.0.1,
           ap U n ∙ h.1 ∙ h.0.2 ∙ ap (λ ys. Some (known_as f.kind ys None)) (sym zs),

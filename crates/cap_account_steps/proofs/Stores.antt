@@ -20,12 +20,12 @@ use Rattle.cap_goal_spec.specs.Environments.{zero_value}
 use Rattle.cap_rules.specs.Making.{opposite, in_store}
 use Rattle.cap_machine.specs.Machine.{Frame, value_in, holds}
 use Rattle.cap_machine_accounts.specs.Assertions.{NameValue, a_number, a_fraction, IsNamed, AreNamed}
+use Rattle.cap_account_states.proofs.Alike.{values-alike, Alike, above-zero, swapped, undo}
 use Rattle.cap_account_resources.proofs.Lists.{some-same, none-some, within, there-is, all-more}
 use Rattle.cap_account_states.proofs.Terms.{Vars, Over, vars-more, over-over, number-over, RowOver, row-over, Agree, value-agree}
 use Rattle.cap_account_resources.proofs.Order.{unmet-relates, not-both, relates-times}
 use Rattle.cap_account_states.proofs.Attempts.{store_row}
 use Rattle.cap_account_states.proofs.Meets.{Usable, usable-old, Old, Meets}
-use Rattle.cap_account_states.proofs.Alike.{Alike, above-zero, swapped, undo, value-alike}
 use Rattle.cap_account_states.proofs.Values.{named-at, named-of}
 
 -- ---- stores
@@ -230,14 +230,6 @@ store-same v w s t h fn fx f m a sorts e size st = record {
 
 -- ---- at alike values
 
-pub values-alike :
-    (P : ℕ → Type 0) (v w : Valuation) → Alike P v w → (ts : List Linear) →
-    AllByRecursion (Over P) ts → map (value w.whole) ts ≡ map (value v.whole) ts
-values-alike P v w a [] h = refl
-values-alike P v w a (t ∷ ts) h =
-    ap (λ z. z ∷ map (value w.whole) ts) (value-alike P v w a t h.0)
-    ∙ ap (λ zs. value v.whole t ∷ zs) (values-alike P v w a ts h.1)
-
 pub name-alike :
     (P : ℕ → Type 0) (v w : Valuation) (x : ℕ) (y : NameValue) → P x → Alike P v w →
     IsNamed v x y → IsNamed w x y
@@ -255,7 +247,8 @@ name-alike P v w x (a_fraction n d) h a is =
 -- the variable of a fixed name is old, and has the name's value
 pub fixed-name :
     (s : PlainState) (v : Valuation) (h : Home) (fn : PlainFunction) (fixed : List NameValue)
-    (f : Frame) → Store v s h fn fixed f → length fixed ≡ length fn.fixed → (i : ℕ) (y : NameValue) →
+    (f : Frame) → Store v s h fn fixed f → length fixed ≡ length fn.fixed →
+    (i : ℕ) (y : NameValue) →
     slice_get fixed i ≡ Some y → Old s (h.fixed + i) × IsNamed v (h.fixed + i) y
 fixed-name s v h fn fixed f st size i y e =
     let o = there-is fn.fixed i (let q = within fixed i y e in omega (arith, q, size)) in (
