@@ -1,4 +1,5 @@
 -- A region is opened: what it has is given to the state, in the case in which the region is.
+use Rattle.cap_account_resources.proofs.Lists.{all-map, some-same, all-more, all-both, all-at, all-remove, map-join, map-length, get-or-push, push-length}
 use Rattle.std.proofs.Common.{◌≡◌, ◌≢◌, ℕ, suc, ◌+◌, ◌<◌, ℤ, List, [], ◌∷◌, ◌++◌, length, map, arith, refl, sym, ap, ◌∙◌, subst, Some, Bool, true, false}
 use Rattle.std.specs.Prelude.{slice_get, nat_lt, remove, ◌==◌, if◌then◌else◌}
 use Rattle.std.specs.List.{AllByRecursion}
@@ -23,7 +24,6 @@ use Rattle.cap_rules.specs.Rules.{at_enter}
 use Rattle.cap_machine.specs.Machine.{Heap, Frame}
 use Rattle.cap_machine_accounts.specs.Assertions.{NameValue}
 use Rattle.cap_account_resources.specs.Parts.{Known, known_as, Table}
-use Rattle.cap_account_resources.proofs.Lists.{some-same, all-more, all-both, all-at, all-remove, map-join, map-length, get-or-push, push-length}
 use Rattle.cap_account_resources.proofs.Covering.{Covered}
 use Rattle.cap_account_resources.proofs.Room.{room, room-some, part-some}
 use Rattle.cap_account_resources.proofs.Stocks.{Stock, both, all_of, none-right, stock-laws, Composes}
@@ -103,12 +103,6 @@ of-all k Q (f ∷ fs) h m = by (f.kind == k) refl m (λ n. of-all k Q fs h.1 n)
         (AllByRecursion Q (of_type k fs) → AllByRecursion Q fs) → AllByRecursion Q (f ∷ fs)
     by true e m more = (m.0, more m.1)
     by false e m more = (h.0 (λ q. grind (arith, nat_tests, e, q)), more m)
-
-all-map :
-    {A B : Type 0} (g : A → B) (P : B → Type 0) (xs : List A) → AllByRecursion (λ x. P (g x)) xs →
-    AllByRecursion P (map g xs)
-all-map g P [] h = tt
-all-map g P (x ∷ xs) h = (h.0, all-map g P xs h.1)
 
 -- a list of numbers with one more
 differ-more :
