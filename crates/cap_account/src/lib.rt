@@ -4,7 +4,6 @@
 #![tactic(auto)]
 
 ghost use Rattle.cap_account.specs.Law.{DerivationsAreNodes, DerivationsAreSound};
-ghost use Rattle.cap_account.specs.Law.{RequiresHoldsAgain};
 ghost use Rattle.cap_account.specs.Expected.{SafeExample, UnsafeExamples};
 
 /// At each node of a valid derivation the choice applies, what its certificates prove is true of
@@ -13,16 +12,9 @@ pub fn derivations_are_nodes()
     ensures { DerivationsAreNodes }
 {}
 
-/// What has a function's precondition has it again after whatever the other threads did: its
-/// stability derivation gives it and takes it again. (In a program without region types others
-/// change nothing that an assertion speaks of.)
-pub fn requires_holds_again()
-    ensures { RequiresHoldsAgain }
-{}
-
-/// A program without region types all units of which have valid derivations is safe: no run of its
-/// threads, whichever way they interleave, makes a memory fault or fails an assertion, and
-/// contracts are met.
+/// A program all units of which have valid derivations is safe: no run of its threads, whichever
+/// way they interleave, makes a memory fault or fails an assertion, regions change only by actions
+/// whose guards the stepping thread held, and contracts are met.
 pub fn derivations_are_sound()
     ensures { DerivationsAreSound }
 {}
