@@ -285,7 +285,6 @@ valid = record {
 pub safe-example : DerivationsAreSound → SafeExample
 safe-example sound = record {
   well_formed = well-formed;
-  without_region_types = refl;
   derived = valid;
-  safe = sound storing_program storing_trees well-formed refl valid;
+  safe = sound storing_program storing_trees well-formed valid;
 }

@@ -18,5 +18,4 @@ DerivationsAreNodes =
 -- a program all units of which have valid derivations is safe
 abbrev pub DerivationsAreSound : Type 0
 DerivationsAreSound =
-    (p : PlainProgram) (trees : List (Option PlainTree)) →
-    IsWellFormed p → Valid p trees → Safe p
+    (p : PlainProgram) (trees : List (Option PlainTree)) → IsWellFormed p → Valid p trees → Safe p

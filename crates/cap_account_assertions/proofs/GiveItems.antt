@@ -38,7 +38,7 @@ use Rattle.cap_account_states.proofs.Facts.{StateHolds, values-alike, facts-same
 use Rattle.cap_account_states.proofs.Backed.{IsFirm, Knows}
 use Rattle.cap_account_states.proofs.KnowsLater.{knows-more}
 use Rattle.cap_account_states.proofs.PiecesHeld.{fact-known, piece_stock, piece-known}
-use Rattle.cap_account_assertions.proofs.Giving.{term-given, slot-given, sides-given, sides-row, over-later, number-later, need-join}
+use Rattle.cap_account_assertions.proofs.GiveTerms.{term-given, slot-given, sides-given, sides-row, over-later, number-later, need-join}
 use Rattle.cap_account_assertions.proofs.GiveSlots.{slots-given, shaped-takes, form-given}
 use Rattle.cap_account_assertions.proofs.GiveState.{underway-step, Due, ItemGiven, drawn-beside, drawn-held, goes}
 

@@ -11,8 +11,8 @@ use Rattle.cap_account_resources.specs.Parts.{Known, Table}
 use Rattle.cap_account_resources.proofs.Lists.{some-same}
 use Rattle.cap_account_resources.proofs.Order.{same-int, same-refl, other-int}
 use Rattle.cap_account_resources.proofs.Marks.{Mark, free, of, is, is-full, fit, fitting, wrap, meet_if, joins-law}
-use Rattle.cap_account_resources.proofs.Covering.{join_marks, IsPartOf, free-right}
-use Rattle.cap_account_resources.proofs.Interference.{Holding, ArePartOf}
+use Rattle.cap_account_resources.proofs.Covering.{join_marks, IsPartOf}
+use Rattle.cap_account_resources.proofs.Interference.{Holding}
 
 -- ---- the table's room
 
@@ -153,29 +153,3 @@ alone-join p r a b n = by (same_number r n)
 
 abbrev pub with_known : Table → ℤ → Known → Table
 with_known T r e n = if same_number r n then Some e else T n
-
--- the room grows by the new region's guards
-pub room-grows :
-    (p : PlainProgram) (T : Table) (r : ℤ) (e : Known) → T r ≡ None → (n : ℤ) →
-    room p (with_known T r e) n ≡ join_marks p (room p T n) (alone r (all_guards p e.kind) n)
-room-grows p T r e none n = by (same_number r n) refl
-  where
-    by :
-        (b : Bool) → same_number r n ≡ b →
-        room_of p (if b then Some e else T n) ≡ join_marks p (room p T n)
-        (if b then all_guards p e.kind else Some free)
-    by true t =
-        ap (λ o. join_marks p (room_of p o) (all_guards p e.kind))
-        (sym none ∙ ap T (same-int r n t))
-    by false t = sym (free-right p (room p T n))
-
--- what all hold stays within the room when a region is created, with its guards
-pub create-budget :
-    (p : PlainProgram) (T : Table) (r : ℤ) (e : Known) (total : Holding) → T r ≡ None →
-    ArePartOf p total (room p T) →
-    ArePartOf p (λ n. join_marks p (total n) (alone r (all_guards p e.kind) n))
-    (room p (with_known T r e))
-create-budget p T r e total none le n =
-    let g = alone r (all_guards p e.kind) n in
-    subst (IsPartOf p (join_marks p (total n) g)) (sym (room-grows p T r e none n))
-    (part-join p (total n) (room p T n) g (le n))

@@ -1,6 +1,6 @@
 -- Values that are alike on some variables: the same whole numbers and, whatever the denominators,
 -- the same fractions. What is said of these variables holds at both or at neither.
-use Rattle.std.proofs.Common.{◌≡◌, ℕ, ◌+◌, ℤ, pos, ◌+ℤ◌, ◌*ℤ◌, ◌<ℤ◌, List, [], ◌∷◌, arith, refl, sym, ap, ◌∙◌, subst, Some, inl, inr}
+use Rattle.std.proofs.Common.{◌≡◌, ℕ, ◌+◌, ℤ, pos, ◌+ℤ◌, ◌*ℤ◌, ◌<ℤ◌, List, [], ◌∷◌, arith, refl, sym, ap, ◌∙◌, subst, inl, inr}
 use Rattle.std.specs.List.{AllByRecursion}
 use Rattle.std.proofs.lemmas.Int.{ints}
 use Rattle.cap_numbers.proofs.Ring.{expand, product3}
@@ -18,14 +18,12 @@ use Rattle.cap_lin.proofs.Values.{value-nil, value-cons}
 use Rattle.cap_prog.specs.declared.assertion.Comp.{Comp}
 use Rattle.cap_prog.specs.Scopes.{Scope, HasSort, TermFits, CompFits}
 use Rattle.cap_machine_accounts.specs.Assertions.{CompHolds}
-use Rattle.cap_goal_spec.specs.States.{PlainEnv, PlainState}
-use Rattle.cap_goal_spec.specs.Environments.{term_of}
+use Rattle.cap_goal_spec.specs.States.{PlainState}
 use Rattle.cap_rules.specs.Making.{opposite}
 use Rattle.cap_account_resources.proofs.Lists.{within}
 use Rattle.cap_account_resources.proofs.Order.{relates-times, relates-or, not-both}
 use Rattle.cap_account_states.proofs.Terms.{Vars, Over, vars-more, RowOver, value-is, amount-is, sum-agree, Agree}
 use Rattle.cap_account_states.proofs.Meets.{Usable, usable-old, CellOver, Meets, need, Old, Same}
-use Rattle.cap_account_states.proofs.Naming.{Placed, Means}
 use Rattle.cap_account_states.proofs.Values.{scaled, scaled-denominator}
 
 -- on these variables the whole numbers are the same, and the numerators equal crosswise
@@ -136,19 +134,6 @@ pub scaled-agree-alike :
     (P : ℕ → Type 0) (m : ℕ) (v w : Valuation) → Agree P (scaled m v) w → Alike P v w
 scaled-agree-alike P m v w a =
     alike-trans P v (scaled m v) w (scaled-alike P m v) (agree-alike P (scaled m v) w a)
-
--- alike values over one denominator agree
-pub alike-agrees :
-    (P : ℕ → Type 0) (v w : Valuation) → w.fraction.under ≡ v.fraction.under → Alike P v w →
-    Agree P v w
-alike-agrees P v w e a = record {
-  under = e;
-  whole = a.whole;
-  share =
-      λ x h. undo (w.fraction.numerator x) (v.fraction.numerator x) (denominator v.fraction)
-      (above-zero v)
-      (a.share x h ∙ ap (λ n. v.fraction.numerator x *ℤ pos (n + 1)) e);
-}
 
 -- in a state that goes on
 pub alike-on :
@@ -310,28 +295,3 @@ meets-alike ks v w s a m = record {
       m.cells_over m.positive;
   store_over = m.store_over;
 }
-
--- what bound names have at values, values that are alike on the names have at alike values
-pub means-alike :
-    (ks : List ℕ) (sc : Scope) (s : PlainState) (v w : Valuation) (env : PlainEnv)
-    (a b : Valuation) → Placed ks sc s.sorts env → Alike (Old s) v w → Alike (InScope sc) a b →
-    b.fraction.under ≡ w.fraction.under → Means sc v env a → Means sc w env b
-means-alike ks sc s v w env a b p g l u m = record {
-  under = u;
-  whole =
-      λ x i t e. value-alike (Old s) v w g t (old x Int i t e) ∙ m.whole x i t e
-      ∙ sym (l.whole x (Int, i));
-  share = λ x i t e.
-      let d = denominator v.fraction in
-      undo (amount w.fraction t) (b.fraction.numerator x) d (above-zero v)
-      (amount-alike (Old s) v w g t (old x Perm i t e)
-      ∙ ap (λ z. z *ℤ denominator w.fraction) (m.share x i t e)
-      ∙ ap (λ n. a.fraction.numerator x *ℤ pos (n + 1)) (sym u)
-      ∙ sym (l.share x (Perm, i))
-      ∙ ap (λ n. b.fraction.numerator x *ℤ pos (n + 1)) m.under);
-}
-  where
-    old :
-        (x : ℕ) (o : Sort) → HasSort sc o x → (t : Linear) → term_of env x ≡ Some t → Over (Old s) t
-    old x o i t e =
-        vars-more (Usable ks s.sorts o) (Old s) (usable-old ks s.sorts o) t.parts (p.over x o i t e)

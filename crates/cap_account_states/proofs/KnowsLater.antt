@@ -13,15 +13,14 @@ use Rattle.cap_account_resources.proofs.Lists.{all-more}
 use Rattle.cap_account_resources.proofs.Marks.{Mark}
 use Rattle.cap_account_resources.proofs.Covering.{Covered, covered-more}
 use Rattle.cap_account_resources.proofs.Stocks.{Stock, Inside, inside-cells, inside-guards}
-use Rattle.cap_account_resources.proofs.Tables.{Extends}
 use Rattle.cap_account_states.proofs.Terms.{vars-more}
-use Rattle.cap_account_states.proofs.Alike.{Alike, alike-less, value-alike, need-alike, meets-alike}
+use Rattle.cap_account_states.proofs.Alike.{Alike, alike-less, value-alike, need-alike}
 use Rattle.cap_account_states.proofs.Meets.{Free, Usable, usable-old, usable-on, Meets, need, Old}
 use Rattle.cap_account_states.proofs.Adding.{PieceOver}
 use Rattle.cap_account_states.proofs.Pieces.{AllFit}
 use Rattle.cap_account_states.proofs.Compatible.{pieces-more, covered-alike}
-use Rattle.cap_account_states.proofs.Facts.{FactHolds, Facts, facts-later}
-use Rattle.cap_account_states.proofs.Backed.{IsOpened, Backed, Grounded, Knows}
+use Rattle.cap_account_states.proofs.Facts.{facts-later}
+use Rattle.cap_account_states.proofs.Backed.{IsOpened, Backed, Knows}
 
 -- ---- in later states
 
@@ -40,17 +39,6 @@ pub record IsKept (ks : List ℕ) (v w : Valuation) (s t : PlainState) : Type 0 
   pub facts : t.facts ≡ s.facts
   pub guards : t.guards ≡ s.guards
   pub opened : t.opened ≡ s.opened
-
--- the same state
-pub kept-here :
-    (ks : List ℕ) (v w : Valuation) (s : PlainState) → Alike (Steady ks s) v w → IsKept ks v w s s
-kept-here ks v w s a = record {
-  alike = a;
-  sorts = λ x o h. h;
-  facts = λ i. s.facts;
-  guards = λ i. s.guards;
-  opened = λ i. s.opened;
-}
 
 pub old-steady :
     (ks : List ℕ) (v w : Valuation) (s : PlainState) → Alike (Old s) v w →
@@ -128,63 +116,6 @@ module _ (p : PlainProgram) (ks : List ℕ) (v w : Valuation) (s t : PlainState)
       (T : Table) (q : Stock) → Meets ks v s → t.cells ≡ s.cells → Knows p ks v T s q →
       Knows p ks w T t q
   knows-on T q m e h = knows-kept T q h (need-kept m e q h.backed)
-
-  pub backed-on :
-      (q : Stock) → Grounded p ks v s → t.cells ≡ s.cells → Backed p v s q → Backed p w t q
-  backed-on q g e b = record {
-    cells = need-kept g.meets e q b;
-    guards = λ n. covered-kept g.pieces_over n (q.guards n) (b.guards n);
-  }
-
--- ---- at alike values
-
-module _ (p : PlainProgram) (ks : List ℕ) (v w : Valuation) (s : PlainState)
-    (l : Alike (Old s) v w) where
-  pub knows-alike :
-      (T : Table) (q : Stock) → Meets ks v s → Knows p ks v T s q → Knows p ks w T s q
-  knows-alike T q m h =
-      knows-on p ks v w s s (kept-here ks v w s (old-steady ks v w s l)) T q m (λ i. s.cells) h
-
-  pub backed-alike : (q : Stock) → Grounded p ks v s → Backed p v s q → Backed p w s q
-  backed-alike q g b =
-      backed-on p ks v w s s (kept-here ks v w s (old-steady ks v w s l)) q g (λ i. s.cells) b
-
-  pub grounded-alike : Grounded p ks v s → Grounded p ks w s
-  grounded-alike g = record {
-    meets = meets-alike ks v w s l g.meets;
-    pieces_over = g.pieces_over;
-    pieces_fit = g.pieces_fit;
-  }
-
--- ---- by a larger table
-
-pub facts-extend :
-    (ks : List ℕ) (v : Valuation) (T U : Table) (s : PlainState) → Extends T U → Facts ks v T s →
-    Facts ks v U s
-facts-extend ks v T U s x f = record {
-  holds =
-      all-more (FactHolds v T) (FactHolds v U) (λ g h. (h.0, x _ _ h.1, h.2)) s.facts f.holds;
-  over = f.over;
-  loose = f.loose;
-  differ = f.differ;
-}
-
-pub opened-extend :
-    (P : ℕ → Type 0) (v : Valuation) (T U : Table) (fs : List PlainFact) → Extends T U →
-    AllByRecursion (IsOpened P v T) fs → AllByRecursion (IsOpened P v U) fs
-opened-extend P v T U fs x h =
-    all-more (IsOpened P v T) (IsOpened P v U) (λ g o. (o.0, o.1, x _ _ o.2)) fs h
-
-pub knows-extend :
-    (p : PlainProgram) (ks : List ℕ) (v : Valuation) (T U : Table) (s : PlainState) (q : Stock) →
-    Extends T U → Knows p ks v T s q → Knows p ks v U s q
-knows-extend p ks v T U s q x h = record {
-  facts = facts-extend ks v T U s x h.facts;
-  pieces_over = h.pieces_over;
-  pieces_fit = h.pieces_fit;
-  opened = opened-extend (Usable ks s.sorts Int) v T U s.opened x h.opened;
-  backed = h.backed;
-}
 
 -- ---- where more is held
 

@@ -464,13 +464,6 @@ pub record PartsNamed (sc : Scope) (e : ℕ) (a v : Valuation) (s : PlainState) 
   pub bound : Vars (Bound (env_at after e)) ps
   pub comes : P after
 
-pub bound-stays :
-    (sc : Scope) (env env' : PlainEnv) (o : Sort) (ps : List (ℕ × ℤ)) → Stays sc env env' →
-    Vars (HasSort sc o) ps → Vars (Bound env) ps → Vars (Bound env') ps
-bound-stays sc env env' o [] f h b = tt
-bound-stays sc env env' o (p ∷ ps) f h b =
-    ((b.0.0, f p.0 o h.0 b.0.0 b.0.1), bound-stays sc env env' o ps f h.1 b.1)
-
 pub parts-named :
     (sc : Scope) (e : ℕ) (a : Valuation) (o : Sort) (ps : List (ℕ × ℤ)) (v : Valuation)
     (s : PlainState) (P : PlainState → Type 0) → Ready sc e a v s → Vars (HasSort sc o) ps →

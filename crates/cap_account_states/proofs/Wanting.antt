@@ -263,13 +263,6 @@ module _ (X : Valuation) (sc : Scope) (normal : (x : ℕ) → HasSort sc Int x �
   named-number w ts next h Int t b = named-value w ts next h t b
   named-number w ts next h Perm t b = named-amount w ts next h t b
 
-  pub named-low :
-      (w : Valuation) (ts : List Linear) (next : ℕ) → NamesOk w ts next → (t : Linear) →
-      Vars (Low (length ts)) t.parts → Over (Low next) (named_term ts t)
-  named-low w ts next h t b =
-      over-over (Low next) (Low (length ts)) (λ x. get_or ts x zero_value) t
-      (λ x l. name-at (Over (Low next)) ts x l (λ u i. h.below x u i)) b
-
   -- names of the scope have terms, where there are enough
   pub scope-low :
       (n : ℕ) (o : Sort) (t : Linear) → length sc ≤ n → TermFits sc o t → Vars (Low n) t.parts

@@ -5,6 +5,7 @@ use Rattle.std.specs.Prelude.{find, unwrap_or, if◌then◌else◌}
 use Rattle.std.specs.List.{AllByRecursion}
 use Rattle.cap_lin.specs.Linear.{Linear}
 use Rattle.cap_lin.specs.Values.{Valuation, value}
+use Rattle.cap_lin.specs.declared.row.Sort.{Sort}
 use Rattle.cap_lin.specs.declared.row.Sort.TheVariants.{Int, Perm}
 use Rattle.cap_galg.specs.Algebras.{atom_algebra}
 use Rattle.cap_gsolve.specs.Pieces.{piece, of_atom}
@@ -46,7 +47,7 @@ use Rattle.cap_account_steps.proofs.Atoms.{found-at, is-piece, Found}
 -- ---- environments that go on
 
 -- values of a later environment are values of an earlier one
-means-earlier :
+pub means-earlier :
     (sc : Scope) (v X : Valuation) (env env' : PlainEnv) → Stays sc env env' → Means sc v env' X →
     Means sc v env X
 means-earlier sc v X env env' st m = record {
@@ -54,6 +55,27 @@ means-earlier sc v X env env' st m = record {
   whole = λ x i t e. m.whole x i t (st x Int i t e);
   share = λ x i t e. m.share x i t (st x Perm i t e);
 }
+
+-- ---- the region and its arguments, by the names that stand for them
+
+pub region-whole :
+    (k : PlainRegionType) (names : List Sort) (f : PlainFact) (v X : Valuation) (tail : PlainEnv) →
+    length f.args + 1 ≡ k.params → Means (region_scope k names) v (region_env f tail) X →
+    AreWhole X 0 (value v.whole f.region ∷ map (value v.whole) f.args)
+region-whole k names f v X tail arity m =
+    let sc = region_scope k names in
+    let ts = f.region ∷ f.args in
+    whole-of X 0 (map (value v.whole) ts) (λ i z e.
+    let t = get-map (value v.whole) ts i z e in
+    let l = within ts i t.0 t.1 in
+    let zero-plus : 0 + i ≡ i = omega arith in
+    let sort : HasSort sc Int i =
+    get-first (whole_numbers k.params) (known names) i (Some Int)
+    (rep-in k.params i (Some Int) (omega (arith, l, arity))) in
+    let bound : term_of (region_env f tail) i ≡ Some t.0 =
+    ap (λ o. unwrap_or o None)
+    (get-first (map Some ts) tail i (Some t.0) (slice-map Some ts i t.0 t.1)) in
+    ap X.whole zero-plus ∙ sym (m.whole i sort t.0 bound) ∙ t.2)
 
 module _ (p : PlainProgram) (ks : List ℕ) (v : Valuation) (s : PlainState) (me : Meets ks v s)
     (f : PlainFact) (over : AllOver (Usable ks s.sorts Int) f) (k : PlainRegionType)
@@ -220,25 +242,6 @@ module _ (p : PlainProgram) (ks : List ℕ) (v : Valuation) (s : PlainState) (me
   guards-say X [] h = tt
   guards-say X (g ∷ gs) h = (h.0, guards-say X gs h.1)
 
-  -- the region and its arguments, by the names that stand for them
-  args-whole :
-      (X : Valuation) (names : PlainEnv) → length f.args + 1 ≡ k.params →
-      Means sc v (region_env f names) X →
-      AreWhole X 0 (value v.whole f.region ∷ map (value v.whole) f.args)
-  args-whole X names arity m =
-      let ts = f.region ∷ f.args in
-      whole-of X 0 (map (value v.whole) ts) (λ i z e.
-      let t = get-map (value v.whole) ts i z e in
-      let l = within ts i t.0 t.1 in
-      let zero-plus : 0 + i ≡ i = omega arith in
-      let sort : HasSort sc Int i =
-      get-first (whole_numbers k.params) (known a.names) i (Some Int)
-      (rep-in k.params i (Some Int) (omega (arith, l, arity))) in
-      let bound : term_of (region_env f names) i ≡ Some t.0 =
-      ap (λ o. unwrap_or o None)
-      (get-first (map Some ts) names i (Some t.0) (slice-map Some ts i t.0 t.1)) in
-      ap X.whole zero-plus ∙ sym (m.whole i sort t.0 bound) ∙ t.2)
-
   -- what is matched and proved: the values of the action's names, and what they say
   pub record Matches : Type 0 where
     pub values : Valuation
@@ -273,7 +276,9 @@ module _ (p : PlainProgram) (ks : List ℕ) (v : Valuation) (s : PlainState) (me
       let w = comparisons-hold ks sc v s n.later X me n.placed means a.when fits.when P n.comes in (
         record {
           values = X;
-          args = args-whole X names arity (means-earlier sc v X start n.later n.stays means);
+          args =
+              region-whole k a.names f v X names arity
+              (means-earlier sc v X start n.later n.stays means);
           source_is = ended.0;
           target_is = ended.1.0;
           conditions = w.0;

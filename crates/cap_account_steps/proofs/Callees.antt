@@ -3,7 +3,7 @@ use Rattle.std.proofs.Common.{◌≡◌, ℕ, zero, suc, ◌+◌, ℤ, pos, ◌*
 use Rattle.std.specs.Prelude.{slice_get, slice_set}
 use Rattle.std.specs.List.{AllByRecursion}
 use Rattle.cap_lin.specs.Linear.{Linear}
-use Rattle.cap_lin.specs.Values.{Valuation, value}
+use Rattle.cap_lin.specs.Values.{Valuation}
 use Rattle.cap_lin.specs.declared.row.Sort.{Sort}
 use Rattle.cap_lin.specs.declared.row.Sort.TheVariants.{Int, Perm}
 use Rattle.cap_prog.specs.Program.{call, fork, PlainFunction, PlainProgram}
@@ -180,14 +180,3 @@ pub slice-map :
 slice-map f [] i x e = absurd (none-some e)
 slice-map f (y ∷ xs) zero x e = ap (λ z. Some (f z)) (some-same y x e)
 slice-map f (y ∷ xs) (suc i) x e = slice-map f xs i x e
-
-pub record Site (store : List ℤ) : Type 0 where
-  pub s : PlainState
-  pub v : Valuation
-  pub m : Meets [] v s
-  pub no_facts : s.facts ≡ []
-  pub is_store : map (value v.whole) s.store ≡ store
-  pub g : PlainFunction
-  pub args : List Linear
-  pub size : length args ≡ g.params
-  pub x : Option ℕ

@@ -1,6 +1,6 @@
 -- A frame's store in a symbolic state, and what its terms and comparisons are there.
 use Rattle.std.proofs.Common.{◌≡◌, ℕ, zero, suc, ◌+◌, ◌<◌, ℤ, pos, ◌*ℤ◌, ◌<ℤ◌, List, [], ◌∷◌, length, map, arith, refl, sym, ap, ◌∙◌, subst, Some, Bool, true, false}
-use Rattle.std.specs.Prelude.{slice_get, get_or, ◌==◌, option_to_list, if◌then◌else◌}
+use Rattle.std.specs.Prelude.{slice_get, get_or}
 use Rattle.std.specs.List.{AllByRecursion}
 use Rattle.std.proofs.lemmas.Int.{ints}
 use Rattle.cap_lin.specs.Linear.{Linear, number}
@@ -15,13 +15,11 @@ use Rattle.cap_prog.specs.declared.assertion.Comp.{Comp}
 use Rattle.cap_prog.specs.Program.{Block, PlainFunction}
 use Rattle.cap_prog.specs.Scopes.{whole_numbers, HasSort, TermFits, CompFits}
 use Rattle.cap_goal_spec.specs.Terms.{term_over}
-use Rattle.cap_goal_spec.specs.States.{PlainState, Home, PlainTask, to_run, to_rest, goal, goal_of, goals_of}
+use Rattle.cap_goal_spec.specs.States.{PlainState, Home, PlainTask, to_run}
 use Rattle.cap_goal_spec.specs.Environments.{zero_value}
-use Rattle.cap_goal_spec.specs.Choices.{PlainTrees}
 use Rattle.cap_rules.specs.Making.{opposite, in_store}
 use Rattle.cap_machine.specs.Machine.{Frame, value_in, holds}
 use Rattle.cap_machine_accounts.specs.Assertions.{NameValue, a_number, a_fraction, IsNamed, AreNamed}
-use Rattle.cap_account_states.specs.Nodes.{NodePredicate, Children}
 use Rattle.cap_account_resources.proofs.Lists.{some-same, none-some, within, there-is, all-more}
 use Rattle.cap_account_states.proofs.Terms.{Vars, Over, vars-more, over-over, number-over, RowOver, row-over, Agree, value-agree}
 use Rattle.cap_account_resources.proofs.Order.{unmet-relates, not-both, relates-times}
@@ -179,15 +177,6 @@ met-here v s store c m e h = by (holds store c) refl
         ((row_of-means v l c.op r c.sort).0 h) ((row_of-means v l (opposite c.op) r c.sort).0 k))
 
 -- ---- what goes on
-
--- without facts a Rest is nothing
-pub rested :
-    (N : NodePredicate) (ks : PlainTrees) (s : PlainState) (n : ℕ) (ts : List PlainTask) →
-    s.facts ≡ [] → Children N ks (goals_of s (to_rest 0 n ∷ ts)) → Children N ks (goals_of s ts)
-rested N ks s n ts e h =
-    subst (λ b. Children N ks
-    (option_to_list (if b then goal_of s ts else Some (goal s (to_rest 0 n ∷ ts)))))
-    (ap (λ fs. 0 == length fs) e) h
 
 pub values-same :
     (v w : Valuation) (s : PlainState) → Agree (Old s) v w → (ts : List Linear) →

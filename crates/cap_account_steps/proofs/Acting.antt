@@ -1,0 +1,93 @@
+-- A heap statement acts where up to two regions are open, and they are closed again.
+use Rattle.std.proofs.Common.{◌≡◌, ℕ, ◌+◌, ℤ, List, [], length, arith, sym, ap, ◌∙◌, subst, Some}
+use Rattle.std.specs.Prelude.{slice_get, is_some, map}
+use Rattle.std.specs.List.{AllByRecursion}
+use Rattle.cap_lin.specs.Values.{Valuation, value}
+use Rattle.cap_lin.specs.declared.row.Sort.{Sort}
+use Rattle.cap_lin.specs.declared.row.Sort.TheVariants.{Int}
+use Rattle.cap_prog.specs.Program.{PlainFunction}
+use Rattle.cap_goal_spec.specs.States.{PlainFact, PlainState, Home}
+use Rattle.cap_goal_spec.specs.Choices.{PlainTrees}
+use Rattle.cap_machine.specs.Machine.{Frame, value_in, with_rest}
+use Rattle.cap_machine_accounts.specs.Assertions.{NameValue}
+use Rattle.cap_account_states.specs.Nodes.{Open}
+use Rattle.cap_account_resources.specs.Parts.{Table}
+use Rattle.cap_account_resources.proofs.Lists.{map-length}
+use Rattle.cap_account_resources.proofs.Heaps.{there-in}
+use Rattle.cap_account_resources.proofs.Stocks.{Stock, no_stock, both, all_of, inside-first}
+use Rattle.cap_account_resources.proofs.Tables.{TableFits, NoneOpen, FitsRoom, AreListed, fits-less}
+use Rattle.cap_account_states.proofs.Terms.{Over}
+use Rattle.cap_account_states.proofs.Checked.{Checked}
+use Rattle.cap_account_states.proofs.Meets.{Free, Usable}
+use Rattle.cap_account_steps.proofs.Points.{FrameOk}
+use Rattle.cap_account_steps.proofs.Stores.{Store}
+use Rattle.cap_account_steps.proofs.Frames.{Stands}
+use Rattle.cap_account_steps.proofs.Worlds.{regions_of, opened_table, Closing, SettlesBy, after_act, recelled}
+use Rattle.cap_account_steps.proofs.HeapLaws.{ActsLaw}
+use Rattle.cap_account_steps.proofs.OpenTables.{opened-there, open-fits, open-listed}
+use Rattle.cap_account_steps.proofs.Changing.{holds-cell}
+use Rattle.cap_account_steps.proofs.AtCell.{then_close, at-cell}
+use Rattle.cap_account_steps.proofs.Acts.{statement-done}
+
+-- ---- after the statement
+
+-- all open regions are closed, and the frame stands with what is kept
+pub record Finished (p : Checked) (V W : Table) (part held : Stock) (ns : List ℤ)
+    (fixed : List NameValue) (f : Frame) : Type 0 where
+  pub kept : Stock
+  pub by : SettlesBy p.program V W part held ns kept
+  pub stands : Stands p kept by.U fixed f
+
+abbrev pub FinishingLaw : Checked → Type 0
+FinishingLaw p =
+    (V : Table) (part held : Stock) (ns : List ℤ) (ks : List ℕ) (v : Valuation) (s : PlainState)
+    (n : ℕ) (h : Home) (fn : PlainFunction) (fixed : List NameValue) (f : Frame)
+    (trees : PlainTrees) (bound : List ℤ) → regions_of v s.opened ≡ ns →
+    FrameOk p.program fn fixed f → Open p.N trees s (then_close n (length s.opened) f.rest h) →
+    TableFits p.program (opened_table ns V) → AreListed bound (opened_table ns V) → NoneOpen V →
+    FitsRoom p.program V part → Closing p.program V (opened_table ns V) part ks v s held →
+    AllByRecursion (Over (Usable ks s.sorts Int)) s.store →
+    ((i : ℕ) (o : Sort) → slice_get fn.fixed i ≡ Some o → Free ks (h.fixed + i)) →
+    Store v s h fn fixed f → Finished p V (opened_table ns V) part held ns fixed f
+
+-- ---- the statement
+
+pub acts-law : (p : Checked) → FinishingLaw p → ActsLaw p
+acts-law p finish V share part heap fn fixed f l a b x is-address world ok v s h o two st size j cs
+    ms ks valid =
+    let ns = regions_of v s.opened in
+    let held = both p.program part (all_of p.program ns share) in
+    let there = opened-there v V s o.opened in
+    let at = value_in f.store x in
+    let k = at-cell p V share part fn fixed f l a b h v s x is-address o
+    (world.room ns o.differ there) st size j (map is_some ms) ks (p.step valid) in
+    let z = value k.v.whole k.c.1 in
+    let had = holds-cell p.program V (opened_table ns V) part k.ks k.v k.s held h fn fixed
+    (with_rest f b) k.ready k.j k.c k.is at k.address in
+    let done = statement-done p V part held ns fn fixed f h l.number b x a is-address k in
+    let r = after_act a f b z in
+    let count = ap length done.opened in
+    let room = fits-less p.program V part (both p.program part no_stock)
+    (inside-first p.program part no_stock) (world.room [] tt tt) in
+    let finished = finish V part (recelled held at z r.0) ns k.ks k.v done.t l.number h fn fixed r.1
+    done.trees world.bound (ap (regions_of k.v) done.opened ∙ k.regions) (ok z)
+    (subst (λ m. Open p.N done.trees done.t (then_close l.number m r.1.rest h)) (sym count)
+    done.goes)
+    (open-fits p.program ns V world.fits) (open-listed p.program ns V world.bound world.listed)
+    world.full room done.ready.closing done.ready.over k.names done.ready.store in
+    record {
+      content = z;
+      is_cell = there-in heap at z (λ c y.
+          let one = had c y in
+          let le = world.cells ns o.differ there c y in
+          omega (arith, one, le));
+      entered = ns;
+      differ = o.differ;
+      there = there;
+      two = (let e = map-length (λ (g : PlainFact). value v.whole g.region) s.opened in
+          omega (arith, e, two));
+      had = had;
+      kept = finished.kept;
+      by = finished.by;
+      stands = finished.stands;
+    }
