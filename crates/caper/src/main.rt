@@ -11,6 +11,11 @@ use std::io::ErrorKind;
 use std::process::ExitCode;
 use std::rt::Env;
 
+// The bytes of a block that is taken at the start, and given back at once. The C library then keeps up to
+// twice as many free bytes for later blocks. Otherwise it hands the room of each elimination back to the
+// system, and the room of the next one is new to the process, page by page.
+const KEPT: usize = 1 << 24;
+
 /// The words after the program's name. Where one is not text there are none, which is no command.
 fn words<R: Env + AllocGlobal>(rt: &R) -> Result<Vec<String>, AllocError> {
     match env::args(rt) {
@@ -22,6 +27,7 @@ fn words<R: Env + AllocGlobal>(rt: &R) -> Result<Vec<String>, AllocError> {
 
 fn main(rt: HostRuntime) -> ExitCode {
     let alloc = rt.alloc();
+    drop(Vec::<u8>::with_capacity(alloc, KEPT));
     let status = match words(&rt) {
         Ok(words) => {
             let mut shelf = FileShelf::new(alloc, &rt);
