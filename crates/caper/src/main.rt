@@ -11,9 +11,9 @@ use std::io::ErrorKind;
 use std::process::ExitCode;
 use std::rt::Env;
 
-// The bytes of a block that is taken at the start, and given back at once. The C library then keeps up to
-// twice as many free bytes for later blocks. Otherwise it hands the room of each elimination back to the
-// system, and the room of the next one is new to the process, page by page.
+// The bytes of a block that is taken at the start, and given back at once. The C library then keeps
+// up to twice as many free bytes for later blocks. Otherwise it hands the room of each elimination
+// back to the system, and the room of the next one is new to the process, page by page.
 const KEPT: usize = 1 << 24;
 
 /// The words after the program's name. Where one is not text there are none, which is no command.
