@@ -1,5 +1,6 @@
-pub mod GiveTerms
 pub mod Asserted
+pub mod Filling
+pub mod GiveTerms
 pub mod Laws
 pub mod NewRegions
 pub mod TreeSizes
