@@ -9,7 +9,7 @@ use Rattle.cap_prog.specs.declared.assertion.Asked.TheVariants.{One, Share, Src,
 use Rattle.cap_prog.specs.Program.{PlainItem, compare, choose, fact, atom, cell, Items, none, item, append_items, PlainProgram}
 use Rattle.cap_account_resources.specs.Parts.{Table}
 use Rattle.cap_account_resources.proofs.Stocks.{Stock, Inside, inside-same}
-use Rattle.cap_account_states.proofs.Brought.{Filled, fill_parts, fill_slot, fill_slots, fill_amount, fill_sides}
+use Rattle.cap_account_states.proofs.Filled.{Filled, fill_parts, fill_slot, fill_slots, fill_amount, fill_sides}
 use Rattle.cap_account_states.proofs.Wants.{Wants}
 use Rattle.cap_account_assertions.proofs.Asserted.{Draws, DrawsAll, draws-more, draws-all-more, draws-join}
 

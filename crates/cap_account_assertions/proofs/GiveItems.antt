@@ -32,7 +32,7 @@ use Rattle.cap_account_states.specs.Nodes.{Comes}
 use Rattle.cap_account_states.proofs.Terms.{Over, row-over, value-number, Agree}
 use Rattle.cap_account_states.proofs.Attempts.{comes-bind, comes-comparison, after-cell, cell_added, row_added}
 use Rattle.cap_account_states.proofs.Meets.{Usable, usable-old, CellOver, Meets, Old, meets-row, variable-value}
-use Rattle.cap_account_states.proofs.Brought.{Filled, filled_at, fill_parts, fill_slot, fill_slots}
+use Rattle.cap_account_states.proofs.Filled.{Filled, filled_at, fill_parts, fill_slot, fill_slots}
 use Rattle.cap_account_states.proofs.Naming.{Ready, Step, step-trans}
 use Rattle.cap_account_states.proofs.Adding.{comes-piece, piece_added}
 use Rattle.cap_account_states.proofs.Facts.{StateHolds, facts-same, FactHolds, FactOver, fact_added, comes-fact, no-other-type}

@@ -20,7 +20,7 @@ use Rattle.cap_account_states.specs.Nodes.{Comes, Children, Open}
 use Rattle.cap_account_states.proofs.Attempts.{comes-bind, after-comparison, row_added}
 use Rattle.cap_account_states.proofs.Meets.{solves}
 use Rattle.cap_account_states.proofs.Checked.{Checked, children-split, one-child}
-use Rattle.cap_account_states.proofs.Brought.{Filled, filled_at, fill_sides}
+use Rattle.cap_account_states.proofs.Filled.{Filled, filled_at, fill_sides}
 use Rattle.cap_account_states.proofs.Naming.{Step}
 use Rattle.cap_account_states.proofs.Items.{items_size, size-positive, append-size, AreFit, fits-append, fits-more, fits-sides}
 use Rattle.cap_account_states.proofs.KnowsLater.{backed-more}

@@ -27,7 +27,7 @@ use Rattle.cap_account_resources.proofs.Lists.{get-last, push-length}
 use Rattle.cap_account_states.proofs.Terms.{Over}
 use Rattle.cap_account_states.proofs.Attempts.{comes-bind, after-sort, sort_added}
 use Rattle.cap_account_states.proofs.Meets.{Usable, new-share, variable-amount}
-use Rattle.cap_account_states.proofs.Brought.{Filled, filled_at, fill_slots, fill_amount}
+use Rattle.cap_account_states.proofs.Filled.{Filled, filled_at, fill_slots, fill_amount}
 use Rattle.cap_account_states.proofs.Naming.{Ready, Step, step-none, step-trans, step-fresh}
 use Rattle.cap_account_states.proofs.Wants.{AmountIs, Wants}
 use Rattle.cap_account_states.proofs.Guarding.{FormOver}

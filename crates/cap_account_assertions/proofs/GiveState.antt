@@ -11,7 +11,7 @@ use Rattle.cap_account_resources.proofs.Stocks.{Stock, both, stock-laws, Inside,
 use Rattle.cap_account_states.proofs.Terms.{Agree, agree-same, agree-trans, agree-less}
 use Rattle.cap_account_states.proofs.Alike.{agree-alike}
 use Rattle.cap_account_states.proofs.Meets.{Meets, Old}
-use Rattle.cap_account_states.proofs.Brought.{Filled, filled_at}
+use Rattle.cap_account_states.proofs.Filled.{Filled, filled_at}
 use Rattle.cap_account_states.proofs.Naming.{Ready, Step}
 use Rattle.cap_account_states.proofs.Items.{AreFit, fits-more}
 use Rattle.cap_account_states.proofs.Backed.{IsFirm, Knows, GoesOn, OtherEnvs}

@@ -25,7 +25,7 @@ use Rattle.cap_account_resources.proofs.Lists.{get-last, push-length}
 use Rattle.cap_account_states.proofs.Terms.{Over, vars-more, RowOver, row-over, Agree, number-agree, relates-same}
 use Rattle.cap_account_states.proofs.Attempts.{comes-bind, after-computed, after-sort, sort_added, row_added}
 use Rattle.cap_account_states.proofs.Meets.{Usable, usable-old, need, Old, Same, same-trans, with_value, new-whole, new-share, variable-value, meets-row, same-row, usable-on}
-use Rattle.cap_account_states.proofs.Brought.{Filled, filled_at, fill_parts, fill_slot, fill_sides}
+use Rattle.cap_account_states.proofs.Filled.{Filled, filled_at, fill_parts, fill_slot, fill_sides}
 use Rattle.cap_account_states.proofs.Naming.{Ready, Step, step-trans, step-fresh, parts-named, term-over, term-number}
 
 -- the same with a row more

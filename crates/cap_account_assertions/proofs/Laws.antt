@@ -24,7 +24,7 @@ use Rattle.cap_account_states.proofs.Meets.{Usable, Old}
 use Rattle.cap_account_states.proofs.Facts.{Facts}
 use Rattle.cap_account_states.proofs.Items.{AreFit}
 use Rattle.cap_account_states.proofs.Checked.{Checked}
-use Rattle.cap_account_states.proofs.Brought.{Filled, filled_at}
+use Rattle.cap_account_states.proofs.Filled.{Filled, filled_at}
 use Rattle.cap_account_states.proofs.Naming.{Placed, Means, Stays}
 use Rattle.cap_account_states.proofs.Matching.{Outside}
 use Rattle.cap_account_states.proofs.Backed.{IsFirm, IsOpened, Backed, Grounded, GoesOn, OtherEnvs}

@@ -3,7 +3,7 @@ pub mod Terms
 pub mod Meets
 pub mod Checked
 pub mod Items
-pub mod Brought
+pub mod Filled
 pub mod Naming
 pub mod Scopes
 pub mod Values

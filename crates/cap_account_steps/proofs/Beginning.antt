@@ -28,7 +28,7 @@ use Rattle.cap_account_states.proofs.Meets.{Usable, Old}
 use Rattle.cap_account_states.proofs.Alike.{agree-alike}
 use Rattle.cap_account_states.proofs.Items.{AreFit}
 use Rattle.cap_account_states.proofs.Checked.{Checked, one-child}
-use Rattle.cap_account_states.proofs.Brought.{Filled, filled_at}
+use Rattle.cap_account_states.proofs.Filled.{Filled, filled_at}
 use Rattle.cap_account_states.proofs.Naming.{Ready}
 use Rattle.cap_account_states.proofs.Values.{normal}
 use Rattle.cap_account_states.proofs.Scopes.{rep-length, length-join}

@@ -39,7 +39,7 @@ use Rattle.cap_account_states.proofs.Checked.{Checked, children-split, one-child
 use Rattle.cap_account_states.proofs.Compatible.{pieces-more, covered-alike}
 use Rattle.cap_account_states.proofs.Facts.{StateHolds, StateOver, FactHolds, FactOver, Facts}
 use Rattle.cap_account_states.proofs.Meets.{Usable, usable-old, usable-on, Meets, Old, proved-holds}
-use Rattle.cap_account_states.proofs.Brought.{filled_at}
+use Rattle.cap_account_states.proofs.Filled.{filled_at}
 use Rattle.cap_account_states.proofs.Naming.{Placed, Means}
 use Rattle.cap_account_states.proofs.Scopes.{length-join}
 use Rattle.cap_account_states.proofs.Pieces.{AllFit}
