@@ -21,6 +21,7 @@ pub mod Halving
 pub mod Guards
 pub mod Facts
 pub mod Alike
+pub mod Brought
 pub mod Wants
 pub mod Backed
 pub mod Sums
