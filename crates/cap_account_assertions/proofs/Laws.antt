@@ -20,6 +20,7 @@ use Rattle.cap_account_resources.proofs.Owners.{Owner, owned, numbers_of}
 use Rattle.cap_account_states.specs.Nodes.{Open}
 use Rattle.cap_account_states.proofs.Terms.{Agree}
 use Rattle.cap_account_states.proofs.Alike.{Alike}
+use Rattle.cap_account_states.proofs.Brought.{Bring, Brought}
 use Rattle.cap_account_states.proofs.Meets.{Usable, Old}
 use Rattle.cap_account_states.proofs.Facts.{Facts}
 use Rattle.cap_account_states.proofs.Items.{AreFit}
@@ -86,13 +87,15 @@ GivenLaw p =
 
 -- ---- taking
 
--- so many regions may be created (`most`); what is given has the items at all values alike to the
+-- new variables have the values that are brought; so many regions may be created (`most`); what is given has the items at all values alike to the
 -- present ones
 pub record Taken (p : Checked) (ks : List ℕ) (T : Table) (sc : Scope) (e most : ℕ) (v : Valuation)
     (held : Stock) (s : PlainState) (items : Items) (ts : List PlainTask) : Type 0 where
   pub w : Valuation
   pub alike : Alike (Old s) v w
   pub after : PlainState
+  pub brings : List Bring
+  pub brought : Brought s after w brings
   pub children : PlainTrees
   pub goes : Open p.N children after ts
   pub U : Table
