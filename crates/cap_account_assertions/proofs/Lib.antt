@@ -31,3 +31,4 @@ pub mod GiveLaw
 pub mod MadeTables
 pub mod TakenStill
 pub mod Again
+pub mod Coarser

@@ -1,0 +1,138 @@
+-- What holds at values holds at alike ones, also where their denominator is coarser. So what taking
+-- leads to holds at all values that are alike before and of which the same is brought.
+use Rattle.std.proofs.Common.{ℕ, List, length, refl}
+use Rattle.cap_lin.specs.Values.{Valuation}
+use Rattle.cap_prog.specs.Program.{PlainItem, Items, PlainProgram}
+use Rattle.cap_prog.specs.Scopes.{Scope}
+use Rattle.cap_goal_spec.specs.States.{PlainState, PlainTask}
+use Rattle.cap_goal_spec.specs.Choices.{PlainTrees}
+use Rattle.cap_account_resources.specs.Parts.{Table}
+use Rattle.cap_account_resources.proofs.Stocks.{Stock}
+use Rattle.cap_account_states.proofs.Meets.{Old, same-state}
+use Rattle.cap_account_states.proofs.Alike.{Alike, alike-back, alike-trans, meets-alike}
+use Rattle.cap_account_states.proofs.Brought.{Bring, Brings, Brought, brought-named}
+use Rattle.cap_account_states.proofs.Checked.{Checked}
+use Rattle.cap_account_states.proofs.Backed.{Backed, Grounded}
+use Rattle.cap_account_states.proofs.KnowsLater.{old-steady, knows-on}
+use Rattle.cap_account_assertions.proofs.Laws.{StateAt, Taken}
+use Rattle.cap_account_assertions.proofs.Follows.{Follows}
+use Rattle.cap_account_assertions.proofs.TakeSteps.{Job, Head}
+use Rattle.cap_account_assertions.proofs.TakeHeads.{ready-kept, ItemTaken, ItemsTurned}
+
+-- ---- at alike values
+
+module _ (p : PlainProgram) (ks : List ℕ) (T : Table) (sc : Scope) (e : ℕ) (v w : Valuation)
+    (s : PlainState) (l : Alike (Old s) v w) where
+  pub grounded-alike : Grounded p ks v s → Grounded p ks w s
+  grounded-alike g = record {
+    meets = meets-alike ks v w s l g.meets;
+    pieces_over = g.pieces_over;
+    pieces_fit = g.pieces_fit;
+  }
+
+  pub state-alike : StateAt p ks T sc e v s → StateAt p ks T sc e w s
+  state-alike st =
+      ready-kept sc e v w s s (same-state s) refl l p ks T st (grounded-alike st.grounded)
+
+  pub backed-alike :
+      (q : Stock) → StateAt p ks T sc e v s → Backed p v s q → Backed p w s q
+  backed-alike q st b =
+      (knows-on p ks v w s s (record {
+        alike = old-steady ks v w s l;
+        sorts = λ x o h. h;
+        facts = refl;
+        guards = refl;
+        opened = refl;
+      }) T q st.grounded.meets refl (record {
+        facts = st.facts;
+        pieces_over = st.grounded.pieces_over;
+        pieces_fit = st.grounded.pieces_fit;
+        opened = st.opened;
+        backed = b;
+      })).backed
+
+-- ---- at values of which the same is brought
+
+-- alike before, and so after
+pub then-alike :
+    (s t : PlainState) (v w u : Valuation) (bs : List Bring) → Brought s t w bs →
+    Alike (Old s) v w → Alike (Old s) v u → Brings u (length s.sorts) bs → Alike (Old t) w u
+then-alike s t v w u bs h l m k =
+    brought-named s t w u bs h
+    (alike-trans (Old s) w v u (alike-back (Old s) v w l) m) k
+
+module _ (p : Checked) (ks : List ℕ) (T : Table) (j : Job) (v : Valuation) (s : PlainState)
+    (c : Stock) (bs : List Bring) (u : Valuation) (l : Alike (Old s) v u)
+    (k : Brings u (length s.sorts) bs) where
+  -- a rule's head
+  abbrev pub head-named : Head p.program ks T j v s c bs → Head p.program ks T j v s c bs
+  head-named h =
+      let f = h.follows in
+      let now = then-alike s h.after v h.w u bs h.brought f.alike l k in
+      record {
+        w = u;
+        after = h.after;
+        follows = record {
+          alike = l;
+          goes_on = f.goes_on;
+          loose = f.loose;
+          stays = f.stays;
+          outside = f.outside;
+          size = f.size;
+          others = f.others;
+        };
+        brought = record { count = h.brought.count; are = k };
+        ready = state-alike p.program ks T j.scope j.env h.w u h.after now h.ready;
+        left = h.left;
+        backed =
+            backed-alike p.program ks T j.scope j.env h.w u h.after now h.left h.ready h.backed;
+        taken = h.taken;
+        apart = h.apart;
+      }
+
+  -- an item that goes
+  abbrev pub item-named :
+      (trees : PlainTrees) (i : PlainItem) (more : Items) →
+      ItemTaken p ks T j v s c trees bs i more → ItemTaken p ks T j v s c trees bs i more
+  item-named trees i more r =
+      let h = r.head in
+      let now = then-alike s h.after v h.w u bs h.brought h.follows.alike l k in
+      record {
+        head = head-named h;
+        claim = λ x m. r.claim x (alike-trans (Old h.after) h.w u x now m);
+        goes = r.goes;
+      }
+
+-- all that is taken
+abbrev pub taken-named :
+    (p : Checked) (ks : List ℕ) (T : Table) (sc : Scope) (e most : ℕ) (v : Valuation)
+    (held : Stock) (s : PlainState) (items : Items) (ts : List PlainTask)
+    (t : Taken p ks T sc e most v held s items ts) (u : Valuation) → Alike (Old s) v u →
+    Brings u (length s.sorts) t.brings → Taken p ks T sc e most v held s items ts
+taken-named p ks T sc e most v held s items ts t u l k =
+    let now = then-alike s t.after v t.w u t.brings t.brought t.alike l k in
+    record {
+      w = u;
+      alike = l;
+      after = t.after;
+      brings = t.brings;
+      brought = record { count = t.brought.count; are = k };
+      children = t.children;
+      goes = t.goes;
+      U = t.U;
+      new = t.new;
+      made = t.made;
+      none_made = t.none_made;
+      ready = state-alike p.program ks t.U sc e t.w u t.after now t.ready;
+      loose = t.loose;
+      goes_on = t.goes_on;
+      stays = t.stays;
+      outside = t.outside;
+      size = t.size;
+      others = t.others;
+      given = t.given;
+      left = t.left;
+      backed = backed-alike p.program ks t.U sc e t.w u t.after now t.left t.ready t.backed;
+      budget = t.budget;
+      draws = λ x m. t.draws x (alike-trans (Old t.after) t.w u x now m);
+    }
