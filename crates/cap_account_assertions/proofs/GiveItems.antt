@@ -128,8 +128,8 @@ abbrev pub IsPlain : PlainItem → Type 0
 IsPlain (choose c x y) = ⊥
 IsPlain i = Unit {0}
 
-module _ (p : PlainProgram) (T : Table) (sc : Scope) (e : ℕ) (a : Valuation) (total : Stock) (goal : Filled)
-    where
+module _ (p : PlainProgram) (T : Table) (sc : Scope) (e : ℕ) (a : Valuation) (total : Stock)
+    (goal : Filled) where
   abbrev IsDue : PlainItem → Items → Valuation → PlainState → Type 0
   IsDue one more v s = Due p T sc e a total goal (item one more) v s
 

@@ -127,11 +127,10 @@ puts-name :
     Puts f (fill_name a o x t f)
 puts-name a o x (Some t) f = puts-none f
 puts-name a o x None f = record {
-  new =
-      (
-        a.whole x,
-        share_for o (a.whole x *ℤ denominator f.values.fraction) (a.fraction.numerator x),
-      ) ∷ [];
+  new = (
+    a.whole x,
+    share_for o (a.whole x *ℤ denominator f.values.fraction) (a.fraction.numerator x),
+  ) ∷ [];
   count = omega arith;
   values = refl;
 }
