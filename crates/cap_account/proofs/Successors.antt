@@ -9,7 +9,7 @@ use Rattle.cap_machine.specs.Machine.{Heap}
 use Rattle.cap_machine_accounts.specs.Parts.{Part, no_part}
 use Rattle.cap_machine_accounts.specs.Accounts.{Held, OwnedRegion, Account, table_of, CellsWithin, GuardsFit}
 use Rattle.cap_machine_accounts.specs.Following.{FollowsRegion, FollowRegions}
-use Rattle.cap_account_resources.specs.Parts.{Table, cells_of}
+use Rattle.cap_account_resources.specs.Parts.{cells_of}
 use Rattle.cap_account_resources.proofs.Lists.{none-some, Among, all-more, map-join}
 use Rattle.cap_account_resources.proofs.Monoid.{atom as at, both as plus}
 use Rattle.cap_account_resources.proofs.Stocks.{Stock, both, Inside, stock-laws, some-inside, inside-trans, inside-cells}
@@ -157,9 +157,6 @@ module _ (p : Checked) (stable : Stable p.program) (x : Turn p) (y : Stride p x)
 
   abbrev ch : Change p.program (scene p x) y.heap y.left
   ch = y.change
-
-  abbrev V : Table
-  V = account_table x.a
 
   abbrev pub all : Stock
   all = all_after p.program (scene p x) y.heap y.left y.change

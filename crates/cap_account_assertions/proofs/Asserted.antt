@@ -1,5 +1,5 @@
--- Assertions over stocks: what an item draws out of what is held, and what contracts, invariants and
--- interpretations own.
+-- Assertions over stocks: what an item draws out of what is held, and what contracts, invariants
+-- and interpretations own.
 use Rattle.std.proofs.Common.{◌≡◌, ◌⊎◌, ℕ, suc, ℤ, pos, ◌<ℤ◌, List, ◌∷◌, length, Option, Some, inl, inr}
 use Rattle.std.specs.Prelude.{slice_get}
 use Rattle.std.specs.List.{AllByRecursion}

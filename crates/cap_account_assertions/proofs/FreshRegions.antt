@@ -16,6 +16,7 @@ use Rattle.cap_goal_spec.specs.States.{PlainFact, PlainState}
 use Rattle.cap_rules.specs.Attempts.{Attempt, ◌>>=◌}
 use Rattle.cap_rules.specs.Making.{fresh, with_differing, with_pieces}
 use Rattle.cap_rules.specs.Taking.{with_new_region}
+use Rattle.cap_account_states.proofs.Alike.{usable-alike, Alike, agree-alike, need-alike, meets-fresh}
 use Rattle.cap_account_resources.specs.Parts.{Table}
 use Rattle.cap_account_resources.proofs.Lists.{none-some, get-last, all-more, all-both}
 use Rattle.cap_account_resources.proofs.Marks.{Mark, free, joins-law}
@@ -24,10 +25,9 @@ use Rattle.cap_account_resources.proofs.Room.{all_guards, alone, alone-here, alo
 use Rattle.cap_account_resources.proofs.Stocks.{Stock, guard_stock, both, Composes}
 use Rattle.cap_account_states.specs.Nodes.{Comes}
 use Rattle.cap_account_states.proofs.Terms.{Over, vars-more}
-use Rattle.cap_account_states.proofs.Alike.{Alike, agree-alike, value-alike, need-alike}
 use Rattle.cap_account_states.proofs.Attempts.{comes-bind, after-sort, sort_added}
 use Rattle.cap_account_states.proofs.Brought.{Brought, a_whole}
-use Rattle.cap_account_states.proofs.Meets.{Free, Usable, usable-on, usable-old, Old, same-fresh, with_value, new-whole, new-share, with-agrees, variable-value, meets-fresh}
+use Rattle.cap_account_states.proofs.Meets.{Free, Usable, usable-on, usable-old, Old, same-fresh, with_value, new-whole, new-share, with-agrees, variable-value}
 use Rattle.cap_account_states.proofs.Compatible.{pieces-more, covered-alike}
 use Rattle.cap_account_states.proofs.Facts.{FactHolds, FactOver, Facts, facts-on}
 use Rattle.cap_account_states.proofs.Budgets.{full-mark}
@@ -122,8 +122,7 @@ fresh-known p ks T v s c n h =
           (λ f o. (
             vars-more (R Int) (S Int) (on Int) f.region.parts o.0,
             o.1,
-            ap T (value-alike (Old s) v w l f.region
-                (vars-more (R Int) (Old s) (old Int) f.region.parts o.0)) ∙ o.2,
+            ap T (usable-alike ks s v w l f.region o.0) ∙ o.2,
           )) s.opened h.opened;
       backed = record {
         cells = λ a z.

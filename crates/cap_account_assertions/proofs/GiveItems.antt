@@ -143,7 +143,8 @@ module _ (p : PlainProgram) (T : Table) (sc : Scope) (e : ℕ) (a : Valuation) (
       IsDue (compare c) more v s → Comes (give_item p s e (compare c)) P → IsGiven more v s P
   compare-gives c more v s P d h =
       let i = compare c in
-      let g = sides-given sc e a v s c _ d.underway.ready d.fit.0 (comes-bind (give_sides s e c) _ P h)
+      let g = sides-given sc e a v s c _ d.underway.ready d.fit.0
+      (comes-bind (give_sides s e c) _ P h)
       in
       let m = sides-row sc e a v s c c.op _ g d.draws.1.0 in
       let t = row_added g.after (row_of g.left c.op g.right c.sort) in

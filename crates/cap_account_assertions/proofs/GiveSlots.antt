@@ -1,5 +1,5 @@
--- What slots and forms that are given become: terms and forms of the state, with the values that are
--- asked for.
+-- What slots and forms that are given become: terms and forms of the state, with the values that
+-- are asked for.
 use Rattle.std.proofs.Common.{◌≡◌, ℕ, ◌+◌, ℤ, pos, ◌*ℤ◌, List, [], ◌∷◌, length, map, refl, sym, ap, ◌∙◌}
 use Rattle.std.specs.List.{AllByRecursion}
 use Rattle.cap_lin.specs.Linear.{Linear}

@@ -34,13 +34,15 @@ test-other b a Equal m e = absurd (e m)
 test-other b a Greater m e = refl
 
 pub insert-same :
-    {X : Type 0} (h : FinMap int_cmp X) (a : ℤ) (w : X) (b : ℤ) → b ≡ a → get (insert h a w) b ≡ Some w
+    {X : Type 0} (h : FinMap int_cmp X) (a : ℤ) (w : X) (b : ℤ) → b ≡ a →
+    get (insert h a w) b ≡ Some w
 insert-same h a w b e =
     get-insert int_cmp_total h a w b
     ∙ ap (λ t. cond t (Some w) (get h b)) (test-equal b a (int_cmp b a) (int_ranks b a) e)
 
 pub insert-other :
-    {X : Type 0} (h : FinMap int_cmp X) (a : ℤ) (w : X) (b : ℤ) → b ≢ a → get (insert h a w) b ≡ get h b
+    {X : Type 0} (h : FinMap int_cmp X) (a : ℤ) (w : X) (b : ℤ) → b ≢ a →
+    get (insert h a w) b ≡ get h b
 insert-other h a w b e =
     get-insert int_cmp_total h a w b
     ∙ ap (λ t. cond t (Some w) (get h b)) (test-other b a (int_cmp b a) (int_ranks b a) e)

@@ -1,5 +1,5 @@
--- What the table has room for: all guards of each of its regions, and none of other numbers; a region
--- is created with all of its guards.
+-- What the table has room for: all guards of each of its regions, and none of other numbers; a
+-- region is created with all of its guards.
 use Rattle.std.proofs.Common.{◌≡◌, ◌≢◌, ◌⊎◌, inl, inr, ℕ, ℤ, Bool, true, false, Option, Some, None, refl, sym, ap, ◌∙◌, subst}
 use Rattle.std.specs.Prelude.{if◌then◌else◌}
 use Rattle.cap_lin.specs.Linear.{same_number}

@@ -1,6 +1,7 @@
 -- Values that are alike on some variables: the same whole numbers and, whatever the denominators,
 -- the same fractions. What is said of these variables holds at both or at neither.
-use Rattle.std.proofs.Common.{◌≡◌, ℕ, ◌+◌, ℤ, pos, ◌+ℤ◌, ◌*ℤ◌, ◌<ℤ◌, List, [], ◌∷◌, map, arith, refl, sym, ap, ◌∙◌, subst, inl, inr}
+use Rattle.std.proofs.Common.{◌≡◌, ℕ, zero, suc, ◌+◌, ◌<◌, ℤ, pos, ◌+ℤ◌, ◌*ℤ◌, ◌<ℤ◌, List, [], ◌∷◌, ◌++◌, length, map, Some, arith, refl, sym, ap, ◌∙◌, subst, inl, inr}
+use Rattle.std.specs.Prelude.{slice_get}
 use Rattle.std.specs.List.{AllByRecursion}
 use Rattle.std.proofs.lemmas.Int.{ints}
 use Rattle.cap_numbers.proofs.Ring.{expand, product3}
@@ -20,10 +21,11 @@ use Rattle.cap_prog.specs.Scopes.{Scope, HasSort, TermFits, CompFits}
 use Rattle.cap_machine_accounts.specs.Assertions.{CompHolds}
 use Rattle.cap_goal_spec.specs.States.{PlainState}
 use Rattle.cap_rules.specs.Making.{opposite}
-use Rattle.cap_account_resources.proofs.Lists.{within}
+use Rattle.cap_account_resources.proofs.Lists.{within, some-same, none-some, all-more, get-first, get-join}
 use Rattle.cap_account_resources.proofs.Order.{relates-times, relates-or, not-both}
 use Rattle.cap_account_states.proofs.Terms.{Vars, Over, vars-more, RowOver, value-is, amount-is, sum-agree, Agree}
-use Rattle.cap_account_states.proofs.Meets.{Usable, usable-old, CellOver, Meets, need, Old, Same}
+use Rattle.cap_account_states.proofs.Meets.{Free, Usable, usable-old, usable-on, CellOver, cell-more, row-more, Meets, need, Old, Same}
+use Rattle.cap_account_states.proofs.Attempts.{sort_added}
 use Rattle.cap_account_states.proofs.Values.{scaled, scaled-denominator}
 
 -- on these variables the whole numbers are the same, and the numerators equal crosswise
@@ -175,6 +177,14 @@ values-alike P v w a (t ∷ ts) h =
     ap (λ z. z ∷ map (value w.whole) ts) (value-alike P v w a t h.0)
     ∙ ap (λ zs. value v.whole t ∷ zs) (values-alike P v w a ts h.1)
 
+-- of a term over usable variables
+pub usable-alike :
+    (ks : List ℕ) (s : PlainState) (v w : Valuation) → Alike (Old s) v w → (t : Linear) →
+    Over (Usable ks s.sorts Int) t → value w.whole t ≡ value v.whole t
+usable-alike ks s v w a t h =
+    value-alike (Old s) v w a t
+    (vars-more (Usable ks s.sorts Int) (Old s) (usable-old ks s.sorts Int) t.parts h)
+
 pub amount-alike :
     (P : ℕ → Type 0) (v w : Valuation) → Alike P v w → (t : Linear) → Over P t →
     amount w.fraction t *ℤ denominator v.fraction ≡ amount v.fraction t *ℤ denominator w.fraction
@@ -303,3 +313,63 @@ meets-alike ks v w s a m = record {
       m.cells_over m.positive;
   store_over = m.store_over;
 }
+
+-- other values, at which the same is known of all but the variables that are kept free
+pub meets-agree :
+    (ks : List ℕ) (v w : Valuation) (s : PlainState) →
+    Agree (λ x. (x < length s.sorts) × Free ks x) v w →
+    ((x : ℕ) → slice_get s.sorts x ≡ Some Int → IsWholeAt w x) → Meets ks v s → Meets ks w s
+meets-agree ks v w s a whole m =
+    let R = Usable ks s.sorts in
+    let P : ℕ → Type 0 = λ x. (x < length s.sorts) × Free ks x in
+    let near : (o : Sort) (x : ℕ) → R o x → P x = λ o x h. (usable-old ks s.sorts o x h, h.1) in
+    let l = agree-alike P v w a in
+    record {
+      sorted = whole;
+      rows = rows-alike R P v w near l s.rows m.rows_over m.rows;
+      rows_over = m.rows_over;
+      cells_over = m.cells_over;
+      positive = positive-alike R P v w (near Int) l s.cells m.cells_over m.positive;
+      store_over = m.store_over;
+    }
+
+-- ---- with a new variable
+
+abbrev pub SortOk : Valuation → ℕ → Sort → Type 0
+SortOk v x Int = IsWholeAt v x
+SortOk v x Perm = Unit {0}
+
+pub meets-fresh :
+    (ks : List ℕ) (v w : Valuation) (s : PlainState) (o : Sort) → Agree (Old s) v w →
+    SortOk w (length s.sorts) o → Meets ks v s → Meets ks w (sort_added s o)
+meets-fresh ks v w s o a ok m =
+    let b = meets-alike ks v w s (agree-alike (Old s) v w a) m in
+    let R = Usable ks s.sorts in
+    let S = Usable ks (s.sorts ++ o ∷ []) in
+    record {
+      sorted =
+          λ x e. elim (get-join s.sorts (o ∷ []) x Int e)
+          [ inl h ↦ b.sorted x h | inr h ↦ new x h.0 h.1 h.2 ];
+      rows = b.rows;
+      rows_over = all-more (RowOver R) (RowOver S) (row-more R S (more ks)) s.rows m.rows_over;
+      cells_over =
+          all-more (CellOver R) (CellOver S) (cell-more R S (more ks)) s.cells m.cells_over;
+      positive = b.positive;
+      store_over =
+          all-more (Over (Usable [] s.sorts Int)) (Over (Usable [] (s.sorts ++ o ∷ []) Int))
+          (λ t h. vars-more (Usable [] s.sorts Int) (Usable [] (s.sorts ++ o ∷ []) Int)
+          (more [] Int) t.parts h) s.store m.store_over;
+    }
+  where
+    more :
+        (js : List ℕ) (p : Sort) (x : ℕ) → Usable js s.sorts p x →
+        Usable js (s.sorts ++ o ∷ []) p x
+    more js p x h =
+        usable-on js s.sorts (s.sorts ++ o ∷ []) (λ y q e. get-first s.sorts (o ∷ []) y q e) p x h
+
+    new : (x j : ℕ) → x ≡ length s.sorts + j → slice_get (o ∷ []) j ≡ Some Int → IsWholeAt w x
+    new x zero e f =
+        let q : o ≡ Int = some-same o Int f in
+        let r : length s.sorts ≡ x = omega (arith, e) in
+        subst (IsWholeAt w) r (subst (SortOk w (length s.sorts)) q ok)
+    new x (suc j) e f = absurd (none-some f)

@@ -1,6 +1,6 @@
 -- A predicate of nodes that passes from each node to those below it; valid derivations are such.
 use Rattle.std.proofs.Common.{◌≡◌, inl, inr, ℕ, suc, ℤ, List, [], ◌∷◌, ◌++◌, map, Option, Some, None, refl, sym, ap, subst}
-use Rattle.std.specs.Prelude.{slice_get, IsSomeAnd}
+use Rattle.std.specs.Prelude.{IsSomeAnd}
 use Rattle.std.specs.List.{AllByRecursion}
 use Rattle.cap_lin.specs.Rows.{negations}
 use Rattle.cap_lin.specs.Steps.{first_wide}
@@ -11,14 +11,13 @@ use Rattle.cap_lin.proofs.Proves.{negations-prove}
 use Rattle.cap_farkas.specs.declared.cert.Cert.{Cert}
 use Rattle.cap_farkas.specs.Refutes.{Refutes}
 use Rattle.cap_farkas.proofs.Sound.{refuted-excludes, excluded-infeasible}
-use Rattle.cap_prog.specs.Program.{PlainRegionType, PlainProgram}
+use Rattle.cap_prog.specs.Program.{PlainProgram}
 use Rattle.cap_goal_spec.specs.States.{PlainState, PlainTask, PlainGoal, goal}
 use Rattle.cap_goal_spec.specs.Choices.{PlainTree, node, PlainTrees, no_trees, tree}
 use Rattle.cap_rules.specs.Attempts.{Claim, refuted, proved, IsTrueClaim, owed, Event, makes, claims, Attempt}
 use Rattle.cap_rules.specs.Answers.{Answer, applies, inapplicable, too_wide, Ending, passed, refused, stopped, Refuting, Within, Ends, answer_at, Answers, Subgoals}
 use Rattle.cap_rules.specs.Valid.{AllDerive}
 use Rattle.cap_account_states.specs.Nodes.{NodePredicate, AreTrue, Comes, Children, IsNode, Deriving}
-use Rattle.cap_account_resources.proofs.Lists.{none-some}
 
 pub record Checked : Type 1 where
   pub program : PlainProgram
@@ -48,15 +47,6 @@ pub one-child :
 one-child N no_trees s ts h = absurd h
 one-child N (tree t no_trees) s ts h = (t, h.0)
 one-child N (tree t (tree u us)) s ts h = absurd h.1
-
-pub no-region :
-    (p : PlainProgram) → p.regions ≡ [] → (k : ℕ) (P : PlainRegionType → Type 0) →
-    IsSomeAnd (slice_get p.regions k) P → ⊥
-no-region p bare k P h = by (slice_get p.regions k) (ap (λ rs. slice_get rs k) bare) h
-  where
-    by : (o : Option PlainRegionType) → o ≡ None → IsSomeAnd o P → ⊥
-    by None e h = h
-    by (Some y) e h = none-some (sym e)
 
 -- ---- what certificates prove
 

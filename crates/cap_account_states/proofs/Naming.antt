@@ -22,7 +22,8 @@ use Rattle.cap_account_resources.proofs.Lists.{get-first, get-last, get-set-same
 use Rattle.cap_account_states.proofs.Terms.{Vars, Over, vars-more, over-over, RowOver, row-over, by_terms, value-is, amount-is, number-over, Agree, agree-same, value-agree, amount-agree, sum-agree, relates-same}
 use Rattle.cap_account_states.proofs.Attempts.{comes-bind, comp_row, AreDetermined, sort_added, after-sort}
 use Rattle.cap_account_states.proofs.Filled.{Filled, filled_at, share_for, fill_name, fill_parts}
-use Rattle.cap_account_states.proofs.Meets.{Usable, is-of, usable-on, usable-old, Meets, Old, Same, same-state, same-trans, same-fresh, agree-on, with_value, new-whole, new-share, with-agrees, variable-value, variable-amount, SortOk, meets-fresh, meets-env}
+use Rattle.cap_account_states.proofs.Meets.{Usable, is-of, usable-on, usable-old, Meets, Old, Same, same-state, same-trans, same-fresh, agree-on, with_value, new-whole, new-share, with-agrees, variable-value, variable-amount, meets-env}
+use Rattle.cap_account_states.proofs.Alike.{SortOk, meets-fresh}
 
 -- ---- names in an environment
 

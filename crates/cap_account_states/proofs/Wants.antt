@@ -1,5 +1,5 @@
--- What is asked of an atom of guards at values: as assertions say, but shares are over the denominator
--- of the values.
+-- What is asked of an atom of guards at values: as assertions say, but shares are over the
+-- denominator of the values.
 use Rattle.std.proofs.Common.{◌≡◌, ℕ, ◌+◌, ℤ, pos, ◌*ℤ◌, refl, sym, ap, ◌∙◌, subst}
 use Rattle.cap_lin.specs.Linear.{Linear}
 use Rattle.cap_lin.specs.Values.{Valuation, denominator, amount, value}
@@ -38,7 +38,8 @@ Wants v (Src s) x = (n : ℕ) × SlotIs v s (pos n) × (x ≡ src n)
 Wants v (Tok s) x = (k : ℕ) × SlotIs v s (pos k) × (x ≡ tokens k)
 
 -- it is what assertions ask for
-pub wants-asked : (v : Valuation) (asked : Asked) (x : Element) → Wants v asked x → IsAsked v asked x
+pub wants-asked : (v : Valuation) (asked : Asked) (x : Element) → Wants v asked x →
+    IsAsked v asked x
 wants-asked v One x h = h
 wants-asked v (Share Any) x h = (h.0, h.2, tt, h.5)
 wants-asked v (Share (Is t)) x h = (h.0, h.2, ap (λ z. z *ℤ pos h.0.den) h.3 ∙ h.4, h.5)
@@ -67,8 +68,8 @@ pub share-wants :
 share-wants X v x t f u a s h =
     (f, amount v.fraction t, s, a, sym h ∙ ap (λ n. pos f.num *ℤ pos (n + 1)) (sym u), refl)
 
--- an amount that a term says is the same at all alike values. One that nothing says is a multiple of
--- one over the denominator, and so over each of its multiples
+-- an amount that a term says is the same at all alike values. One that nothing says is a multiple
+-- of one over the denominator, and so over each of its multiples
 abbrev pub IsFiner : Valuation → Valuation → Type 0
 IsFiner v w = (m : ℤ) × (denominator w.fraction ≡ denominator v.fraction *ℤ m)
 

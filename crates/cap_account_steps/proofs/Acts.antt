@@ -125,7 +125,8 @@ module _ (p : Checked) (V : Table) (part held : Stock) (ns : List ℤ) (fn : Pla
       let a = write u t in
       let new = here k.s t in
       let after = with_content k.s k.j k.c new in
-      let all = after-here k.s t (λ w. unit (with_content k.s k.j k.c w ∷ [])) (AllTrees a k) k.goals
+      let all = after-here k.s t
+      (λ w. unit (with_content k.s k.j k.c w ∷ [])) (AllTrees a k) k.goals
       in
       let trees = first-trees a k after [] all.1 in
       record {

@@ -24,10 +24,10 @@ use Rattle.cap_account_resources.proofs.Covering.{Covered, free-right}
 use Rattle.cap_account_resources.proofs.Stocks.{Stock, no_guards, both}
 use Rattle.cap_account_states.specs.Nodes.{Comes, Children}
 use Rattle.cap_account_states.proofs.Terms.{Over, over-plus, row-over, Agree}
-use Rattle.cap_account_states.proofs.Alike.{agree-alike}
+use Rattle.cap_account_states.proofs.Alike.{agree-alike, meets-fresh, need-alike}
 use Rattle.cap_account_states.proofs.Attempts.{sort_added, row_added, after-sort, after-comparison, comes-bind}
 use Rattle.cap_account_states.proofs.Meets as meets
-use Rattle.cap_account_states.proofs.Meets.{Usable, usable-old, usable-on, CellOver, Meets, need, need-agree, Old, new-whole, new-share, with-agrees, meets-fresh, meets-row, same-fresh, variable-value}
+use Rattle.cap_account_states.proofs.Meets.{Usable, usable-old, usable-on, CellOver, Meets, need, Old, new-whole, new-share, with-agrees, meets-row, same-fresh, variable-value}
 use Rattle.cap_account_states.proofs.Compatible.{pieces-more, covered-alike}
 use Rattle.cap_account_states.proofs.Facts.{Facts, facts-on}
 use Rattle.cap_account_states.proofs.Checked.{Checked, one-child}
@@ -43,8 +43,8 @@ module _ (p : Checked) (part : Stock) (T : Table) (fn : PlainFunction) (fixed : 
   abbrev enlarged : Stock
   enlarged = both p.program part (record { cells = fresh_cells base n; guards = no_guards })
 
-  -- the states on the way: a fresh variable, a row that it is above 0, cells from it on, and it is in
-  -- the store
+  -- the states on the way: a fresh variable, a row that it is above 0, cells from it on, and it is
+  -- in the store
   abbrev above_one : PlainState → PlainState
   above_one s = row_added (sort_added s Int) (row_of (fresh s) AtLeast one_value Int)
 
@@ -116,7 +116,8 @@ module _ (p : Checked) (part : Stock) (T : Table) (fn : PlainFunction) (fixed : 
           positive =
               all-both (λ c. pos 0 <ℤ value w.whole c.0) s.cells (new_cells u 0 n) m.positive
               (new-cells-all (λ c. pos 0 <ℤ value w.whole c.0) u 0 n
-              (λ i. let e = address-is w u i in let at = is-base in omega (arith, ints, e, at, up)));
+              (λ i. let e = address-is w u i in let at = is-base in
+              omega (arith, ints, e, at, up)));
           store_over = all-set (Over (Usable [] (above_one s).sorts Int)) s.store x u m.store_over
               fresh-over;
         }
@@ -134,8 +135,9 @@ module _ (p : Checked) (part : Stock) (T : Table) (fn : PlainFunction) (fixed : 
         let e = ap (λ y. fresh_cells y n a z) is-base in
         let i0 : 0 + n ≡ n = omega arith in
         let e0 = ap (λ y. fresh_cells (value w.whole u) y a z) i0 in
-        let c = need-agree (Usable [] s.sorts) (Old s) v w
-        (λ y l. usable-old [] s.sorts Int y l) agrees s.cells k.grounded.meets.cells_over a z in
+        let c = need-alike (Usable [] s.sorts) (Old s) v w
+        (λ y l. usable-old [] s.sorts Int y l) (agree-alike (Old s) v w agrees) s.cells
+        k.grounded.meets.cells_over a z in
         let g = k.backed.cells a z in
         omega (arith, i, j, e, e0, c, g)
 
@@ -171,7 +173,8 @@ module _ (p : Checked) (part : Stock) (T : Table) (fn : PlainFunction) (fixed : 
         backed = record { cells = cells-allocated; guards = guards-allocated };
         store = store-local w (with_cells s) k.home fn fixed f x u base b is-base
             (let st = store-alike v w s (sort_added s Int) k.home fn fixed f
-            k.grounded.meets.store_over (agree-alike (Old s) v w agrees) (same-fresh s Int).sorts refl
+            k.grounded.meets.store_over (agree-alike (Old s) v w agrees) (same-fresh s Int).sorts
+            refl
             size (record {
               home = k.store.home;
               store = k.store.store;

@@ -182,7 +182,8 @@ module _ (p : Checked) (program : IsWellFormed p.program) (give : GivenLaw p)
       (ok : FrameOk p.program fn fixed (with_rest f (first l (loop c inv body) b)))
       (part : Stock) where
     abbrev turned : PlainState
-    turned = root_state at_loop fn f.function (root_env at_loop fn f.function (length inv.names) ∷ [])
+    turned = root_state at_loop fn f.function
+        (root_env at_loop fn f.function (length inv.names) ∷ [])
 
     turned-over : AllByRecursion (Over (Usable [] turned.sorts Int)) turned.store
     turned-over =
@@ -275,7 +276,8 @@ module _ (p : Checked) (program : IsWellFormed p.program) (give : GivenLaw p)
       point = on (holds f.store c);
     };
     all = λ U relies.
-        turn-sits fn fixed f l c i x b ok part U (fits-relied p.program T U part roomy.full relies roomy.room)
+        turn-sits fn fixed f l c i x b ok part U
+        (fits-relied p.program T U part roomy.full relies roomy.room)
         (stable.invariant T U part f.function fn ok.is_fn (loop_point l c i x b)
         (point-loop p.program fn l c i x b ok.point) (reached-room T U part roomy relies) f.store
         fixed ok.size ok.values me);

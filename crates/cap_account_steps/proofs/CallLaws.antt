@@ -192,7 +192,8 @@ module _ (p : Checked) (program : IsWellFormed p.program) (give : GivenLaw p) (t
                 let rs = rests tk.left tk.U U l.number (running b h) tk.children w tk.after
                 (reached-left p program give take rests stable part T roomy f.store c rest tk U
                 relies) tk.goes (grounded2 p part T f.store c rest tk (pos 0))
-                (facts2 p part T f.store c rest tk (pos 0)) (firm2 p part T f.store c rest tk (pos 0))
+                (facts2 p part T f.store c rest tk (pos 0))
+                (firm2 p part T f.store c rest tk (pos 0))
                 (backed2 p part T f.store c rest tk (pos 0)) in
                 let kid = one-child p.N rs.children rs.after (running b h) rs.goes in
                 let c0 = push-length s.sorts Int in

@@ -1,12 +1,12 @@
 -- The state at a call or a fork: the callee's `requires` is taken from it.
-use Rattle.std.proofs.Common.{◌≡◌, ◌≢◌, ℕ, zero, suc, ◌+◌, ◌<◌, ◌≤◌, ℤ, pos, ◌*ℤ◌, List, [], ◌∷◌, ◌++◌, length, map, arith, refl, sym, ap, ◌∙◌, subst, Option, Some, None, inl, inr}
+use Rattle.std.proofs.Common.{◌≡◌, ℕ, ◌+◌, ◌<◌, ℤ, pos, ◌*ℤ◌, List, [], ◌∷◌, ◌++◌, length, map, arith, refl, sym, ap, ◌∙◌, subst, Option, Some, inl, inr}
 use Rattle.std.specs.Prelude.{slice_get, unwrap_or}
 use Rattle.std.specs.List.{AllByRecursion}
 use Rattle.cap_lin.specs.Linear.{Linear}
 use Rattle.cap_lin.specs.Values.{Valuation, denominator, value}
 use Rattle.cap_lin.specs.Solves.{IsWholeAt}
 use Rattle.cap_lin.specs.declared.row.Sort.{Sort}
-use Rattle.cap_lin.specs.declared.row.Sort.TheVariants.{Int, Perm}
+use Rattle.cap_lin.specs.declared.row.Sort.TheVariants.{Int}
 use Rattle.cap_prog.specs.Program.{PlainFunction}
 use Rattle.cap_prog.specs.Scopes.{fixed_start, requires_scope, HasSort}
 use Rattle.cap_goal_spec.specs.States.{PlainEnv, PlainState, PlainTask}
@@ -18,9 +18,9 @@ use Rattle.cap_account_resources.specs.Parts.{Table}
 use Rattle.cap_account_resources.proofs.Lists.{none-some, within, get-map, get-last, map-length, get-or-push, push-length, get-first}
 use Rattle.cap_account_resources.proofs.Stocks.{Stock, no_stock}
 use Rattle.cap_account_states.proofs.Terms.{Over, vars-more, Agree}
-use Rattle.cap_account_states.proofs.Alike.{Alike, alike-same, alike-trans, alike-less, agree-alike, value-alike}
+use Rattle.cap_account_states.proofs.Alike.{Alike, alike-same, alike-trans, alike-less, agree-alike, value-alike, meets-fresh}
 use Rattle.cap_account_states.proofs.Meets as meets
-use Rattle.cap_account_states.proofs.Meets.{Free, IsOf, Usable, usable-old, usable-on, Meets, Old, new-whole, new-share, with-agrees, meets-fresh}
+use Rattle.cap_account_states.proofs.Meets.{Usable, usable-old, usable-on, Meets, Old, new-whole, new-share, with-agrees}
 use Rattle.cap_account_states.proofs.Checked.{Checked}
 use Rattle.cap_account_states.proofs.Facts.{Facts}
 use Rattle.cap_account_states.proofs.Naming.{Placed}
@@ -32,7 +32,7 @@ use Rattle.cap_account_assertions.proofs.Laws.{StateAt, Taken}
 use Rattle.cap_account_steps.proofs.Stores.{here, here-value, here-over}
 use Rattle.cap_account_steps.proofs.OwnNames.{canon, canon-means}
 use Rattle.cap_account_steps.proofs.Callees.{fixed_values, fixed-are, at_call, meets-reserve, put-over, slice-map}
-use Rattle.cap_account_steps.proofs.Reserving.{Between, facts-between, grounded-between, backed-between}
+use Rattle.cap_account_steps.proofs.FirmStates.{Between, facts-between, grounded-between, backed-between}
 
 -- a state that holds of a frame's store and part, and a call of g
 pub record Caller (p : Checked) (part : Stock) (T : Table) (store : List ℤ) : Type 0 where

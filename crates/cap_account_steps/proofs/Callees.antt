@@ -1,4 +1,5 @@
--- The state at a call or a fork: the callee's environment, the variable of its result, and the values of its fixed names.
+-- The state at a call or a fork: the callee's environment, the variable of its result, and the
+-- values of its fixed names.
 use Rattle.std.proofs.Common.{◌≡◌, ℕ, zero, suc, ◌+◌, ℤ, pos, ◌*ℤ◌, List, [], ◌∷◌, ◌++◌, length, map, arith, refl, ap, ◌∙◌, subst, Option, Some, None}
 use Rattle.std.specs.Prelude.{slice_get, slice_set}
 use Rattle.std.specs.List.{AllByRecursion}

@@ -37,7 +37,7 @@ use Rattle.cap_account_steps.proofs.Points.{FrameOk}
 use Rattle.cap_account_steps.proofs.Stores.{Store, running, fixed-alike}
 use Rattle.cap_account_steps.proofs.Callees.{fixed-fit, put_at, map-put, receives-is}
 use Rattle.cap_account_steps.proofs.Frames.{Sits, Roomy, Waits, HandsOver, Calls}
-use Rattle.cap_account_steps.proofs.Reserving.{Between, facts-between, grounded-between, backed-between}
+use Rattle.cap_account_steps.proofs.FirmStates.{Between, facts-between, grounded-between, backed-between}
 use Rattle.cap_account_steps.proofs.CallSite.{Caller, TakenHere, kept, v1, s1, args_are, at-call, backed1, env2, a1, callee_fixed}
 use Rattle.cap_account_steps.proofs.Results.{with_result, alike4, result-value, firm2, grounded2, facts2, backed2, placed2, means2}
 
@@ -117,7 +117,8 @@ module _ (p : Checked) (program : IsWellFormed p.program) (give : GivenLaw p) (t
       hands = record { U = tk.U; new = tk.new; made = tk.made; budget = tk.budget }
 
       both-room : FitsRoom p.program tk.U (both p.program tk.left tk.given)
-      both-room = made-room p.program T tk.U tk.new tk.made part tk.left tk.given roomy.room tk.budget
+      both-room = made-room p.program T tk.U tk.new tk.made part tk.left tk.given roomy.room
+          tk.budget
 
       left-room : FitsRoom p.program tk.U tk.left
       left-room =
@@ -185,7 +186,8 @@ module _ (p : Checked) (program : IsWellFormed p.program) (give : GivenLaw p) (t
           (means2 p part T f.store c ts tk r me.values me.args_are me.fixed_are me.result_is))
 
       state-now :
-          StateAt p.program [] W (ensures_scope c.g c.g.ensures.names) (length c.s.envs) now rs.after
+          StateAt p.program [] W (ensures_scope c.g c.g.ensures.names) (length c.s.envs) now
+          rs.after
       state-now = record {
         grounded = grounded-between p.program [] [] (Old rs.after) rs.w now rs.after rs.after
             between (meets-alike [] rs.w now rs.after (scaled-alike (Old rs.after)

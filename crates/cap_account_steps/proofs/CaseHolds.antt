@@ -1,5 +1,5 @@
--- The state in which an opened region is in its case holds at its values, and what the region has may be
--- given to it.
+-- The state in which an opened region is in its case holds at its values, and what the region has
+-- may be given to it.
 use Rattle.std.proofs.Common.{◌≡◌, ◌≢◌, ℕ, suc, ◌+◌, ◌<◌, ◌≤◌, ℤ, pos, List, [], ◌∷◌, ◌++◌, length, map, arith, refl, sym, ap, ◌∙◌, subst, Option, Some, None, true, inl, inr}
 use Rattle.std.specs.Prelude.{slice_get}
 use Rattle.std.specs.List.{AllByRecursion}
@@ -131,7 +131,8 @@ module _ (p : PlainProgram) (v : Valuation) (s : PlainState) (f : PlainFact) (k 
           (map-length Some (variables_from (length s.sorts) (length c.names))
           ∙ variables-length (length s.sorts) (length c.names)))
 
-      as-sort : (o : Sort) (u : Linear) → Over (Usable [] s.sorts Int) u → Over (Usable [] t.sorts o) u
+      as-sort : (o : Sort) (u : Linear) → Over (Usable [] s.sorts Int) u →
+          Over (Usable [] t.sorts o) u
       as-sort o u l =
           vars-more (Usable [] t.sorts Int) (Usable [] t.sorts o) (int-usable [] t.sorts o) u.parts
           (int-over u l)

@@ -90,7 +90,8 @@ comes-in-case s f c P h =
     let ends = λ (s' : PlainState). with_env s' env in
     let adds = λ (s' : PlainState) (rows : List Row). with_rows s' rows >>= ends in
     let makes = λ (s' : PlainState). rows_by env c.when >>= adds s' in
-    let compares = λ (s' : PlainState) (t : Linear). with_comparison s' f.state Equal t Int >>= makes
+    let compares = λ (s' : PlainState) (t : Linear).
+    with_comparison s' f.state Equal t Int >>= makes
     in
     let knows = λ (s' : PlainState). determined env c.state >>= compares s' in
     let s1 = record s { sorts = s.sorts ++ c.names } in

@@ -1,5 +1,5 @@
--- Values at which an opened region is in a case: its names have what the region's values say, over the
--- product of both denominators.
+-- Values at which an opened region is in a case: its names have what the region's values say, over
+-- the product of both denominators.
 use Rattle.std.proofs.Common.{◌≡◌, ◌≢◌, ◌⊎◌, ℕ, zero, suc, ◌+◌, ◌-◌, ◌*◌, ◌<◌, ◌≤◌, ℤ, pos, ◌*ℤ◌, List, [], ◌∷◌, ◌++◌, length, map, arith, refl, sym, ap, ◌∙◌, subst, Option, Some, None, Bool, true, false, inl, inr}
 use Rattle.std.specs.Prelude.{slice_get, nat_lt, unwrap_or, if◌then◌else◌}
 use Rattle.std.specs.List.{AllByRecursion}
@@ -53,7 +53,8 @@ name-of f n count (suc y) t e =
       | inr h ↦
           let k = get-map Some vars h.0 (Some t) h.2 in
           let low : h.0 < count =
-          (let w = within vars h.0 k.0 k.1 in let c = variables-length n count in omega (arith, w, c))
+          (let w = within vars h.0 k.0 k.1 in let c = variables-length n count in omega
+          (arith, w, c))
           in
           a_name h.0 (ap suc (h.1 ∙ ap (λ z. z + h.0) (map-length Some f.args))) low
           (some-same t (variable (n + h.0))
@@ -62,7 +63,8 @@ name-of f n count (suc y) t e =
 
 -- a sort Perm is that of one of the case's own names
 perm-name :
-    (m : ℕ) (names : List Sort) (x : ℕ) → slice_get (whole_numbers m ++ known names) x ≡ Some (Some Perm) →
+    (m : ℕ) (names : List Sort) (x : ℕ) → slice_get (whole_numbers m ++ known names) x ≡ Some
+    (Some Perm) →
     m ≤ x
 perm-name m names x e =
     elim (get-join (whole_numbers m) (known names) x (Some Perm) e) [

@@ -1,5 +1,5 @@
--- Facts that say just what the table does: at other values, one of them changed, and what is held of
--- their regions.
+-- Facts that say just what the table does: at other values, one of them changed, and what is held
+-- of their regions.
 use Rattle.std.proofs.Common.{◌≡◌, ◌≢◌, ℕ, zero, suc, ℤ, List, [], ◌∷◌, map, Option, Some, None, inl, inr, refl, sym, ap, ◌∙◌, subst}
 use Rattle.std.specs.Prelude.{slice_get, slice_set}
 use Rattle.std.specs.List.{AllByRecursion}
@@ -24,8 +24,8 @@ use Rattle.cap_account_steps.proofs.Worlds.{Exact, AllOver}
 
 -- ---- at other values
 
--- the table's entry with this state, where the region and its arguments are over these variables and
--- the state gets the value
+-- the table's entry with this state, where the region and its arguments are over these variables
+-- and the state gets the value
 pub told-alike :
     (P : ℕ → Type 0) (v w : Valuation) (T : Table) → Alike P v w → (f : PlainFact) (t : Linear)
     (b : ℤ) → Over P f.region → AllByRecursion (Over P) f.args → value w.whole t ≡ b →
@@ -117,5 +117,6 @@ held-of p T n e (Some (Some g)) t h =
     record {
       mark = Some g;
       is = refl;
-      of_kind = sym r.of_kind ∙ ap (λ (x : Known). x.kind) (some-same r.known e (sym r.is_known ∙ t));
+      of_kind = sym r.of_kind
+          ∙ ap (λ (x : Known). x.kind) (some-same r.known e (sym r.is_known ∙ t));
     }

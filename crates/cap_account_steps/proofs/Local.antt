@@ -31,255 +31,261 @@ use Rattle.cap_account_steps.proofs.Stores.{running, here, here-value, here-over
 use Rattle.cap_account_steps.proofs.Frames.{Node, Sits}
 use Rattle.cap_account_steps.proofs.Statements.{SetLaw, CheckLaw, BranchLaw}
 
-module _ (p : Checked) (part : Stock) (T : Table) (fn : PlainFunction) (fixed : List NameValue) where
-  abbrev NodeAt : Frame → (Home → List PlainTask) → PlainTree → Type 0
-  NodeAt f tasks d = Node p part T fn fixed f tasks d
+module _ (p : Checked) (part : Stock) (T : Table) (fn : PlainFunction) (fixed : List NameValue)
+  where
+    abbrev NodeAt : Frame → (Home → List PlainTask) → PlainTree → Type 0
+    NodeAt f tasks d = Node p part T fn fixed f tasks d
 
-  -- a goal that is given up as absurd doesn't hold of a frame
-  pub given-up :
-      {A : Type 0} (f : Frame) (task : Home → PlainTask) (c : Cert) (ks : PlainTrees) →
-      NodeAt f (λ h. task h ∷ []) (node (by_absurd c) ks) → A
-  given-up f task c ks n =
-      absurd ((p.step n.valid).0.0 n.v (solves [] n.v n.state n.grounded.meets))
+    -- a goal that is given up as absurd doesn't hold of a frame
+    pub given-up :
+        {A : Type 0} (f : Frame) (task : Home → PlainTask) (c : Cert) (ks : PlainTrees) →
+        NodeAt f (λ h. task h ∷ []) (node (by_absurd c) ks) → A
+    given-up f task c ks n =
+        absurd ((p.step n.valid).0.0 n.v (solves [] n.v n.state n.grounded.meets))
 
-  -- the same state, before other statements of the frame
-  pub passes-on :
-      (f : Frame) (tasks : Home → List PlainTask) (d e : PlainTree) (b : Block) →
-      (n : NodeAt f tasks d) → p.N e n.state (running b n.home) →
-      Sits p part T fn fixed (with_rest f b)
-  passes-on f tasks d e b n valid = record {
-    tree = e;
-    at_node = record {
-      state = n.state;
-      v = n.v;
-      home = n.home;
-      valid = valid;
-      none_open = n.none_open;
-      grounded = n.grounded;
-      facts = n.facts;
-      firm = n.firm;
-      backed = n.backed;
-      store = record {
-        home = n.store.home;
-        store = n.store.store;
-        fixed_are = n.store.fixed_are;
-        fixed_known = n.store.fixed_known;
-      };
-    };
-  }
-
-  -- ---- assignments
-
-  -- the state with a term in the store
-  assigned :
-      (f : Frame) (tasks : Home → List PlainTask) (d e : PlainTree) (b : Block) (x : ℕ)
-      (t : Linear) → (n : NodeAt f tasks d) →
-      p.N e (with_local n.state x (here n.state t)) (running b n.home) →
-      Sits p part T fn fixed (with_value (with_rest f b) x (value_in f.store t))
-  assigned f tasks d e b x t n valid = record {
-    tree = e;
-    at_node = record {
-      state = with_local s x u;
-      v = n.v;
-      home = n.home;
-      valid = valid;
-      none_open = n.none_open;
-      grounded = record {
-        meets = record {
-          sorted = m.sorted;
-          rows = m.rows;
-          rows_over = m.rows_over;
-          cells_over = m.cells_over;
-          positive = m.positive;
-          store_over = all-set (Over (Usable [] s.sorts Int)) s.store x u m.store_over
-              (here-over [] n.v s t m);
+    -- the same state, before other statements of the frame
+    pub passes-on :
+        (f : Frame) (tasks : Home → List PlainTask) (d e : PlainTree) (b : Block) →
+        (n : NodeAt f tasks d) → p.N e n.state (running b n.home) →
+        Sits p part T fn fixed (with_rest f b)
+    passes-on f tasks d e b n valid = record {
+      tree = e;
+      at_node = record {
+        state = n.state;
+        v = n.v;
+        home = n.home;
+        valid = valid;
+        none_open = n.none_open;
+        grounded = n.grounded;
+        facts = n.facts;
+        firm = n.firm;
+        backed = n.backed;
+        store = record {
+          home = n.store.home;
+          store = n.store.store;
+          fixed_are = n.store.fixed_are;
+          fixed_known = n.store.fixed_known;
         };
-        pieces_over = n.grounded.pieces_over;
-        pieces_fit = n.grounded.pieces_fit;
       };
-      facts = record {
-        holds = n.facts.holds;
-        over = n.facts.over;
-        loose = n.facts.loose;
-        differ = n.facts.differ;
+    }
+
+    -- ---- assignments
+
+    -- the state with a term in the store
+    assigned :
+        (f : Frame) (tasks : Home → List PlainTask) (d e : PlainTree) (b : Block) (x : ℕ)
+        (t : Linear) → (n : NodeAt f tasks d) →
+        p.N e (with_local n.state x (here n.state t)) (running b n.home) →
+        Sits p part T fn fixed (with_value (with_rest f b) x (value_in f.store t))
+    assigned f tasks d e b x t n valid = record {
+      tree = e;
+      at_node = record {
+        state = with_local s x u;
+        v = n.v;
+        home = n.home;
+        valid = valid;
+        none_open = n.none_open;
+        grounded = record {
+          meets = record {
+            sorted = m.sorted;
+            rows = m.rows;
+            rows_over = m.rows_over;
+            cells_over = m.cells_over;
+            positive = m.positive;
+            store_over = all-set (Over (Usable [] s.sorts Int)) s.store x u m.store_over
+                (here-over [] n.v s t m);
+          };
+          pieces_over = n.grounded.pieces_over;
+          pieces_fit = n.grounded.pieces_fit;
+        };
+        facts = record {
+          holds = n.facts.holds;
+          over = n.facts.over;
+          loose = n.facts.loose;
+          differ = n.facts.differ;
+        };
+        firm = n.firm;
+        backed = record { cells = n.backed.cells; guards = n.backed.guards };
+        store = record {
+          home = n.store.home;
+          store = map-set (value n.v.whole) s.store x u
+              ∙ ap (λ zs. slice_set zs x (value n.v.whole u)) n.store.store
+              ∙ ap (slice_set f.store x) (here-value n.v s f.store t n.store.store);
+          fixed_are = n.store.fixed_are;
+          fixed_known = n.store.fixed_known;
+        };
       };
-      firm = n.firm;
-      backed = record { cells = n.backed.cells; guards = n.backed.guards };
-      store = record {
-        home = n.store.home;
-        store = map-set (value n.v.whole) s.store x u
-            ∙ ap (λ zs. slice_set zs x (value n.v.whole u)) n.store.store
-            ∙ ap (slice_set f.store x) (here-value n.v s f.store t n.store.store);
-        fixed_are = n.store.fixed_are;
-        fixed_known = n.store.fixed_known;
+    }
+      where
+        s : PlainState
+        s = n.state
+
+        m : Meets [] n.v n.state
+        m = n.grounded.meets
+
+        u : Linear
+        u = here n.state t
+
+    set-at :
+        (f : Frame) (l : Label) (b : Block) (x : ℕ) (t : Linear) (d : PlainTree) →
+        NodeAt (with_rest f (first l (set x t) b)) (running (first l (set x t) b)) d →
+        Sits p part T fn fixed (with_value (with_rest f b) x (value_in f.store t))
+    set-at f l b x t (node (by_absurd c) ks) n =
+        given-up (with_rest f (first l (set x t) b)) (λ h. to_run h (first l (set x t) b)) c ks n
+    set-at f l b x t (node by_set ks) n =
+        let r = first l (set x t) b in
+        let s1 = with_local n.state x (here n.state t) in
+        let q = one-child p.N ks s1 (to_run n.home b ∷ [])
+        (after-here n.state t (λ u. leaves (with_local n.state x u) (to_run n.home b ∷ []))
+        (Children p.N ks) (p.step n.valid)).1 in
+        assigned (with_rest f r) (running r) (node by_set ks) q.0 b x t n q.1
+    set-at f l b x t d n = absurd (p.step n.valid).1
+
+    -- ---- assertions
+
+    check-at :
+        (f : Frame) (l : Label) (b : Block) (c : Comp) (d : PlainTree) →
+        CompFits (body_scope fn) c →
+        NodeAt (with_rest f (first l (check c) b)) (running (first l (check c) b)) d →
+        (holds f.store c ≡ true) × Sits p part T fn fixed (with_rest f b)
+    check-at f l b c (node (by_absurd u) ks) fits n =
+        given-up (with_rest f (first l (check c) b)) (λ h. to_run h (first l (check c) b)) u ks n
+    check-at f l b c (node (by_assert cs) ks) fits n =
+        let s = n.state in
+        let r = first l (check c) b in
+        let m = n.grounded.meets in
+        let asked = after-row-here s c.op c
+        (λ q. prove s.rows q >>= λ _. leaves s (to_run n.home b ∷ [])) (Children p.N ks)
+        (p.step n.valid) in
+        let proved = after-prove s.rows (store_row s c.op c)
+        (λ _. leaves s (to_run n.home b ∷ [])) (Children p.N ks) asked in
+        let q = one-child p.N ks s (to_run n.home b ∷ []) proved.1.1 in
+        let row = proved-holds [] [] n.v s (store_row s c.op c) m proved.0
+        (row-here-over n.v s (fixed_start fn) c c.op m fits) in (
+          met-here n.v s f.store c m n.store.store row,
+          passes-on (with_rest f r) (running r) (node (by_assert cs) ks) q.0 b n q.1,
+        )
+    check-at f l b c d fits n = absurd (p.step n.valid).1
+
+    -- ---- branches
+
+    -- the state with a row that the store says
+    chosen :
+        (f : Frame) (tasks : Home → List PlainTask) (d e : PlainTree) (b : Block) (c : Comp)
+        (op : Op) → CompFits (body_scope fn) c → (n : NodeAt f tasks d) →
+        p.N e (row_added n.state (store_row n.state op c)) (running b n.home) →
+        Relates op (value_in f.store c.left) (value_in f.store c.right) →
+        Sits p part T fn fixed (with_rest f b)
+    chosen f tasks d e b c op fits n valid order = record {
+      tree = e;
+      at_node = record {
+        state = row_added n.state (store_row n.state op c);
+        v = n.v;
+        home = n.home;
+        valid = valid;
+        none_open = n.none_open;
+        grounded = record {
+          meets = meets-row [] n.v n.state (store_row n.state op c) n.grounded.meets
+              (holds-here n.v n.state f.store c op n.grounded.meets n.store.store order)
+              (row-here-over n.v n.state (fixed_start fn) c op n.grounded.meets fits);
+          pieces_over = n.grounded.pieces_over;
+          pieces_fit = n.grounded.pieces_fit;
+        };
+        facts = record {
+          holds = n.facts.holds;
+          over = n.facts.over;
+          loose = n.facts.loose;
+          differ = n.facts.differ;
+        };
+        firm = n.firm;
+        backed = record { cells = n.backed.cells; guards = n.backed.guards };
+        store = record {
+          home = n.store.home;
+          store = n.store.store;
+          fixed_are = n.store.fixed_are;
+          fixed_known = n.store.fixed_known;
+        };
       };
-    };
-  }
-    where
-      s : PlainState
-      s = n.state
+    }
 
-      m : Meets [] n.v n.state
-      m = n.grounded.meets
+    -- the goals of a comparison, where it is met and where it isn't
+    record BothGoals (s : PlainState) (h : Home) (c : Comp) (a b : Block)
+        (ks : PlainTrees) : Type 0 where
+      met : (d : PlainTree) × p.N d (row_added s (store_row s c.op c)) (running a h)
+      unmet : (d : PlainTree) × p.N d (row_added s (store_row s (opposite c.op) c)) (running b h)
 
-      u : Linear
-      u = here n.state t
+    both-goals :
+        (s : PlainState) (h : Home) (c : Comp) (a b : Block) (ks : PlainTrees) →
+        Comes (branches s c (running a h) (running b h)) (Children p.N ks) → BothGoals s h c a b ks
+    both-goals s h c a b ks go =
+        let N = Children p.N ks in
+        let s1 = row_added s (store_row s c.op c) in
+        let s2 = row_added s (store_row s (opposite c.op) c) in
+        let last = λ (x y : PlainState).
+        unit (goals_of x (running a h) ++ goals_of y (running b h)) in
+        let rest = λ (x : PlainState).
+        row_here s (opposite c.op) c >>= λ r. with_row s r >>= last x in
+        let h1 = after-row-here s c.op c (λ q. with_row s q >>= rest) N go in
+        let h2 = after-with-row s (store_row s c.op c) rest N h1 in
+        let h3 = after-row-here s (opposite c.op) c (λ r. with_row s r >>= last s1) N h2 in
+        let h4 = (after-with-row s (store_row s (opposite c.op) c) (last s1) N h3).1 in
+        let k = children-split p.N ks (goals_of s1 (running a h)) (goals_of s2 (running b h)) h4 in
+        record {
+          met = one-child p.N k.left s1 (running a h) k.first;
+          unmet = one-child p.N k.right s2 (running b h) k.second;
+        }
 
-  set-at :
-      (f : Frame) (l : Label) (b : Block) (x : ℕ) (t : Linear) (d : PlainTree) →
-      NodeAt (with_rest f (first l (set x t) b)) (running (first l (set x t) b)) d →
-      Sits p part T fn fixed (with_value (with_rest f b) x (value_in f.store t))
-  set-at f l b x t (node (by_absurd c) ks) n =
-      given-up (with_rest f (first l (set x t) b)) (λ h. to_run h (first l (set x t) b)) c ks n
-  set-at f l b x t (node by_set ks) n =
-      let r = first l (set x t) b in
-      let s1 = with_local n.state x (here n.state t) in
-      let q = one-child p.N ks s1 (to_run n.home b ∷ [])
-      (after-here n.state t (λ u. leaves (with_local n.state x u) (to_run n.home b ∷ []))
-      (Children p.N ks) (p.step n.valid)).1 in
-      assigned (with_rest f r) (running r) (node by_set ks) q.0 b x t n q.1
-  set-at f l b x t d n = absurd (p.step n.valid).1
+    -- the frame goes on where the store leads it
+    by-store :
+        (f : Frame) (tasks : Home → List PlainTask) (d : PlainTree) (ks : PlainTrees) (c : Comp)
+        (a b : Block) → CompFits (body_scope fn) c → (n : NodeAt f tasks d) →
+        BothGoals n.state n.home c a b ks →
+        Sits p part T fn fixed (with_rest f (if holds f.store c then a else b))
+    by-store f tasks d ks c a b fits n g = on (holds f.store c) refl
+      where
+        on :
+            (t : Bool) → holds f.store c ≡ t →
+            Sits p part T fn fixed (with_rest f (if t then a else b))
+        on true q =
+            chosen f tasks d g.met.0 a c c.op fits n g.met.1
+            (met-relates c.op (value_in f.store c.left) (value_in f.store c.right) q)
+        on false q =
+            chosen f tasks d g.unmet.0 b c (opposite c.op) fits n g.unmet.1
+            (unmet-relates c.op (value_in f.store c.left) (value_in f.store c.right) q)
 
-  -- ---- assertions
+    branch-at :
+        (f : Frame) (l : Label) (rest : Block) (c : Comp) (a b : Block) (d : PlainTree) →
+        CompFits (body_scope fn) c →
+        NodeAt (with_rest f (first l (branch c a b) rest)) (running (first l (branch c a b) rest))
+        d →
+        Sits p part T fn fixed
+        (with_rest f (if holds f.store c then append a rest else append b rest))
+    branch-at f l rest c a b (node (by_absurd u) ks) fits n =
+        given-up (with_rest f (first l (branch c a b) rest))
+        (λ h. to_run h (first l (branch c a b) rest)) u ks n
+    branch-at f l rest c a b (node by_if ks) fits n =
+        let r = first l (branch c a b) rest in
+        by-store (with_rest f r) (running r) (node by_if ks) ks c (append a rest) (append b rest)
+        fits
+        n
+        (both-goals n.state n.home c (append a rest) (append b rest) ks (p.step n.valid))
+    branch-at f l rest c a b d fits n = absurd (p.step n.valid).1
 
-  check-at :
-      (f : Frame) (l : Label) (b : Block) (c : Comp) (d : PlainTree) → CompFits (body_scope fn) c →
-      NodeAt (with_rest f (first l (check c) b)) (running (first l (check c) b)) d →
-      (holds f.store c ≡ true) × Sits p part T fn fixed (with_rest f b)
-  check-at f l b c (node (by_absurd u) ks) fits n =
-      given-up (with_rest f (first l (check c) b)) (λ h. to_run h (first l (check c) b)) u ks n
-  check-at f l b c (node (by_assert cs) ks) fits n =
-      let s = n.state in
-      let r = first l (check c) b in
-      let m = n.grounded.meets in
-      let asked = after-row-here s c.op c
-      (λ q. prove s.rows q >>= λ _. leaves s (to_run n.home b ∷ [])) (Children p.N ks)
-      (p.step n.valid) in
-      let proved = after-prove s.rows (store_row s c.op c)
-      (λ _. leaves s (to_run n.home b ∷ [])) (Children p.N ks) asked in
-      let q = one-child p.N ks s (to_run n.home b ∷ []) proved.1.1 in
-      let row = proved-holds [] [] n.v s (store_row s c.op c) m proved.0
-      (row-here-over n.v s (fixed_start fn) c c.op m fits) in (
-        met-here n.v s f.store c m n.store.store row,
-        passes-on (with_rest f r) (running r) (node (by_assert cs) ks) q.0 b n q.1,
-      )
-  check-at f l b c d fits n = absurd (p.step n.valid).1
-
-  -- ---- branches
-
-  -- the state with a row that the store says
-  chosen :
-      (f : Frame) (tasks : Home → List PlainTask) (d e : PlainTree) (b : Block) (c : Comp)
-      (op : Op) → CompFits (body_scope fn) c → (n : NodeAt f tasks d) →
-      p.N e (row_added n.state (store_row n.state op c)) (running b n.home) →
-      Relates op (value_in f.store c.left) (value_in f.store c.right) →
-      Sits p part T fn fixed (with_rest f b)
-  chosen f tasks d e b c op fits n valid order = record {
-    tree = e;
-    at_node = record {
-      state = row_added n.state (store_row n.state op c);
-      v = n.v;
-      home = n.home;
-      valid = valid;
-      none_open = n.none_open;
-      grounded = record {
-        meets = meets-row [] n.v n.state (store_row n.state op c) n.grounded.meets
-            (holds-here n.v n.state f.store c op n.grounded.meets n.store.store order)
-            (row-here-over n.v n.state (fixed_start fn) c op n.grounded.meets fits);
-        pieces_over = n.grounded.pieces_over;
-        pieces_fit = n.grounded.pieces_fit;
-      };
-      facts = record {
-        holds = n.facts.holds;
-        over = n.facts.over;
-        loose = n.facts.loose;
-        differ = n.facts.differ;
-      };
-      firm = n.firm;
-      backed = record { cells = n.backed.cells; guards = n.backed.guards };
-      store = record {
-        home = n.store.home;
-        store = n.store.store;
-        fixed_are = n.store.fixed_are;
-        fixed_known = n.store.fixed_known;
-      };
-    };
-  }
-
-  -- the goals of a comparison, where it is met and where it isn't
-  record BothGoals (s : PlainState) (h : Home) (c : Comp) (a b : Block)
-      (ks : PlainTrees) : Type 0 where
-    met : (d : PlainTree) × p.N d (row_added s (store_row s c.op c)) (running a h)
-    unmet : (d : PlainTree) × p.N d (row_added s (store_row s (opposite c.op) c)) (running b h)
-
-  both-goals :
-      (s : PlainState) (h : Home) (c : Comp) (a b : Block) (ks : PlainTrees) →
-      Comes (branches s c (running a h) (running b h)) (Children p.N ks) → BothGoals s h c a b ks
-  both-goals s h c a b ks go =
-      let N = Children p.N ks in
-      let s1 = row_added s (store_row s c.op c) in
-      let s2 = row_added s (store_row s (opposite c.op) c) in
-      let last = λ (x y : PlainState). unit (goals_of x (running a h) ++ goals_of y (running b h)) in
-      let rest = λ (x : PlainState). row_here s (opposite c.op) c >>= λ r. with_row s r >>= last x in
-      let h1 = after-row-here s c.op c (λ q. with_row s q >>= rest) N go in
-      let h2 = after-with-row s (store_row s c.op c) rest N h1 in
-      let h3 = after-row-here s (opposite c.op) c (λ r. with_row s r >>= last s1) N h2 in
-      let h4 = (after-with-row s (store_row s (opposite c.op) c) (last s1) N h3).1 in
-      let k = children-split p.N ks (goals_of s1 (running a h)) (goals_of s2 (running b h)) h4 in
-      record {
-        met = one-child p.N k.left s1 (running a h) k.first;
-        unmet = one-child p.N k.right s2 (running b h) k.second;
-      }
-
-  -- the frame goes on where the store leads it
-  by-store :
-      (f : Frame) (tasks : Home → List PlainTask) (d : PlainTree) (ks : PlainTrees) (c : Comp)
-      (a b : Block) → CompFits (body_scope fn) c → (n : NodeAt f tasks d) →
-      BothGoals n.state n.home c a b ks →
-      Sits p part T fn fixed (with_rest f (if holds f.store c then a else b))
-  by-store f tasks d ks c a b fits n g = on (holds f.store c) refl
-    where
-      on :
-          (t : Bool) → holds f.store c ≡ t →
-          Sits p part T fn fixed (with_rest f (if t then a else b))
-      on true q =
-          chosen f tasks d g.met.0 a c c.op fits n g.met.1
-          (met-relates c.op (value_in f.store c.left) (value_in f.store c.right) q)
-      on false q =
-          chosen f tasks d g.unmet.0 b c (opposite c.op) fits n g.unmet.1
-          (unmet-relates c.op (value_in f.store c.left) (value_in f.store c.right) q)
-
-  branch-at :
-      (f : Frame) (l : Label) (rest : Block) (c : Comp) (a b : Block) (d : PlainTree) →
-      CompFits (body_scope fn) c →
-      NodeAt (with_rest f (first l (branch c a b) rest)) (running (first l (branch c a b) rest))
-      d →
-      Sits p part T fn fixed
-      (with_rest f (if holds f.store c then append a rest else append b rest))
-  branch-at f l rest c a b (node (by_absurd u) ks) fits n =
-      given-up (with_rest f (first l (branch c a b) rest))
-      (λ h. to_run h (first l (branch c a b) rest)) u ks n
-  branch-at f l rest c a b (node by_if ks) fits n =
-      let r = first l (branch c a b) rest in
-      by-store (with_rest f r) (running r) (node by_if ks) ks c (append a rest) (append b rest) fits
-      n
-      (both-goals n.state n.home c (append a rest) (append b rest) ks (p.step n.valid))
-  branch-at f l rest c a b d fits n = absurd (p.step n.valid).1
-
-  -- a loop's turn, or what comes behind it
-  pub turn-at :
-      (f : Frame) (l : Label) (rest : Block) (c : Comp) (i : PlainAssertion) (a : Block)
-      (d : PlainTree) → CompFits (body_scope fn) c →
-      NodeAt f (λ h. to_turn h (first l (loop c i a) rest) ∷ []) d →
-      Sits p part T fn fixed
-      (with_rest f (if holds f.store c then append a (first l (loop c i a) rest) else rest))
-  turn-at f l rest c i a (node (by_absurd u) ks) fits n =
-      given-up f (λ h. to_turn h (first l (loop c i a) rest)) u ks n
-  turn-at f l rest c i a (node by_turn ks) fits n =
-      let again = append a (first l (loop c i a) rest) in
-      by-store f (λ h. to_turn h (first l (loop c i a) rest) ∷ []) (node by_turn ks) ks c again rest
-      fits n (both-goals n.state n.home c again rest ks (p.step n.valid))
-  turn-at f l rest c i a d fits n = absurd (p.step n.valid).1
+    -- a loop's turn, or what comes behind it
+    pub turn-at :
+        (f : Frame) (l : Label) (rest : Block) (c : Comp) (i : PlainAssertion) (a : Block)
+        (d : PlainTree) → CompFits (body_scope fn) c →
+        NodeAt f (λ h. to_turn h (first l (loop c i a) rest) ∷ []) d →
+        Sits p part T fn fixed
+        (with_rest f (if holds f.store c then append a (first l (loop c i a) rest) else rest))
+    turn-at f l rest c i a (node (by_absurd u) ks) fits n =
+        given-up f (λ h. to_turn h (first l (loop c i a) rest)) u ks n
+    turn-at f l rest c i a (node by_turn ks) fits n =
+        let again = append a (first l (loop c i a) rest) in
+        by-store f (λ h. to_turn h (first l (loop c i a) rest) ∷ []) (node by_turn ks) ks c again
+        rest
+        fits n (both-goals n.state n.home c again rest ks (p.step n.valid))
+    turn-at f l rest c i a d fits n = absurd (p.step n.valid).1
 
 -- ---- the laws
 

@@ -25,17 +25,18 @@ use Rattle.cap_account_states.proofs.Meets.{Free, Usable, usable-on, usable-old,
 use Rattle.cap_account_states.proofs.Facts.{FactHolds, FactOver, LooseState, StatesDiffer, Facts, facts-alike, fact-more}
 use Rattle.cap_account_states.proofs.Backed.{Grounded}
 use Rattle.cap_account_steps.proofs.Exact.{Each, set-here, each-set, each-two-set}
-use Rattle.cap_account_steps.proofs.Reserved.{set_to, set-agrees, set-here-whole, grounded-free, grounded-fresh}
+use Rattle.cap_account_steps.proofs.KeptFree.{set_to, set-agrees, set-here-whole, grounded-free, grounded-fresh}
 use Rattle.cap_account_steps.proofs.Firming.{lone}
 use Rattle.cap_account_steps.proofs.Turning.{AsBefore, before-same, before-trans}
 
 -- ---- pairs
 
 -- both regions are over usable variables, and the fact holds, but for its state
-pub record IsPair (ks : List ℕ) (v : Valuation) (V : Table) (s : PlainState) (x : Rival) : Type 0 where
-  pub opened_over : Over (Usable ks s.sorts Int) x.opened.region
-  pub over : FactOver (Usable ks s.sorts Int) (loosened x.fact x.fact.state)
-  pub holds : FactHolds v V (loosened x.fact x.fact.state)
+pub record IsPair (ks : List ℕ) (v : Valuation) (V : Table) (s : PlainState) (x : Rival) : Type 0
+  where
+    pub opened_over : Over (Usable ks s.sorts Int) x.opened.region
+    pub over : FactOver (Usable ks s.sorts Int) (loosened x.fact x.fact.state)
+    pub holds : FactHolds v V (loosened x.fact x.fact.state)
 
 -- facts that are firm were there before
 abbrev pub FirmBefore : PlainState → PlainState → Type 0
@@ -166,7 +167,8 @@ module _ (p : PlainProgram) (V : Table) where
               (all-more (LooseState ks s.sorts) (LooseState (n ∷ ks) more)
               (λ h l e. let q = l e in (q.0, q.1, inr q.2, grow q.0 Int q.3)) s.facts fs.loose)
               (λ e. (n, refl, inl refl, get-last s.sorts Int));
-          differ = each-two-set StatesDiffer (λ a b d k l e. d l k (sym e)) s.facts x.number loose_one
+          differ = each-two-set StatesDiffer
+              (λ a b d k l e. d l k (sym e)) s.facts x.number loose_one
               (all-more (LooseState ks s.sorts) (StatesDiffer loose_one)
               (λ h l a b e.
               let q = l b in

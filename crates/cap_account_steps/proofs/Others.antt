@@ -212,7 +212,8 @@ module _ (X : Valuation) (sc : Scope) (normal : (x : ℕ) → HasSort sc Int x �
   condition-holds w ts next ok le c fits h =
       (row_of-means w (named_term ts c.left) c.op (named_term ts c.right) c.sort).1
       (relates-same c.op (value_by_sort c.sort X c.left) (value_by_sort c.sort X c.right)
-      (value_by_sort c.sort w (named_term ts c.left)) (value_by_sort c.sort w (named_term ts c.right))
+      (value_by_sort c.sort w (named_term ts c.left))
+      (value_by_sort c.sort w (named_term ts c.right))
       (sym (named-number X sc normal w ts next ok c.sort c.left
       (scope-low X sc normal (length ts) c.sort c.left le fits.0)))
       (sym (named-number X sc normal w ts next ok c.sort c.right

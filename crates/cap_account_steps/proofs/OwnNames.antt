@@ -12,14 +12,14 @@ use Rattle.cap_goal_spec.specs.Environments.{zero_value, term_of, bound_term, ow
 use Rattle.cap_rules.specs.Making.{env_at}
 use Rattle.cap_machine.specs.Machine.{Frame}
 use Rattle.cap_machine_accounts.specs.Assertions.{NameValue, a_number, a_fraction, IsNamed, AreNamed}
+use Rattle.cap_account_states.proofs.Alike.{usable-alike, Alike}
 use Rattle.cap_account_resources.proofs.Lists.{some-same, none-some, within, there-is, get-or-push, push-length, all-at}
-use Rattle.cap_account_states.proofs.Terms.{Over, vars-more, by_terms}
+use Rattle.cap_account_states.proofs.Terms.{Over, by_terms}
 use Rattle.cap_account_states.proofs.Attempts.{env_added}
-use Rattle.cap_account_states.proofs.Meets.{Usable, usable-old, Meets, Old, variable-value, variable-amount, is-of}
+use Rattle.cap_account_states.proofs.Meets.{Usable, Meets, Old, variable-value, variable-amount, is-of}
 use Rattle.cap_account_states.proofs.Naming.{Placed, Means}
 use Rattle.cap_account_states.proofs.Scopes.{Position, param, local, fixed, result, extra, position-room, own-param, own-local, own-fixed, own-result, own-new, own-room}
 use Rattle.cap_account_states.proofs.Values.{named-of}
-use Rattle.cap_account_states.proofs.Alike.{Alike, value-alike}
 use Rattle.cap_account_steps.proofs.Stores.{fixed-name, name-alike, Store}
 
 pub take-get :
@@ -119,7 +119,13 @@ own-placed s v fn h fx f ls r new sc m st size hl fl fr at_position = record {
         let look = own-fixed fn h ps ls r (length new) hp hl i (within fn.fixed i o y) in
         let u : variable (h.fixed + i) ≡ t =
         some-same (variable (h.fixed + i)) t (sym look ∙ (ap (term_of env) (sym q) ∙ e)) in
-        subst (Over (Usable [] s.sorts o)) u ((is-of s.sorts o (h.fixed + i) (st.fixed_known i o y), tt), tt)
+        subst (Over (Usable [] s.sorts o)) u (
+          (
+            is-of s.sorts o (h.fixed + i) (st.fixed_known i o y),
+            tt,
+          ),
+          tt,
+        )
     over x o t (result q y) e =
         subst (λ z. Over (Usable [] s.sorts z) t) y
         (fr t (sym (own-result fn h ps ls r (length new) hp hl) ∙ (ap (term_of env) (sym q) ∙ e)))
@@ -159,6 +165,5 @@ pub store-term-alike :
     (s : PlainState) (v w : Valuation) (i : ℕ) (t : Linear) → Meets [] v s → Alike (Old s) v w →
     slice_get s.store i ≡ Some t → value w.whole t ≡ value v.whole t
 store-term-alike s v w i t m a e =
-    value-alike (Old s) v w a t
-    (vars-more (Usable [] s.sorts Int) (Old s) (usable-old [] s.sorts Int) t.parts
-    (all-at (Over (Usable [] s.sorts Int)) s.store i t m.store_over e))
+    usable-alike [] s v w a t
+    (all-at (Over (Usable [] s.sorts Int)) s.store i t m.store_over e)

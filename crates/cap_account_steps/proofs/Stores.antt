@@ -247,7 +247,8 @@ name-alike P v w x (a_fraction n d) h a is =
 -- the variable of a fixed name is old, and has the name's value
 pub fixed-name :
     (s : PlainState) (v : Valuation) (h : Home) (fn : PlainFunction) (fixed : List NameValue)
-    (f : Frame) → Store v s h fn fixed f → length fixed ≡ length fn.fixed → (i : ℕ) (y : NameValue) →
+    (f : Frame) → Store v s h fn fixed f → length fixed ≡ length fn.fixed →
+    (i : ℕ) (y : NameValue) →
     slice_get fixed i ≡ Some y → Old s (h.fixed + i) × IsNamed v (h.fixed + i) y
 fixed-name s v h fn fixed f st size i y e =
     let o = there-is fn.fixed i (let q = within fixed i y e in omega (arith, q, size)) in (
