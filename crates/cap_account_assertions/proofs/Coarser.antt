@@ -1,6 +1,6 @@
 -- What holds at values holds at alike ones, also where their denominator is coarser. So what taking
 -- leads to holds at all values that are alike before and of which the same is brought.
-use Rattle.std.proofs.Common.{ℕ, List, length, refl}
+use Rattle.std.proofs.Common.{ℕ, ℤ, List, [], length, refl}
 use Rattle.cap_lin.specs.Values.{Valuation}
 use Rattle.cap_prog.specs.Program.{PlainItem, Items, PlainProgram}
 use Rattle.cap_prog.specs.Scopes.{Scope}
@@ -9,14 +9,14 @@ use Rattle.cap_goal_spec.specs.Choices.{PlainTrees}
 use Rattle.cap_account_resources.specs.Parts.{Table}
 use Rattle.cap_account_resources.proofs.Stocks.{Stock}
 use Rattle.cap_account_states.proofs.Meets.{Old, same-state}
-use Rattle.cap_account_states.proofs.Alike.{Alike, alike-back, alike-trans, meets-alike}
+use Rattle.cap_account_states.proofs.Alike.{Alike, alike-same, alike-back, alike-trans, meets-alike}
 use Rattle.cap_account_states.proofs.Brought.{Bring, Brings, Brought, brought-named}
 use Rattle.cap_account_states.proofs.Checked.{Checked}
 use Rattle.cap_account_states.proofs.Backed.{Backed, Grounded}
 use Rattle.cap_account_states.proofs.KnowsLater.{old-steady, knows-on}
 use Rattle.cap_account_assertions.proofs.Laws.{StateAt, Taken}
 use Rattle.cap_account_assertions.proofs.Follows.{Follows}
-use Rattle.cap_account_assertions.proofs.TakeSteps.{Job, Head}
+use Rattle.cap_account_assertions.proofs.TakeSteps.{Job, Took, Head}
 use Rattle.cap_account_assertions.proofs.TakeHeads.{ready-kept, ItemTaken, ItemsTurned}
 
 -- ---- at alike values
@@ -61,6 +61,19 @@ then-alike s t v w u bs h l m k =
     brought-named s t w u bs h
     (alike-trans (Old s) w v u (alike-back (Old s) v w l) m) k
 
+abbrev pub follows-named :
+    (sc : Scope) (e : ℕ) (v w u : Valuation) (s t : PlainState) → Follows sc e v s w t →
+    Alike (Old s) v u → Follows sc e v s u t
+follows-named sc e v w u s t f l = record {
+  alike = l;
+  goes_on = f.goes_on;
+  loose = f.loose;
+  stays = f.stays;
+  outside = f.outside;
+  size = f.size;
+  others = f.others;
+}
+
 module _ (p : Checked) (ks : List ℕ) (T : Table) (j : Job) (v : Valuation) (s : PlainState)
     (c : Stock) (bs : List Bring) (u : Valuation) (l : Alike (Old s) v u)
     (k : Brings u (length s.sorts) bs) where
@@ -72,15 +85,7 @@ module _ (p : Checked) (ks : List ℕ) (T : Table) (j : Job) (v : Valuation) (s 
       record {
         w = u;
         after = h.after;
-        follows = record {
-          alike = l;
-          goes_on = f.goes_on;
-          loose = f.loose;
-          stays = f.stays;
-          outside = f.outside;
-          size = f.size;
-          others = f.others;
-        };
+        follows = follows-named j.scope j.env v h.w u s h.after f l;
         brought = record { count = h.brought.count; are = k };
         ready = state-alike p.program ks T j.scope j.env h.w u h.after now h.ready;
         left = h.left;
@@ -102,6 +107,55 @@ module _ (p : Checked) (ks : List ℕ) (T : Table) (j : Job) (v : Valuation) (s 
         claim = λ x m. r.claim x (alike-trans (Old h.after) h.w u x now m);
         goes = r.goes;
       }
+
+-- other items are to be taken, at the values before
+abbrev pub turned-named :
+    (p : Checked) (ks : List ℕ) (T : Table) (j : Job) (v : Valuation) (s : PlainState) (c : Stock)
+    (trees : PlainTrees) → ItemsTurned p ks T j v s c trees → ItemsTurned p ks T j v s c trees
+turned-named p ks T j v s c trees r =
+    let h = r.head in
+    let same = alike-same (Old s) v in
+    let now = then-alike s h.after v h.w v [] h.brought h.follows.alike same tt in
+    record {
+      head = head-named p ks T j v s c [] v same tt h;
+      rest = r.rest;
+      fits = r.fits;
+      turns = λ U g x m. r.turns U g x (alike-trans (Old h.after) h.w v x now m);
+      children = r.children;
+      no_larger = r.no_larger;
+      goes = r.goes;
+    }
+
+-- all items that are taken, with regions numbered from a number on
+abbrev pub took-named :
+    (p : Checked) (ks : List ℕ) (T : Table) (next : ℤ) (j : Job) (v : Valuation) (s : PlainState)
+    (c : Stock) (most_trees : ℕ) (t : Took p ks T next j v s c most_trees) (u : Valuation) →
+    Alike (Old s) v u → Brings u (length s.sorts) t.brings → Took p ks T next j v s c most_trees
+took-named p ks T next j v s c most_trees t u l k =
+    let f = t.follows in
+    let now = then-alike s t.after v t.w u t.brings t.brought f.alike l k in
+    record {
+      w = u;
+      after = t.after;
+      follows = follows-named j.scope j.env v t.w u s t.after f l;
+      brings = t.brings;
+      brought = record { count = t.brought.count; are = k };
+      children = t.children;
+      goes = t.goes;
+      no_larger = t.no_larger;
+      U = t.U;
+      new = t.new;
+      later = t.later;
+      made = t.made;
+      none_made = t.none_made;
+      ready = state-alike p.program ks t.U j.scope j.env t.w u t.after now t.ready;
+      left = t.left;
+      backed =
+          backed-alike p.program ks t.U j.scope j.env t.w u t.after now t.left t.ready t.backed;
+      given = t.given;
+      budget = t.budget;
+      draws = λ x m. t.draws x (alike-trans (Old t.after) t.w u x now m);
+    }
 
 -- all that is taken
 abbrev pub taken-named :
