@@ -25,7 +25,7 @@ use Rattle.cap_account_assertions.proofs.Asserted.{WantsAtom, Draws, DrawsAll}
 
 module _ (p : PlainProgram) (T : Table) (sc : Scope) (v w : Valuation) (l : Alike (InScope sc) v w)
     (finer : IsFiner v w) where
-  slots-alike :
+  pub slots-alike :
       (ss : List Slot) (zs : List ℤ) → AllByRecursion (SlotFits sc Int) ss → SlotsAre v ss zs →
       SlotsAre w ss zs
   slots-alike [] [] f h = h
@@ -35,7 +35,7 @@ module _ (p : PlainProgram) (T : Table) (sc : Scope) (v w : Valuation) (l : Alik
       (slot-alike sc v w l s z f.0 h.0, slots-alike ss zs f.1 h.1)
 
   -- of a region type that there is
-  of-type :
+  pub of-type :
       (P : PlainRegionType → Type 0) (A : Type 0) (k : ℕ) →
       ((t : PlainRegionType) → P t → A) → IsSomeAnd (slice_get p.regions k) P → A
   of-type P A k f h = by (slice_get p.regions k) h
@@ -44,7 +44,7 @@ module _ (p : PlainProgram) (T : Table) (sc : Scope) (v w : Valuation) (l : Alik
       by None h = absurd h
       by (Some t) h = f t h
 
-  atom-finer :
+  abbrev pub atom-finer :
       (k i : ℕ) (asked : Asked) (m : Option Mark) → AskedOver sc asked →
       WantsAtom p v k (i, asked) m → WantsAtom p w k (i, asked) m
   atom-finer k i asked m over h = record {
@@ -54,7 +54,7 @@ module _ (p : PlainProgram) (T : Table) (sc : Scope) (v w : Valuation) (l : Alik
     is_mark = h.is_mark;
   }
 
-  mutual
+  abbrev mutual
     pub draws-finer :
         (i : PlainItem) (more : Items) (q r : Stock) → AreFit p sc (item i more) →
         Draws p T v i q r → Draws p T w i q r

@@ -87,7 +87,7 @@ slot-alike sc v w a Any z f h = tt
 slot-alike sc v w a (Is t) z f h =
     value-alike (InScope sc) v w a t (fits-over sc Int t f) ∙ h
 
-pub wants-alike :
+abbrev pub wants-alike :
     (sc : Scope) (v w : Valuation) → Alike (InScope sc) v w → (asked : Asked) (x : Element) →
     AskedOver sc asked → StaysWanted v w asked → Wants v asked x → Wants w asked x
 wants-alike sc v w a One x f k h = h
@@ -109,18 +109,19 @@ wants-alike sc v w a (Share (Is t)) x f k h =
 wants-alike sc v w a (Src s) x f k h = (h.0, slot-alike sc v w a s (pos h.0) f h.1, h.2)
 wants-alike sc v w a (Tok s) x f k h = (h.0, slot-alike sc v w a s (pos h.0) f h.1, h.2)
 
+abbrev pub stays-finer : (v w : Valuation) → IsFiner v w → (asked : Asked) → StaysWanted v w asked
+stays-finer v w k One = tt
+stays-finer v w k (Share Any) = k
+stays-finer v w k (Share (Is t)) = tt
+stays-finer v w k (Src s) = tt
+stays-finer v w k (Tok s) = tt
+
 -- over a multiple of the denominator all stays
-pub wants-finer :
+abbrev pub wants-finer :
     (sc : Scope) (v w : Valuation) → Alike (InScope sc) v w → IsFiner v w → (asked : Asked)
     (x : Element) → AskedOver sc asked → Wants v asked x → Wants w asked x
-wants-finer sc v w a k asked x f h = wants-alike sc v w a asked x f (by asked) h
-  where
-    by : (asked : Asked) → StaysWanted v w asked
-    by One = tt
-    by (Share Any) = k
-    by (Share (Is t)) = tt
-    by (Src s) = tt
-    by (Tok s) = tt
+wants-finer sc v w a k asked x f h =
+    wants-alike sc v w a asked x f (stays-finer v w k asked) h
 
 pub asked-over : (sc : Scope) (b : PlainAlgebra) (asked : Asked) → AskedFits sc b asked →
     AskedOver sc asked
