@@ -11,9 +11,9 @@ use Rattle.cap_gsolve.specs.declared.piece.Form.TheVariants as form
 use Rattle.cap_gsolve.specs.declared.piece.Piece.{Piece}
 use Rattle.cap_goal_spec.specs.States.{PlainState}
 use Rattle.cap_account_states.proofs.Scopes.{length-join}
-use Rattle.cap_account_states.proofs.Terms.{Over, vars-more}
-use Rattle.cap_account_states.proofs.Alike.{Alike, alike-back, alike-less, whole-alike, amount-alike, above-zero, undo, swapped}
-use Rattle.cap_account_states.proofs.Meets.{Old}
+use Rattle.cap_account_states.proofs.Terms.{Over, vars-more, Agree, agree-same, agree-trans, agree-less, amount-agree}
+use Rattle.cap_account_states.proofs.Alike.{Alike, agree-alike, alike-less, whole-alike, amount-alike, above-zero, undo, swapped}
+use Rattle.cap_account_states.proofs.Meets.{Old, with_value, new-whole, new-share, with-agrees}
 
 -- ---- definitions
 
@@ -193,3 +193,74 @@ brought-named s t w u bs h l k =
     let e = h.count in
     alike-less (Old t) (λ x. x < n + length bs) w u (λ x i. omega (arith, i, e))
     (brings-named n bs w u l h.are k)
+
+-- ---- over the denominator that there is
+
+-- each share, in turn, has a half there
+abbrev pub HasHalves : Valuation → ℕ → List Bring → Type 0
+HasHalves v n [] = Unit {0}
+HasHalves v n (a_whole z ∷ bs) =
+    HasHalves (with_value v n z (z *ℤ denominator v.fraction)) (n + 1) bs
+HasHalves v n (a_half t ∷ bs) =
+    (h : ℤ) × (h *ℤ pos 2 ≡ amount v.fraction t) × HasHalves (with_value v n (pos 0) h) (n + 1) bs
+
+-- then these are values at which all holds
+abbrev pub bring_values : (v : Valuation) (n : ℕ) (bs : List Bring) → HasHalves v n bs → Valuation
+bring_values v n [] k = v
+bring_values v n (a_whole z ∷ bs) k =
+    bring_values (with_value v n z (z *ℤ denominator v.fraction)) (n + 1) bs k
+bring_values v n (a_half t ∷ bs) k = bring_values (with_value v n (pos 0) k.0) (n + 1) bs k.2
+
+-- one variable more leaves those below
+before-agrees :
+    (v u : Valuation) (n : ℕ) (z y : ℤ) → Agree (λ x. x < n + 1) (with_value v n z y) u →
+    Agree (λ x. x < n) v u
+before-agrees v u n z y h =
+    agree-trans (λ x. x < n) v (with_value v n z y) u
+    (with-agrees (λ x. x < n) v n z y (λ x l e. omega (arith, l, e)))
+    (agree-less (λ x. x < n) (λ x. x < n + 1) (with_value v n z y) u (λ x l. omega (arith, l)) h)
+
+pub bring-agrees :
+    (v : Valuation) (n : ℕ) (bs : List Bring) (k : HasHalves v n bs) →
+    Agree (λ x. x < n) v (bring_values v n bs k)
+bring-agrees v n [] k = agree-same (λ x. x < n) v
+bring-agrees v n (a_whole z ∷ bs) k =
+    let y = z *ℤ denominator v.fraction in
+    before-agrees v (bring_values (with_value v n z y) (n + 1) bs k) n z y
+    (bring-agrees (with_value v n z y) (n + 1) bs k)
+bring-agrees v n (a_half t ∷ bs) k =
+    before-agrees v (bring_values (with_value v n (pos 0) k.0) (n + 1) bs k.2) n (pos 0) k.0
+    (bring-agrees (with_value v n (pos 0) k.0) (n + 1) bs k.2)
+
+pub bring-brings :
+    (w v : Valuation) (n : ℕ) (bs : List Bring) → Brings w n bs → (k : HasHalves v n bs) →
+    Brings (bring_values v n bs k) n bs
+bring-brings w v n [] h k = tt
+bring-brings w v n (a_whole z ∷ bs) h k =
+    let d = denominator v.fraction in
+    let now = with_value v n z (z *ℤ d) in
+    let u = bring_values now (n + 1) bs k in
+    let same = bring-agrees now (n + 1) bs k in
+    let here : n < n + 1 = omega arith in
+    let whole : IsWholeAt now n =
+    new-share v n z (z *ℤ d) ∙ ap (λ x. x *ℤ d) (sym (new-whole v n z (z *ℤ d))) in (
+      same.whole n here ∙ new-whole v n z (z *ℤ d),
+      whole-alike (λ x. x < n + 1) now u (agree-alike (λ x. x < n + 1) now u same) n here whole,
+      bring-brings w now (n + 1) bs h.2 k,
+    )
+bring-brings w v n (a_half t ∷ bs) h k =
+    let now = with_value v n (pos 0) k.0 in
+    let u = bring_values now (n + 1) bs k.2 in
+    let same = bring-agrees now (n + 1) bs k.2 in
+    let here : n < n + 1 = omega arith in
+    let half : now.fraction.numerator n *ℤ pos 2 ≡ amount now.fraction t =
+    ap (λ x. x *ℤ pos 2) (new-share v n (pos 0) k.0) ∙ k.1
+    ∙ sym
+    (amount-agree (λ x. x < n) v now
+    (with-agrees (λ x. x < n) v n (pos 0) k.0 (λ x l e. omega (arith, l, e))) t h.2) in (
+      same.whole n here ∙ new-whole v n (pos 0) k.0,
+      half-alike (λ x. x < n + 1) now u n t (agree-alike (λ x. x < n + 1) now u same) here
+          (vars-more (λ x. x < n) (λ x. x < n + 1) (λ x l. omega (arith, l)) t.parts h.2) half,
+      h.2,
+      bring-brings w now (n + 1) bs h.3 k.2,
+    )

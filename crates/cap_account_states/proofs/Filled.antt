@@ -77,7 +77,7 @@ abbrev pub put_values : Valuation → ℕ → List (ℤ × ℤ) → Valuation
 put_values v n [] = v
 put_values v n (b ∷ bs) = put_values (with_value v n b.0 b.1) (n + 1) bs
 
-put-join :
+pub put-join :
     (v : Valuation) (n : ℕ) (xs ys : List (ℤ × ℤ)) →
     put_values v n (xs ++ ys) ≡ put_values (put_values v n xs) (n + length xs) ys
 put-join v n [] ys = ap (λ m. put_values v m ys) (omega arith)
