@@ -9,8 +9,8 @@ use Rattle.cap_goal_spec.specs.Choices.{PlainTrees}
 use Rattle.cap_account_resources.specs.Parts.{Table}
 use Rattle.cap_account_resources.proofs.Stocks.{Stock}
 use Rattle.cap_account_states.proofs.Meets.{Old, same-state}
-use Rattle.cap_account_states.proofs.Alike.{Alike, alike-same, alike-back, alike-trans, meets-alike}
-use Rattle.cap_account_states.proofs.Brought.{Bring, Brings, Brought, brought-named}
+use Rattle.cap_account_states.proofs.Alike.{Alike, agree-alike, alike-same, alike-back, alike-trans, meets-alike}
+use Rattle.cap_account_states.proofs.Brought.{Bring, Brings, Brought, brought-named, HasHalves, bring_values, bring-agrees, bring-brings}
 use Rattle.cap_account_states.proofs.Checked.{Checked}
 use Rattle.cap_account_states.proofs.Backed.{Backed, Grounded}
 use Rattle.cap_account_states.proofs.KnowsLater.{old-steady, knows-on}
@@ -190,3 +190,44 @@ taken-named p ks T sc e most v held s items ts t u l k =
       budget = t.budget;
       draws = λ x m. t.draws x (alike-trans (Old t.after) t.w u x now m);
     }
+
+-- ---- over the denominator before, where each share that is halved has a half there
+
+module _ (s : PlainState) (v : Valuation) (bs : List Bring)
+    (k : HasHalves v (length s.sorts) bs) where
+  abbrev pub values_here : Valuation
+  values_here = bring_values v (length s.sorts) bs k
+
+  pub here-alike : Alike (Old s) v values_here
+  here-alike =
+      agree-alike (Old s) v values_here (bring-agrees v (length s.sorts) bs k)
+
+  pub here-brings :
+      (w : Valuation) → Brings w (length s.sorts) bs → Brings values_here (length s.sorts) bs
+  here-brings w h = bring-brings w v (length s.sorts) bs h k
+
+abbrev pub item-here :
+    (p : Checked) (ks : List ℕ) (T : Table) (j : Job) (v : Valuation) (s : PlainState) (c : Stock)
+    (bs : List Bring) (k : HasHalves v (length s.sorts) bs) (trees : PlainTrees) (i : PlainItem)
+    (more : Items) → ItemTaken p ks T j v s c trees bs i more →
+    ItemTaken p ks T j v s c trees bs i more
+item-here p ks T j v s c bs k trees i more r =
+    item-named p ks T j v s c bs (values_here s v bs k) (here-alike s v bs k)
+    (here-brings s v bs k r.head.w r.head.brought.are) trees i more r
+
+abbrev pub took-here :
+    (p : Checked) (ks : List ℕ) (T : Table) (next : ℤ) (j : Job) (v : Valuation) (s : PlainState)
+    (c : Stock) (most_trees : ℕ) (t : Took p ks T next j v s c most_trees) →
+    HasHalves v (length s.sorts) t.brings → Took p ks T next j v s c most_trees
+took-here p ks T next j v s c most_trees t k =
+    took-named p ks T next j v s c most_trees t (values_here s v t.brings k)
+    (here-alike s v t.brings k) (here-brings s v t.brings k t.w t.brought.are)
+
+abbrev pub taken-here :
+    (p : Checked) (ks : List ℕ) (T : Table) (sc : Scope) (e most : ℕ) (v : Valuation)
+    (held : Stock) (s : PlainState) (items : Items) (ts : List PlainTask)
+    (t : Taken p ks T sc e most v held s items ts) → HasHalves v (length s.sorts) t.brings →
+    Taken p ks T sc e most v held s items ts
+taken-here p ks T sc e most v held s items ts t k =
+    taken-named p ks T sc e most v held s items ts t (values_here s v t.brings k)
+    (here-alike s v t.brings k) (here-brings s v t.brings k t.w t.brought.are)
