@@ -189,8 +189,8 @@ pub record IsOnlyTextOf (bytes : List ℕ) (p : PlainProgram) : Type 0 where
 
 -- The bytes spell a tree that stands for a program, all of which is proved within a budget, and
 -- every run of it, of every length and along every schedule, from every state that meets the
--- precondition of `main`, makes no memory fault, fails no assertion and keeps the contracts of its
--- functions.
+-- precondition of `main`, makes no memory fault, fails no assertion, changes regions only by actions
+-- whose guards the stepping thread held, and keeps the contracts of its functions.
 pub record IsGood (budget : ℕ) (bytes : List ℕ) : Type 0 where
   pub tree : ProgramTree
   pub spelled : Spells bytes tree
