@@ -1,6 +1,8 @@
 -- A step in terms of what is held: what is there afterwards is within heap and room, and for all
 -- others the step is interference.
-use Rattle.std.proofs.Common.{◌≡◌, ◌⊎◌, inl, inr, ℕ, suc, ◌+◌, ◌≤◌, ℤ, Bool, true, false, List, [], ◌∷◌, length, Option, Some, None, refl, sym, ap, ◌∙◌, subst, arith}
+use Rattle.cap_account_resources.proofs.Tables.{fits-composes, TableFits, NoneOpen, AreListed, FitsRoom, guards_if_new, new_guards, fits-less, fits-later, relies-types}
+use Rattle.cap_account_steps.proofs.SettledTables.{opened-apart}
+use Rattle.std.proofs.Common.{◌≡◌, ◌⊎◌, ℕ, suc, ◌+◌, ◌≤◌, ℤ, Bool, true, false, List, [], ◌∷◌, length, Option, Some, None, refl, sym, ap, ◌∙◌, subst, arith}
 use Rattle.std.specs.Prelude.{slice_get, option_map}
 use Rattle.std.specs.List.{AllByRecursion}
 use Rattle.std.specs.FinMap.{get}
@@ -13,15 +15,13 @@ use Rattle.cap_account_resources.proofs.Covering.{join_marks, IsPartOf}
 use Rattle.cap_account_resources.proofs.Interference.{Relies, guarantees-relies, relies-less}
 use Rattle.cap_account_resources.proofs.Room.{room}
 use Rattle.cap_account_resources.proofs.Stocks.{Stock, both, all_of, Inside, reordered, some-inside, inside-same, inside-trans, inside-first, inside-second, inside-both, inside-cells, inside-guards}
-use Rattle.cap_account_resources.proofs.Tables.{TableFits, NoneOpen, AreListed, FitsRoom, guards_if_new, new_guards, fits-less, fits-later, relies-types}
 use Rattle.cap_account_resources.proofs.Owners.{Owner, owned, numbers_of}
 use Rattle.cap_account_assertions.proofs.Asserted.{OwnsRegion}
 use Rattle.cap_account_assertions.proofs.Laws.{Reached, Stable}
 use Rattle.cap_account_steps.proofs.Frames.{Roomy}
 use Rattle.cap_account_steps.proofs.Worlds.{Differ, World, opened_at, opened_table, SettlesBy}
 use Rattle.cap_account.proofs.Stocked.{sum_by, known_by, table_by, stock_or_none, share_by, OwnsItsOwn}
-use Rattle.cap_account.proofs.Parts.{fits-composes}
-use Rattle.cap_account.proofs.Chosen.{of-member, has_number, test-all, found, missing, look, Apart, number-among, if_numbered, unless_numbered, sum-split, owned-sum, of-numbers, numbers-less}
+use Rattle.cap_account.proofs.Chosen.{of-member, has_number, found, missing, look, Apart, number-among, if_numbered, unless_numbered, sum-split, owned-sum, of-numbers, numbers-less}
 use Rattle.cap_account.proofs.Renewed.{Shift, the_state, after, free_stock, opened_stock, table-after, guarantees, owned-before, own-after}
 
 -- ---- tables of owners
@@ -72,17 +72,6 @@ module _ (p : PlainProgram) (T : Table) (rs : List Owner)
       t.3 (of-member (OwnsItsOwn p T) t.0 rs t.1 own)))
 
 -- ---- tables in which regions are open
-
-pub opened-not :
-    (ns : List ℤ) (V : Table) (n : ℤ) → (Among n ns → ⊥) → opened_table ns V n ≡ V n
-opened-not ns V n f = elim (test-all n ns) [
-  | inl t ↦ absurd (f t.0)
-  | inr t ↦ ap (λ b. opened_at b (V n)) t.1 ∙ by (V n)
-]
-  where
-    by : (o : Option Known) → opened_at false o ≡ o
-    by None = refl
-    by (Some e) = refl
 
 pub new-opened :
     (p : PlainProgram) (ns : List ℤ) (V U : Table) →
@@ -197,7 +186,7 @@ module _ (p : PlainProgram) (s : Scene p) (heap : Heap) (left : Stock)
     made = ch.by.made;
     settles = ch.by.settles;
     away = λ n f.
-        opened-not ch.entered (table_by s.rs) n (λ m. f (ch.by.all_of_them n m));
+        opened-apart ch.entered (table_by s.rs) n (λ m. f (ch.by.all_of_them n m));
   }
 
   abbrev pub free_regions : Stock

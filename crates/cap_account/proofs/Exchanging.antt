@@ -1,4 +1,5 @@
 -- Parts before and after a step: no cell and no guard is invented.
+use Rattle.cap_account_resources.proofs.Tables.{fits-composes, FitsRoom, guards_if_new, new_guards}
 use Rattle.std.proofs.Common.{◌≡◌, ◌⊎◌, inl, inr, ℤ, Bool, true, false, List, [], ◌∷◌, Option, Some, None, sym, ap, ◌∙◌, subst, arith}
 use Rattle.std.specs.Prelude.{filter, if◌then◌else◌, option_map}
 use Rattle.std.specs.FinMap.{get}
@@ -16,10 +17,9 @@ use Rattle.cap_account_resources.proofs.Covering.{join_marks, IsPartOf, part-tra
 use Rattle.cap_account_resources.proofs.Interference.{met-joins, met-guard}
 use Rattle.cap_account_resources.proofs.Room.{room, room_of, in-room}
 use Rattle.cap_account_resources.proofs.Stocks.{Stock, both, Inside, inside-cells, inside-guards}
-use Rattle.cap_account_resources.proofs.Tables.{FitsRoom, guards_if_new, new_guards}
 use Rattle.cap_account.proofs.Stocked.{part_stock, sum_by, owner_of, owners, owner_at, known_by, table_by}
 use Rattle.cap_account.proofs.Totals.{parts_stock, sum-map, sum-guards}
-use Rattle.cap_account.proofs.Parts.{plain, plain-is, fits-composes, room-is-guard, cell-counted, counted-cell}
+use Rattle.cap_account.proofs.Parts.{plain, plain-is, room-is-guard, cell-counted, counted-cell}
 use Rattle.cap_account.proofs.Drawn.{tells}
 use Rattle.cap_account.proofs.Chosen.{sum-filter, if_numbered}
 use Rattle.cap_account.proofs.Changes.{Recells}

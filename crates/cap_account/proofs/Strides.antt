@@ -1,4 +1,5 @@
 -- Steps that open no region, and how the stepping frame goes on.
+use Rattle.cap_account_steps.proofs.SettledTables.{opened-apart}
 use Rattle.std.proofs.Common.{◌≡◌, inl, inr, ℤ, List, [], ◌∷◌, Option, Some, None, refl, sym, ap, ◌∙◌, subst, arith}
 use Rattle.std.specs.Prelude.{slice_set}
 use Rattle.cap_prog.specs.Program.{PlainProgram}
@@ -19,7 +20,7 @@ use Rattle.cap_account_assertions.proofs.Laws.{Made, Stable}
 use Rattle.cap_account_steps.proofs.Frames.{Stands, HandsOver}
 use Rattle.cap_account_steps.proofs.Worlds.{opened_table, Settles}
 use Rattle.cap_account.proofs.Stocked.{part_stock, frames_stock, account_table, callee_of, AllWait, Sound, Turn, Followed}
-use Rattle.cap_account.proofs.Changes.{Recells, opened-not, new-opened}
+use Rattle.cap_account.proofs.Changes.{Recells, new-opened}
 use Rattle.cap_account.proofs.Successors.{others, Stride, all, cut, cut-is, account, left-inside, nothing-fits, nothing-within}
 use Rattle.cap_account.proofs.Following.{stepping, before, follows}
 use Rattle.cap_account.proofs.Succeeding.{moved}
@@ -37,7 +38,7 @@ module _ (p : Checked) (x : Turn p) where
   part = part_stock x.held.part
 
   none-opened : opened_table [] (account_table x.a) ≡ account_table x.a
-  none-opened i n = opened-not [] V n (λ m. m) i
+  none-opened i n = opened-apart [] V n (λ m. m) i
 
   pub settles-made :
       (U : Table) (new : List Owner) → Made p.program V U new →

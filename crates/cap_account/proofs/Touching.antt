@@ -1,4 +1,5 @@
 -- Statements that access a cell, with up to two regions open: read, write, compare and swap.
+use Rattle.cap_account_resources.proofs.Order.{same-or, met-relates, unmet-relates}
 use Rattle.std.proofs.Common.{◌≡◌, inl, inr, ℕ, ◌+◌, ◌≤◌, ℤ, pos, Bool, true, false, List, [], ◌∷◌, Option, Some, None, refl, sym, ap, ◌∙◌, subst, arith}
 use Rattle.std.specs.Prelude.{slice_set, if◌then◌else◌}
 use Rattle.std.specs.FinMap.{insert}
@@ -15,8 +16,7 @@ use Rattle.cap_machine_accounts.specs.Following.{StaysOn, FramesFollow, accesses
 use Rattle.cap_machine_accounts.specs.Safety.{KeepsContracts}
 use Rattle.cap_account_resources.specs.Parts.{Table, one_cell, cells_of}
 use Rattle.cap_account_resources.proofs.Lists.{some-same, none-some}
-use Rattle.cap_account_resources.proofs.Order.{met-relates, unmet-relates}
-use Rattle.cap_account_resources.proofs.Heaps.{same-or, one-itself, one-other, written}
+use Rattle.cap_account_resources.proofs.Heaps.{one-itself, one-other, written}
 use Rattle.cap_account_resources.proofs.Interference.{relies-same}
 use Rattle.cap_account_resources.proofs.Stocks.{Stock, both, all_of}
 use Rattle.cap_account_states.proofs.Checked.{Checked}

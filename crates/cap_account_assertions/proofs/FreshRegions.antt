@@ -1,4 +1,5 @@
 -- A fresh region with all its guards, which no fact names: the state in which its case is taken.
+use Rattle.cap_account_resources.proofs.Order.{same-or}
 use Rattle.std.proofs.Common.{◌≡◌, ◌≢◌, ℕ, ◌+◌, ◌<◌, ℤ, ◌*ℤ◌, List, [], ◌∷◌, ◌++◌, length, Option, Some, None, sym, ap, ◌∙◌, subst, arith, inl, inr}
 use Rattle.std.specs.Prelude.{slice_get}
 use Rattle.std.specs.List.{AllByRecursion}
@@ -21,7 +22,7 @@ use Rattle.cap_account_resources.specs.Parts.{Table}
 use Rattle.cap_account_resources.proofs.Lists.{none-some, get-last, all-more, all-both}
 use Rattle.cap_account_resources.proofs.Marks.{Mark, free, joins-law}
 use Rattle.cap_account_resources.proofs.Covering.{join_marks, mark, free-right}
-use Rattle.cap_account_resources.proofs.Room.{all_guards, alone, alone-here, alone-away, here-or}
+use Rattle.cap_account_resources.proofs.Room.{all_guards, alone, alone-here, alone-away}
 use Rattle.cap_account_resources.proofs.Stocks.{Stock, guard_stock, both, Composes}
 use Rattle.cap_account_states.specs.Nodes.{Comes}
 use Rattle.cap_account_states.proofs.Terms.{Over, vars-more}
@@ -228,7 +229,7 @@ fresh-region p ks T n v s c y k P is h low none ok comes =
 pub fresh-composes :
     (p : PlainProgram) (n : ℤ) (lim : ℤ → Option Mark) (k : ℕ) → ((i : ℤ) → lim i ≢ None) →
     lim n ≡ Some free → (i : ℤ) → join_marks p (lim i) (alone n (all_guards p k) i) ≢ None
-fresh-composes p n lim k some unheld i e = elim (here-or n i) [
+fresh-composes p n lim k some unheld i e = elim (same-or n i) [
   | inl q ↦
       there
       (sym ((joins-law p).zero_left (all_guards p k))

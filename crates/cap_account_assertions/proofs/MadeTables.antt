@@ -1,10 +1,10 @@
 -- Tables to which regions were added.
+use Rattle.cap_account_resources.proofs.Order.{same-or}
 use Rattle.std.proofs.Common.{◌≡◌, ◌⊎◌, suc, ℤ, List, [], ◌∷◌, length, Some, None, sym, ap, ◌∙◌, inl, inr}
 use Rattle.std.specs.Prelude.{slice_get}
 use Rattle.std.specs.List.{AllByRecursion}
 use Rattle.cap_prog.specs.Program.{PlainProgram}
 use Rattle.cap_account_resources.specs.Parts.{Known, known_as, Table}
-use Rattle.cap_account_resources.proofs.Heaps.{same-or}
 use Rattle.cap_account_resources.proofs.Lists.{some-same, none-some, Among}
 use Rattle.cap_account_resources.proofs.Stocks.{Stock, both, Inside, inside-trans, inside-first}
 use Rattle.cap_account_resources.proofs.Tables.{TableFits, NoneOpen, Extends, extends-types, FitsRoom, new_guards, fits-less, fits-later}

@@ -1,5 +1,6 @@
 -- Heaps as counts of cells: writing, removing, allocating.
-use Rattle.std.proofs.Common.{◌≡◌, ◌≢◌, ℕ, zero, suc, ◌+◌, ◌≤◌, ℤ, pos, ◌+ℤ◌, ◌<ℤ◌, arith, refl, sym, ap, ◌∙◌, cond, Option, Some, None, ◌⊎◌, inl, inr, Bool, true, false}
+use Rattle.cap_account_resources.proofs.Order.{same-or, same-int, same-refl}
+use Rattle.std.proofs.Common.{◌≡◌, ◌≢◌, ℕ, zero, suc, ◌+◌, ◌≤◌, ℤ, pos, ◌+ℤ◌, ◌<ℤ◌, arith, refl, sym, ap, ◌∙◌, cond, Option, Some, None, inl, inr, Bool, true, false}
 use Rattle.std.specs.Prelude.{◌&&◌, is_none}
 use Rattle.std.specs.Ordering.{int_cmp, MatchOrdering, is_eq}
 use Rattle.std.specs.declared.cmp.Ordering.{Ordering}
@@ -10,14 +11,6 @@ use Rattle.std.proofs.lemmas.Int.{ints}
 use Rattle.cap_lin.specs.Linear.{same_number}
 use Rattle.cap_machine.specs.Machine.{Heap, with_cells, are_free}
 use Rattle.cap_account_resources.specs.Parts.{Cells, once, one_cell, count_of, cells_of}
-use Rattle.cap_account_resources.proofs.Order.{same-int, same-refl, other-int}
-
-pub same-or : (a b : ℤ) → (a ≡ b) ⊎ (a ≢ b)
-same-or a b = by (same_number a b) refl
-  where
-    by : (t : Bool) → same_number a b ≡ t → (a ≡ b) ⊎ (a ≢ b)
-    by true q = inl (same-int a b q)
-    by false q = inr (other-int a b q)
 
 -- ---- what an address holds once a heap has changed
 

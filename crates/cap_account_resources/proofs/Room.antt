@@ -1,6 +1,6 @@
 -- What the table has room for: all guards of each of its regions, and none of other numbers; a
 -- region is created with all of its guards.
-use Rattle.std.proofs.Common.{◌≡◌, ◌≢◌, ◌⊎◌, inl, inr, ℕ, ℤ, Bool, true, false, Option, Some, None, refl, sym, ap, ◌∙◌, subst}
+use Rattle.std.proofs.Common.{◌≡◌, ◌≢◌, ℕ, ℤ, Bool, true, false, Option, Some, None, refl, sym, ap, ◌∙◌, subst}
 use Rattle.std.specs.Prelude.{if◌then◌else◌}
 use Rattle.cap_lin.specs.Linear.{same_number}
 use Rattle.cap_galg.specs.Elements.{Element, compose}
@@ -9,7 +9,7 @@ use Rattle.cap_prog.specs.Program.{PlainProgram}
 use Rattle.cap_machine_accounts.specs.Parts.{Guard, algebra_of}
 use Rattle.cap_account_resources.specs.Parts.{Known, Table}
 use Rattle.cap_account_resources.proofs.Lists.{some-same}
-use Rattle.cap_account_resources.proofs.Order.{same-int, same-refl, other-int}
+use Rattle.cap_account_resources.proofs.Order.{same-int, same-refl}
 use Rattle.cap_account_resources.proofs.Marks.{Mark, free, of, is, is-full, fit, fitting, wrap, meet_if, joins-law}
 use Rattle.cap_account_resources.proofs.Covering.{join_marks, IsPartOf}
 use Rattle.cap_account_resources.proofs.Interference.{Holding}
@@ -129,13 +129,6 @@ alone-away r m n ne = by (same_number r n) refl
     by : (b : Bool) → same_number r n ≡ b → (if b then m else Some free) ≡ Some free
     by true e = absurd (ne (same-int r n e))
     by false e = refl
-
-pub here-or : (r n : ℤ) → (r ≡ n) ⊎ (r ≢ n)
-here-or r n = by (same_number r n) refl
-  where
-    by : (b : Bool) → same_number r n ≡ b → (r ≡ n) ⊎ (r ≢ n)
-    by true e = inl (same-int r n e)
-    by false e = inr (other-int r n e)
 
 pub alone-join :
     (p : PlainProgram) (r : ℤ) (a b : Option Mark) (n : ℤ) →

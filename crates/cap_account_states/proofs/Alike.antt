@@ -1,5 +1,6 @@
 -- Values that are alike on some variables: the same whole numbers and, whatever the denominators,
 -- the same fractions. What is said of these variables holds at both or at neither.
+use Rattle.cap_account_resources.proofs.Order.{cancel, turned, grouped, swapped, relates-times, relates-or, not-both}
 use Rattle.std.proofs.Common.{◌≡◌, ℕ, zero, suc, ◌+◌, ◌<◌, ℤ, pos, ◌+ℤ◌, ◌*ℤ◌, ◌<ℤ◌, List, [], ◌∷◌, ◌++◌, length, map, Some, arith, refl, sym, ap, ◌∙◌, subst, inl, inr}
 use Rattle.std.specs.Prelude.{slice_get}
 use Rattle.std.specs.List.{AllByRecursion}
@@ -22,7 +23,6 @@ use Rattle.cap_machine_accounts.specs.Assertions.{CompHolds}
 use Rattle.cap_goal_spec.specs.States.{PlainState}
 use Rattle.cap_rules.specs.Making.{opposite}
 use Rattle.cap_account_resources.proofs.Lists.{within, some-same, none-some, all-more, get-first, get-join}
-use Rattle.cap_account_resources.proofs.Order.{relates-times, relates-or, not-both}
 use Rattle.cap_account_states.proofs.Terms.{Vars, Over, vars-more, RowOver, value-is, amount-is, sum-agree, Agree}
 use Rattle.cap_account_states.proofs.Meets.{Free, Usable, usable-old, usable-on, CellOver, cell-more, row-more, Meets, need, Old, Same}
 use Rattle.cap_account_states.proofs.Attempts.{sort_added}
@@ -41,15 +41,6 @@ pub record Alike (P : ℕ → Type 0) (v w : Valuation) : Type 0 where
 pub above-zero : (v : Valuation) → pos 0 <ℤ denominator v.fraction
 above-zero v = omega (arith, ints)
 
-pub turned : (a b : ℤ) → a *ℤ b ≡ b *ℤ a
-turned a b = omega (arith, ints)
-
-pub grouped : (a b c : ℤ) → a *ℤ b *ℤ c ≡ a *ℤ (b *ℤ c)
-grouped a b c = simp expand (omega (arith, ints, product3))
-
-pub swapped : (a b c : ℤ) → a *ℤ b *ℤ c ≡ a *ℤ c *ℤ b
-swapped a b c = grouped a b c ∙ ap (λ z. a *ℤ z) (turned b c) ∙ sym (grouped a c b)
-
 -- a positive factor of both sides is left out
 pub relates-undo :
     (op : Op) (a b m : ℤ) → pos 0 <ℤ m → Relates op (a *ℤ m) (b *ℤ m) → Relates op a b
@@ -58,14 +49,11 @@ relates-undo op a b m h k = elim (relates-or op a b) [
   | inr n ↦ absurd (not-both op (a *ℤ m) (b *ℤ m) k (relates-times (opposite op) a b m h n))
 ]
 
-pub undo : (a b m : ℤ) → pos 0 <ℤ m → a *ℤ m ≡ b *ℤ m → a ≡ b
-undo a b m h e = relates-undo Equal a b m h e
-
 -- x over a equals y over b, and y over b equals z over c
 cross-trans :
     (x y z a b c : ℤ) → pos 0 <ℤ b → y *ℤ a ≡ x *ℤ b → z *ℤ b ≡ y *ℤ c → z *ℤ a ≡ x *ℤ c
 cross-trans x y z a b c h e f =
-    undo (z *ℤ a) (x *ℤ c) b h
+    cancel (z *ℤ a) (x *ℤ c) b h
     (swapped z a b ∙ ap (λ u. u *ℤ a) f ∙ swapped y c a ∙ ap (λ u. u *ℤ c) e ∙ swapped x b c)
 
 cross-relates :
@@ -271,7 +259,7 @@ pub whole-alike :
 whole-alike P v w a x h i =
     let d = denominator v.fraction in
     let e = denominator w.fraction in
-    undo (w.fraction.numerator x) (w.whole x *ℤ e) d (above-zero v)
+    cancel (w.fraction.numerator x) (w.whole x *ℤ e) d (above-zero v)
     (a.share x h ∙ ap (λ z. z *ℤ e) i ∙ swapped (v.whole x) d e
     ∙ ap (λ z. z *ℤ e *ℤ d) (sym (a.whole x h)))
 

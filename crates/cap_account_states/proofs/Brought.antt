@@ -10,9 +10,10 @@ use Rattle.cap_gsolve.specs.declared.piece.Form.{Form}
 use Rattle.cap_gsolve.specs.declared.piece.Form.TheVariants as form
 use Rattle.cap_gsolve.specs.declared.piece.Piece.{Piece}
 use Rattle.cap_goal_spec.specs.States.{PlainState}
+use Rattle.cap_account_resources.proofs.Order.{cancel, swapped}
 use Rattle.cap_account_states.proofs.Scopes.{length-join}
 use Rattle.cap_account_states.proofs.Terms.{Over, vars-more, Agree, agree-same, agree-trans, agree-less, amount-agree}
-use Rattle.cap_account_states.proofs.Alike.{Alike, agree-alike, alike-less, whole-alike, amount-alike, above-zero, undo, swapped}
+use Rattle.cap_account_states.proofs.Alike.{Alike, agree-alike, alike-less, whole-alike, amount-alike, above-zero}
 use Rattle.cap_account_states.proofs.Meets.{Old, with_value, new-whole, new-share, with-agrees}
 
 -- ---- definitions
@@ -56,7 +57,7 @@ half-alike :
 half-alike P v w n t l here o e =
     let d = denominator v.fraction in
     let f = denominator w.fraction in
-    undo (w.fraction.numerator n *ℤ pos 2) (amount w.fraction t) d (above-zero v)
+    cancel (w.fraction.numerator n *ℤ pos 2) (amount w.fraction t) d (above-zero v)
     (swapped (w.fraction.numerator n) (pos 2) d
     ∙ ap (λ z. z *ℤ pos 2) (l.share n here)
     ∙ swapped (v.fraction.numerator n) f (pos 2)
@@ -115,7 +116,7 @@ halves-cross :
 halves-cross n v w t l o e q =
     let d = denominator v.fraction in
     let f = denominator w.fraction in
-    undo (w.fraction.numerator n *ℤ d) (v.fraction.numerator n *ℤ f) (pos 2) (omega (arith, ints))
+    cancel (w.fraction.numerator n *ℤ d) (v.fraction.numerator n *ℤ f) (pos 2) (omega (arith, ints))
     (swapped (w.fraction.numerator n) d (pos 2)
     ∙ ap (λ z. z *ℤ d) q
     ∙ amount-alike (λ x. x < n) v w l t o

@@ -1,4 +1,5 @@
 -- Pieces of a region whose full pieces are all of its guards.
+use Rattle.cap_account_resources.proofs.Order.{same-or}
 use Rattle.std.proofs.Common.{◌≡◌, ◌≢◌, inl, inr, ℕ, ℤ, Bool, true, false, List, [], ◌∷◌, Some, None, refl, sym, ap, ◌∙◌, subst}
 use Rattle.std.specs.Prelude.{if◌then◌else◌}
 use Rattle.std.specs.List.{AllByRecursion}
@@ -25,7 +26,7 @@ use Rattle.cap_account_resources.proofs.Covering.{join_marks, mark, mark-of, fre
 use Rattle.cap_account_states.proofs.Pieces.{AllFit, element-of, elements-of, mark-joined}
 use Rattle.cap_account_states.proofs.Adding.{piece_added, comes-piece, piece-added}
 use Rattle.cap_account_resources.proofs.Interference.{Holding}
-use Rattle.cap_account_resources.proofs.Room.{all_guards, alone, alone-here, alone-away, here-or, alone-join}
+use Rattle.cap_account_resources.proofs.Room.{all_guards, alone, alone-here, alone-away, alone-join}
 
 -- ---- pieces alone
 
@@ -36,7 +37,7 @@ pub piece-alone :
 piece-alone p v q y n = record {
   at = λ e. alone-here (region_of v q) (mark q.kind y) n e;
   away = λ ne. alone-away (region_of v q) (mark q.kind y) n ne;
-  or_not = here-or (region_of v q) n;
+  or_not = same-or (region_of v q) n;
 }
 
 -- ---- several pieces of one region

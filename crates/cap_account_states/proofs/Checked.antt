@@ -1,5 +1,6 @@
 -- A predicate of nodes that passes from each node to those below it; valid derivations are such.
-use Rattle.std.proofs.Common.{◌≡◌, inl, inr, ℕ, suc, ℤ, List, [], ◌∷◌, ◌++◌, map, Option, Some, None, refl, sym, ap, subst}
+use Rattle.cap_account_resources.proofs.Lists.{all-unmap}
+use Rattle.std.proofs.Common.{◌≡◌, inl, inr, ℕ, suc, ℤ, List, [], ◌∷◌, ◌++◌, Option, Some, None, refl, sym, ap, subst}
 use Rattle.std.specs.Prelude.{IsSomeAnd}
 use Rattle.std.specs.List.{AllByRecursion}
 use Rattle.cap_lin.specs.Rows.{negations}
@@ -54,16 +55,10 @@ refuted-none : (rows : List Row) (c : Cert) → Refutes rows c → HasNone rows
 refuted-none rows c r =
     infeasible-none rows (excluded-infeasible rows c (refuted-excludes rows c r))
 
-all-mapped :
-    {A B : Type 0} (P : B → Type 0) (f : A → B) (xs : List A) → AllByRecursion P (map f xs) →
-    AllByRecursion (λ x. P (f x)) xs
-all-mapped P f [] h = tt
-all-mapped P f (x ∷ xs) h = (h.0, all-mapped P f xs h.1)
-
 claim-true : (c : Claim) → AllByRecursion HasNone (owed c) → IsTrueClaim c
 claim-true (refuted rows) h = h.0
 claim-true (proved rows r) h =
-    negations-prove rows r (all-mapped HasNone (λ n. rows ++ n ∷ []) (negations r) h)
+    negations-prove rows r (all-unmap (λ n. rows ++ n ∷ []) HasNone (negations r) h)
 
 refuting-true :
     (ls : List (List Row)) (cs : List Cert) (P : List Cert → Type 0) (R : Type 0) → (R → ⊥) →

@@ -1,4 +1,5 @@
 -- What facts say of a table, where there are region types: adding one, and giving one up.
+use Rattle.cap_account_resources.proofs.Heaps.{both-true}
 use Rattle.std.proofs.Common.{◌≡◌, ◌≢◌, ℕ, ◌<◌, ℤ, List, [], ◌∷◌, ◌++◌, length, map, drop, get_or, cond, arith, refl, sym, ap, ◌∙◌, subst, Option, Some, None, Bool, true, false}
 use Rattle.std.specs.Prelude.{slice_get, find, not, ◌&&◌, ◌||◌, ◌==◌, if◌then◌else◌}
 use Rattle.std.specs.List.{AllByRecursion, list_any}
@@ -273,10 +274,6 @@ all-without P test (x ∷ xs) h = by (test x) (all-without P test xs h.1)
         AllByRecursion P (if b then xs else x ∷ without_first test xs)
     by true k = h.1
     by false k = (h.0, k)
-
-pub both-true : (a b : Bool) → (a && b) ≡ true → (a ≡ true) × (b ≡ true)
-both-true true b e = (refl, e)
-both-true false b e = absurd (cc)
 
 pub tight-state : (b : Bool) (q : Option ℤ) (z : ℤ) → b ≡ false → StateHolds b q z → q ≡ Some z
 tight-state true q z e m = absurd (cc)

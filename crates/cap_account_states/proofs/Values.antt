@@ -1,5 +1,6 @@
 -- Other values at which the same assertions hold: over another denominator, with whole numbers as
 -- fractions.
+use Rattle.cap_account_resources.proofs.Order.{grouped, relates-times}
 use Rattle.std.proofs.Common.{◌≡◌, ℕ, zero, suc, ◌+◌, ◌*◌, ℤ, pos, ◌+ℤ◌, ◌*ℤ◌, ◌<ℤ◌, List, [], ◌∷◌, arith, refl, sym, ap, ◌∙◌, subst, Option, Some}
 use Rattle.std.specs.Prelude.{slice_get}
 use Rattle.std.specs.List.{AllByRecursion}
@@ -22,7 +23,6 @@ use Rattle.cap_machine_accounts.specs.Assertions.{NameValue, IsNamed, AreNamed, 
 use Rattle.cap_goal_spec.specs.States.{PlainState}
 use Rattle.cap_account_resources.proofs.Lists.{none-some, some-same}
 use Rattle.cap_account_states.proofs.Terms.{value-is, amount-is, sum-agree, relates-same}
-use Rattle.cap_account_resources.proofs.Order.{relates-times}
 use Rattle.cap_account_states.proofs.Meets.{Meets}
 
 -- the same whole numbers and, over a multiple of the denominator, the same fractions
@@ -203,14 +203,11 @@ pub rows-scaled :
 rows-scaled m v [] h = tt
 rows-scaled m v (r ∷ rs) h = (row-scaled m v r h.0, rows-scaled m v rs h.1)
 
-three-times : (a b c : ℤ) → a *ℤ b *ℤ c ≡ a *ℤ (b *ℤ c)
-three-times a b c = simp expand (omega (arith, ints, product3))
-
 pub meets-scaled :
     (ks : List ℕ) (m : ℕ) (v : Valuation) (s : PlainState) → Meets ks v s → Meets ks (scaled m v) s
 meets-scaled ks m v s h = record {
   sorted =
-      λ x e. ap (λ z. z *ℤ pos (m + 1)) (h.sorted x e) ∙ three-times (v.whole x)
+      λ x e. ap (λ z. z *ℤ pos (m + 1)) (h.sorted x e) ∙ grouped (v.whole x)
       (denominator v.fraction) (pos (m + 1)) ∙ ap (λ z. v.whole x *ℤ z)
       (sym (scaled-denominator m v));
   rows = rows-scaled m v s.rows h.rows;

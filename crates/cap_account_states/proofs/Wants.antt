@@ -1,5 +1,6 @@
 -- What is asked of an atom of guards at values: as assertions say, but shares are over the
 -- denominator of the values.
+use Rattle.cap_account_resources.proofs.Order.{cancel, swapped, grouped}
 use Rattle.std.proofs.Common.{◌≡◌, ℕ, ◌+◌, ℤ, pos, ◌*ℤ◌, refl, sym, ap, ◌∙◌, subst}
 use Rattle.cap_lin.specs.Linear.{Linear}
 use Rattle.cap_lin.specs.Values.{Valuation, denominator, amount, value}
@@ -15,7 +16,7 @@ use Rattle.cap_gsolve.specs.Meaning.{IsValueOf}
 use Rattle.cap_prog.specs.Scopes.{Scope, SlotFits}
 use Rattle.cap_machine_accounts.specs.Assertions.{SlotIs, IsAsked}
 use Rattle.cap_account_states.proofs.Terms.{Over}
-use Rattle.cap_account_states.proofs.Alike.{Alike, above-zero, grouped, swapped, undo, value-alike, amount-alike, InScope, fits-over}
+use Rattle.cap_account_states.proofs.Alike.{Alike, above-zero, value-alike, amount-alike, InScope, fits-over}
 use Rattle.cap_account_states.proofs.Values.{scaled, scaled-denominator}
 use Rattle.cap_account_states.proofs.Asking.{AskedOver}
 use Rattle.cap_galg.specs.Algebras.{PlainAlgebra, unique, divisible, counting}
@@ -56,7 +57,7 @@ value-of-alike P v w a t o f h =
     let n = pos f.num in
     let d = denominator v.fraction in
     let e = denominator w.fraction in
-    undo (n *ℤ e) (amount w.fraction t *ℤ pos f.den) d (above-zero v)
+    cancel (n *ℤ e) (amount w.fraction t *ℤ pos f.den) d (above-zero v)
     (swapped n e d ∙ ap (λ z. z *ℤ e) h ∙ swapped (amount v.fraction t) (pos f.den) e
     ∙ ap (λ z. z *ℤ pos f.den) (sym (amount-alike P v w a t o))
     ∙ swapped (amount w.fraction t) d (pos f.den))

@@ -1,4 +1,5 @@
 -- Allocation: the state has new cells behind a fresh variable.
+use Rattle.cap_account_states.proofs.Terms.{value-number, Over, over-plus, row-over, Agree}
 use Rattle.std.proofs.Common.{◌≡◌, ℕ, ◌+◌, ◌<◌, ◌≤◌, ℤ, pos, ◌*ℤ◌, ◌<ℤ◌, ◌≤ℤ◌, List, [], ◌++◌, length, arith, refl, sym, ap, ◌∙◌, subst}
 use Rattle.std.proofs.lemmas.Int.{ints}
 use Rattle.cap_lin.specs.Linear.{Linear, number}
@@ -23,7 +24,6 @@ use Rattle.cap_account_resources.proofs.Heaps.{fresh_cells}
 use Rattle.cap_account_resources.proofs.Covering.{Covered, free-right}
 use Rattle.cap_account_resources.proofs.Stocks.{Stock, no_guards, both}
 use Rattle.cap_account_states.specs.Nodes.{Comes, Children}
-use Rattle.cap_account_states.proofs.Terms.{Over, over-plus, row-over, Agree}
 use Rattle.cap_account_states.proofs.Alike.{agree-alike, meets-fresh, need-alike}
 use Rattle.cap_account_states.proofs.Attempts.{sort_added, row_added, after-sort, after-comparison, comes-bind}
 use Rattle.cap_account_states.proofs.Meets as meets
@@ -33,7 +33,7 @@ use Rattle.cap_account_states.proofs.Facts.{Facts, facts-on}
 use Rattle.cap_account_states.proofs.Checked.{Checked, one-child}
 use Rattle.cap_account_states.proofs.Roots.{values-length}
 use Rattle.cap_account_steps.proofs.Stores.{running, store-alike}
-use Rattle.cap_account_steps.proofs.Cells.{new_cells, comes-new-cells, number-is, address-is, need-both, new-cells-need, new-cells-all, store-local}
+use Rattle.cap_account_steps.proofs.Cells.{new_cells, comes-new-cells, address-is, need-both, new-cells-need, new-cells-all, store-local}
 use Rattle.cap_account_steps.proofs.Frames.{Node, Sits}
 use Rattle.cap_account_steps.proofs.Statements.{AllocLaw}
 use Rattle.cap_account_steps.proofs.Local.{given-up}
@@ -91,7 +91,7 @@ module _ (p : Checked) (part : Stock) (T : Table) (fn : PlainFunction) (fixed : 
 
     meets-above : Meets [] w (above_one s)
     meets-above =
-        let one = number-is w.whole (pos 1) in
+        let one = value-number w.whole (pos 1) in
         let at = is-base in
         meets-row [] w (sort_added s Int) (row_of u AtLeast one_value Int)
         (meets-fresh [] v w s Int agrees is-whole k.grounded.meets)

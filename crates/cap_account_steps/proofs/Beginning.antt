@@ -1,4 +1,5 @@
 -- A function's body and a loop's turn, from what they are given.
+use Rattle.cap_account_resources.proofs.Tables.{fits-composes, FitsRoom, fits-relied}
 use Rattle.std.proofs.Common.{◌≡◌, ℕ, ◌+◌, ◌≤◌, ℤ, pos, List, [], ◌∷◌, ◌++◌, length, map, replicate, arith, refl, sym, ap, ◌∙◌, subst, Option, Some, Bool, true, false}
 use Rattle.std.specs.Prelude.{slice_get, if◌then◌else◌}
 use Rattle.std.specs.List.{AllByRecursion}
@@ -18,9 +19,8 @@ use Rattle.cap_machine_accounts.specs.Assertions.{NameValue, ValuesFit}
 use Rattle.cap_account_resources.specs.Parts.{Table}
 use Rattle.cap_account_resources.proofs.Lists.{map-join, all-both}
 use Rattle.cap_account_resources.proofs.Covering.{covered-none}
-use Rattle.cap_account_resources.proofs.Room.{room, room-some, part-some}
+use Rattle.cap_account_resources.proofs.Room.{room}
 use Rattle.cap_account_resources.proofs.Stocks.{Stock, no_stock, both, Composes, stock-laws}
-use Rattle.cap_account_resources.proofs.Tables.{FitsRoom, fits-relied}
 use Rattle.cap_account_resources.proofs.Interference.{Relies}
 use Rattle.cap_account_states.specs.Nodes.{Open}
 use Rattle.cap_account_states.proofs.Terms.{Over}
@@ -80,10 +80,6 @@ module _ (p : Checked) (program : IsWellFormed p.program) (give : GivenLaw p)
     guards = λ n. rw b.guards (covered-none p.program v n (no_stock.guards n));
   }
 
-  fits-composes : (T : Table) (q : Stock) → FitsRoom p.program T q → Composes q
-  fits-composes T q h n =
-      part-some p.program (q.guards n) (room p.program T n) (h n) (room-some p.program T n)
-
   -- such a state is given all that the part owns
   given-all :
       (T : Table) (sc : Scope) (a v : Valuation) (s : PlainState) (items : Items) (part : Stock)
@@ -99,7 +95,7 @@ module _ (p : Checked) (program : IsWellFormed p.program) (give : GivenLaw p)
       (fill_items p.program T a items part met.0 met.1 (filled_at 0 v s))) alone
       (give T sc 0 number a no_stock part met.0 items ts trees v s go (bare-at T sc a v s b r)
       (rw b.facts tt) r.means fits met.1 (nothing-backed v s b)
-      (subst Composes (sym alone) (fits-composes T part room)))
+      (subst Composes (sym alone) (fits-composes p.program T part room)))
 
   -- and then the frame whose store it has sits there
   given-sits :

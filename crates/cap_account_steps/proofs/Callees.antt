@@ -174,10 +174,3 @@ ok-put p fn fx f None r h k = record {
 ok-put p fn fx f (Some x) r h k =
     let q = ok-store p fn fx f x r f.rest k h.low k.point in
     record { is_fn = q.is_fn; size = q.size; args = q.args; values = q.values; point = q.point }
-
-pub slice-map :
-    {A B : Type 0} (f : A → B) (xs : List A) (i : ℕ) (x : A) → slice_get xs i ≡ Some x →
-    slice_get (map f xs) i ≡ Some (f x)
-slice-map f [] i x e = absurd (none-some e)
-slice-map f (y ∷ xs) zero x e = ap (λ z. Some (f z)) (some-same y x e)
-slice-map f (y ∷ xs) (suc i) x e = slice-map f xs i x e

@@ -1,4 +1,5 @@
 -- Calls and forks: a callee's `requires` is handed out, and a caller waits for its `ensures`.
+use Rattle.cap_account_resources.proofs.Tables.{fits-composes, FitsRoom, fits-less, fits-relied}
 use Rattle.std.proofs.Common.{◌≡◌, ℕ, ◌+◌, ◌*◌, ◌<◌, ℤ, pos, ◌*ℤ◌, List, [], ◌∷◌, length, map, arith, refl, sym, ap, ◌∙◌, subst, Option, Some, None}
 use Rattle.std.specs.Prelude.{slice_get, get_or}
 use Rattle.std.specs.List.{AllByRecursion}
@@ -17,9 +18,8 @@ use Rattle.cap_account_states.proofs.Alike.{values-alike, Alike, InScope, meets-
 use Rattle.cap_account_resources.specs.Parts.{Table}
 use Rattle.cap_account_resources.proofs.Interference.{Relies, relies-trans, relies-less}
 use Rattle.cap_account_resources.proofs.Lists.{some-same, map-length, get-first, push-length, all-more}
-use Rattle.cap_account_resources.proofs.Room.{room, room-some, part-some}
-use Rattle.cap_account_resources.proofs.Stocks.{Stock, both, inside-first, inside-second, inside-guards, Composes}
-use Rattle.cap_account_resources.proofs.Tables.{FitsRoom, fits-less, fits-relied}
+use Rattle.cap_account_resources.proofs.Room.{room}
+use Rattle.cap_account_resources.proofs.Stocks.{Stock, both, inside-first, inside-second, inside-guards}
 use Rattle.cap_account_states.specs.Nodes.{Open}
 use Rattle.cap_account_states.proofs.Terms.{Over, vars-more, Agree}
 use Rattle.cap_account_states.proofs.Meets.{Usable, usable-old, Old, variable-value}
@@ -89,10 +89,6 @@ scaled-between m v s = record {
 
 module _ (p : Checked) (program : IsWellFormed p.program) (give : GivenLaw p) (take : TakenLaw p)
     (rests : RestsLaw p) (stable : Stable p.program) where
-  room-composes : (T : Table) (q : Stock) → FitsRoom p.program T q → Composes q
-  room-composes T q h n =
-      part-some p.program (q.guards n) (room p.program T n) (h n) (room-some p.program T n)
-
   abbrev pub after_call : PlainFunction → ℕ → Label → Home → Block → List PlainTask
   after_call g e l h b =
       to_rest 0 l.number ∷ to_give g.ensures.items e l.number ∷ running b h
@@ -214,7 +210,7 @@ module _ (p : Checked) (program : IsWellFormed p.program) (give : GivenLaw p) (t
           (scaled-finer tk.w.fraction.under me.values) items handed me.met.0 fits me.met.1)
           (backed-between p.program [] [] (Old rs.after) rs.w now rs.after rs.after between tk.left
           rs.grounded rs.backed)
-          (room-composes W (both p.program tk.left handed) room) in
+          (fits-composes p.program W (both p.program tk.left handed) room) in
           let k = one-child p.N gv.children gv.after (running b h) gv.goes in
           let c0 = push-length c.s.sorts Int in
           let c1 = tk.goes_on.count in

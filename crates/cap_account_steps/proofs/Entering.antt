@@ -1,4 +1,6 @@
 -- A region is opened: what it has is given to the state, in the case in which the region is.
+use Rattle.cap_account_states.proofs.Alike.{usable-alike, Alike, InScope, alike-trans, alike-less, agree-alike, scaled-alike}
+use Rattle.cap_account_resources.proofs.Lists.{all-map, some-same, all-more, all-both, all-at, all-remove, map-join, map-length, get-or-push, push-length}
 use Rattle.std.proofs.Common.{◌≡◌, ◌≢◌, ℕ, suc, ◌+◌, ◌<◌, ℤ, List, [], ◌∷◌, ◌++◌, length, map, arith, refl, sym, ap, ◌∙◌, subst, Some, Bool, true, false}
 use Rattle.std.specs.Prelude.{slice_get, nat_lt, remove, ◌==◌, if◌then◌else◌}
 use Rattle.std.specs.List.{AllByRecursion}
@@ -23,13 +25,11 @@ use Rattle.cap_rules.specs.Rules.{at_enter}
 use Rattle.cap_machine.specs.Machine.{Heap, Frame}
 use Rattle.cap_machine_accounts.specs.Assertions.{NameValue}
 use Rattle.cap_account_resources.specs.Parts.{Known, known_as, Table}
-use Rattle.cap_account_resources.proofs.Lists.{some-same, all-more, all-both, all-at, all-remove, map-join, map-length, get-or-push, push-length}
 use Rattle.cap_account_resources.proofs.Covering.{Covered}
 use Rattle.cap_account_resources.proofs.Room.{room, room-some, part-some}
 use Rattle.cap_account_resources.proofs.Stocks.{Stock, both, all_of, none-right, stock-laws, Composes}
 use Rattle.cap_account_states.specs.Nodes.{Comes, Children, Open}
 use Rattle.cap_account_states.proofs.Terms.{Over, row-over, vars-more}
-use Rattle.cap_account_states.proofs.Alike.{Alike, InScope, alike-trans, alike-less, agree-alike, scaled-alike, value-alike}
 use Rattle.cap_account_states.proofs.Wants.{scaled-finer}
 use Rattle.cap_account_states.proofs.Attempts.{comes-bind, after-found, after-need, after-proved}
 use Rattle.cap_account_states.proofs.Adding.{PieceOver}
@@ -105,12 +105,6 @@ of-all k Q (f ∷ fs) h m = by (f.kind == k) refl m (λ n. of-all k Q fs h.1 n)
         (AllByRecursion Q (of_type k fs) → AllByRecursion Q fs) → AllByRecursion Q (f ∷ fs)
     by true e m more = (m.0, more m.1)
     by false e m more = (h.0 (λ q. grind (arith, nat_tests, e, q)), more m)
-
-all-map :
-    {A B : Type 0} (g : A → B) (P : B → Type 0) (xs : List A) → AllByRecursion (λ x. P (g x)) xs →
-    AllByRecursion P (map g xs)
-all-map g P [] h = tt
-all-map g P (x ∷ xs) h = (h.0, all-map g P xs h.1)
 
 -- a list of numbers with one more
 differ-more :
@@ -343,10 +337,6 @@ module _ (p : Checked) (program : IsWellFormed p.program) (give : GivenLaw p) (V
           int-on u k = vars-more (Usable [] s.sorts Int) (Usable [] s2.sorts Int) (usable2 Int)
               u.parts k
 
-          int-old : (u : Linear) → Over (Usable [] s.sorts Int) u → Over (Old s) u
-          int-old u k = vars-more (Usable [] s.sorts Int) (Old s) (usable-old [] s.sorts Int)
-              u.parts k
-
           all-open : AllByRecursion IsOpen s2.opened
           all-open = all-both IsOpen s.opened (f ∷ []) o.opened ((over, exact), tt)
 
@@ -354,7 +344,7 @@ module _ (p : Checked) (program : IsWellFormed p.program) (give : GivenLaw p) (V
           opened2 g told = (
             int-on g.region told.0.0,
             known_as g.kind (map (value v.whole) g.args) (Some (value v.whole g.state)),
-            ap V (value-alike (Old s) v w alike2 g.region (int-old g.region told.0.0)) ∙ told.1,
+            ap V (usable-alike [] s v w alike2 g.region told.0.0) ∙ told.1,
           )
 
           state2 : StateAt p.program [] V sc (length s.envs) w s2
@@ -444,7 +434,7 @@ module _ (p : Checked) (program : IsWellFormed p.program) (give : GivenLaw p) (V
               regions_of given.w fs ≡ regions_of v fs
           regions-same [] h = refl
           regions-same (g ∷ fs) h =
-              let e = value-alike (Old s) v given.w alike3 g.region (int-old g.region h.0.0.0) in
+              let e = usable-alike [] s v given.w alike3 g.region h.0.0.0 in
               let r = regions-same fs h.1 in
               rw (e, r) refl
 

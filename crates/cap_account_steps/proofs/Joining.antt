@@ -1,5 +1,6 @@
 -- A fact is added where the fact of its region may be loose: the variable that is its state gets
 -- the new fact's state, and is no longer kept free.
+use Rattle.cap_account_resources.proofs.Heaps.{both-true}
 use Rattle.std.proofs.Common.{◌≡◌, ◌≢◌, ℕ, ◌<◌, List, [], ◌∷◌, length, map, cond, Option, Some, None, Bool, true, false, refl, sym, ap, ◌∙◌, subst}
 use Rattle.std.specs.Prelude.{find, ◌==◌, if◌then◌else◌}
 use Rattle.std.specs.List.{AllByRecursion}
@@ -23,7 +24,7 @@ use Rattle.cap_account_resources.proofs.Stocks.{Stock}
 use Rattle.cap_account_states.proofs.Terms.{Over, vars-more, RowOver, row-over, Agree, agree-same, agree-less, value-agree}
 use Rattle.cap_account_states.proofs.Alike.{agree-alike}
 use Rattle.cap_account_states.proofs.Meets.{Free, Usable}
-use Rattle.cap_account_states.proofs.Facts.{FactHolds, StateOver, FactOver, LooseState, StatesDiffer, Facts, facts-alike, fact-more, equal_rows, merging_rows, fact_added, knowns-same, equal-hold, equal-over, found-all, all-without, both-true, tight-state, each-without, each-last}
+use Rattle.cap_account_states.proofs.Facts.{FactHolds, StateOver, FactOver, LooseState, StatesDiffer, Facts, facts-alike, fact-more, equal_rows, merging_rows, fact_added, knowns-same, equal-hold, equal-over, found-all, all-without, tight-state, each-without, each-last}
 use Rattle.cap_account_states.proofs.Backed.{IsFirm, Grounded, Backed}
 use Rattle.cap_account_steps.proofs.Exact.{all-two}
 use Rattle.cap_account_steps.proofs.KeptFree.{set_to, set-agrees, set-is, set-whole, kept-other, AllSorted, grounded-at, usable-free, grounded-free, all_but, all-but, but-free, among-but}

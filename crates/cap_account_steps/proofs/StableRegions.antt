@@ -1,4 +1,5 @@
 -- What a region owns meets its interpretation also once others took steps.
+use Rattle.cap_account_steps.proofs.OwnNames.{at-new}
 use Rattle.std.proofs.Common.{◌≡◌, ℕ, suc, ◌+◌, ◌-◌, ◌<◌, ℤ, List, [], ◌∷◌, length, map, arith, refl, sym, ap, ◌∙◌, subst, Some, Bool, true, false}
 use Rattle.std.specs.Prelude.{slice_get, unwrap_or, nat_le, ◌==◌, ◌&&◌}
 use Rattle.std.specs.List.{AllByRecursion}
@@ -189,7 +190,7 @@ module _ (p : Checked) (still : StillLaw p) (U : Table) (h : Stock) (room : Fits
       let size = map-length (value t.w.whole) q.f.args in
       let same = ap length now.args_are in
       let count = q.movable.arity in
-      let first = env-last s (region_env q.f q.names) in
+      let first = at-new s (region_env q.f q.names) in
       record {
         type = q.k;
         is_type = ap (slice_get pp.regions) (sym now.kind_is) ∙ q.movable.is_type;
@@ -208,9 +209,6 @@ module _ (p : Checked) (still : StillLaw p) (U : Table) (h : Stock) (room : Fits
         conditions = sh.conditions X mean;
         met = t.met X mean;
       }
-    where
-      env-last : (s : PlainState) (env : PlainEnv) → env_at (env_added s env) (length s.envs) ≡ env
-      env-last s env = get-or-push s.envs env []
   shifted-owns o cn m kids q says none t d hd = absurd (p.step hd).1
 
   -- rule `pick`, and its case taken
