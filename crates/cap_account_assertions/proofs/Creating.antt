@@ -1,11 +1,11 @@
 -- Rule `create`: the case is taken, the region is made, and the fact is taken again.
-use Rattle.std.proofs.Common.{◌≡◌, ℕ, suc, ◌+◌, ◌<◌, ◌≤◌, ℤ, pos, ◌+ℤ◌, List, [], ◌∷◌, ◌++◌, arith, refl, sym, ◌∙◌, subst, inl, inr, Some}
+use Rattle.std.proofs.Common.{◌≡◌, ℕ, suc, ◌<◌, ◌≤◌, ℤ, pos, ◌+ℤ◌, List, [], ◌∷◌, ◌++◌, arith, refl, sym, ◌∙◌, subst, inl, inr, Some}
 use Rattle.std.specs.Prelude.{length, slice_get, IsSomeAnd}
 use Rattle.std.specs.List.{AllByRecursion}
 use Rattle.cap_lin.specs.Values.{Valuation}
 use Rattle.cap_lin.specs.declared.row.Sort.TheVariants.{Int}
 use Rattle.cap_prog.specs.declared.assertion.Slot.{Slot}
-use Rattle.cap_prog.specs.Program.{PlainItem, fact, Items, item, PlainProgram}
+use Rattle.cap_prog.specs.Program.{PlainItem, Items, item, PlainProgram}
 use Rattle.cap_prog.specs.WellFormed.{FactFits, RegionFits}
 use Rattle.cap_goal_spec.specs.States.{PlainState, PlainTask, PlainGoal, goal, to_make}
 use Rattle.cap_goal_spec.specs.Choices.{PlainTree, node, PlainTrees, no_trees, tree, by_absurd, by_made}

@@ -1,5 +1,5 @@
 -- The values at which a state holds after items were given to it, by what is drawn.
-use Rattle.std.proofs.Common.{◌≡◌, ℕ, pos, refl, ap, inl, inr, ◌∙◌}
+use Rattle.std.proofs.Common.{◌≡◌, pos, refl, ap, inl, inr, ◌∙◌}
 use Rattle.cap_lin.specs.Linear.{variable}
 use Rattle.cap_lin.specs.Values.{Valuation}
 use Rattle.cap_lin.specs.declared.row.Sort.TheVariants.{Int}

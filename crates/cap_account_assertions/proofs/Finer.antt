@@ -1,19 +1,18 @@
 -- What items draw at values, they draw at alike values over a multiple of the denominator.
-use Rattle.std.proofs.Common.{◌≡◌, ℕ, ℤ, pos, ◌<ℤ◌, List, [], ◌∷◌, Option, Some, None, refl, sym, ap, ◌∙◌, subst, inl, inr}
+use Rattle.std.proofs.Common.{ℕ, ℤ, pos, ◌<ℤ◌, List, [], ◌∷◌, Option, Some, None, sym, ap, ◌∙◌, subst, inl, inr}
 use Rattle.std.specs.Prelude.{slice_get, IsSomeAnd}
 use Rattle.std.specs.List.{AllByRecursion}
-use Rattle.cap_lin.specs.Values.{Valuation, value}
+use Rattle.cap_lin.specs.Values.{Valuation}
 use Rattle.cap_lin.specs.declared.row.Sort.TheVariants.{Int}
 use Rattle.cap_galg.specs.Algebras.{atom_algebra}
-use Rattle.cap_prog.specs.declared.assertion.Comp.{Comp}
 use Rattle.cap_prog.specs.declared.assertion.Asked.{Asked}
 use Rattle.cap_prog.specs.declared.assertion.Slot.{Slot}
 use Rattle.cap_prog.specs.Parts.{all_items}
 use Rattle.cap_prog.specs.Program.{PlainItem, compare, choose, fact, atom, cell, Items, none, item, PlainRegionType, PlainProgram}
-use Rattle.cap_prog.specs.Scopes.{Scope, CompFits, SlotFits}
+use Rattle.cap_prog.specs.Scopes.{Scope, SlotFits}
 use Rattle.cap_prog.specs.WellFormed.{ItemFits, AtomFits, FactFits}
-use Rattle.cap_machine_accounts.specs.Assertions.{CompHolds, SlotsAre}
-use Rattle.cap_account_resources.specs.Parts.{known_as, Table}
+use Rattle.cap_machine_accounts.specs.Assertions.{SlotsAre}
+use Rattle.cap_account_resources.specs.Parts.{Table}
 use Rattle.cap_account_resources.proofs.Lists.{all-first, all-second}
 use Rattle.cap_account_resources.proofs.Marks.{Mark}
 use Rattle.cap_account_resources.proofs.Stocks.{Stock, guard_stock, cell_stock, both, Inside}

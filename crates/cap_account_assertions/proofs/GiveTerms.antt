@@ -2,7 +2,7 @@
 use Rattle.std.proofs.Common.{◌≡◌, ℕ, ◌+◌, ℤ, ◌*ℤ◌, List, [], ◌∷◌, ◌++◌, length, arith, sym, ap, ◌∙◌}
 use Rattle.cap_lin.specs.Linear.{Linear}
 use Rattle.cap_lin.specs.Rows.{row_of}
-use Rattle.cap_lin.specs.Values.{Valuation, denominator, value}
+use Rattle.cap_lin.specs.Values.{Valuation, denominator}
 use Rattle.cap_lin.specs.Solves.{value_by_sort, Holds, Relates, IsWholeAt}
 use Rattle.cap_lin.specs.declared.row.Row.{Row}
 use Rattle.cap_lin.specs.declared.row.Sort.{Sort}
@@ -12,7 +12,6 @@ use Rattle.cap_lin.proofs.Rows.{row_of-means}
 use Rattle.cap_prog.specs.declared.assertion.Comp.{Comp}
 use Rattle.cap_prog.specs.declared.assertion.Slot.{Slot}
 use Rattle.cap_prog.specs.declared.assertion.Slot.TheVariants.{Any, Is}
-use Rattle.cap_prog.specs.Program.{item}
 use Rattle.cap_prog.specs.Scopes.{Scope, TermFits, SlotFits, CompFits}
 use Rattle.cap_machine_accounts.specs.Assertions.{SlotIs}
 use Rattle.cap_goal_spec.specs.States.{PlainState}

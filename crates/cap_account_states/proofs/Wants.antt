@@ -3,7 +3,7 @@
 use Rattle.cap_account_resources.proofs.Order.{cancel, swapped, grouped}
 use Rattle.std.proofs.Common.{◌≡◌, ℕ, ◌+◌, ℤ, pos, ◌*ℤ◌, refl, sym, ap, ◌∙◌, subst}
 use Rattle.cap_lin.specs.Linear.{Linear}
-use Rattle.cap_lin.specs.Values.{Valuation, denominator, amount, value}
+use Rattle.cap_lin.specs.Values.{Valuation, denominator, amount}
 use Rattle.cap_lin.specs.declared.row.Sort.TheVariants.{Int, Perm}
 use Rattle.cap_galg.specs.declared.fraction.Fraction.{Fraction}
 use Rattle.cap_galg.specs.Fractions.{IsShare}
@@ -21,7 +21,6 @@ use Rattle.cap_account_states.proofs.Values.{scaled, scaled-denominator}
 use Rattle.cap_account_states.proofs.Asking.{AskedOver}
 use Rattle.cap_galg.specs.Algebras.{PlainAlgebra, unique, divisible, counting}
 use Rattle.cap_prog.specs.WellFormed.{AskedFits}
-use Rattle.cap_rules.specs.Resting.{ask}
 
 abbrev pub AmountIs : Valuation → Slot → ℤ → Type 0
 AmountIs v Any z = Unit {0}
