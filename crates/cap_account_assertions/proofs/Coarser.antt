@@ -8,12 +8,12 @@ use Rattle.cap_goal_spec.specs.States.{PlainState, PlainTask}
 use Rattle.cap_goal_spec.specs.Choices.{PlainTrees}
 use Rattle.cap_account_resources.specs.Parts.{Table}
 use Rattle.cap_account_resources.proofs.Stocks.{Stock}
-use Rattle.cap_account_states.proofs.Meets.{Old, same-state}
+use Rattle.cap_account_states.proofs.Meets.{usable-old, Old, same-state}
 use Rattle.cap_account_states.proofs.Alike.{Alike, agree-alike, alike-same, alike-back, alike-trans, meets-alike}
 use Rattle.cap_account_states.proofs.Brought.{Bring, Brings, Brought, brought-named, HasHalves, bring_values, bring-agrees, bring-brings}
 use Rattle.cap_account_states.proofs.Checked.{Checked}
 use Rattle.cap_account_states.proofs.Backed.{Backed, Grounded}
-use Rattle.cap_account_states.proofs.KnowsLater.{old-steady, knows-on}
+use Rattle.cap_account_states.proofs.KnowsLater.{backed-at}
 use Rattle.cap_account_assertions.proofs.Laws.{StateAt, Taken}
 use Rattle.cap_account_assertions.proofs.Follows.{Follows}
 use Rattle.cap_account_assertions.proofs.TakeSteps.{Job, Took, Head}
@@ -36,20 +36,7 @@ module _ (p : PlainProgram) (ks : List ℕ) (T : Table) (sc : Scope) (e : ℕ) (
 
   pub backed-alike :
       (q : Stock) → StateAt p ks T sc e v s → Backed p v s q → Backed p w s q
-  backed-alike q st b =
-      (knows-on p ks v w s s (record {
-        alike = old-steady ks v w s l;
-        sorts = λ x o h. h;
-        facts = refl;
-        guards = refl;
-        opened = refl;
-      }) T q st.grounded.meets refl (record {
-        facts = st.facts;
-        pieces_over = st.grounded.pieces_over;
-        pieces_fit = st.grounded.pieces_fit;
-        opened = st.opened;
-        backed = b;
-      })).backed
+  backed-alike q st b = backed-at p s ks (Old s) v w q (usable-old ks s.sorts) l st.grounded b
 
 -- ---- at values of which the same is brought
 
