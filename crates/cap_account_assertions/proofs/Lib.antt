@@ -1,5 +1,6 @@
-pub mod GiveTerms
 pub mod Asserted
+pub mod Filling
+pub mod GiveTerms
 pub mod Laws
 pub mod NewRegions
 pub mod TreeSizes
@@ -30,3 +31,4 @@ pub mod GiveLaw
 pub mod MadeTables
 pub mod TakenStill
 pub mod Again
+pub mod Coarser
