@@ -1,6 +1,7 @@
 pub mod Giving
 pub mod Taking
 pub mod Asserted
+pub mod Named
 pub mod Laws
 pub mod NewRegions
 pub mod TreeSizes

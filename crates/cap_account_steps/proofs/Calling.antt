@@ -157,7 +157,8 @@ module _ (p : Checked) (program : IsWellFormed p.program) (give : GivenLaw p) (t
         (room : FitsRoom p.program W (both p.program tk.left handed))
         (me : OwnsEnsures p.program W handed c.g (args_are p part T f.store c)
         (callee_fixed p part T f.store c ts tk) r)
-        (rs : Rested p W (with_result p part T f.store c ts tk r) tk.left tk.after behind) where
+        (rs : Rested p W (with_result p part T f.store c ts tk r) tk.left tk.after behind
+        tk.children) where
       -- all over the product of the denominators
       abbrev now : Valuation
       now = scaled me.values.fraction.under rs.w

@@ -18,23 +18,12 @@ use Rattle.cap_account_states.proofs.Alike.{agree-alike}
 use Rattle.cap_account_states.proofs.Meets.{Free, Usable}
 use Rattle.cap_account_states.proofs.Facts.{StateHolds, FactHolds, StateOver, FactOver, LooseState, StatesDiffer, Facts, fact-more}
 use Rattle.cap_account_states.proofs.Backed.{Grounded}
+use Rattle.cap_account_assertions.proofs.Named.{set_to, state_or, known_state, told_state}
 use Rattle.cap_account_steps.proofs.Worlds.{Exact, AllOver}
 use Rattle.cap_account_steps.proofs.Exact.{told-alike, all-two}
-use Rattle.cap_account_steps.proofs.Reserved.{set_to, set-agrees, set-is, set-whole, kept-other, AllSorted, grounded-at, usable-free, grounded-free}
+use Rattle.cap_account_steps.proofs.Reserved.{set-agrees, set-is, set-whole, kept-other, AllSorted, grounded-at, usable-free, grounded-free}
 
 -- ---- the table's states
-
-abbrev state_or : Option ℤ → ℤ
-state_or (Some b) = b
-state_or None = pos 0
-
-abbrev known_state : Option Known → ℤ
-known_state (Some e) = state_or e.state
-known_state None = pos 0
-
--- the state that the table gives the fact's region
-abbrev pub told_state : Table → Valuation → PlainFact → ℤ
-told_state T v f = known_state (T (value v.whole f.region))
 
 told-there :
     (T : Table) (v : Valuation) (f : PlainFact) → NoneOpen T → FactHolds v T f →
@@ -183,6 +172,7 @@ module _ (ks : List ℕ) (sorts : List Sort) (T : Table) (v : Valuation) where
 pub record Firmed (p : PlainProgram) (ks : List ℕ) (T : Table) (v : Valuation)
     (s : PlainState) : Type 0 where
   pub w : Valuation
+  pub named : w ≡ firm_values T v s.facts
   pub agree : Agree (Free ks) v w
   pub grounded : Grounded p [] w s
   pub exact : AllByRecursion (Exact w T) s.facts
@@ -214,6 +204,7 @@ firmed p ks T v s full g fs =
     let told = firm-told ks s.sorts T v s.facts fs.holds near fs.loose fs.differ in
     record {
       w = w;
+      named = refl;
       agree = a;
       grounded = grounded-free p s ks [] w (usable-free p s ks [] (λ y h. tt))
           (grounded-at p s ks v w a (firm-sorted ks s.sorts T v g.meets.sorted s.facts) g);

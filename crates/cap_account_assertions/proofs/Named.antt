@@ -1,0 +1,42 @@
+-- Values by name: at which values the states hold that Rests lead to.
+use Rattle.std.proofs.Common.{ℕ, suc, ℤ, pos, ◌*ℤ◌, List, [], ◌∷◌, Option, Some, None}
+use Rattle.cap_lin.specs.Values.{Valuation, denominator, value}
+use Rattle.cap_goal_spec.specs.States.{PlainFact}
+use Rattle.cap_goal_spec.specs.Choices.{PlainChoice, by_settle, node, PlainTrees, no_trees, tree}
+use Rattle.cap_account_resources.specs.Parts.{Known, Table}
+use Rattle.cap_account_states.proofs.Meets.{with_value}
+
+-- one variable gets a number, as a fraction too
+abbrev pub set_to : Valuation → ℕ → ℤ → Valuation
+set_to v x z = with_value v x z (z *ℤ denominator v.fraction)
+
+-- ---- the table's states
+
+abbrev pub state_or : Option ℤ → ℤ
+state_or (Some b) = b
+state_or None = pos 0
+
+abbrev pub known_state : Option Known → ℤ
+known_state (Some e) = state_or e.state
+known_state None = pos 0
+
+-- the state that the table gives the fact's region
+abbrev pub told_state : Table → Valuation → PlainFact → ℤ
+told_state T v f = known_state (T (value v.whole f.region))
+
+-- ---- Rests
+
+-- one fact rests: where it settles, variable n is the state that the table gives its region
+abbrev pub rest_value : Table → PlainFact → PlainChoice → ℕ → Valuation → Valuation
+rest_value U f (by_settle list cs) n v = set_to v n (told_state U v f)
+rest_value U f c n v = v
+
+abbrev pub rest_next : PlainChoice → ℕ → ℕ
+rest_next (by_settle list cs) n = suc n
+rest_next c n = n
+
+-- all facts rest in turn, each as its tree says; n is the first variable that is new
+abbrev pub rest_values : Table → List PlainFact → PlainTrees → ℕ → Valuation → Valuation
+rest_values U (f ∷ fs) (tree (node c kids) no_trees) n v =
+    rest_values U fs kids (rest_next c n) (rest_value U f c n v)
+rest_values U fs trees n v = v
