@@ -26,6 +26,7 @@ use Rattle.cap_account_states.proofs.Facts.{FactHolds, StateOver, FactOver, Loos
 use Rattle.cap_account_states.proofs.Backed.{IsFirm, Grounded, Backed}
 use Rattle.cap_account_assertions.proofs.Named.{set_to}
 use Rattle.cap_account_steps.proofs.Exact.{all-two}
+use Rattle.cap_account_steps.proofs.Firming.{lone}
 use Rattle.cap_account_steps.proofs.Reserved.{set-agrees, set-is, set-whole, kept-other, AllSorted, grounded-at, usable-free, grounded-free, backed-at, all_but, all-but, but-free, among-but}
 
 -- what is found stands to all others as each two of the list do
@@ -45,9 +46,17 @@ found-rest R test back (y ∷ ys) x h e = by (test y) e (λ q. found-rest R test
 
 -- ---- what is freed
 
+-- the values once the fact of a region is joined with what is found of that region: if that is loose,
+-- its variable is the fact's state
+abbrev pub joined_values : Valuation → PlainFact → Option PlainFact → Valuation
+joined_values v f None = v
+joined_values v f (Some h) =
+    if h.loose then set_to v (lone h.state) (value v.whole f.state) else v
+
 pub record Joined (p : PlainProgram) (ks : List ℕ) (v : Valuation) (U : Table) (s : PlainState)
     (f : PlainFact) : Type 0 where
   pub w : Valuation
+  pub named : w ≡ joined_values v f (find (is_of_region f) s.facts)
   pub agree : Agree (Free ks) v w
   pub js : List ℕ
   pub less : (y : ℕ) → Free ks y → Free js y
@@ -70,6 +79,7 @@ module _ (p : PlainProgram) (ks : List ℕ) (v : Valuation) (U : Table) (s : Pla
   -- region has the state of the new one
   record Freed : Type 0 where
     w : Valuation
+    named : w ≡ joined_values v f (find test s.facts)
     agree : Agree (Free ks) v w
     sorted : AllSorted s.sorts w
     js : List ℕ
@@ -122,6 +132,7 @@ module _ (p : PlainProgram) (ks : List ℕ) (v : Valuation) (U : Table) (s : Pla
       ((h : PlainFact) → find test s.facts ≡ Some h → h.loose ≡ false) → Freed
   plainly tight = record {
     w = v;
+    named = same-values (find test s.facts) refl;
     agree = agree-same (Free ks) v;
     sorted = g.meets.sorted;
     js = ks;
@@ -134,6 +145,12 @@ module _ (p : PlainProgram) (ks : List ℕ) (v : Valuation) (U : Table) (s : Pla
           (found-all (FactOver (Usable ks s.sorts Int)) test s.facts h fs.over e).0 (tight h e),
     );
   }
+    where
+      same-values : (o : Option PlainFact) → find test s.facts ≡ o → v ≡ joined_values v f o
+      same-values None e = refl
+      same-values (Some h) e =
+          sym (ap (λ b. if b then set_to v (lone h.state) (value v.whole f.state) else v)
+          (tight h e))
 
   set-state :
       (h : PlainFact) → find test s.facts ≡ Some h → h.loose ≡ true → Freed
@@ -149,6 +166,10 @@ module _ (p : PlainProgram) (ks : List ℕ) (v : Valuation) (U : Table) (s : Pla
       in
       record {
         w = w;
+        named =
+            ap (λ y. set_to v y z) (sym (ap lone q.1))
+            ∙ sym (ap (joined_values v f) is
+            ∙ ap (λ b. if b then set_to v (lone h.state) z else v) e);
         agree = a;
         sorted = λ y i. set-whole v x z y (g.meets.sorted y i);
         js = js;
@@ -228,6 +249,7 @@ module _ (p : PlainProgram) (ks : List ℕ) (v : Valuation) (U : Table) (s : Pla
         fs.over in
         record {
           w = w;
+          named = r.named;
           agree = r.agree;
           js = js;
           less = r.less;
