@@ -1,5 +1,7 @@
 -- Values by name: at which values the states hold that Rests lead to.
 use Rattle.std.proofs.Common.{ℕ, suc, ℤ, pos, ◌*ℤ◌, List, [], ◌∷◌, Option, Some, None}
+use Rattle.std.specs.Prelude.{get_or, if◌then◌else◌}
+use Rattle.cap_lin.specs.Linear.{Linear}
 use Rattle.cap_lin.specs.Values.{Valuation, denominator, value}
 use Rattle.cap_goal_spec.specs.States.{PlainFact}
 use Rattle.cap_goal_spec.specs.Choices.{PlainChoice, by_settle, node, PlainTrees, no_trees, tree}
@@ -23,6 +25,19 @@ known_state None = pos 0
 -- the state that the table gives the fact's region
 abbrev pub told_state : Table → Valuation → PlainFact → ℤ
 told_state T v f = known_state (T (value v.whole f.region))
+
+-- ---- joining
+
+-- the variable that the term is
+abbrev pub lone : Linear → ℕ
+lone t = (get_or {A = ℕ × ℤ} t.parts 0 (0, pos 0)).0
+
+-- the values once the fact of a region is joined with what is found of that region: if that is loose,
+-- its variable is the fact's state
+abbrev pub joined_values : Valuation → PlainFact → Option PlainFact → Valuation
+joined_values v f None = v
+joined_values v f (Some h) =
+    if h.loose then set_to v (lone h.state) (value v.whole f.state) else v
 
 -- ---- Rests
 

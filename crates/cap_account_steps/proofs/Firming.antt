@@ -18,7 +18,7 @@ use Rattle.cap_account_states.proofs.Alike.{agree-alike}
 use Rattle.cap_account_states.proofs.Meets.{Free, Usable}
 use Rattle.cap_account_states.proofs.Facts.{StateHolds, FactHolds, StateOver, FactOver, LooseState, StatesDiffer, Facts, fact-more}
 use Rattle.cap_account_states.proofs.Backed.{Grounded}
-use Rattle.cap_account_assertions.proofs.Named.{set_to, state_or, known_state, told_state}
+use Rattle.cap_account_assertions.proofs.Named.{set_to, lone, state_or, known_state, told_state}
 use Rattle.cap_account_steps.proofs.Worlds.{Exact, AllOver}
 use Rattle.cap_account_steps.proofs.Exact.{told-alike, all-two}
 use Rattle.cap_account_steps.proofs.Reserved.{set-agrees, set-is, set-whole, kept-other, AllSorted, grounded-at, usable-free, grounded-free}
@@ -43,10 +43,6 @@ told-firm T v f h firm =
     sym (ap known_state h.1 ∙ ap state_or e)
 
 -- ---- values at which loose facts have them
-
--- the variable that the term is
-abbrev pub lone : Linear → ℕ
-lone t = (get_or {A = ℕ × ℤ} t.parts 0 (0, pos 0)).0
 
 abbrev pub firm_values : Table → Valuation → List PlainFact → Valuation
 firm_values T v [] = v

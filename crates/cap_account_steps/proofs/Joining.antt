@@ -24,9 +24,8 @@ use Rattle.cap_account_states.proofs.Alike.{agree-alike}
 use Rattle.cap_account_states.proofs.Meets.{Free, Usable}
 use Rattle.cap_account_states.proofs.Facts.{FactHolds, StateOver, FactOver, LooseState, StatesDiffer, Facts, facts-alike, fact-more, equal_rows, merging_rows, fact_added, knowns-same, equal-hold, equal-over, found-all, all-without, both-true, tight-state, each-without, each-last}
 use Rattle.cap_account_states.proofs.Backed.{IsFirm, Grounded, Backed}
-use Rattle.cap_account_assertions.proofs.Named.{set_to}
+use Rattle.cap_account_assertions.proofs.Named.{set_to, lone, joined_values}
 use Rattle.cap_account_steps.proofs.Exact.{all-two}
-use Rattle.cap_account_steps.proofs.Firming.{lone}
 use Rattle.cap_account_steps.proofs.Reserved.{set-agrees, set-is, set-whole, kept-other, AllSorted, grounded-at, usable-free, grounded-free, backed-at, all_but, all-but, but-free, among-but}
 
 -- what is found stands to all others as each two of the list do
@@ -45,13 +44,6 @@ found-rest R test back (y ∷ ys) x h e = by (test y) e (λ q. found-rest R test
     by false q f = (back y x (found-all (R y) test ys x h.0 q).0, f q)
 
 -- ---- what is freed
-
--- the values once the fact of a region is joined with what is found of that region: if that is loose,
--- its variable is the fact's state
-abbrev pub joined_values : Valuation → PlainFact → Option PlainFact → Valuation
-joined_values v f None = v
-joined_values v f (Some h) =
-    if h.loose then set_to v (lone h.state) (value v.whole f.state) else v
 
 pub record Joined (p : PlainProgram) (ks : List ℕ) (v : Valuation) (U : Table) (s : PlainState)
     (f : PlainFact) : Type 0 where

@@ -7,6 +7,7 @@ pub mod Keeping
 pub mod Settling
 pub mod Stores
 pub mod Frames
+pub mod Shutting
 pub mod Worlds
 pub mod Statements
 pub mod Local

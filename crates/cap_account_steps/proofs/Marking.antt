@@ -24,10 +24,9 @@ use Rattle.cap_account_states.proofs.Attempts.{sort_added, comes-bind, after-pro
 use Rattle.cap_account_states.proofs.Meets.{Free, Usable, usable-on, usable-old, Old, proved-holds}
 use Rattle.cap_account_states.proofs.Facts.{FactHolds, FactOver, LooseState, StatesDiffer, Facts, facts-alike, fact-more}
 use Rattle.cap_account_states.proofs.Backed.{Grounded}
-use Rattle.cap_account_assertions.proofs.Named.{set_to}
+use Rattle.cap_account_assertions.proofs.Named.{set_to, lone}
 use Rattle.cap_account_steps.proofs.Exact.{Each, set-here, each-set, all-set, each-two-set}
 use Rattle.cap_account_steps.proofs.Reserved.{set-agrees, set-here-whole, grounded-free, grounded-fresh}
-use Rattle.cap_account_steps.proofs.Firming.{lone}
 use Rattle.cap_account_steps.proofs.Turning.{AsBefore, before-same, before-trans}
 
 -- ---- pairs

@@ -18,14 +18,14 @@ use Rattle.cap_account_states.proofs.Alike.{agree-alike}
 use Rattle.cap_account_states.proofs.Meets.{Free, Usable, Old}
 use Rattle.cap_account_states.proofs.Facts.{FactHolds, FactOver, StateHolds, StateOver, Facts}
 use Rattle.cap_account_states.proofs.Backed.{IsFirm, Backed, Grounded, GoesOn}
-use Rattle.cap_account_assertions.proofs.Named.{set_to, told_state, rest_values}
+use Rattle.cap_account_assertions.proofs.Named.{set_to, lone, told_state, rest_values}
 use Rattle.cap_account_assertions.proofs.Laws.{Reached, RestsLaw}
 use Rattle.cap_account_steps.proofs.Worlds.{Exact, AllOver}
 use Rattle.cap_account_steps.proofs.Reserved.{backed-at}
 use Rattle.cap_account_steps.proofs.Reserving.{firm-loose, firm-differ}
 use Rattle.cap_account_steps.proofs.Turning.{backed-before, Reaching}
 use Rattle.cap_account_steps.proofs.Resting.{at-rest}
-use Rattle.cap_account_steps.proofs.Firming.{lone, firm_values, firmed}
+use Rattle.cap_account_steps.proofs.Firming.{firm_values, firmed}
 
 -- firm facts that say just what the table does
 exact-facts :
