@@ -34,10 +34,11 @@ use Rattle.cap_account_states.proofs.Compatible.{pieces-more, covered-alike}
 use Rattle.cap_account_states.proofs.Facts.{Facts, facts-on}
 use Rattle.cap_account_states.proofs.Checked.{Checked, one-child}
 use Rattle.cap_account_states.proofs.Roots.{values-length}
+use Rattle.cap_account_assertions.proofs.Named.{set_to}
 use Rattle.cap_account_steps.proofs.Stores.{Store, running, store-alike}
 use Rattle.cap_account_steps.proofs.Cells.{all-set, new_cells, comes-new-cells, number-is, address-is, need-both, new-cells-need, new-cells-all, store-local}
-use Rattle.cap_account_steps.proofs.Frames.{Node, Sits}
-use Rattle.cap_account_steps.proofs.Statements.{AllocLaw}
+use Rattle.cap_account_steps.proofs.Frames.{Node, Sits, SitsAt}
+use Rattle.cap_account_steps.proofs.Statements.{Before, AllocLaw}
 use Rattle.cap_account_steps.proofs.Local.{given-up}
 
 module _ (p : Checked) (part : Stock) (T : Table) (fn : PlainFunction) (fixed : List NameValue)
@@ -152,8 +153,9 @@ module _ (p : Checked) (part : Stock) (T : Table) (fn : PlainFunction) (fixed : 
 
     sits-allocated :
         (e : PlainTree) → p.N e (allocated s) (running b k.home) →
-        Sits p enlarged T fn fixed (with_value (with_rest f b) x base)
-    sits-allocated e valid = record {
+        SitsAt p enlarged T fn fixed (with_value (with_rest f b) x base)
+        (set_to k.v (length k.state.sorts) base)
+    sits-allocated e valid = record { sits = record {
       tree = e;
       at_node = record {
         state = allocated s;
@@ -187,13 +189,14 @@ module _ (p : Checked) (part : Stock) (T : Table) (fn : PlainFunction) (fixed : 
               fixed_known = st.fixed_known;
             });
       };
-    }
+    }; named = refl; }
 
   alloc-at :
       (f : Frame) (l : Label) (b : Block) (d : PlainTree) →
-      Node p part T fn fixed (with_rest f (first l (alloc x n) b))
-      (running (first l (alloc x n) b)) d →
-      Sits p enlarged T fn fixed (with_value (with_rest f b) x base)
+      (k : Node p part T fn fixed (with_rest f (first l (alloc x n) b))
+      (running (first l (alloc x n) b)) d) →
+      SitsAt p enlarged T fn fixed (with_value (with_rest f b) x base)
+      (set_to k.v (length k.state.sorts) base)
   alloc-at f l b (node (by_absurd c) ks) k =
       given-up p part T fn fixed (with_rest f (first l (alloc x n) b))
       (λ h. to_run h (first l (alloc x n) b)) c ks k
@@ -212,7 +215,18 @@ module _ (p : Checked) (part : Stock) (T : Table) (fn : PlainFunction) (fixed : 
       sits-allocated f l b (node by_alloc ks) k q.0 q.1
   alloc-at f l b d k = absurd (p.step k.valid).1
 
-pub alloc-law : (p : Checked) → AllocLaw p
-alloc-law p part T fn fixed f l b x n base up k =
+-- the fresh variable is the base
+pub alloc-named :
+    (p : Checked) (part : Stock) (T : Table) (fn : PlainFunction) (fixed : List NameValue)
+    (f : Frame) (l : Label) (b : Block) (x n : ℕ) (base : ℤ) → pos 1 ≤ℤ base →
+    (k : Before p part T fn fixed f l (alloc x n) b) →
+    SitsAt p (both p.program part (record { cells = fresh_cells base n; guards = no_guards })) T fn
+    fixed (with_value (with_rest f b) x base)
+    (set_to k.sits.at_node.v (length k.sits.at_node.state.sorts) base)
+alloc-named p part T fn fixed f l b x n base up k =
     alloc-at p part T fn fixed (values-length fn.fixed fixed k.ok.values) x n base up f l b
     k.sits.tree k.sits.at_node
+
+pub alloc-law : (p : Checked) → AllocLaw p
+alloc-law p part T fn fixed f l b x n base up k =
+    (alloc-named p part T fn fixed f l b x n base up k).sits

@@ -43,6 +43,12 @@ pub record Sits (p : Checked) (part : Stock) (T : Table) (fn : PlainFunction)
   pub tree : PlainTree
   pub at_node : Node p part T fn fixed f (running f.rest) tree
 
+-- and its state holds at these values
+pub record SitsAt (p : Checked) (part : Stock) (T : Table) (fn : PlainFunction)
+    (fixed : List NameValue) (f : Frame) (w : Valuation) : Type 0 where
+  pub sits : Sits p part T fn fixed f
+  pub named : sits.at_node.v ≡ w
+
 -- and so it does by each table that others can lead to
 pub record Stands (p : Checked) (part : Stock) (T : Table) (fixed : List NameValue)
     (f : Frame) : Type 0 where

@@ -29,8 +29,8 @@ use Rattle.cap_account_states.proofs.Meets.{Usable, Meets, meets-row, solves, pr
 use Rattle.cap_account_states.proofs.Checked.{Checked, children-split, one-child}
 use Rattle.cap_account_steps.proofs.Points.{point-act}
 use Rattle.cap_account_steps.proofs.Stores.{running, here, here-value, here-over, holds-here, row-here-over, met-here}
-use Rattle.cap_account_steps.proofs.Frames.{Node, Sits}
-use Rattle.cap_account_steps.proofs.Statements.{SetLaw, CheckLaw, BranchLaw}
+use Rattle.cap_account_steps.proofs.Frames.{Node, Sits, SitsAt}
+use Rattle.cap_account_steps.proofs.Statements.{Before, SetLaw, CheckLaw, BranchLaw}
 
 set-all :
     {X : Type 0} (P : X → Type 0) (xs : List X) (i : ℕ) (y : X) → AllByRecursion P xs → P y →
@@ -54,8 +54,8 @@ module _ (p : Checked) (part : Stock) (T : Table) (fn : PlainFunction) (fixed : 
   pub passes-on :
       (f : Frame) (tasks : Home → List PlainTask) (d e : PlainTree) (b : Block) →
       (n : NodeAt f tasks d) → p.N e n.state (running b n.home) →
-      Sits p part T fn fixed (with_rest f b)
-  passes-on f tasks d e b n valid = record {
+      SitsAt p part T fn fixed (with_rest f b) n.v
+  passes-on f tasks d e b n valid = record { sits = record {
     tree = e;
     at_node = record {
       state = n.state;
@@ -74,7 +74,7 @@ module _ (p : Checked) (part : Stock) (T : Table) (fn : PlainFunction) (fixed : 
         fixed_known = n.store.fixed_known;
       };
     };
-  }
+  }; named = refl; }
 
   -- ---- assignments
 
@@ -83,8 +83,8 @@ module _ (p : Checked) (part : Stock) (T : Table) (fn : PlainFunction) (fixed : 
       (f : Frame) (tasks : Home → List PlainTask) (d e : PlainTree) (b : Block) (x : ℕ)
       (t : Linear) → (n : NodeAt f tasks d) →
       p.N e (with_local n.state x (here n.state t)) (running b n.home) →
-      Sits p part T fn fixed (with_value (with_rest f b) x (value_in f.store t))
-  assigned f tasks d e b x t n valid = record {
+      SitsAt p part T fn fixed (with_value (with_rest f b) x (value_in f.store t)) n.v
+  assigned f tasks d e b x t n valid = record { sits = record {
     tree = e;
     at_node = record {
       state = with_local s x u;
@@ -122,7 +122,7 @@ module _ (p : Checked) (part : Stock) (T : Table) (fn : PlainFunction) (fixed : 
         fixed_known = n.store.fixed_known;
       };
     };
-  }
+  }; named = refl; }
     where
       s : PlainState
       s = n.state
@@ -135,8 +135,8 @@ module _ (p : Checked) (part : Stock) (T : Table) (fn : PlainFunction) (fixed : 
 
   set-at :
       (f : Frame) (l : Label) (b : Block) (x : ℕ) (t : Linear) (d : PlainTree) →
-      NodeAt (with_rest f (first l (set x t) b)) (running (first l (set x t) b)) d →
-      Sits p part T fn fixed (with_value (with_rest f b) x (value_in f.store t))
+      (n : NodeAt (with_rest f (first l (set x t) b)) (running (first l (set x t) b)) d) →
+      SitsAt p part T fn fixed (with_value (with_rest f b) x (value_in f.store t)) n.v
   set-at f l b x t (node (by_absurd c) ks) n =
       given-up (with_rest f (first l (set x t) b)) (λ h. to_run h (first l (set x t) b)) c ks n
   set-at f l b x t (node by_set ks) n =
@@ -152,8 +152,8 @@ module _ (p : Checked) (part : Stock) (T : Table) (fn : PlainFunction) (fixed : 
 
   check-at :
       (f : Frame) (l : Label) (b : Block) (c : Comp) (d : PlainTree) → CompFits (body_scope fn) c →
-      NodeAt (with_rest f (first l (check c) b)) (running (first l (check c) b)) d →
-      (holds f.store c ≡ true) × Sits p part T fn fixed (with_rest f b)
+      (n : NodeAt (with_rest f (first l (check c) b)) (running (first l (check c) b)) d) →
+      (holds f.store c ≡ true) × SitsAt p part T fn fixed (with_rest f b) n.v
   check-at f l b c (node (by_absurd u) ks) fits n =
       given-up (with_rest f (first l (check c) b)) (λ h. to_run h (first l (check c) b)) u ks n
   check-at f l b c (node (by_assert cs) ks) fits n =
@@ -181,8 +181,8 @@ module _ (p : Checked) (part : Stock) (T : Table) (fn : PlainFunction) (fixed : 
       (op : Op) → CompFits (body_scope fn) c → (n : NodeAt f tasks d) →
       p.N e (row_added n.state (store_row n.state op c)) (running b n.home) →
       Relates op (value_in f.store c.left) (value_in f.store c.right) →
-      Sits p part T fn fixed (with_rest f b)
-  chosen f tasks d e b c op fits n valid order = record {
+      SitsAt p part T fn fixed (with_rest f b) n.v
+  chosen f tasks d e b c op fits n valid order = record { sits = record {
     tree = e;
     at_node = record {
       state = row_added n.state (store_row n.state op c);
@@ -212,7 +212,7 @@ module _ (p : Checked) (part : Stock) (T : Table) (fn : PlainFunction) (fixed : 
         fixed_known = n.store.fixed_known;
       };
     };
-  }
+  }; named = refl; }
 
   -- the goals of a comparison, where it is met and where it isn't
   record BothGoals (s : PlainState) (h : Home) (c : Comp) (a b : Block)
@@ -244,12 +244,12 @@ module _ (p : Checked) (part : Stock) (T : Table) (fn : PlainFunction) (fixed : 
       (f : Frame) (tasks : Home → List PlainTask) (d : PlainTree) (ks : PlainTrees) (c : Comp)
       (a b : Block) → CompFits (body_scope fn) c → (n : NodeAt f tasks d) →
       BothGoals n.state n.home c a b ks →
-      Sits p part T fn fixed (with_rest f (if holds f.store c then a else b))
+      SitsAt p part T fn fixed (with_rest f (if holds f.store c then a else b)) n.v
   by-store f tasks d ks c a b fits n g = on (holds f.store c) refl
     where
       on :
           (t : Bool) → holds f.store c ≡ t →
-          Sits p part T fn fixed (with_rest f (if t then a else b))
+          SitsAt p part T fn fixed (with_rest f (if t then a else b)) n.v
       on true q =
           chosen f tasks d g.met.0 a c c.op fits n g.met.1
           (met-relates c.op (value_in f.store c.left) (value_in f.store c.right) q)
@@ -260,10 +260,10 @@ module _ (p : Checked) (part : Stock) (T : Table) (fn : PlainFunction) (fixed : 
   branch-at :
       (f : Frame) (l : Label) (rest : Block) (c : Comp) (a b : Block) (d : PlainTree) →
       CompFits (body_scope fn) c →
-      NodeAt (with_rest f (first l (branch c a b) rest)) (running (first l (branch c a b) rest))
-      d →
-      Sits p part T fn fixed
-      (with_rest f (if holds f.store c then append a rest else append b rest))
+      (n : NodeAt (with_rest f (first l (branch c a b) rest))
+      (running (first l (branch c a b) rest)) d) →
+      SitsAt p part T fn fixed
+      (with_rest f (if holds f.store c then append a rest else append b rest)) n.v
   branch-at f l rest c a b (node (by_absurd u) ks) fits n =
       given-up (with_rest f (first l (branch c a b) rest))
       (λ h. to_run h (first l (branch c a b) rest)) u ks n
@@ -278,9 +278,9 @@ module _ (p : Checked) (part : Stock) (T : Table) (fn : PlainFunction) (fixed : 
   pub turn-at :
       (f : Frame) (l : Label) (rest : Block) (c : Comp) (i : PlainAssertion) (a : Block)
       (d : PlainTree) → CompFits (body_scope fn) c →
-      NodeAt f (λ h. to_turn h (first l (loop c i a) rest) ∷ []) d →
-      Sits p part T fn fixed
-      (with_rest f (if holds f.store c then append a (first l (loop c i a) rest) else rest))
+      (n : NodeAt f (λ h. to_turn h (first l (loop c i a) rest) ∷ []) d) →
+      SitsAt p part T fn fixed
+      (with_rest f (if holds f.store c then append a (first l (loop c i a) rest) else rest)) n.v
   turn-at f l rest c i a (node (by_absurd u) ks) fits n =
       given-up f (λ h. to_turn h (first l (loop c i a) rest)) u ks n
   turn-at f l rest c i a (node by_turn ks) fits n =
@@ -289,18 +289,42 @@ module _ (p : Checked) (part : Stock) (T : Table) (fn : PlainFunction) (fixed : 
       fits n (both-goals n.state n.home c again rest ks (p.step n.valid))
   turn-at f l rest c i a d fits n = absurd (p.step n.valid).1
 
--- ---- the laws
+-- ---- the laws: the values stay
 
-pub set-law : (p : Checked) → SetLaw p
-set-law p part T fn fixed f l b x t k =
+pub set-named :
+    (p : Checked) (part : Stock) (T : Table) (fn : PlainFunction) (fixed : List NameValue)
+    (f : Frame) (l : Label) (b : Block) (x : ℕ) (t : Linear) →
+    (k : Before p part T fn fixed f l (set x t) b) →
+    SitsAt p part T fn fixed (with_value (with_rest f b) x (value_in f.store t)) k.sits.at_node.v
+set-named p part T fn fixed f l b x t k =
     set-at p part T fn fixed f l b x t k.sits.tree k.sits.at_node
 
-pub check-law : (p : Checked) → CheckLaw p
-check-law p part T fn fixed f l b c k =
+pub check-named :
+    (p : Checked) (part : Stock) (T : Table) (fn : PlainFunction) (fixed : List NameValue)
+    (f : Frame) (l : Label) (b : Block) (c : Comp) →
+    (k : Before p part T fn fixed f l (check c) b) →
+    (holds f.store c ≡ true) × SitsAt p part T fn fixed (with_rest f b) k.sits.at_node.v
+check-named p part T fn fixed f l b c k =
     check-at p part T fn fixed f l b c k.sits.tree
     (point-act p.program fn l (check c) b k.ok.point) k.sits.at_node
 
-pub branch-law : (p : Checked) → BranchLaw p
-branch-law p part T fn fixed f l b c x y k =
+pub branch-named :
+    (p : Checked) (part : Stock) (T : Table) (fn : PlainFunction) (fixed : List NameValue)
+    (f : Frame) (l : Label) (b : Block) (c : Comp) (x y : Block) →
+    (k : Before p part T fn fixed f l (branch c x y) b) →
+    SitsAt p part T fn fixed
+    (with_rest f (if holds f.store c then append x b else append y b)) k.sits.at_node.v
+branch-named p part T fn fixed f l b c x y k =
     branch-at p part T fn fixed f l b c x y k.sits.tree
     (point-act p.program fn l (branch c x y) b k.ok.point) k.sits.at_node
+
+pub set-law : (p : Checked) → SetLaw p
+set-law p part T fn fixed f l b x t k = (set-named p part T fn fixed f l b x t k).sits
+
+pub check-law : (p : Checked) → CheckLaw p
+check-law p part T fn fixed f l b c k =
+    let r = check-named p part T fn fixed f l b c k in (r.0, r.1.sits)
+
+pub branch-law : (p : Checked) → BranchLaw p
+branch-law p part T fn fixed f l b c x y k =
+    (branch-named p part T fn fixed f l b c x y k).sits
