@@ -1,12 +1,12 @@
 -- A heap statement acts where up to two regions are open, and they are closed again.
-use Rattle.std.proofs.Common.{◌≡◌, ℕ, ◌+◌, ℤ, List, [], length, arith, sym, ap, ◌∙◌, subst, Some}
+use Rattle.std.proofs.Common.{◌≡◌, ℕ, ◌+◌, ℤ, List, [], ◌∷◌, length, arith, sym, ap, ◌∙◌, subst, Some}
 use Rattle.std.specs.Prelude.{slice_get, is_some, map}
 use Rattle.std.specs.List.{AllByRecursion}
 use Rattle.cap_lin.specs.Values.{Valuation, value}
 use Rattle.cap_lin.specs.declared.row.Sort.{Sort}
 use Rattle.cap_lin.specs.declared.row.Sort.TheVariants.{Int}
 use Rattle.cap_prog.specs.Program.{PlainFunction}
-use Rattle.cap_goal_spec.specs.States.{PlainFact, PlainState, Home}
+use Rattle.cap_goal_spec.specs.States.{PlainFact, PlainState, Home, PlainTask, to_rest}
 use Rattle.cap_goal_spec.specs.Choices.{PlainTrees}
 use Rattle.cap_machine.specs.Machine.{Frame, value_in, with_rest}
 use Rattle.cap_machine_accounts.specs.Assertions.{NameValue}
@@ -20,9 +20,11 @@ use Rattle.cap_account_states.proofs.Terms.{Over}
 use Rattle.cap_account_states.proofs.Checked.{Checked}
 use Rattle.cap_account_states.proofs.Meets.{Free, Usable}
 use Rattle.cap_account_steps.proofs.Points.{FrameOk}
-use Rattle.cap_account_steps.proofs.Stores.{Store}
-use Rattle.cap_account_steps.proofs.Frames.{Stands}
-use Rattle.cap_account_steps.proofs.Worlds.{regions_of, opened_table, Closing, SettlesBy, after_act, recelled}
+use Rattle.cap_account_steps.proofs.Stores.{Store, running}
+use Rattle.cap_account_assertions.proofs.Named.{rest_values}
+use Rattle.cap_account_steps.proofs.Firming.{firm_values}
+use Rattle.cap_account_steps.proofs.Frames.{StandsAt}
+use Rattle.cap_account_steps.proofs.Worlds.{regions_of, opened_table, Closing, SettlesBy, Closed, after_act, recelled}
 use Rattle.cap_account_steps.proofs.HeapLaws.{ActsLaw}
 use Rattle.cap_account_steps.proofs.OpenTables.{opened-there, open-fits, open-listed}
 use Rattle.cap_account_steps.proofs.Changing.{holds-cell}
@@ -31,12 +33,21 @@ use Rattle.cap_account_steps.proofs.Acts.{statement-done}
 
 -- ---- after the statement
 
+-- the values once all is closed and the facts rest, by a table to which others lead from T
+abbrev pub last_values :
+    {p : Checked} {V W : Table} {part : Stock} {ks : List ℕ} {v : Valuation} {s : PlainState}
+    {held : Stock} {ts : List PlainTask} → Table → Closed p V W part ks v s held ts → Table → Valuation
+last_values T c U =
+    rest_values U c.after.facts c.children (length c.after.sorts) (firm_values T c.w c.after.facts)
+
 -- all open regions are closed, and the frame stands with what is kept
-pub record Finished (p : Checked) (V W : Table) (part held : Stock) (ns : List ℤ)
-    (fixed : List NameValue) (f : Frame) : Type 0 where
+pub record Finished (p : Checked) (V W : Table) (part held : Stock) (ns : List ℤ) (ks : List ℕ)
+    (v : Valuation) (s : PlainState) (n : ℕ) (h : Home) (fixed : List NameValue)
+    (f : Frame) : Type 0 where
+  pub closed : Closed p V W part ks v s held (to_rest 0 n ∷ running f.rest h)
   pub kept : Stock
   pub by : SettlesBy p.program V W part held ns kept
-  pub stands : Stands p kept by.U fixed f
+  pub stands : StandsAt p kept by.U fixed f (last_values by.U closed)
 
 abbrev pub FinishingLaw : Checked → Type 0
 FinishingLaw p =
@@ -48,7 +59,8 @@ FinishingLaw p =
     FitsRoom p.program V part → Closing p.program V (opened_table ns V) part ks v s held →
     AllByRecursion (Over (Usable ks s.sorts Int)) s.store →
     ((i : ℕ) (o : Sort) → slice_get fn.fixed i ≡ Some o → Free ks (h.fixed + i)) →
-    Store v s h fn fixed f → Finished p V (opened_table ns V) part held ns fixed f
+    Store v s h fn fixed f →
+    Finished p V (opened_table ns V) part held ns ks v s n h fixed f
 
 -- ---- the statement
 
@@ -64,7 +76,8 @@ acts-law p finish V share part heap fn fixed f l a b x is-address world ok v s h
     let z = value k.v.whole k.c.1 in
     let had = holds-cell p.program V (opened_table ns V) part k.ks k.v k.s held h fn fixed
     (with_rest f b) k.ready k.j k.c k.is at k.address in
-    let done = statement-done p V part held ns fn fixed f h l.number b x a is-address k in
+    let done = statement-done p V part held ns fn fixed f h l.number b x v (length s.sorts)
+    (map is_some ms) a is-address k in
     let r = after_act a f b z in
     let count = ap length done.opened in
     let room = fits-less p.program V part (both p.program part no_stock)
@@ -89,5 +102,5 @@ acts-law p finish V share part heap fn fixed f l a b x is-address world ok v s h
       had = had;
       kept = finished.kept;
       by = finished.by;
-      stands = finished.stands;
+      stands = finished.stands.stands;
     }

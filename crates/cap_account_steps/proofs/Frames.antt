@@ -56,6 +56,13 @@ pub record Stands (p : Checked) (part : Stock) (T : Table) (fixed : List NameVal
   pub ok : FrameOk p.program fn fixed f
   pub all : (U : Table) → Relies p.program part.guards T U → Sits p part U fn fixed f
 
+-- where that table is U, its state holds at these values
+pub record StandsAt (p : Checked) (part : Stock) (T : Table) (fixed : List NameValue)
+    (f : Frame) (w : Table → Valuation) : Type 0 where
+  pub stands : Stands p part T fixed f
+  pub named :
+      (U : Table) (r : Relies p.program part.guards T U) → (stands.all U r).at_node.v ≡ w U
+
 -- ---- a frame that waits
 
 -- a full table whose room has what is held
