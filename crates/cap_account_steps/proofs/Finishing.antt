@@ -1,5 +1,5 @@
 -- After a heap statement: once all regions are closed again, and the facts rest, the frame stands.
-use Rattle.std.proofs.Common.{◌≡◌, ℕ, ◌+◌, ℤ, List, [], ◌∷◌, ◌++◌, length, map, Some, sym, ap, ◌∙◌, subst, arith}
+use Rattle.std.proofs.Common.{◌≡◌, ℕ, ◌+◌, ℤ, List, [], ◌∷◌, ◌++◌, length, map, Some, refl, sym, ap, ◌∙◌, subst, arith}
 use Rattle.std.specs.Prelude.{slice_get}
 use Rattle.std.specs.List.{AllByRecursion}
 use Rattle.cap_lin.specs.Linear.{Linear}
@@ -40,8 +40,7 @@ use Rattle.cap_account_steps.proofs.SettledTables.{settled-types, settled-fits, 
 use Rattle.cap_account_steps.proofs.SettledTwice.{settles-for}
 use Rattle.cap_account_steps.proofs.StillOpen.{LaterState, usable-later}
 use Rattle.cap_account_steps.proofs.Closings.{later-of, closing-law}
-use Rattle.cap_account_steps.proofs.Acting.{FinishingLaw, acts-law}
-use Rattle.cap_account_steps.proofs.HeapLaws.{ActsLaw}
+use Rattle.cap_account_steps.proofs.Acting.{ActsLaw, FinishingLaw, acts-law}
 
 -- ---- a frame's store in a state where other variables are kept free
 
@@ -190,6 +189,8 @@ finishing-law p program closing V part held ns ks v s n h fn fixed f trees bound
     }) in
     record {
       closed = cl;
+      table = refl;
+      owners = refl;
       kept = cl.left;
       by = settles-for q V W part held cl.left ns (regions_of v s.opened)
           (λ m a. subst (Among m) (sym are) a) (ap length are) b;
