@@ -115,7 +115,7 @@ module _ (p : Checked) (program : IsWellFormed p.program) (give : GivenLaw p) (t
           fixed = callee_fixed p part T f.store c (rest g) tk;
           fit = fixed-fit (a1 p part T f.store c (rest g) tk) (fixed_start g) g.fixed;
           meets = met-requires p part T f.store c (rest g) tk;
-          goes_on = waits-here p program give take rests stable part T roomy fn fixed
+          goes_on = (waits-here p program give take rests stable part T roomy fn fixed
               (values-length fn.fixed fixed ok.values) f r0 c h
               (same-store f r0 (node by_call ks) k) n is_g l b tk
               (same-ok (with_rest f b) (record {
@@ -131,7 +131,7 @@ module _ (p : Checked) (program : IsWellFormed p.program) (give : GivenLaw p) (t
                 args = ok1.args;
                 values = ok1.values;
                 point = ok1.point;
-              }));
+              }))).waits;
         },
       )
   call-at f l x n args b d ok k = absurd (p.step k.valid).1

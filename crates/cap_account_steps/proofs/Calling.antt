@@ -35,12 +35,13 @@ use Rattle.cap_account_states.proofs.Wants.{scaled-finer}
 use Rattle.cap_account_states.proofs.Backed.{Backed, Grounded, IsOpened}
 use Rattle.cap_account_assertions.proofs.Asserted.{OwnsEnsures}
 use Rattle.cap_account_assertions.proofs.Finer.{draws-all-finer}
+use Rattle.cap_account_assertions.proofs.Named.{set_to, rest_values}
 use Rattle.cap_account_assertions.proofs.Laws.{StateAt, GivenLaw, TakenLaw, Reached, Rested, RestsLaw, Stable}
 use Rattle.cap_account_assertions.proofs.MadeTables.{made-fits, made-full, made-room}
 use Rattle.cap_account_steps.proofs.Points.{FrameOk, point-act, point-next, ok-rest}
 use Rattle.cap_account_steps.proofs.Stores.{Store, running, values-alike, fixed-alike}
 use Rattle.cap_account_steps.proofs.Callees.{fixed-fit, put_at, map-put, receives-is, ok-put, at_call, after-called}
-use Rattle.cap_account_steps.proofs.Frames.{Node, Sits, Stands, Roomy, Waits, HandsOver, Calls, Forks}
+use Rattle.cap_account_steps.proofs.Frames.{Node, Sits, SitsLike, WaitsLike, Stands, Roomy, Waits, HandsOver, Calls, Forks}
 use Rattle.cap_account_steps.proofs.Statements.{Before, CallLaw, ForkLaw}
 use Rattle.cap_account_steps.proofs.Local.{given-up}
 use Rattle.cap_account_steps.proofs.Reserving.{Between, facts-between, grounded-between, backed-between}
@@ -206,7 +207,8 @@ module _ (p : Checked) (program : IsWellFormed p.program) (give : GivenLaw p) (t
       }
 
       pub comes-back :
-          Sits p (both p.program tk.left handed) W fn fixed (receives c.x r (with_rest f b))
+          SitsLike p (both p.program tk.left handed) W fn fixed (receives c.x r (with_rest f b))
+          (Old rs.after) rs.w
       comes-back =
           let sc = ensures_scope c.g c.g.ensures.names in
           let items = c.g.ensures.items in
@@ -234,7 +236,8 @@ module _ (p : Checked) (program : IsWellFormed p.program) (give : GivenLaw p) (t
           let since : Alike (Old c.s) c.v gv.w =
           alike-trans (Old c.s) c.v w gv.w (alike4 p part T f.store c ts tk r)
           (alike-less (Old c.s) (Old tk.after) w gv.w (λ x i. (omega (arith, i, c0, c1))) was) in
-          record {
+          let sits : Sits p (both p.program tk.left handed) W fn fixed
+          (receives c.x r (with_rest f b)) = record {
             tree = k.0;
             at_node = record {
               state = gv.after;
@@ -255,50 +258,86 @@ module _ (p : Checked) (program : IsWellFormed p.program) (give : GivenLaw p) (t
                   (λ x o q. gv.goes_on.sorts x o (rs.goes_on.sorts x o
                   (tk.goes_on.sorts x o (get-first c.s.sorts (Int ∷ []) x o q))));
             };
+          } in
+          record {
+            sits = sits;
+            alike =
+                alike-trans (Old rs.after) rs.w now gv.w
+                (scaled-alike (Old rs.after) me.values.fraction.under rs.w)
+                (agree-alike (Old rs.after) now gv.w gv.agree);
           }
         where
           rest-of : (y : Option ℕ) → b ≡ (receives y r (with_rest f b)).rest
           rest-of None = refl
           rest-of (Some x) = refl
 
+    -- the values where the result is r and the table W
+    abbrev pub back_values : Table → ℤ → Valuation
+    back_values W r =
+        rest_values W tk.after.facts tk.children (length tk.after.sorts)
+        (set_to tk.w (length c.s.sorts) r)
+
+    back-at :
+        (U : Table) → Relies p.program tk.left.guards tk.U U → (handed : Stock) (r : ℤ)
+        (g2 : PlainFunction) → slice_get p.program.functions n ≡ Some g2 →
+        Roomy p.program U (both p.program tk.left handed) →
+        OwnsEnsures p.program U handed g2 (args_are p part T f.store c)
+        (callee_fixed p part T f.store c ts tk) r →
+        (W : Table) → Relies p.program (both p.program tk.left handed).guards U W →
+        SitsLike p (both p.program tk.left handed) W fn fixed (receives c.x r (with_rest f b))
+        (Old tk.after) (back_values W r)
+    back-at U relies handed r g2 e2 there me W on =
+        let P = p.program in
+        let whole = both P tk.left handed in
+        let first = relies-less P tk.left.guards whole.guards U W
+        (inside-guards P tk.left whole (inside-first P tk.left handed)) on in
+        let second = relies-less P handed.guards whole.guards U W
+        (inside-guards P handed whole (inside-second P tk.left handed)) on in
+        let to_w = relies-trans P tk.left.guards tk.U U W relies first in
+        let w = with_result p part T f.store c ts tk r in
+        let rs = rests tk.left tk.U W l.number behind tk.children w tk.after
+        (reached-left part T roomy f.store c ts tk W to_w) tk.goes
+        (grounded2 p part T f.store c ts tk r) (facts2 p part T f.store c ts tk r)
+        (firm2 p part T f.store c ts tk r) (backed2 p part T f.store c ts tk r) in
+        let mine : OwnsEnsures P U handed c.g (args_are p part T f.store c)
+        (callee_fixed p part T f.store c ts tk) r =
+        subst (λ y. OwnsEnsures P U handed y (args_are p part T f.store c)
+        (callee_fixed p part T f.store c ts tk) r) (some-same g2 c.g (sym e2 ∙ is_g)) me in
+        let q = comes-back W handed r (fits-relied P U W whole there.full on there.room)
+        (stable.ensures U W handed n c.g is_g (record {
+          fits = there.fits;
+          full = there.full;
+          room = fits-less P U handed whole (inside-second P tk.left handed) there.room;
+          relies = second;
+        }) (args_are p part T f.store c) (callee_fixed p part T f.store c ts tk) r
+        (map-length (value_in f.store) c.args ∙ c.size)
+        (fixed-fit (a1 p part T f.store c ts tk) (fixed_start c.g) c.g.fixed) mine)
+        rs in
+        let count = rs.goes_on.count in
+        record {
+          sits = q.sits;
+          alike =
+              subst (λ u. Alike (Old tk.after) u q.sits.at_node.v) rs.named
+              (alike-less (Old tk.after) (Old rs.after) rs.w q.sits.at_node.v
+              (λ x i. (omega (arith, i, count))) q.alike);
+        }
+
     -- so the caller waits
     pub waits-here :
         FrameOk p.program fn fixed (with_rest f b) →
         ((r : ℤ) → FrameOk p.program fn fixed (receives c.x r (with_rest f b))) →
-        Waits p tk.left tk.U fixed (with_rest f b) c.x n (args_are p part T f.store c)
-        (callee_fixed p part T f.store c ts tk)
+        WaitsLike p tk.left tk.U fixed (with_rest f b) c.x n (args_are p part T f.store c)
+        (callee_fixed p part T f.store c ts tk) (Old tk.after) back_values
     waits-here ok later = record {
-      fn = fn;
-      ok = ok;
-      all = λ U relies handed r g2 e2 there me. record {
+      waits = record {
         fn = fn;
-        ok = later r;
-        all = λ W on.
-            let P = p.program in
-            let whole = both P tk.left handed in
-            let first = relies-less P tk.left.guards whole.guards U W
-            (inside-guards P tk.left whole (inside-first P tk.left handed)) on in
-            let second = relies-less P handed.guards whole.guards U W
-            (inside-guards P handed whole (inside-second P tk.left handed)) on in
-            let to_w = relies-trans P tk.left.guards tk.U U W relies first in
-            let w = with_result p part T f.store c ts tk r in
-            let rs = rests tk.left tk.U W l.number behind tk.children w tk.after
-            (reached-left part T roomy f.store c ts tk W to_w) tk.goes
-            (grounded2 p part T f.store c ts tk r) (facts2 p part T f.store c ts tk r)
-            (firm2 p part T f.store c ts tk r) (backed2 p part T f.store c ts tk r) in
-            let mine : OwnsEnsures P U handed c.g (args_are p part T f.store c)
-            (callee_fixed p part T f.store c ts tk) r =
-            subst (λ y. OwnsEnsures P U handed y (args_are p part T f.store c)
-            (callee_fixed p part T f.store c ts tk) r) (some-same g2 c.g (sym e2 ∙ is_g)) me in
-            comes-back W handed r (fits-relied P U W whole there.full on there.room)
-            (stable.ensures U W handed n c.g is_g (record {
-              fits = there.fits;
-              full = there.full;
-              room = fits-less P U handed whole (inside-second P tk.left handed) there.room;
-              relies = second;
-            }) (args_are p part T f.store c) (callee_fixed p part T f.store c ts tk) r
-            (map-length (value_in f.store) c.args ∙ c.size)
-            (fixed-fit (a1 p part T f.store c ts tk) (fixed_start c.g) c.g.fixed) mine)
-            rs;
+        ok = ok;
+        all = λ U relies handed r g2 e2 there me. record {
+          fn = fn;
+          ok = later r;
+          all = λ W on. (back-at U relies handed r g2 e2 there me W on).sits;
+        };
       };
+      named = λ U relies handed r g2 e2 there me W on.
+          (back-at U relies handed r g2 e2 there me W on).alike;
     }
