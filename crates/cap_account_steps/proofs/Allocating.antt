@@ -155,41 +155,44 @@ module _ (p : Checked) (part : Stock) (T : Table) (fn : PlainFunction) (fixed : 
         (e : PlainTree) → p.N e (allocated s) (running b k.home) →
         SitsAt p enlarged T fn fixed (with_value (with_rest f b) x base)
         (set_to k.v (length k.state.sorts) base)
-    sits-allocated e valid = record { sits = record {
-      tree = e;
-      at_node = record {
-        state = allocated s;
-        v = w;
-        home = k.home;
-        valid = valid;
-        none_open = k.none_open;
-        grounded = record {
-          meets = meets-allocated;
-          pieces_over = pieces-more (Usable [] s.sorts) (Usable [] (sort_added s Int).sorts)
-              (usable-on [] s.sorts (sort_added s Int).sorts (same-fresh s Int).sorts) s.guards
-              k.grounded.pieces_over;
-          pieces_fit = k.grounded.pieces_fit;
+    sits-allocated e valid = record {
+      sits = record {
+        tree = e;
+        at_node = record {
+          state = allocated s;
+          v = w;
+          home = k.home;
+          valid = valid;
+          none_open = k.none_open;
+          grounded = record {
+            meets = meets-allocated;
+            pieces_over = pieces-more (Usable [] s.sorts) (Usable [] (sort_added s Int).sorts)
+                (usable-on [] s.sorts (sort_added s Int).sorts (same-fresh s Int).sorts) s.guards
+                k.grounded.pieces_over;
+            pieces_fit = k.grounded.pieces_fit;
+          };
+          facts = facts-allocated;
+          firm = k.firm;
+          backed = record { cells = cells-allocated; guards = guards-allocated };
+          store = store-local w (with_cells s) k.home fn fixed f x u base b is-base
+              (let st = store-alike v w s (sort_added s Int) k.home fn fixed f
+              k.grounded.meets.store_over (agree-alike (Old s) v w agrees) (same-fresh s Int).sorts refl
+              size (record {
+                home = k.store.home;
+                store = k.store.store;
+                fixed_are = k.store.fixed_are;
+                fixed_known = k.store.fixed_known;
+              }) in
+              record {
+                home = st.home;
+                store = st.store;
+                fixed_are = st.fixed_are;
+                fixed_known = st.fixed_known;
+              });
         };
-        facts = facts-allocated;
-        firm = k.firm;
-        backed = record { cells = cells-allocated; guards = guards-allocated };
-        store = store-local w (with_cells s) k.home fn fixed f x u base b is-base
-            (let st = store-alike v w s (sort_added s Int) k.home fn fixed f
-            k.grounded.meets.store_over (agree-alike (Old s) v w agrees) (same-fresh s Int).sorts refl
-            size (record {
-              home = k.store.home;
-              store = k.store.store;
-              fixed_are = k.store.fixed_are;
-              fixed_known = k.store.fixed_known;
-            }) in
-            record {
-              home = st.home;
-              store = st.store;
-              fixed_are = st.fixed_are;
-              fixed_known = st.fixed_known;
-            });
       };
-    }; named = refl; }
+      named = refl;
+    }
 
   alloc-at :
       (f : Frame) (l : Label) (b : Block) (d : PlainTree) →

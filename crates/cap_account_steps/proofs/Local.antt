@@ -55,26 +55,29 @@ module _ (p : Checked) (part : Stock) (T : Table) (fn : PlainFunction) (fixed : 
       (f : Frame) (tasks : Home → List PlainTask) (d e : PlainTree) (b : Block) →
       (n : NodeAt f tasks d) → p.N e n.state (running b n.home) →
       SitsAt p part T fn fixed (with_rest f b) n.v
-  passes-on f tasks d e b n valid = record { sits = record {
-    tree = e;
-    at_node = record {
-      state = n.state;
-      v = n.v;
-      home = n.home;
-      valid = valid;
-      none_open = n.none_open;
-      grounded = n.grounded;
-      facts = n.facts;
-      firm = n.firm;
-      backed = n.backed;
-      store = record {
-        home = n.store.home;
-        store = n.store.store;
-        fixed_are = n.store.fixed_are;
-        fixed_known = n.store.fixed_known;
+  passes-on f tasks d e b n valid = record {
+    sits = record {
+      tree = e;
+      at_node = record {
+        state = n.state;
+        v = n.v;
+        home = n.home;
+        valid = valid;
+        none_open = n.none_open;
+        grounded = n.grounded;
+        facts = n.facts;
+        firm = n.firm;
+        backed = n.backed;
+        store = record {
+          home = n.store.home;
+          store = n.store.store;
+          fixed_are = n.store.fixed_are;
+          fixed_known = n.store.fixed_known;
+        };
       };
     };
-  }; named = refl; }
+    named = refl;
+  }
 
   -- ---- assignments
 
@@ -84,45 +87,48 @@ module _ (p : Checked) (part : Stock) (T : Table) (fn : PlainFunction) (fixed : 
       (t : Linear) → (n : NodeAt f tasks d) →
       p.N e (with_local n.state x (here n.state t)) (running b n.home) →
       SitsAt p part T fn fixed (with_value (with_rest f b) x (value_in f.store t)) n.v
-  assigned f tasks d e b x t n valid = record { sits = record {
-    tree = e;
-    at_node = record {
-      state = with_local s x u;
-      v = n.v;
-      home = n.home;
-      valid = valid;
-      none_open = n.none_open;
-      grounded = record {
-        meets = record {
-          sorted = m.sorted;
-          rows = m.rows;
-          rows_over = m.rows_over;
-          cells_over = m.cells_over;
-          positive = m.positive;
-          store_over = set-all (Over (Usable [] s.sorts Int)) s.store x u m.store_over
-              (here-over [] n.v s t m);
+  assigned f tasks d e b x t n valid = record {
+    sits = record {
+      tree = e;
+      at_node = record {
+        state = with_local s x u;
+        v = n.v;
+        home = n.home;
+        valid = valid;
+        none_open = n.none_open;
+        grounded = record {
+          meets = record {
+            sorted = m.sorted;
+            rows = m.rows;
+            rows_over = m.rows_over;
+            cells_over = m.cells_over;
+            positive = m.positive;
+            store_over = set-all (Over (Usable [] s.sorts Int)) s.store x u m.store_over
+                (here-over [] n.v s t m);
+          };
+          pieces_over = n.grounded.pieces_over;
+          pieces_fit = n.grounded.pieces_fit;
         };
-        pieces_over = n.grounded.pieces_over;
-        pieces_fit = n.grounded.pieces_fit;
-      };
-      facts = record {
-        holds = n.facts.holds;
-        over = n.facts.over;
-        loose = n.facts.loose;
-        differ = n.facts.differ;
-      };
-      firm = n.firm;
-      backed = record { cells = n.backed.cells; guards = n.backed.guards };
-      store = record {
-        home = n.store.home;
-        store = map-set (value n.v.whole) s.store x u
-            ∙ ap (λ zs. slice_set zs x (value n.v.whole u)) n.store.store
-            ∙ ap (slice_set f.store x) (here-value n.v s f.store t n.store.store);
-        fixed_are = n.store.fixed_are;
-        fixed_known = n.store.fixed_known;
+        facts = record {
+          holds = n.facts.holds;
+          over = n.facts.over;
+          loose = n.facts.loose;
+          differ = n.facts.differ;
+        };
+        firm = n.firm;
+        backed = record { cells = n.backed.cells; guards = n.backed.guards };
+        store = record {
+          home = n.store.home;
+          store = map-set (value n.v.whole) s.store x u
+              ∙ ap (λ zs. slice_set zs x (value n.v.whole u)) n.store.store
+              ∙ ap (slice_set f.store x) (here-value n.v s f.store t n.store.store);
+          fixed_are = n.store.fixed_are;
+          fixed_known = n.store.fixed_known;
+        };
       };
     };
-  }; named = refl; }
+    named = refl;
+  }
     where
       s : PlainState
       s = n.state
@@ -182,37 +188,40 @@ module _ (p : Checked) (part : Stock) (T : Table) (fn : PlainFunction) (fixed : 
       p.N e (row_added n.state (store_row n.state op c)) (running b n.home) →
       Relates op (value_in f.store c.left) (value_in f.store c.right) →
       SitsAt p part T fn fixed (with_rest f b) n.v
-  chosen f tasks d e b c op fits n valid order = record { sits = record {
-    tree = e;
-    at_node = record {
-      state = row_added n.state (store_row n.state op c);
-      v = n.v;
-      home = n.home;
-      valid = valid;
-      none_open = n.none_open;
-      grounded = record {
-        meets = meets-row [] n.v n.state (store_row n.state op c) n.grounded.meets
-            (holds-here n.v n.state f.store c op n.grounded.meets n.store.store order)
-            (row-here-over n.v n.state (fixed_start fn) c op n.grounded.meets fits);
-        pieces_over = n.grounded.pieces_over;
-        pieces_fit = n.grounded.pieces_fit;
-      };
-      facts = record {
-        holds = n.facts.holds;
-        over = n.facts.over;
-        loose = n.facts.loose;
-        differ = n.facts.differ;
-      };
-      firm = n.firm;
-      backed = record { cells = n.backed.cells; guards = n.backed.guards };
-      store = record {
-        home = n.store.home;
-        store = n.store.store;
-        fixed_are = n.store.fixed_are;
-        fixed_known = n.store.fixed_known;
+  chosen f tasks d e b c op fits n valid order = record {
+    sits = record {
+      tree = e;
+      at_node = record {
+        state = row_added n.state (store_row n.state op c);
+        v = n.v;
+        home = n.home;
+        valid = valid;
+        none_open = n.none_open;
+        grounded = record {
+          meets = meets-row [] n.v n.state (store_row n.state op c) n.grounded.meets
+              (holds-here n.v n.state f.store c op n.grounded.meets n.store.store order)
+              (row-here-over n.v n.state (fixed_start fn) c op n.grounded.meets fits);
+          pieces_over = n.grounded.pieces_over;
+          pieces_fit = n.grounded.pieces_fit;
+        };
+        facts = record {
+          holds = n.facts.holds;
+          over = n.facts.over;
+          loose = n.facts.loose;
+          differ = n.facts.differ;
+        };
+        firm = n.firm;
+        backed = record { cells = n.backed.cells; guards = n.backed.guards };
+        store = record {
+          home = n.store.home;
+          store = n.store.store;
+          fixed_are = n.store.fixed_are;
+          fixed_known = n.store.fixed_known;
+        };
       };
     };
-  }; named = refl; }
+    named = refl;
+  }
 
   -- the goals of a comparison, where it is met and where it isn't
   record BothGoals (s : PlainState) (h : Home) (c : Comp) (a b : Block)
