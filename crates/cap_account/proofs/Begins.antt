@@ -1,5 +1,6 @@
 -- Main's start is sound: where there is no region yet, a part without guards that meets an
 -- assertion owns it as a stock, and main's body stands with the whole heap.
+use Rattle.cap_account_resources.proofs.Order.{same-or}
 use Rattle.std.proofs.Common.{◌≡◌, inl, inr, ℕ, zero, suc, ℤ, Bool, true, false, List, [], ◌∷◌, Option, Some, None, refl, sym, ap, ◌∙◌, subst, arith}
 use Rattle.std.specs.Prelude.{◌==◌, if◌then◌else◌, option_to_list, option_map}
 use Rattle.std.specs.Ordering.{int_cmp}
@@ -20,11 +21,11 @@ use Rattle.cap_machine_accounts.specs.Accounts.{Held}
 use Rattle.cap_machine_accounts.specs.Safety.{whole_part, first_account}
 use Rattle.cap_account_resources.specs.Parts.{no_regions}
 use Rattle.cap_account_resources.proofs.Lists.{some-same, none-some}
-use Rattle.cap_account_resources.proofs.Heaps.{same-or, removed}
+use Rattle.cap_account_resources.proofs.Heaps.{removed}
 use Rattle.cap_account_resources.proofs.Monoid.{none as empty_sum, atom as at, both as plus}
 use Rattle.cap_account_resources.proofs.Marks.{Mark, free, of, joins-law}
 use Rattle.cap_account_resources.proofs.Covering.{join_marks, mark, mark-unit, mark-of}
-use Rattle.cap_account_resources.proofs.Room.{alone-here, alone-away, here-or}
+use Rattle.cap_account_resources.proofs.Room.{alone-here, alone-away}
 use Rattle.cap_account_resources.proofs.Stocks.{Stock, cell_stock, guard_stock, both, same-stock, inside-is, reordered}
 use Rattle.cap_account_resources.proofs.Tables.{FitsRoom}
 use Rattle.cap_account_states.proofs.Checked.{Checked}
@@ -104,7 +105,7 @@ module _ (p : PlainProgram) where
       (n : ℤ) (m : Option Mark) (q : Stock) → m ≡ Some free → both p (guard_stock n m) q ≡ q
   nothing-drawn n m q e =
       same-stock (both p (guard_stock n m) q) q (λ a z. omega arith) (λ k.
-      ap (λ x. join_marks p x (q.guards k)) (elim (here-or n k) [
+      ap (λ x. join_marks p x (q.guards k)) (elim (same-or n k) [
         | inl c ↦ alone-here n m k c ∙ e
         | inr c ↦ alone-away n m k c
       ])

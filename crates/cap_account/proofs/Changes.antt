@@ -1,6 +1,8 @@
--- A step in terms of what is held: what is there afterwards is within heap and room, and for all others
--- the step is interference.
-use Rattle.std.proofs.Common.{◌≡◌, ◌⊎◌, inl, inr, ℕ, suc, ◌+◌, ◌≤◌, ℤ, Bool, true, false, List, [], ◌∷◌, length, Option, Some, None, refl, sym, ap, ◌∙◌, subst, arith}
+-- A step in terms of what is held: what is there afterwards is within heap and room, and for all
+-- others the step is interference.
+use Rattle.cap_account_resources.proofs.Tables.{fits-composes, TableFits, NoneOpen, AreListed, FitsRoom, guards_if_new, new_guards, fits-less, fits-later, relies-types}
+use Rattle.cap_account_steps.proofs.SettledTables.{opened-apart}
+use Rattle.std.proofs.Common.{◌≡◌, ◌⊎◌, ℕ, suc, ◌+◌, ◌≤◌, ℤ, Bool, true, false, List, [], ◌∷◌, length, Option, Some, None, refl, sym, ap, ◌∙◌, subst, arith}
 use Rattle.std.specs.Prelude.{slice_get, option_map}
 use Rattle.std.specs.List.{AllByRecursion}
 use Rattle.std.specs.FinMap.{get}
@@ -13,16 +15,14 @@ use Rattle.cap_account_resources.proofs.Covering.{join_marks, IsPartOf}
 use Rattle.cap_account_resources.proofs.Interference.{Relies, guarantees-relies, relies-less}
 use Rattle.cap_account_resources.proofs.Room.{room}
 use Rattle.cap_account_resources.proofs.Stocks.{Stock, both, all_of, Inside, reordered, some-inside, inside-same, inside-trans, inside-first, inside-second, inside-both, inside-cells, inside-guards}
-use Rattle.cap_account_resources.proofs.Tables.{TableFits, NoneOpen, AreListed, FitsRoom, guards_if_new, new_guards, fits-less, fits-later}
 use Rattle.cap_account_resources.proofs.Owners.{Owner, owned, numbers_of}
 use Rattle.cap_account_assertions.proofs.Asserted.{OwnsRegion}
 use Rattle.cap_account_assertions.proofs.Laws.{Reached, Stable}
 use Rattle.cap_account_steps.proofs.Frames.{Roomy}
 use Rattle.cap_account_steps.proofs.Worlds.{Differ, World, opened_at, opened_table, SettlesBy}
 use Rattle.cap_account.proofs.Stocked.{sum_by, known_by, table_by, stock_or_none, share_by, OwnsItsOwn}
-use Rattle.cap_account.proofs.Parts.{fits-composes}
-use Rattle.cap_account.proofs.Chosen.{of-member, has_number, test-all, Looked, found, missing, look, Apart, number-among, if_numbered, unless_numbered, sum-split, owned-sum, of-numbers, numbers-less}
-use Rattle.cap_account.proofs.Renewed.{Shift, the_state, after, free_stock, opened_stock, table-after, guarantees, types-kept, owned-before, own-after}
+use Rattle.cap_account.proofs.Chosen.{of-member, has_number, found, missing, look, Apart, number-among, if_numbered, unless_numbered, sum-split, owned-sum, of-numbers, numbers-less}
+use Rattle.cap_account.proofs.Renewed.{Shift, the_state, after, free_stock, opened_stock, table-after, guarantees, owned-before, own-after}
 
 -- ---- tables of owners
 
@@ -65,23 +65,13 @@ module _ (p : PlainProgram) (T : Table) (rs : List Owner)
       OwnsRegion p T n k args b (share_by rs n)
   owners-own n k args b h =
       let t = told n (known_as k args (Some b)) h in
+      let q = t.0.stock in
       subst (OwnsRegion p T n k args b) (sym t.4)
-      (subst (λ m. OwnsRegion p T m k args b t.0.stock) t.2
-      (subst (λ (e : Known). OwnsRegion p T t.0.number e.kind e.args (the_state e.state b) t.0.stock)
+      (subst (λ m. OwnsRegion p T m k args b q) t.2
+      (subst (λ (e : Known). OwnsRegion p T t.0.number e.kind e.args (the_state e.state b) q)
       t.3 (of-member (OwnsItsOwn p T) t.0 rs t.1 own)))
 
 -- ---- tables in which regions are open
-
-pub opened-not :
-    (ns : List ℤ) (V : Table) (n : ℤ) → (Among n ns → ⊥) → opened_table ns V n ≡ V n
-opened-not ns V n f = elim (test-all n ns) [
-  | inl t ↦ absurd (f t.0)
-  | inr t ↦ ap (λ b. opened_at b (V n)) t.1 ∙ by (V n)
-]
-  where
-    by : (o : Option Known) → opened_at false o ≡ o
-    by None = refl
-    by (Some e) = refl
 
 pub new-opened :
     (p : PlainProgram) (ns : List ℤ) (V U : Table) →
@@ -196,7 +186,7 @@ module _ (p : PlainProgram) (s : Scene p) (heap : Heap) (left : Stock)
     made = ch.by.made;
     settles = ch.by.settles;
     away = λ n f.
-        opened-not ch.entered (table_by s.rs) n (λ m. f (ch.by.all_of_them n m));
+        opened-apart ch.entered (table_by s.rs) n (λ m. f (ch.by.all_of_them n m));
   }
 
   abbrev pub free_regions : Stock
@@ -233,8 +223,8 @@ module _ (p : PlainProgram) (s : Scene p) (heap : Heap) (left : Stock)
       (both p (both p s.part s.others) (owned p s.rs))
   before-inside =
       let more = entered-opened.0 in
-      let atoms = s.part ∷ s.others ∷ E ∷ more ∷ free_regions ∷ [] in
-      subst (λ q. Inside p (both p (both p s.part E) rest_stock) (both p (both p s.part s.others) q))
+      let was = both p s.part s.others in
+      subst (λ q. Inside p (both p (both p s.part E) rest_stock) (both p was q))
       (ap (λ q. both p q free_regions) entered-opened.1 ∙ sym (owned-before p s.rs shift))
       (some-inside p (s.part ∷ s.others ∷ E ∷ more ∷ free_regions ∷ [])
       (plus (plus (at 0) (at 2)) (plus (at 1) (at 4)))
@@ -253,23 +243,6 @@ module _ (p : PlainProgram) (s : Scene p) (heap : Heap) (left : Stock)
       fits-less p (table_by s.rs) (both p (both p s.part E) rest_stock)
       (both p (both p s.part s.others) (owned p s.rs)) before-inside s.room
 
-  pub room-after : FitsRoom p ch.by.U all_after
-  room-after =
-      fits-less p ch.by.U all_after (both p (both p ch.held rest_stock) new) after-inside
-      (fits-later p (table_by s.rs) ch.by.U (both p ch.held rest_stock)
-      (types-kept p s.rs shift) (λ n.
-      subst (λ g. IsPartOf p (join_marks p g (rest_stock.guards n)) (room p (table_by s.rs) n))
-      (sym (ch.recells.guards n)) (room-before n)))
-
-  pub cells-after : (a z : ℤ) → all_after.cells a z ≤ cells_of heap a z
-  cells-after a z =
-      let i = inside-cells p (both p (both p s.part E) rest_stock)
-      (both p (both p s.part s.others) (owned p s.rs)) before-inside a z in
-      let j = s.cells a z in
-      let k = ch.recells.fit a z (rest_stock.cells a z) (omega (arith, i, j)) in
-      let m = inside-cells p all_after (both p (both p ch.held rest_stock) new) after-inside a z in
-      omega (arith, k, m)
-
   -- ---- interference for others
 
   pub relies-rest : Relies p rest_stock.guards (table_by s.rs) ch.by.U
@@ -286,6 +259,26 @@ module _ (p : PlainProgram) (s : Scene p) (heap : Heap) (left : Stock)
   relies-for q le =
       relies-less p q.guards rest_stock.guards (table_by s.rs) ch.by.U
       (inside-guards p q rest_stock le) relies-rest
+
+  -- ---- what all have afterwards
+
+  pub room-after : FitsRoom p ch.by.U all_after
+  room-after =
+      fits-less p ch.by.U all_after (both p (both p ch.held rest_stock) new) after-inside
+      (fits-later p (table_by s.rs) ch.by.U (both p ch.held rest_stock)
+      (relies-types p (table_by s.rs) ch.by.U rest_stock (owners-full p (table_by s.rs) s.rs s.own)
+      relies-rest) (λ n.
+      subst (λ g. IsPartOf p (join_marks p g (rest_stock.guards n)) (room p (table_by s.rs) n))
+      (sym (ch.recells.guards n)) (room-before n)))
+
+  pub cells-after : (a z : ℤ) → all_after.cells a z ≤ cells_of heap a z
+  cells-after a z =
+      let i = inside-cells p (both p (both p s.part E) rest_stock)
+      (both p (both p s.part s.others) (owned p s.rs)) before-inside a z in
+      let j = s.cells a z in
+      let k = ch.recells.fit a z (rest_stock.cells a z) (omega (arith, i, j)) in
+      let m = inside-cells p all_after (both p (both p ch.held rest_stock) new) after-inside a z in
+      omega (arith, k, m)
 
   reached : (q : Stock) → Inside p q free_regions → Reached p (table_by s.rs) ch.by.U q
   reached q le =

@@ -1,11 +1,11 @@
 -- Owners by number, and sums over the chosen ones of a list.
+use Rattle.cap_account_resources.proofs.Lists.{all-map, Among, all-more, all-both}
 use Rattle.std.proofs.Common.{◌≡◌, ◌≢◌, ◌⊎◌, inl, inr, ℤ, Bool, true, false, List, [], ◌∷◌, ◌++◌, map, Option, Some, None, refl, sym, ap, ◌∙◌, subst}
 use Rattle.std.specs.Prelude.{filter, not, ◌||◌, if◌then◌else◌, option_map}
 use Rattle.std.specs.List.{AllByRecursion, list_any}
 use Rattle.cap_lin.specs.Linear.{same_number}
 use Rattle.cap_prog.specs.Program.{PlainProgram}
 use Rattle.cap_machine_accounts.specs.Accounts.{EachTwo}
-use Rattle.cap_account_resources.proofs.Lists.{Among, all-more, all-both}
 use Rattle.cap_account_resources.proofs.Order.{same-int, other-int}
 use Rattle.cap_account_resources.proofs.Monoid.{atom as at, both as plus}
 use Rattle.cap_account_resources.proofs.Stocks.{Stock, no_stock, both, all_of, Inside, stock-laws, none-right, reordered, inside-same, inside-both}
@@ -28,18 +28,12 @@ of-member P x [] m h = absurd m
 of-member P x (y ∷ xs) (inl e) h = subst P e h.0
 of-member P x (y ∷ xs) (inr m) h = of-member P x xs m h.1
 
-pub all-mapped :
-    {A B : Type 0} (f : A → B) (P : B → Type 0) (xs : List A) →
-    AllByRecursion (λ x. P (f x)) xs → AllByRecursion P (map f xs)
-all-mapped f P [] h = tt
-all-mapped f P (x ∷ xs) h = (h.0, all-mapped f P xs h.1)
-
 pub each-two-mapped :
     {A B : Type 0} (f : A → B) (R : B → B → Type 0) (xs : List A) →
     EachTwo (λ x y. R (f x) (f y)) xs → EachTwo R (map f xs)
 each-two-mapped f R [] h = tt
 each-two-mapped f R (x ∷ xs) h =
-    (all-mapped f (R (f x)) xs h.0, each-two-mapped f R xs h.1)
+    (all-map f (R (f x)) xs h.0, each-two-mapped f R xs h.1)
 
 -- ---- numbers that are tested
 

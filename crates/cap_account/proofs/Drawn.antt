@@ -1,5 +1,6 @@
 -- What is drawn out of stocks is taken out of parts: assertions that a stock owns are met by a part
 -- that has it.
+use Rattle.cap_account_resources.proofs.Order.{same-or}
 use Rattle.std.proofs.Common.{◌≡◌, ◌≢◌, inl, inr, ℕ, ℤ, Bool, true, false, List, [], ◌∷◌, Option, Some, None, refl, sym, ap, ◌∙◌, subst, arith}
 use Rattle.std.specs.Prelude.{option_map, if◌then◌else◌}
 use Rattle.std.specs.Ordering.{int_cmp}
@@ -13,7 +14,7 @@ use Rattle.cap_machine_accounts.specs.Assertions.{NameValue, SlotIs, SlotsAre, I
 use Rattle.cap_machine_accounts.specs.Accounts.{OwnedRegion, table_of}
 use Rattle.cap_account_resources.specs.Parts.{Known, known_as, Table}
 use Rattle.cap_account_resources.proofs.Lists.{some-same, none-some}
-use Rattle.cap_account_resources.proofs.Heaps.{same-or, there-in, removed, insert-same, insert-other, remove-same, remove-other}
+use Rattle.cap_account_resources.proofs.Heaps.{there-in, removed, insert-same, insert-other, remove-same, remove-other}
 use Rattle.cap_account_resources.proofs.Marks.{Mark, joins-law}
 use Rattle.cap_account_resources.proofs.Covering.{join_marks}
 use Rattle.cap_account_resources.proofs.Interference.{met-joins, met-guard}

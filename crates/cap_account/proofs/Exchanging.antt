@@ -1,5 +1,6 @@
 -- Parts before and after a step: no cell and no guard is invented.
-use Rattle.std.proofs.Common.{◌≡◌, ◌⊎◌, inl, inr, ◌≤◌, ℤ, Bool, true, false, List, [], ◌∷◌, map, Option, Some, None, refl, sym, ap, ◌∙◌, subst, arith}
+use Rattle.cap_account_resources.proofs.Tables.{fits-composes, FitsRoom, guards_if_new, new_guards}
+use Rattle.std.proofs.Common.{◌≡◌, ◌⊎◌, inl, inr, ℤ, Bool, true, false, List, [], ◌∷◌, Option, Some, None, sym, ap, ◌∙◌, subst, arith}
 use Rattle.std.specs.Prelude.{filter, if◌then◌else◌, option_map}
 use Rattle.std.specs.FinMap.{get}
 use Rattle.cap_lin.specs.Linear.{same_number}
@@ -8,7 +9,7 @@ use Rattle.cap_prog.specs.Program.{PlainProgram}
 use Rattle.cap_machine.specs.Machine.{Heap}
 use Rattle.cap_machine_accounts.specs.Parts.{Guard, IsGuard, GuardAtMost, algebra_of, full_guard, Part, guards_at, Region, region_at}
 use Rattle.cap_machine_accounts.specs.Accounts.{OwnedRegion, table_of}
-use Rattle.cap_machine_accounts.specs.Following.{is_opened, opened_parts, SomeHasCell, IsBound, Exchanges}
+use Rattle.cap_machine_accounts.specs.Following.{is_opened, opened_parts, SomeHasCell, Exchanges}
 use Rattle.cap_account_resources.specs.Parts.{Known, Table}
 use Rattle.cap_account_resources.proofs.Lists.{some-same, none-some}
 use Rattle.cap_account_resources.proofs.Marks.{Mark, free, is-full, is-present}
@@ -16,12 +17,11 @@ use Rattle.cap_account_resources.proofs.Covering.{join_marks, IsPartOf, part-tra
 use Rattle.cap_account_resources.proofs.Interference.{met-joins, met-guard}
 use Rattle.cap_account_resources.proofs.Room.{room, room_of, in-room}
 use Rattle.cap_account_resources.proofs.Stocks.{Stock, both, Inside, inside-cells, inside-guards}
-use Rattle.cap_account_resources.proofs.Tables.{FitsRoom, guards_if_new, new_guards}
 use Rattle.cap_account.proofs.Stocked.{part_stock, sum_by, owner_of, owners, owner_at, known_by, table_by}
 use Rattle.cap_account.proofs.Totals.{parts_stock, sum-map, sum-guards}
-use Rattle.cap_account.proofs.Parts.{plain, plain-is, fits-composes, room-is-guard, cell-counted, counted-cell}
+use Rattle.cap_account.proofs.Parts.{plain, plain-is, room-is-guard, cell-counted, counted-cell}
 use Rattle.cap_account.proofs.Drawn.{tells}
-use Rattle.cap_account.proofs.Chosen.{when, sum-filter, if_numbered}
+use Rattle.cap_account.proofs.Chosen.{sum-filter, if_numbered}
 use Rattle.cap_account.proofs.Changes.{Recells}
 
 -- ---- the parts of opened regions, as stocks

@@ -1,31 +1,29 @@
 -- The account after a step follows the one before.
-use Rattle.std.proofs.Common.{◌≡◌, ◌⊎◌, inl, inr, ℕ, ◌≤◌, ℤ, List, [], ◌∷◌, ◌++◌, map, length, Option, Some, None, refl, sym, ap, ◌∙◌, subst, arith}
+use Rattle.std.proofs.Common.{◌≡◌, inl, inr, ◌≤◌, ℤ, List, [], ◌∷◌, ◌++◌, map, Some, None, refl, sym, ap, ◌∙◌, subst, arith}
 use Rattle.std.specs.Prelude.{IsTrue}
-use Rattle.std.specs.List.{AllByRecursion}
-use Rattle.cap_lin.specs.Linear.{same_number}
 use Rattle.cap_prog.specs.Program.{PlainProgram}
 use Rattle.cap_machine.specs.declared.event.Event.{Event}
 use Rattle.cap_machine_accounts.specs.Parts.{Part, guard_at, Region, region_at}
 use Rattle.cap_machine_accounts.specs.Assertions.{Acts}
 use Rattle.cap_machine_accounts.specs.Accounts.{Held, OwnedRegion, table_of, CellsWithin, GuardsFit}
-use Rattle.cap_machine_accounts.specs.Following.{is_opened, Moves, FollowsRegion, opened_parts, Stepping, FramesFollow, accesses, SomeHasCell, parts_after, Follows}
+use Rattle.cap_machine_accounts.specs.Following.{is_opened, Moves, FollowsRegion, opened_parts, Stepping, FramesFollow, accesses, SomeHasCell, Follows}
 use Rattle.cap_account_resources.specs.Parts.{Known, known_as, Table}
-use Rattle.cap_account_resources.proofs.Lists.{some-same, Among, all-more, map-length}
+use Rattle.cap_account_resources.proofs.Lists.{some-same, Among, all-more}
 use Rattle.cap_account_resources.proofs.Interference.{can-acts}
-use Rattle.cap_account_resources.proofs.Stocks.{Stock, both, all_of, Inside, inside-same, inside-first, inside-both, inside-cells, inside-is, inside-trans}
+use Rattle.cap_account_resources.proofs.Stocks.{Stock, both, all_of, Inside, inside-same, inside-first, inside-both, inside-cells}
 use Rattle.cap_account_resources.proofs.Tables.{FitsRoom, new_guards, fits-less}
 use Rattle.cap_account_resources.proofs.Owners.{Owner, owned, numbers_of}
 use Rattle.cap_account_states.proofs.Checked.{Checked}
-use Rattle.cap_account_assertions.proofs.Laws.{IsOwner, Stable}
-use Rattle.cap_account.proofs.Stocked.{part_stock, sum_by, owner_of, owners, owner_at, known_by, table_by, share_by, account_table, Turn}
+use Rattle.cap_account_assertions.proofs.Laws.{Stable}
+use Rattle.cap_account.proofs.Stocked.{part_stock, sum_by, owner_of, owner_at, known_by, table_by, share_by, account_table, Turn}
 use Rattle.cap_account.proofs.Totals.{parts_stock, sum-join, owners-sum}
 use Rattle.cap_account.proofs.Parts.{fits-guards, Together, all-apart, counted-cell}
 use Rattle.cap_account.proofs.Drawn.{tells}
-use Rattle.cap_account.proofs.Chosen.{members, of-member, test-all, Looked, found, missing, look, number-among, if_numbered}
+use Rattle.cap_account.proofs.Chosen.{members, test-all, found, missing, look, number-among, if_numbered}
 use Rattle.cap_account.proofs.Renewed.{from, renewed, known-at, known-after, guarantees, closed-sum, closed-numbers, opened_stock, free_stock, owned-before, made-known}
 use Rattle.cap_account.proofs.Changes.{Scene, Change, entered_stock, roomy, shift, step_stock, rest_stock, all_after, step-budget, entered-opened, room-after, cells-after}
 use Rattle.cap_account.proofs.Exchanging.{opened-sum, region-told, parts-compose, Exchanged, exchanges}
-use Rattle.cap_account.proofs.Successors.{others, scene, kept_of, made_of, region-among, follow-each, Stride, cut, kept, news, account, kept-are, news-are}
+use Rattle.cap_account.proofs.Successors.{others, scene, kept_of, region-among, follow-each, Stride, cut, kept, news, account, kept-are, news-are}
 
 abbrev pub stepping : {p : Checked} → Turn p → Stepping
 stepping x = record {
@@ -74,7 +72,8 @@ module _ (p : Checked) (stable : Stable p.program) (x : Turn p) (y : Stride p x)
       let o = owner_of r in
       let k = region-among x.a.regions r m in
       let did = guarantees P s.rs sh o.number o.kind o.args o.state (known-at P s.rs sh o k) in
-      let new = from (λ (o : Owner). o.state) r.region.state (owner_at ch.by.closed r.region.number) in
+      let mine = owner_at ch.by.closed r.region.number in
+      let new = from (λ (o : Owner). o.state) r.region.state mine in
       let same : did.0 ≡ new = some-same did.0 new
       (ap (λ (e : Known). e.state)
       (some-same (known_as o.kind o.args (Some did.0)) (known_by (renewed ch.by.closed o))
@@ -131,7 +130,8 @@ module _ (p : Checked) (stable : Stable p.program) (x : Turn p) (y : Stride p x)
 
   pub after-is :
       (lefts : List Part) → parts_stock p.program lefts ≡ y.left →
-      parts_stock p.program (lefts ++ behind) ≡ step_stock p.program (scene p x) y.heap y.left y.change
+      parts_stock p.program (lefts ++ behind)
+      ≡ step_stock p.program (scene p x) y.heap y.left y.change
   after-is lefts e =
       sum-join P part_stock lefts behind
       ∙ ap (λ q. both P q (parts_stock P behind)) e

@@ -2,17 +2,17 @@
 use Rattle.std.proofs.Common.{◌≡◌, ℕ, ℤ, List, [], ◌∷◌, ◌++◌, map, length, Option, Some, None, refl, sym, ap, ◌∙◌, subst}
 use Rattle.std.specs.Prelude.{slice_get, slice_set, IsSomeAnd}
 use Rattle.cap_lin.specs.Linear.{Linear}
-use Rattle.cap_prog.specs.Program.{PlainProgram, PlainFunction, Label, PlainAct, call, fork, Block, first}
+use Rattle.cap_prog.specs.Program.{PlainProgram, PlainFunction, Label, call, fork, Block, first}
 use Rattle.cap_prog.specs.WellFormed.{CallFits}
-use Rattle.cap_machine.specs.Machine.{Frame, Thread, Configuration, value_in, with_rest, new_frame, calls, forks, does}
+use Rattle.cap_machine.specs.Machine.{value_in, with_rest, new_frame, calls, forks, does}
 use Rattle.cap_machine.specs.declared.event.Event.TheVariants.{Call, Fork}
-use Rattle.cap_machine_accounts.specs.Parts.{Part, no_part}
+use Rattle.cap_machine_accounts.specs.Parts.{no_part}
 use Rattle.cap_machine_accounts.specs.Assertions.{NameValue, MeetsRequires, Met}
 use Rattle.cap_machine_accounts.specs.Accounts.{Held, table_of}
-use Rattle.cap_machine_accounts.specs.Following.{accesses, SomeHasCell}
-use Rattle.cap_machine_accounts.specs.Safety.{top_of, TopFrame}
+use Rattle.cap_machine_accounts.specs.Following.{SomeHasCell}
+use Rattle.cap_machine_accounts.specs.Safety.{top_of}
 use Rattle.cap_account_resources.specs.Parts.{Table}
-use Rattle.cap_account_resources.proofs.Lists.{some-same, within, get-set-same, get-last, set-length, map-length}
+use Rattle.cap_account_resources.proofs.Lists.{within, get-set-same, get-last, set-length, map-length}
 use Rattle.cap_account_resources.proofs.Monoid.{none as empty, atom as at, both as plus}
 use Rattle.cap_account_resources.proofs.Interference.{relies-same}
 use Rattle.cap_account_resources.proofs.Stocks.{Stock, no_stock, both, Inside, reordered, inside-trans, inside-first, inside-second, inside-is}
@@ -23,7 +23,7 @@ use Rattle.cap_account_assertions.proofs.Laws.{Stable}
 use Rattle.cap_account_steps.proofs.Points.{point-act}
 use Rattle.cap_account_steps.proofs.Frames.{Stands, Roomy, Waits, Hands}
 use Rattle.cap_account_steps.proofs.Statements.{Statements}
-use Rattle.cap_account.proofs.Stocked.{part_stock, frames_stock, account_table, callee_of, StackStands, Turn, spot_of}
+use Rattle.cap_account.proofs.Stocked.{part_stock, frames_stock, account_table, Turn, spot_of}
 use Rattle.cap_account.proofs.Totals.{parts_stock}
 use Rattle.cap_account.proofs.Parts.{fits-guards}
 use Rattle.cap_account.proofs.Drawn.{Has, requires-met, ensures-met}

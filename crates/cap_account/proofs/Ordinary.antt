@@ -1,6 +1,6 @@
 -- Statements that touch no region: a local is set, a branch is taken, a check holds, and cells are
 -- allocated.
-use Rattle.std.proofs.Common.{◌≡◌, ◌⊎◌, inl, inr, ℕ, zero, suc, ◌+◌, ◌≤◌, ℤ, pos, ◌≤ℤ◌, Bool, true, false, List, ◌∷◌, Option, Some, None, refl, sym, ap, ◌∙◌, subst, arith}
+use Rattle.std.proofs.Common.{◌≡◌, ◌⊎◌, inl, inr, ℕ, zero, suc, ◌+◌, ◌≤◌, ℤ, pos, ◌≤ℤ◌, Bool, true, false, ◌∷◌, Option, Some, None, refl, sym, ap, ◌∙◌, subst, arith}
 use Rattle.std.specs.Prelude.{int_le, if◌then◌else◌}
 use Rattle.std.specs.FinMap.{get}
 use Rattle.std.proofs.lemmas.Int.{ints}
@@ -8,11 +8,8 @@ use Rattle.cap_lin.specs.Linear.{Linear}
 use Rattle.cap_prog.specs.declared.assertion.Comp.{Comp}
 use Rattle.cap_prog.specs.Program.{PlainProgram, Label, PlainAct, set, alloc, branch, check, Block, first, append}
 use Rattle.cap_machine.specs.Machine.{Heap, Frame, fault, disabled, value_in, holds, with_rest, with_value, passes, sets, with_cells, are_free, may_be_at, does}
-use Rattle.cap_machine.specs.declared.event.Event.{Event}
 use Rattle.cap_machine.specs.declared.event.Event.TheVariants.{Set, Alloc, Branch, Assert, Failed}
-use Rattle.cap_machine_accounts.specs.Parts.{no_part}
-use Rattle.cap_machine_accounts.specs.Following.{StaysOn, FramesFollow, accesses, SomeHasCell}
-use Rattle.cap_machine_accounts.specs.Safety.{KeepsContracts}
+use Rattle.cap_machine_accounts.specs.Following.{accesses, SomeHasCell}
 use Rattle.cap_account_resources.specs.Parts.{Table, cells_of}
 use Rattle.cap_account_resources.proofs.Lists.{some-same}
 use Rattle.cap_account_resources.proofs.Heaps.{counted-is, count-one, count-at-most, fresh_cells, allocated, both-true}
@@ -26,8 +23,8 @@ use Rattle.cap_account_steps.proofs.Frames.{Sits, Stands}
 use Rattle.cap_account_steps.proofs.Statements.{Before, Statements}
 use Rattle.cap_account.proofs.Stocked.{part_stock, account_table, callee_of, AllWait, Turn, spot_of}
 use Rattle.cap_account.proofs.Changes.{Recells}
-use Rattle.cap_account.proofs.Following.{stepping, before}
-use Rattle.cap_account.proofs.Strides.{recelling, still, Goes, no-access, mine, later_threads, goes-on}
+use Rattle.cap_account.proofs.Following.{before}
+use Rattle.cap_account.proofs.Strides.{recelling, still, Goes, no-access, goes-on}
 
 -- the stepping frame stands at these statements
 abbrev pub StandsAt : (p : Checked) → Turn p → Block → Type 0

@@ -1,5 +1,7 @@
 -- Parts and stocks: what a stock within a heap and a table's room holds is a part, its guards are
 -- guards of their types, and the cells of parts that are together within a heap are apart.
+use Rattle.cap_account_resources.proofs.Tables.{fits-composes, AreListed, FitsRoom}
+use Rattle.cap_account_resources.proofs.Order.{same-or, same-refl}
 use Rattle.std.proofs.Common.{◌≡◌, ◌≢◌, ◌⊎◌, inl, inr, ℕ, zero, suc, ◌≤◌, ℤ, Bool, true, false, List, [], ◌∷◌, Option, Some, None, refl, sym, ap, ◌∙◌, subst, arith, cond}
 use Rattle.std.specs.List.{AllByRecursion}
 use Rattle.std.specs.Ordering.{int_cmp}
@@ -12,13 +14,11 @@ use Rattle.cap_machine_accounts.specs.Accounts.{EachTwo, CellsApart, CellsWithin
 use Rattle.cap_machine_accounts.specs.Following.{SomeHasCell}
 use Rattle.cap_account_resources.specs.Parts.{Cells, once, count_of, cells_of, Known, Table}
 use Rattle.cap_account_resources.proofs.Lists.{some-same, none-some, all-more, Among}
-use Rattle.cap_account_resources.proofs.Order.{same-refl}
-use Rattle.cap_account_resources.proofs.Heaps.{same-or, insert-same, insert-other, count-at-most, counted-is, count-one}
-use Rattle.cap_account_resources.proofs.Marks.{Mark, free, is-element, is-present}
+use Rattle.cap_account_resources.proofs.Heaps.{insert-same, insert-other, count-at-most, counted-is, count-one}
+use Rattle.cap_account_resources.proofs.Marks.{Mark, is-element, is-present}
 use Rattle.cap_account_resources.proofs.Covering.{IsPartOf}
-use Rattle.cap_account_resources.proofs.Room.{room, room-some, part-some, InRoom, in-room}
+use Rattle.cap_account_resources.proofs.Room.{room, InRoom, in-room}
 use Rattle.cap_account_resources.proofs.Stocks.{Stock, both, Inside, same-stock, inside-cells}
-use Rattle.cap_account_resources.proofs.Tables.{AreListed, FitsRoom}
 use Rattle.cap_account.proofs.Stocked.{part_stock}
 use Rattle.cap_account.proofs.Totals.{parts_stock, sum-each}
 
@@ -134,10 +134,6 @@ part_for heap ns q = record {
 }
 
 module _ (p : PlainProgram) (T : Table) where
-  -- what is within the room composes, and of numbers that are not in the table it is free
-  pub fits-composes : (q : Stock) → FitsRoom p T q → (n : ℤ) → q.guards n ≢ None
-  fits-composes q h n = part-some p (q.guards n) (room p T n) (h n) (room-some p T n)
-
   fits-free : (n : ℤ) (o : Option Mark) → IsPartOf p o (room p T n) → T n ≡ None → plain o ≡ None
   fits-free n None h e = refl
   fits-free n (Some None) h e = refl
@@ -157,7 +153,7 @@ module _ (p : PlainProgram) (T : Table) where
       same-stock (part_stock (part_for heap ns q)) q (held-are heap q.cells le) (λ n.
       ap Some (tabled-is ns (λ k. plain (q.guards k))
       (λ k f. fits-free k (q.guards k) (roomy k) (not-listed ns listed k f (T k) refl)) n)
-      ∙ plain-is (q.guards n) (fits-composes q roomy n))
+      ∙ plain-is (q.guards n) (fits-composes p T q roomy n))
 
   -- ---- guards within the room
 

@@ -1,21 +1,19 @@
--- The regions after a step: those that were opened are closed with other states and stocks, made ones
--- come last, and the others are as they were.
-use Rattle.std.proofs.Common.{◌≡◌, ◌≢◌, ◌⊎◌, inl, inr, ℤ, Bool, true, false, List, [], ◌∷◌, ◌++◌, map, Option, Some, None, refl, sym, ap, ◌∙◌, subst}
+-- The regions after a step: those that were opened are closed with other states and stocks, made
+-- ones come last, and the others are as they were.
+use Rattle.cap_account_resources.proofs.Lists.{all-map, some-same, none-some, Among, all-more, all-both}
+use Rattle.std.proofs.Common.{◌≡◌, ◌≢◌, ◌⊎◌, inl, inr, ℤ, List, [], ◌∷◌, ◌++◌, map, Option, Some, None, refl, sym, ap, ◌∙◌, subst}
 use Rattle.std.specs.Prelude.{not, option_map}
 use Rattle.std.specs.List.{AllByRecursion}
 use Rattle.cap_prog.specs.Program.{PlainProgram}
-use Rattle.cap_machine_accounts.specs.Accounts.{EachTwo}
 use Rattle.cap_account_resources.specs.Parts.{Known, known_as, Table}
-use Rattle.cap_account_resources.proofs.Lists.{some-same, none-some, Among, all-more, all-both}
 use Rattle.cap_account_resources.proofs.Interference.{Can, Guarantees}
 use Rattle.cap_account_resources.proofs.Stocks.{Stock, both, all_of, Inside}
-use Rattle.cap_account_resources.proofs.Tables.{KeepsTypes}
 use Rattle.cap_account_resources.proofs.Owners.{Owner, owned, numbers_of, owned-join}
 use Rattle.cap_account_assertions.proofs.Laws.{IsOwner, Reached, Stable}
-use Rattle.cap_account_steps.proofs.Worlds.{Differ, HasMoved, Settles}
+use Rattle.cap_account_steps.proofs.Worlds.{HasMoved, Settles}
 use Rattle.cap_account.proofs.Stocked.{sum_by, owner_at, known_by, table_by, stock_or_none, share_by, OwnsItsOwn}
 use Rattle.cap_account.proofs.Totals.{sum-map, sum-each}
-use Rattle.cap_account.proofs.Chosen.{members, of-member, all-mapped, each-two-mapped, has_number, test-all, Looked, found, missing, look, Apart, at-itself, number-among, apart-join, first_some, at-join, at-mapped, when, sum-alike, sum-same, sum-split, if_numbered, unless_numbered, owned-sum, of-numbers}
+use Rattle.cap_account.proofs.Chosen.{members, of-member, each-two-mapped, has_number, test-all, found, missing, look, Apart, at-itself, number-among, apart-join, first_some, at-join, at-mapped, when, sum-alike, sum-split, if_numbered, unless_numbered, owned-sum, of-numbers}
 
 -- ---- the owners afterwards
 
@@ -198,7 +196,7 @@ module _ (p : PlainProgram) (rs : List Owner) (s : Shift p rs) where
       (each-two-mapped (renewed s.closed) (λ r q. r.number ≢ q.number) rs s.differ)
       s.settles.made_differ (λ r m k.
       of-member (λ (r : Owner). Among r.number (numbers_of s.made) → ⊥) r later m
-      (all-mapped (renewed s.closed) (λ r. Among r.number (numbers_of s.made) → ⊥) rs
+      (all-map (renewed s.closed) (λ r. Among r.number (numbers_of s.made) → ⊥) rs
       (all-more (λ r. Among r rs) (λ r. Among r.number (numbers_of s.made) → ⊥)
       (λ r m k. elim (look s.made r.number) [
         | found o j e q ↦
@@ -233,19 +231,6 @@ module _ (p : PlainProgram) (rs : List Owner) (s : Shift p rs) where
         (subst (λ n. Allowed n (known_as o.kind o.args (Some was.state))) e
         (o.state, (closed-owner o m).known, was.moves))
     | missing f q ↦ (b, stays-known n (known_as k args (Some b)) h f, inl refl)
-  ]
-
-  pub types-kept : KeepsTypes V s.U
-  types-kept n e h = elim (look s.closed n) [
-    | found o m q t ↦
-        let was = has-moved o m in (
-          known_by o,
-          ap s.U (sym q) ∙ (closed-owner o m).known,
-          ap (λ (y : Known). y.kind)
-              (some-same (known_as o.kind o.args (Some was.state)) e
-              (sym was.was ∙ ap V q ∙ h)),
-        )
-    | missing f t ↦ (e, stays-known n e h f, refl)
   ]
 
   -- ---- what they own
@@ -340,7 +325,7 @@ module _ (p : PlainProgram) (rs : List Owner) (s : Shift p rs) where
       AllByRecursion (OwnsItsOwn p s.U) after
   own-after stable own reached =
       all-both (OwnsItsOwn p s.U) later s.made
-      (all-mapped (renewed s.closed) (OwnsItsOwn p s.U) rs
+      (all-map (renewed s.closed) (OwnsItsOwn p s.U) rs
       (all-more (λ r. Among r rs) (λ r. OwnsItsOwn p s.U (renewed s.closed r)) old rs
       (members rs)))
       (all-more (IsOwner p s.U) (OwnsItsOwn p s.U) (λ o i. i.owns) s.made s.settles.made_owners)

@@ -4,27 +4,26 @@ use Rattle.std.specs.Prelude.{slice_get, slice_set, if◌then◌else◌}
 use Rattle.std.specs.FinMap.{get}
 use Rattle.cap_lin.specs.Linear.{Linear}
 use Rattle.cap_prog.specs.declared.assertion.Comp.{Comp}
-use Rattle.cap_prog.specs.Program.{PlainProgram, PlainFunction, PlainAssertion, Label, PlainAct, set, read, write, cas, alloc, call, fork, branch, loop, check, give_back, Block, done, first, append}
-use Rattle.cap_machine.specs.Machine.{Heap, Frame, Configuration, next, value_in, holds, with_rest, passes, receives, returns, does, statement_step}
+use Rattle.cap_prog.specs.Program.{PlainProgram, PlainFunction, PlainAssertion, Label, set, read, write, cas, alloc, call, fork, branch, loop, check, give_back, Block, done, first, append}
+use Rattle.cap_machine.specs.Machine.{Frame, value_in, holds, with_rest, passes, receives, returns, does, statement_step}
 use Rattle.cap_machine.specs.declared.event.Event.TheVariants.{Branch, Return, End}
-use Rattle.cap_machine_accounts.specs.Parts.{Part, no_part, guard_at}
+use Rattle.cap_machine_accounts.specs.Parts.{Part, guard_at}
 use Rattle.cap_machine_accounts.specs.Assertions.{Met}
 use Rattle.cap_machine_accounts.specs.Accounts.{Held, table_of}
-use Rattle.cap_machine_accounts.specs.Following.{Joins, accesses, SomeHasCell}
+use Rattle.cap_machine_accounts.specs.Following.{Joins, SomeHasCell}
 use Rattle.cap_machine_accounts.specs.Safety.{top_of, TopFrame}
 use Rattle.cap_account_resources.specs.Parts.{Table, cells_of}
 use Rattle.cap_account_resources.proofs.Heaps.{counted-is, count-one}
-use Rattle.cap_account_resources.proofs.Monoid.{none as empty, atom as at, both as plus}
+use Rattle.cap_account_resources.proofs.Monoid.{atom as at, both as plus}
 use Rattle.cap_account_resources.proofs.Interference.{relies-same}
 use Rattle.cap_account_resources.proofs.Stocks.{Stock, no_stock, both, Inside, stock-laws, none-right, reordered, inside-trans, inside-first, inside-is, inside-both, inside-same}
 use Rattle.cap_account_resources.proofs.Tables.{new_guards}
 use Rattle.cap_account_resources.proofs.Owners.{owned}
 use Rattle.cap_account_states.proofs.Checked.{Checked}
 use Rattle.cap_account_assertions.proofs.Laws.{Stable}
-use Rattle.cap_account_steps.proofs.Points.{Point, FrameOk, point-next, point-again, ok-rest}
-use Rattle.cap_account_steps.proofs.Frames.{Stands, Waits, HandsOver, GivesUp, Returns}
+use Rattle.cap_account_steps.proofs.Frames.{Stands, HandsOver, Returns}
 use Rattle.cap_account_steps.proofs.Statements.{Statements}
-use Rattle.cap_account.proofs.Stocked.{part_stock, sum_by, frames_stock, account_table, Callee, callee_of, AllWait, Turn, spot_of, Advances}
+use Rattle.cap_account.proofs.Stocked.{part_stock, frames_stock, account_table, callee_of, AllWait, Turn, spot_of, Advances}
 use Rattle.cap_account.proofs.Totals.{parts_stock, sum-guards}
 use Rattle.cap_account.proofs.Changes.{roomy}
 use Rattle.cap_account.proofs.Successors.{others, scene, Stride, all, cut, cut-is, kept, news, account, left-inside, handed-fits, handed-within}
@@ -201,7 +200,8 @@ module _ (p : Checked) (ls : Statements p) (stable : Stable p.program) (x : Turn
     -- whoever waits
     leaves :
         (fs : List Frame) (hs : List Held) → x.waiting ≡ hs →
-        AllWait p gives.over.U (callee_of x.frame x.held) fs hs → Goes p x (returns (spot_of x) v fs)
+        AllWait p gives.over.U (callee_of x.frame x.held) fs hs →
+        Goes p x (returns (spot_of x) v fs)
     leaves [] [] e w = ends e
     leaves [] (h ∷ hs) e w = absurd w
     leaves (f ∷ fs) [] e w = absurd w

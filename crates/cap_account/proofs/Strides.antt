@@ -1,27 +1,27 @@
 -- Steps that open no region, and how the stepping frame goes on.
-use Rattle.std.proofs.Common.{◌≡◌, inl, inr, ℕ, ◌+◌, ◌≤◌, ℤ, List, [], ◌∷◌, Option, Some, None, refl, sym, ap, ◌∙◌, subst, arith}
-use Rattle.std.specs.Prelude.{slice_get, slice_set}
-use Rattle.cap_prog.specs.Program.{PlainProgram, Block}
-use Rattle.cap_machine.specs.Machine.{Heap, Frame, Configuration, Outcome, next, with_rest}
+use Rattle.cap_account_steps.proofs.SettledTables.{opened-apart}
+use Rattle.std.proofs.Common.{◌≡◌, inl, inr, ℤ, List, [], ◌∷◌, Option, Some, None, refl, sym, ap, ◌∙◌, subst, arith}
+use Rattle.std.specs.Prelude.{slice_set}
+use Rattle.cap_prog.specs.Program.{PlainProgram}
+use Rattle.cap_machine.specs.Machine.{Heap, Frame, Outcome, next}
 use Rattle.cap_machine.specs.declared.event.Event.{Event}
-use Rattle.cap_machine_accounts.specs.Parts.{Part, no_part}
+use Rattle.cap_machine_accounts.specs.Parts.{no_part}
 use Rattle.cap_machine_accounts.specs.Accounts.{Held}
 use Rattle.cap_machine_accounts.specs.Following.{StaysOn, FramesFollow, accesses, SomeHasCell}
 use Rattle.cap_machine_accounts.specs.Safety.{KeepsContracts}
-use Rattle.cap_account_resources.specs.Parts.{Table, cells_of}
-use Rattle.cap_account_resources.proofs.Lists.{none-some, Among, all-more}
+use Rattle.cap_account_resources.specs.Parts.{Table}
+use Rattle.cap_account_resources.proofs.Lists.{none-some}
 use Rattle.cap_account_resources.proofs.Covering.{free-right}
-use Rattle.cap_account_resources.proofs.Stocks.{Stock, no_stock, both, Inside, stock-laws, none-right, inside-same, inside-trans, inside-first, inside-is}
+use Rattle.cap_account_resources.proofs.Stocks.{Stock, no_stock, both, Inside, stock-laws, none-right, inside-trans, inside-first, inside-is}
 use Rattle.cap_account_resources.proofs.Tables.{new_guards}
-use Rattle.cap_account_resources.proofs.Owners.{Owner, owned, numbers_of}
+use Rattle.cap_account_resources.proofs.Owners.{Owner, owned}
 use Rattle.cap_account_states.proofs.Checked.{Checked}
 use Rattle.cap_account_assertions.proofs.Laws.{Made, Stable}
 use Rattle.cap_account_steps.proofs.Frames.{Stands, HandsOver}
 use Rattle.cap_account_steps.proofs.Worlds.{opened_table, Settles}
 use Rattle.cap_account.proofs.Stocked.{part_stock, frames_stock, account_table, callee_of, AllWait, Sound, Turn, Followed}
-use Rattle.cap_account.proofs.Totals.{parts_stock}
-use Rattle.cap_account.proofs.Changes.{Recells, opened-not, new-opened}
-use Rattle.cap_account.proofs.Successors.{others, scene, Stride, all, cut, cut-is, account, left-inside, nothing-fits, nothing-within}
+use Rattle.cap_account.proofs.Changes.{Recells, new-opened}
+use Rattle.cap_account.proofs.Successors.{others, Stride, all, cut, cut-is, account, left-inside, nothing-fits, nothing-within}
 use Rattle.cap_account.proofs.Following.{stepping, before, follows}
 use Rattle.cap_account.proofs.Succeeding.{moved}
 
@@ -38,7 +38,7 @@ module _ (p : Checked) (x : Turn p) where
   part = part_stock x.held.part
 
   none-opened : opened_table [] (account_table x.a) ≡ account_table x.a
-  none-opened i n = opened-not [] V n (λ m. m) i
+  none-opened i n = opened-apart [] V n (λ m. m) i
 
   pub settles-made :
       (U : Table) (new : List Owner) → Made p.program V U new →

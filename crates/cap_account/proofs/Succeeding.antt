@@ -1,26 +1,26 @@
 -- What other frames have stays: after a step the account is sound where the stepping thread's stack
 -- stands.
-use Rattle.std.proofs.Common.{◌≡◌, ◌≢◌, ℕ, zero, suc, ◌+◌, ◌≤◌, ℤ, List, [], ◌∷◌, ◌++◌, length, Some, refl, sym, ap, ◌∙◌, subst, arith}
+use Rattle.std.proofs.Common.{◌≡◌, ◌≢◌, ℕ, zero, suc, ◌+◌, List, [], ◌∷◌, ◌++◌, length, Some, refl, sym, ap, ◌∙◌, subst, arith}
 use Rattle.std.specs.Prelude.{slice_get, slice_set, remove}
 use Rattle.std.specs.List.{AllByRecursion}
 use Rattle.cap_prog.specs.Program.{PlainProgram}
 use Rattle.cap_machine.specs.Machine.{Frame, Thread}
 use Rattle.cap_machine_accounts.specs.Accounts.{Held}
-use Rattle.cap_account_resources.specs.Parts.{Table, cells_of}
+use Rattle.cap_account_resources.specs.Parts.{Table}
 use Rattle.cap_account_resources.proofs.Lists.{some-same, none-some, set-length, push-length}
 use Rattle.cap_account_resources.proofs.Monoid.{atom as at, both as plus}
 use Rattle.cap_account_resources.proofs.Interference.{Relies}
 use Rattle.cap_account_resources.proofs.Stocks.{Stock, both, Inside, reordered, inside-same, inside-trans, inside-first, inside-second, inside-both, inside-cells}
 use Rattle.cap_account_resources.proofs.Tables.{FitsRoom, fits-less}
-use Rattle.cap_account_resources.proofs.Owners.{Owner, owned}
+use Rattle.cap_account_resources.proofs.Owners.{owned}
 use Rattle.cap_account_states.proofs.Checked.{Checked}
 use Rattle.cap_account_assertions.proofs.Laws.{Stable}
 use Rattle.cap_account_steps.proofs.Frames.{stands-on, waits-on}
-use Rattle.cap_account.proofs.Stocked.{part_stock, sum_by, frames_stock, threads_stock, owners, account_table, account_stock, Callee, callee_of, AllWait, StackStands, EachStands, OwnsItsOwn, Sound, Turn}
+use Rattle.cap_account.proofs.Stocked.{part_stock, sum_by, frames_stock, threads_stock, owners, account_table, Callee, callee_of, AllWait, StackStands, EachStands, OwnsItsOwn, Sound, Turn}
 use Rattle.cap_account.proofs.Totals.{sum-set, sum-last}
 use Rattle.cap_account.proofs.Chosen.{Apart}
 use Rattle.cap_account.proofs.Renewed.{apart-after, owned-after}
-use Rattle.cap_account.proofs.Changes.{Scene, Change, shift, free_regions, step_stock, rest_stock, room-after, cells-after, relies-for, regions_after, own-regions}
+use Rattle.cap_account.proofs.Changes.{Scene, Change, shift, free_regions, rest_stock, room-after, cells-after, relies-for, own-regions}
 use Rattle.cap_account.proofs.Successors.{others, scene, Stride, all, kept, news, account, owners-are, table-is}
 
 -- ---- lists of stacks with one changed, or one more
@@ -104,8 +104,9 @@ module _ (p : Checked) (V U : Table) (most : Stock)
       let q = part_stock h.part in
       let qs = frames_stock p.program hs in (
         waits-on p q V U h.fixed f y.destination y.function y.arguments y.fixed
-            (led q (inside-trans p.program q (both p.program q qs) most (inside-first p.program q qs)
-            le)) w.0,
+            (led q
+            (inside-trans p.program q (both p.program q qs) most (inside-first p.program q qs) le))
+            w.0,
         waits-later (callee_of f h) fs hs
             (inside-trans p.program qs (both p.program q qs) most (inside-second p.program q qs) le)
             w.1,
@@ -121,8 +122,9 @@ module _ (p : Checked) (V U : Table) (most : Stock)
       let q = part_stock h.part in
       let qs = frames_stock p.program hs in (
         stands-on p q V U h.fixed f
-            (led q (inside-trans p.program q (both p.program q qs) most (inside-first p.program q qs)
-            le)) s.0,
+            (led q
+            (inside-trans p.program q (both p.program q qs) most (inside-first p.program q qs) le))
+            s.0,
         waits-later (callee_of f h) fs hs
             (inside-trans p.program qs (both p.program q qs) most (inside-second p.program q qs) le)
             s.1,

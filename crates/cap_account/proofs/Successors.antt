@@ -1,33 +1,29 @@
 -- The account after a step, by what the step leaves of regions and frames, and that it follows.
-use Rattle.std.proofs.Common.{◌≡◌, ◌⊎◌, inl, inr, ℕ, ◌≤◌, ℤ, List, [], ◌∷◌, ◌++◌, map, length, Option, Some, None, refl, sym, ap, ◌∙◌, subst, arith}
-use Rattle.std.specs.Prelude.{remove, IsTrue}
+use Rattle.std.proofs.Common.{◌≡◌, inl, inr, ◌≤◌, ℤ, List, [], ◌∷◌, ◌++◌, map, refl, sym, ap, ◌∙◌, subst, arith}
+use Rattle.std.specs.Prelude.{remove}
 use Rattle.std.specs.List.{AllByRecursion}
-use Rattle.std.specs.FinMap.{get, get-empty}
+use Rattle.std.specs.FinMap.{get-empty}
 use Rattle.std.specs.Ordering.{int_cmp}
 use Rattle.cap_prog.specs.Program.{PlainProgram}
 use Rattle.cap_machine.specs.Machine.{Heap}
-use Rattle.cap_machine.specs.declared.event.Event.{Event}
-use Rattle.cap_machine_accounts.specs.Parts.{Part, no_part, guard_at}
-use Rattle.cap_machine_accounts.specs.Accounts.{Held, OwnedRegion, Account, table_of, table, EachTwo, CellsApart, CellsWithin, GuardsFit}
-use Rattle.cap_machine_accounts.specs.Following.{is_opened, FollowsRegion, FollowRegions, opened_parts, Stepping, FramesFollow, accesses, SomeHasCell, parts_after, Follows}
-use Rattle.cap_account_resources.specs.Parts.{Known, known_as, Table, cells_of}
-use Rattle.cap_account_resources.proofs.Lists.{some-same, none-some, Among, all-more, map-join, map-length}
+use Rattle.cap_machine_accounts.specs.Parts.{Part, no_part}
+use Rattle.cap_machine_accounts.specs.Accounts.{Held, OwnedRegion, Account, table_of, CellsWithin, GuardsFit}
+use Rattle.cap_machine_accounts.specs.Following.{FollowsRegion, FollowRegions}
+use Rattle.cap_account_resources.specs.Parts.{cells_of}
+use Rattle.cap_account_resources.proofs.Lists.{none-some, Among, all-more, map-join}
 use Rattle.cap_account_resources.proofs.Monoid.{atom as at, both as plus}
-use Rattle.cap_account_resources.proofs.Interference.{can-acts}
-use Rattle.cap_account_resources.proofs.Stocks.{Stock, both, Inside, stock-laws, reordered, some-inside, inside-trans, inside-first, inside-second, inside-both, inside-same, inside-cells, inside-is}
+use Rattle.cap_account_resources.proofs.Stocks.{Stock, both, Inside, stock-laws, some-inside, inside-trans, inside-cells}
 use Rattle.cap_account_resources.proofs.Tables.{FitsRoom, fits-less}
 use Rattle.cap_account_resources.proofs.Owners.{Owner, owned, numbers_of}
 use Rattle.cap_account_states.proofs.Checked.{Checked}
-use Rattle.cap_account_assertions.proofs.Laws.{IsOwner, Stable}
-use Rattle.cap_account.proofs.Stocked.{part_stock, sum_by, frames_stock, threads_stock, owner_of, owners, owner_at, known_by, table_by, account_table, account_stock, Sound, Turn}
-use Rattle.cap_account.proofs.Totals.{parts_stock, sum-join, sum-at, sum-each, owners-sum}
-use Rattle.cap_account.proofs.Parts.{part_for, part-has, fits-guards, Together, part-within, all-apart, counted-cell}
-use Rattle.cap_account.proofs.Drawn.{tells}
+use Rattle.cap_account_assertions.proofs.Laws.{Stable}
+use Rattle.cap_account.proofs.Stocked.{part_stock, sum_by, frames_stock, owner_of, owners, owner_at, table_by, account_table, account_stock, Turn}
+use Rattle.cap_account.proofs.Totals.{sum-at, sum-each}
+use Rattle.cap_account.proofs.Parts.{part_for, part-has, part-within}
 use Rattle.cap_account.proofs.Valid.{guards-fit}
-use Rattle.cap_account.proofs.Chosen.{members, of-member, test-all, Looked, found, missing, look, number-among, sum-same, if_numbered, owned-sum}
-use Rattle.cap_account.proofs.Renewed.{from, renewed, stays-same, known-at, known-after, guarantees, closed-sum, opened_stock, owned-before, closed-numbers, after}
-use Rattle.cap_account.proofs.Changes.{Scene, Change, entered_stock, roomy, part-inside, shift, free_regions, step_stock, all_after, step-budget, entered-opened, room-after, cells-after, regions_after, is-table, own-regions, listed-after}
-use Rattle.cap_account.proofs.Exchanging.{opened-sum, region-told, parts-compose, Exchanged, exchanges}
+use Rattle.cap_account.proofs.Chosen.{of-member, found, missing, look, owned-sum}
+use Rattle.cap_account.proofs.Renewed.{from, renewed}
+use Rattle.cap_account.proofs.Changes.{Scene, Change, free_regions, all_after, room-after, cells-after, regions_after, is-table, listed-after}
 
 -- ---- the scene of a step
 
@@ -161,9 +157,6 @@ module _ (p : Checked) (stable : Stable p.program) (x : Turn p) (y : Stride p x)
 
   abbrev ch : Change p.program (scene p x) y.heap y.left
   ch = y.change
-
-  abbrev V : Table
-  V = account_table x.a
 
   abbrev pub all : Stock
   all = all_after p.program (scene p x) y.heap y.left y.change

@@ -1,7 +1,8 @@
 -- Statements that access a cell, with up to two regions open: read, write, compare and swap.
-use Rattle.std.proofs.Common.{◌≡◌, ◌⊎◌, inl, inr, ℕ, ◌+◌, ◌-◌, ◌≤◌, ℤ, pos, Bool, true, false, List, [], ◌∷◌, Option, Some, None, refl, sym, ap, ◌∙◌, subst, arith}
+use Rattle.cap_account_resources.proofs.Order.{same-or, met-relates, unmet-relates}
+use Rattle.std.proofs.Common.{◌≡◌, inl, inr, ℕ, ◌+◌, ◌≤◌, ℤ, pos, Bool, true, false, List, [], ◌∷◌, Option, Some, None, refl, sym, ap, ◌∙◌, subst, arith}
 use Rattle.std.specs.Prelude.{slice_set, if◌then◌else◌}
-use Rattle.std.specs.FinMap.{get, insert}
+use Rattle.std.specs.FinMap.{insert}
 use Rattle.cap_lin.specs.Linear.{Linear, same_number}
 use Rattle.cap_lin.specs.declared.row.Op.TheVariants.{Eq as Equal}
 use Rattle.cap_prog.specs.Program.{PlainProgram, Label, PlainAct, read, write, cas, Block, first}
@@ -15,8 +16,7 @@ use Rattle.cap_machine_accounts.specs.Following.{StaysOn, FramesFollow, accesses
 use Rattle.cap_machine_accounts.specs.Safety.{KeepsContracts}
 use Rattle.cap_account_resources.specs.Parts.{Table, one_cell, cells_of}
 use Rattle.cap_account_resources.proofs.Lists.{some-same, none-some}
-use Rattle.cap_account_resources.proofs.Order.{met-relates, unmet-relates}
-use Rattle.cap_account_resources.proofs.Heaps.{same-or, one-itself, one-other, written}
+use Rattle.cap_account_resources.proofs.Heaps.{one-itself, one-other, written}
 use Rattle.cap_account_resources.proofs.Interference.{relies-same}
 use Rattle.cap_account_resources.proofs.Stocks.{Stock, both, all_of}
 use Rattle.cap_account_states.proofs.Checked.{Checked}
@@ -25,7 +25,7 @@ use Rattle.cap_account_steps.proofs.Points.{FrameOk, point-act, point-next, ok-r
 use Rattle.cap_account_steps.proofs.Frames.{Stands}
 use Rattle.cap_account_steps.proofs.Worlds.{after_cas, after_act, new_content, recelled, HeapStep}
 use Rattle.cap_account_steps.proofs.Statements.{Statements}
-use Rattle.cap_account.proofs.Stocked.{part_stock, owners, share_by, account_table, Callee, callee_of, AllWait, Turn, spot_of}
+use Rattle.cap_account.proofs.Stocked.{part_stock, owners, share_by, account_table, callee_of, AllWait, Turn, spot_of}
 use Rattle.cap_account.proofs.Chosen.{test}
 use Rattle.cap_account.proofs.Changes.{Recells, world}
 use Rattle.cap_account.proofs.Successors.{scene, Stride}
@@ -81,8 +81,8 @@ module _ (p : Checked) (ls : Statements p) (stable : Stable p.program) (x : Turn
 
   abbrev Heaped : PlainAct → Block → Linear → Type 0
   Heaped a b t =
-      HeapStep p (account_table x.a) (share_by (owners x.a.regions)) (part_stock x.held.part) x.c.heap
-      x.held.fixed x.frame a b t
+      HeapStep p (account_table x.a) (share_by (owners x.a.regions)) (part_stock x.held.part)
+      x.c.heap x.held.fixed x.frame a b t
 
   stepped :
       (l : Label) (a : PlainAct) (b : Block) (t : Linear) → address_of a ≡ Some t →

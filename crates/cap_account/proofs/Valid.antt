@@ -1,4 +1,5 @@
 -- The account of a sound configuration is valid.
+use Rattle.cap_account_resources.proofs.Tables.{fits-composes, FitsRoom, fits-less}
 use Rattle.std.proofs.Common.{◌≡◌, ◌≢◌, suc, List, [], ◌∷◌, map, length, refl, sym, ap, ◌∙◌, subst, arith}
 use Rattle.std.specs.Prelude.{flat_map}
 use Rattle.std.specs.List.{AllByRecursion}
@@ -10,12 +11,11 @@ use Rattle.cap_machine_accounts.specs.Accounts.{Held, OwnedRegion, table_of, par
 use Rattle.cap_account_resources.specs.Parts.{Known, Table}
 use Rattle.cap_account_resources.proofs.Lists.{all-more, all-first}
 use Rattle.cap_account_resources.proofs.Stocks.{Inside, inside-same}
-use Rattle.cap_account_resources.proofs.Tables.{FitsRoom, fits-less}
 use Rattle.cap_account_states.proofs.Checked.{Checked}
 use Rattle.cap_account_steps.proofs.Points.{FrameOk}
 use Rattle.cap_account.proofs.Stocked.{part_stock, owners, table_by, account_table, Callee, callee_of, AllWait, StackStands, EachStands, OwnsItsOwn, ValidLaw}
 use Rattle.cap_account.proofs.Totals.{parts_stock, sum-each, sum-guards, account-sum}
-use Rattle.cap_account.proofs.Parts.{plain, plain-is, fits-composes, guard-in-room, room-is-guard, fits-guards, Together, all-within, all-apart}
+use Rattle.cap_account.proofs.Parts.{plain, plain-is, guard-in-room, room-is-guard, fits-guards, Together, all-within, all-apart}
 use Rattle.cap_account.proofs.Drawn.{region-there, region-met}
 
 -- ---- frames have what they are to have

@@ -13,7 +13,9 @@ pub fn derivations_are_nodes()
 {}
 
 /// A program all units of which have valid derivations is safe: no run of its threads, whichever
-/// way they interleave, makes a memory fault or fails an assertion, and contracts are met.
+/// way they interleave, makes a memory fault or fails an assertion; shared regions change only by
+/// actions whose guards the stepping thread holds, and contracts are met. This is the soundness of
+/// Caper's logic by the views framework, over this machine and these rules.
 pub fn derivations_are_sound()
     ensures { DerivationsAreSound }
 {}

@@ -1,4 +1,5 @@
 -- An assertion that is given can be taken again of the same part, by a table that others led to.
+use Rattle.cap_account_resources.proofs.Order.{cancel, swapped}
 use Rattle.std.proofs.Common.{◌≡◌, ◌≢◌, ℕ, suc, ◌+◌, ◌<◌, ℤ, pos, ◌*ℤ◌, List, [], ◌∷◌, length, arith, sym, ap, ◌∙◌, subst, Some}
 use Rattle.std.specs.Prelude.{get_or, unwrap_or}
 use Rattle.std.specs.List.{AllByRecursion}
@@ -19,7 +20,7 @@ use Rattle.cap_account_resources.proofs.Stocks.{Stock, no_stock, both, Composes,
 use Rattle.cap_account_resources.proofs.Tables.{fits-relied}
 use Rattle.cap_account_states.specs.Nodes.{Open}
 use Rattle.cap_account_states.proofs.Terms.{Over, vars-more, Agree, agree-trans, agree-less}
-use Rattle.cap_account_states.proofs.Alike.{Alike, agree-alike, value-alike, amount-alike, undo, above-zero, swapped}
+use Rattle.cap_account_states.proofs.Alike.{Alike, agree-alike, value-alike, amount-alike, above-zero}
 use Rattle.cap_account_states.proofs.Meets.{Usable, usable-old, Old}
 use Rattle.cap_account_states.proofs.Facts.{Facts}
 use Rattle.cap_account_states.proofs.Checked.{Checked}
@@ -50,7 +51,7 @@ name-kept sc env a b k x Perm (a_number z) i t s n = absurd s
 name-kept sc env a b k x Perm (a_fraction m d) i t s n =
     let da = denominator a.fraction in
     let db = denominator b.fraction in
-    undo (b.fraction.numerator x *ℤ pos (suc d)) (m *ℤ db) da (above-zero a)
+    cancel (b.fraction.numerator x *ℤ pos (suc d)) (m *ℤ db) da (above-zero a)
     (swapped (b.fraction.numerator x) (pos (suc d)) da
     ∙ ap (λ z. z *ℤ pos (suc d)) (k.share x i t)
     ∙ swapped (a.fraction.numerator x) db (pos (suc d))

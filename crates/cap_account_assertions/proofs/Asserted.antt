@@ -1,5 +1,5 @@
--- Assertions over stocks: what an item draws out of what is held, and what contracts, invariants and
--- interpretations own.
+-- Assertions over stocks: what an item draws out of what is held, and what contracts, invariants
+-- and interpretations own.
 use Rattle.std.proofs.Common.{◌≡◌, ◌⊎◌, ℕ, suc, ℤ, pos, ◌<ℤ◌, List, ◌∷◌, length, Option, Some, inl, inr}
 use Rattle.std.specs.Prelude.{slice_get}
 use Rattle.std.specs.List.{AllByRecursion}
@@ -199,26 +199,4 @@ module _ (p : PlainProgram) where
     state_is = h.state_is;
     conditions = h.conditions;
     met = (h.met.0, draws-all-kept T U f h.values h.case.items q h.met.0 h.met.1);
-  }
-
-  -- what is held more of owns as well
-  pub region-more :
-      (T : Table) (n : ℤ) (k : ℕ) (args : List ℤ) (b : ℤ) (q q' : Stock) → Inside p q q' →
-      OwnsRegion p T n k args b q → OwnsRegion p T n k args b q'
-  region-more T n k args b q q' le h = record {
-    type = h.type;
-    is_type = h.is_type;
-    arity = h.arity;
-    number = h.number;
-    case = h.case;
-    is_case = h.is_case;
-    values = h.values;
-    args_are = h.args_are;
-    state_is = h.state_is;
-    conditions = h.conditions;
-    met = (
-      h.met.0,
-      draws-all-more T h.values h.case.items q q' h.met.0 h.met.0 le (inside-same p h.met.0)
-          h.met.1,
-    );
   }

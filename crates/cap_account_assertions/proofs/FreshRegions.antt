@@ -1,4 +1,5 @@
 -- A fresh region with all its guards, which no fact names: the state in which its case is taken.
+use Rattle.cap_account_resources.proofs.Order.{same-or}
 use Rattle.std.proofs.Common.{◌≡◌, ◌≢◌, ℕ, ◌+◌, ◌<◌, ℤ, ◌*ℤ◌, List, [], ◌∷◌, ◌++◌, length, Option, Some, None, sym, ap, ◌∙◌, subst, arith, inl, inr}
 use Rattle.std.specs.Prelude.{slice_get}
 use Rattle.std.specs.List.{AllByRecursion}
@@ -16,17 +17,17 @@ use Rattle.cap_goal_spec.specs.States.{PlainFact, PlainState}
 use Rattle.cap_rules.specs.Attempts.{Attempt, ◌>>=◌}
 use Rattle.cap_rules.specs.Making.{fresh, with_differing, with_pieces}
 use Rattle.cap_rules.specs.Taking.{with_new_region}
+use Rattle.cap_account_states.proofs.Alike.{usable-alike, Alike, agree-alike, need-alike, meets-fresh}
 use Rattle.cap_account_resources.specs.Parts.{Table}
 use Rattle.cap_account_resources.proofs.Lists.{none-some, get-last, all-more, all-both}
 use Rattle.cap_account_resources.proofs.Marks.{Mark, free, joins-law}
 use Rattle.cap_account_resources.proofs.Covering.{join_marks, mark, free-right}
-use Rattle.cap_account_resources.proofs.Room.{all_guards, alone, alone-here, alone-away, here-or}
+use Rattle.cap_account_resources.proofs.Room.{all_guards, alone, alone-here, alone-away}
 use Rattle.cap_account_resources.proofs.Stocks.{Stock, guard_stock, both, Composes}
 use Rattle.cap_account_states.specs.Nodes.{Comes}
 use Rattle.cap_account_states.proofs.Terms.{Over, vars-more}
-use Rattle.cap_account_states.proofs.Alike.{Alike, agree-alike, value-alike, need-alike}
 use Rattle.cap_account_states.proofs.Attempts.{comes-bind, after-sort, sort_added}
-use Rattle.cap_account_states.proofs.Meets.{Free, Usable, usable-on, usable-old, Old, same-fresh, with_value, new-whole, new-share, with-agrees, variable-value, meets-fresh}
+use Rattle.cap_account_states.proofs.Meets.{Free, Usable, usable-on, usable-old, Old, same-fresh, with_value, new-whole, new-share, with-agrees, variable-value}
 use Rattle.cap_account_states.proofs.Compatible.{pieces-more, covered-alike}
 use Rattle.cap_account_states.proofs.Facts.{FactHolds, FactOver, Facts, facts-on}
 use Rattle.cap_account_states.proofs.Budgets.{full-mark}
@@ -102,8 +103,7 @@ fresh-known p ks T v s c n h =
           (λ f o. (
             vars-more (R Int) (S Int) (on Int) f.region.parts o.0,
             o.1,
-            ap T (value-alike (Old s) v w l f.region
-                (vars-more (R Int) (Old s) (old Int) f.region.parts o.0)) ∙ o.2,
+            ap T (usable-alike ks s v w l f.region o.0) ∙ o.2,
           )) s.opened h.opened;
       backed = record {
         cells = λ a z.
@@ -209,7 +209,7 @@ fresh-region p ks T n v s c y k P is h low none ok comes =
 pub fresh-composes :
     (p : PlainProgram) (n : ℤ) (lim : ℤ → Option Mark) (k : ℕ) → ((i : ℤ) → lim i ≢ None) →
     lim n ≡ Some free → (i : ℤ) → join_marks p (lim i) (alone n (all_guards p k) i) ≢ None
-fresh-composes p n lim k some unheld i e = elim (here-or n i) [
+fresh-composes p n lim k some unheld i e = elim (same-or n i) [
   | inl q ↦
       there
       (sym ((joins-law p).zero_left (all_guards p k))

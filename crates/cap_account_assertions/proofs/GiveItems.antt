@@ -24,21 +24,21 @@ use Rattle.cap_goal_spec.specs.States.{PlainFact, PlainState}
 use Rattle.cap_goal_spec.specs.Environments.{one_value}
 use Rattle.cap_rules.specs.Making.{fact_of, with_fact}
 use Rattle.cap_rules.specs.Giving.{give_term, give_slot, give_slots, give_form, give_sides, give_item}
+use Rattle.cap_account_states.proofs.Alike.{values-alike, agree-alike, alike-less}
 use Rattle.cap_account_resources.specs.Parts.{Table, known_as}
 use Rattle.cap_account_resources.proofs.Lists.{all-more, all-both}
 use Rattle.cap_account_resources.proofs.Stocks.{Stock, cell_stock, guard_stock, both, Inside, Composes, inside-trans, inside-first, composes-inside}
 use Rattle.cap_account_states.specs.Nodes.{Comes}
 use Rattle.cap_account_states.proofs.Terms.{Over, row-over, value-number, Agree}
 use Rattle.cap_account_states.proofs.Attempts.{comes-bind, comes-comparison, after-cell, cell_added, row_added}
-use Rattle.cap_account_states.proofs.Alike.{agree-alike, alike-less}
 use Rattle.cap_account_states.proofs.Meets.{Usable, usable-old, CellOver, Meets, Old, meets-row, variable-value}
 use Rattle.cap_account_states.proofs.Naming.{Ready, Step, step-trans}
 use Rattle.cap_account_states.proofs.Adding.{comes-piece, piece_added}
-use Rattle.cap_account_states.proofs.Facts.{StateHolds, values-alike, facts-same, FactHolds, FactOver, fact_added, comes-fact, no-other-type}
+use Rattle.cap_account_states.proofs.Facts.{StateHolds, facts-same, FactHolds, FactOver, fact_added, comes-fact, no-other-type}
 use Rattle.cap_account_states.proofs.Backed.{IsFirm, Knows}
 use Rattle.cap_account_states.proofs.KnowsLater.{knows-more}
 use Rattle.cap_account_states.proofs.PiecesHeld.{fact-known, piece_stock, piece-known}
-use Rattle.cap_account_assertions.proofs.Giving.{term-given, slot-given, sides-given, sides-row, over-later, number-later, need-join}
+use Rattle.cap_account_assertions.proofs.GiveTerms.{term-given, slot-given, sides-given, sides-row, over-later, number-later, need-join}
 use Rattle.cap_account_assertions.proofs.GiveSlots.{slots-given, shaped-takes, form-given}
 use Rattle.cap_account_assertions.proofs.GiveState.{underway-step, Due, ItemGiven, drawn-beside, drawn-held, goes}
 
@@ -140,7 +140,8 @@ module _ (p : PlainProgram) (T : Table) (sc : Scope) (e : ℕ) (a : Valuation) (
       IsDue (compare c) more v s → Comes (give_item p s e (compare c)) P → IsGiven more v s P
   compare-gives c more v s P d h =
       let i = compare c in
-      let g = sides-given sc e a v s c _ d.underway.ready d.fit.0 (comes-bind (give_sides s e c) _ P h)
+      let g = sides-given sc e a v s c _ d.underway.ready d.fit.0
+      (comes-bind (give_sides s e c) _ P h)
       in
       let m = sides-row sc e a v s c c.op _ g d.draws.1.0 in
       let t = row_added g.after (row_of g.left c.op g.right c.sort) in

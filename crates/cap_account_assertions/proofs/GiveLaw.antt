@@ -25,7 +25,7 @@ use Rattle.cap_account_states.proofs.Items.{items_size, size-positive, append-si
 use Rattle.cap_account_states.proofs.KnowsLater.{backed-more}
 use Rattle.cap_account_assertions.proofs.Asserted.{DrawsAll, draws-join}
 use Rattle.cap_account_assertions.proofs.Laws.{Given, GivenLaw}
-use Rattle.cap_account_assertions.proofs.Giving.{sides-given, sides-row}
+use Rattle.cap_account_assertions.proofs.GiveTerms.{sides-given, sides-row}
 use Rattle.cap_account_assertions.proofs.GiveState.{Onward, onward-none, onward-step, onward-trans, underway-step, Due}
 use Rattle.cap_account_assertions.proofs.GiveItems.{IsPlain, item-gives}
 

@@ -1,5 +1,5 @@
--- What slots and forms that are given become: terms and forms of the state, with the values that are
--- asked for.
+-- What slots and forms that are given become: terms and forms of the state, with the values that
+-- are asked for.
 use Rattle.std.proofs.Common.{◌≡◌, ℕ, ◌+◌, ℤ, pos, ◌*ℤ◌, List, [], ◌∷◌, length, map, refl, sym, ap, ◌∙◌}
 use Rattle.std.specs.List.{AllByRecursion}
 use Rattle.cap_lin.specs.Linear.{Linear}
@@ -30,7 +30,7 @@ use Rattle.cap_account_states.proofs.Meets.{Usable, new-share, variable-amount}
 use Rattle.cap_account_states.proofs.Naming.{Ready, Step, step-none, step-trans, step-fresh}
 use Rattle.cap_account_states.proofs.Wants.{AmountIs, Wants}
 use Rattle.cap_account_states.proofs.Guarding.{FormOver}
-use Rattle.cap_account_assertions.proofs.Giving.{TermGiven, term-given, slot-given, over-later, number-later}
+use Rattle.cap_account_assertions.proofs.GiveTerms.{TermGiven, term-given, slot-given, over-later, number-later}
 
 -- what is given becomes something of which this holds, after names have got variables
 pub record Becomes (sc : Scope) (e : ℕ) (a v : Valuation) (s : PlainState) (A : Type 0)

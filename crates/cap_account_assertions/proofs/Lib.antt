@@ -1,5 +1,4 @@
-pub mod Giving
-pub mod Taking
+pub mod GiveTerms
 pub mod Asserted
 pub mod Named
 pub mod Laws

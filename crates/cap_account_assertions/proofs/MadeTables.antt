@@ -1,13 +1,13 @@
 -- Tables to which regions were added.
-use Rattle.std.proofs.Common.{◌≡◌, ◌≢◌, ◌⊎◌, ℕ, suc, ℤ, List, [], ◌∷◌, ◌++◌, length, Some, None, refl, sym, ap, ◌∙◌, subst, inl, inr}
+use Rattle.cap_account_resources.proofs.Order.{same-or}
+use Rattle.std.proofs.Common.{◌≡◌, ◌⊎◌, suc, ℤ, List, [], ◌∷◌, length, Some, None, sym, ap, ◌∙◌, inl, inr}
 use Rattle.std.specs.Prelude.{slice_get}
 use Rattle.std.specs.List.{AllByRecursion}
 use Rattle.cap_prog.specs.Program.{PlainProgram}
 use Rattle.cap_account_resources.specs.Parts.{Known, known_as, Table}
-use Rattle.cap_account_resources.proofs.Heaps.{same-or}
-use Rattle.cap_account_resources.proofs.Lists.{some-same, none-some, Among, among-left, among-right}
+use Rattle.cap_account_resources.proofs.Lists.{some-same, none-some, Among}
 use Rattle.cap_account_resources.proofs.Stocks.{Stock, both, Inside, inside-trans, inside-first}
-use Rattle.cap_account_resources.proofs.Tables.{TableFits, NoneOpen, AreListed, Extends, extends-types, FitsRoom, new_guards, fits-less, fits-later}
+use Rattle.cap_account_resources.proofs.Tables.{TableFits, NoneOpen, Extends, extends-types, FitsRoom, new_guards, fits-less, fits-later}
 use Rattle.cap_account_resources.proofs.Owners.{Owner, owned, numbers_of}
 use Rattle.cap_account_assertions.proofs.Laws.{IsOwner, Made}
 
@@ -72,12 +72,6 @@ module _ (p : PlainProgram) (T U : Table) (new : List Owner) (made : Made p T U 
   made-full full n e h = elim (entry-of n e h) [
     | inl old ↦ full n e old
     | inr w ↦ (w.0.state, sym (ap (λ (k : Known). k.state) w.2))
-  ]
-
-  pub made-listed : (ns : List ℤ) → AreListed ns T → AreListed (numbers_of new ++ ns) U
-  made-listed ns listed n e h = elim (among-or n (numbers_of new)) [
-    | inl a ↦ among-left n (numbers_of new) ns a
-    | inr f ↦ among-right n (numbers_of new) ns (listed n e (sym (made.others n f) ∙ h))
   ]
 
   -- what is kept of a part is within the later table's room

@@ -1,5 +1,6 @@
 -- Regions that a table gets: what it tells then, and that all their guards are what it has room for
 -- beyond the first one.
+use Rattle.cap_account_resources.proofs.Order.{same-or, same-int, same-refl, relates-or}
 use Rattle.std.proofs.Common.{◌≡◌, ◌≢◌, ◌⊎◌, ℕ, ℤ, ◌≤ℤ◌, ◌<ℤ◌, Bool, true, false, List, [], ◌∷◌, ◌++◌, Option, Some, None, refl, sym, ap, ◌∙◌, inl, inr, arith}
 use Rattle.std.specs.Prelude.{if◌then◌else◌}
 use Rattle.std.specs.List.{AllByRecursion}
@@ -10,10 +11,9 @@ use Rattle.cap_prog.specs.Program.{PlainProgram}
 use Rattle.cap_machine_accounts.specs.Accounts.{EachTwo}
 use Rattle.cap_account_resources.specs.Parts.{Known, known_as, Table}
 use Rattle.cap_account_resources.proofs.Lists.{none-some, Among}
-use Rattle.cap_account_resources.proofs.Order.{same-int, same-refl, relates-or}
 use Rattle.cap_account_resources.proofs.Marks.{Mark, free, joins-law}
 use Rattle.cap_account_resources.proofs.Covering.{join_marks, free-right}
-use Rattle.cap_account_resources.proofs.Room.{all_guards, alone-here, alone-away, here-or, with_known}
+use Rattle.cap_account_resources.proofs.Room.{all_guards, alone-here, alone-away, with_known}
 use Rattle.cap_account_resources.proofs.Stocks.{same-stock}
 use Rattle.cap_account_resources.proofs.Tables.{Extends, extends-states, guards_if_new, new_guards}
 use Rattle.cap_account_resources.proofs.Owners.{Owner, guards_of_all, numbers_of, Numbered, numbered-between, no-guards-of, no-cells-in}
@@ -33,7 +33,7 @@ told-apart T r n e ne = by (same_number r n) refl
     by true q = absurd (ne (same-int r n q))
 
 pub told-extends : (T : Table) (r : ℤ) (e : Known) → T r ≡ None → Extends T (with_known T r e)
-told-extends T r e absent n k h = elim (here-or r n) [
+told-extends T r e absent n k h = elim (same-or r n) [
   | inl q ↦ absurd (none-some (sym absent ∙ ap T q ∙ h))
   | inr q ↦ told-apart T r n e q ∙ h
 ]
@@ -54,7 +54,7 @@ below-or x y = relates-or Less x y
 
 pub among-or : (n : ℤ) (rs : List Owner) → Among n (numbers_of rs) ⊎ (Among n (numbers_of rs) → ⊥)
 among-or n [] = inr (λ m. m)
-among-or n (r ∷ rs) = elim (here-or r.number n) [
+among-or n (r ∷ rs) = elim (same-or r.number n) [
   | inl e ↦ inl (inl e)
   | inr ne ↦ elim (among-or n rs) [
     | inl m ↦ inl (inr m)

@@ -1,4 +1,5 @@
 -- What is held once guards are cut out of a piece: at the piece's region less, elsewhere the same.
+use Rattle.cap_account_resources.proofs.Order.{same-or}
 use Rattle.std.proofs.Common.{◌≡◌, ◌≢◌, ℤ, List, Bool, true, false, Option, Some, refl, sym, subst, arith, inl, inr}
 use Rattle.std.specs.Prelude.{if◌then◌else◌}
 use Rattle.cap_lin.specs.Linear.{same_number}
@@ -8,7 +9,7 @@ use Rattle.cap_prog.specs.Program.{PlainProgram}
 use Rattle.cap_account_resources.proofs.Marks.{Mark, free, joins-law}
 use Rattle.cap_account_resources.proofs.Covering.{join_marks, IsPartOf}
 use Rattle.cap_account_resources.proofs.Interference.{Holding}
-use Rattle.cap_account_resources.proofs.Room.{alone, alone-here, alone-away, here-or, alone-join}
+use Rattle.cap_account_resources.proofs.Room.{alone, alone-here, alone-away, alone-join}
 use Rattle.cap_account_resources.proofs.Stocks.{Stock, no_stock, same-stock, guard_stock, both, Inside, inside-by}
 use Rattle.cap_account_states.proofs.Pieces.{CutAt}
 
@@ -40,7 +41,7 @@ module _ (p : PlainProgram) (v : Valuation) (left : List Piece) (n : ℤ)
   pub cuts-out :
       (held : Holding) → CutAt p v left n taken (held n) →
       ((z : ℤ) → n ≢ z → CutAt p v left z (Some free) (held z)) → CutsOut held
-  cuts-out held here away z = elim (here-or n z) [
+  cuts-out held here away z = elim (same-or n z) [
     | inl e ↦ subst (λ m. CutAt p v left z m (held z)) (sym (alone-here n taken z e))
         (subst (λ y. CutAt p v left y taken (held y)) e here)
     | inr ne ↦ subst (λ m. CutAt p v left z m (held z)) (sym (alone-away n taken z ne))

@@ -1,20 +1,21 @@
 -- Guards are taken: no tokens, and atoms cut out of a piece (the rule `guard`).
+use Rattle.cap_account_states.proofs.Wants.{asked-over}
 use Rattle.std.proofs.Common.{◌≡◌, ◌≢◌, ℕ, ◌<◌, ℤ, List, length, arith, refl, sym, ap, ◌∙◌, subst, Option, Some, None}
 use Rattle.std.specs.Prelude.{slice_get, IsSomeAnd}
 use Rattle.std.specs.List.{AllByRecursion}
 use Rattle.cap_lin.specs.Values.{Valuation}
 use Rattle.cap_lin.specs.declared.row.Sort.TheVariants.{Int}
 use Rattle.cap_galg.specs.Elements.{nothing}
-use Rattle.cap_galg.specs.Algebras.{PlainAlgebra, divisible, counting, atom_algebra, atom_element}
+use Rattle.cap_galg.specs.Algebras.{atom_algebra, atom_element}
 use Rattle.cap_gsolve.specs.declared.piece.Piece.{Piece}
 use Rattle.cap_gsolve.specs.Meaning.{region_of}
 use Rattle.cap_syntax.specs.declared.place.Place.{Place}
 use Rattle.cap_prog.specs.declared.assertion.Slot.{Slot}
 use Rattle.cap_prog.specs.declared.assertion.Asked.{Asked}
-use Rattle.cap_prog.specs.declared.assertion.Asked.TheVariants.{One, Share, Src, Tok}
+use Rattle.cap_prog.specs.declared.assertion.Asked.TheVariants.{Tok}
 use Rattle.cap_prog.specs.Program.{atom, Items, PlainRegionType}
 use Rattle.cap_prog.specs.Scopes.{Scope}
-use Rattle.cap_prog.specs.WellFormed.{AskedFits, AtomFits, ItemFits}
+use Rattle.cap_prog.specs.WellFormed.{AtomFits, ItemFits}
 use Rattle.cap_machine_accounts.specs.Parts.{algebra_of}
 use Rattle.cap_goal_spec.specs.States.{PlainState}
 use Rattle.cap_goal_spec.specs.Choices.{PlainTrees}
@@ -40,16 +41,6 @@ use Rattle.cap_account_assertions.proofs.TakeSteps.{Job, remaining, Head, Claim}
 use Rattle.cap_account_assertions.proofs.TakeHeads.{same-parts, means-bound, head-same, head-kept, head-bound, ItemTaken}
 
 -- ---- what is asked
-
-asked-over :
-    (sc : Scope) (b : PlainAlgebra) (asked : Asked) → AskedFits sc b asked → AskedOver sc asked
-asked-over sc b One h = tt
-asked-over sc divisible (Share x) h = h
-asked-over sc b (Share x) h = absurd h
-asked-over sc counting (Src x) h = h
-asked-over sc b (Src x) h = absurd h
-asked-over sc counting (Tok x) h = h
-asked-over sc b (Tok x) h = absurd h
 
 atom-over :
     (sc : Scope) (o : Option PlainRegionType) (i : ℕ) (asked : Asked) →

@@ -17,16 +17,16 @@ use Rattle.cap_goal_spec.specs.Choices.{PlainTrees}
 use Rattle.cap_rules.specs.Attempts.{Attempt, ◌>>=◌}
 use Rattle.cap_rules.specs.Making.{determined, prove_equal, match_slot, env_at, with_env_at}
 use Rattle.cap_rules.specs.Rules.{goes, at_cell}
+use Rattle.cap_account_states.proofs.Alike.{usable-alike, alike-same}
 use Rattle.cap_account_resources.specs.Parts.{one_cell, Table}
 use Rattle.cap_account_resources.proofs.Lists.{some-same, none-some, all-at, all-remove}
 use Rattle.cap_account_resources.proofs.Marks.{free}
 use Rattle.cap_account_resources.proofs.Covering.{join_marks, free-right}
 use Rattle.cap_account_resources.proofs.Stocks.{Stock, cell_stock, both, Inside, inside-by, inside-same}
 use Rattle.cap_account_states.specs.Nodes.{Comes, Children}
-use Rattle.cap_account_states.proofs.Terms.{vars-more, row-over}
+use Rattle.cap_account_states.proofs.Terms.{row-over}
 use Rattle.cap_account_states.proofs.Attempts.{comes-bind, after-found, after-proved, after-determined}
-use Rattle.cap_account_states.proofs.Alike.{alike-same, value-alike}
-use Rattle.cap_account_states.proofs.Meets.{Usable, usable-old, CellOver, need, Old, proved-holds}
+use Rattle.cap_account_states.proofs.Meets.{Usable, CellOver, need, Old, proved-holds}
 use Rattle.cap_account_states.proofs.Checked.{Checked}
 use Rattle.cap_account_states.proofs.Naming.{term-over, term-number, bound-of}
 use Rattle.cap_account_states.proofs.Matching.{matching}
@@ -102,7 +102,6 @@ module _ (p : Checked) (ks : List ℕ) (T : Table) (j : Job) (v : Valuation) (s 
   cell-taken i place x y more fx fy h =
       let P = Children p.N trees in
       let env = env_at s j.env in
-      let R = Usable ks s.sorts Int in
       let end : PlainEnv → Attempt (List PlainGoal) = λ later.
       goes (with_env_at (without_cell i) j.env later) (remaining j more) in
       let content : Linear × Linear → Attempt (List PlainGoal) = λ d.
@@ -132,8 +131,7 @@ module _ (p : Checked) (ks : List ℕ) (T : Table) (j : Job) (v : Valuation) (s 
             m in
             let here : value b.whole x ≡ value v.whole d.0 =
             sym (term-number j.scope w env b Int x before fx bd)
-            ∙ value-alike (Old s) v w l (term_in env x)
-            (vars-more R (Old s) (usable-old ks s.sorts Int) (term_in env x).parts ox)
+            ∙ usable-alike ks s v w l (term_in env x) ox
             ∙ same in (
               value v.whole d.1,
               subst (λ z. pos 0 <ℤ z) (sym here)

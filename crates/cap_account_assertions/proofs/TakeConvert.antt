@@ -43,10 +43,11 @@ use Rattle.cap_account_assertions.proofs.TakeSteps.{Job, remaining}
 use Rattle.cap_account_assertions.proofs.TakeHeads.{same-parts, head-kept, ItemsTurned}
 
 -- the side that is held, and the other one, are all of it
-record Converts (w : PlainAlgebra) (k : ℕ) (v : Valuation) (r : Linear) (held other : Side) : Type 0 where
-  element : Element
-  gone : Full w k v r (side_pieces held r k) element
-  come : Full w k v r (side_pieces other r k) element
+record Converts (w : PlainAlgebra) (k : ℕ) (v : Valuation) (r : Linear) (held other : Side) : Type 0
+  where
+    element : Element
+    gone : Full w k v r (side_pieces held r k) element
+    come : Full w k v r (side_pieces other r k) element
 
 converts :
     (w : PlainAlgebra) (k : ℕ) (v : Valuation) (r : Linear) (x : Sides) (side : ℕ) (held : Side) →
@@ -112,7 +113,6 @@ module _ (p : Checked) (ks : List ℕ) (T : Table) (j : Job) (v : Valuation) (s 
         j.items ≡ item i more → AreFit p.program j.scope (item i more) → HasSort j.scope Int n →
         Composes c → Asks → ItemsTurned p ks T j v s c trees
     converted is fits hn ok a =
-        let w = algebra_of p.program k in
         let x = a.full.element in
         let g = guard_stock (value v.whole a.term) (mark k x) in
         let gone = fulls-gone p.program ks v a.term k s (side_pieces a.held a.term k)
@@ -134,7 +134,8 @@ module _ (p : Checked) (ks : List ℕ) (T : Table) (j : Job) (v : Valuation) (s 
         end P gone.2) in
         record {
           head =
-              head-kept p.program ks T j v s c st v (with_parts s come.rows come.guards) now no_stock
+              head-kept p.program ks T j v s c st v (with_parts s come.rows come.guards) now
+              no_stock
               (same-parts s come.rows s.cells come.guards) refl (alike-same (Old s) v)
               (record {
                 meets = come.grounded.meets;

@@ -17,7 +17,7 @@ use Rattle.cap_goal_spec.specs.Choices.{PlainTrees}
 use Rattle.cap_rules.specs.Attempts.{Attempt, ◌>>=◌, need}
 use Rattle.cap_rules.specs.Making.{match_slots, env_at, with_env_at}
 use Rattle.cap_rules.specs.Rules.{goes, at_region}
-use Rattle.cap_account_resources.specs.Parts.{nothing, known_as, Table}
+use Rattle.cap_account_resources.specs.Parts.{known_as, Table}
 use Rattle.cap_account_resources.proofs.Lists.{all-at, all-both}
 use Rattle.cap_account_resources.proofs.Stocks.{Stock, no_stock, inside-second}
 use Rattle.cap_account_states.specs.Nodes.{Comes, Children}
@@ -99,7 +99,7 @@ module _ (p : Checked) (ks : List ℕ) (T : Table) (j : Job) (v : Valuation) (s 
             head-bound p.program ks T j v s c st (head-same p.program ks T j v s c st backed)
             g.later g.placed g.stays g.outside g.size;
         claim = λ w l x m r.
-            let at = fact-meets v T f x place n args y nothing known t.firm
+            let at = fact-meets v T f x n args y known t.firm
             (g.means w l x (means-bound j.scope j.env s g.later st.there w x m)) in (
               (
                 at.0,

@@ -12,14 +12,14 @@ use Rattle.cap_prog.specs.Scopes.{Scope}
 use Rattle.cap_goal_spec.specs.States.{PlainFact, PlainEnv, PlainState}
 use Rattle.cap_goal_spec.specs.Choices.{PlainTrees}
 use Rattle.cap_rules.specs.Making.{env_at, with_env_at}
+use Rattle.cap_account_states.proofs.Alike.{usable-alike, Alike, alike-same}
 use Rattle.cap_account_resources.specs.Parts.{Table}
 use Rattle.cap_account_resources.proofs.Lists.{Among, all-more, set-length}
 use Rattle.cap_account_resources.proofs.Interference.{Holding}
 use Rattle.cap_account_resources.proofs.Stocks.{Stock, no_stock, both, Inside, inside-is, none-right}
 use Rattle.cap_account_states.specs.Nodes.{Open}
 use Rattle.cap_account_states.proofs.Terms.{vars-more}
-use Rattle.cap_account_states.proofs.Alike.{Alike, alike-same, value-alike}
-use Rattle.cap_account_states.proofs.Meets.{Usable, usable-on, usable-old, Old, Same, same-state, meets-env}
+use Rattle.cap_account_states.proofs.Meets.{Usable, usable-on, Old, Same, same-state, meets-env}
 use Rattle.cap_account_states.proofs.Checked.{Checked}
 use Rattle.cap_account_states.proofs.Naming.{Placed, Means, Stays, placed-more, at-env, others-env}
 use Rattle.cap_account_states.proofs.Matching.{Outside}
@@ -82,8 +82,7 @@ module _ (sc : Scope) (e : ℕ) (v w : Valuation) (s t : PlainState) (same : Sam
       let near : (f : PlainFact) → IsOpened R v T f → IsOpened S w T f = λ f h. (
         vars-more R S more f.region.parts h.0,
         h.1,
-        ap T (value-alike (Old s) v w alike f.region
-            (vars-more R (Old s) (usable-old ks s.sorts Int) f.region.parts h.0)) ∙ h.2,
+        ap T (usable-alike ks s v w alike f.region h.0) ∙ h.2,
       ) in
       record {
         grounded = g;

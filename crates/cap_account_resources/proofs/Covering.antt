@@ -38,10 +38,6 @@ mark-unit k x e = rw e refl
 pub mark-of : (k : ℕ) (x : Element) → is_unit x ≡ false → mark k x ≡ Some (of k x)
 mark-of k x e = rw e refl
 
-join-none : (p : PlainProgram) (a : Option Mark) → join_marks p a None ≡ None
-join-none p None = refl
-join-none p (Some a) = refl
-
 pub first-some : (p : PlainProgram) (a b : Option Mark) → join_marks p a b ≢ None → a ≢ None
 first-some p a b ne e = ne (ap (λ x. join_marks p x b) e)
 

@@ -1,5 +1,6 @@
 -- Heaps as counts of cells: writing, removing, allocating.
-use Rattle.std.proofs.Common.{◌≡◌, ◌≢◌, ℕ, zero, suc, ◌+◌, ◌≤◌, ℤ, pos, ◌+ℤ◌, ◌<ℤ◌, arith, refl, sym, ap, ◌∙◌, cond, Option, Some, None, ◌⊎◌, inl, inr, Bool, true, false}
+use Rattle.cap_account_resources.proofs.Order.{same-or, same-int, same-refl}
+use Rattle.std.proofs.Common.{◌≡◌, ◌≢◌, ℕ, zero, suc, ◌+◌, ◌≤◌, ℤ, pos, ◌+ℤ◌, ◌<ℤ◌, arith, refl, sym, ap, ◌∙◌, cond, Option, Some, None, inl, inr, Bool, true, false}
 use Rattle.std.specs.Prelude.{◌&&◌, is_none}
 use Rattle.std.specs.Ordering.{int_cmp, MatchOrdering, is_eq}
 use Rattle.std.specs.declared.cmp.Ordering.{Ordering}
@@ -10,14 +11,6 @@ use Rattle.std.proofs.lemmas.Int.{ints}
 use Rattle.cap_lin.specs.Linear.{same_number}
 use Rattle.cap_machine.specs.Machine.{Heap, with_cells, are_free}
 use Rattle.cap_account_resources.specs.Parts.{Cells, once, one_cell, count_of, cells_of}
-use Rattle.cap_account_resources.proofs.Order.{same-int, same-refl, other-int}
-
-pub same-or : (a b : ℤ) → (a ≡ b) ⊎ (a ≢ b)
-same-or a b = by (same_number a b) refl
-  where
-    by : (t : Bool) → same_number a b ≡ t → (a ≡ b) ⊎ (a ≢ b)
-    by true q = inl (same-int a b q)
-    by false q = inr (other-int a b q)
 
 -- ---- what an address holds once a heap has changed
 
@@ -34,13 +27,15 @@ test-other b a Equal m e = absurd (e m)
 test-other b a Greater m e = refl
 
 pub insert-same :
-    {X : Type 0} (h : FinMap int_cmp X) (a : ℤ) (w : X) (b : ℤ) → b ≡ a → get (insert h a w) b ≡ Some w
+    {X : Type 0} (h : FinMap int_cmp X) (a : ℤ) (w : X) (b : ℤ) → b ≡ a →
+    get (insert h a w) b ≡ Some w
 insert-same h a w b e =
     get-insert int_cmp_total h a w b
     ∙ ap (λ t. cond t (Some w) (get h b)) (test-equal b a (int_cmp b a) (int_ranks b a) e)
 
 pub insert-other :
-    {X : Type 0} (h : FinMap int_cmp X) (a : ℤ) (w : X) (b : ℤ) → b ≢ a → get (insert h a w) b ≡ get h b
+    {X : Type 0} (h : FinMap int_cmp X) (a : ℤ) (w : X) (b : ℤ) → b ≢ a →
+    get (insert h a w) b ≡ get h b
 insert-other h a w b e =
     get-insert int_cmp_total h a w b
     ∙ ap (λ t. cond t (Some w) (get h b)) (test-other b a (int_cmp b a) (int_ranks b a) e)

@@ -103,6 +103,13 @@ get-map f [] k z e = absurd (cc)
 get-map f (x ∷ xs) zero z e = (x, refl, some-same (f x) z e)
 get-map f (x ∷ xs) (suc k) z e = get-map f xs k z e
 
+pub map-at :
+    {A B : Type 0} (f : A → B) (xs : List A) (i : ℕ) (x : A) → slice_get xs i ≡ Some x →
+    slice_get (map f xs) i ≡ Some (f x)
+map-at f [] i x e = absurd (cc)
+map-at f (y ∷ xs) zero x e = ap (λ z. Some (f z)) (some-same y x e)
+map-at f (y ∷ xs) (suc i) x e = map-at f xs i x e
+
 pub map-length : {A B : Type 0} (f : A → B) (xs : List A) → length (map f xs) ≡ length xs
 map-length f [] = refl
 map-length f (x ∷ xs) = ap suc (map-length f xs)
@@ -166,6 +173,27 @@ pub all-at :
 all-at P [] j x h e = absurd (none-some e)
 all-at P (y ∷ xs) zero x h e = subst P (some-same y x e) h.0
 all-at P (y ∷ xs) (suc j) x h e = all-at P xs j x h.1 e
+
+-- of a list's images
+pub all-map :
+    {A B : Type 0} (f : A → B) (P : B → Type 0) (xs : List A) → AllByRecursion (λ x. P (f x)) xs →
+    AllByRecursion P (map f xs)
+all-map f P [] h = tt
+all-map f P (x ∷ xs) h = (h.0, all-map f P xs h.1)
+
+pub all-unmap :
+    {A B : Type 0} (f : A → B) (P : B → Type 0) (xs : List A) → AllByRecursion P (map f xs) →
+    AllByRecursion (λ x. P (f x)) xs
+all-unmap f P [] h = tt
+all-unmap f P (x ∷ xs) h = (h.0, all-unmap f P xs h.1)
+
+-- where one is replaced
+pub all-set :
+    {X : Type 0} (P : X → Type 0) (xs : List X) (i : ℕ) (y : X) → AllByRecursion P xs → P y →
+    AllByRecursion P (slice_set xs i y)
+all-set P [] i y h k = tt
+all-set P (x ∷ xs) zero y h k = (k, h.1)
+all-set P (x ∷ xs) (suc i) y h k = (h.0, all-set P xs i y h.1 k)
 
 -- ---- members of lists
 

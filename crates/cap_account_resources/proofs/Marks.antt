@@ -8,8 +8,8 @@ use Rattle.cap_galg.specs.Fractions.{IsShare, gcd}
 use Rattle.cap_galg.specs.Elements.{Element, nothing, one, share, tok, src, both, whole, left, right, is_unit, is_full, bind, compose}
 use Rattle.cap_galg.specs.Algebras.{PlainAlgebra, unique, divisible, counting, product, sum, full, IsElement}
 use Rattle.cap_galg.specs.Laws.Fractions.{gcd-is, amount-from, from-lowest}
-use Rattle.cap_galg.specs.Laws.Composition.{le-true, true-le, true-eq, eq-true, compose-comm, composed-not-unit, full_alone, compose_assoc}
-use Rattle.cap_galg.specs.Laws.Algebras.{sound-of, closed, full-element, full-present, full-full}
+use Rattle.cap_galg.specs.Laws.Composition.{le-true, true-le, true-eq, eq-true, compose-comm, composed-not-unit, compose_assoc}
+use Rattle.cap_galg.specs.Laws.Algebras.{sound-of, closed, full-element, full-present}
 use Rattle.cap_galg.specs.Laws.Atoms.{true-lt, lt-true}
 use Rattle.cap_prog.specs.Program.{PlainProgram}
 use Rattle.cap_machine_accounts.specs.Parts.{Guard, join, algebra_of}
@@ -125,16 +125,6 @@ pub is-full : (p : PlainProgram) (k : ℕ) → is p k (full (algebra_of p k)) �
 is-full p k =
     is-by p k (full (algebra_of p k)) (full-element (algebra_of p k))
     (full-present (algebra_of p k))
-
--- no guard composes with all of them
-pub full-alone :
-    (p : PlainProgram) (k : ℕ) (x : Element) → is p k x ≡ true →
-    compose (full (algebra_of p k)) x ≡ None
-full-alone p k x h =
-    full_alone (full (algebra_of p k)) x
-    (sound-of (algebra_of p k) (full (algebra_of p k)) (full-element (algebra_of p k)))
-    (sound-of (algebra_of p k) x (is-element p k x h)) (full-full (algebra_of p k))
-    (is-present p k x h)
 
 pub is-associative :
     (p : PlainProgram) (k : ℕ) (x y z : Element) → is p k x ≡ true → is p k y ≡ true →

@@ -1,10 +1,9 @@
 -- Sums in a commutative monoid, in any order. A partial composition becomes total where None
 -- absorbs.
-use Rattle.std.proofs.Common.{◌≡◌, ◌≢◌, ℕ, ℤ, true, false, List, [], ◌∷◌, ◌++◌, Option, Some, None, refl, sym, ap, ◌∙◌, subst}
+use Rattle.std.proofs.Common.{◌≡◌, ℕ, ℤ, true, false, List, [], ◌∷◌, ◌++◌, Option, Some, None, refl, sym, ap, ◌∙◌, subst, inl, inr, arith}
 use Rattle.std.specs.Prelude.{nat_eq, slice_index_or, if◌then◌else◌}
 use Rattle.std.proofs.lemmas.Bool.{cases_eq}
 use Rattle.std.proofs.lemmas.Bool.Decides.{nat_tests}
-use Rattle.std.proofs.Common.{inl, inr, arith}
 
 -- a partial composition as a total one
 abbrev pub lift : {E : Type 0} → (E → E → Option E) → Option E → Option E → Option E
@@ -169,22 +168,6 @@ module _ (M : Type 0) (plus : M → M → M) (zero_of : M) (laws : IsCommutative
         (flat s) (flat t) zs e ∙ sym (sum_flat atoms t),
   )
 
-  -- what is used up is replaced by what a step leaves of it: a budget's step
-  pub step_by :
-      (a b c goal mid full : M) → Below a b → goal ≡ plus a c → plus b c ≡ mid → Below mid full →
-      Below goal full
-  step_by a b c goal mid full h e1 e2 k =
-      subst (λ x. Below x full) (sym e1)
-      (below_trans (plus a c) (plus b c) full (below_plus a b c h)
-      (subst (λ x. Below x full) (sym e2) k))
-
--- what composes, composes in part
-pub below_valid :
-    (E : Type 0) (compose : E → E → Option E) (a b c : Option E) → lift compose a c ≡ b → b ≢ None →
-    a ≢ None
-below_valid E compose None b c h ne e = ne (sym h)
-below_valid E compose (Some a) b c h ne e = cc
-
 -- families and pairs
 pub each_of :
     (M : Type 0) (plus : M → M → M) (zero_of : M) → IsCommutative M plus zero_of →
@@ -193,13 +176,4 @@ each_of M plus zero_of l = record {
   comm = λ f g i k. l.comm (f k) (g k) i;
   zero_left = λ f i k. l.zero_left (f k) i;
   assoc = λ f g h i k. l.assoc (f k) (g k) (h k) i;
-}
-
-pub pair_of :
-    (A B : Type 0) (p : A → A → A) (q : B → B → B) (x : A) (y : B) → IsCommutative A p x →
-    IsCommutative B q y → IsCommutative (A × B) (λ a b. (p a.0 b.0, q a.1 b.1)) (x, y)
-pair_of A B p q x y l m = record {
-  comm = λ a b i. (l.comm a.0 b.0 i, m.comm a.1 b.1 i);
-  zero_left = λ a i. (l.zero_left a.0 i, m.zero_left a.1 i);
-  assoc = λ a b c i. (l.assoc a.0 b.0 c.0 i, m.assoc a.1 b.1 c.1 i);
 }

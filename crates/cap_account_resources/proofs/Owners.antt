@@ -108,6 +108,7 @@ no-guards-of p (r ∷ rs) n f =
     ∙ no-guards-of p rs n (λ m. f (inr m))
 
 -- guards hold no cells
-pub no-cells-in : (p : PlainProgram) (rs : List Owner) (a z : ℤ) → (guards_of_all p rs).cells a z ≡ 0
+pub no-cells-in : (p : PlainProgram) (rs : List Owner) (a z : ℤ) →
+    (guards_of_all p rs).cells a z ≡ 0
 no-cells-in p [] a z = refl
 no-cells-in p (r ∷ rs) a z = let k = no-cells-in p rs a z in omega (arith, k)

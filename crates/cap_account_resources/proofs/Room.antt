@@ -1,6 +1,6 @@
--- What the table has room for: all guards of each of its regions, and none of other numbers; a region
--- is created with all of its guards.
-use Rattle.std.proofs.Common.{◌≡◌, ◌≢◌, ◌⊎◌, inl, inr, ℕ, ℤ, Bool, true, false, Option, Some, None, refl, sym, ap, ◌∙◌, subst}
+-- What the table has room for: all guards of each of its regions, and none of other numbers; a
+-- region is created with all of its guards.
+use Rattle.std.proofs.Common.{◌≡◌, ◌≢◌, ℕ, ℤ, Bool, true, false, Option, Some, None, refl, sym, ap, ◌∙◌, subst}
 use Rattle.std.specs.Prelude.{if◌then◌else◌}
 use Rattle.cap_lin.specs.Linear.{same_number}
 use Rattle.cap_galg.specs.Elements.{Element, compose}
@@ -9,10 +9,10 @@ use Rattle.cap_prog.specs.Program.{PlainProgram}
 use Rattle.cap_machine_accounts.specs.Parts.{Guard, algebra_of}
 use Rattle.cap_account_resources.specs.Parts.{Known, Table}
 use Rattle.cap_account_resources.proofs.Lists.{some-same}
-use Rattle.cap_account_resources.proofs.Order.{same-int, same-refl, other-int}
+use Rattle.cap_account_resources.proofs.Order.{same-int, same-refl}
 use Rattle.cap_account_resources.proofs.Marks.{Mark, free, of, is, is-full, fit, fitting, wrap, meet_if, joins-law}
-use Rattle.cap_account_resources.proofs.Covering.{join_marks, IsPartOf, free-right}
-use Rattle.cap_account_resources.proofs.Interference.{Holding, ArePartOf}
+use Rattle.cap_account_resources.proofs.Covering.{join_marks, IsPartOf}
+use Rattle.cap_account_resources.proofs.Interference.{Holding}
 
 -- ---- the table's room
 
@@ -130,13 +130,6 @@ alone-away r m n ne = by (same_number r n) refl
     by true e = absurd (ne (same-int r n e))
     by false e = refl
 
-pub here-or : (r n : ℤ) → (r ≡ n) ⊎ (r ≢ n)
-here-or r n = by (same_number r n) refl
-  where
-    by : (b : Bool) → same_number r n ≡ b → (r ≡ n) ⊎ (r ≢ n)
-    by true e = inl (same-int r n e)
-    by false e = inr (other-int r n e)
-
 pub alone-join :
     (p : PlainProgram) (r : ℤ) (a b : Option Mark) (n : ℤ) →
     join_marks p (alone r a n) (alone r b n) ≡ alone r (join_marks p a b) n
@@ -153,29 +146,3 @@ alone-join p r a b n = by (same_number r n)
 
 abbrev pub with_known : Table → ℤ → Known → Table
 with_known T r e n = if same_number r n then Some e else T n
-
--- the room grows by the new region's guards
-pub room-grows :
-    (p : PlainProgram) (T : Table) (r : ℤ) (e : Known) → T r ≡ None → (n : ℤ) →
-    room p (with_known T r e) n ≡ join_marks p (room p T n) (alone r (all_guards p e.kind) n)
-room-grows p T r e none n = by (same_number r n) refl
-  where
-    by :
-        (b : Bool) → same_number r n ≡ b →
-        room_of p (if b then Some e else T n) ≡ join_marks p (room p T n)
-        (if b then all_guards p e.kind else Some free)
-    by true t =
-        ap (λ o. join_marks p (room_of p o) (all_guards p e.kind))
-        (sym none ∙ ap T (same-int r n t))
-    by false t = sym (free-right p (room p T n))
-
--- what all hold stays within the room when a region is created, with its guards
-pub create-budget :
-    (p : PlainProgram) (T : Table) (r : ℤ) (e : Known) (total : Holding) → T r ≡ None →
-    ArePartOf p total (room p T) →
-    ArePartOf p (λ n. join_marks p (total n) (alone r (all_guards p e.kind) n))
-    (room p (with_known T r e))
-create-budget p T r e total none le n =
-    let g = alone r (all_guards p e.kind) n in
-    subst (IsPartOf p (join_marks p (total n) g)) (sym (room-grows p T r e none n))
-    (part-join p (total n) (room p T n) g (le n))

@@ -65,7 +65,8 @@ cells-laws : IsCommutative Cells (λ c d a z. c a z + d a z) no_cells
 cells-laws =
     each_of (ℤ → ℕ) (λ c d z. c z + d z) (λ z. 0) (each_of ℕ (λ m n. m + n) 0 count-laws)
 
-guards-laws : (p : PlainProgram) → IsCommutative Holding (λ g h n. join_marks p (g n) (h n)) no_guards
+guards-laws : (p : PlainProgram) →
+    IsCommutative Holding (λ g h n. join_marks p (g n) (h n)) no_guards
 guards-laws p = each_of (Option Mark) (join_marks p) (Some free) (joins-law p)
 
 pub stock-laws : (p : PlainProgram) → IsCommutative Stock (both p) no_stock

@@ -1,15 +1,15 @@
 -- Tables of regions: which of them are open, which table goes on from which, and what it has room
 -- for beyond the other.
-use Rattle.std.proofs.Common.{◌≡◌, ◌≢◌, ℕ, suc, ℤ, List, [], ◌∷◌, length, Option, Some, None, refl, sym, ap, ◌∙◌, subst}
+use Rattle.cap_account_resources.proofs.Stocks.{Composes, Stock, no_cells, both, Inside, inside-guards, inside-first}
+use Rattle.cap_account_resources.proofs.Room.{part-some, room-some, all_guards, room_of, room, part-join}
+use Rattle.std.proofs.Common.{◌≡◌, ℕ, suc, ℤ, List, length, Option, Some, None, refl, sym, ap, ◌∙◌, subst}
 use Rattle.std.specs.Prelude.{slice_get}
 use Rattle.cap_prog.specs.Program.{PlainRegionType, PlainProgram}
 use Rattle.cap_account_resources.specs.Parts.{Known, known_as, Table}
 use Rattle.cap_account_resources.proofs.Lists.{some-same, none-some, Among}
-use Rattle.cap_account_resources.proofs.Marks.{Mark, free, joins-law}
+use Rattle.cap_account_resources.proofs.Marks.{Mark, free}
 use Rattle.cap_account_resources.proofs.Covering.{join_marks, IsPartOf, free-right, part-trans}
 use Rattle.cap_account_resources.proofs.Interference.{ArePartOf, Relies}
-use Rattle.cap_account_resources.proofs.Room.{all_guards, room_of, room, part-join}
-use Rattle.cap_account_resources.proofs.Stocks.{Stock, no_cells, both, Inside, inside-guards, inside-first}
 
 -- ---- what a table says
 
@@ -54,17 +54,14 @@ extends-states T U f n k zs z h = f n (known_as k zs (Some z)) h
 pub extends-types : (T U : Table) → Extends T U → KeepsTypes T U
 extends-types T U f n e h = (e, f n e h, refl)
 
-pub types-trans : (T U W : Table) → KeepsTypes T U → KeepsTypes U W → KeepsTypes T W
-types-trans T U W f g n e h =
-    let u = f n e h in
-    let w = g n u.0 u.1 in
-    (w.0, w.1, w.2 ∙ u.2)
-
 -- ---- room
 
 -- what is held is within the table's room
 abbrev pub FitsRoom : PlainProgram → Table → Stock → Type 0
 FitsRoom p T q = ArePartOf p q.guards (room p T)
+
+pub fits-composes : (p : PlainProgram) (T : Table) (q : Stock) → FitsRoom p T q → Composes q
+fits-composes p T q h n = part-some p (q.guards n) (room p T n) (h n) (room-some p T n)
 
 -- all guards of a region that only the second table has
 abbrev pub guards_if_new : PlainProgram → Option Known → Option Known → Option Mark

@@ -1,6 +1,8 @@
 -- Values that are alike on some variables: the same whole numbers and, whatever the denominators,
 -- the same fractions. What is said of these variables holds at both or at neither.
-use Rattle.std.proofs.Common.{◌≡◌, ℕ, ◌+◌, ℤ, pos, ◌+ℤ◌, ◌*ℤ◌, ◌<ℤ◌, List, [], ◌∷◌, arith, refl, sym, ap, ◌∙◌, subst, Some, inl, inr}
+use Rattle.cap_account_resources.proofs.Order.{cancel, turned, grouped, swapped, relates-times, relates-or, not-both}
+use Rattle.std.proofs.Common.{◌≡◌, ℕ, zero, suc, ◌+◌, ◌<◌, ℤ, pos, ◌+ℤ◌, ◌*ℤ◌, ◌<ℤ◌, List, [], ◌∷◌, ◌++◌, length, map, Some, arith, refl, sym, ap, ◌∙◌, subst, inl, inr}
+use Rattle.std.specs.Prelude.{slice_get}
 use Rattle.std.specs.List.{AllByRecursion}
 use Rattle.std.proofs.lemmas.Int.{ints}
 use Rattle.cap_numbers.proofs.Ring.{expand, product3}
@@ -18,14 +20,12 @@ use Rattle.cap_lin.proofs.Values.{value-nil, value-cons}
 use Rattle.cap_prog.specs.declared.assertion.Comp.{Comp}
 use Rattle.cap_prog.specs.Scopes.{Scope, HasSort, TermFits, CompFits}
 use Rattle.cap_machine_accounts.specs.Assertions.{CompHolds}
-use Rattle.cap_goal_spec.specs.States.{PlainEnv, PlainState}
-use Rattle.cap_goal_spec.specs.Environments.{term_of}
+use Rattle.cap_goal_spec.specs.States.{PlainState}
 use Rattle.cap_rules.specs.Making.{opposite}
-use Rattle.cap_account_resources.proofs.Lists.{within}
-use Rattle.cap_account_resources.proofs.Order.{relates-times, relates-or, not-both}
+use Rattle.cap_account_resources.proofs.Lists.{within, some-same, none-some, all-more, get-first, get-join}
 use Rattle.cap_account_states.proofs.Terms.{Vars, Over, vars-more, RowOver, value-is, amount-is, sum-agree, Agree}
-use Rattle.cap_account_states.proofs.Meets.{Usable, usable-old, CellOver, Meets, need, Old, Same}
-use Rattle.cap_account_states.proofs.Naming.{Placed, Means}
+use Rattle.cap_account_states.proofs.Meets.{Free, Usable, usable-old, usable-on, CellOver, cell-more, row-more, Meets, need, Old, Same}
+use Rattle.cap_account_states.proofs.Attempts.{sort_added}
 use Rattle.cap_account_states.proofs.Values.{scaled, scaled-denominator}
 
 -- on these variables the whole numbers are the same, and the numerators equal crosswise
@@ -41,15 +41,6 @@ pub record Alike (P : ℕ → Type 0) (v w : Valuation) : Type 0 where
 pub above-zero : (v : Valuation) → pos 0 <ℤ denominator v.fraction
 above-zero v = omega (arith, ints)
 
-pub turned : (a b : ℤ) → a *ℤ b ≡ b *ℤ a
-turned a b = omega (arith, ints)
-
-pub grouped : (a b c : ℤ) → a *ℤ b *ℤ c ≡ a *ℤ (b *ℤ c)
-grouped a b c = simp expand (omega (arith, ints, product3))
-
-pub swapped : (a b c : ℤ) → a *ℤ b *ℤ c ≡ a *ℤ c *ℤ b
-swapped a b c = grouped a b c ∙ ap (λ z. a *ℤ z) (turned b c) ∙ sym (grouped a c b)
-
 -- a positive factor of both sides is left out
 pub relates-undo :
     (op : Op) (a b m : ℤ) → pos 0 <ℤ m → Relates op (a *ℤ m) (b *ℤ m) → Relates op a b
@@ -58,14 +49,11 @@ relates-undo op a b m h k = elim (relates-or op a b) [
   | inr n ↦ absurd (not-both op (a *ℤ m) (b *ℤ m) k (relates-times (opposite op) a b m h n))
 ]
 
-pub undo : (a b m : ℤ) → pos 0 <ℤ m → a *ℤ m ≡ b *ℤ m → a ≡ b
-undo a b m h e = relates-undo Equal a b m h e
-
 -- x over a equals y over b, and y over b equals z over c
 cross-trans :
     (x y z a b c : ℤ) → pos 0 <ℤ b → y *ℤ a ≡ x *ℤ b → z *ℤ b ≡ y *ℤ c → z *ℤ a ≡ x *ℤ c
 cross-trans x y z a b c h e f =
-    undo (z *ℤ a) (x *ℤ c) b h
+    cancel (z *ℤ a) (x *ℤ c) b h
     (swapped z a b ∙ ap (λ u. u *ℤ a) f ∙ swapped y c a ∙ ap (λ u. u *ℤ c) e ∙ swapped x b c)
 
 cross-relates :
@@ -137,19 +125,6 @@ pub scaled-agree-alike :
 scaled-agree-alike P m v w a =
     alike-trans P v (scaled m v) w (scaled-alike P m v) (agree-alike P (scaled m v) w a)
 
--- alike values over one denominator agree
-pub alike-agrees :
-    (P : ℕ → Type 0) (v w : Valuation) → w.fraction.under ≡ v.fraction.under → Alike P v w →
-    Agree P v w
-alike-agrees P v w e a = record {
-  under = e;
-  whole = a.whole;
-  share =
-      λ x h. undo (w.fraction.numerator x) (v.fraction.numerator x) (denominator v.fraction)
-      (above-zero v)
-      (a.share x h ∙ ap (λ n. v.fraction.numerator x *ℤ pos (n + 1)) e);
-}
-
 -- in a state that goes on
 pub alike-on :
     (s t : PlainState) (v w x : Valuation) → Same s t → Alike (Old s) v w → Alike (Old t) w x →
@@ -181,6 +156,22 @@ pub value-alike :
 value-alike P v w a t h =
     value-is w.whole t ∙ ap (λ z. t.constant +ℤ z) (sum-agree P v.whole w.whole a.whole t.parts h)
     ∙ sym (value-is v.whole t)
+
+pub values-alike :
+    (P : ℕ → Type 0) (v w : Valuation) → Alike P v w → (ts : List Linear) →
+    AllByRecursion (Over P) ts → map (value w.whole) ts ≡ map (value v.whole) ts
+values-alike P v w a [] h = refl
+values-alike P v w a (t ∷ ts) h =
+    ap (λ z. z ∷ map (value w.whole) ts) (value-alike P v w a t h.0)
+    ∙ ap (λ zs. value v.whole t ∷ zs) (values-alike P v w a ts h.1)
+
+-- of a term over usable variables
+pub usable-alike :
+    (ks : List ℕ) (s : PlainState) (v w : Valuation) → Alike (Old s) v w → (t : Linear) →
+    Over (Usable ks s.sorts Int) t → value w.whole t ≡ value v.whole t
+usable-alike ks s v w a t h =
+    value-alike (Old s) v w a t
+    (vars-more (Usable ks s.sorts Int) (Old s) (usable-old ks s.sorts Int) t.parts h)
 
 pub amount-alike :
     (P : ℕ → Type 0) (v w : Valuation) → Alike P v w → (t : Linear) → Over P t →
@@ -268,7 +259,7 @@ pub whole-alike :
 whole-alike P v w a x h i =
     let d = denominator v.fraction in
     let e = denominator w.fraction in
-    undo (w.fraction.numerator x) (w.whole x *ℤ e) d (above-zero v)
+    cancel (w.fraction.numerator x) (w.whole x *ℤ e) d (above-zero v)
     (a.share x h ∙ ap (λ z. z *ℤ e) i ∙ swapped (v.whole x) d e
     ∙ ap (λ z. z *ℤ e *ℤ d) (sym (a.whole x h)))
 
@@ -311,27 +302,62 @@ meets-alike ks v w s a m = record {
   store_over = m.store_over;
 }
 
--- what bound names have at values, values that are alike on the names have at alike values
-pub means-alike :
-    (ks : List ℕ) (sc : Scope) (s : PlainState) (v w : Valuation) (env : PlainEnv)
-    (a b : Valuation) → Placed ks sc s.sorts env → Alike (Old s) v w → Alike (InScope sc) a b →
-    b.fraction.under ≡ w.fraction.under → Means sc v env a → Means sc w env b
-means-alike ks sc s v w env a b p g l u m = record {
-  under = u;
-  whole =
-      λ x i t e. value-alike (Old s) v w g t (old x Int i t e) ∙ m.whole x i t e
-      ∙ sym (l.whole x (Int, i));
-  share = λ x i t e.
-      let d = denominator v.fraction in
-      undo (amount w.fraction t) (b.fraction.numerator x) d (above-zero v)
-      (amount-alike (Old s) v w g t (old x Perm i t e)
-      ∙ ap (λ z. z *ℤ denominator w.fraction) (m.share x i t e)
-      ∙ ap (λ n. a.fraction.numerator x *ℤ pos (n + 1)) (sym u)
-      ∙ sym (l.share x (Perm, i))
-      ∙ ap (λ n. b.fraction.numerator x *ℤ pos (n + 1)) m.under);
-}
+-- other values, at which the same is known of all but the variables that are kept free
+pub meets-agree :
+    (ks : List ℕ) (v w : Valuation) (s : PlainState) →
+    Agree (λ x. (x < length s.sorts) × Free ks x) v w →
+    ((x : ℕ) → slice_get s.sorts x ≡ Some Int → IsWholeAt w x) → Meets ks v s → Meets ks w s
+meets-agree ks v w s a whole m =
+    let R = Usable ks s.sorts in
+    let P : ℕ → Type 0 = λ x. (x < length s.sorts) × Free ks x in
+    let near : (o : Sort) (x : ℕ) → R o x → P x = λ o x h. (usable-old ks s.sorts o x h, h.1) in
+    let l = agree-alike P v w a in
+    record {
+      sorted = whole;
+      rows = rows-alike R P v w near l s.rows m.rows_over m.rows;
+      rows_over = m.rows_over;
+      cells_over = m.cells_over;
+      positive = positive-alike R P v w (near Int) l s.cells m.cells_over m.positive;
+      store_over = m.store_over;
+    }
+
+-- ---- with a new variable
+
+abbrev pub SortOk : Valuation → ℕ → Sort → Type 0
+SortOk v x Int = IsWholeAt v x
+SortOk v x Perm = Unit {0}
+
+pub meets-fresh :
+    (ks : List ℕ) (v w : Valuation) (s : PlainState) (o : Sort) → Agree (Old s) v w →
+    SortOk w (length s.sorts) o → Meets ks v s → Meets ks w (sort_added s o)
+meets-fresh ks v w s o a ok m =
+    let b = meets-alike ks v w s (agree-alike (Old s) v w a) m in
+    let R = Usable ks s.sorts in
+    let S = Usable ks (s.sorts ++ o ∷ []) in
+    record {
+      sorted =
+          λ x e. elim (get-join s.sorts (o ∷ []) x Int e)
+          [ inl h ↦ b.sorted x h | inr h ↦ new x h.0 h.1 h.2 ];
+      rows = b.rows;
+      rows_over = all-more (RowOver R) (RowOver S) (row-more R S (more ks)) s.rows m.rows_over;
+      cells_over =
+          all-more (CellOver R) (CellOver S) (cell-more R S (more ks)) s.cells m.cells_over;
+      positive = b.positive;
+      store_over =
+          all-more (Over (Usable [] s.sorts Int)) (Over (Usable [] (s.sorts ++ o ∷ []) Int))
+          (λ t h. vars-more (Usable [] s.sorts Int) (Usable [] (s.sorts ++ o ∷ []) Int)
+          (more [] Int) t.parts h) s.store m.store_over;
+    }
   where
-    old :
-        (x : ℕ) (o : Sort) → HasSort sc o x → (t : Linear) → term_of env x ≡ Some t → Over (Old s) t
-    old x o i t e =
-        vars-more (Usable ks s.sorts o) (Old s) (usable-old ks s.sorts o) t.parts (p.over x o i t e)
+    more :
+        (js : List ℕ) (p : Sort) (x : ℕ) → Usable js s.sorts p x →
+        Usable js (s.sorts ++ o ∷ []) p x
+    more js p x h =
+        usable-on js s.sorts (s.sorts ++ o ∷ []) (λ y q e. get-first s.sorts (o ∷ []) y q e) p x h
+
+    new : (x j : ℕ) → x ≡ length s.sorts + j → slice_get (o ∷ []) j ≡ Some Int → IsWholeAt w x
+    new x zero e f =
+        let q : o ≡ Int = some-same o Int f in
+        let r : length s.sorts ≡ x = omega (arith, e) in
+        subst (IsWholeAt w) r (subst (SortOk w (length s.sorts)) q ok)
+    new x (suc j) e f = absurd (none-some f)

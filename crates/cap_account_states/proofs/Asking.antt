@@ -1,7 +1,6 @@
 -- What an action asks for, as forms over variables: each `_` gets a variable of its value.
+use Rattle.cap_account_resources.proofs.Order.{grouped}
 use Rattle.std.proofs.Common.{◌≡◌, ℕ, ◌+◌, ◌≤◌, ◌<◌, ℤ, pos, ◌*ℤ◌, List, [], ◌∷◌, length, Option, sym, ap, ◌∙◌, arith}
-use Rattle.std.proofs.lemmas.Int.{ints}
-use Rattle.cap_numbers.proofs.Ring.{expand, product3}
 use Rattle.cap_lin.specs.Linear.{Linear, variable}
 use Rattle.cap_lin.specs.Values.{Valuation, denominator, value, amount}
 use Rattle.cap_lin.specs.Solves.{IsWholeAt}
@@ -26,9 +25,6 @@ use Rattle.cap_account_states.proofs.Attempts.{comes-bind}
 use Rattle.cap_account_resources.proofs.Marks.{Mark}
 use Rattle.cap_account_resources.proofs.Interference.{AsksAtoms}
 use Rattle.cap_account_states.proofs.Wanting.{Low, named_term, NamesOk, names-agree, fresh-agree, names-up, named-value, named-amount, named-whole, scope-low}
-
-three-times : (a b c : ℤ) → a *ℤ b *ℤ c ≡ a *ℤ (b *ℤ c)
-three-times a b c = simp expand (omega (arith, ints, product3))
 
 -- ---- forms over names; this variable stands for `_`
 
@@ -189,7 +185,7 @@ module _ (p : PlainProgram) (X : Valuation) (sc : Scope)
           h.0,
           h.1,
           ap (λ u. pos h.0.num *ℤ u) d
-              ∙ (sym (three-times (pos h.0.num) fine.0 (pos h.0.den))
+              ∙ (sym (grouped (pos h.0.num) fine.0 (pos h.0.den))
               ∙ ap (λ u. u *ℤ pos h.0.den) (sym a)),
           h.3,
         );

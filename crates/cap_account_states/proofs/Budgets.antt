@@ -1,9 +1,10 @@
 -- Pieces of a region whose full pieces are all of its guards.
-use Rattle.std.proofs.Common.{◌≡◌, ◌≢◌, ◌⊎◌, inl, inr, ℕ, ℤ, Bool, true, false, List, [], ◌∷◌, Option, Some, None, refl, sym, ap, ◌∙◌, subst}
+use Rattle.cap_account_resources.proofs.Order.{same-or}
+use Rattle.std.proofs.Common.{◌≡◌, ◌≢◌, inl, inr, ℕ, ℤ, Bool, true, false, List, [], ◌∷◌, Some, None, refl, sym, ap, ◌∙◌, subst}
 use Rattle.std.specs.Prelude.{if◌then◌else◌}
 use Rattle.std.specs.List.{AllByRecursion}
-use Rattle.cap_lin.specs.Linear.{Linear, same_number}
-use Rattle.cap_lin.specs.Values.{Valuation, value}
+use Rattle.cap_lin.specs.Linear.{same_number}
+use Rattle.cap_lin.specs.Values.{Valuation}
 use Rattle.cap_lin.specs.Solves.{Holds}
 use Rattle.cap_galg.specs.Elements.{Element, nothing, compose}
 use Rattle.cap_galg.specs.Lists.{compose_all}
@@ -11,10 +12,8 @@ use Rattle.cap_galg.specs.Algebras.{full}
 use Rattle.cap_galg.specs.Laws.Composition.{bind-is}
 use Rattle.cap_galg.specs.Laws.Algebras.{full-present}
 use Rattle.cap_gsolve.specs.declared.piece.Piece.{Piece}
-use Rattle.cap_gsolve.specs.Pieces.{full_pieces}
 use Rattle.cap_gsolve.specs.Merge.{merge_rows}
-use Rattle.cap_gsolve.specs.Meaning.{IsPieceElement, region_of, IsElementAt, AreElementsAt, ComposeAt}
-use Rattle.cap_gsolve.proofs.FullPieces.{full-means}
+use Rattle.cap_gsolve.specs.Meaning.{IsPieceElement, region_of, IsElementAt, AreElementsAt}
 use Rattle.cap_prog.specs.Program.{PlainProgram}
 use Rattle.cap_machine_accounts.specs.Parts.{algebra_of}
 use Rattle.cap_goal_spec.specs.States.{PlainState}
@@ -27,7 +26,7 @@ use Rattle.cap_account_resources.proofs.Covering.{join_marks, mark, mark-of, fre
 use Rattle.cap_account_states.proofs.Pieces.{AllFit, element-of, elements-of, mark-joined}
 use Rattle.cap_account_states.proofs.Adding.{piece_added, comes-piece, piece-added}
 use Rattle.cap_account_resources.proofs.Interference.{Holding}
-use Rattle.cap_account_resources.proofs.Room.{all_guards, alone, alone-here, alone-away, here-or, alone-join}
+use Rattle.cap_account_resources.proofs.Room.{all_guards, alone, alone-here, alone-away, alone-join}
 
 -- ---- pieces alone
 
@@ -38,7 +37,7 @@ pub piece-alone :
 piece-alone p v q y n = record {
   at = λ e. alone-here (region_of v q) (mark q.kind y) n e;
   away = λ ne. alone-away (region_of v q) (mark q.kind y) n ne;
-  or_not = here-or (region_of v q) n;
+  or_not = same-or (region_of v q) n;
 }
 
 -- ---- several pieces of one region
@@ -121,13 +120,6 @@ pieces-added p v z k (q ∷ qs) (y ∷ ys) x s held P at fit are e fits c ne h =
     here : IsElementAt (algebra_of p k) k v z q y → IsPieceElement (algebra_of p k) v q y
     here (inl h) = h.1
     here (inr h) = absurd (h.0 at.0.0)
-
--- the full pieces of a region are all of its guards
-pub full-covered :
-    (p : PlainProgram) (v : Valuation) (r : Linear) (k : ℕ) →
-    ComposeAt (algebra_of p k) k v (value v.whole r) (full_pieces (algebra_of p k) r k)
-    (full (algebra_of p k))
-full-covered p v r k = full-means (algebra_of p k) r k v
 
 pub full-mark : (p : PlainProgram) (k : ℕ) → mark k (full (algebra_of p k)) ≡ all_guards p k
 full-mark p k = mark-of k (full (algebra_of p k)) (full-present (algebra_of p k))

@@ -1,6 +1,7 @@
 -- A predicate of nodes that passes from each node to those below it; valid derivations are such.
-use Rattle.std.proofs.Common.{◌≡◌, inl, inr, ℕ, suc, ℤ, List, [], ◌∷◌, ◌++◌, map, Option, Some, None, refl, sym, ap, subst}
-use Rattle.std.specs.Prelude.{slice_get, IsSomeAnd}
+use Rattle.cap_account_resources.proofs.Lists.{all-unmap}
+use Rattle.std.proofs.Common.{◌≡◌, inl, inr, ℕ, suc, ℤ, List, [], ◌∷◌, ◌++◌, Option, Some, None, refl, sym, ap, subst}
+use Rattle.std.specs.Prelude.{IsSomeAnd}
 use Rattle.std.specs.List.{AllByRecursion}
 use Rattle.cap_lin.specs.Rows.{negations}
 use Rattle.cap_lin.specs.Steps.{first_wide}
@@ -11,14 +12,13 @@ use Rattle.cap_lin.proofs.Proves.{negations-prove}
 use Rattle.cap_farkas.specs.declared.cert.Cert.{Cert}
 use Rattle.cap_farkas.specs.Refutes.{Refutes}
 use Rattle.cap_farkas.proofs.Sound.{refuted-excludes, excluded-infeasible}
-use Rattle.cap_prog.specs.Program.{PlainRegionType, PlainProgram}
+use Rattle.cap_prog.specs.Program.{PlainProgram}
 use Rattle.cap_goal_spec.specs.States.{PlainState, PlainTask, PlainGoal, goal}
 use Rattle.cap_goal_spec.specs.Choices.{PlainTree, node, PlainTrees, no_trees, tree}
 use Rattle.cap_rules.specs.Attempts.{Claim, refuted, proved, IsTrueClaim, owed, Event, makes, claims, Attempt}
 use Rattle.cap_rules.specs.Answers.{Answer, applies, inapplicable, too_wide, Ending, passed, refused, stopped, Refuting, Within, Ends, answer_at, Answers, Subgoals}
 use Rattle.cap_rules.specs.Valid.{AllDerive}
 use Rattle.cap_account_states.specs.Nodes.{NodePredicate, AreTrue, Comes, Children, IsNode, Deriving}
-use Rattle.cap_account_resources.proofs.Lists.{none-some}
 
 pub record Checked : Type 1 where
   pub program : PlainProgram
@@ -49,31 +49,16 @@ one-child N no_trees s ts h = absurd h
 one-child N (tree t no_trees) s ts h = (t, h.0)
 one-child N (tree t (tree u us)) s ts h = absurd h.1
 
-pub no-region :
-    (p : PlainProgram) → p.regions ≡ [] → (k : ℕ) (P : PlainRegionType → Type 0) →
-    IsSomeAnd (slice_get p.regions k) P → ⊥
-no-region p bare k P h = by (slice_get p.regions k) (ap (λ rs. slice_get rs k) bare) h
-  where
-    by : (o : Option PlainRegionType) → o ≡ None → IsSomeAnd o P → ⊥
-    by None e h = h
-    by (Some y) e h = none-some (sym e)
-
 -- ---- what certificates prove
 
 refuted-none : (rows : List Row) (c : Cert) → Refutes rows c → HasNone rows
 refuted-none rows c r =
     infeasible-none rows (excluded-infeasible rows c (refuted-excludes rows c r))
 
-all-mapped :
-    {A B : Type 0} (P : B → Type 0) (f : A → B) (xs : List A) → AllByRecursion P (map f xs) →
-    AllByRecursion (λ x. P (f x)) xs
-all-mapped P f [] h = tt
-all-mapped P f (x ∷ xs) h = (h.0, all-mapped P f xs h.1)
-
 claim-true : (c : Claim) → AllByRecursion HasNone (owed c) → IsTrueClaim c
 claim-true (refuted rows) h = h.0
 claim-true (proved rows r) h =
-    negations-prove rows r (all-mapped HasNone (λ n. rows ++ n ∷ []) (negations r) h)
+    negations-prove rows r (all-unmap (λ n. rows ++ n ∷ []) HasNone (negations r) h)
 
 refuting-true :
     (ls : List (List Row)) (cs : List Cert) (P : List Cert → Type 0) (R : Type 0) → (R → ⊥) →

@@ -9,7 +9,7 @@ use Rattle.cap_account_resources.proofs.Lists.{all-both}
 use Rattle.cap_account_states.proofs.Terms.{Vars, Over, over-over}
 
 -- every variable is one of all
-all-vars : (parts : List (ℕ × ℤ)) → Vars (λ x. Unit {0}) parts
+pub all-vars : (parts : List (ℕ × ℤ)) → Vars (λ x. Unit {0}) parts
 all-vars [] = tt
 all-vars (p ∷ parts) = (tt, all-vars parts)
 

@@ -1,4 +1,5 @@
 -- What facts say of a table, where there are region types: adding one, and giving one up.
+use Rattle.cap_account_resources.proofs.Heaps.{both-true}
 use Rattle.std.proofs.Common.{◌≡◌, ◌≢◌, ℕ, ◌<◌, ℤ, List, [], ◌∷◌, ◌++◌, length, map, drop, get_or, cond, arith, refl, sym, ap, ◌∙◌, subst, Option, Some, None, Bool, true, false}
 use Rattle.std.specs.Prelude.{slice_get, find, not, ◌&&◌, ◌||◌, ◌==◌, if◌then◌else◌}
 use Rattle.std.specs.List.{AllByRecursion, list_any}
@@ -13,7 +14,6 @@ use Rattle.cap_lin.specs.declared.row.Sort.{Sort}
 use Rattle.cap_lin.specs.declared.row.Sort.TheVariants.{Int}
 use Rattle.cap_lin.specs.declared.row.Op.TheVariants.{Eq as Equal}
 use Rattle.cap_lin.proofs.Rows.{row_of-means}
-use Rattle.cap_syntax.specs.declared.place.Place.{Place}
 use Rattle.cap_prog.specs.declared.assertion.Slot.{Slot}
 use Rattle.cap_prog.specs.declared.assertion.Slot.TheVariants.{Is}
 use Rattle.cap_prog.specs.Program.{fact}
@@ -23,15 +23,14 @@ use Rattle.cap_machine_accounts.specs.Accounts.{EachTwo}
 use Rattle.cap_goal_spec.specs.States.{PlainFact, PlainEnv, PlainState}
 use Rattle.cap_rules.specs.Attempts.{Attempt, unit, ◌>>=◌, appended}
 use Rattle.cap_rules.specs.Making.{match_slot, match_slots, is_of_region, is_of_other_type, without_first, with_comparison, with_equalities, with_same, with_false, with_fact}
+use Rattle.cap_account_states.proofs.Alike.{values-alike, Alike, alike-same, alike-less, value-alike}
 use Rattle.cap_account_states.specs.Nodes.{Comes}
-use Rattle.cap_account_resources.specs.Parts.{Hold, known_as, Table, SpendsOne}
+use Rattle.cap_account_resources.specs.Parts.{known_as, Table}
 use Rattle.cap_account_resources.proofs.Lists.{some-same, none-some, join-nil, join-assoc, map-join, all-both, all-more, Among}
 use Rattle.cap_account_states.proofs.Terms.{Over, vars-more, RowOver, row-over, agree-same}
 use Rattle.cap_account_states.proofs.Attempts.{comes-bind, comes-appended, comes-comparison, after-comparison}
 use Rattle.cap_account_states.proofs.Meets.{Free, Usable, usable-old, usable-on, Meets, Old, Same, variable-value}
-use Rattle.cap_account_states.proofs.Alike.{Alike, alike-same, alike-less, value-alike}
 use Rattle.cap_account_states.proofs.Naming.{Placed, Means, Stays, means-back}
-use Rattle.cap_account_states.proofs.Items.{within-same}
 use Rattle.cap_account_states.proofs.Matching.{Outside, matching}
 
 -- the state of a loose fact isn't known
@@ -70,14 +69,6 @@ pub record Facts (ks : List ℕ) (v : Valuation) (T : Table) (s : PlainState) : 
   pub differ : EachTwo StatesDiffer s.facts
 
 -- ---- at alike values, and in a later state
-
-pub values-alike :
-    (P : ℕ → Type 0) (v w : Valuation) → Alike P v w → (ts : List Linear) →
-    AllByRecursion (Over P) ts → map (value w.whole) ts ≡ map (value v.whole) ts
-values-alike P v w a [] h = refl
-values-alike P v w a (t ∷ ts) h =
-    ap (λ z. z ∷ map (value w.whole) ts) (value-alike P v w a t h.0) ∙ ap
-    (λ zs. value v.whole t ∷ zs) (values-alike P v w a ts h.1)
 
 state-alike :
     (P : ℕ → Type 0) (v w : Valuation) → Alike P v w → (b : Bool) (o : Option ℤ) (t : Linear) →
@@ -284,10 +275,6 @@ all-without P test (x ∷ xs) h = by (test x) (all-without P test xs h.1)
     by true k = h.1
     by false k = (h.0, k)
 
-pub both-true : (a b : Bool) → (a && b) ≡ true → (a ≡ true) × (b ≡ true)
-both-true true b e = (refl, e)
-both-true false b e = absurd (cc)
-
 pub tight-state : (b : Bool) (q : Option ℤ) (z : ℤ) → b ≡ false → StateHolds b q z → q ≡ Some z
 tight-state true q z e m = absurd (cc)
 tight-state false q z e m = m
@@ -457,12 +444,13 @@ slots-split a (u ∷ xs) x (y ∷ zs) z h = let r = slots-split a xs x zs z h.1 
 
 -- a fact that isn't loose meets the item that it was matched with
 pub fact-meets :
-    (v : Valuation) (T : Table) (f : PlainFact) (a : Valuation) (place : Place) (r : ℕ)
-    (args : List Slot) (x : Slot) (q : Hold) → FactHolds v T f → f.loose ≡ false →
+    (v : Valuation) (T : Table) (f : PlainFact) (a : Valuation) (r : ℕ) (args : List Slot)
+    (x : Slot) → FactHolds v T f → f.loose ≡ false →
     SlotsAre a (Is (variable r) ∷ (args ++ x ∷ []))
     (map (value v.whole) (f.region ∷ (f.args ++ f.state ∷ []))) →
-    SpendsOne T a (fact place r f.kind args x) q q
-fact-meets v T f a place r args x q h tight m =
+    (zs : List ℤ) × (z : ℤ) × (T (a.whole r) ≡ Some (known_as f.kind zs (Some z)))
+    × SlotsAre a args zs × SlotIs a x z
+fact-meets v T f a r args x h tight m =
     let e : a.whole r ≡ value v.whole f.region = sym (variable-value a r) ∙ m.0 in
     let sp = slots-split a args x (map (value v.whole) f.args) (value v.whole f.state)
     (subst (SlotsAre a (args ++ x ∷ []))
@@ -473,5 +461,4 @@ fact-meets v T f a place r args x q h tight m =
           (tight-state f.loose h.0 (value v.whole f.state) tight h.2),
       sp.0,
       sp.1,
-      within-same q,
     )

@@ -188,7 +188,8 @@ module _ (ks : List ℕ) (sc : Scope) (v : Valuation) (s : PlainState) (me : Mee
   -- the environment stays
   abbrev kept :
       (asked : Asked) (f : Form) (left : List Form) →
-      AllByRecursion (FormOver (Usable ks s.sorts)) left → ((b : PlainAlgebra) → Takes b f → AllByRecursion (Takes b) left) →
+      AllByRecursion (FormOver (Usable ks s.sorts)) left →
+      ((b : PlainAlgebra) → Takes b f → AllByRecursion (Takes b) left) →
       ((own : Element) → IsFormElement v f own → (y : Element) ×
       WantedNear sc (Old s) v env asked y ×
       ((b : PlainAlgebra) → Takes b f → IsElement b y) × Cuts v own y left) →

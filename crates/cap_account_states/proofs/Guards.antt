@@ -26,8 +26,8 @@ use Rattle.cap_rules.specs.Taking.{Cut, cut, cut_form, after_cut, with_form, cut
 use Rattle.cap_rules.specs.Rules.{Remaining, goes, at_piece, at_no_tokens}
 use Rattle.cap_prog.specs.declared.assertion.Slot.{Slot}
 use Rattle.cap_prog.specs.declared.assertion.Asked.TheVariants.{One, Share, Src, Tok}
+use Rattle.cap_account_states.proofs.Alike.{usable-alike, Alike, alike-same, alike-on}
 use Rattle.cap_account_states.proofs.Terms.{Over, vars-more}
-use Rattle.cap_account_states.proofs.Alike.{Alike, alike-same, alike-on, value-alike}
 use Rattle.cap_account_states.proofs.Compatible.{pieces-more, form-alike, covered-alike}
 use Rattle.cap_account_states.proofs.Cutting.{Cuts, one-fraction}
 use Rattle.cap_account_states.proofs.Halving.{halved, half_state, half-cut}
@@ -47,9 +47,9 @@ use Rattle.cap_account_states.proofs.Pieces.{AllFit, left_pieces, CutAt, cut-awa
 use Rattle.cap_account_states.proofs.Adding.{PieceOver}
 use Rattle.cap_account_states.proofs.Guarding.{WantedNear, is_open, is_open_reading, form-cut, proved-relates, FormOver, share-takes}
 
--- the guard is taken at alike values, over a multiple of the denominator, in a state that goes on with
--- the same cells, pieces and environments; it is of the region that is asked, and wanted, at all
--- values that are alike to these
+-- the guard is taken at alike values, over a multiple of the denominator, in a state that goes on
+-- with the same cells, pieces and environments; it is of the region that is asked, and wanted, at
+-- all values that are alike to these
 pub record GuardTaken (p : PlainProgram) (ks : List ℕ) (sc : Scope) (v : Valuation) (s : PlainState)
     (j n k i : ℕ) (asked : Asked) (r : Remaining) (held : ℤ → Option Mark)
     (P : List PlainGoal → Type 0) : Type 0 where
@@ -130,14 +130,7 @@ region-near :
     value v.whole u ≡ value v.whole t → (x : Valuation) → Alike (Old s) v x → (n : ℤ) →
     value x.whole t ≡ n → n ≡ value w.whole u
 region-near ks v w s t u l to uo e x m n h =
-    sym h ∙ kept x m t to ∙ sym e ∙ sym (kept w l u uo)
-  where
-    kept :
-        (w : Valuation) → Alike (Old s) v w → (t : Linear) → Over (Usable ks s.sorts Int) t →
-        value w.whole t ≡ value v.whole t
-    kept w g t o =
-        value-alike (Old s) v w g t
-        (vars-more (Usable ks s.sorts Int) (Old s) (usable-old ks s.sorts Int) t.parts o)
+    sym h ∙ usable-alike ks s v x m t to ∙ sym e ∙ sym (usable-alike ks s v w l u uo)
 
 kinds : (a b x y : ℕ) → ((a == b) && (x == y)) ≡ true → (a ≡ b) × (x ≡ y)
 kinds a b x y h = (grind (arith, nat_tests), grind (arith, nat_tests))
@@ -312,7 +305,8 @@ open-taken p ks sc v s j way n k i x y r held P me apart ov fit cover pl hn ao o
       taken = ho.taken;
       wanted = ho.wanted;
       is_element = el;
-      pieces_over = left-over S s.guards j q left (pieces-more (Usable ks s.sorts) S more s.guards ov)
+      pieces_over = left-over S s.guards j q left
+          (pieces-more (Usable ks s.sorts) S more s.guards ov)
           (vars-more (Usable ks s.sorts Int) (S Int) (more Int) q.region.parts o.0)
           (ho.left_over, tt);
       fit = left-fits p s.guards j q left fit lf;
@@ -371,13 +365,11 @@ no-tokens-taken ks sc v s j (Is u) r P me pl h c =
     let eq : value v.whole (term_in env u) ≡ value v.whole zero_value =
     proved-relates ks v s (term_in env u) Equal zero_value Int me k3.0
     (term-over ks sc s.sorts env Int u pl h b) tt in
-    let over = term-over ks sc s.sorts env Int u pl h b in
-    let old = vars-more (Usable ks s.sorts Int) (Old s) (usable-old ks s.sorts Int)
-    (term_in env u).parts over in (
+    let over = term-over ks sc s.sorts env Int u pl h b in (
       λ w l X m. (
         0,
         sym (term-number sc w env X Int u m h b)
-            ∙ value-alike (Old s) v w l (term_in env u) old ∙ eq ∙ zero-value v.whole,
+            ∙ usable-alike ks s v w l (term_in env u) over ∙ eq ∙ zero-value v.whole,
         refl,
       ),
       k3.1,

@@ -30,11 +30,11 @@ use Rattle.cap_account_states.specs.Nodes.{Comes}
 use Rattle.cap_account_resources.proofs.Lists.{some-same, set-length, get-last}
 use Rattle.cap_account_states.proofs.Terms.{Vars, Over, vars-more, over-minus, row-over, Agree, amount-agree}
 use Rattle.cap_account_states.proofs.Attempts.{sort_added, row_added, after-sort, after-comparison, after-computed}
-use Rattle.cap_account_states.proofs.Meets.{Free, Usable, usable-on, usable-old, Meets, Old, Same, same-trans, meets-fresh, meets-row, same-fresh, same-row, with-agrees, variable-amount, with_value, new-share}
+use Rattle.cap_account_states.proofs.Meets.{Free, Usable, usable-on, usable-old, Meets, Old, Same, same-trans, meets-row, same-fresh, same-row, with-agrees, variable-amount, with_value, new-share}
+use Rattle.cap_account_states.proofs.Alike.{meets-fresh, Alike, scaled-agree-alike}
 use Rattle.cap_account_states.proofs.Naming.{Placed, Means, Stays, term-same, term-other, placed-set, placed-more, stays-set}
 use Rattle.cap_account_states.proofs.Matching.{Outside, lone-is}
 use Rattle.cap_account_states.proofs.Values.{scaled, meets-scaled, scaled-amount}
-use Rattle.cap_account_states.proofs.Alike.{Alike, scaled-agree-alike}
 use Rattle.cap_account_states.proofs.Wants.{AmountIs, value-of-alike, share-wants}
 use Rattle.cap_account_states.proofs.Guarding.{WantedNear, shared}
 use Rattle.cap_account_states.proofs.Cutting.{Cuts, cut-share}
@@ -146,8 +146,8 @@ half_state s a =
     row_added (row_added (sort_added s Perm) (row_of (fresh s) Greater zero_value Perm))
     (row_of (fresh s) Less a Perm)
 
--- half is taken, over twice the denominator; it is asked for at all values that are alike to these on
--- the new variable too
+-- half is taken, over twice the denominator; it is asked for at all values that are alike to these
+-- on the new variable too
 pub record HalfOk (ks : List ℕ) (sc : Scope) (v : Valuation) (s : PlainState) (env : PlainEnv)
     (x : Slot) (y : Option ℕ) (a : Linear) (own : Element) (P : Cut → Type 0) : Type 0 where
   pub alike : Alike (Old s) v (halved v (length s.sorts) a)
@@ -184,7 +184,8 @@ half-cut ks sc v s env slot y a own P me free pl h o e i c =
     let ag : Agree (Old s) (scaled 1 v) w = with-agrees (Old s) (scaled 1 v) n (pos 0)
     (amount v.fraction a) (λ z l q. omega (arith, l, q)) in
     let m1 = meets-fresh ks (scaled 1 v) w s Perm ag tt (meets-scaled ks 1 v s me) in
-    let new : Over (Usable ks s1.sorts Perm) (fresh s) = (((Perm, get-last s.sorts Perm), free), tt) in
+    let new : Over (Usable ks s1.sorts Perm) (fresh s) = (((Perm, get-last s.sorts Perm), free), tt)
+    in
     let a1 : Over (Usable ks s1.sorts Perm) a = vars-more (Usable ks s.sorts Perm)
     (Usable ks s1.sorts Perm)
     (usable-on ks s.sorts s1.sorts (same-fresh s Perm).sorts Perm) a.parts o in

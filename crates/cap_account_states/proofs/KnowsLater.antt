@@ -1,6 +1,6 @@
 -- What is known of a state at alike values and in later states, by larger tables, and where more is
 -- held.
-use Rattle.std.proofs.Common.{◌≡◌, ℕ, ◌<◌, ◌≤◌, ℤ, List, length, Option, Some, arith, sym, ap, ◌∙◌, subst}
+use Rattle.std.proofs.Common.{◌≡◌, ℕ, ◌<◌, ◌≤◌, List, length, Some, arith, sym, ap, ◌∙◌, subst}
 use Rattle.std.specs.Prelude.{slice_get}
 use Rattle.std.specs.List.{AllByRecursion}
 use Rattle.cap_lin.specs.Values.{Valuation}
@@ -10,17 +10,15 @@ use Rattle.cap_prog.specs.Program.{PlainProgram}
 use Rattle.cap_goal_spec.specs.States.{PlainFact, PlainState}
 use Rattle.cap_account_resources.specs.Parts.{Table}
 use Rattle.cap_account_resources.proofs.Lists.{all-more}
-use Rattle.cap_account_resources.proofs.Marks.{Mark}
 use Rattle.cap_account_resources.proofs.Covering.{Covered, covered-more}
 use Rattle.cap_account_resources.proofs.Stocks.{Stock, Inside, inside-cells, inside-guards}
-use Rattle.cap_account_resources.proofs.Tables.{Extends}
 use Rattle.cap_account_states.proofs.Terms.{vars-more}
-use Rattle.cap_account_states.proofs.Alike.{Alike, alike-less, value-alike, need-alike, meets-alike}
+use Rattle.cap_account_states.proofs.Alike.{Alike, alike-less, value-alike, need-alike}
 use Rattle.cap_account_states.proofs.Meets.{Free, Usable, usable-old, usable-on, Meets, need, Old}
 use Rattle.cap_account_states.proofs.Adding.{PieceOver}
 use Rattle.cap_account_states.proofs.Pieces.{AllFit}
 use Rattle.cap_account_states.proofs.Compatible.{pieces-more, covered-alike}
-use Rattle.cap_account_states.proofs.Facts.{FactHolds, Facts, facts-later}
+use Rattle.cap_account_states.proofs.Facts.{facts-later}
 use Rattle.cap_account_states.proofs.Backed.{IsOpened, Backed, Grounded, Knows}
 
 -- ---- in later states
@@ -40,17 +38,6 @@ pub record IsKept (ks : List ℕ) (v w : Valuation) (s t : PlainState) : Type 0 
   pub facts : t.facts ≡ s.facts
   pub guards : t.guards ≡ s.guards
   pub opened : t.opened ≡ s.opened
-
--- the same state
-pub kept-here :
-    (ks : List ℕ) (v w : Valuation) (s : PlainState) → Alike (Steady ks s) v w → IsKept ks v w s s
-kept-here ks v w s a = record {
-  alike = a;
-  sorts = λ x o h. h;
-  facts = λ i. s.facts;
-  guards = λ i. s.guards;
-  opened = λ i. s.opened;
-}
 
 pub old-steady :
     (ks : List ℕ) (v w : Valuation) (s : PlainState) → Alike (Old s) v w →
@@ -80,111 +67,53 @@ opened-on ks v w T s t sorts e l h =
     (opened-later R S (Steady ks s) v w T (usable-on ks s.sorts t.sorts sorts Int)
     (usable-steady ks s Int) l) s.opened h)
 
-module _ (p : PlainProgram) (ks : List ℕ) (v w : Valuation) (s t : PlainState)
-    (k : IsKept ks v w s t) where
-  pub pieces-kept :
-      AllByRecursion (PieceOver (Usable ks s.sorts)) s.guards →
-      AllByRecursion (PieceOver (Usable ks t.sorts)) t.guards
-  pieces-kept h =
-      subst (AllByRecursion (PieceOver (Usable ks t.sorts))) (sym k.guards)
-      (pieces-more (Usable ks s.sorts) (Usable ks t.sorts) (usable-on ks s.sorts t.sorts k.sorts)
-      s.guards h)
+-- what is held backs the state at values that are alike on what it uses
+pub backed-at :
+    (p : PlainProgram) (s : PlainState) (ks : List ℕ) (P : ℕ → Type 0) (v w : Valuation)
+    (q : Stock) → ((o : Sort) (x : ℕ) → Usable ks s.sorts o x → P x) → Alike P v w →
+    Grounded p ks v s → Backed p v s q → Backed p w s q
+backed-at p s ks P v w q uses l g b =
+    let R = Usable ks s.sorts in
+    record {
+      cells = λ a z.
+          let e = need-alike R P v w (uses Int) l s.cells g.meets.cells_over a z in
+          let i = b.cells a z in
+          omega (arith, e, i);
+      guards = λ n.
+          covered-alike p P v w l s.guards n (q.guards n)
+          (pieces-more R (λ o. P) uses s.guards g.pieces_over) (b.guards n);
+    }
 
-  pub covered-kept :
-      AllByRecursion (PieceOver (Usable ks s.sorts)) s.guards → (n : ℤ) (m : Option Mark) →
-      Covered p v s.guards n m → Covered p w t.guards n m
-  covered-kept h n m c =
-      let P = Steady ks s in
-      let over = pieces-more (Usable ks s.sorts) (λ o. P) (usable-steady ks s) s.guards h in
-      subst (λ ps. Covered p w ps n m) (sym k.guards)
-      (covered-alike p P v w k.alike s.guards n m over c)
-
-  -- what is held has what the later state's cells need
-  pub knows-kept :
-      (T : Table) (q : Stock) → Knows p ks v T s q →
-      ((a z : ℤ) → need w t.cells a z ≤ q.cells a z) → Knows p ks w T t q
-  knows-kept T q h c = record {
-    facts = facts-later ks v w T s t k.sorts k.facts k.alike h.facts;
-    pieces_over = pieces-kept h.pieces_over;
-    pieces_fit = subst (AllFit p) (sym k.guards) h.pieces_fit;
-    opened = opened-on ks v w T s t k.sorts k.opened k.alike h.opened;
-    backed = record {
-      cells = c;
-      guards = λ n. covered-kept h.pieces_over n (q.guards n) (h.backed.guards n);
-    };
-  }
-
-  -- the cells are the same too
-  need-kept :
-      Meets ks v s → t.cells ≡ s.cells → (q : Stock) → Backed p v s q → (a z : ℤ) →
-      need w t.cells a z ≤ q.cells a z
-  need-kept m e q b a z =
-      let d =
-      need-alike (Usable ks s.sorts) (Steady ks s) v w (usable-steady ks s Int) k.alike s.cells
-      m.cells_over a z in
-      subst (λ n. n ≤ q.cells a z) (sym (ap (λ cs. need w cs a z) e ∙ d)) (b.cells a z)
-
-  pub knows-on :
-      (T : Table) (q : Stock) → Meets ks v s → t.cells ≡ s.cells → Knows p ks v T s q →
-      Knows p ks w T t q
-  knows-on T q m e h = knows-kept T q h (need-kept m e q h.backed)
-
-  pub backed-on :
-      (q : Stock) → Grounded p ks v s → t.cells ≡ s.cells → Backed p v s q → Backed p w t q
-  backed-on q g e b = record {
-    cells = need-kept g.meets e q b;
-    guards = λ n. covered-kept g.pieces_over n (q.guards n) (b.guards n);
-  }
-
--- ---- at alike values
-
-module _ (p : PlainProgram) (ks : List ℕ) (v w : Valuation) (s : PlainState)
-    (l : Alike (Old s) v w) where
-  pub knows-alike :
-      (T : Table) (q : Stock) → Meets ks v s → Knows p ks v T s q → Knows p ks w T s q
-  knows-alike T q m h =
-      knows-on p ks v w s s (kept-here ks v w s (old-steady ks v w s l)) T q m (λ i. s.cells) h
-
-  pub backed-alike : (q : Stock) → Grounded p ks v s → Backed p v s q → Backed p w s q
-  backed-alike q g b =
-      backed-on p ks v w s s (kept-here ks v w s (old-steady ks v w s l)) q g (λ i. s.cells) b
-
-  pub grounded-alike : Grounded p ks v s → Grounded p ks w s
-  grounded-alike g = record {
-    meets = meets-alike ks v w s l g.meets;
-    pieces_over = g.pieces_over;
-    pieces_fit = g.pieces_fit;
-  }
-
--- ---- by a larger table
-
-pub facts-extend :
-    (ks : List ℕ) (v : Valuation) (T U : Table) (s : PlainState) → Extends T U → Facts ks v T s →
-    Facts ks v U s
-facts-extend ks v T U s x f = record {
-  holds =
-      all-more (FactHolds v T) (FactHolds v U) (λ g h. (h.0, x _ _ h.1, h.2)) s.facts f.holds;
-  over = f.over;
-  loose = f.loose;
-  differ = f.differ;
+-- and one with the same cells and pieces
+pub backed-same :
+    (p : PlainProgram) (s t : PlainState) (v : Valuation) (q : Stock) → t.cells ≡ s.cells →
+    t.guards ≡ s.guards → Backed p v s q → Backed p v t q
+backed-same p s t v q e f b = record {
+  cells = λ a z. subst (λ cs. need v cs a z ≤ q.cells a z) (sym e) (b.cells a z);
+  guards = λ n. subst (λ ps. Covered p v ps n (q.guards n)) (sym f) (b.guards n);
 }
 
-pub opened-extend :
-    (P : ℕ → Type 0) (v : Valuation) (T U : Table) (fs : List PlainFact) → Extends T U →
-    AllByRecursion (IsOpened P v T) fs → AllByRecursion (IsOpened P v U) fs
-opened-extend P v T U fs x h =
-    all-more (IsOpened P v T) (IsOpened P v U) (λ g o. (o.0, o.1, x _ _ o.2)) fs h
-
-pub knows-extend :
-    (p : PlainProgram) (ks : List ℕ) (v : Valuation) (T U : Table) (s : PlainState) (q : Stock) →
-    Extends T U → Knows p ks v T s q → Knows p ks v U s q
-knows-extend p ks v T U s q x h = record {
-  facts = facts-extend ks v T U s x h.facts;
-  pieces_over = h.pieces_over;
-  pieces_fit = h.pieces_fit;
-  opened = opened-extend (Usable ks s.sorts Int) v T U s.opened x h.opened;
-  backed = h.backed;
-}
+-- what is known of a later state with the same cells
+pub knows-on :
+    (p : PlainProgram) (ks : List ℕ) (v w : Valuation) (s t : PlainState) → IsKept ks v w s t →
+    (T : Table) (q : Stock) → Meets ks v s → t.cells ≡ s.cells → Knows p ks v T s q →
+    Knows p ks w T t q
+knows-on p ks v w s t k T q m e h =
+    let R = Usable ks s.sorts in
+    let S = Usable ks t.sorts in
+    let g : Grounded p ks v s =
+    record { meets = m; pieces_over = h.pieces_over; pieces_fit = h.pieces_fit } in
+    record {
+      facts = facts-later ks v w T s t k.sorts k.facts k.alike h.facts;
+      pieces_over =
+          subst (AllByRecursion (PieceOver S)) (sym k.guards)
+          (pieces-more R S (usable-on ks s.sorts t.sorts k.sorts) s.guards h.pieces_over);
+      pieces_fit = subst (AllFit p) (sym k.guards) h.pieces_fit;
+      opened = opened-on ks v w T s t k.sorts k.opened k.alike h.opened;
+      backed =
+          backed-same p s t w q e k.guards
+          (backed-at p s ks (Steady ks s) v w q (usable-steady ks s) k.alike g h.backed);
+    }
 
 -- ---- where more is held
 

@@ -18,13 +18,13 @@ use Rattle.cap_goal_spec.specs.States.{PlainEnv, PlainState}
 use Rattle.cap_goal_spec.specs.Environments.{term_of, is_determined, term_in, term_in_steps, with_name, settled, read_name}
 use Rattle.cap_rules.specs.Attempts.{unit, ◌>>=◌, prove_that}
 use Rattle.cap_rules.specs.Making.{match_reading, match_slot}
+use Rattle.cap_account_states.proofs.Alike.{usable-alike, Alike}
 use Rattle.cap_account_states.specs.Nodes.{Comes}
 use Rattle.cap_account_resources.proofs.Lists.{some-same, none-some, set-length}
-use Rattle.cap_account_states.proofs.Terms.{Vars, Over, vars-more, row-over}
+use Rattle.cap_account_states.proofs.Terms.{Vars, Over, row-over}
 use Rattle.cap_account_resources.proofs.Order.{same-int}
 use Rattle.cap_account_states.proofs.Attempts.{after-computed, after-proved}
-use Rattle.cap_account_states.proofs.Meets.{Usable, usable-old, Old, Meets, variable-value, proved-holds}
-use Rattle.cap_account_states.proofs.Alike.{Alike, value-alike}
+use Rattle.cap_account_states.proofs.Meets.{Usable, Meets, variable-value, proved-holds}
 use Rattle.cap_account_states.proofs.Naming.{Placed, Means, Stays, term-same, term-other, placed-set, stays-set, term-over, term-number, bound-of}
 
 -- names that may not stand in the assertion stay as they are
@@ -98,13 +98,6 @@ matching ks sc v s env Any t P me pl h o c = record {
 }
 matching ks sc v s env (Is u) t P me pl h o c = by_test (is_determined env u) refl c
   where
-    kept :
-        (w : Valuation) → Alike (Old s) v w → (t : Linear) → Over (Usable ks s.sorts Int) t →
-        value w.whole t ≡ value v.whole t
-    kept w g t o =
-        value-alike (Old s) v w g t
-        (vars-more (Usable ks s.sorts Int) (Old s) (usable-old ks s.sorts Int) t.parts o)
-
     by_lone :
         (y : Option ℕ) → lone_variable u ≡ y → is_determined env u ≡ false →
         Comes (match_reading s.rows env t (read_name y)) P → Matching ks sc s.sorts v env (Is u) t P
@@ -125,7 +118,8 @@ matching ks sc v s env (Is u) t P me pl h o c = by_test (is_determined env u) re
           size = set-length env x (Some t);
           means =
               λ w g a n. lone-value u x a l
-              ∙ sym (n.whole x i t (term-same env x t (pl.room x Int i))) ∙ kept w g t o;
+              ∙ sym (n.whole x i t (term-same env x t (pl.room x Int i))) ∙ usable-alike ks s v w g
+              t o;
           comes = c.1;
         }
       where
@@ -155,7 +149,7 @@ matching ks sc v s env (Is u) t P me pl h o c = by_test (is_determined env u) re
           outside = λ x n. refl;
           size = refl;
           means = λ w g a n. sym (term-number sc w env a Int u n h b)
-              ∙ kept w g (term_in env u) over ∙ eq;
+              ∙ usable-alike ks s v w g (term_in env u) over ∙ eq;
           comes = q.1.1;
         }
     by_test false d c = by_lone (lone_variable u) refl d c

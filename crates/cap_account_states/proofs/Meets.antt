@@ -1,19 +1,19 @@
 -- A symbolic state holds of values.
-use Rattle.std.proofs.Common.{◌≡◌, ◌≢◌, ℕ, zero, suc, ◌+◌, ◌<◌, ◌≤◌, ℤ, pos, ◌*ℤ◌, ◌<ℤ◌, List, [], ◌∷◌, ◌++◌, length, arith, refl, sym, ap, ◌∙◌, subst, true, false, Some, inl, inr}
+use Rattle.std.proofs.Common.{◌≡◌, ◌≢◌, ℕ, ◌+◌, ◌<◌, ◌≤◌, ℤ, pos, ◌<ℤ◌, List, [], ◌∷◌, length, arith, refl, ◌∙◌, true, false, Some}
 use Rattle.std.specs.Prelude.{slice_get, nat_eq, if◌then◌else◌}
 use Rattle.std.specs.List.{AllByRecursion}
 use Rattle.std.proofs.lemmas.Bool.Decides.{nat_tests}
 use Rattle.std.proofs.lemmas.Int.{ints}
 use Rattle.cap_lin.specs.Linear.{Linear, variable}
-use Rattle.cap_lin.specs.Values.{Valuation, denominator, parts_value, value, amount}
+use Rattle.cap_lin.specs.Values.{Valuation, parts_value, value, amount}
 use Rattle.cap_lin.specs.Solves.{Holds, IsWholeAt, Solves, Proves, FitsSort}
 use Rattle.cap_lin.specs.declared.row.Row.{Row}
 use Rattle.cap_lin.specs.declared.row.Sort.{Sort}
 use Rattle.cap_lin.specs.declared.row.Sort.TheVariants.{Int, Perm}
 use Rattle.cap_goal_spec.specs.States.{PlainEnv, PlainState}
 use Rattle.cap_account_resources.specs.Parts.{Cells, one_cell}
-use Rattle.cap_account_resources.proofs.Lists.{within, get-first, get-join, push-length, none-some, some-same, all-more, all-both}
-use Rattle.cap_account_states.proofs.Terms.{Over, vars-more, RowOver, fits-sort, Agree, agree-trans, agree-less, value-agree, rows-agree}
+use Rattle.cap_account_resources.proofs.Lists.{within, get-first, push-length, all-both}
+use Rattle.cap_account_states.proofs.Terms.{Over, vars-more, RowOver, fits-sort, Agree, agree-trans, agree-less}
 use Rattle.cap_account_states.proofs.Attempts.{sort_added, row_added}
 
 -- ---- variables that may be used
@@ -177,60 +177,7 @@ pub variable-amount :
 unfolding amount parts_value
 variable-amount v n = omega (arith, ints)
 
--- ---- at other values
-
-positive-agree :
-    (R : Sort → ℕ → Type 0) (P : ℕ → Type 0) (v w : Valuation) → ((x : ℕ) → R Int x → P x) →
-    Agree P v w → (cs : List (Linear × Linear)) → AllByRecursion (CellOver R) cs →
-    AllByRecursion (λ c. pos 0 <ℤ value v.whole c.0) cs →
-    AllByRecursion (λ c. pos 0 <ℤ value w.whole c.0) cs
-positive-agree R P v w f a [] h k = tt
-positive-agree R P v w f a (c ∷ cs) h k = (
-  subst (λ z. pos 0 <ℤ z)
-      (sym (value-agree P v w a c.0 (vars-more (R Int) P f c.0.parts h.0.0))) k.0,
-  positive-agree R P v w f a cs h.1 k.1,
-)
-
-pub need-agree :
-    (R : Sort → ℕ → Type 0) (P : ℕ → Type 0) (v w : Valuation) → ((x : ℕ) → R Int x → P x) →
-    Agree P v w → (cs : List (Linear × Linear)) → AllByRecursion (CellOver R) cs → (a z : ℤ) →
-    need w cs a z ≡ need v cs a z
-need-agree R P v w f a [] h x z = refl
-need-agree R P v w f a (c ∷ cs) h x z =
-    let d = value-agree P v w a c.0 (vars-more (R Int) P f c.0.parts h.0.0) in
-    let e = value-agree P v w a c.1 (vars-more (R Int) P f c.1.parts h.0.1) in
-    let g = need-agree R P v w f a cs h.1 x z in
-    rw (d, e, g) refl
-
--- other values, at which the same is known of all but the free variables
-pub meets-agree :
-    (ks : List ℕ) (v w : Valuation) (s : PlainState) →
-    Agree (λ x. (x < length s.sorts) × Free ks x) v w →
-    ((x : ℕ) → slice_get s.sorts x ≡ Some Int → IsWholeAt w x) → Meets ks v s → Meets ks w s
-meets-agree ks v w s a so m = record {
-  sorted = so;
-  rows =
-      rows-agree (Usable ks s.sorts) (λ x. (x < length s.sorts) × Free ks x) v w
-      (λ o x h. (usable-old ks s.sorts o x h, h.1)) a s.rows m.rows_over m.rows;
-  rows_over = m.rows_over;
-  cells_over = m.cells_over;
-  positive =
-      positive-agree (Usable ks s.sorts) (λ x. (x < length s.sorts) × Free ks x) v w
-      (λ x h. (within s.sorts x Int h.0, h.1)) a s.cells m.cells_over m.positive;
-  store_over = m.store_over;
-}
-
 -- ---- more variables, rows and environments
-
-abbrev pub SortOk : Valuation → ℕ → Sort → Type 0
-SortOk v x Int = IsWholeAt v x
-SortOk v x Perm = Unit {0}
-
-usable-more :
-    (ks : List ℕ) (sorts : List Sort) (o p : Sort) (x : ℕ) → Usable ks sorts p x →
-    Usable ks (sorts ++ o ∷ []) p x
-usable-more ks sorts o p x h =
-    usable-on ks sorts (sorts ++ o ∷ []) (λ y q e. get-first sorts (o ∷ []) y q e) p x h
 
 pub cell-more :
     (R S : Sort → ℕ → Type 0) → ((o : Sort) (x : ℕ) → R o x → S o x) → (c : Linear × Linear) →
@@ -245,46 +192,6 @@ pub row-more :
     (R S : Sort → ℕ → Type 0) → ((o : Sort) (x : ℕ) → R o x → S o x) → (r : Row) → RowOver R r →
     RowOver S r
 row-more R S f r h = vars-more (R r.sort) (S r.sort) (f r.sort) r.term.parts h
-
-pub meets-fresh :
-    (ks : List ℕ) (v w : Valuation) (s : PlainState) (o : Sort) → Agree (Old s) v w →
-    SortOk w (length s.sorts) o → Meets ks v s → Meets ks w (sort_added s o)
-meets-fresh ks v w s o a ok m =
-    let b = meets-agree ks v w s
-    (agree-less (λ x. (x < length s.sorts) × Free ks x) (Old s) v w (λ x h. h.0) a)
-    (λ x e. kept x e) m in
-    let R = Usable ks s.sorts in
-    let S = Usable ks (s.sorts ++ o ∷ []) in
-    record {
-      sorted =
-          λ x e. elim (get-join s.sorts (o ∷ []) x Int e)
-          [ inl h ↦ kept x h | inr h ↦ new x h.0 h.1 h.2 ];
-      rows = b.rows;
-      rows_over =
-          all-more (RowOver R) (RowOver S)
-          (row-more R S (usable-more ks s.sorts o)) s.rows m.rows_over;
-      cells_over =
-          all-more (CellOver R) (CellOver S)
-          (cell-more R S (usable-more ks s.sorts o)) s.cells m.cells_over;
-      positive = b.positive;
-      store_over =
-          all-more (Over (Usable [] s.sorts Int)) (Over (Usable [] (s.sorts ++ o ∷ []) Int))
-          (λ t h. vars-more (Usable [] s.sorts Int) (Usable [] (s.sorts ++ o ∷ []) Int)
-          (usable-more [] s.sorts o Int) t.parts h) s.store m.store_over;
-    }
-  where
-    kept : (x : ℕ) → slice_get s.sorts x ≡ Some Int → IsWholeAt w x
-    kept x e =
-        let l = within s.sorts x Int e in
-        a.share x l ∙ m.sorted x e ∙ ap (λ z. z *ℤ denominator v.fraction) (sym (a.whole x l)) ∙ ap
-        (λ n. w.whole x *ℤ pos (n + 1)) (sym a.under)
-
-    new : (x j : ℕ) → x ≡ length s.sorts + j → slice_get (o ∷ []) j ≡ Some Int → IsWholeAt w x
-    new x zero e f =
-        let q : o ≡ Int = some-same o Int f in
-        let r : length s.sorts ≡ x = omega (arith, e) in
-        subst (IsWholeAt w) r (subst (SortOk w (length s.sorts)) q ok)
-    new x (suc j) e f = absurd (none-some f)
 
 pub same-fresh : (s : PlainState) (o : Sort) → Same s (sort_added s o)
 same-fresh s o = record {

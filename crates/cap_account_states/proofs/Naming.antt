@@ -21,7 +21,8 @@ use Rattle.cap_account_states.specs.Nodes.{Comes}
 use Rattle.cap_account_resources.proofs.Lists.{get-first, get-last, get-set-same, get-set-other, set-length, get-or-set, get-or-other, none-some, some-same}
 use Rattle.cap_account_states.proofs.Terms.{Vars, Over, vars-more, over-over, RowOver, row-over, by_terms, value-is, amount-is, number-over, Agree, agree-same, value-agree, amount-agree, sum-agree, relates-same}
 use Rattle.cap_account_states.proofs.Attempts.{comes-bind, comp_row, AreDetermined, sort_added, after-sort}
-use Rattle.cap_account_states.proofs.Meets.{Usable, is-of, usable-on, usable-old, Meets, Old, Same, same-state, same-trans, same-fresh, agree-on, with_value, new-whole, new-share, with-agrees, variable-value, variable-amount, SortOk, meets-fresh, meets-env}
+use Rattle.cap_account_states.proofs.Meets.{Usable, is-of, usable-on, usable-old, Meets, Old, Same, same-state, same-trans, same-fresh, agree-on, with_value, new-whole, new-share, with-agrees, variable-value, variable-amount, meets-env}
+use Rattle.cap_account_states.proofs.Alike.{SortOk, meets-fresh}
 
 -- ---- names in an environment
 
@@ -463,13 +464,6 @@ pub record PartsNamed (sc : Scope) (e : ℕ) (a v : Valuation) (s : PlainState) 
   pub step : Step sc e a v s after
   pub bound : Vars (Bound (env_at after e)) ps
   pub comes : P after
-
-pub bound-stays :
-    (sc : Scope) (env env' : PlainEnv) (o : Sort) (ps : List (ℕ × ℤ)) → Stays sc env env' →
-    Vars (HasSort sc o) ps → Vars (Bound env) ps → Vars (Bound env') ps
-bound-stays sc env env' o [] f h b = tt
-bound-stays sc env env' o (p ∷ ps) f h b =
-    ((b.0.0, f p.0 o h.0 b.0.0 b.0.1), bound-stays sc env env' o ps f h.1 b.1)
 
 pub parts-named :
     (sc : Scope) (e : ℕ) (a : Valuation) (o : Sort) (ps : List (ℕ × ℤ)) (v : Valuation)

@@ -1,4 +1,5 @@
 -- A fact, or a piece with the guards that it stands for, is added to a state that is backed.
+use Rattle.cap_account_resources.proofs.Order.{same-or}
 use Rattle.std.proofs.Common.{ℕ, ℤ, List, [], ◌∷◌, ◌++◌, refl, arith}
 use Rattle.std.specs.List.{AllByRecursion}
 use Rattle.cap_lin.specs.Values.{Valuation}
@@ -18,7 +19,7 @@ use Rattle.cap_rules.specs.Making.{is_of_region, without_first}
 use Rattle.cap_account_resources.specs.Parts.{Table}
 use Rattle.cap_account_resources.proofs.Lists.{all-both}
 use Rattle.cap_account_resources.proofs.Covering.{mark, IsPieceMark}
-use Rattle.cap_account_resources.proofs.Room.{alone-here, alone-away, here-or}
+use Rattle.cap_account_resources.proofs.Room.{alone-here, alone-away}
 use Rattle.cap_account_resources.proofs.Stocks.{Stock, guard_stock, both, Composes}
 use Rattle.cap_account_states.proofs.Terms.{RowOver}
 use Rattle.cap_account_states.proofs.Meets.{Usable, Meets}
@@ -88,7 +89,7 @@ piece-mark p v q y n =
     record {
       at = alone-here (region_of v q) m n;
       away = alone-away (region_of v q) m n;
-      or_not = here-or (region_of v q) n;
+      or_not = same-or (region_of v q) n;
     }
 
 pub record PieceKnown (p : PlainProgram) (ks : List ℕ) (v : Valuation) (T : Table) (s : PlainState)

@@ -48,7 +48,7 @@ known-at [] i o e = absurd (none-some e)
 known-at (p ∷ ss) zero o e = some-same (Some p) (Some o) e
 known-at (p ∷ ss) (suc i) o e = known-at ss i o e
 
-known-in :
+pub known-in :
     (ss : List Sort) (i : ℕ) (o : Sort) → slice_get ss i ≡ Some o →
     slice_get (known ss) i ≡ Some (Some o)
 known-in [] i o e = absurd (none-some e)

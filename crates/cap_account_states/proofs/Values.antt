@@ -1,6 +1,7 @@
 -- Other values at which the same assertions hold: over another denominator, with whole numbers as
 -- fractions.
-use Rattle.std.proofs.Common.{◌≡◌, ℕ, zero, suc, ◌+◌, ◌*◌, ℤ, pos, ◌+ℤ◌, ◌*ℤ◌, ◌<ℤ◌, List, [], ◌∷◌, arith, refl, sym, ap, ◌∙◌, subst, Option, Some, inl, inr}
+use Rattle.cap_account_resources.proofs.Order.{grouped, relates-times}
+use Rattle.std.proofs.Common.{◌≡◌, ℕ, zero, suc, ◌+◌, ◌*◌, ℤ, pos, ◌+ℤ◌, ◌*ℤ◌, ◌<ℤ◌, List, [], ◌∷◌, arith, refl, sym, ap, ◌∙◌, subst, Option, Some}
 use Rattle.std.specs.Prelude.{slice_get}
 use Rattle.std.specs.List.{AllByRecursion}
 use Rattle.std.proofs.lemmas.Int.{ints}
@@ -17,22 +18,12 @@ use Rattle.cap_lin.specs.declared.row.Op.{Op}
 use Rattle.cap_lin.specs.declared.row.Op.TheVariants.{Le as AtMost, Lt as Less, Eq as Equal, Ne as Unequal}
 use Rattle.cap_lin.proofs.Values.{value-nil, value-cons}
 use Rattle.cap_prog.specs.declared.assertion.Comp.{Comp}
-use Rattle.cap_prog.specs.declared.assertion.Slot.{Slot}
-use Rattle.cap_prog.specs.declared.assertion.Slot.TheVariants.{Any, Is}
-use Rattle.cap_prog.specs.Program.{PlainItem, compare, choose, fact, atom, cell, Items, none, item, PlainProgram}
-use Rattle.cap_prog.specs.Parts.{all_items}
-use Rattle.cap_prog.specs.Scopes.{Scope, HasSort, TermFits, SlotFits, CompFits}
-use Rattle.cap_prog.specs.WellFormed.{ItemFits}
-use Rattle.cap_machine_accounts.specs.Assertions.{CompHolds, SlotIs, NameValue, a_number, a_fraction, IsNamed, AreNamed, AreWhole}
+use Rattle.cap_prog.specs.Scopes.{Scope, HasSort, TermFits, CompFits}
+use Rattle.cap_machine_accounts.specs.Assertions.{NameValue, IsNamed, AreNamed, AreWhole}
 use Rattle.cap_goal_spec.specs.States.{PlainState}
-use Rattle.cap_rules.specs.Making.{opposite}
-use Rattle.cap_account_resources.specs.Parts.{Hold, Table, one_cell, SpendsOne, Spends}
-use Rattle.cap_account_resources.proofs.Lists.{none-some, some-same, all-first, all-second}
+use Rattle.cap_account_resources.proofs.Lists.{none-some, some-same}
 use Rattle.cap_account_states.proofs.Terms.{value-is, amount-is, sum-agree, relates-same}
-use Rattle.cap_account_resources.proofs.Order.{relates-times, unless-relates, unmet-not}
 use Rattle.cap_account_states.proofs.Meets.{Meets}
-use Rattle.cap_account_states.proofs.Checked.{no-region}
-use Rattle.cap_account_states.proofs.Items.{AreFit, fits-more, fits-sides}
 
 -- the same whole numbers and, over a multiple of the denominator, the same fractions
 pub record Like (sc : Scope) (a b : Valuation) : Type 0 where
@@ -94,76 +85,8 @@ like-relates sc a b l c op f h = by c.sort f.0 f.1 h
         (relates-times op (amount a.fraction c.left)
         (amount a.fraction c.right) l.times l.positive k)
 
-like-not :
-    (sc : Scope) (a b : Valuation) → Like sc a b → (c : Comp) → CompFits sc c →
-    (CompHolds a c → ⊥) → CompHolds b c → ⊥
-like-not sc a b l c f h k =
-    unmet-not c.op _ _ (like-relates sc a b l c (opposite c.op) f (unless-relates c.op _ _ h)) k
-
-slot-like :
-    (sc : Scope) (a b : Valuation) → Like sc a b → (x : Slot) (z : ℤ) → SlotFits sc Int x →
-    SlotIs a x z → SlotIs b x z
-slot-like sc a b l Any z f h = tt
-slot-like sc a b l (Is t) z f h = like-value sc a b l t f ∙ h
-
--- of a program without region types, also over another table
-mutual
-  spends-one-like :
-      (p : PlainProgram) → p.regions ≡ [] → (T U : Table) (sc : Scope) (a b : Valuation) →
-      Like sc a b → (i : PlainItem) (more : Items) (q r : Hold) → AreFit p sc (item i more) →
-      SpendsOne T a i q r → SpendsOne U b i q r
-  spends-one-like p bare T U sc a b l (compare c) more q r f h =
-      (like-relates sc a b l c c.op f.0 h.0, h.1)
-  spends-one-like p bare T U sc a b l (choose c x y) more q r f (inl m) =
-      inl (
-        like-relates sc a b l c c.op f.0 m.0,
-        spends-like p bare T U sc a b l x q r
-            (all-first (ItemFits p sc) (all_items x) (all_items y)
-            (fits-sides p sc (choose c x y) more f)) m.1,
-      )
-  spends-one-like p bare T U sc a b l (choose c x y) more q r f (inr m) =
-      inr (
-        like-not sc a b l c f.0 m.0,
-        spends-like p bare T U sc a b l y q r
-            (all-second (ItemFits p sc) (all_items x) (all_items y)
-            (fits-sides p sc (choose c x y) more f)) m.1,
-      )
-  spends-one-like p bare T U sc a b l (fact place n k args s) more q r f h =
-      absurd (no-region p bare k _ f.0.1)
-  spends-one-like p bare T U sc a b l (atom place n k i asked) more q r f h = absurd h
-  spends-one-like p bare T U sc a b l (cell place x y) more q r f h =
-      let e = like-value sc a b l x f.0.0 in (
-        h.0,
-        subst (λ z. pos 0 <ℤ z) (sym e) h.1,
-        slot-like sc a b l y h.0 f.0.1 h.2,
-        λ c z. let i =
-            h.3 c z in let j : one_cell (value b.whole x) h.0 c z ≡ one_cell
-            (value a.whole x) h.0 c z =
-            ap (λ u. one_cell u h.0 c z) e in omega (arith, i, j),
-      )
-
-  pub spends-like :
-      (p : PlainProgram) → p.regions ≡ [] → (T U : Table) (sc : Scope) (a b : Valuation) →
-      Like sc a b → (xs : Items) (q r : Hold) → AreFit p sc xs → Spends T a xs q r →
-      Spends U b xs q r
-  spends-like p bare T U sc a b l none q r f h = h
-  spends-like p bare T U sc a b l (item i more) q r f h = (
-    h.0,
-    spends-one-like p bare T U sc a b l i more q h.0 f h.1,
-    spends-like p bare T U sc a b l more h.0 r (fits-more p sc i more f) h.2,
-  )
-
 one : (z : ℤ) → z ≡ z *ℤ pos 1
 one z = omega (arith, ints)
-
-pub like-same : (sc : Scope) (a : Valuation) → Like sc a a
-like-same sc a = record {
-  times = pos 1;
-  positive = omega (arith, ints);
-  under = one (denominator a.fraction);
-  whole = λ x h. refl;
-  share = λ x h. one (a.fraction.numerator x);
-}
 
 -- ---- names of sort Int get their whole numbers as fractions
 
@@ -280,14 +203,11 @@ pub rows-scaled :
 rows-scaled m v [] h = tt
 rows-scaled m v (r ∷ rs) h = (row-scaled m v r h.0, rows-scaled m v rs h.1)
 
-three-times : (a b c : ℤ) → a *ℤ b *ℤ c ≡ a *ℤ (b *ℤ c)
-three-times a b c = simp expand (omega (arith, ints, product3))
-
 pub meets-scaled :
     (ks : List ℕ) (m : ℕ) (v : Valuation) (s : PlainState) → Meets ks v s → Meets ks (scaled m v) s
 meets-scaled ks m v s h = record {
   sorted =
-      λ x e. ap (λ z. z *ℤ pos (m + 1)) (h.sorted x e) ∙ three-times (v.whole x)
+      λ x e. ap (λ z. z *ℤ pos (m + 1)) (h.sorted x e) ∙ grouped (v.whole x)
       (denominator v.fraction) (pos (m + 1)) ∙ ap (λ z. v.whole x *ℤ z)
       (sym (scaled-denominator m v));
   rows = rows-scaled m v s.rows h.rows;
@@ -296,21 +216,6 @@ meets-scaled ks m v s h = record {
   positive = h.positive;
   store_over = h.store_over;
 }
-
-pub named-scaled :
-    (m : ℕ) (v : Valuation) (x : ℕ) (y : NameValue) → IsNamed v x y → IsNamed (scaled m v) x y
-named-scaled m v x (a_number z) h = h
-named-scaled m v x (a_fraction n d) h =
-    swap (v.fraction.numerator x) (pos (m + 1)) (pos (suc d))
-    ∙ ap (λ z. z *ℤ pos (m + 1)) h
-    ∙ three-times n (denominator v.fraction) (pos (m + 1))
-    ∙ ap (λ z. n *ℤ z) (sym (scaled-denominator m v))
-  where
-    swap : (a b c : ℤ) → a *ℤ b *ℤ c ≡ a *ℤ c *ℤ b
-    swap a b c = three-times a b c ∙ ap (λ z. a *ℤ z) (turn b c) ∙ sym (three-times a c b)
-      where
-        turn : (a b : ℤ) → a *ℤ b ≡ b *ℤ a
-        turn a b = omega (arith, ints)
 
 -- ---- values by index
 

@@ -1,4 +1,5 @@
 -- The terms for an action's names, and the guards that it wants, under values of these names.
+use Rattle.cap_account_resources.proofs.Lists.{join-assoc, join-nil, some-same, none-some, within, there-is, get-join}
 use Rattle.std.proofs.Common.{◌≡◌, ℕ, zero, suc, ◌+◌, ◌-◌, ◌≤◌, ◌<◌, ℤ, pos, ◌+ℤ◌, ◌*ℤ◌, List, [], ◌∷◌, ◌++◌, length, get_or, Some, refl, sym, ap, ◌∙◌, subst, inl, inr, arith}
 use Rattle.std.specs.Prelude.{slice_get}
 use Rattle.std.specs.List.{AllByRecursion}
@@ -11,7 +12,6 @@ use Rattle.cap_prog.specs.Scopes.{Scope, HasSort, TermFits}
 use Rattle.cap_goal_spec.specs.Terms.{term_over, variables_from}
 use Rattle.cap_goal_spec.specs.Environments.{zero_value}
 use Rattle.cap_rules.specs.Resting.{Names, names_below}
-use Rattle.cap_account_resources.proofs.Lists.{some-same, none-some, within, there-is, get-join}
 use Rattle.cap_account_states.proofs.Terms.{Vars, Over, vars-more, over-over, by_terms, value-is, amount-is, number-over, Agree, agree-same, agree-trans, agree-less, sum-agree, value-agree, amount-agree}
 use Rattle.cap_account_states.proofs.Meets.{with_value, new-whole, new-share, with-agrees, variable-value, variable-amount}
 
@@ -34,14 +34,6 @@ get-found : {A : Type 0} (xs : List A) (i : ℕ) (x d : A) → slice_get xs i �
 get-found [] i x d e = absurd (none-some e)
 get-found (y ∷ xs) zero x d e = some-same y x e
 get-found (y ∷ xs) (suc i) x d e = get-found xs i x d e
-
-append-assoc : {A : Type 0} (xs ys zs : List A) → (xs ++ ys) ++ zs ≡ xs ++ (ys ++ zs)
-append-assoc [] ys zs = refl
-append-assoc (x ∷ xs) ys zs = ap (λ us. x ∷ us) (append-assoc xs ys zs)
-
-append-nil : {A : Type 0} (xs : List A) → xs ++ [] ≡ xs
-append-nil [] = refl
-append-nil (x ∷ xs) = ap (λ us. x ∷ us) (append-nil xs)
 
 length-more : (x n : ℕ) (ts : List Linear) → length (ts ++ variables_from x n) ≡ length ts + n
 length-more x n [] = base x n
@@ -192,7 +184,7 @@ module _ (X : Valuation) (sc : Scope) (normal : (x : ℕ) → HasSort sc Int x �
     to = w;
     agree = agree-same (Low next) w;
     ok = names-agree w w (ts ++ []) next (next + 0) (agree-same (Low next) w) (omega arith)
-        (subst (λ us. NamesOk w us next) (sym (append-nil ts)) h);
+        (subst (λ us. NamesOk w us next) (sym (join-nil ts)) h);
     more = omega arith;
   }
   names-more (suc c) w ts next h =
@@ -209,7 +201,7 @@ module _ (X : Valuation) (sc : Scope) (normal : (x : ℕ) → HasSort sc Int x �
             (agree-less (Low next) (Low (suc next)) w1 m.to (λ x l. omega (arith, l)) m.agree);
         ok = subst (NamesOk m.to (ts ++ variables_from next (suc c))) e2
             (subst (λ us. NamesOk m.to us (suc next + c))
-            (append-assoc ts (variable next ∷ []) (variables_from (suc next) c)) m.ok);
+            (sym (join-assoc ts (variable next ∷ []) (variables_from (suc next) c))) m.ok);
         more = omega arith;
       }
 
@@ -262,13 +254,6 @@ module _ (X : Valuation) (sc : Scope) (normal : (x : ℕ) → HasSort sc Int x �
       Vars (Low (length ts)) t.parts → value_by_sort o w (named_term ts t) ≡ value_by_sort o X t
   named-number w ts next h Int t b = named-value w ts next h t b
   named-number w ts next h Perm t b = named-amount w ts next h t b
-
-  pub named-low :
-      (w : Valuation) (ts : List Linear) (next : ℕ) → NamesOk w ts next → (t : Linear) →
-      Vars (Low (length ts)) t.parts → Over (Low next) (named_term ts t)
-  named-low w ts next h t b =
-      over-over (Low next) (Low (length ts)) (λ x. get_or ts x zero_value) t
-      (λ x l. name-at (Over (Low next)) ts x l (λ u i. h.below x u i)) b
 
   -- names of the scope have terms, where there are enough
   pub scope-low :

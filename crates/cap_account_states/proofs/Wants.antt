@@ -1,5 +1,6 @@
--- What is asked of an atom of guards at values: as assertions say, but shares are over the denominator
--- of the values.
+-- What is asked of an atom of guards at values: as assertions say, but shares are over the
+-- denominator of the values.
+use Rattle.cap_account_resources.proofs.Order.{cancel, swapped, grouped}
 use Rattle.std.proofs.Common.{◌≡◌, ℕ, ◌+◌, ℤ, pos, ◌*ℤ◌, refl, sym, ap, ◌∙◌, subst}
 use Rattle.cap_lin.specs.Linear.{Linear}
 use Rattle.cap_lin.specs.Values.{Valuation, denominator, amount, value}
@@ -15,7 +16,7 @@ use Rattle.cap_gsolve.specs.Meaning.{IsValueOf}
 use Rattle.cap_prog.specs.Scopes.{Scope, SlotFits}
 use Rattle.cap_machine_accounts.specs.Assertions.{SlotIs, IsAsked}
 use Rattle.cap_account_states.proofs.Terms.{Over}
-use Rattle.cap_account_states.proofs.Alike.{Alike, above-zero, grouped, swapped, undo, value-alike, amount-alike, InScope, fits-over}
+use Rattle.cap_account_states.proofs.Alike.{Alike, above-zero, value-alike, amount-alike, InScope, fits-over}
 use Rattle.cap_account_states.proofs.Values.{scaled, scaled-denominator}
 use Rattle.cap_account_states.proofs.Asking.{AskedOver}
 use Rattle.cap_galg.specs.Algebras.{PlainAlgebra, unique, divisible, counting}
@@ -38,7 +39,8 @@ Wants v (Src s) x = (n : ℕ) × SlotIs v s (pos n) × (x ≡ src n)
 Wants v (Tok s) x = (k : ℕ) × SlotIs v s (pos k) × (x ≡ tokens k)
 
 -- it is what assertions ask for
-pub wants-asked : (v : Valuation) (asked : Asked) (x : Element) → Wants v asked x → IsAsked v asked x
+pub wants-asked : (v : Valuation) (asked : Asked) (x : Element) → Wants v asked x →
+    IsAsked v asked x
 wants-asked v One x h = h
 wants-asked v (Share Any) x h = (h.0, h.2, tt, h.5)
 wants-asked v (Share (Is t)) x h = (h.0, h.2, ap (λ z. z *ℤ pos h.0.den) h.3 ∙ h.4, h.5)
@@ -55,7 +57,7 @@ value-of-alike P v w a t o f h =
     let n = pos f.num in
     let d = denominator v.fraction in
     let e = denominator w.fraction in
-    undo (n *ℤ e) (amount w.fraction t *ℤ pos f.den) d (above-zero v)
+    cancel (n *ℤ e) (amount w.fraction t *ℤ pos f.den) d (above-zero v)
     (swapped n e d ∙ ap (λ z. z *ℤ e) h ∙ swapped (amount v.fraction t) (pos f.den) e
     ∙ ap (λ z. z *ℤ pos f.den) (sym (amount-alike P v w a t o))
     ∙ swapped (amount w.fraction t) d (pos f.den))
@@ -67,8 +69,8 @@ pub share-wants :
 share-wants X v x t f u a s h =
     (f, amount v.fraction t, s, a, sym h ∙ ap (λ n. pos f.num *ℤ pos (n + 1)) (sym u), refl)
 
--- an amount that a term says is the same at all alike values. One that nothing says is a multiple of
--- one over the denominator, and so over each of its multiples
+-- an amount that a term says is the same at all alike values. One that nothing says is a multiple
+-- of one over the denominator, and so over each of its multiples
 abbrev pub IsFiner : Valuation → Valuation → Type 0
 IsFiner v w = (m : ℤ) × (denominator w.fraction ≡ denominator v.fraction *ℤ m)
 

@@ -1,5 +1,6 @@
 -- A move by an action, matched and proved: values of the action's names, what they say of the
 -- region, and the pieces that its guards are cut out of.
+use Rattle.cap_account_resources.proofs.Lists.{map-at, within, get-first, get-map, all-both, all-first, all-second, all-at}
 use Rattle.std.proofs.Common.{◌≡◌, ℕ, ◌+◌, ◌<◌, Bool, true, false, List, [], ◌∷◌, ◌++◌, length, map, Some, None, sym, ap, ◌∙◌, subst, arith}
 use Rattle.std.specs.Prelude.{find, unwrap_or, if◌then◌else◌}
 use Rattle.std.specs.List.{AllByRecursion}
@@ -23,7 +24,6 @@ use Rattle.cap_rules.specs.Attempts.{Attempt, ◌>>=◌}
 use Rattle.cap_rules.specs.Making.{prove_comparisons}
 use Rattle.cap_rules.specs.Closing.{MovePart, guard, source, target, waits, match_form, match_part, Matched, match_ready, match_all, parts_of, prove_action}
 use Rattle.cap_account_states.specs.Nodes.{Comes}
-use Rattle.cap_account_resources.proofs.Lists.{within, get-first, get-map, all-both, all-first, all-second, all-at}
 use Rattle.cap_account_states.proofs.Terms.{Over}
 use Rattle.cap_account_states.proofs.Scopes.{rep-length, rep-in}
 use Rattle.cap_account_states.proofs.Attempts.{comes-bind, comes-more, after-found}
@@ -39,7 +39,6 @@ use Rattle.cap_account_states.proofs.Environments.{none-bound}
 use Rattle.cap_account_states.proofs.Cases.{case-placed}
 use Rattle.cap_account_assertions.proofs.RuleSteps.{comparisons-hold}
 use Rattle.cap_account_steps.proofs.Worlds.{AllOver}
-use Rattle.cap_account_steps.proofs.Callees.{slice-map}
 use Rattle.cap_account_states.proofs.Wants.{asked-over}
 use Rattle.cap_account_steps.proofs.Offers.{LeadsTo, form-offers}
 use Rattle.cap_account_steps.proofs.Atoms.{found-at, is-piece, Found}
@@ -74,7 +73,7 @@ region-whole k names f v X tail arity m =
     (rep-in k.params i (Some Int) (omega (arith, l, arity))) in
     let bound : term_of (region_env f tail) i ≡ Some t.0 =
     ap (λ o. unwrap_or o None)
-    (get-first (map Some ts) tail i (Some t.0) (slice-map Some ts i t.0 t.1)) in
+    (get-first (map Some ts) tail i (Some t.0) (map-at Some ts i t.0 t.1)) in
     ap X.whole zero-plus ∙ sym (m.whole i sort t.0 bound) ∙ t.2)
 
 module _ (p : PlainProgram) (ks : List ℕ) (v : Valuation) (s : PlainState) (me : Meets ks v s)

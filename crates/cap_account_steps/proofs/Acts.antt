@@ -1,5 +1,6 @@
 -- A heap statement acts: it reads or writes the cell at its address, or swaps its content if that
 -- is the expected one.
+use Rattle.cap_account_states.proofs.Terms.{value-number, Over, row-over}
 use Rattle.std.proofs.Common.{◌≡◌, ℕ, ℤ, pos, List, [], ◌∷◌, length, refl, sym, ◌∙◌, Option, Some, Bool, true, false}
 use Rattle.std.specs.Prelude.{flat_map}
 use Rattle.cap_lin.specs.Linear.{Linear, same_number}
@@ -24,11 +25,9 @@ use Rattle.cap_account_resources.proofs.Lists.{none-some, all-at}
 use Rattle.cap_account_resources.proofs.Order.{same-int, other-int}
 use Rattle.cap_account_resources.proofs.Stocks.{Stock}
 use Rattle.cap_account_states.proofs.Attempts.{row_added, after-here, after-comparison}
-use Rattle.cap_account_states.proofs.Terms.{Over, row-over}
 use Rattle.cap_account_states.proofs.Checked.{Checked, Split, children-split}
 use Rattle.cap_account_states.proofs.Meets.{Usable, CellOver}
 use Rattle.cap_account_steps.proofs.Stores.{here, here-value}
-use Rattle.cap_account_steps.proofs.Cells.{number-is}
 use Rattle.cap_account_steps.proofs.Worlds.{opened_table, after_cas, after_act, recelled}
 use Rattle.cap_account_steps.proofs.Changing.{Ready, here-free, ready-row, ready-local, ready-same, ready-content}
 use Rattle.cap_account_steps.proofs.AtCell.{then_close, AtCell}
@@ -69,9 +68,6 @@ module _ (p : Checked) (V : Table) (part held : Stock) (ns : List ℤ) (fn : Pla
 
     abbrev content : ℤ
     content = value k.v.whole k.c.1
-
-    abbrev ToClose : PlainState → PlainTrees → Type 0
-    ToClose t trees = Open p.N trees t (then_close n (length k.s.opened) b h)
 
     abbrev AllTrees : List PlainState → Type 0
     AllTrees states =
@@ -129,7 +125,8 @@ module _ (p : Checked) (V : Table) (part held : Stock) (ns : List ℤ) (fn : Pla
       let a = write u t in
       let new = here k.s t in
       let after = with_content k.s k.j k.c new in
-      let all = after-here k.s t (λ w. unit (with_content k.s k.j k.c w ∷ [])) (AllTrees a k) k.goals
+      let all = after-here k.s t
+      (λ w. unit (with_content k.s k.j k.c w ∷ [])) (AllTrees a k) k.goals
       in
       let trees = first-trees a k after [] all.1 in
       record {
@@ -203,7 +200,7 @@ module _ (p : Checked) (V : Table) (part held : Stock) (ns : List ℤ) (fn : Pla
           opened = refl;
           goes = trees.first;
           ready = ready-local p.program V (W swap k) part k.ks k.v s2 held' h fn fixed (g swap k) r2
-              y one_value (pos 1) b tt (number-is k.v.whole (pos 1));
+              y one_value (pos 1) b tt (value-number k.v.whole (pos 1));
         }
     swap-done false e =
         let z = content swap k in
@@ -223,7 +220,7 @@ module _ (p : Checked) (V : Table) (part held : Stock) (ns : List ℤ) (fn : Pla
           opened = refl;
           goes = last.first;
           ready = ready-local p.program V (W swap k) part k.ks k.v (row_added k.s unmet) held' h fn
-              fixed (g swap k) r1 y zero_value (pos 0) b tt (number-is k.v.whole (pos 0));
+              fixed (g swap k) r1 y zero_value (pos 0) b tt (value-number k.v.whole (pos 0));
         }
 
   pub statement-done :

@@ -1,44 +1,42 @@
 -- Allocation: the state has new cells behind a fresh variable.
-use Rattle.std.proofs.Common.{◌≡◌, ℕ, ◌+◌, ◌<◌, ◌≤◌, ℤ, pos, ◌*ℤ◌, ◌<ℤ◌, ◌≤ℤ◌, List, [], ◌∷◌, ◌++◌, length, arith, refl, sym, ap, ◌∙◌, subst}
-use Rattle.std.specs.List.{AllByRecursion}
+use Rattle.cap_account_states.proofs.Terms.{value-number, Over, over-plus, row-over, Agree}
+use Rattle.std.proofs.Common.{◌≡◌, ℕ, ◌+◌, ◌<◌, ◌≤◌, ℤ, pos, ◌*ℤ◌, ◌<ℤ◌, ◌≤ℤ◌, List, [], ◌++◌, length, arith, refl, sym, ap, ◌∙◌, subst}
 use Rattle.std.proofs.lemmas.Int.{ints}
 use Rattle.cap_lin.specs.Linear.{Linear, number}
 use Rattle.cap_lin.specs.Rows.{row_of}
 use Rattle.cap_lin.specs.Values.{Valuation, denominator, value}
 use Rattle.cap_lin.specs.Solves.{IsWholeAt}
-use Rattle.cap_lin.specs.declared.row.Row.{Row}
 use Rattle.cap_lin.specs.declared.row.Sort.TheVariants.{Int}
 use Rattle.cap_lin.specs.declared.row.Op.TheVariants.{Ge as AtLeast}
 use Rattle.cap_lin.proofs.Rows.{row_of-means}
 use Rattle.cap_prog.specs.Program.{Label, alloc, Block, first, PlainFunction}
 use Rattle.cap_goal_spec.specs.States.{PlainState, to_run}
 use Rattle.cap_goal_spec.specs.Environments.{one_value}
-use Rattle.cap_goal_spec.specs.Choices.{node, by_absurd, by_alloc, PlainTree, PlainTrees}
+use Rattle.cap_goal_spec.specs.Choices.{node, by_absurd, by_alloc, PlainTree}
 use Rattle.cap_rules.specs.Attempts.{◌>>=◌}
 use Rattle.cap_rules.specs.Making.{fresh, with_comparison, with_local}
 use Rattle.cap_rules.specs.Rules.{leaves, with_new_cells}
 use Rattle.cap_machine.specs.Machine.{Frame, with_rest, with_value}
 use Rattle.cap_machine_accounts.specs.Assertions.{NameValue}
+use Rattle.cap_account_resources.proofs.Lists.{all-set, get-last, all-both}
 use Rattle.cap_account_resources.specs.Parts.{Table}
 use Rattle.cap_account_resources.proofs.Heaps.{fresh_cells}
-use Rattle.cap_account_resources.proofs.Lists.{get-last, all-both}
 use Rattle.cap_account_resources.proofs.Covering.{Covered, free-right}
 use Rattle.cap_account_resources.proofs.Stocks.{Stock, no_guards, both}
 use Rattle.cap_account_states.specs.Nodes.{Comes, Children}
-use Rattle.cap_account_states.proofs.Terms.{Over, over-plus, row-over, Agree}
-use Rattle.cap_account_states.proofs.Alike.{agree-alike}
+use Rattle.cap_account_states.proofs.Alike.{agree-alike, meets-fresh, need-alike}
 use Rattle.cap_account_states.proofs.Attempts.{sort_added, row_added, after-sort, after-comparison, comes-bind}
 use Rattle.cap_account_states.proofs.Meets as meets
-use Rattle.cap_account_states.proofs.Meets.{Usable, usable-old, usable-on, CellOver, Meets, need, need-agree, Old, new-whole, new-share, with-agrees, meets-fresh, meets-row, same-fresh, variable-value}
+use Rattle.cap_account_states.proofs.Meets.{Usable, usable-old, usable-on, CellOver, Meets, need, Old, new-whole, new-share, with-agrees, meets-row, same-fresh, variable-value}
 use Rattle.cap_account_states.proofs.Compatible.{pieces-more, covered-alike}
 use Rattle.cap_account_states.proofs.Facts.{Facts, facts-on}
 use Rattle.cap_account_states.proofs.Checked.{Checked, one-child}
 use Rattle.cap_account_states.proofs.Roots.{values-length}
-use Rattle.cap_account_assertions.proofs.Named.{set_to}
-use Rattle.cap_account_steps.proofs.Stores.{Store, running, store-alike}
-use Rattle.cap_account_steps.proofs.Cells.{all-set, new_cells, comes-new-cells, number-is, address-is, need-both, new-cells-need, new-cells-all, store-local}
+use Rattle.cap_account_steps.proofs.Stores.{running, store-alike}
+use Rattle.cap_account_steps.proofs.Cells.{new_cells, comes-new-cells, address-is, need-both, new-cells-need, new-cells-all, store-local}
 use Rattle.cap_account_steps.proofs.Frames.{Node, Sits, SitsAt}
-use Rattle.cap_account_steps.proofs.Statements.{Before, AllocLaw}
+use Rattle.cap_account_steps.proofs.Statements.{AllocLaw, Before}
+use Rattle.cap_account_assertions.proofs.Named.{set_to}
 use Rattle.cap_account_steps.proofs.Local.{given-up}
 
 module _ (p : Checked) (part : Stock) (T : Table) (fn : PlainFunction) (fixed : List NameValue)
@@ -46,8 +44,8 @@ module _ (p : Checked) (part : Stock) (T : Table) (fn : PlainFunction) (fixed : 
   abbrev enlarged : Stock
   enlarged = both p.program part (record { cells = fresh_cells base n; guards = no_guards })
 
-  -- the states on the way: a fresh variable, a row that it is above 0, cells from it on, and it is in
-  -- the store
+  -- the states on the way: a fresh variable, a row that it is above 0, cells from it on, and it is
+  -- in the store
   abbrev above_one : PlainState → PlainState
   above_one s = row_added (sort_added s Int) (row_of (fresh s) AtLeast one_value Int)
 
@@ -94,7 +92,7 @@ module _ (p : Checked) (part : Stock) (T : Table) (fn : PlainFunction) (fixed : 
 
     meets-above : Meets [] w (above_one s)
     meets-above =
-        let one = number-is w.whole (pos 1) in
+        let one = value-number w.whole (pos 1) in
         let at = is-base in
         meets-row [] w (sort_added s Int) (row_of u AtLeast one_value Int)
         (meets-fresh [] v w s Int agrees is-whole k.grounded.meets)
@@ -119,7 +117,8 @@ module _ (p : Checked) (part : Stock) (T : Table) (fn : PlainFunction) (fixed : 
           positive =
               all-both (λ c. pos 0 <ℤ value w.whole c.0) s.cells (new_cells u 0 n) m.positive
               (new-cells-all (λ c. pos 0 <ℤ value w.whole c.0) u 0 n
-              (λ i. let e = address-is w u i in let at = is-base in omega (arith, ints, e, at, up)));
+              (λ i. let e = address-is w u i in let at = is-base in
+              omega (arith, ints, e, at, up)));
           store_over = all-set (Over (Usable [] (above_one s).sorts Int)) s.store x u m.store_over
               fresh-over;
         }
@@ -137,8 +136,9 @@ module _ (p : Checked) (part : Stock) (T : Table) (fn : PlainFunction) (fixed : 
         let e = ap (λ y. fresh_cells y n a z) is-base in
         let i0 : 0 + n ≡ n = omega arith in
         let e0 = ap (λ y. fresh_cells (value w.whole u) y a z) i0 in
-        let c = need-agree (Usable [] s.sorts) (Old s) v w
-        (λ y l. usable-old [] s.sorts Int y l) agrees s.cells k.grounded.meets.cells_over a z in
+        let c = need-alike (Usable [] s.sorts) (Old s) v w
+        (λ y l. usable-old [] s.sorts Int y l) (agree-alike (Old s) v w agrees) s.cells
+        k.grounded.meets.cells_over a z in
         let g = k.backed.cells a z in
         omega (arith, i, j, e, e0, c, g)
 

@@ -1,4 +1,5 @@
 -- A function's body and a loop's turn, from what they are given.
+use Rattle.cap_account_resources.proofs.Tables.{fits-composes, FitsRoom, fits-relied}
 use Rattle.std.proofs.Common.{◌≡◌, ℕ, ◌+◌, ◌≤◌, ℤ, pos, List, [], ◌∷◌, ◌++◌, length, map, replicate, arith, refl, sym, ap, ◌∙◌, subst, Option, Some, Bool, true, false}
 use Rattle.std.specs.Prelude.{slice_get, if◌then◌else◌}
 use Rattle.std.specs.List.{AllByRecursion}
@@ -18,9 +19,8 @@ use Rattle.cap_machine_accounts.specs.Assertions.{NameValue, ValuesFit}
 use Rattle.cap_account_resources.specs.Parts.{Table}
 use Rattle.cap_account_resources.proofs.Lists.{map-join, all-both}
 use Rattle.cap_account_resources.proofs.Covering.{covered-none}
-use Rattle.cap_account_resources.proofs.Room.{room, room-some, part-some}
+use Rattle.cap_account_resources.proofs.Room.{room}
 use Rattle.cap_account_resources.proofs.Stocks.{Stock, no_stock, both, Composes, stock-laws}
-use Rattle.cap_account_resources.proofs.Tables.{FitsRoom, fits-relied}
 use Rattle.cap_account_resources.proofs.Interference.{Relies}
 use Rattle.cap_account_states.specs.Nodes.{Open}
 use Rattle.cap_account_states.proofs.Terms.{Over}
@@ -78,10 +78,6 @@ module _ (p : Checked) (program : IsWellFormed p.program) (give : GivenLaw p)
     guards = λ n. rw b.guards (covered-none p.program v n (no_stock.guards n));
   }
 
-  fits-composes : (T : Table) (q : Stock) → FitsRoom p.program T q → Composes q
-  fits-composes T q h n =
-      part-some p.program (q.guards n) (room p.program T n) (h n) (room-some p.program T n)
-
   -- such a state is given all that the part owns
   given-all :
       (T : Table) (sc : Scope) (a v : Valuation) (s : PlainState) (items : Items) (part : Stock)
@@ -93,7 +89,7 @@ module _ (p : Checked) (program : IsWellFormed p.program) (give : GivenLaw p)
       subst (λ q. Given p T 0 v q s ts) alone
       (give T sc 0 number a no_stock part met.0 items ts trees v s go (bare-at T sc a v s b r)
       (rw b.facts tt) r.means fits met.1 (nothing-backed v s b)
-      (subst Composes (sym alone) (fits-composes T part room)))
+      (subst Composes (sym alone) (fits-composes p.program T part room)))
 
   -- and then the frame whose store it has sits there
   given-sits :
@@ -176,7 +172,8 @@ module _ (p : Checked) (program : IsWellFormed p.program) (give : GivenLaw p)
       (ok : FrameOk p.program fn fixed (with_rest f (first l (loop c inv body) b)))
       (part : Stock) where
     abbrev turned : PlainState
-    turned = root_state at_loop fn f.function (root_env at_loop fn f.function (length inv.names) ∷ [])
+    turned = root_state at_loop fn f.function
+        (root_env at_loop fn f.function (length inv.names) ∷ [])
 
     turned-over : AllByRecursion (Over (Usable [] turned.sorts Int)) turned.store
     turned-over =
@@ -269,7 +266,8 @@ module _ (p : Checked) (program : IsWellFormed p.program) (give : GivenLaw p)
       point = on (holds f.store c);
     };
     all = λ U relies.
-        turn-sits fn fixed f l c i x b ok part U (fits-relied p.program T U part roomy.full relies roomy.room)
+        turn-sits fn fixed f l c i x b ok part U
+        (fits-relied p.program T U part roomy.full relies roomy.room)
         (stable.invariant T U part f.function fn ok.is_fn (loop_point l c i x b)
         (point-loop p.program fn l c i x b ok.point) (reached-room T U part roomy relies) f.store
         fixed ok.size ok.values me);

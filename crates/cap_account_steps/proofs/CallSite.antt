@@ -1,12 +1,13 @@
 -- The state at a call or a fork: the callee's `requires` is taken from it.
-use Rattle.std.proofs.Common.{◌≡◌, ◌≢◌, ℕ, zero, suc, ◌+◌, ◌<◌, ◌≤◌, ℤ, pos, ◌*ℤ◌, List, [], ◌∷◌, ◌++◌, length, map, arith, refl, sym, ap, ◌∙◌, subst, Option, Some, None, inl, inr}
+use Rattle.cap_account_resources.proofs.Lists.{map-at, none-some, within, get-map, get-last, map-length, get-or-push, push-length, get-first}
+use Rattle.std.proofs.Common.{◌≡◌, ℕ, ◌+◌, ◌<◌, ℤ, pos, ◌*ℤ◌, List, [], ◌∷◌, ◌++◌, length, map, arith, refl, sym, ap, ◌∙◌, subst, Option, Some, inl, inr}
 use Rattle.std.specs.Prelude.{slice_get, unwrap_or}
 use Rattle.std.specs.List.{AllByRecursion}
 use Rattle.cap_lin.specs.Linear.{Linear}
 use Rattle.cap_lin.specs.Values.{Valuation, denominator, value}
 use Rattle.cap_lin.specs.Solves.{IsWholeAt}
 use Rattle.cap_lin.specs.declared.row.Sort.{Sort}
-use Rattle.cap_lin.specs.declared.row.Sort.TheVariants.{Int, Perm}
+use Rattle.cap_lin.specs.declared.row.Sort.TheVariants.{Int}
 use Rattle.cap_prog.specs.Program.{PlainFunction}
 use Rattle.cap_prog.specs.Scopes.{fixed_start, requires_scope, HasSort}
 use Rattle.cap_goal_spec.specs.States.{PlainEnv, PlainState, PlainTask}
@@ -15,12 +16,11 @@ use Rattle.cap_rules.specs.Making.{fresh, env_at}
 use Rattle.cap_machine.specs.Machine.{value_in}
 use Rattle.cap_machine_accounts.specs.Assertions.{NameValue}
 use Rattle.cap_account_resources.specs.Parts.{Table}
-use Rattle.cap_account_resources.proofs.Lists.{none-some, within, get-map, get-last, map-length, get-or-push, push-length, get-first}
 use Rattle.cap_account_resources.proofs.Stocks.{Stock, no_stock}
 use Rattle.cap_account_states.proofs.Terms.{Over, vars-more, Agree}
-use Rattle.cap_account_states.proofs.Alike.{Alike, alike-same, alike-trans, alike-less, agree-alike, value-alike}
+use Rattle.cap_account_states.proofs.Alike.{Alike, alike-same, alike-trans, alike-less, agree-alike, value-alike, meets-fresh}
 use Rattle.cap_account_states.proofs.Meets as meets
-use Rattle.cap_account_states.proofs.Meets.{Free, IsOf, Usable, usable-old, usable-on, Meets, Old, new-whole, new-share, with-agrees, meets-fresh}
+use Rattle.cap_account_states.proofs.Meets.{Usable, usable-old, usable-on, Meets, Old, new-whole, new-share, with-agrees}
 use Rattle.cap_account_states.proofs.Checked.{Checked}
 use Rattle.cap_account_states.proofs.Facts.{Facts}
 use Rattle.cap_account_states.proofs.Naming.{Placed}
@@ -31,8 +31,8 @@ use Rattle.cap_account_assertions.proofs.Asserted.{OwnsRequires, owns-all}
 use Rattle.cap_account_assertions.proofs.Laws.{StateAt, Taken}
 use Rattle.cap_account_steps.proofs.Stores.{here, here-value, here-over}
 use Rattle.cap_account_steps.proofs.OwnNames.{canon, canon-means}
-use Rattle.cap_account_steps.proofs.Callees.{fixed_values, fixed-are, at_call, meets-reserve, put-over, slice-map}
-use Rattle.cap_account_steps.proofs.Reserving.{Between, facts-between, grounded-between, backed-between}
+use Rattle.cap_account_steps.proofs.Callees.{fixed_values, fixed-are, at_call, meets-reserve, put-over}
+use Rattle.cap_account_steps.proofs.FirmStates.{Between, facts-between, grounded-between, backed-between}
 
 -- a state that holds of a frame's store and part, and a call of g
 pub record Caller (p : Checked) (part : Stock) (T : Table) (store : List ℤ) : Type 0 where
@@ -221,7 +221,7 @@ module _ (p : Checked) (part : Stock) (T : Table) (store : List ℤ) (c : Caller
         term_of env2 x ≡ Some (here s u)
     arg-look x u l e =
         stays1 x Int (param-requires g x l) (here s u)
-        (callee-param g params (fresh s) params-count x l ∙ slice-map (here s) c.args x u e)
+        (callee-param g params (fresh s) params-count x l ∙ map-at (here s) c.args x u e)
 
     abbrev pub met-requires : OwnsRequires p.program tk.U tk.given g args_are callee_fixed
     met-requires = record {

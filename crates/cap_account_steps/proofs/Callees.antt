@@ -1,9 +1,10 @@
--- The state at a call or a fork: the callee's environment, the variable of its result, and the values of its fixed names.
+-- The state at a call or a fork: the callee's environment, the variable of its result, and the
+-- values of its fixed names.
 use Rattle.std.proofs.Common.{◌≡◌, ℕ, zero, suc, ◌+◌, ℤ, pos, ◌*ℤ◌, List, [], ◌∷◌, ◌++◌, length, map, arith, refl, ap, ◌∙◌, subst, Option, Some, None}
 use Rattle.std.specs.Prelude.{slice_get, slice_set}
 use Rattle.std.specs.List.{AllByRecursion}
 use Rattle.cap_lin.specs.Linear.{Linear}
-use Rattle.cap_lin.specs.Values.{Valuation, value}
+use Rattle.cap_lin.specs.Values.{Valuation}
 use Rattle.cap_lin.specs.declared.row.Sort.{Sort}
 use Rattle.cap_lin.specs.declared.row.Sort.TheVariants.{Int, Perm}
 use Rattle.cap_prog.specs.Program.{call, fork, PlainFunction, PlainProgram}
@@ -173,21 +174,3 @@ ok-put p fn fx f None r h k = record {
 ok-put p fn fx f (Some x) r h k =
     let q = ok-store p fn fx f x r f.rest k h.low k.point in
     record { is_fn = q.is_fn; size = q.size; args = q.args; values = q.values; point = q.point }
-
-pub slice-map :
-    {A B : Type 0} (f : A → B) (xs : List A) (i : ℕ) (x : A) → slice_get xs i ≡ Some x →
-    slice_get (map f xs) i ≡ Some (f x)
-slice-map f [] i x e = absurd (none-some e)
-slice-map f (y ∷ xs) zero x e = ap (λ z. Some (f z)) (some-same y x e)
-slice-map f (y ∷ xs) (suc i) x e = slice-map f xs i x e
-
-pub record Site (store : List ℤ) : Type 0 where
-  pub s : PlainState
-  pub v : Valuation
-  pub m : Meets [] v s
-  pub no_facts : s.facts ≡ []
-  pub is_store : map (value v.whole) s.store ≡ store
-  pub g : PlainFunction
-  pub args : List Linear
-  pub size : length args ≡ g.params
-  pub x : Option ℕ

@@ -1,52 +1,46 @@
 -- Calls and forks: a callee's `requires` is handed out, and a caller waits for its `ensures`.
-use Rattle.std.proofs.Common.{◌≡◌, ◌≢◌, ℕ, ◌+◌, ◌*◌, ◌<◌, ◌≤◌, ℤ, pos, ◌*ℤ◌, List, [], ◌∷◌, ◌++◌, length, map, arith, refl, sym, ap, ◌∙◌, subst, Option, Some, None}
-use Rattle.std.specs.Prelude.{slice_get, get_or, IsSomeAnd}
+use Rattle.cap_account_resources.proofs.Tables.{fits-composes, FitsRoom, fits-less, fits-relied}
+use Rattle.std.proofs.Common.{◌≡◌, ℕ, ◌+◌, ◌*◌, ◌<◌, ℤ, pos, ◌*ℤ◌, List, [], ◌∷◌, length, map, arith, refl, sym, ap, ◌∙◌, subst, Option, Some, None}
+use Rattle.std.specs.Prelude.{slice_get, get_or}
 use Rattle.std.specs.List.{AllByRecursion}
-use Rattle.cap_lin.specs.Linear.{Linear}
 use Rattle.cap_lin.specs.Values.{Valuation, value}
 use Rattle.cap_lin.specs.declared.row.Sort.{Sort}
 use Rattle.cap_lin.specs.declared.row.Sort.TheVariants.{Int}
-use Rattle.cap_prog.specs.Program.{Label, call, fork, Block, first, PlainFunction}
+use Rattle.cap_prog.specs.Program.{Label, call, Block, first, PlainFunction}
 use Rattle.cap_prog.specs.Scopes.{fixed_start, requires_scope, ensures_scope}
 use Rattle.cap_prog.specs.WellFormed.{IsWellFormed}
-use Rattle.cap_goal_spec.specs.States.{PlainState, Home, PlainTask, to_run, to_take, to_give, to_rest}
-use Rattle.cap_goal_spec.specs.Choices.{node, by_absurd, by_call, by_fork, PlainTree, PlainTrees}
-use Rattle.cap_rules.specs.Attempts.{◌>>=◌}
+use Rattle.cap_goal_spec.specs.States.{PlainState, Home, PlainTask, to_take, to_give, to_rest}
+use Rattle.cap_goal_spec.specs.Choices.{PlainTrees}
 use Rattle.cap_rules.specs.Making.{fresh, env_at}
-use Rattle.cap_rules.specs.Rules.{leaves, called}
 use Rattle.cap_machine.specs.Machine.{Frame, value_in, with_rest, receives}
 use Rattle.cap_machine_accounts.specs.Assertions.{NameValue}
+use Rattle.cap_account_states.proofs.Alike.{values-alike, Alike, InScope, meets-alike, alike-trans, alike-less, agree-alike, scaled-alike}
 use Rattle.cap_account_resources.specs.Parts.{Table}
 use Rattle.cap_account_resources.proofs.Interference.{Relies, relies-trans, relies-less}
 use Rattle.cap_account_resources.proofs.Lists.{some-same, map-length, get-first, push-length, all-more}
-use Rattle.cap_account_resources.proofs.Room.{room, room-some, part-some}
-use Rattle.cap_account_resources.proofs.Stocks.{Stock, both, Inside, inside-first, inside-second, inside-guards, Composes}
-use Rattle.cap_account_resources.proofs.Tables.{FitsRoom, fits-less, fits-relied}
-use Rattle.cap_account_states.specs.Nodes.{Comes, Children, Open}
+use Rattle.cap_account_resources.proofs.Room.{room}
+use Rattle.cap_account_resources.proofs.Stocks.{Stock, both, inside-first, inside-second, inside-guards}
+use Rattle.cap_account_states.specs.Nodes.{Open}
 use Rattle.cap_account_states.proofs.Terms.{Over, vars-more, Agree}
-use Rattle.cap_account_states.proofs.Alike.{Alike, InScope, meets-alike, alike-trans, alike-less, agree-alike, scaled-alike}
-use Rattle.cap_account_states.proofs.Attempts.{after-found}
 use Rattle.cap_account_states.proofs.Meets.{Usable, usable-old, Old, variable-value}
 use Rattle.cap_account_states.proofs.Checked.{Checked, one-child}
 use Rattle.cap_account_states.proofs.Naming.{Placed, Means, means-on, placed-more}
-use Rattle.cap_account_states.proofs.Roots.{values-length, function-fits}
+use Rattle.cap_account_states.proofs.Roots.{function-fits}
 use Rattle.cap_account_states.proofs.Values.{scaled}
 use Rattle.cap_account_states.proofs.Wants.{scaled-finer}
-use Rattle.cap_account_states.proofs.Backed.{Backed, Grounded, IsOpened}
+use Rattle.cap_account_states.proofs.Backed.{IsOpened}
 use Rattle.cap_account_assertions.proofs.Asserted.{OwnsEnsures}
 use Rattle.cap_account_assertions.proofs.Finer.{draws-all-finer}
 use Rattle.cap_account_assertions.proofs.Named.{set_to, rest_values}
 use Rattle.cap_account_assertions.proofs.Laws.{StateAt, GivenLaw, TakenLaw, Reached, Rested, RestsLaw, Stable}
 use Rattle.cap_account_assertions.proofs.MadeTables.{made-fits, made-full, made-room}
-use Rattle.cap_account_steps.proofs.Points.{FrameOk, point-act, point-next, ok-rest}
-use Rattle.cap_account_steps.proofs.Stores.{Store, running, values-alike, fixed-alike}
-use Rattle.cap_account_steps.proofs.Callees.{fixed-fit, put_at, map-put, receives-is, ok-put, at_call, after-called}
-use Rattle.cap_account_steps.proofs.Frames.{Node, Sits, SitsLike, WaitsLike, Stands, Roomy, Waits, HandsOver, Calls, Forks}
-use Rattle.cap_account_steps.proofs.Statements.{Before, CallLaw, ForkLaw}
-use Rattle.cap_account_steps.proofs.Local.{given-up}
-use Rattle.cap_account_steps.proofs.Reserving.{Between, facts-between, grounded-between, backed-between}
-use Rattle.cap_account_steps.proofs.CallSite.{Caller, TakenHere, kept, v1, s1, args_are, at-call, backed1, env2, a1, callee_fixed, alike2, met-requires}
-use Rattle.cap_account_steps.proofs.Results.{with_result, alike4, result-there, result-value, firm2, grounded2, facts2, backed2, placed2, means2}
+use Rattle.cap_account_steps.proofs.Points.{FrameOk}
+use Rattle.cap_account_steps.proofs.Stores.{Store, running, fixed-alike}
+use Rattle.cap_account_steps.proofs.Callees.{fixed-fit, put_at, map-put, receives-is}
+use Rattle.cap_account_steps.proofs.Frames.{Sits, Roomy, Waits, HandsOver, Calls, SitsLike, WaitsLike}
+use Rattle.cap_account_steps.proofs.FirmStates.{Between, facts-between, grounded-between, backed-between}
+use Rattle.cap_account_steps.proofs.CallSite.{Caller, TakenHere, kept, v1, s1, args_are, at-call, backed1, env2, a1, callee_fixed}
+use Rattle.cap_account_steps.proofs.Results.{with_result, alike4, result-value, firm2, grounded2, facts2, backed2, placed2, means2}
 
 -- ---- the frame once the result was put in its place
 
@@ -96,10 +90,6 @@ scaled-between m v s = record {
 
 module _ (p : Checked) (program : IsWellFormed p.program) (give : GivenLaw p) (take : TakenLaw p)
     (rests : RestsLaw p) (stable : Stable p.program) where
-  room-composes : (T : Table) (q : Stock) → FitsRoom p.program T q → Composes q
-  room-composes T q h n =
-      part-some p.program (q.guards n) (room p.program T n) (h n) (room-some p.program T n)
-
   abbrev pub after_call : PlainFunction → ℕ → Label → Home → Block → List PlainTask
   after_call g e l h b =
       to_rest 0 l.number ∷ to_give g.ensures.items e l.number ∷ running b h
@@ -124,7 +114,8 @@ module _ (p : Checked) (program : IsWellFormed p.program) (give : GivenLaw p) (t
       hands = record { U = tk.U; new = tk.new; made = tk.made; budget = tk.budget }
 
       both-room : FitsRoom p.program tk.U (both p.program tk.left tk.given)
-      both-room = made-room p.program T tk.U tk.new tk.made part tk.left tk.given roomy.room tk.budget
+      both-room = made-room p.program T tk.U tk.new tk.made part tk.left tk.given roomy.room
+          tk.budget
 
       left-room : FitsRoom p.program tk.U tk.left
       left-room =
@@ -193,7 +184,8 @@ module _ (p : Checked) (program : IsWellFormed p.program) (give : GivenLaw p) (t
           (means2 p part T f.store c ts tk r me.values me.args_are me.fixed_are me.result_is))
 
       state-now :
-          StateAt p.program [] W (ensures_scope c.g c.g.ensures.names) (length c.s.envs) now rs.after
+          StateAt p.program [] W (ensures_scope c.g c.g.ensures.names) (length c.s.envs) now
+          rs.after
       state-now = record {
         grounded = grounded-between p.program [] [] (Old rs.after) rs.w now rs.after rs.after
             between (meets-alike [] rs.w now rs.after (scaled-alike (Old rs.after)
@@ -221,7 +213,7 @@ module _ (p : Checked) (program : IsWellFormed p.program) (give : GivenLaw p) (t
           (scaled-finer tk.w.fraction.under me.values) items handed me.met.0 fits me.met.1)
           (backed-between p.program [] [] (Old rs.after) rs.w now rs.after rs.after between tk.left
           rs.grounded rs.backed)
-          (room-composes W (both p.program tk.left handed) room) in
+          (fits-composes p.program W (both p.program tk.left handed) room) in
           let k = one-child p.N gv.children gv.after (running b h) gv.goes in
           let c0 = push-length c.s.sorts Int in
           let c1 = tk.goes_on.count in

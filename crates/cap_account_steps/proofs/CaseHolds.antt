@@ -1,13 +1,13 @@
--- The state in which an opened region is in its case holds at its values, and what the region has may be
--- given to it.
-use Rattle.std.proofs.Common.{◌≡◌, ◌≢◌, ℕ, suc, ◌+◌, ◌<◌, ◌≤◌, ℤ, pos, List, [], ◌∷◌, ◌++◌, length, map, arith, refl, sym, ap, ◌∙◌, subst, Option, Some, None, true, inl, inr}
+-- The state in which an opened region is in its case holds at its values, and what the region has
+-- may be given to it.
+use Rattle.cap_account_resources.proofs.Lists.{map-at, some-same, get-map, map-length, all-at, all-more, all-both, get-join, get-first, get-second, within}
+use Rattle.std.proofs.Common.{◌≡◌, ℕ, suc, ◌+◌, List, [], ◌∷◌, length, map, arith, refl, sym, ap, ◌∙◌, subst, Some, true, inl, inr}
 use Rattle.std.specs.Prelude.{slice_get}
 use Rattle.std.specs.List.{AllByRecursion}
 use Rattle.cap_lin.specs.Linear.{Linear}
 use Rattle.cap_lin.specs.Values.{Valuation, value}
 use Rattle.cap_lin.specs.Solves.{Holds, IsWholeAt}
 use Rattle.cap_lin.specs.Rows.{row_of}
-use Rattle.cap_lin.specs.declared.row.Row.{Row}
 use Rattle.cap_lin.specs.declared.row.Sort.{Sort}
 use Rattle.cap_lin.specs.declared.row.Sort.TheVariants.{Int}
 use Rattle.cap_lin.specs.declared.row.Op.TheVariants.{Eq as Equal}
@@ -18,20 +18,15 @@ use Rattle.cap_prog.specs.Scopes.{Scope, HasSort, CompFits, region_scope, whole_
 use Rattle.cap_prog.specs.WellFormed.{CaseFits}
 use Rattle.cap_goal_spec.specs.Terms.{variables_from}
 use Rattle.cap_goal_spec.specs.States.{PlainFact, PlainEnv, PlainState}
-use Rattle.cap_goal_spec.specs.Environments.{term_in, bound, region_env, is_determined}
-use Rattle.cap_rules.specs.Making.{env_at}
+use Rattle.cap_goal_spec.specs.Environments.{term_in, bound, is_determined}
 use Rattle.cap_rules.specs.Closing.{case_names}
 use Rattle.cap_machine_accounts.specs.Assertions.{CompHolds, AreWhole}
-use Rattle.cap_account_resources.specs.Parts.{known_as, Table}
-use Rattle.cap_account_resources.proofs.Lists.{some-same, get-map, map-length, all-at, all-more, all-both, get-join, get-first, get-second, within, get-or-push, push-length}
 use Rattle.cap_account_states.proofs.Terms.{Over, RowOver, row-over, vars-more}
 use Rattle.cap_account_states.proofs.Alike.{Alike, scaled-alike, value-alike, whole-alike, positive-alike, rows-alike, comp-fits-alike, InScope}
-use Rattle.cap_account_states.proofs.Attempts.{AreDetermined, comp_row}
+use Rattle.cap_account_states.proofs.Attempts.{AreDetermined}
 use Rattle.cap_account_states.proofs.Meets.{is-of, int-usable, Usable, usable-old, usable-on, CellOver, cell-more, row-more, Meets, Old}
 use Rattle.cap_account_states.proofs.Naming.{Placed, Means, term-over, term-number, comp-over, comp-holds, comp-bound, bound-of}
 use Rattle.cap_account_states.proofs.Scopes.{rep-length, length-join, variables-length}
-use Rattle.cap_account_states.proofs.Values.{scaled}
-use Rattle.cap_account_steps.proofs.Callees.{slice-map}
 use Rattle.cap_account_steps.proofs.Worlds.{AllOver}
 use Rattle.cap_account_steps.proofs.CaseStates.{case_rows, case_state, comp_rows}
 use Rattle.cap_account_steps.proofs.CaseValues.{NameOf, the_region, an_argument, a_name, name-of, case_values, names_values, case-alike, case-is-whole, case-means}
@@ -92,7 +87,7 @@ module _ (p : PlainProgram) (v : Valuation) (s : PlainState) (f : PlainFact) (k 
       let n = rep-length k.params (Some Int) in
       ap (λ i. slice_get sc (i + j)) (sym n)
       ∙ get-second (whole_numbers k.params) (known c.names) j
-      ∙ slice-map Some c.names j o e
+      ∙ map-at Some c.names j o e
 
   -- and is a variable of it
   own-variable :
@@ -131,7 +126,8 @@ module _ (p : PlainProgram) (v : Valuation) (s : PlainState) (f : PlainFact) (k 
           (map-length Some (variables_from (length s.sorts) (length c.names))
           ∙ variables-length (length s.sorts) (length c.names)))
 
-      as-sort : (o : Sort) (u : Linear) → Over (Usable [] s.sorts Int) u → Over (Usable [] t.sorts o) u
+      as-sort : (o : Sort) (u : Linear) → Over (Usable [] s.sorts Int) u →
+          Over (Usable [] t.sorts o) u
       as-sort o u l =
           vars-more (Usable [] t.sorts Int) (Usable [] t.sorts o) (int-usable [] t.sorts o) u.parts
           (int-over u l)

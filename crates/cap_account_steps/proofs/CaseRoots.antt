@@ -1,4 +1,5 @@
 -- The state at the root of a region type's case holds at values at which the case does.
+use Rattle.cap_account_states.proofs.Scopes.{known-in, length-join, variables-length, variables-at, rep-length}
 use Rattle.std.proofs.Common.{◌≡◌, ℕ, zero, suc, ◌+◌, ◌-◌, ◌<◌, List, [], ◌∷◌, ◌++◌, length, map, replicate, arith, refl, sym, ap, ◌∙◌, subst, Some}
 use Rattle.std.specs.Prelude.{slice_get}
 use Rattle.std.specs.List.{AllByRecursion}
@@ -24,7 +25,6 @@ use Rattle.cap_account_states.proofs.Terms.{Over, vars-more, RowOver, row-over}
 use Rattle.cap_account_states.proofs.Meets.{Usable, is-of, variable-value, variable-amount}
 use Rattle.cap_account_states.proofs.Naming.{Means}
 use Rattle.cap_account_states.proofs.Values.{normal, like-normal, like-relates, normal-whole, normal-perm}
-use Rattle.cap_account_states.proofs.Scopes.{length-join, variables-length, variables-at, rep-length}
 use Rattle.cap_account_states.proofs.Roots.{flat-bound}
 use Rattle.cap_account_states.proofs.Backed.{Backed}
 use Rattle.cap_account_assertions.proofs.Laws.{StateAt}
@@ -43,13 +43,6 @@ known-sorts y names =
     map-join Some (replicate y.params Int) names
     ∙ ap (λ sc. sc ++ known names) (all-known y.params)
 
-get-known :
-    (sorts : List Sort) (x : ℕ) (o : Sort) → slice_get sorts x ≡ Some o →
-    slice_get (known sorts) x ≡ Some (Some o)
-get-known [] x o e = absurd (cc)
-get-known (p ∷ sorts) zero o e = ap Some e
-get-known (p ∷ sorts) (suc x) o e = get-known sorts x o e
-
 pub sort-known :
     (y : PlainRegionType) (names : List Sort) (o : Sort) (x : ℕ) →
     HasSort (region_scope y names) o x → slice_get (region_sorts y names) x ≡ Some o
@@ -62,7 +55,7 @@ known-sort :
     (y : PlainRegionType) (names : List Sort) (o : Sort) (x : ℕ) →
     slice_get (region_sorts y names) x ≡ Some o → HasSort (region_scope y names) o x
 known-sort y names o x h =
-    ap (λ sc. slice_get sc x) (sym (known-sorts y names)) ∙ get-known (region_sorts y names) x o h
+    ap (λ sc. slice_get sc x) (sym (known-sorts y names)) ∙ known-in (region_sorts y names) x o h
 
 -- a term of the case's is over them
 pub case-term :

@@ -1,39 +1,25 @@
 -- The state in which an opened region is in a case: what makes it, and values at which it holds.
-use Rattle.std.proofs.Common.{◌≡◌, ◌≢◌, ◌⊎◌, ℕ, zero, suc, ◌+◌, ◌-◌, ◌*◌, ◌<◌, ◌≤◌, ℤ, pos, ◌*ℤ◌, List, [], ◌∷◌, ◌++◌, length, map, arith, refl, sym, ap, ◌∙◌, subst, Option, Some, None, Bool, true, false, inl, inr}
-use Rattle.std.specs.Prelude.{slice_get, IsSomeAnd, nat_lt, unwrap_or, if◌then◌else◌}
+use Rattle.std.proofs.Common.{◌≡◌, ℕ, zero, suc, ◌+◌, ◌-◌, List, [], ◌∷◌, ◌++◌, length, map, sym, subst, Option, Some, None, true}
+use Rattle.std.specs.Prelude.{slice_get, IsSomeAnd}
 use Rattle.std.specs.List.{AllByRecursion}
-use Rattle.std.proofs.lemmas.Bool.Decides.{nat_tests}
-use Rattle.cap_lin.specs.Linear.{Linear, variable}
-use Rattle.cap_lin.specs.Values.{Valuation, denominator, value, amount}
-use Rattle.cap_lin.specs.Solves.{Holds, IsWholeAt}
+use Rattle.cap_lin.specs.Linear.{Linear}
+use Rattle.cap_lin.specs.Values.{value}
 use Rattle.cap_lin.specs.Rows.{row_of}
 use Rattle.cap_lin.specs.declared.row.Row.{Row}
 use Rattle.cap_lin.specs.declared.row.Sort.{Sort}
-use Rattle.cap_lin.specs.declared.row.Sort.TheVariants.{Int, Perm}
+use Rattle.cap_lin.specs.declared.row.Sort.TheVariants.{Int}
 use Rattle.cap_lin.specs.declared.row.Op.TheVariants.{Eq as Equal}
 use Rattle.cap_prog.specs.declared.assertion.Comp.{Comp}
-use Rattle.cap_prog.specs.Program.{PlainCase, PlainRegionType}
-use Rattle.cap_prog.specs.Scopes.{HasSort, region_scope, whole_numbers, known}
-use Rattle.cap_goal_spec.specs.Terms.{variables_from}
+use Rattle.cap_prog.specs.Program.{PlainCase}
 use Rattle.cap_goal_spec.specs.States.{PlainFact, PlainEnv, PlainState, PlainTask, to_give, PlainGoal, goals_of}
-use Rattle.cap_goal_spec.specs.Environments.{term_of, term_in, is_determined, bound, region_env}
-use Rattle.cap_goal_spec.specs.Choices.{PlainTrees}
+use Rattle.cap_goal_spec.specs.Environments.{term_in, is_determined}
 use Rattle.cap_rules.specs.Attempts.{Attempt, unit, ◌>>=◌}
-use Rattle.cap_rules.specs.Making.{determined, row_by, rows_by, with_sort, with_sorts, with_rows, with_comparison, with_env}
+use Rattle.cap_rules.specs.Making.{determined, rows_by, with_sorts, with_rows, with_comparison, with_env}
 use Rattle.cap_rules.specs.Closing.{case_names, in_case, case_goals}
-use Rattle.cap_machine_accounts.specs.Assertions.{AreWhole}
-use Rattle.cap_account_resources.proofs.Lists.{some-same, none-some, within, get-join, get-map, join-nil, join-assoc, map-length}
-use Rattle.cap_account_states.specs.Nodes.{NodePredicate, Comes, Children, Open}
-use Rattle.cap_account_states.proofs.Terms.{Over, Agree}
+use Rattle.cap_account_resources.proofs.Lists.{some-same, none-some, join-nil, join-assoc}
+use Rattle.cap_account_states.specs.Nodes.{Comes}
 use Rattle.cap_account_states.proofs.Attempts.{comes-bind, after-determined, after-row, after-sort, after-comparison, AreDetermined, comp_row}
 use Rattle.cap_account_states.proofs.Adding.{comes-rows}
-use Rattle.cap_account_states.proofs.Checked.{children-split}
-use Rattle.cap_account_states.proofs.Meets.{variable-value, variable-amount}
-use Rattle.cap_account_states.proofs.Naming.{Means}
-use Rattle.cap_account_states.proofs.Roots.{flat-bound}
-use Rattle.cap_account_states.proofs.Scopes.{variables-length, variables-at, rep-length}
-use Rattle.cap_account_states.proofs.Values.{scaled, normal, normal-whole, normal-perm, scaled-denominator, whole-at}
-use Rattle.cap_account_states.proofs.Alike.{swapped, grouped}
 use Rattle.cap_account_steps.proofs.Callees.{comes-env}
 
 -- ---- what makes it
@@ -90,7 +76,8 @@ comes-in-case s f c P h =
     let ends = λ (s' : PlainState). with_env s' env in
     let adds = λ (s' : PlainState) (rows : List Row). with_rows s' rows >>= ends in
     let makes = λ (s' : PlainState). rows_by env c.when >>= adds s' in
-    let compares = λ (s' : PlainState) (t : Linear). with_comparison s' f.state Equal t Int >>= makes
+    let compares = λ (s' : PlainState) (t : Linear).
+    with_comparison s' f.state Equal t Int >>= makes
     in
     let knows = λ (s' : PlainState). determined env c.state >>= compares s' in
     let s1 = record s { sorts = s.sorts ++ c.names } in

@@ -1,6 +1,8 @@
--- Values at which an opened region is in a case: its names have what the region's values say, over the
--- product of both denominators.
-use Rattle.std.proofs.Common.{◌≡◌, ◌≢◌, ◌⊎◌, ℕ, zero, suc, ◌+◌, ◌-◌, ◌*◌, ◌<◌, ◌≤◌, ℤ, pos, ◌*ℤ◌, List, [], ◌∷◌, ◌++◌, length, map, arith, refl, sym, ap, ◌∙◌, subst, Option, Some, None, Bool, true, false, inl, inr}
+-- Values at which an opened region is in a case: its names have what the region's values say, over
+-- the product of both denominators.
+use Rattle.cap_account_resources.proofs.Order.{grouped}
+use Rattle.cap_account_resources.proofs.Lists.{map-at, some-same, none-some, within, get-join, get-map, map-length, all-at}
+use Rattle.std.proofs.Common.{◌≡◌, ℕ, zero, suc, ◌+◌, ◌-◌, ◌*◌, ◌<◌, ◌≤◌, ℤ, pos, ◌*ℤ◌, List, ◌∷◌, ◌++◌, length, map, arith, refl, sym, ap, ◌∙◌, Option, Some, None, true, false, inl, inr}
 use Rattle.std.specs.Prelude.{slice_get, nat_lt, unwrap_or, if◌then◌else◌}
 use Rattle.std.specs.List.{AllByRecursion}
 use Rattle.std.proofs.lemmas.Bool.Decides.{nat_tests}
@@ -12,16 +14,14 @@ use Rattle.cap_lin.specs.declared.row.Sort.TheVariants.{Int, Perm}
 use Rattle.cap_prog.specs.Program.{PlainRegionType}
 use Rattle.cap_prog.specs.Scopes.{Scope, HasSort, region_scope, whole_numbers, known}
 use Rattle.cap_goal_spec.specs.Terms.{variables_from}
-use Rattle.cap_goal_spec.specs.States.{PlainFact, PlainEnv}
+use Rattle.cap_goal_spec.specs.States.{PlainFact}
 use Rattle.cap_goal_spec.specs.Environments.{term_of, bound, region_env}
 use Rattle.cap_machine_accounts.specs.Assertions.{AreWhole}
-use Rattle.cap_account_resources.proofs.Lists.{some-same, none-some, within, get-join, get-map, get-second, map-length, all-at}
 use Rattle.cap_account_states.proofs.Terms.{Over, Agree}
-use Rattle.cap_account_states.proofs.Alike.{Alike, scaled-agree-alike, value-alike, grouped}
+use Rattle.cap_account_states.proofs.Alike.{Alike, scaled-agree-alike, value-alike}
 use Rattle.cap_account_states.proofs.Meets.{variable-value, variable-amount}
 use Rattle.cap_account_states.proofs.Naming.{Means}
-use Rattle.cap_account_steps.proofs.Callees.{slice-map}
-use Rattle.cap_account_states.proofs.Scopes.{variables-length, variables-at, rep-length, rep-in}
+use Rattle.cap_account_states.proofs.Scopes.{variables-length, variables-at, rep-length}
 use Rattle.cap_account_states.proofs.Values.{scaled, normal, normal-whole, normal-perm, scaled-denominator, whole-at}
 
 -- ---- the environment of a case's names
@@ -53,7 +53,8 @@ name-of f n count (suc y) t e =
       | inr h ↦
           let k = get-map Some vars h.0 (Some t) h.2 in
           let low : h.0 < count =
-          (let w = within vars h.0 k.0 k.1 in let c = variables-length n count in omega (arith, w, c))
+          (let w = within vars h.0 k.0 k.1 in let c = variables-length n count in omega
+          (arith, w, c))
           in
           a_name h.0 (ap suc (h.1 ∙ ap (λ z. z + h.0) (map-length Some f.args))) low
           (some-same t (variable (n + h.0))
@@ -62,7 +63,8 @@ name-of f n count (suc y) t e =
 
 -- a sort Perm is that of one of the case's own names
 perm-name :
-    (m : ℕ) (names : List Sort) (x : ℕ) → slice_get (whole_numbers m ++ known names) x ≡ Some (Some Perm) →
+    (m : ℕ) (names : List Sort) (x : ℕ) → slice_get (whole_numbers m ++ known names) x ≡ Some
+    (Some Perm) →
     m ≤ x
 perm-name m names x e =
     elim (get-join (whole_numbers m) (known names) x (Some Perm) e) [
@@ -174,7 +176,7 @@ module _ (v a : Valuation) (n m : ℕ) (sc : Scope) where
           value-alike (λ x. x < n) v case_values case-alike t
           (all-at (Over (λ x. x < n)) f.args j t args et)
           ∙ sym (whole-at a 0 (value v.whole f.region ∷ map (value v.whole) f.args) (suc j)
-          (value v.whole t) are (slice-map (value v.whole) f.args j t et))
+          (value v.whole t) are (map-at (value v.whole) f.args j t et))
           ∙ ap a.whole (at ∙ sym ex)
       on_whole x t (a_name j ex low et) =
           let at : m + j ≡ x = omega (arith, is_params, arity, ex) in

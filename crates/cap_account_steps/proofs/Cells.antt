@@ -1,9 +1,11 @@
 -- Cells of a state: which of them are needed, and one changed.
-use Rattle.std.proofs.Common.{◌≡◌, ℕ, zero, suc, ◌+◌, ◌<◌, ◌≤◌, ℤ, List, [], ◌∷◌, arith, ap, ◌∙◌, subst, Some, ◌-◌, pos, ◌+ℤ◌, ◌++◌, refl}
+use Rattle.cap_account_resources.proofs.Lists.{join-assoc, some-same, none-some, map-set}
+use Rattle.cap_account_states.proofs.Terms.{value-number, Over, row-over}
+use Rattle.std.proofs.Common.{sym, ◌≡◌, ℕ, zero, suc, ◌+◌, ◌<◌, ◌≤◌, ℤ, List, [], ◌∷◌, arith, ap, ◌∙◌, subst, Some, ◌-◌, pos, ◌+ℤ◌, ◌++◌, refl}
 use Rattle.std.specs.Prelude.{slice_get, slice_set}
 use Rattle.std.specs.List.{AllByRecursion}
 use Rattle.cap_lin.specs.Linear.{Linear, number, plus}
-use Rattle.cap_lin.specs.Values.{Valuation, value, parts_value}
+use Rattle.cap_lin.specs.Values.{Valuation, value}
 use Rattle.cap_lin.specs.Rows.{row_of}
 use Rattle.cap_lin.specs.Solves.{Proves}
 use Rattle.cap_lin.specs.declared.row.Sort.TheVariants.{Int}
@@ -18,26 +20,16 @@ use Rattle.cap_machine.specs.Machine.{Frame, with_rest, with_value}
 use Rattle.cap_machine_accounts.specs.Assertions.{NameValue}
 use Rattle.cap_account_states.specs.Nodes.{Comes}
 use Rattle.cap_account_resources.specs.Parts.{one_cell}
-use Rattle.cap_account_resources.proofs.Lists.{some-same, none-some, map-set}
-use Rattle.cap_account_states.proofs.Terms.{Over, row-over}
 use Rattle.cap_account_states.proofs.Attempts.{after-computed, after-cell}
 use Rattle.cap_account_states.proofs.Meets.{Usable, Meets, need, proved-holds}
 use Rattle.cap_account_steps.proofs.Stores.{Store}
 use Rattle.cap_account_resources.proofs.Heaps.{fresh_cells}
-use Rattle.std.proofs.lemmas.Int.{ints}
 use Rattle.cap_lin.specs.Steps.{plus_steps}
 use Rattle.cap_lin.proofs.Values.{value-plus}
 use Rattle.cap_goal_spec.specs.Environments.{zero_value}
 
 abbrev pub Cell : Type 0
 Cell = Linear × Linear
-
-pub all-set :
-    {X : Type 0} (P : X → Type 0) (xs : List X) (i : ℕ) (y : X) → AllByRecursion P xs → P y →
-    AllByRecursion P (slice_set xs i y)
-all-set P [] i y h k = tt
-all-set P (z ∷ xs) zero y h k = (k, h.1)
-all-set P (z ∷ xs) (suc i) y h k = (h.0, all-set P xs i y h.1 k)
 
 abbrev pub cell_here : Valuation → Cell → ℤ → ℤ → ℕ
 cell_here v c a z = one_cell (value v.whole c.0) (value v.whole c.1) a z
@@ -120,24 +112,16 @@ comes-new-cells s b i (suc n) P h =
     (λ a. with_cell s a zero_value >>= more) P h in
     let k = after-cell s a zero_value more P g in
     let c : Cell = (a, zero_value) in
-    subst (λ cs. P (record s { cells = cs })) (joined-lists s.cells c (new_cells b (suc i) n))
+    subst (λ cs. P (record s { cells = cs }))
+    (sym (join-assoc s.cells (c ∷ []) (new_cells b (suc i) n)))
     (comes-new-cells (record s { cells = s.cells ++ c ∷ [] }) b (suc i) n P k)
-  where
-    joined-lists :
-        (xs : List Cell) (c : Cell) (ys : List Cell) → (xs ++ c ∷ []) ++ ys ≡ xs ++ c ∷ ys
-    joined-lists [] c ys = refl
-    joined-lists (x ∷ xs) c ys = ap (λ zs. x ∷ zs) (joined-lists xs c ys)
-
-pub number-is : (n : ℕ → ℤ) (z : ℤ) → value n (number z) ≡ z
-unfolding value parts_value
-number-is n z = omega (arith, ints)
 
 pub address-is :
     (v : Valuation) (u : Linear) (i : ℕ) →
     value v.whole (plus u (number (pos i))) ≡ value v.whole u +ℤ pos i
 address-is v u i =
     value-plus v.whole u (number (pos i))
-    ∙ ap (λ z. value v.whole u +ℤ z) (number-is v.whole (pos i))
+    ∙ ap (λ z. value v.whole u +ℤ z) (value-number v.whole (pos i))
 
 pub need-both :
     (v : Valuation) (cs ds : List Cell) (a z : ℤ) →
@@ -160,7 +144,7 @@ new-cells-need v u i (suc n) a z =
     let d : cell_here v (plus u (number (pos i)), zero_value) a z
     ≡ one_cell (value v.whole u +ℤ pos i) (pos 0) a z =
     ap (λ x. one_cell x (value v.whole zero_value) a z) (address-is v u i)
-    ∙ ap (λ x. one_cell (value v.whole u +ℤ pos i) x a z) (number-is v.whole (pos 0)) in
+    ∙ ap (λ x. one_cell (value v.whole u +ℤ pos i) x a z) (value-number v.whole (pos 0)) in
     omega (arith, q, g, d)
 
 pub new-cells-all :

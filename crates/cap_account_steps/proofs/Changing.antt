@@ -1,5 +1,6 @@
 -- While regions are open a statement acts on one cell: rows come, the cell gets another content and
 -- a local another value.
+use Rattle.cap_account_states.proofs.Environments.{all-vars}
 use Rattle.std.proofs.Common.{◌≡◌, ℕ, ◌-◌, ◌≤◌, ℤ, pos, ◌<ℤ◌, List, [], ◌∷◌, Some, arith, ap, ◌∙◌}
 use Rattle.std.specs.Prelude.{slice_get}
 use Rattle.std.specs.List.{AllByRecursion}
@@ -15,16 +16,16 @@ use Rattle.cap_rules.specs.Making.{in_store, with_local}
 use Rattle.cap_rules.specs.Closing.{with_content}
 use Rattle.cap_machine.specs.Machine.{Frame, with_rest, with_value}
 use Rattle.cap_machine_accounts.specs.Assertions.{NameValue}
+use Rattle.cap_account_resources.proofs.Lists.{all-set, all-at}
 use Rattle.cap_account_resources.specs.Parts.{one_cell, Table}
-use Rattle.cap_account_resources.proofs.Lists.{all-at}
 use Rattle.cap_account_resources.proofs.Stocks.{Stock}
 use Rattle.cap_account_resources.proofs.Tables.{FitsRoom}
 use Rattle.cap_account_states.proofs.Terms.{Over, RowOver, vars-more, over-over}
 use Rattle.cap_account_states.proofs.Attempts.{row_added}
 use Rattle.cap_account_states.proofs.Meets.{Usable, CellOver, Meets, meets-row}
 use Rattle.cap_account_states.proofs.Backed.{Backed}
-use Rattle.cap_account_steps.proofs.Stores.{Store, here, get-over, vars-any}
-use Rattle.cap_account_steps.proofs.Cells.{Cell, all-set, need-one, need-set, store-local}
+use Rattle.cap_account_steps.proofs.Stores.{Store, here, get-over}
+use Rattle.cap_account_steps.proofs.Cells.{Cell, need-one, need-set, store-local}
 use Rattle.cap_account_steps.proofs.Worlds.{Earlier, IfAny, Closing, recelled}
 
 -- ---- a state alone
@@ -35,7 +36,7 @@ pub here-free :
     AllByRecursion (Over (Usable ks s.sorts Int)) s.store → Over (Usable ks s.sorts Int) (here s t)
 here-free ks s t over =
     let R = Usable ks s.sorts Int in
-    over-over R (λ x. Unit {0}) (in_store s) t (λ x u. get-over R s.store x over) (vars-any t.parts)
+    over-over R (λ x. Unit {0}) (in_store s) t (λ x u. get-over R s.store x over) (all-vars t.parts)
 
 pub meets-local :
     (ks : List ℕ) (v : Valuation) (s : PlainState) (y : ℕ) (t : Linear) → Meets ks v s →

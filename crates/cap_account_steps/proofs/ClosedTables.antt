@@ -1,4 +1,5 @@
 -- The table once an open region is closed, and once regions are made: how each settles.
+use Rattle.cap_account_resources.proofs.Order.{same-or}
 use Rattle.std.proofs.Common.{◌≡◌, inl, inr, ℕ, ℤ, List, [], ◌∷◌, map, Some, None, Bool, true, false, refl, sym, ap, ◌∙◌}
 use Rattle.cap_lin.specs.Values.{Valuation, value}
 use Rattle.cap_prog.specs.Program.{PlainProgram}
@@ -7,7 +8,7 @@ use Rattle.cap_account_resources.specs.Parts.{Known, known_as, Table}
 use Rattle.cap_account_resources.proofs.Lists.{some-same, none-some, all-more}
 use Rattle.cap_account_resources.proofs.Monoid.{none, atom}
 use Rattle.cap_account_resources.proofs.Monoid as monoid
-use Rattle.cap_account_resources.proofs.Room.{with_known, here-or}
+use Rattle.cap_account_resources.proofs.Room.{with_known}
 use Rattle.cap_account_resources.proofs.Stocks.{Stock, no_stock, both, Inside, some-inside, inside-first, inside-trans}
 use Rattle.cap_account_resources.proofs.Tables.{KeepsStates, KeepsTypes, FitsRoom, new_guards, fits-less, fits-later}
 use Rattle.cap_account_resources.proofs.Owners.{Owner, owned}
@@ -25,7 +26,7 @@ closed_table T r = with_known T r.number (told_of r)
 
 module _ (T : Table) (r : Owner) (is_open : T r.number ≡ Some (open_of r)) where
   pub closed-states : KeepsStates T (closed_table T r)
-  closed-states n k zs b h = elim (here-or r.number n) [
+  closed-states n k zs b h = elim (same-or r.number n) [
     | inl e ↦ stateless r.kind k r.args zs b (sym is_open ∙ ap T e ∙ h)
     | inr ne ↦ told-apart T r.number n (told_of r) ne ∙ h
   ]
@@ -33,7 +34,7 @@ module _ (T : Table) (r : Owner) (is_open : T r.number ≡ Some (open_of r)) whe
   -- a fact of the region is loose, and says nothing of its state
   fact-closed :
       (v : Valuation) (f : PlainFact) → FactHolds v T f → FactHolds v (closed_table T r) f
-  fact-closed v f h = elim (here-or r.number n) [
+  fact-closed v f h = elim (same-or r.number n) [
     | inl e ↦
         let same = some-same (open_of r) (known_as f.kind zs h.0) (sym is_open ∙ ap T e ∙ h.1) in (
           Some r.state,

@@ -1,5 +1,6 @@
 -- A region is opened: what it has is given to the state, in the case in which the region is.
-use Rattle.std.proofs.Common.{◌≡◌, ◌≢◌, ℕ, suc, ◌+◌, ◌<◌, ◌≤◌, ℤ, pos, List, [], ◌∷◌, ◌++◌, length, map, arith, refl, sym, ap, ◌∙◌, subst, Option, Some, None, Bool, true, false, inl, inr}
+use Rattle.cap_account_resources.proofs.Lists.{all-map, some-same, all-more, all-both, all-at, all-remove, map-join, map-length, get-or-push, push-length}
+use Rattle.std.proofs.Common.{◌≡◌, ◌≢◌, ℕ, suc, ◌+◌, ◌<◌, ℤ, List, [], ◌∷◌, ◌++◌, length, map, arith, refl, sym, ap, ◌∙◌, subst, Some, Bool, true, false}
 use Rattle.std.specs.Prelude.{slice_get, nat_lt, remove, ◌==◌, if◌then◌else◌}
 use Rattle.std.specs.List.{AllByRecursion}
 use Rattle.std.proofs.lemmas.Bool.Decides.{nat_tests}
@@ -15,20 +16,17 @@ use Rattle.cap_gsolve.specs.declared.piece.Piece.{Piece}
 use Rattle.cap_prog.specs.Program.{PlainAct, Block, first, PlainCase, PlainRegionType, Label, PlainFunction, PlainProgram}
 use Rattle.cap_prog.specs.Scopes.{Scope, region_scope}
 use Rattle.cap_prog.specs.WellFormed.{IsWellFormed, RegionFits, CaseFits}
-use Rattle.cap_goal_spec.specs.States.{PlainFact, PlainState, Home, PlainTask, to_give, PlainGoal, goals_of}
+use Rattle.cap_goal_spec.specs.States.{PlainFact, PlainState, Home, PlainTask, to_give, goals_of}
 use Rattle.cap_goal_spec.specs.Choices.{PlainTree, PlainTrees}
-use Rattle.cap_rules.specs.Attempts.{Attempt, unit, ◌>>=◌}
-use Rattle.cap_rules.specs.Making.{is_empty, env_at}
+use Rattle.cap_rules.specs.Making.{is_empty}
 use Rattle.cap_rules.specs.Closing.{address_of, of_type, prove_other, with_opened, case_names, case_goals}
 use Rattle.cap_rules.specs.Rules.{at_enter}
 use Rattle.cap_machine.specs.Machine.{Heap, Frame}
-use Rattle.cap_machine_accounts.specs.Accounts.{EachTwo}
 use Rattle.cap_machine_accounts.specs.Assertions.{NameValue}
 use Rattle.cap_account_resources.specs.Parts.{Known, known_as, Table}
-use Rattle.cap_account_resources.proofs.Lists.{some-same, all-more, all-both, all-at, all-remove, map-join, map-length, get-or-push, push-length, Among}
 use Rattle.cap_account_resources.proofs.Covering.{Covered}
 use Rattle.cap_account_resources.proofs.Room.{room, room-some, part-some}
-use Rattle.cap_account_resources.proofs.Stocks.{Stock, no_stock, both, all_of, none-right, stock-laws, Composes}
+use Rattle.cap_account_resources.proofs.Stocks.{Stock, both, all_of, none-right, stock-laws, Composes}
 use Rattle.cap_account_states.specs.Nodes.{Comes, Children, Open}
 use Rattle.cap_account_states.proofs.Terms.{Over, row-over, vars-more, Agree}
 use Rattle.cap_account_states.proofs.Alike.{Alike, InScope, alike-trans, alike-less, agree-alike, scaled-alike, value-alike}
@@ -49,15 +47,16 @@ use Rattle.cap_account_assertions.proofs.Laws.{StateAt, Given, GivenLaw}
 use Rattle.cap_account_steps.proofs.Stores.{Store, running, store-alike}
 use Rattle.cap_account_steps.proofs.Exact.{exact-alike, over-more}
 use Rattle.cap_account_steps.proofs.Worlds.{Differ, IsThere, World, Exact, AllOver, regions_of, Earlier, IfAny, Opening}
-use Rattle.cap_account_steps.proofs.Reserving.{firm-loose, firm-differ, Between, facts-between, grounded-between, backed-between}
-use Rattle.cap_account_steps.proofs.CaseStates.{case_state, InCase, CaseGoal, case-goal}
+use Rattle.cap_account_steps.proofs.FirmStates.{firm-loose, firm-differ, Between, facts-between, grounded-between, backed-between}
+use Rattle.cap_account_steps.proofs.CaseStates.{case_state, CaseGoal, case-goal}
 use Rattle.cap_account_steps.proofs.CaseValues.{case_values, names_values}
 use Rattle.cap_account_steps.proofs.CaseHolds as holds
 use Rattle.cap_account_steps.proofs.CaseHolds.{IsInCase, meets-case}
 
 -- ---- firm facts say just what the table does
 
-pub firm-exact : (v : Valuation) (T : Table) (f : PlainFact) → IsFirm f → FactHolds v T f → Exact v T f
+pub firm-exact : (v : Valuation) (T : Table) (f : PlainFact) → IsFirm f → FactHolds v T f →
+    Exact v T f
 firm-exact v T f firm h = by f.loose firm h.2
   where
     by : (b : Bool) → b ≡ false → StateHolds b h.0 (value v.whole f.state) → Exact v T f
@@ -105,17 +104,14 @@ of-all k Q (f ∷ fs) h m = by (f.kind == k) refl m (λ n. of-all k Q fs h.1 n)
     by true e m more = (m.0, more m.1)
     by false e m more = (h.0 (λ q. grind (arith, nat_tests, e, q)), more m)
 
-all-map :
-    {A B : Type 0} (g : A → B) (P : B → Type 0) (xs : List A) → AllByRecursion (λ x. P (g x)) xs →
-    AllByRecursion P (map g xs)
-all-map g P [] h = tt
-all-map g P (x ∷ xs) h = (h.0, all-map g P xs h.1)
-
 -- a list of numbers with one more
 differ-more :
     (ns : List ℤ) (n : ℤ) → Differ ns → AllByRecursion (λ m. m ≢ n) ns → Differ (ns ++ n ∷ [])
 differ-more [] n h k = (tt, tt)
-differ-more (m ∷ ns) n h k = (all-both (λ x. m ≢ x) ns (n ∷ []) h.0 (k.0, tt), differ-more ns n h.1 k.1)
+differ-more (m ∷ ns) n h k = (
+  all-both (λ x. m ≢ x) ns (n ∷ []) h.0 (k.0, tt),
+  differ-more ns n h.1 k.1,
+)
 
 all-of-more :
     (p : PlainProgram) (ns : List ℤ) (n : ℤ) (share : ℤ → Stock) →
@@ -161,7 +157,8 @@ module _ (p : Checked) (program : IsWellFormed p.program) (give : GivenLaw p) (V
 
   module _ (v : Valuation) (s : PlainState) (o : Opening p.program V share part v s)
       (st : Store v s h0 fn fixed f0) (i : ℕ) (f : PlainFact) (k : PlainRegionType)
-      (is_fact : slice_get s.facts i ≡ Some f) (is_type : slice_get p.program.regions f.kind ≡ Some k)
+      (is_fact : slice_get s.facts i ≡ Some f)
+      (is_type : slice_get p.program.regions f.kind ≡ Some k)
     where
       abbrev n : ℤ
       n = value v.whole f.region
@@ -197,7 +194,9 @@ module _ (p : Checked) (program : IsWellFormed p.program) (give : GivenLaw p) (V
           all-at (RegionFits p.program) p.program.regions f.kind k program.regions is_type
 
       is-case : slice_get k.cases own.number ≡ Some own.case
-      is-case = ap (λ (t : PlainRegionType). slice_get t.cases own.number) (sym same-type) ∙ own.is_case
+      is-case =
+          ap (λ (t : PlainRegionType). slice_get t.cases own.number) (sym same-type)
+          ∙ own.is_case
 
       case-fits : CaseFits p.program k own.case
       case-fits = all-at (CaseFits p.program k) k.cases own.number own.case type-fits.cases is-case
@@ -304,15 +303,19 @@ module _ (p : Checked) (program : IsWellFormed p.program) (give : GivenLaw p) (V
           w = case_values v own.values (length s.sorts) k.params (region_scope k own.case.names)
 
           abbrev names : Valuation
-          names = names_values v own.values (length s.sorts) k.params (region_scope k own.case.names)
+          names = names_values v own.values (length s.sorts) k.params
+              (region_scope k own.case.names)
 
           abbrev held : Stock
           held = both p.program part (all_of p.program (regions_of v s.opened) share)
 
-          trees : (kids : PlainTrees) × Open p.N kids s2 (to_give c.items (length s.envs) l.number ∷ ts)
+          trees :
+              (kids : PlainTrees)
+              × Open p.N kids s2 (to_give c.items (length s.envs) l.number ∷ ts)
           trees =
               let own_goals = goals_of s2 (to_give c.items (length s.envs) l.number ∷ ts) in
-              let m = children-split p.N ks goal.before (own_goals ++ goal.behind) goal.goes.comes in
+              let m = children-split p.N ks goal.before (own_goals ++ goal.behind) goal.goes.comes
+              in
               let q = children-split p.N m.right own_goals goal.behind m.second in
               (q.left, q.first)
 
@@ -347,10 +350,12 @@ module _ (p : Checked) (program : IsWellFormed p.program) (give : GivenLaw p) (V
           firm1 = all-remove IsFirm s.facts i o.firm
 
           int-on : (u : Linear) → Over (Usable [] s.sorts Int) u → Over (Usable [] s2.sorts Int) u
-          int-on u k = vars-more (Usable [] s.sorts Int) (Usable [] s2.sorts Int) (usable2 Int) u.parts k
+          int-on u k = vars-more (Usable [] s.sorts Int) (Usable [] s2.sorts Int) (usable2 Int)
+              u.parts k
 
           int-old : (u : Linear) → Over (Usable [] s.sorts Int) u → Over (Old s) u
-          int-old u k = vars-more (Usable [] s.sorts Int) (Old s) (usable-old [] s.sorts Int) u.parts k
+          int-old u k = vars-more (Usable [] s.sorts Int) (Old s) (usable-old [] s.sorts Int)
+              u.parts k
 
           all-open : AllByRecursion IsOpen s2.opened
           all-open = all-both IsOpen s.opened (f ∷ []) o.opened ((over, exact), tt)
@@ -368,7 +373,8 @@ module _ (p : Checked) (program : IsWellFormed p.program) (give : GivenLaw p) (V
                 (meets-case p.program v s1 f k c own.values in-case meets1 goal.goes.state_known
                 goal.goes.conditions_known) grounded1;
             facts = facts-between p.program [] [] (Old s) v w s1 s2 between2 V firm1 facts1;
-            opened = all-more IsOpen (IsOpened (Usable [] s2.sorts Int) w V) opened2 s2.opened all-open;
+            opened = all-more IsOpen (IsOpened (Usable [] s2.sorts Int) w V) opened2 s2.opened
+                all-open;
             there = (let q = push-length s.envs (case_names s1 f c) in omega (arith, q));
             placed = subst (Placed [] sc s2.sorts) (sym (get-or-push s.envs (case_names s1 f c) []))
                 (holds.placed p.program v s1 f k c own.values in-case meets1 goal.goes.state_known
@@ -411,7 +417,8 @@ module _ (p : Checked) (program : IsWellFormed p.program) (give : GivenLaw p) (V
 
           given : Given p V (length s.envs) w (both p.program held (share n)) s2 ts
           given =
-              give V sc (length s.envs) l.number names held (share n) own.met.0 c.items ts trees.0 w s2
+              give V sc (length s.envs) l.number names held (share n) own.met.0 c.items ts trees.0 w
+              s2
               trees.1 state2 firm1
               (subst (λ env. Means sc w env names) (sym (get-or-push s.envs (case_names s1 f c) []))
               (holds.means p.program v s1 f k c own.values in-case meets1 goal.goes.state_known
@@ -463,7 +470,8 @@ module _ (p : Checked) (program : IsWellFormed p.program) (give : GivenLaw p) (V
               (all-more IsOpen
               (λ g. AllOver (Usable [] given.after.sorts Int) g × Exact given.w V g)
               (λ g told. (
-                over-more (Usable [] s.sorts Int) (Usable [] given.after.sorts Int) usable3 g told.0,
+                over-more (Usable [] s.sorts Int) (Usable [] given.after.sorts Int) usable3 g
+                    told.0,
                 exact-alike (Old s) v given.w V alike3 g
                     (over-more (Usable [] s.sorts Int) (Old s) (usable-old [] s.sorts Int) g told.0)
                     told.1,
@@ -473,7 +481,8 @@ module _ (p : Checked) (program : IsWellFormed p.program) (give : GivenLaw p) (V
           earlier-now : Earlier p.program [] given.w given.after part
           earlier-now = by s.opened refl
             where
-              usable-all : (o : Sort) (x : ℕ) → Usable [] s.sorts o x → Usable [] given.after.sorts o x
+              usable-all : (o : Sort) (x : ℕ) → Usable [] s.sorts o x →
+                  Usable [] given.after.sorts o x
               usable-all o x h =
                   usable-on [] s2.sorts given.after.sorts given.goes_on.sorts o x (usable2 o x h)
 
@@ -492,13 +501,15 @@ module _ (p : Checked) (program : IsWellFormed p.program) (give : GivenLaw p) (V
                   Earlier p.program [] given.w given.after part
               of-pieces ps e po pf pc = record {
                 over = subst (AllByRecursion (PieceOver (Usable [] given.after.sorts))) (sym e)
-                    (pieces-more (Usable [] s.sorts) (Usable [] given.after.sorts) usable-all ps po);
+                    (pieces-more (Usable [] s.sorts) (Usable [] given.after.sorts) usable-all ps
+                    po);
                 fit = subst (AllFit p.program) (sym e) pf;
                 covered = λ m. subst (λ qs. Covered p.program given.w qs m (part.guards m)) (sym e)
                     (covered-now ps po m (pc m));
               }
 
-              by : (os : List PlainFact) → s.opened ≡ os → Earlier p.program [] given.w given.after part
+              by : (os : List PlainFact) → s.opened ≡ os → Earlier p.program [] given.w given.after
+                  part
               by [] e =
                   of-pieces s.guards
                   (given.goes_on.before

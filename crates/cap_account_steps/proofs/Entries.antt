@@ -11,7 +11,6 @@ use Rattle.cap_goal_spec.specs.Terms.{variables_from}
 use Rattle.cap_goal_spec.specs.Environments.{bound, unbound}
 use Rattle.cap_account_resources.proofs.Lists.{some-same, none-some, within, map-length, get-first}
 use Rattle.cap_account_states.proofs.Meets.{Usable}
-use Rattle.cap_account_assertions.proofs.Giving.{given}
 use Rattle.cap_account_states.proofs.Scopes.{requires-early, early-position, invariant-at, param-requires, fixed-requires, store-invariant, fixed-invariant, variables-length, variables-at, unbound-none, rep-length, rep-in}
 use Rattle.cap_account_states.proofs.Roots.{flat-bound, sorts_of, Root, no-sort, no-term}
 

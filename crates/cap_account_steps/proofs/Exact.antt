@@ -1,5 +1,5 @@
--- Facts that say just what the table does: at other values, one of them changed, and what is held of
--- their regions.
+-- Facts that say just what the table does: at other values, one of them changed, and what is held
+-- of their regions.
 use Rattle.std.proofs.Common.{◌≡◌, ◌≢◌, ℕ, zero, suc, ℤ, List, [], ◌∷◌, map, Option, Some, None, inl, inr, refl, sym, ap, ◌∙◌, subst}
 use Rattle.std.specs.Prelude.{slice_get, slice_set}
 use Rattle.std.specs.List.{AllByRecursion}
@@ -9,13 +9,13 @@ use Rattle.cap_lin.specs.Values.{Valuation, value}
 use Rattle.cap_prog.specs.Program.{PlainProgram}
 use Rattle.cap_machine_accounts.specs.Accounts.{EachTwo}
 use Rattle.cap_goal_spec.specs.States.{PlainFact, PlainState}
+use Rattle.cap_account_states.proofs.Alike.{values-alike, Alike, value-alike}
+use Rattle.cap_account_resources.proofs.Lists.{all-set, some-same, none-some, all-more, get-set-other}
 use Rattle.cap_account_resources.specs.Parts.{Known, known_as, Table}
-use Rattle.cap_account_resources.proofs.Lists.{some-same, none-some, all-more, get-set-other}
 use Rattle.cap_account_resources.proofs.Marks.{Mark}
 use Rattle.cap_account_resources.proofs.Covering.{IsPartOf, Covered}
 use Rattle.cap_account_resources.proofs.Room.{room, room-some, part-some, in-room}
 use Rattle.cap_account_states.proofs.Terms.{Over, vars-more}
-use Rattle.cap_account_states.proofs.Alike.{Alike, value-alike}
 use Rattle.cap_account_states.proofs.Compatible.{pieces-more, covered-alike}
 use Rattle.cap_account_states.proofs.Meets.{Usable, Old, usable-old}
 use Rattle.cap_account_states.proofs.Backed.{Grounded}
@@ -24,17 +24,8 @@ use Rattle.cap_account_steps.proofs.Worlds.{Exact, AllOver}
 
 -- ---- at other values
 
-pub terms-alike :
-    (P : ℕ → Type 0) (v w : Valuation) → Alike P v w → (ts : List Linear) →
-    AllByRecursion (Over P) ts → map (value w.whole) ts ≡ map (value v.whole) ts
-terms-alike P v w a [] h = refl
-terms-alike P v w a (t ∷ ts) h =
-    let e = value-alike P v w a t h.0 in
-    let es = terms-alike P v w a ts h.1 in
-    rw (e, es) refl
-
--- the table's entry with this state, where the region and its arguments are over these variables and
--- the state gets the value
+-- the table's entry with this state, where the region and its arguments are over these variables
+-- and the state gets the value
 pub told-alike :
     (P : ℕ → Type 0) (v w : Valuation) (T : Table) → Alike P v w → (f : PlainFact) (t : Linear)
     (b : ℤ) → Over P f.region → AllByRecursion (Over P) f.args → value w.whole t ≡ b →
@@ -42,7 +33,7 @@ pub told-alike :
     Exact w T (record f { state = t })
 told-alike P v w T a f t b r as' e h =
     let er = value-alike P v w a f.region r in
-    let es = terms-alike P v w a f.args as' in
+    let es = values-alike P v w a f.args as' in
     rw (er, es, e) h
 
 pub exact-alike :
@@ -88,13 +79,6 @@ each-set P Q xs j y others new each i x e = elim (cases_eq i j) [
   | inr ne ↦ others i x ne (each i x (sym (get-set-other xs j i y ne) ∙ e))
 ]
 
-pub all-set :
-    {X : Type 0} (P : X → Type 0) (xs : List X) (j : ℕ) (y : X) → P y → AllByRecursion P xs →
-    AllByRecursion P (slice_set xs j y)
-all-set P [] j y h k = tt
-all-set P (x ∷ xs) zero y h k = (h, k.1)
-all-set P (x ∷ xs) (suc j) y h k = (k.0, all-set P xs j y h k.1)
-
 -- of each two, where the new one stands so to all
 pub each-two-set :
     {X : Type 0} (R : X → X → Type 0) → ((x y : X) → R x y → R y x) → (xs : List X) (j : ℕ)
@@ -102,7 +86,7 @@ pub each-two-set :
 each-two-set R back [] j y h k = tt
 each-two-set R back (x ∷ xs) zero y h k = (h.1, k.1)
 each-two-set R back (x ∷ xs) (suc j) y h k =
-    (all-set (R x) xs j y (back y x h.0) k.0, each-two-set R back xs j y h.1 k.1)
+    (all-set (R x) xs j y k.0 (back y x h.0), each-two-set R back xs j y h.1 k.1)
 
 pub all-each :
     {X : Type 0} (P : X → Type 0) (xs : List X) → Each (λ i. P) xs → AllByRecursion P xs
@@ -133,5 +117,6 @@ held-of p T n e (Some (Some g)) t h =
     record {
       mark = Some g;
       is = refl;
-      of_kind = sym r.of_kind ∙ ap (λ (x : Known). x.kind) (some-same r.known e (sym r.is_known ∙ t));
+      of_kind = sym r.of_kind
+          ∙ ap (λ (x : Known). x.kind) (some-same r.known e (sym r.is_known ∙ t));
     }

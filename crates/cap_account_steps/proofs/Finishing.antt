@@ -12,6 +12,7 @@ use Rattle.cap_goal_spec.specs.States.{PlainState, Home, to_rest}
 use Rattle.cap_goal_spec.specs.Choices.{PlainTrees}
 use Rattle.cap_machine.specs.Machine.{Frame}
 use Rattle.cap_machine_accounts.specs.Assertions.{NameValue}
+use Rattle.cap_account_states.proofs.Alike.{values-alike, Alike, agree-alike}
 use Rattle.cap_account_states.specs.Nodes.{Open}
 use Rattle.cap_account_resources.specs.Parts.{Table}
 use Rattle.cap_account_resources.proofs.Lists.{all-more, there-is, within, Among}
@@ -20,7 +21,6 @@ use Rattle.cap_account_resources.proofs.Stocks.{Stock, both, inside-first, insid
 use Rattle.cap_account_resources.proofs.Tables.{TableFits, NoneOpen, AreListed, FitsRoom, new_guards, fits-less, fits-later}
 use Rattle.cap_account_resources.proofs.Owners.{owned, numbers_of}
 use Rattle.cap_account_states.proofs.Terms.{Over, vars-more}
-use Rattle.cap_account_states.proofs.Alike.{Alike, agree-alike}
 use Rattle.cap_account_states.proofs.Meets.{Free, Usable}
 use Rattle.cap_account_states.proofs.Checked.{Checked, one-child}
 use Rattle.cap_account_states.proofs.Facts.{Facts}
@@ -30,7 +30,7 @@ use Rattle.cap_account_states.proofs.Backed.{Backed, Grounded}
 use Rattle.cap_account_states.proofs.KnowsLater.{Steady, usable-steady}
 use Rattle.cap_account_assertions.proofs.Laws.{TakenLaw, Reached}
 use Rattle.cap_account_steps.proofs.Points.{FrameOk}
-use Rattle.cap_account_steps.proofs.Stores.{Store, running, values-alike, name-alike, fixed-name}
+use Rattle.cap_account_steps.proofs.Stores.{Store, running, name-alike, fixed-name}
 use Rattle.cap_account_steps.proofs.Frames.{Roomy, Stands, StandsAt}
 use Rattle.cap_account_steps.proofs.Worlds.{regions_of, opened_table, SettlesBy, ClosingLaw}
 use Rattle.cap_account_assertions.proofs.Named.{rest_values}

@@ -21,7 +21,7 @@ use Rattle.cap_account_states.proofs.Backed.{Grounded}
 use Rattle.cap_account_assertions.proofs.Named.{set_to, lone, state_or, known_state, told_state}
 use Rattle.cap_account_steps.proofs.Worlds.{Exact, AllOver}
 use Rattle.cap_account_steps.proofs.Exact.{told-alike, all-two}
-use Rattle.cap_account_steps.proofs.Reserved.{set-agrees, set-is, set-whole, kept-other, AllSorted, grounded-at, usable-free, grounded-free}
+use Rattle.cap_account_steps.proofs.KeptFree.{set-agrees, set-is, set-whole, kept-other, AllSorted, grounded-at, usable-free, grounded-free}
 
 -- ---- the table's states
 
@@ -116,7 +116,8 @@ module _ (ks : List ℕ) (sorts : List Sort) (T : Table) (v : Valuation) where
           subst (Over (λ y. y ≢ lone f.state)) (sym q)
           ((λ same. d e (r.is ∙ ap variable (sym same) ∙ sym q)), tt)
       by false e k =
-          vars-more (Free ks) (λ y. y ≢ lone f.state) (λ y h. kept-other ks (lone f.state) y r.among h)
+          vars-more (Free ks)
+          (λ y. y ≢ lone f.state) (λ y h. kept-other ks (lone f.state) y r.among h)
           g.state.parts k
 
   abbrev IsTold : Valuation → PlainFact → Type 0
@@ -208,7 +209,8 @@ firmed p ks T v s full g fs =
           (λ f. value w.whole f.state ≡ told_state T v f) (Exact w T)
           (λ f h e. told-alike (Free ks) v w T (agree-alike (Free ks) v w a) f f.state
           (told_state T v f) h.0.0 h.0.1 e (told-there T v f full h.1)) s.facts
-          (all-two (FactOver (Free ks)) (FactHolds v T) (λ f. FactOver (Free ks) f × FactHolds v T f)
+          (all-two (FactOver (Free ks)) (FactHolds v T)
+          (λ f. FactOver (Free ks) f × FactHolds v T f)
           (λ f o h. (o, h)) s.facts near fs.holds) told;
       over = all-two (FactOver R) (LooseState ks s.sorts) (AllOver (Usable [] s.sorts Int))
           (over-free ks s.sorts) s.facts fs.over fs.loose;

@@ -143,8 +143,8 @@ pub record HandsOver (p : PlainProgram) (T : Table) (part kept given : Stock) : 
   pub budget :
       Inside p (both p (both p kept given) (owned p new)) (both p part (new_guards p T U))
 
--- a callee gets its `requires`, and of what is kept this holds, with the values of the callee's fixed
--- names
+-- a callee gets its `requires`, and of what is kept this holds, with the values of the callee's
+-- fixed names
 pub record Hands (p : Checked) (part : Stock) (T : Table) (g : PlainFunction) (args : List ℤ)
     (K : Stock → Table → List NameValue → Type 0) : Type 0 where
   pub kept : Stock
@@ -157,7 +157,8 @@ pub record Hands (p : Checked) (part : Stock) (T : Table) (g : PlainFunction) (a
 
 -- a call leaves a caller that waits, a fork one that goes on
 abbrev pub Calls :
-    Checked → Stock → Table → List NameValue → Frame → Option ℕ → ℕ → PlainFunction → List ℤ → Type 0
+    Checked → Stock → Table → List NameValue → Frame → Option ℕ → ℕ → PlainFunction → List ℤ →
+    Type 0
 Calls p part T fixed f destination n g args =
     Hands p part T g args
     (λ kept U callee_fixed. Waits p kept U fixed f destination n args callee_fixed)

@@ -1,4 +1,5 @@
 -- Values of a request over a denominator that all amounts it leaves open go into.
+use Rattle.cap_account_resources.proofs.Order.{swapped, grouped}
 use Rattle.std.proofs.Common.{◌≡◌, ℕ, zero, suc, ◌+◌, ◌*◌, ◌<◌, ℤ, pos, ◌*ℤ◌, List, [], ◌∷◌, Option, refl, sym, ap, ◌∙◌, arith}
 use Rattle.std.specs.List.{AllByRecursion}
 use Rattle.std.proofs.lemmas.Int.{ints}
@@ -23,16 +24,7 @@ use Rattle.cap_account_states.proofs.Asking.{IsFine, AskedOver, AllFine}
 over-times :
     (a n d c m b : ℤ) → a *ℤ d ≡ n *ℤ c → b ≡ c *ℤ m → a *ℤ m *ℤ d ≡ n *ℤ b
 over-times a n d c m b e f =
-    turned a m d ∙ (ap (λ z. z *ℤ m) e ∙ (grouped n c m ∙ ap (λ z. n *ℤ z) (sym f)))
-  where
-    grouped : (n c m : ℤ) → n *ℤ c *ℤ m ≡ n *ℤ (c *ℤ m)
-    grouped n c m = simp expand (omega (arith, ints, product3))
-
-    exchanged : (m d : ℤ) → m *ℤ d ≡ d *ℤ m
-    exchanged m d = omega (arith, ints)
-
-    turned : (a m d : ℤ) → a *ℤ m *ℤ d ≡ a *ℤ d *ℤ m
-    turned a m d = grouped a m d ∙ (ap (λ z. a *ℤ z) (exchanged m d) ∙ sym (grouped a d m))
+    swapped a m d ∙ (ap (λ z. z *ℤ m) e ∙ (grouped n c m ∙ ap (λ z. n *ℤ z) (sym f)))
 
 asked-like :
     (sc : Scope) (a b : Valuation) → Like sc a b → (asked : Asked) (x : Element) →

@@ -1,5 +1,6 @@
--- A fact is added where the fact of its region may be loose: the variable that is its state gets the
--- new fact's state, and is no longer kept free.
+-- A fact is added where the fact of its region may be loose: the variable that is its state gets
+-- the new fact's state, and is no longer kept free.
+use Rattle.cap_account_resources.proofs.Heaps.{both-true}
 use Rattle.std.proofs.Common.{◌≡◌, ◌≢◌, ℕ, ◌<◌, List, [], ◌∷◌, length, map, cond, Option, Some, None, Bool, true, false, refl, sym, ap, ◌∙◌, subst}
 use Rattle.std.specs.Prelude.{find, ◌==◌, if◌then◌else◌}
 use Rattle.std.specs.List.{AllByRecursion}
@@ -16,17 +17,18 @@ use Rattle.cap_prog.specs.Program.{PlainProgram}
 use Rattle.cap_machine_accounts.specs.Accounts.{EachTwo}
 use Rattle.cap_goal_spec.specs.States.{PlainFact, PlainState}
 use Rattle.cap_rules.specs.Making.{is_of_region, without_first}
+use Rattle.cap_account_states.proofs.KnowsLater.{backed-at}
 use Rattle.cap_account_resources.specs.Parts.{Table}
 use Rattle.cap_account_resources.proofs.Lists.{some-same, none-some, all-more, all-both}
 use Rattle.cap_account_resources.proofs.Stocks.{Stock}
 use Rattle.cap_account_states.proofs.Terms.{Over, vars-more, RowOver, row-over, Agree, agree-same, agree-less, value-agree}
 use Rattle.cap_account_states.proofs.Alike.{agree-alike}
 use Rattle.cap_account_states.proofs.Meets.{Free, Usable}
-use Rattle.cap_account_states.proofs.Facts.{FactHolds, StateOver, FactOver, LooseState, StatesDiffer, Facts, facts-alike, fact-more, equal_rows, merging_rows, fact_added, knowns-same, equal-hold, equal-over, found-all, all-without, both-true, tight-state, each-without, each-last}
+use Rattle.cap_account_states.proofs.Facts.{FactHolds, StateOver, FactOver, LooseState, StatesDiffer, Facts, facts-alike, fact-more, equal_rows, merging_rows, fact_added, knowns-same, equal-hold, equal-over, found-all, all-without, tight-state, each-without, each-last}
 use Rattle.cap_account_states.proofs.Backed.{IsFirm, Grounded, Backed}
 use Rattle.cap_account_assertions.proofs.Named.{set_to, lone, joined_values}
 use Rattle.cap_account_steps.proofs.Exact.{all-two}
-use Rattle.cap_account_steps.proofs.Reserved.{set-agrees, set-is, set-whole, kept-other, AllSorted, grounded-at, usable-free, grounded-free, backed-at, all_but, all-but, but-free, among-but}
+use Rattle.cap_account_steps.proofs.KeptFree.{set-agrees, set-is, set-whole, kept-other, AllSorted, grounded-at, usable-free, grounded-free, all_but, all-but, but-free, among-but}
 
 -- what is found stands to all others as each two of the list do
 found-rest :
@@ -67,8 +69,8 @@ module _ (p : PlainProgram) (ks : List ℕ) (v : Valuation) (U : Table) (s : Pla
   abbrev others : List PlainFact
   others = without_first test s.facts
 
-  -- values and variables kept free at which the other facts stay loose as they are, and the fact of the
-  -- region has the state of the new one
+  -- values and variables kept free at which the other facts stay loose as they are, and the fact of
+  -- the region has the state of the new one
   record Freed : Type 0 where
     w : Valuation
     named : w ≡ joined_values v f (find test s.facts)
@@ -180,7 +182,9 @@ module _ (p : PlainProgram) (ks : List ℕ) (v : Valuation) (U : Table) (s : Pla
             others (all-without (LooseState ks s.sorts) test s.facts fs.loose) apart;
         same = λ k i.
             let n = some-same h k (sym is ∙ i) in
-            subst (λ k. (value w.whole k.state ≡ value w.whole f.state) × Over (Usable js s.sorts Int) k.state) n (
+            subst
+            (λ k. (value w.whole k.state ≡ value w.whole f.state)
+            × Over (Usable js s.sorts Int) k.state) n (
               ap (value w.whole) q.1 ∙ set-is v x z
                   ∙ sym (value-agree (Free ks) v w a f.state
                   (vars-more (Usable ks s.sorts Int) (Free ks) near f.state.parts
@@ -217,7 +221,8 @@ module _ (p : PlainProgram) (ks : List ℕ) (v : Valuation) (U : Table) (s : Pla
     rows-hold None e = (tt, tt)
     rows-hold (Some h) e =
         let m = r.same h e in
-        let theirs = stronger h (found-all (FactOver (Usable ks s.sorts Int)) test s.facts h fs.over e).0 in
+        let theirs = stronger h
+        (found-all (FactOver (Usable ks s.sorts Int)) test s.facts h fs.over e).0 in
         let own = stronger f over in
         let row = row_of h.state Equal f.state Int in (
           all-both (Holds r.w) (equal_rows h.args f.args) (row ∷ [])
@@ -234,7 +239,8 @@ module _ (p : PlainProgram) (ks : List ℕ) (v : Valuation) (U : Table) (s : Pla
         let js = r.js in
         let found = find test s.facts in
         let rows = rows-hold found refl in
-        let b = grounded-free p s ks js w (usable-free p s ks js r.less) (grounded-at p s ks v w r.agree r.sorted g) in
+        let b = grounded-free p s ks js w (usable-free p s ks js r.less)
+        (grounded-at p s ks v w r.agree r.sorted g) in
         let m = b.meets in
         let kept = facts-at w r.agree s.facts fs.over fs.holds in
         let more = all-more (FactOver (Usable ks s.sorts Int)) (FactOver (S Int)) stronger s.facts
@@ -271,7 +277,8 @@ module _ (p : PlainProgram) (ks : List ℕ) (v : Valuation) (U : Table) (s : Pla
                 (λ h a e. absurd (not-both e));
           };
           backed = λ q d.
-              let e = backed-at p s ks (Free ks) v w q (λ o x h. h.1) (agree-alike (Free ks) v w r.agree) g d in
+              let e = backed-at p s ks (Free ks) v w q
+              (λ o x h. h.1) (agree-alike (Free ks) v w r.agree) g d in
               record { cells = e.cells; guards = e.guards };
         }
       where

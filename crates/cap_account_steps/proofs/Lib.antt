@@ -24,13 +24,13 @@ pub mod Exact
 pub mod Turning
 pub mod Renewing
 pub mod Resting
-pub mod Reserved
+pub mod KeptFree
 pub mod Firming
 pub mod Joining
 pub mod Marking
 pub mod Beginning
 pub mod Allocating
-pub mod Reserving
+pub mod FirmStates
 pub mod Actions
 pub mod Moves
 pub mod Shifting

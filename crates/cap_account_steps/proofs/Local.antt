@@ -1,7 +1,6 @@
 -- Statements that touch neither the heap nor a region: assignments, assertions and branches.
-use Rattle.std.proofs.Common.{◌≡◌, ℕ, zero, suc, List, [], ◌∷◌, ◌++◌, refl, ap, ◌∙◌, Bool, true, false}
+use Rattle.std.proofs.Common.{◌≡◌, ℕ, List, [], ◌∷◌, ◌++◌, refl, ap, ◌∙◌, Bool, true, false}
 use Rattle.std.specs.Prelude.{slice_set, if◌then◌else◌}
-use Rattle.std.specs.List.{AllByRecursion}
 use Rattle.cap_lin.specs.Linear.{Linear}
 use Rattle.cap_lin.specs.Values.{value}
 use Rattle.cap_lin.specs.Solves.{Relates}
@@ -18,8 +17,8 @@ use Rattle.cap_rules.specs.Rules.{leaves, branches}
 use Rattle.cap_rules.specs.Attempts.{◌>>=◌, unit, prove}
 use Rattle.cap_machine.specs.Machine.{Frame, value_in, holds, with_rest, with_value}
 use Rattle.cap_machine_accounts.specs.Assertions.{NameValue}
+use Rattle.cap_account_resources.proofs.Lists.{all-set, map-set}
 use Rattle.cap_account_resources.specs.Parts.{Table}
-use Rattle.cap_account_resources.proofs.Lists.{map-set}
 use Rattle.cap_account_resources.proofs.Order.{met-relates, unmet-relates}
 use Rattle.cap_account_resources.proofs.Stocks.{Stock}
 use Rattle.cap_account_states.specs.Nodes.{Comes, Children}
@@ -31,13 +30,6 @@ use Rattle.cap_account_steps.proofs.Points.{point-act}
 use Rattle.cap_account_steps.proofs.Stores.{running, here, here-value, here-over, holds-here, row-here-over, met-here}
 use Rattle.cap_account_steps.proofs.Frames.{Node, Sits, SitsAt}
 use Rattle.cap_account_steps.proofs.Statements.{Before, SetLaw, CheckLaw, BranchLaw}
-
-set-all :
-    {X : Type 0} (P : X → Type 0) (xs : List X) (i : ℕ) (y : X) → AllByRecursion P xs → P y →
-    AllByRecursion P (slice_set xs i y)
-set-all P [] i y h k = tt
-set-all P (x ∷ xs) zero y h k = (k, h.1)
-set-all P (x ∷ xs) (suc i) y h k = (h.0, set-all P xs i y h.1 k)
 
 module _ (p : Checked) (part : Stock) (T : Table) (fn : PlainFunction) (fixed : List NameValue) where
   abbrev NodeAt : Frame → (Home → List PlainTask) → PlainTree → Type 0
@@ -103,7 +95,7 @@ module _ (p : Checked) (part : Stock) (T : Table) (fn : PlainFunction) (fixed : 
             rows_over = m.rows_over;
             cells_over = m.cells_over;
             positive = m.positive;
-            store_over = set-all (Over (Usable [] s.sorts Int)) s.store x u m.store_over
+            store_over = all-set (Over (Usable [] s.sorts Int)) s.store x u m.store_over
                 (here-over [] n.v s t m);
           };
           pieces_over = n.grounded.pieces_over;

@@ -15,27 +15,28 @@ use Rattle.cap_goal_spec.specs.States.{PlainFact, PlainState}
 use Rattle.cap_rules.specs.Attempts.{unit, ◌>>=◌}
 use Rattle.cap_rules.specs.Making.{with_sort, fresh}
 use Rattle.cap_rules.specs.Closing.{Rival, loosened, with_mark, with_marks}
+use Rattle.cap_account_resources.proofs.Lists.{all-set, all-more, get-first, get-last, within, push-length, set-length}
 use Rattle.cap_account_states.specs.Nodes.{Comes}
 use Rattle.cap_account_resources.specs.Parts.{Table}
-use Rattle.cap_account_resources.proofs.Lists.{all-more, get-first, get-last, within, push-length, set-length}
 use Rattle.cap_account_states.proofs.Terms.{Over, vars-more, row-over, Agree, agree-less, value-agree}
 use Rattle.cap_account_states.proofs.Alike.{agree-alike}
 use Rattle.cap_account_states.proofs.Attempts.{sort_added, comes-bind, after-proved, after-computed, after-sort}
 use Rattle.cap_account_states.proofs.Meets.{Free, Usable, usable-on, usable-old, Old, proved-holds}
 use Rattle.cap_account_states.proofs.Facts.{FactHolds, FactOver, LooseState, StatesDiffer, Facts, facts-alike, fact-more}
 use Rattle.cap_account_states.proofs.Backed.{Grounded}
+use Rattle.cap_account_steps.proofs.Exact.{Each, set-here, each-set, each-two-set}
+use Rattle.cap_account_steps.proofs.KeptFree.{set-agrees, set-here-whole, grounded-free, grounded-fresh}
 use Rattle.cap_account_assertions.proofs.Named.{set_to, lone}
-use Rattle.cap_account_steps.proofs.Exact.{Each, set-here, each-set, all-set, each-two-set}
-use Rattle.cap_account_steps.proofs.Reserved.{set-agrees, set-here-whole, grounded-free, grounded-fresh}
 use Rattle.cap_account_steps.proofs.Turning.{AsBefore, before-same, before-trans}
 
 -- ---- pairs
 
 -- both regions are over usable variables, and the fact holds, but for its state
-pub record IsPair (ks : List ℕ) (v : Valuation) (V : Table) (s : PlainState) (x : Rival) : Type 0 where
-  pub opened_over : Over (Usable ks s.sorts Int) x.opened.region
-  pub over : FactOver (Usable ks s.sorts Int) (loosened x.fact x.fact.state)
-  pub holds : FactHolds v V (loosened x.fact x.fact.state)
+pub record IsPair (ks : List ℕ) (v : Valuation) (V : Table) (s : PlainState) (x : Rival) : Type 0
+  where
+    pub opened_over : Over (Usable ks s.sorts Int) x.opened.region
+    pub over : FactOver (Usable ks s.sorts Int) (loosened x.fact x.fact.state)
+    pub holds : FactHolds v V (loosened x.fact x.fact.state)
 
 -- facts that are firm were there before
 abbrev pub FirmBefore : PlainState → PlainState → Type 0
@@ -175,16 +176,18 @@ module _ (p : PlainProgram) (V : Table) where
         let f = loosened x.fact x.fact.state in
         record {
           holds = all-set (FactHolds w V) s.facts x.number loose_one
-              (still (f ∷ []) (to-old f pair.over, tt) (pair.holds, tt)).0
               (still s.facts (all-more (FactOver R) (FactOver (Old s)) to-old s.facts fs.over)
-              fs.holds);
-          over = all-set (FactOver S) s.facts x.number loose_one (fact-more R S near f pair.over)
-              (all-more (FactOver R) (FactOver S) (fact-more R S near) s.facts fs.over);
+              fs.holds)
+              (still (f ∷ []) (to-old f pair.over, tt) (pair.holds, tt)).0;
+          over = all-set (FactOver S) s.facts x.number loose_one
+              (all-more (FactOver R) (FactOver S) (fact-more R S near) s.facts fs.over)
+              (fact-more R S near f pair.over);
           loose = all-set (LooseState (n ∷ ks) more) s.facts x.number loose_one
-              (λ e. (n, refl, inl refl, get-last s.sorts Int))
               (all-more (LooseState ks s.sorts) (LooseState (n ∷ ks) more)
-              (λ h l e. let q = l e in (q.0, q.1, inr q.2, grow q.0 Int q.3)) s.facts fs.loose);
-          differ = each-two-set StatesDiffer (λ a b d k l e. d l k (sym e)) s.facts x.number loose_one
+              (λ h l e. let q = l e in (q.0, q.1, inr q.2, grow q.0 Int q.3)) s.facts fs.loose)
+              (λ e. (n, refl, inl refl, get-last s.sorts Int));
+          differ = each-two-set StatesDiffer
+              (λ a b d k l e. d l k (sym e)) s.facts x.number loose_one
               (all-more (LooseState ks s.sorts) (StatesDiffer loose_one)
               (λ h l a b e.
               let q = l b in

@@ -1,8 +1,7 @@
 -- What a move says: the region keeps its state, or an action leads to the new one whose guards are
 -- part of what the frame held.
-use Rattle.std.proofs.Common.{◌≡◌, ◌⊎◌, inl, inr, ℕ, zero, suc, ◌+◌, ℤ, Option, List, length, map, arith, Some}
+use Rattle.std.proofs.Common.{◌≡◌, ◌⊎◌, inl, inr, ℕ, zero, suc, ◌+◌, ℤ, Option, List, length, map, Some}
 use Rattle.std.specs.Prelude.{slice_get}
-use Rattle.std.specs.List.{AllByRecursion}
 use Rattle.cap_lin.specs.Linear.{Linear}
 use Rattle.cap_lin.specs.Values.{Valuation, value}
 use Rattle.cap_lin.specs.declared.row.Sort.TheVariants.{Int}
@@ -14,15 +13,13 @@ use Rattle.cap_rules.specs.Closing.{prove_action, prove_move}
 use Rattle.cap_account_states.specs.Nodes.{Comes}
 use Rattle.cap_account_resources.proofs.Marks.{Mark}
 use Rattle.cap_account_resources.proofs.Interference.{Can}
-use Rattle.cap_account_resources.specs.Parts.{known_as, Table}
-use Rattle.cap_account_resources.proofs.Lists.{map-length, all-more, all-at}
-use Rattle.cap_account_resources.proofs.Tables.{TableFits}
+use Rattle.cap_account_resources.proofs.Lists.{all-more, all-at}
 use Rattle.cap_account_resources.proofs.Stocks.{Stock}
 use Rattle.cap_account_states.proofs.Terms.{Over, vars-more}
 use Rattle.cap_account_states.proofs.Attempts.{after-found, comes-proved}
 use Rattle.cap_account_states.proofs.Meets.{Usable, Meets}
 use Rattle.cap_account_states.proofs.Guarding.{proved-relates}
-use Rattle.cap_account_steps.proofs.Worlds.{Exact, AllOver, Earlier}
+use Rattle.cap_account_steps.proofs.Worlds.{AllOver, Earlier}
 use Rattle.cap_account_steps.proofs.Atoms.{guards-within}
 use Rattle.cap_account_steps.proofs.Actions.{matches}
 
@@ -45,25 +42,6 @@ pub record Movable (p : PlainProgram) (ks : List ℕ) (s : PlainState) (f : Plai
   pub is_type : slice_get p.regions f.kind ≡ Some k
   pub fits : RegionFits p k
   pub arity : length f.args + 1 ≡ k.params
-
--- there is its type, where a table tells of the region
-pub movable :
-    (p : PlainProgram) → AllByRecursion (RegionFits p) p.regions → (ks : List ℕ) (v : Valuation)
-    (T : Table) (s : PlainState) (f : PlainFact) → TableFits p T →
-    AllOver (Usable ks s.sorts Int) f → Exact v T f →
-    (k : PlainRegionType) × Movable p ks s f k
-movable p regions ks v T s f fits over e =
-    let args = map (value v.whole) f.args in
-    let k = fits (value v.whole f.region) (known_as f.kind args (Some (value v.whole f.state))) e in
-    let size = map-length (value v.whole) f.args in (
-      k.0,
-      record {
-        over = over;
-        is_type = k.1;
-        fits = all-at (RegionFits p) p.regions f.kind k.0 regions k.1;
-        arity = (let n = k.2 in omega (arith, n, size));
-      },
-    )
 
 -- and in a later state, in which what was usable still is
 pub movable-on :

@@ -1,14 +1,14 @@
 -- The values at which others take an action: they solve the system that the action's rows are
 -- proved from.
+use Rattle.cap_account_states.proofs.Terms.{whole-parts, Over, vars-more, RowOver, Agree, value-agree, relates-same}
+use Rattle.cap_account_resources.proofs.Order.{turned, grouped}
 use Rattle.std.proofs.Common.{◌≡◌, ℕ, ◌+◌, ◌≤◌, ℤ, pos, ◌*ℤ◌, List, [], ◌∷◌, ◌++◌, length, map, Option, Some, sym, ap, ◌∙◌, arith}
 use Rattle.std.specs.Prelude.{slice_get}
 use Rattle.std.specs.List.{AllByRecursion}
-use Rattle.std.proofs.lemmas.Int.{ints}
-use Rattle.cap_numbers.proofs.Ring.{expand, product3}
 use Rattle.cap_lin.specs.Linear.{Linear}
 use Rattle.cap_lin.specs.Values.{Valuation, denominator, value}
 use Rattle.cap_lin.specs.Rows.{row_of}
-use Rattle.cap_lin.specs.Solves.{value_by_sort, Holds, IsWholeAt, PartsWhole}
+use Rattle.cap_lin.specs.Solves.{value_by_sort, Holds, IsWholeAt}
 use Rattle.cap_lin.specs.declared.row.Row.{Row}
 use Rattle.cap_lin.specs.declared.row.Sort.TheVariants.{Int}
 use Rattle.cap_lin.specs.declared.row.Op.TheVariants.{Eq as Equal}
@@ -26,7 +26,6 @@ use Rattle.cap_rules.specs.Resting.{value_over, rows_over, first_names, want_all
 use Rattle.cap_machine_accounts.specs.Assertions.{CompHolds}
 use Rattle.cap_account_states.specs.Nodes.{Comes}
 use Rattle.cap_account_resources.proofs.Lists.{all-at}
-use Rattle.cap_account_states.proofs.Terms.{Vars, Over, vars-more, RowOver, Agree, value-agree, relates-same}
 use Rattle.cap_account_states.proofs.Meets.{with_value, Usable, usable-old}
 use Rattle.cap_account_states.proofs.Attempts.{comes-bind, after-computed}
 use Rattle.cap_account_states.proofs.Values.{scaled, scaled-denominator, rows-scaled}
@@ -124,9 +123,6 @@ whole-scaled m v x h =
     ap (λ z. z *ℤ pos (m + 1)) h
     ∙ (grouped (v.whole x) (denominator v.fraction) (pos (m + 1))
     ∙ ap (λ z. v.whole x *ℤ z) (sym (scaled-denominator m v)))
-  where
-    grouped : (a b c : ℤ) → a *ℤ b *ℤ c ≡ a *ℤ (b *ℤ c)
-    grouped a b c = simp expand (omega (arith, ints, product3))
 
 pub resting-scaled :
     (ks : List ℕ) (m : ℕ) (v : Valuation) (s : PlainState) (k : PlainRegionType)
@@ -144,10 +140,6 @@ resting-scaled ks m v s k f h = record {
 -- the variable after the state's own is the fact's state
 abbrev pub first_values : Valuation → PlainState → ℤ → Valuation
 first_values v s b = with_value v (length s.sorts) b (b *ℤ denominator v.fraction)
-
-whole-parts : (v : Valuation) (ps : List (ℕ × ℤ)) → Vars (IsWholeAt v) ps → PartsWhole v ps
-whole-parts v [] h = tt
-whole-parts v (p ∷ ps) h = (h.0, whole-parts v ps h.1)
 
 module _ (X : Valuation) (sc : Scope) (normal : (x : ℕ) → HasSort sc Int x → IsWholeAt X x) where
   -- the region and its arguments are the first names
@@ -199,9 +191,6 @@ module _ (X : Valuation) (sc : Scope) (normal : (x : ℕ) → HasSort sc Int x �
           value w.whole t ≡ X.whole i
       whole_is i t e = value-agree (Low n) v w agree t (low i t e) ∙ sym (at i t e).0
 
-      turned : (x y : ℤ) → x *ℤ y ≡ y *ℤ x
-      turned x y = omega (arith, ints)
-
   -- ---- rows that hold
 
   -- a condition of the action, over the names
@@ -212,7 +201,8 @@ module _ (X : Valuation) (sc : Scope) (normal : (x : ℕ) → HasSort sc Int x �
   condition-holds w ts next ok le c fits h =
       (row_of-means w (named_term ts c.left) c.op (named_term ts c.right) c.sort).1
       (relates-same c.op (value_by_sort c.sort X c.left) (value_by_sort c.sort X c.right)
-      (value_by_sort c.sort w (named_term ts c.left)) (value_by_sort c.sort w (named_term ts c.right))
+      (value_by_sort c.sort w (named_term ts c.left))
+      (value_by_sort c.sort w (named_term ts c.right))
       (sym (named-number X sc normal w ts next ok c.sort c.left
       (scope-low X sc normal (length ts) c.sort c.left le fits.0)))
       (sym (named-number X sc normal w ts next ok c.sort c.right

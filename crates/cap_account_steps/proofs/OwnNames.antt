@@ -12,15 +12,15 @@ use Rattle.cap_goal_spec.specs.Environments.{zero_value, term_of, bound_term, ow
 use Rattle.cap_rules.specs.Making.{env_at}
 use Rattle.cap_machine.specs.Machine.{Frame}
 use Rattle.cap_machine_accounts.specs.Assertions.{NameValue, a_number, a_fraction, IsNamed, AreNamed}
+use Rattle.cap_account_states.proofs.Alike.{usable-alike, Alike}
 use Rattle.cap_account_resources.proofs.Lists.{some-same, none-some, within, there-is, get-or-push, push-length, all-at}
-use Rattle.cap_account_states.proofs.Terms.{Over, vars-more, by_terms, Agree, value-agree}
+use Rattle.cap_account_states.proofs.Terms.{Over, by_terms}
 use Rattle.cap_account_states.proofs.Attempts.{env_added}
-use Rattle.cap_account_states.proofs.Meets.{Usable, usable-old, Meets, Old, variable-value, variable-amount, is-of}
+use Rattle.cap_account_states.proofs.Meets.{Usable, Meets, Old, variable-value, variable-amount, is-of}
 use Rattle.cap_account_states.proofs.Naming.{Placed, Means}
 use Rattle.cap_account_states.proofs.Scopes.{Position, param, local, fixed, result, extra, position-room, own-param, own-local, own-fixed, own-result, own-new, own-room}
-use Rattle.cap_account_states.proofs.Values.{named-at, named-of}
-use Rattle.cap_account_states.proofs.Alike.{Alike, value-alike}
-use Rattle.cap_account_steps.proofs.Stores.{fixed-name, name-alike, Store, name-same}
+use Rattle.cap_account_states.proofs.Values.{named-of}
+use Rattle.cap_account_steps.proofs.Stores.{fixed-name, name-alike, Store}
 
 pub take-get :
     {X : Type 0} (xs : List X) (n i : ℕ) (y : X) → slice_get (take n xs) i ≡ Some y →
@@ -119,53 +119,19 @@ own-placed s v fn h fx f ls r new sc m st size hl fl fr at_position = record {
         let look = own-fixed fn h ps ls r (length new) hp hl i (within fn.fixed i o y) in
         let u : variable (h.fixed + i) ≡ t =
         some-same (variable (h.fixed + i)) t (sym look ∙ (ap (term_of env) (sym q) ∙ e)) in
-        subst (Over (Usable [] s.sorts o)) u ((is-of s.sorts o (h.fixed + i) (st.fixed_known i o y), tt), tt)
+        subst (Over (Usable [] s.sorts o)) u (
+          (
+            is-of s.sorts o (h.fixed + i) (st.fixed_known i o y),
+            tt,
+          ),
+          tt,
+        )
     over x o t (result q y) e =
         subst (λ z. Over (Usable [] s.sorts z) t) y
         (fr t (sym (own-result fn h ps ls r (length new) hp hl) ∙ (ap (term_of env) (sym q) ∙ e)))
     over x o t (extra i q y) e =
         absurd (none-some
         (sym (own-new fn h ps ls r (length new) hp hl i) ∙ (ap (term_of env) (sym q) ∙ e)))
-
--- the fixed names at later values
-pub fixed-later :
-    (s : PlainState) (v w : Valuation) (h : Home) (fn : PlainFunction) (fx : List NameValue)
-    (f : Frame) (env : PlainEnv) → Store v s h fn fx f → Agree (Old s) v w →
-    length fx ≡ length fn.fixed →
-    ((i : ℕ) (o : Sort) → slice_get fn.fixed i ≡ Some o →
-    term_of env (fixed_start fn + i) ≡ Some (variable (h.fixed + i))) →
-    AreNamed (canon w env) (fixed_start fn) fx
-fixed-later s v w h fn fx f env st a size look = named-of (canon w env) (fixed_start fn) fx one
-  where
-    turned :
-        (i : ℕ) (y : NameValue) → IsNamed w (h.fixed + i) y →
-        term_of env (fixed_start fn + i) ≡ Some (variable (h.fixed + i)) →
-        IsNamed (canon w env) (fixed_start fn + i) y
-    turned i (a_number z) k l =
-        ap (λ u. value w.whole (unwrap_or u zero_value)) l
-        ∙ (variable-value w (h.fixed + i) ∙ k)
-    turned i (a_fraction n d) k l =
-        ap (λ u. amount w.fraction (unwrap_or u zero_value) *ℤ pos (suc d)) l
-        ∙ (ap (λ q. q *ℤ pos (suc d)) (variable-amount w (h.fixed + i)) ∙ k)
-
-    one :
-        (i : ℕ) (y : NameValue) → slice_get fx i ≡ Some y →
-        IsNamed (canon w env) (fixed_start fn + i) y
-    one i y e =
-        let o = there-is fn.fixed i (let q = within fx i y e in omega (arith, q, size)) in
-        let old = within s.sorts (h.fixed + i) o.0 (st.fixed_known i o.0 o.1) in
-        turned i y
-        (name-same (Old s) v w (h.fixed + i) y old a (named-at v h.fixed fx i y st.fixed_are e))
-        (look i o.0 o.1)
-
--- a term of the store at later values
-pub store-term-later :
-    (s : PlainState) (v w : Valuation) (i : ℕ) (t : Linear) → Meets [] v s → Agree (Old s) v w →
-    slice_get s.store i ≡ Some t → value w.whole t ≡ value v.whole t
-store-term-later s v w i t m a e =
-    value-agree (Old s) v w a t
-    (vars-more (Usable [] s.sorts Int) (Old s) (usable-old [] s.sorts Int) t.parts
-    (all-at (Over (Usable [] s.sorts Int)) s.store i t m.store_over e))
 
 -- ---- at alike values
 
@@ -199,6 +165,5 @@ pub store-term-alike :
     (s : PlainState) (v w : Valuation) (i : ℕ) (t : Linear) → Meets [] v s → Alike (Old s) v w →
     slice_get s.store i ≡ Some t → value w.whole t ≡ value v.whole t
 store-term-alike s v w i t m a e =
-    value-alike (Old s) v w a t
-    (vars-more (Usable [] s.sorts Int) (Old s) (usable-old [] s.sorts Int) t.parts
-    (all-at (Over (Usable [] s.sorts Int)) s.store i t m.store_over e))
+    usable-alike [] s v w a t
+    (all-at (Over (Usable [] s.sorts Int)) s.store i t m.store_over e)

@@ -1,4 +1,5 @@
 -- Points of a body: what remains fits its function, and its loops are loops of the body.
+use Rattle.cap_account_resources.proofs.Lists.{join-assoc, set-length, all-both, all-first, all-second, Among, among-left, among-right, among-either}
 use Rattle.std.proofs.Common.{◌≡◌, ℕ, zero, suc, ◌≤◌, ℤ, List, [], ◌∷◌, ◌++◌, length, take, arith, refl, sym, ap, ◌∙◌, subst, Some, inl, inr}
 use Rattle.std.specs.Prelude.{slice_get, slice_set}
 use Rattle.std.specs.List.{AllByRecursion}
@@ -10,11 +11,6 @@ use Rattle.cap_prog.specs.WellFormed.{ActFits}
 use Rattle.cap_goal_spec.specs.Roots.{LoopPoint, loops_of, loops_in}
 use Rattle.cap_machine.specs.Machine.{Frame}
 use Rattle.cap_machine_accounts.specs.Assertions.{NameValue, ValuesFit}
-use Rattle.cap_account_resources.proofs.Lists.{set-length, all-both, all-first, all-second, Among, among-left, among-right, among-either}
-
-joined-lists : {X : Type 0} (x y z : List X) → (x ++ y) ++ z ≡ x ++ (y ++ z)
-joined-lists [] y z = refl
-joined-lists (u ∷ x) y z = ap (λ w. u ∷ w) (joined-lists x y z)
 
 -- ---- blocks
 
@@ -33,7 +29,7 @@ loops-append done b after = refl
 loops-append (first l s a) b after =
     ap (λ z. loops_of s l z ++ loops_in (append a b) after) (append-append a b after)
     ∙ (ap (λ z. loops_of s l (append a (append b after)) ++ z) (loops-append a b after)
-    ∙ sym (joined-lists
+    ∙ (join-assoc
     (loops_of s l (append a (append b after)))
     (loops_in a (append b after))
     (loops_in b after)))
@@ -44,7 +40,7 @@ statements-append done b = refl
 statements-append (first l s a) b =
     ap (λ z. record { label = l; act = s } ∷ (block_statements s ++ z)) (statements-append a b)
     ∙ ap (λ z. record { label = l; act = s } ∷ z)
-    (sym (joined-lists (block_statements s) (all_statements a) (all_statements b)))
+    (join-assoc (block_statements s) (all_statements a) (all_statements b))
 
 abbrev pub StatementsFit : PlainProgram → PlainFunction → List PlainStatement → Type 0
 StatementsFit p fn ss = AllByRecursion (λ s. ActFits p fn s.act) ss

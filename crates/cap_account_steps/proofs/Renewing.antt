@@ -1,5 +1,5 @@
--- One turn of a chain of Rests, where the fact gets a new variable as its state: it has the number to
--- which others led the region, and the candidates hold of it.
+-- One turn of a chain of Rests, where the fact gets a new variable as its state: it has the number
+-- to which others led the region, and the candidates hold of it.
 use Rattle.std.proofs.Common.{◌≡◌, ℕ, ◌<◌, ℤ, ◌*ℤ◌, List, [], ◌∷◌, ◌++◌, length, Some, true, false, Bool, refl, sym, ap, ◌∙◌, subst, arith}
 use Rattle.std.specs.Prelude.{slice_get, nat_eq, if◌then◌else◌}
 use Rattle.std.specs.List.{AllByRecursion}
@@ -18,10 +18,10 @@ use Rattle.cap_account_resources.specs.Parts.{Table}
 use Rattle.cap_account_resources.proofs.Lists.{push-length, set-length, get-first, get-last, all-more, all-both}
 use Rattle.cap_account_resources.proofs.Stocks.{Stock}
 use Rattle.cap_account_states.proofs.Terms.{Over, vars-more, RowOver, fits-sort, Agree, value-agree}
-use Rattle.cap_account_states.proofs.Alike.{agree-alike}
+use Rattle.cap_account_states.proofs.Alike.{agree-alike, meets-fresh}
 use Rattle.cap_account_states.proofs.Attempts.{sort_added}
 use Rattle.cap_account_states.proofs.Compatible.{pieces-more}
-use Rattle.cap_account_states.proofs.Meets.{Free, Usable, usable-on, usable-old, Old, Meets, solves, new-whole, new-share, with-agrees, variable-value, meets-fresh}
+use Rattle.cap_account_states.proofs.Meets.{Free, Usable, usable-on, usable-old, Old, Meets, solves, new-whole, new-share, with-agrees, variable-value}
 use Rattle.cap_account_assertions.proofs.Named.{set_to}
 use Rattle.cap_account_steps.proofs.Others.{first_values}
 use Rattle.cap_account_steps.proofs.Settling.{changed, replaced-value, replaced-over, IsCandidate, HoldsAt, row_at}
@@ -187,7 +187,8 @@ module _ (p : PlainProgram) (ks : List ℕ) (part : Stock) (T U : Table) (j : �
             due = due-set p ks part T U j v s turn more w g grow (agrees z)
                 (own-more.0, own-more.1, (new-usable, tt)) new-exact refl;
             covered = λ i.
-                covered-old p ks v w s (agree-alike (Old s) v w (agrees z)) mid.grounded i (part.guards i) (mid.covered i);
+                covered-old p ks v w s (agree-alike (Old s) v w (agrees z)) mid.grounded i
+                (part.guards i) (mid.covered i);
           };
         }
       where

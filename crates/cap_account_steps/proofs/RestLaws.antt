@@ -8,6 +8,7 @@ use Rattle.cap_lin.specs.declared.row.Sort.TheVariants.{Int}
 use Rattle.cap_prog.specs.WellFormed.{IsWellFormed}
 use Rattle.cap_goal_spec.specs.States.{PlainFact, PlainState, PlainTask, to_rest}
 use Rattle.cap_goal_spec.specs.Choices.{PlainTrees}
+use Rattle.cap_account_states.proofs.KnowsLater.{backed-at}
 use Rattle.cap_account_states.specs.Nodes.{Open}
 use Rattle.cap_account_resources.specs.Parts.{Table}
 use Rattle.cap_account_resources.proofs.Lists.{all-more}
@@ -21,8 +22,7 @@ use Rattle.cap_account_states.proofs.Backed.{IsFirm, Backed, Grounded, GoesOn}
 use Rattle.cap_account_assertions.proofs.Named.{set_to, lone, told_state, rest_values}
 use Rattle.cap_account_assertions.proofs.Laws.{Reached, RestsLaw}
 use Rattle.cap_account_steps.proofs.Worlds.{Exact, AllOver}
-use Rattle.cap_account_steps.proofs.Reserved.{backed-at}
-use Rattle.cap_account_steps.proofs.Reserving.{firm-loose, firm-differ}
+use Rattle.cap_account_steps.proofs.FirmStates.{firm-loose, firm-differ}
 use Rattle.cap_account_steps.proofs.Turning.{backed-before, Reaching}
 use Rattle.cap_account_steps.proofs.Resting.{at-rest}
 use Rattle.cap_account_steps.proofs.Firming.{firm_values, firmed}
@@ -34,7 +34,8 @@ exact-facts :
     AllByRecursion (AllOver (Usable [] s.sorts Int)) s.facts → Facts [] v T s
 exact-facts v T s firm exact over = record {
   holds = all-more (Exact v T) (FactHolds v T)
-      (λ f e. (Some (value v.whole f.state), e, known f.loose (value v.whole f.state))) s.facts exact;
+      (λ f e. (Some (value v.whole f.state), e, known f.loose (value v.whole f.state))) s.facts
+      exact;
   over = all-more (AllOver (Usable [] s.sorts Int)) (FactOver (Usable [] s.sorts Int))
       (λ f o. (o.0, o.1, state-over f.loose f.state o.2)) s.facts over;
   loose = firm-loose [] s.sorts s.facts firm;
@@ -85,7 +86,8 @@ rests-loose p wf ks part T U n ts trees v s reached goes g fs backed =
       room = reached.room;
       relies = reached.relies;
     } in
-    let r = at-rest p [] part T U reaching n ts trees fm.w s tt fm.grounded fm.over fm.exact b.guards
+    let r = at-rest p [] part T U reaching n ts trees fm.w s tt fm.grounded fm.over fm.exact
+    b.guards
     goes in
     let c = r.as_before in
     let P : ℕ → Type 0 = λ x. (x < length s.sorts) × Free ks x in
@@ -131,7 +133,8 @@ rests p wf part T U n ts trees v s reached goes g fs firm backed =
       facts = r.facts;
       firm = r.firm;
       backed = r.backed;
-      agree = agree-less (Old s) (λ x. (x < length s.sorts) × Free [] x) v r.w (λ x h. (h, tt)) r.agree;
+      agree = agree-less (Old s)
+          (λ x. (x < length s.sorts) × Free [] x) v r.w (λ x h. (h, tt)) r.agree;
       goes_on = r.goes_on;
       envs = r.envs;
     }

@@ -1,6 +1,7 @@
--- A callee's result arrives: its variable has the value, and the names of `ensures` are what the callee
--- says.
-use Rattle.std.proofs.Common.{◌≡◌, ◌≢◌, ℕ, zero, suc, ◌+◌, ◌<◌, ◌≤◌, ℤ, pos, ◌*ℤ◌, List, [], ◌∷◌, length, map, arith, refl, sym, ap, ◌∙◌, subst, Option, Some, None, inl, inr}
+-- A callee's result arrives: its variable has the value, and the names of `ensures` are what the
+-- callee says.
+use Rattle.cap_account_resources.proofs.Lists.{map-at, some-same, none-some, within, there-is, get-last}
+use Rattle.std.proofs.Common.{◌≡◌, ◌≢◌, ℕ, suc, ◌+◌, ◌<◌, ◌≤◌, ℤ, pos, ◌*ℤ◌, List, [], length, map, arith, refl, sym, ap, ◌∙◌, subst, Some, inl, inr}
 use Rattle.std.specs.Prelude.{slice_get, unwrap_or}
 use Rattle.std.specs.List.{AllByRecursion}
 use Rattle.std.proofs.lemmas.Bool.{cases_eq}
@@ -12,16 +13,15 @@ use Rattle.cap_lin.specs.declared.row.Sort.TheVariants.{Int, Perm}
 use Rattle.cap_prog.specs.Scopes.{fixed_start, result_name, requires_scope, ensures_scope, HasSort}
 use Rattle.cap_goal_spec.specs.States.{PlainState, PlainTask}
 use Rattle.cap_goal_spec.specs.Environments.{zero_value, term_of}
-use Rattle.cap_rules.specs.Making.{fresh, env_at}
+use Rattle.cap_rules.specs.Making.{fresh}
 use Rattle.cap_machine.specs.Machine.{value_in}
 use Rattle.cap_machine_accounts.specs.Assertions.{AreNamed, AreWhole}
 use Rattle.cap_account_resources.specs.Parts.{Table}
-use Rattle.cap_account_resources.proofs.Lists.{some-same, none-some, within, there-is, get-last, push-length}
 use Rattle.cap_account_resources.proofs.Stocks.{Stock}
 use Rattle.cap_account_states.proofs.Terms.{Over, vars-more, Agree, agree-less, value-agree, amount-agree}
-use Rattle.cap_account_states.proofs.Alike.{Alike, alike-trans, alike-less, agree-alike}
+use Rattle.cap_account_states.proofs.Alike.{Alike, alike-trans, alike-less, agree-alike, meets-agree}
 use Rattle.cap_account_states.proofs.Meets as meets
-use Rattle.cap_account_states.proofs.Meets.{Free, Usable, Meets, Old, new-whole, new-share, with-agrees, meets-agree, variable-value}
+use Rattle.cap_account_states.proofs.Meets.{Free, Usable, Meets, Old, new-whole, new-share, with-agrees, variable-value}
 use Rattle.cap_account_states.proofs.Checked.{Checked}
 use Rattle.cap_account_states.proofs.Facts.{Facts}
 use Rattle.cap_account_states.proofs.Naming.{Placed, Means}
@@ -29,8 +29,8 @@ use Rattle.cap_account_states.proofs.Scopes.{ensures-late, ensures-at, scope-len
 use Rattle.cap_account_states.proofs.Values.{scaled, scaled-amount, named-at, whole-at}
 use Rattle.cap_account_states.proofs.Backed.{IsFirm, Backed, Grounded}
 use Rattle.cap_account_steps.proofs.Stores.{here}
-use Rattle.cap_account_steps.proofs.Callees.{value_for, fixed-at, meets-free, slice-map}
-use Rattle.cap_account_steps.proofs.Reserving.{Between, stays-firm, facts-between, grounded-between, backed-between}
+use Rattle.cap_account_steps.proofs.Callees.{value_for, fixed-at, meets-free}
+use Rattle.cap_account_steps.proofs.FirmStates.{Between, stays-firm, facts-between, grounded-between, backed-between}
 use Rattle.cap_account_steps.proofs.CallSite.{Caller, TakenHere, kept, params-count, new-env, env, a1, env2, callee_fixed, alike2, arg-value, arg-look, args_are}
 
 module _ (p : Checked) (part : Stock) (T : Table) (store : List ℤ) (c : Caller p part T store)
@@ -116,7 +116,8 @@ module _ (p : Checked) (part : Stock) (T : Table) (store : List ℤ) (c : Caller
       let n = scope-length c.g in
       omega (arith, l, q, n)
 
-  -- such a name stands for an argument, for what the callee bound a fixed name to, or for the result
+  -- such a name stands for an argument, for what the callee bound a fixed name to, or for the
+  -- result
   data Late (x : ℕ) (o : Sort) (t : Linear) : Type 0 where
     an_argument :
         (u : Linear) → x < c.g.params → Int ≡ o → slice_get c.args x ≡ Some u → t ≡ here c.s u →
@@ -216,7 +217,7 @@ module _ (p : Checked) (part : Stock) (T : Table) (store : List ℤ) (c : Caller
         ap (value with_result.whole) j
         ∙ arg-value p part T store c ts tk with_result alike4 u
         ∙ sym (whole-at a2 0 (args_are p part T store c) x (value_in store u) whole_args
-        (slice-map (value_in store) c.args x u is))
+        (map-at (value_in store) c.args x u is))
         ∙ ap a2.whole n
     whole-late x t q (a_fixed_name k l e i) =
         let a = a1 p part T store c ts tk in

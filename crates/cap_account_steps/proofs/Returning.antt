@@ -18,6 +18,7 @@ use Rattle.cap_rules.specs.Making.{env_at, with_env, value_here}
 use Rattle.cap_rules.specs.Rules.{leaves, own_params}
 use Rattle.cap_machine.specs.Machine.{Frame, value_in, with_rest}
 use Rattle.cap_machine_accounts.specs.Assertions.{NameValue}
+use Rattle.cap_account_states.proofs.Alike.{usable-alike, alike-same}
 use Rattle.cap_account_resources.specs.Parts.{Table}
 use Rattle.cap_account_resources.proofs.Lists.{some-same, none-some, within, get-map, map-length, all-at}
 use Rattle.cap_account_resources.proofs.Monoid.{none, atom}
@@ -26,10 +27,9 @@ use Rattle.cap_account_resources.proofs.Stocks.{Stock, no_stock, both, some-insi
 use Rattle.cap_account_resources.proofs.Tables.{new_guards}
 use Rattle.cap_account_resources.proofs.Owners.{owned}
 use Rattle.cap_account_states.specs.Nodes.{Comes, Children, Open}
-use Rattle.cap_account_states.proofs.Terms.{Over, vars-more}
-use Rattle.cap_account_states.proofs.Alike.{alike-same, value-alike}
+use Rattle.cap_account_states.proofs.Terms.{Over}
 use Rattle.cap_account_states.proofs.Attempts.{env_added, after-found, after-here, after-env}
-use Rattle.cap_account_states.proofs.Meets.{Usable, usable-old, Old, meets-env}
+use Rattle.cap_account_states.proofs.Meets.{Usable, Old, meets-env}
 use Rattle.cap_account_states.proofs.Items.{AreFit}
 use Rattle.cap_account_states.proofs.Naming.{Placed}
 use Rattle.cap_account_states.proofs.Checked.{Checked}
@@ -211,9 +211,7 @@ module _ (p : Checked) (program : IsWellFormed p.program) (law : TakenLaw p) (pa
               ap (λ y. value tk.w.whole (unwrap_or y zero_value))
               (stays (result_name fn) Int u (result-ensures fn names)
               (own-result fn h params none_bound (Some u) (length names) hp hl))
-              ∙ value-alike (Old s) v tk.w tk.alike u
-              (vars-more (Usable [] s.sorts Int) (Old s) (usable-old [] s.sorts Int) u.parts
-              (here-over [] v s t m))
+              ∙ usable-alike [] s v tk.w tk.alike u (here-over [] v s t m)
               ∙ here-value v s f.store t n.store.store;
           met = owns-all p.program tk.U a items tk.given
               (tk.draws tk.w (alike-same (Old tk.after) tk.w) a (canon-means sc tk.w later)

@@ -1,5 +1,5 @@
--- After the marks of all pairs of an opened region and a fact of its type no firm fact is of an opened
--- region: facts hold of the table in which these regions are open.
+-- After the marks of all pairs of an opened region and a fact of its type no firm fact is of an
+-- opened region: facts hold of the table in which these regions are open.
 use Rattle.std.proofs.Common.{◌≡◌, ◌≢◌, ℕ, zero, suc, ◌+◌, ℤ, List, [], ◌∷◌, map, Option, Some, None, Bool, true, false, inl, inr, refl, sym, ap, ◌∙◌, subst, arith}
 use Rattle.std.specs.Prelude.{slice_get, flat_map, ◌==◌, ◌||◌, if◌then◌else◌}
 use Rattle.std.specs.List.{AllByRecursion, list_any}
@@ -136,7 +136,8 @@ fact-opened v V ns f h apart =
     by :
         (b : Bool) → list_any (same_number n) ns ≡ b → (l : Bool) → f.loose ≡ l →
         StateHolds l h.0 (value v.whole f.state) →
-        (o : Option ℤ) × (opened_at b (V n) ≡ Some (known_as f.kind (map (value v.whole) f.args) o)) × StateHolds l o (value v.whole f.state)
+        (o : Option ℤ) × (opened_at b (V n) ≡ Some (known_as f.kind (map (value v.whole) f.args)
+        o)) × StateHolds l o (value v.whole f.state)
     by false e l q k = (h.0, h.1, k)
     by true e true q k = (None, ap (opened_at true) h.1, tt)
     by true e false q k = absurd (differ (sym e ∙ none-opened n ns (apart q)))
@@ -261,7 +262,8 @@ module _ (p : PlainProgram) (V : Table) (v : Valuation) (s : PlainState) (P : Pl
     StillOpen = IsStillOpen m.js w V (opened_table ns V) after
 
     still-one :
-        (o : PlainFact) → AllOver R o × Exact v V o → Among (value v.whole o.region) ns → StillOpen o
+        (o : PlainFact) → AllOver R o × Exact v V o → Among (value v.whole o.region) ns →
+        StillOpen o
     still-one o a among =
         let e = exact-alike (Old s) v w V (agree-alike (Old s) v w m.as_before.agree) o
         (over-more R (Old s) to-old o a.0) a.1 in

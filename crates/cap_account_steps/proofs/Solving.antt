@@ -1,5 +1,6 @@
 -- Where others take an action, its system has rows, and there are values at which they hold.
-use Rattle.std.proofs.Common.{◌≡◌, ◌≢◌, ℕ, zero, suc, ◌+◌, ◌<◌, ◌≤◌, ℤ, ◌*ℤ◌, List, [], ◌∷◌, ◌++◌, length, map, Option, Some, None, refl, sym, ap, ◌∙◌, subst, arith}
+use Rattle.cap_account_resources.proofs.Lists.{map-at, within, get-first, map-length, all-both}
+use Rattle.std.proofs.Common.{◌≡◌, ◌≢◌, ℕ, ◌+◌, ◌<◌, ◌≤◌, ℤ, ◌*ℤ◌, List, [], ◌∷◌, ◌++◌, length, map, Option, Some, None, refl, sym, ap, ◌∙◌, subst, arith}
 use Rattle.std.specs.Prelude.{slice_get}
 use Rattle.std.specs.List.{AllByRecursion}
 use Rattle.cap_lin.specs.Linear.{Linear}
@@ -24,7 +25,6 @@ use Rattle.cap_goal_spec.specs.Candidates.{later_state}
 use Rattle.cap_rules.specs.Resting.{Names, names_below, ask, ask_all, first_names, action_names}
 use Rattle.cap_machine_accounts.specs.Parts.{kind_algebra}
 use Rattle.cap_machine_accounts.specs.Assertions.{CompHolds, AreWhole}
-use Rattle.cap_account_resources.proofs.Lists.{within, get-first, map-length, all-both}
 use Rattle.cap_account_states.proofs.Terms.{Over, vars-more, RowOver, row-over, fits-sort, Agree, agree-trans, agree-less, value-agree, rows-agree}
 use Rattle.cap_account_states.proofs.Meets.{new-whole, new-share, Usable, usable-old, variable-value}
 use Rattle.cap_account_states.proofs.Scopes.{rep-length, rep-in, length-join}
@@ -48,13 +48,6 @@ all-over :
 all-over sc k [] h = tt
 all-over sc k (g ∷ gs) h =
     (asked-over sc (atom_algebra k.algebra g.0) g.1 h.0.form, all-over sc k gs h.1)
-
-map-at :
-    {A B : Type 0} (g : A → B) (xs : List A) (i : ℕ) (x : A) → slice_get xs i ≡ Some x →
-    slice_get (map g xs) i ≡ Some (g x)
-map-at g [] i x e = cc
-map-at g (y ∷ xs) zero x e = cc
-map-at g (y ∷ xs) (suc i) x e = map-at g xs i x e
 
 rows-more :
     (R S : Sort → ℕ → Type 0) → ((o : Sort) (x : ℕ) → R o x → S o x) → (rows : List Row) →

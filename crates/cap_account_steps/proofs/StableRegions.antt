@@ -1,4 +1,5 @@
 -- What a region owns meets its interpretation also once others took steps.
+use Rattle.cap_account_steps.proofs.OwnNames.{at-new}
 use Rattle.std.proofs.Common.{◌≡◌, ℕ, suc, ◌+◌, ◌-◌, ◌<◌, ℤ, List, [], ◌∷◌, length, map, arith, refl, sym, ap, ◌∙◌, subst, Some, Bool, true, false}
 use Rattle.std.specs.Prelude.{slice_get, unwrap_or, nat_le, ◌==◌, ◌&&◌}
 use Rattle.std.specs.List.{AllByRecursion}
@@ -17,6 +18,7 @@ use Rattle.cap_goal_spec.specs.Choices.{PlainTree, node, PlainTrees, by_absurd, 
 use Rattle.cap_goal_spec.specs.Roots.{case_fact, case_state}
 use Rattle.cap_rules.specs.Making.{env_at}
 use Rattle.cap_rules.specs.Closing.{may_move, prove_move}
+use Rattle.cap_account_states.proofs.Alike.{values-alike, Alike, agree-alike, value-alike}
 use Rattle.cap_account_resources.specs.Parts.{known_as, Table}
 use Rattle.cap_account_resources.proofs.Lists.{within, get-map, get-or-push, push-length, map-length, all-at, all-more}
 use Rattle.cap_account_resources.proofs.Stocks.{Stock}
@@ -24,7 +26,6 @@ use Rattle.cap_account_resources.proofs.Tables.{FitsRoom, fits-relied}
 use Rattle.cap_account_states.specs.Nodes.{Comes, Open}
 use Rattle.cap_account_states.proofs.Terms.{Over, vars-more}
 use Rattle.cap_account_states.proofs.Attempts.{env_added}
-use Rattle.cap_account_states.proofs.Alike.{Alike, agree-alike, value-alike}
 use Rattle.cap_account_states.proofs.Meets.{Usable, usable-on, usable-old, Old, solves, variable-value}
 use Rattle.cap_account_states.proofs.Checked.{Checked}
 use Rattle.cap_account_states.proofs.Scopes.{bound-first, variables-length}
@@ -40,7 +41,6 @@ use Rattle.cap_account_assertions.proofs.CaseStarts.{state-at, known-envs}
 use Rattle.cap_account_assertions.proofs.Creating.{one-tree}
 use Rattle.cap_account_assertions.proofs.TakenStill.{Still, StillLaw}
 use Rattle.cap_account_assertions.proofs.Again.{given-rested}
-use Rattle.cap_account_steps.proofs.Stores.{values-alike}
 use Rattle.cap_account_steps.proofs.Worlds.{AllOver}
 use Rattle.cap_account_steps.proofs.Moves.{Movable, movable-on, kept-says}
 use Rattle.cap_account_steps.proofs.Shifting.{Picked, picked, none-other, closed_state, shifted}
@@ -190,7 +190,7 @@ module _ (p : Checked) (still : StillLaw p) (U : Table) (h : Stock) (room : Fits
       let size = map-length (value t.w.whole) q.f.args in
       let same = ap length now.args_are in
       let count = q.movable.arity in
-      let first = env-last s (region_env q.f q.names) in
+      let first = at-new s (region_env q.f q.names) in
       record {
         type = q.k;
         is_type = ap (slice_get pp.regions) (sym now.kind_is) ∙ q.movable.is_type;
@@ -209,9 +209,6 @@ module _ (p : Checked) (still : StillLaw p) (U : Table) (h : Stock) (room : Fits
         conditions = sh.conditions X mean;
         met = t.met X mean;
       }
-    where
-      env-last : (s : PlainState) (env : PlainEnv) → env_at (env_added s env) (length s.envs) ≡ env
-      env-last s env = get-or-push s.envs env []
   shifted-owns o cn m kids q says none t d hd = absurd (p.step hd).1
 
   -- rule `pick`, and its case taken

@@ -1,4 +1,5 @@
 -- While regions are closed: later states, and what is known there of those that are still open.
+use Rattle.cap_account_resources.proofs.Lists.{map-at, all-unmap, some-same, none-some, all-more, all-remove, all-at, Among}
 use Rattle.std.proofs.Common.{◌≡◌, ◌≢◌, ◌⊎◌, inl, inr, ℕ, zero, suc, ◌<◌, ◌≤◌, ℤ, List, [], ◌∷◌, length, map, Some, None, refl, sym, ap, ◌∙◌, subst, arith}
 use Rattle.std.specs.Prelude.{slice_get, remove}
 use Rattle.std.specs.List.{AllByRecursion}
@@ -8,12 +9,11 @@ use Rattle.cap_lin.specs.declared.row.Sort.TheVariants.{Int}
 use Rattle.cap_prog.specs.Program.{PlainProgram}
 use Rattle.cap_machine_accounts.specs.Accounts.{EachTwo}
 use Rattle.cap_goal_spec.specs.States.{PlainFact, PlainState}
+use Rattle.cap_account_states.proofs.Alike.{values-alike, Alike, alike-same, alike-trans, alike-less, value-alike}
 use Rattle.cap_account_resources.specs.Parts.{known_as, Table}
-use Rattle.cap_account_resources.proofs.Lists.{some-same, none-some, all-more, all-remove, all-at, Among}
 use Rattle.cap_account_resources.proofs.Covering.{Covered}
 use Rattle.cap_account_resources.proofs.Stocks.{Stock}
 use Rattle.cap_account_resources.proofs.Tables.{FitsRoom}
-use Rattle.cap_account_states.proofs.Alike.{Alike, alike-same, alike-trans, alike-less, value-alike}
 use Rattle.cap_account_states.proofs.Meets.{Free, Usable, usable-on}
 use Rattle.cap_account_states.proofs.Adding.{PieceOver}
 use Rattle.cap_account_states.proofs.Pieces.{AllFit}
@@ -21,8 +21,7 @@ use Rattle.cap_account_states.proofs.Compatible.{pieces-more, covered-alike}
 use Rattle.cap_account_states.proofs.Facts.{Facts}
 use Rattle.cap_account_states.proofs.Backed.{Backed, Grounded}
 use Rattle.cap_account_states.proofs.KnowsLater.{Steady, usable-steady}
-use Rattle.cap_account_steps.proofs.Callees.{slice-map}
-use Rattle.cap_account_steps.proofs.Exact.{terms-alike, exact-alike, over-more}
+use Rattle.cap_account_steps.proofs.Exact.{exact-alike, over-more}
 use Rattle.cap_account_steps.proofs.Worlds.{Differ, AllOver, regions_of, Earlier, IfAny, IsStillOpen, Closing}
 
 -- ---- lists without one member
@@ -51,12 +50,6 @@ others-remove R back (y ∷ ys) zero x e h =
     subst (λ z. AllByRecursion (R z) ys) (some-same y x e) h.0
 others-remove R back (y ∷ ys) (suc i) x e h =
     (back y x (all-at (R y) ys i x h.0 e), others-remove R back ys i x e h.1)
-
-all-unmap :
-    {X Y : Type 0} (P : Y → Type 0) (g : X → Y) (xs : List X) → AllByRecursion P (map g xs) →
-    AllByRecursion (λ x. P (g x)) xs
-all-unmap P g [] h = tt
-all-unmap P g (x ∷ xs) h = (h.0, all-unmap P g xs h.1)
 
 among-remove :
     {X : Type 0} (xs : List X) (i : ℕ) (x z : X) → slice_get xs i ≡ Some x → Among z xs →
@@ -87,10 +80,10 @@ module _ (v : Valuation) (fs : List PlainFact) (o : ℕ) (f : PlainFact)
       AllByRecursion (λ g. value v.whole f.region ≢ value v.whole g.region) (remove fs o)
   others-differ h =
       let P = λ (n : ℤ). number f ≢ n in
-      all-unmap P number (remove fs o)
+      all-unmap number P (remove fs o)
       (subst (AllByRecursion P) (sym (map-remove number fs o))
       (others-remove (λ m n. m ≢ n) (λ m n d e. d (sym e)) (map number fs) o (number f)
-      (slice-map number fs o f is) h))
+      (map-at number fs o f is) h))
 
   pub differ-remove : Differ (regions_of v fs) → Differ (regions_of v (remove fs o))
   differ-remove h =
@@ -102,7 +95,7 @@ module _ (v : Valuation) (fs : List PlainFact) (o : ℕ) (f : PlainFact)
       (value v.whole f.region ≡ n) ⊎ Among n (regions_of v (remove fs o))
   region-or n a =
       subst (λ ns. (number f ≡ n) ⊎ Among n ns) (sym (map-remove number fs o))
-      (among-remove (map number fs) o (number f) n (slice-map number fs o f is) a)
+      (among-remove (map number fs) o (number f) n (map-at number fs o f is) a)
 
 -- ---- later states
 
@@ -207,7 +200,7 @@ module _ (p : PlainProgram) (ks js : List ℕ) (v w : Valuation) (s t : PlainSta
     still-open f h =
         let o = over-steady f h.0.0 in
         let n = region-later f h.0.0 in
-        let zs = terms-alike (Steady ks s) v w l.alike f.args o.1 in (
+        let zs = values-alike (Steady ks s) v w l.alike f.args o.1 in (
           over-later f h.0.0,
           exact-alike (Steady ks s) v w V l.alike f o h.0.1,
           ap U n ∙ h.1 ∙ h.0.2 ∙ ap (λ ys. Some (known_as f.kind ys None)) (sym zs),

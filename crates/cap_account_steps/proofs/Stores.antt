@@ -1,11 +1,14 @@
 -- A frame's store in a symbolic state, and what its terms and comparisons are there.
+use Rattle.cap_account_states.proofs.Environments.{all-vars}
+use Rattle.cap_account_resources.proofs.Order.{cancel, turned, swapped, unmet-relates, not-both, relates-times}
+use Rattle.cap_account_states.proofs.Terms.{whole-parts, Vars, Over, vars-more, over-over, number-over, RowOver, row-over, Agree, value-agree}
 use Rattle.std.proofs.Common.{◌≡◌, ℕ, zero, suc, ◌+◌, ◌<◌, ℤ, pos, ◌*ℤ◌, ◌<ℤ◌, List, [], ◌∷◌, length, map, arith, refl, sym, ap, ◌∙◌, subst, Some, Bool, true, false}
-use Rattle.std.specs.Prelude.{slice_get, get_or, ◌==◌, option_to_list, if◌then◌else◌}
+use Rattle.std.specs.Prelude.{slice_get, get_or}
 use Rattle.std.specs.List.{AllByRecursion}
 use Rattle.std.proofs.lemmas.Int.{ints}
 use Rattle.cap_lin.specs.Linear.{Linear, number}
 use Rattle.cap_lin.specs.Values.{Valuation, denominator, parts_value, value}
-use Rattle.cap_lin.specs.Solves.{value_by_sort, Relates, Holds, IsWholeAt, PartsWhole}
+use Rattle.cap_lin.specs.Solves.{value_by_sort, Relates, Holds, IsWholeAt}
 use Rattle.cap_lin.specs.declared.row.Sort.{Sort}
 use Rattle.cap_lin.specs.declared.row.Sort.TheVariants.{Int, Perm}
 use Rattle.cap_lin.specs.declared.row.Op.{Op}
@@ -15,19 +18,15 @@ use Rattle.cap_prog.specs.declared.assertion.Comp.{Comp}
 use Rattle.cap_prog.specs.Program.{Block, PlainFunction}
 use Rattle.cap_prog.specs.Scopes.{whole_numbers, HasSort, TermFits, CompFits}
 use Rattle.cap_goal_spec.specs.Terms.{term_over}
-use Rattle.cap_goal_spec.specs.States.{PlainState, Home, PlainTask, to_run, to_rest, goal, goal_of, goals_of}
+use Rattle.cap_goal_spec.specs.States.{PlainState, Home, PlainTask, to_run}
 use Rattle.cap_goal_spec.specs.Environments.{zero_value}
-use Rattle.cap_goal_spec.specs.Choices.{PlainTrees}
 use Rattle.cap_rules.specs.Making.{opposite, in_store}
 use Rattle.cap_machine.specs.Machine.{Frame, value_in, holds}
 use Rattle.cap_machine_accounts.specs.Assertions.{NameValue, a_number, a_fraction, IsNamed, AreNamed}
-use Rattle.cap_account_states.specs.Nodes.{NodePredicate, Children}
+use Rattle.cap_account_states.proofs.Alike.{values-alike, Alike, above-zero}
 use Rattle.cap_account_resources.proofs.Lists.{some-same, none-some, within, there-is, all-more}
-use Rattle.cap_account_states.proofs.Terms.{Vars, Over, vars-more, over-over, number-over, RowOver, row-over, Agree, value-agree}
-use Rattle.cap_account_resources.proofs.Order.{unmet-relates, not-both, relates-times}
 use Rattle.cap_account_states.proofs.Attempts.{store_row}
 use Rattle.cap_account_states.proofs.Meets.{Usable, usable-old, Old, Meets}
-use Rattle.cap_account_states.proofs.Alike.{Alike, above-zero, swapped, undo, value-alike}
 use Rattle.cap_account_states.proofs.Values.{named-at, named-of}
 
 -- ---- stores
@@ -77,16 +76,12 @@ get-over P [] x h = tt
 get-over P (t ∷ ts) zero h = h.0
 get-over P (t ∷ ts) (suc x) h = get-over P ts x h.1
 
-pub vars-any : (ps : List (ℕ × ℤ)) → Vars (λ x. Unit {0}) ps
-vars-any [] = tt
-vars-any (p ∷ ps) = (tt, vars-any ps)
-
 pub here-over :
     (ks : List ℕ) (v : Valuation) (s : PlainState) (t : Linear) → Meets ks v s →
     Over (Usable [] s.sorts Int) (here s t)
 here-over ks v s t m =
     over-over (Usable [] s.sorts Int) (λ x. Unit {0}) (in_store s) t
-    (λ x h. get-over (Usable [] s.sorts Int) s.store x m.store_over) (vars-any t.parts)
+    (λ x h. get-over (Usable [] s.sorts Int) s.store x m.store_over) (all-vars t.parts)
 
 pub no-perm : (n x : ℕ) → HasSort (whole_numbers n) Perm x → ⊥
 no-perm zero x e = none-some e
@@ -118,13 +113,6 @@ factor v Perm = denominator v.fraction
 pub factor-positive : (v : Valuation) (o : Sort) → pos 0 <ℤ factor v o
 factor-positive v Int = omega (arith, ints)
 factor-positive v Perm = omega (arith, ints)
-
-pub turned : (a b : ℤ) → a *ℤ b ≡ b *ℤ a
-turned a b = omega (arith, ints)
-
-pub whole-parts : (v : Valuation) (ps : List (ℕ × ℤ)) → Vars (IsWholeAt v) ps → PartsWhole v ps
-whole-parts v [] h = tt
-whole-parts v (p ∷ ps) h = (h.0, whole-parts v ps h.1)
 
 pub number-here :
     (v : Valuation) (s : PlainState) (store : List ℤ) (o : Sort) (t : Linear) → Meets [] v s →
@@ -180,15 +168,6 @@ met-here v s store c m e h = by (holds store c) refl
 
 -- ---- what goes on
 
--- without facts a Rest is nothing
-pub rested :
-    (N : NodePredicate) (ks : PlainTrees) (s : PlainState) (n : ℕ) (ts : List PlainTask) →
-    s.facts ≡ [] → Children N ks (goals_of s (to_rest 0 n ∷ ts)) → Children N ks (goals_of s ts)
-rested N ks s n ts e h =
-    subst (λ b. Children N ks
-    (option_to_list (if b then goal_of s ts else Some (goal s (to_rest 0 n ∷ ts)))))
-    (ap (λ fs. 0 == length fs) e) h
-
 pub values-same :
     (v w : Valuation) (s : PlainState) → Agree (Old s) v w → (ts : List Linear) →
     AllByRecursion (Over (Usable [] s.sorts Int)) ts →
@@ -241,14 +220,6 @@ store-same v w s t h fn fx f m a sorts e size st = record {
 
 -- ---- at alike values
 
-pub values-alike :
-    (P : ℕ → Type 0) (v w : Valuation) → Alike P v w → (ts : List Linear) →
-    AllByRecursion (Over P) ts → map (value w.whole) ts ≡ map (value v.whole) ts
-values-alike P v w a [] h = refl
-values-alike P v w a (t ∷ ts) h =
-    ap (λ z. z ∷ map (value w.whole) ts) (value-alike P v w a t h.0)
-    ∙ ap (λ zs. value v.whole t ∷ zs) (values-alike P v w a ts h.1)
-
 pub name-alike :
     (P : ℕ → Type 0) (v w : Valuation) (x : ℕ) (y : NameValue) → P x → Alike P v w →
     IsNamed v x y → IsNamed w x y
@@ -256,7 +227,7 @@ name-alike P v w x (a_number z) h a is = a.whole x h ∙ is
 name-alike P v w x (a_fraction n d) h a is =
     let dv = denominator v.fraction in
     let dw = denominator w.fraction in
-    undo (w.fraction.numerator x *ℤ pos (suc d)) (n *ℤ dw) dv (above-zero v)
+    cancel (w.fraction.numerator x *ℤ pos (suc d)) (n *ℤ dw) dv (above-zero v)
     (swapped (w.fraction.numerator x) (pos (suc d)) dv
     ∙ ap (λ z. z *ℤ pos (suc d)) (a.share x h)
     ∙ swapped (v.fraction.numerator x) dw (pos (suc d))
@@ -266,7 +237,8 @@ name-alike P v w x (a_fraction n d) h a is =
 -- the variable of a fixed name is old, and has the name's value
 pub fixed-name :
     (s : PlainState) (v : Valuation) (h : Home) (fn : PlainFunction) (fixed : List NameValue)
-    (f : Frame) → Store v s h fn fixed f → length fixed ≡ length fn.fixed → (i : ℕ) (y : NameValue) →
+    (f : Frame) → Store v s h fn fixed f → length fixed ≡ length fn.fixed →
+    (i : ℕ) (y : NameValue) →
     slice_get fixed i ≡ Some y → Old s (h.fixed + i) × IsNamed v (h.fixed + i) y
 fixed-name s v h fn fixed f st size i y e =
     let o = there-is fn.fixed i (let q = within fixed i y e in omega (arith, q, size)) in (

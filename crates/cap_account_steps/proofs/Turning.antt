@@ -12,6 +12,7 @@ use Rattle.cap_prog.specs.WellFormed.{ActionFits, RegionFits}
 use Rattle.cap_goal_spec.specs.States.{PlainFact, PlainState, with_state}
 use Rattle.cap_goal_spec.specs.Candidates.{later_state}
 use Rattle.cap_rules.specs.Resting.{prove_kept, prove_stable}
+use Rattle.cap_account_states.proofs.KnowsLater.{backed-at}
 use Rattle.cap_account_states.specs.Nodes.{Comes}
 use Rattle.cap_account_resources.specs.Parts.{known_as, Table}
 use Rattle.cap_account_resources.proofs.Lists.{some-same, map-length, set-length, all-at}
@@ -29,7 +30,6 @@ use Rattle.cap_account_steps.proofs.Others.{Resting}
 use Rattle.cap_account_steps.proofs.Keeping.{same_row, kept-rests}
 use Rattle.cap_account_steps.proofs.Settling.{IsCandidate, HoldsAt, settled-rests}
 use Rattle.cap_account_steps.proofs.Worlds.{Exact, AllOver}
-use Rattle.cap_account_steps.proofs.Reserved.{backed-at}
 use Rattle.cap_account_steps.proofs.Exact.{exact-alike, over-more, Each, each-set, HeldOf, held-of}
 
 -- ---- what stays as it was
@@ -102,8 +102,8 @@ backed-before p ks v w s t c g q b =
 
 -- ---- midway
 
--- a fact before number j has changed over to the second table and is firm, another one says what the
--- first table does
+-- a fact before number j has changed over to the second table and is firm, another one says what
+-- the first table does
 abbrev pub IsDue :
     List ℕ → List Sort → Valuation → Table → Table → ℕ → ℕ → PlainFact → Type 0
 IsDue ks sorts v T U j i f =
@@ -196,7 +196,8 @@ module _ (p : PlainProgram) (ks : List ℕ) (part : Stock) (T U : Table) (j : �
           × (y.params ≡ suc (length args)) →
           length f.args + 1 ≡ k.params
       params y =
-          let same = ap (λ (z : PlainRegionType). z.params) (some-same y.0 k (sym y.1 ∙ turn.is_type)) in
+          let same = ap
+          (λ (z : PlainRegionType). z.params) (some-same y.0 k (sym y.1 ∙ turn.is_type)) in
           let size = map-length (value v.whole) f.args in
           let count = y.2 in
           omega (arith, same, size, count)
@@ -245,7 +246,8 @@ module _ (p : PlainProgram) (ks : List ℕ) (part : Stock) (T U : Table) (j : �
       other i h ne d =
           let usable = Usable ks s.sorts Int in
           let low = over-more usable (Old s) (usable-old ks s.sorts Int) h d.0 in
-          let still = λ (W : Table). exact-alike (Old s) v w W (agree-alike (Old s) v w a) h low in (
+          let still = λ (W : Table).
+          exact-alike (Old s) v w W (agree-alike (Old s) v w a) h low in (
             over-more usable (Usable ks sorts Int) (usable-on ks s.sorts sorts grow Int) h d.0,
             (λ l. let q = d.1 (lower i l ne) in (still U q.0, q.1)),
             (λ l. still T (d.2 (omega (arith, l)))),

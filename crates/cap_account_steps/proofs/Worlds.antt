@@ -87,8 +87,8 @@ abbrev pub IfAny : {A : Type 0} → List A → Type 0 → Type 0
 IfAny [] P = Unit {0}
 IfAny (x ∷ xs) P = P
 
--- facts, also of opened regions, hold of the table before the step; the state has what the frame and
--- the opened regions have
+-- facts, also of opened regions, hold of the table before the step; the state has what the frame
+-- and the opened regions have
 pub record Opening (p : PlainProgram) (V : Table) (share : ℤ → Stock) (part : Stock) (v : Valuation)
     (s : PlainState) : Type 0 where
   pub grounded : Grounded p [] v s
@@ -151,7 +151,8 @@ pub record Settles (p : PlainProgram) (V W U : Table) (part : Stock) (opened : L
   pub others :
       (n : ℤ) → (Among n (numbers_of closed) → ⊥) → (Among n (numbers_of made) → ⊥) → U n ≡ W n
 
--- how the table and what is held settle: what closed and made regions own comes out of what was held
+-- how the table and what is held settle: what closed and made regions own comes out of what was
+-- held
 pub record SettlesBy (p : PlainProgram) (V W : Table) (part held : Stock) (ns : List ℤ)
     (kept : Stock) : Type 0 where
   pub U : Table

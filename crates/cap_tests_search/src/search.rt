@@ -1,4 +1,4 @@
-//! Verdicts on programs of one function.
+//! Verdicts on functions and region types.
 
 use cap_goal::{Choice, Node, Unit};
 use cap_prog::Program;
@@ -21,6 +21,15 @@ fn verdict_of(alloc: Global, program: &Program, budget: u64) -> Result<Verdict, 
 fn verdict_on(alloc: Global, text: &str, budget: u64) -> Result<Verdict, Fail> {
     let program = read_program(alloc, text.as_bytes())?;
     verdict_of(alloc, &program, budget)
+}
+
+// The verdict on the first region type.
+fn verdict_on_region(alloc: Global, text: &str, budget: u64) -> Result<Verdict, Fail> {
+    let program = read_program(alloc, text.as_bytes())?;
+    if program.regions().is_empty() {
+        Err("no region type")?;
+    }
+    Ok(search(alloc, &program, Unit::Region(0), budget)?)
 }
 
 // Whether no state meets the precondition of `main`.
@@ -87,5 +96,59 @@ fn only_a_false_precondition_is_empty(rt: HostRuntime) -> Result<(), Fail> {
     let alloc = rt.alloc();
     assert!(rt; !is_empty(alloc, EMPTY)?);
     assert!(rt; is_empty(alloc, "function main() requires 1 <= 0; { }")?);
+    Ok(())
+}
+
+// Whether the tree picks the first case of an opened region and closes the region in it.
+fn is_closing(tree: &Option<Node>) -> bool {
+    match tree {
+        Some(node) => {
+            matches!(&node.choice, Choice::Pick(0, 0, 0))
+                && node.children.len() == 1
+                && matches!(&node.children[0].choice, Choice::Shift(_))
+        }
+        None => false,
+    }
+}
+
+// The one case has no items. Two goals are visited: a case is picked, and the move is checked.
+#[test]
+fn proves_a_case_without_items(rt: HostRuntime) -> Result<(), Fail> {
+    let alloc = rt.alloc();
+    let text =
+        "region R(r) { guards G; interpretation { 0 : true; } actions { } } function main() { }";
+    let trees = match verdict_on_region(alloc, text, 2)? {
+        Verdict::Proved(trees) => trees,
+        _ => Vec::new(alloc),
+    };
+    assert_eq!(rt; trees.len(), 1);
+    assert!(rt; is_closing(&trees[0]));
+    assert!(rt; matches!(verdict_on_region(alloc, text, 1)?, Verdict::Spent(1)));
+    Ok(())
+}
+
+// The case asks for a fact of another region, which its action can take to 1: once the case is given
+// and others have acted, the fact is known with no state, and the case lacks it.
+#[test]
+fn a_case_that_others_break_is_left_open(rt: HostRuntime) -> Result<(), Fail> {
+    let alloc = rt.alloc();
+    let text =
+        "region W(w, r) { guards G; interpretation { 0 : F(r; 0); } actions { } } region F(r) { guards S; interpretation { 0 : true; 1 : true; } actions { S : 0 ~> 1; } } function main() { }";
+    let open = match verdict_on_region(alloc, text, 200_000)? {
+        Verdict::Stuck(open) => Some(open),
+        _ => None,
+    };
+    let lacks = Obligation {
+        statement: Place {
+            line: 1,
+            column: 45,
+        },
+        need: Need::Region,
+        item: Place {
+            line: 1,
+            column: 49,
+        },
+    };
+    assert_eq!(rt; open, Some(lacks));
     Ok(())
 }

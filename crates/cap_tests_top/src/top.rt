@@ -901,23 +901,119 @@ fn derivations_that_are_rejected(rt: HostRuntime) -> Result<(), Fail> {
         Status::Bad,
         "rejected shape 1\n",
     )?;
-    // Of a program that isn't proved the report is written, and one with a region type isn't judged.
+    // Of a program that isn't proved the report is written.
     let open = "function main() { assert 1 <= 0; }\n";
     let report = "function main: open 1:19 needs fact 1:26\nproved 0 of 1\n";
-    says(&rt, alloc, "derive f", open, "", Status::Bad, report)?;
-    says(&rt, alloc, "check f s", LOCK, "", Status::Bad, "later\n")
+    says(&rt, alloc, "derive f", open, "", Status::Bad, report)
 }
 
+// A region whose one case asks for a state of another region, which others may change.
+const WATCH: &str =
+    "region Flag(r, x) { guards SET; interpretation { 0 : x |-> 0; 1 : x |-> 1; } actions { SET : 0 ~> 1; } }
+region Watch(w, r, x) { guards G; interpretation {
+0 : Flag(r, x; 0); } actions { } }
+function main() { }
+";
+
+// A counter of which somebody sets the cell to 0, which no action does.
+const ZEROED: &str = "region Counter(r, x) {
+  guards %INC;
+  interpretation { n : x |-> n; }
+  actions { INC[_] : n ~> n + 1; }
+}
+function zero(x) requires Counter(r, x; _) &*& r@INC[1p]; {
+  [x] := 0;
+}
+function main() { }
+";
+
 #[test]
-fn units_that_come_later(rt: HostRuntime) -> Result<(), Fail> {
+fn verdicts_on_region_types(rt: HostRuntime) -> Result<(), Fail> {
     let alloc = rt.alloc();
-    verifies(
+    for (text, status, written) in [
+        (
+            LOCK,
+            Status::Good,
+            "region SLock: proved\nfunction makeLock: proved\nfunction lock: proved\nfunction unlock: proved\nfunction worker: proved\nfunction main: proved\nproved 6 of 6\n",
+        ),
+        (
+            COUNTER,
+            Status::Bad,
+            "region Counter: proved\nfunction make: proved\nfunction inc: proved\nfunction main: open 22:3 needs fact 22:10\nproved 3 of 4\n",
+        ),
+        (
+            WATCH,
+            Status::Bad,
+            "region Flag: proved\nregion Watch: open 3:1 needs region 3:5\nfunction main: proved\nproved 2 of 3\n",
+        ),
+        (
+            ZEROED,
+            Status::Bad,
+            "region Counter: proved\nfunction zero: open 7:3 needs move 3:20\nfunction main: proved\nproved 2 of 3\n",
+        ),
+    ] {
+        verifies(&rt, alloc, text, status, written)?;
+    }
+    Ok(())
+}
+
+// A region type with one case, which has no items: the case is picked, and the region closed in it.
+// Both proofs of the latter are that 0 = 0, from no rows.
+const STILL: &str = "region Still(r) { guards G; interpretation { 0 : true; } actions { } }
+function main() { }
+";
+
+const STILL_DERIVATION: &str = "[\"caper\",1,4]
+[\"pick\",0,0,0]
+[\"shift\",[[\"leaf\",[[0,\"1\"]]],[\"leaf\",[[0,\"1\"]]]]]
+[\"return\"]
+[\"end\",3]
+";
+
+// Here the case has a cell, which is given and taken again. That its address is above 0 is the one
+// row that is known, so what is refuted has the number 1: that the address is not the one that is
+// held, and the value neither, each in two proofs.
+const HELD: &str = "region Held(r, x) { guards G; interpretation { 0 : x |-> 0; } actions { } }
+function main() { }
+";
+
+const HELD_DERIVATION: &str = "[\"caper\",1,4]
+[\"give\"]
+[\"pick\",0,0,0]
+[\"cell\",0,[[\"leaf\",[[1,\"1\"]]],[\"leaf\",[[1,\"1\"]]],[\"leaf\",[[1,\"1\"]]],[\"leaf\",[[1,\"1\"]]]]]
+[\"shift\",[[\"leaf\",[[1,\"1\"]]],[\"leaf\",[[1,\"1\"]]]]]
+[\"return\"]
+[\"end\",5]
+";
+
+#[test]
+fn derivations_with_region_types(rt: HostRuntime) -> Result<(), Fail> {
+    let alloc = rt.alloc();
+    derives(&rt, alloc, STILL, STILL_DERIVATION, "accepted 3\n")?;
+    derives(&rt, alloc, HELD, HELD_DERIVATION, "accepted 5\n")?;
+    // Of a program that isn't proved the report is written.
+    says(
         &rt,
         alloc,
-        LOCK,
+        "derive f",
+        WATCH,
+        "",
         Status::Bad,
-        "region SLock: later\nfunction makeLock: later\nfunction lock: later\nfunction unlock: later\nfunction worker: later\nfunction main: later\nproved 0 of 6\n",
-    )
+        "region Flag: proved\nregion Watch: open 3:1 needs region 3:5\nfunction main: proved\nproved 2 of 3\n",
+    )?;
+    // The lock has 17 roots, and its first tree begins with what its case gives.
+    for (lines, status, written) in [
+        ("", Status::Refused, "refused derivation: no end\n"),
+        (EMPTY_DERIVATION, Status::Bad, "rejected shape 1\n"),
+        (
+            "[\"caper\",1,17]\n[\"return\"]\n[\"end\",1]\n",
+            Status::Bad,
+            "rejected node 1\n",
+        ),
+    ] {
+        says(&rt, alloc, "check f s", LOCK, lines, status, written)?;
+    }
+    Ok(())
 }
 
 #[test]

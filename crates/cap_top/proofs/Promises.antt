@@ -15,10 +15,10 @@ use Rattle.cap_kernel_check.specs.declared.error.CheckError.{CheckError}
 use Rattle.cap_deriv_write.specs.Written.{derivation_text}
 use Rattle.cap_top_report.specs.Found.{found_trees}
 use Rattle.cap_top_commands.specs.Derivations.{IsDerivation, IsChecked}
-use Rattle.cap_top_commands.specs.Answers.{Fetched, held, unread, long, After, SaysCause, SaysRefusal, IsVerified, IsDerived, IsUnjudged, IsShown, IsPlayed, IsOutput, GoodAnswersAreSafe, AcceptedAreSafe, DerivedAreAccepted}
+use Rattle.cap_top_commands.specs.Answers.{Fetched, held, unread, long, After, SaysCause, SaysRefusal, IsVerified, IsDerived, IsShown, IsPlayed, IsOutput, GoodAnswersAreSafe, AcceptedAreSafe, DerivedAreAccepted}
 use Rattle.cap_top_report.specs.Report.{report_text, is_good}
 use Rattle.cap_top_commands.specs.Task.{Task, verify, derive, check, show, replay, files_of}
-use Rattle.cap_top_commands.specs.Output.{Output, usage_output, unreadable_output, long_output, refusal_output, report_output, derivation_output, long_derivation_output, bad_derivation_output, later_output, judged_output, judged_status, tree_output, schedule_output, run_output, report_status, end_status}
+use Rattle.cap_top_commands.specs.Output.{Output, usage_output, unreadable_output, long_output, refusal_output, report_output, derivation_output, long_derivation_output, bad_derivation_output, judged_output, judged_status, tree_output, schedule_output, run_output, report_status, end_status}
 use Rattle.cap_top.specs.Reads.{IsFetched, AreFetched, given_by, AreGiven}
 use Rattle.cap_top.specs.Run.{IsSaid, IsRun}
 use Rattle.cap_top.specs.Promise.{VerifiesFile, DerivesFile, ChecksFiles, IsShownAs, ShowsFile, EndsRun, ReplaysFiles, Ends, Says, AnswersFiles, HoldsGood, HoldAccepted, HoldsTree, IsTextFor, Refuses, IsOneOf, ReadFails}
@@ -75,10 +75,6 @@ derived_answers : (budget : ℕ) (bytes : List ℕ) (o : Output) → IsDerived b
 derived_answers budget bytes o (inl c) = cause_answers (IsRefused bytes) o c
 derived_answers budget bytes o (inr s) = derivation_answers budget s.thing o s.said
 
-unjudged_answers : (bytes : List ℕ) (o : Output) → IsUnjudged bytes o → IsAnswer o.status
-unjudged_answers bytes o (inl c) = cause_answers (IsRefused bytes) o c
-unjudged_answers bytes o (inr s) = answer_as o later_output s.said.whole tt
-
 judged_answers : (r : Result ℕ CheckError) → IsAnswer (judged_status r)
 judged_answers (Ok n) = tt
 judged_answers (Err e) = tt
@@ -127,10 +123,10 @@ module _ (told : Option Files) (reads reads_now : ℕ) (blamed : Option (List �
   settled (derive name budget) [] o f h = absurd h
   settled (derive name budget) (x ∷ (y ∷ ys)) o f h = absurd h
   settled (check name s) (x ∷ []) o f h =
-      settled_by (Some (check name s)) name x o.status (inl refl) f.0 (after_ended IsUnjudged unjudged_answers name x o h)
+      settled_by (Some (check name s)) name x o.status (inl refl) f.0 (after_ended SaysRefusal (λ bytes q c. cause_answers (IsRefused bytes) q c) name x o h)
   settled (check name s) (x ∷ (y ∷ [])) o f h =
       settled_by (Some (check name s)) s y o.status (inr (inl refl)) f.1.0
-      (after_ended (IsChecked h.program) (checked_answers h.program) s y o h.said.1)
+      (after_ended (IsChecked h.program) (checked_answers h.program) s y o h.said)
   settled (check name s) [] o f h = absurd h
   settled (check name s) (x ∷ (y ∷ (z ∷ zs))) o f h = absurd h
   settled (show name) (x ∷ []) o f h =
@@ -223,7 +219,7 @@ module _ (told : Option Files) (reads reads_now : ℕ) (blamed : Option (List �
         proved = lines_proved d;
         lines = o.text;
         whole = lines_whole d;
-        accepted = accepts budget s.thing o d e;
+        accepted = accepts budget bytes s.thing o s.is_so d e;
         gains = g;
       }
 
@@ -259,24 +255,20 @@ module _ (told : Option Files) (reads reads_now : ℕ) (blamed : Option (List �
 -- ---- derivations that are judged
 
 module _ (told : Option Files) (reads reads_now : ℕ) (blamed : Option (List ℕ)) (file derivation : List ℕ) (o : Output) where
-  unjudged_bad : (bytes : List ℕ) → IsUnjudged bytes o → o.status ≡ Good → ⊥
-  unjudged_bad bytes (inl c) e = let g : Refused ≡ Good = sym (same_status o (refusal_output c.cause) c.whole) ∙ e in cc
-  unjudged_bad bytes (inr s) e = let g : Bad ≡ Good = sym (same_status o later_output s.said.whole) ∙ e in cc
-
   accepted_late : AcceptedAreSafe → (bytes : List ℕ) (p : PlainProgram) (y : Fetched)
-      → IfSome told (λ files. content files file ≡ Some bytes) → IsTextOf bytes p → p.regions ≡ []
+      → IfSome told (λ files. content files file ≡ Some bytes) → IsTextOf bytes p
       → IsFetched told reads reads_now blamed derivation y → After derivation y (IsChecked p) o → o.status ≡ Good
       → ChecksFiles told file derivation
-  accepted_late safe bytes p (held lines) c t none f h e = record {
+  accepted_late safe bytes p (held lines) c t f h e = record {
     bytes = bytes;
     held = c;
     lines = lines;
     lines_held = f.1;
-    accepted = safe bytes lines p o t none h e;
+    accepted = safe bytes lines p o t h e;
   }
-  accepted_late safe bytes p unread c t none f h e =
+  accepted_late safe bytes p unread c t f h e =
       let g : ReadFault ≡ Good = sym (same_status o (unreadable_output derivation) h) ∙ e in absurd cc
-  accepted_late safe bytes p long c t none f h e =
+  accepted_late safe bytes p long c t f h e =
       let g : Refused ≡ Good = sym (same_status o long_output h) ∙ e in absurd cc
 
   accepted_by : AcceptedAreSafe → (got : List Fetched) → AreFetched told reads reads_now blamed (file ∷ (derivation ∷ [])) got
@@ -284,8 +276,9 @@ module _ (told : Option Files) (reads reads_now : ℕ) (blamed : Option (List �
   accepted_by safe (x ∷ (y ∷ [])) f h e =
       let first : IsFetched told reads reads_now blamed file (held h.bytes) =
       subst (IsFetched told reads reads_now blamed file) h.gave f.0 in
-      accepted_late safe h.bytes h.program y first.1 h.text_of_it h.said.0 f.1.0 h.said.1 e
-  accepted_by safe (held bytes ∷ []) f h e = absurd (unjudged_bad bytes h e)
+      accepted_late safe h.bytes h.program y first.1 h.text_of_it f.1.0 h.said e
+  accepted_by safe (held bytes ∷ []) f h e =
+      let g : Refused ≡ Good = sym (same_status o (refusal_output h.cause) h.whole) ∙ e in absurd cc
   accepted_by safe (unread ∷ []) f h e =
       let g : ReadFault ≡ Good = sym (same_status o (unreadable_output file) h) ∙ e in absurd cc
   accepted_by safe (long ∷ []) f h e = let g : Refused ≡ Good = sym (same_status o long_output h) ∙ e in absurd cc
@@ -520,7 +513,7 @@ module _ (files : Files) (task : Option Task) (reads reads_now : ℕ) (blamed : 
         gave = refl;
         program = h.program;
         text_of_it = record { tree = h.text_of_it.tree; spelled = h.text_of_it.spelled; stands = h.text_of_it.stands };
-        said = (h.accepted.regions, h.accepted.checked.said);
+        said = h.accepted.checked.said;
       } in
       good_status o refl
       (answers_told got o
@@ -550,11 +543,6 @@ module _ (files : Files) (task : Option Task) (reads reads_now : ℕ) (blamed : 
   refused_derived budget bytes o n (inl c) = refused_cause (IsRefused bytes) o c
   refused_derived budget bytes o n (inr s) = absurd (n s.thing s.is_so)
 
-  refused_unjudged : (bytes : List ℕ) (o : Output) → ((p : PlainProgram) → IsTextOf bytes p → ⊥)
-      → IsUnjudged bytes o → o.status ≡ Refused
-  refused_unjudged bytes o n (inl c) = refused_cause (IsRefused bytes) o c
-  refused_unjudged bytes o n (inr s) = absurd (n s.thing s.is_so)
-
   refused_tree : (bytes : List ℕ) (o : Output) → ((t : ProgramTree) → Spells bytes t → ⊥)
       → IsShown bytes o → o.status ≡ Refused
   refused_tree bytes o n (inl c) = refused_cause (SpellNone bytes) o c
@@ -580,7 +568,7 @@ module _ (files : Files) (task : Option Task) (reads reads_now : ℕ) (blamed : 
       (refused_derived budget bytes o (λ p t. n (p, t)))
       (first_gives file name [] names x [] e bytes c f) h
   refused_output (check file s) name names bytes (x ∷ []) o e c n f h =
-      refused_after IsUnjudged file bytes x o (refused_unjudged bytes o (λ p t. n (p, t)))
+      refused_after SaysRefusal file bytes x o (λ k. refused_cause (IsRefused bytes) o k)
       (first_gives file name (s ∷ []) names x [] e bytes c f) h
   refused_output (check file s) name names bytes (x ∷ (y ∷ [])) o e c n f h =
       let g : given_by (Some bytes) ≡ held h.bytes = first_gives file name (s ∷ []) names x (y ∷ []) e bytes c f ∙ h.gave in

@@ -5,14 +5,14 @@ use Rattle.cap_io.specs.Outside.{Files, counted, IsCounted, Rose}
 use Rattle.cap_prog.specs.Program.{PlainProgram}
 use Rattle.cap_top_reading.specs.Refused.{IsTextOf}
 use Rattle.cap_top_commands.specs.declared.output.Output as code
-use Rattle.cap_top_commands.specs.Answers.{Fetched, held, unread, long, After, SaysRefusal, IsUnjudged, IsPlayed, IsReplayed, IsJudged, ByTwo, IsOutput, IsOnly, IsOnlyOutput, IsOnlyTextOf, Agree}
+use Rattle.cap_top_commands.specs.Answers.{Fetched, held, unread, long, After, SaysRefusal, IsPlayed, IsReplayed, IsJudged, ByTwo, IsOutput, IsOnly, IsOnlyOutput, IsOnlyTextOf, Agree}
 use Rattle.cap_top_commands.specs.Derivations.{IsChecked}
 use Rattle.cap_top_commands.specs.Output.{Output, unreadable_output, long_output}
 use Rattle.cap_top_commands.specs.Task.{Task, check, replay, files_of}
 use Rattle.cap_top_commands.specs.Views.{output_view}
-use Rattle.cap_top_commands.specs.declared.replaying.Begun.{Begun}
-use Rattle.cap_top_commands.specs.declared.replaying.Begun.TheVariants as begun
-use Rattle.cap_top_commands.specs.Replaying.{Begins, IsOnlyText, IsAny, HasNoRegions}
+use Rattle.cap_top_commands.specs.declared.beginning.Begun.{Begun}
+use Rattle.cap_top_commands.specs.declared.beginning.Begun.TheVariants as begun
+use Rattle.cap_top_commands.specs.Beginning.{Begins}
 use Rattle.cap_top.specs.Views.{BeginsAfter, IsSaidEarly}
 use Rattle.cap_top.specs.Reads.{IsFetched, AreFetched, AreCounted}
 use Rattle.cap_top.specs.Run.{IsSaid}
@@ -23,31 +23,28 @@ same_bytes a b e = cc
 
 -- ---- the output, by the first file alone or by both
 
-module _ (name : List ℕ) (IsEarly : List ℕ → Output → Type 0) (IsLate : PlainProgram → Fetched → Output → Type 0) where
-  pub early_only : (x : Fetched) (o : Output) → IsOnly (After name x IsEarly) o
-      → ((bytes : List ℕ) (p : PlainProgram) (y : Fetched) (q : Output) → x ≡ held bytes → IsTextOf bytes p → IsLate p y q → ⊥)
-      → IsOnlyOutput (ByTwo name IsEarly IsLate) (x ∷ []) o
-  early_only x o h n = record { said = h.said; only = by }
+module _ (name : List ℕ) (IsLate : PlainProgram → Fetched → Output → Type 0) where
+  pub early_only : (x : Fetched) (o : Output) → IsSaidEarly name x o → IsOnlyOutput (ByTwo name IsLate) (x ∷ []) o
+  early_only x o h = record { said = h.output.said; only = by }
     where
-      by : (other : List Fetched) (q : Output) → Agree (x ∷ []) other → ByTwo name IsEarly IsLate other q → o ≡ q
+      by : (other : List Fetched) (q : Output) → Agree (x ∷ []) other → ByTwo name IsLate other q → o ≡ q
       by [] q a s = absurd s
-      by (y ∷ []) q a s = h.only q (subst (λ z. After name z IsEarly q) (sym a.0) s)
-      by (y ∷ (z ∷ [])) q a s = absurd (n s.bytes s.program z q (a.0 ∙ s.gave) s.text_of_it s.said)
+      by (y ∷ []) q a s = h.output.only q (subst (λ z. After name z SaysRefusal q) (sym a.0) s)
+      by (y ∷ (z ∷ [])) q a s = absurd (h.none s.bytes s.program (a.0 ∙ s.gave) s.text_of_it)
       by (y ∷ (z ∷ (w ∷ ws))) q a s = absurd s
 
   pub late_only : (bytes : List ℕ) (y : Fetched) (p : PlainProgram) (o : Output) → IsOnlyTextOf bytes p
-      → ((q : Output) → IsEarly bytes q → ⊥)
-      → IsOnly (IsLate p y) o → IsOnlyOutput (ByTwo name IsEarly IsLate) (held bytes ∷ (y ∷ [])) o
-  late_only bytes y p o t n h = record {
+      → IsOnly (IsLate p y) o → IsOnlyOutput (ByTwo name IsLate) (held bytes ∷ (y ∷ [])) o
+  late_only bytes y p o t h = record {
     said = record { bytes = bytes; gave = refl; program = p; text_of_it = t.text_of_it; said = h.said };
     only = by;
   }
     where
-      by : (other : List Fetched) (q : Output) → Agree (held bytes ∷ (y ∷ [])) other → ByTwo name IsEarly IsLate other q → o ≡ q
+      by : (other : List Fetched) (q : Output) → Agree (held bytes ∷ (y ∷ [])) other → ByTwo name IsLate other q → o ≡ q
       by [] q a s = absurd s
       by (z ∷ []) q a s =
-          let r : IsEarly bytes q = subst (λ u. After name u IsEarly q) (sym a.0) s in
-          absurd (n q r)
+          let r : SaysRefusal bytes q = subst (λ u. After name u SaysRefusal q) (sym a.0) s in
+          absurd (t.unrefused r.cause r.caused)
       by (z ∷ (w ∷ [])) q a s =
           let b : bytes ≡ s.bytes = same_bytes bytes s.bytes (a.0 ∙ s.gave) in
           let same : p ≡ s.program = t.only s.program (subst (λ u. IsTextOf u s.program) (sym b) s.text_of_it) in
@@ -73,44 +70,36 @@ two_counted (Some n) b c x y h k = subst (λ o. IfSome o (λ m. c ≡ Some (coun
 -- ---- what is said
 
 -- how a task of two files is answered: early by the first alone, or late by both
-pub record Answering (t : Task) (file second : List ℕ) (IsEarly : List ℕ → Output → Type 0) (IsOfKind : PlainProgram → Type 0)
-    (IsLate : PlainProgram → List ℕ → Output → Type 0) : Type 0 where
+pub record Answering (t : Task) (file second : List ℕ) (IsLate : PlainProgram → List ℕ → Output → Type 0) : Type 0 where
   pub files : files_of (Some t) ≡ file ∷ (second ∷ [])
-  pub early : (x : Fetched) (o : Output) → IsSaidEarly IsEarly IsOfKind file x o → IsOnlyOutput (IsOutput (Some t)) (x ∷ []) o
-  pub late : (bytes : List ℕ) (y : Fetched) (p : PlainProgram) (o : Output) → IsOnlyText IsEarly IsOfKind bytes p
+  pub early : (x : Fetched) (o : Output) → IsSaidEarly file x o → IsOnlyOutput (IsOutput (Some t)) (x ∷ []) o
+  pub late : (bytes : List ℕ) (y : Fetched) (p : PlainProgram) (o : Output) → IsOnlyTextOf bytes p
       → IsOnly (After second y (IsLate p)) o → IsOnlyOutput (IsOutput (Some t)) (held bytes ∷ (y ∷ [])) o
 
-pub replaying : (file schedule : List ℕ) → Answering (replay file schedule) file schedule SaysRefusal IsAny IsPlayed
+pub replaying : (file schedule : List ℕ) → Answering (replay file schedule) file schedule IsPlayed
 replaying file schedule = record {
   files = refl;
-  early = λ x o h.
-      let k = early_only file SaysRefusal (IsReplayed schedule) x o (record { said = h.output.said; only = h.output.only })
-      (λ bytes p y q e t s. h.none bytes p e t tt) in
-      record { said = k.said; only = k.only };
+  early = λ x o h. let k = early_only file (IsReplayed schedule) x o h in record { said = k.said; only = k.only };
   late = λ bytes y p o t h.
-      let k = late_only file SaysRefusal (IsReplayed schedule) bytes y p o t.text t.unsaid (record { said = h.said; only = h.only }) in
+      let k = late_only file (IsReplayed schedule) bytes y p o t (record { said = h.said; only = h.only }) in
       record { said = k.said; only = k.only };
 }
 
-pub checking : (file derivation : List ℕ) → Answering (check file derivation) file derivation IsUnjudged HasNoRegions IsChecked
+pub checking : (file derivation : List ℕ) → Answering (check file derivation) file derivation IsChecked
 checking file derivation = record {
   files = refl;
-  early = λ x o h.
-      let k = early_only file IsUnjudged (IsJudged derivation) x o (record { said = h.output.said; only = h.output.only })
-      (λ bytes p y q e t s. h.none bytes p e t s.0) in
-      record { said = k.said; only = k.only };
+  early = λ x o h. let k = early_only file (IsJudged derivation) x o h in record { said = k.said; only = k.only };
   late = λ bytes y p o t h.
-      let k = late_only file IsUnjudged (IsJudged derivation) bytes y p o t.text t.unsaid
-      (record { said = (t.kind, h.said); only = λ q s. h.only q s.1 }) in
+      let k = late_only file (IsJudged derivation) bytes y p o t (record { said = h.said; only = h.only }) in
       record { said = k.said; only = k.only };
 }
 
-module _ (told : Option Files) (t : Task) (file second : List ℕ) (IsEarly : List ℕ → Output → Type 0) (IsOfKind : PlainProgram → Type 0)
-    (IsLate : PlainProgram → List ℕ → Output → Type 0) (a : Answering t file second IsEarly IsOfKind IsLate) where
+module _ (told : Option Files) (t : Task) (file second : List ℕ) (IsLate : PlainProgram → List ℕ → Output → Type 0)
+    (a : Answering t file second IsLate) where
   -- without a program
   pub early_said : (before now : ℕ) (blames : Option (List ℕ)) (fetches fetches_now : Option ℕ) (x : Fetched) (o : Output)
       → IsFetched told before now blames file x → IsCounted fetches fetches_now
-      → IsSaidEarly IsEarly IsOfKind file x o
+      → IsSaidEarly file x o
       → IsSaid told (Some t) before now blames fetches fetches_now o
   early_said before now blames fetches fetches_now x o f n h = record {
     got = x ∷ [];
@@ -123,7 +112,7 @@ module _ (told : Option Files) (t : Task) (file second : List ℕ) (IsEarly : Li
   pub late_said : (later : Option Files) → later ≡ told → (before middle now : ℕ) (blamed blames : Option (List ℕ))
       (i j k : Option ℕ) (x y : Fetched) (bytes : List ℕ) (p : PlainProgram)
       (r : Result code.Output AllocError) → before ≤ middle → IsFetched told before middle blamed file x → IsCounted i j
-      → x ≡ held bytes → IsOnlyText IsEarly IsOfKind bytes p
+      → x ≡ held bytes → IsOnlyTextOf bytes p
       → IsFetched later middle now blames second y → IsCounted j k
       → IfOk r (λ o. IsOnly (After second y (IsLate p)) (output_view o))
       → IfOk r (λ o. IsSaid told (Some t) before now blames i k (output_view o))
@@ -140,24 +129,24 @@ module _ (told : Option Files) (t : Task) (file second : List ℕ) (IsEarly : Li
       }
 
 -- what is known of a program's file that was read
-module _ (IsEarly : List ℕ → Output → Type 0) (IsOfKind : PlainProgram → Type 0) (name : List ℕ) where
-  pub begins_held : (bytes : List ℕ) (r : Result Begun AllocError) → IfOk r (Begins IsEarly IsOfKind bytes)
-      → IfOk r (BeginsAfter IsEarly IsOfKind name (held bytes))
+module _ (name : List ℕ) where
+  pub begins_held : (bytes : List ℕ) (r : Result Begun AllocError) → IfOk r (Begins bytes)
+      → IfOk r (BeginsAfter name (held bytes))
   begins_held bytes (Ok (begun.Program p)) h = (bytes, refl, h)
   begins_held bytes (Ok (begun.Said o)) h = record {
     output = record { said = h.output.said; only = h.output.only };
-    none = λ b p e t k. h.none p (subst (λ u. IsTextOf u p) (sym (same_bytes bytes b e)) t) k;
+    none = λ b p e t. h.none p (subst (λ u. IsTextOf u p) (sym (same_bytes bytes b e)) t);
   }
   begins_held bytes (Err a) h = tt
 
-  pub begins_unread : IsSaidEarly IsEarly IsOfKind name unread (unreadable_output name)
+  pub begins_unread : IsSaidEarly name unread (unreadable_output name)
   begins_unread = record {
     output = record { said = refl; only = λ q e. sym e };
-    none = λ b p e t k. cc;
+    none = λ b p e t. cc;
   }
 
-  pub begins_long : IsSaidEarly IsEarly IsOfKind name long long_output
+  pub begins_long : IsSaidEarly name long long_output
   begins_long = record {
     output = record { said = refl; only = λ q e. sym e };
-    none = λ b p e t k. cc;
+    none = λ b p e t. cc;
   }

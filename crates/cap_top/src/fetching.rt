@@ -1,10 +1,9 @@
 //! A task's files, read in the order of its words, and what is then answered.
 ghost use Rattle.std.specs.Prelude.{◌≡◌, ◌≤◌, IfOk};
 ghost use Rattle.cap_prog.specs.Views.{program_view};
-ghost use Rattle.cap_top_commands.specs.Answers.{After, IsVerified, IsDerived, IsUnjudged, IsShown};
-ghost use Rattle.cap_top_commands.specs.Answers.{SaysRefusal, IsPlayed, IsOnly};
+ghost use Rattle.cap_top_commands.specs.Answers.{After, IsVerified, IsDerived, IsShown};
+ghost use Rattle.cap_top_commands.specs.Answers.{IsPlayed, IsOnly};
 ghost use Rattle.cap_top_commands.specs.Derivations.{IsChecked};
-ghost use Rattle.cap_top_commands.specs.Replaying.{IsAny, HasNoRegions};
 ghost use Rattle.cap_top_commands.specs.Views.{output_view};
 ghost use Rattle.cap_io.specs.Outside.{IsCounted};
 ghost use Rattle.cap_top.specs.Reads.{IsFetched};
@@ -12,9 +11,7 @@ ghost use Rattle.cap_top.specs.Views.{fetched_view, BeginsAfter};
 
 use cap_io::{FetchError, Shelf};
 use cap_prog::Program;
-use cap_top_commands::{
-    Begun, Output, begin_check, begin_replay, check, derive, play, show, verify,
-};
+use cap_top_commands::{Begun, Output, begin, check, derive, play, show, verify};
 use std::alloc::{AllocError, Global};
 
 /// What a file gave: its bytes, nothing, or more bytes than a file may have.
@@ -75,16 +72,16 @@ pub(crate) fn derive_file<'a>(
     }
 }
 
-/// What is known once the file of a program whose derivation is judged gave this.
-pub(crate) fn begin_checked_file<'a>(
+/// What is known once the file of a program gave this, of which a second file is answered.
+pub(crate) fn begin_file<'a>(
     alloc: Global,
     name: &'a str,
     file: Fetched,
 ) -> Result<Begun<'a>, AllocError>
-    ensures { IfOk result (BeginsAfter IsUnjudged HasNoRegions name.now (fetched_view file)) }
+    ensures { IfOk result (BeginsAfter name.now (fetched_view file)) }
 {
     match file {
-        Fetched::Held(bytes) => begin_check(alloc, bytes.as_slice()),
+        Fetched::Held(bytes) => begin(alloc, bytes.as_slice()),
         Fetched::Unread => Ok(Begun::Said(Output::Unreadable(name))),
         Fetched::Long => Ok(Begun::Said(Output::TooLong)),
     }
@@ -121,21 +118,6 @@ pub(crate) fn show_file<'a>(
         Fetched::Held(bytes) => show(alloc, bytes.as_slice()),
         Fetched::Unread => Ok(Output::Unreadable(name)),
         Fetched::Long => Ok(Output::TooLong),
-    }
-}
-
-/// What is known once the file of a program to be replayed gave this.
-pub(crate) fn begin_file<'a>(
-    alloc: Global,
-    name: &'a str,
-    file: Fetched,
-) -> Result<Begun<'a>, AllocError>
-    ensures { IfOk result (BeginsAfter SaysRefusal IsAny name.now (fetched_view file)) }
-{
-    match file {
-        Fetched::Held(bytes) => begin_replay(alloc, bytes.as_slice()),
-        Fetched::Unread => Ok(Begun::Said(Output::Unreadable(name))),
-        Fetched::Long => Ok(Begun::Said(Output::TooLong)),
     }
 }
 

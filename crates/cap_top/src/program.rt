@@ -11,8 +11,7 @@ ghost use Rattle.cap_top.specs.Promise.{HoldAccepted, HoldsTree, Refuses, ReadFa
 ghost use Rattle.cap_top.specs.Run.{IsSaid, IsRun};
 
 use crate::fetching::{
-    begin_checked_file, begin_file, check_file, derive_file, fetch, play_file, show_file,
-    verify_file,
+    begin_file, check_file, derive_file, fetch, play_file, show_file, verify_file,
 };
 use cap_io::{Shelf, Sink};
 use cap_top_commands::{
@@ -42,7 +41,7 @@ fn replay_files<'a, S: Shelf>(
 }
 
 /// What is said of a derivation: the program is read first, and its derivation only where that is
-/// one that can be judged.
+/// one.
 fn check_files<'a, S: Shelf>(
     alloc: Global,
     shelf: &mut S,
@@ -54,7 +53,7 @@ fn check_files<'a, S: Shelf>(
         (S.fetches shelf.old) (S.fetches shelf.new) (output_view o)) }
 {
     let fetched = fetch(shelf, file)?;
-    match begin_checked_file(alloc, file, fetched)? {
+    match begin_file(alloc, file, fetched)? {
         Begun::Said(output) => Ok(output),
         Begun::Program(program) => {
             let fetched = fetch(shelf, derivation)?;

@@ -14,12 +14,13 @@ use Rattle.cap_deriv_write.specs.Written.{derivation_text}
 use Rattle.cap_top_reading.specs.Refused.{IsTextOf}
 use Rattle.cap_top_report.specs.Report.{is_good}
 use Rattle.cap_top_report.specs.Found.{found_trees}
-use Rattle.cap_top_report.specs.Laws.{FoundAreValid, GoodHaveNoRegions}
+use Rattle.cap_top_report.specs.Laws.{FoundAreValid}
 use Rattle.cap_top_commands.specs.declared.status.Status.TheVariants.{Good, Bad, Refused}
 use Rattle.cap_top_commands.specs.Answers.{IsOnly, IsAccepted, AcceptedAreSafe, DerivedAreAccepted}
 use Rattle.cap_top_commands.specs.Derivations.{IsChecked}
 use Rattle.cap_top_commands.specs.Output.{Output, report_output, report_status, long_derivation_output, bad_derivation_output, judged_output, judged_status}
 use Rattle.cap_top_commands.proofs.Following.{judged_only}
+use Rattle.cap_top_commands.proofs.InOrder.{text-ascends}
 use Rattle.cap_top_commands.proofs.Good.{TextsAreFormed, same_status}
 
 -- ---- one preorder
@@ -52,9 +53,9 @@ LinesAreRead =
 -- ---- what is accepted is safe
 
 accepted_trees : JudgedAreValid → DerivationsAreSound → ReadingsAreLines → TextsAreFormed → (bytes lines : List ℕ) (p : PlainProgram)
-    → IsTextOf bytes p → p.regions ≡ [] → (trees : ℕ) (cs : List PlainChoice) (n : ℕ)
+    → IsTextOf bytes p → (trees : ℕ) (cs : List PlainChoice) (n : ℕ)
     → told_by_bytes lines ≡ opening_told trees (choices_told cs all_told) → JudgedOk p trees cs n → IsAccepted bytes lines
-accepted_trees judged sound readings formed bytes lines p t none trees cs n told j =
+accepted_trees judged sound readings formed bytes lines p t trees cs n told j =
     let has : HasTrees p trees cs = judged.sound p trees n cs j in
     record {
       tree = t.tree;
@@ -65,16 +66,16 @@ accepted_trees judged sound readings formed bytes lines p t none trees cs n told
       told = subst (λ k. AreLines k (preorder has.0) lines) (sym has.2)
           (subst (λ ds. AreLines trees ds lines) (sym has.3) (readings trees cs lines told));
       valid = has.1;
-      safe = sound p has.0 (formed bytes p t) none has.1;
+      safe = sound p has.0 (formed bytes p t) has.1;
     }
 
 pub accepted_safe : JudgedAreValid → DerivationsAreSound → ReadingsAreLines → TextsAreFormed → AcceptedAreSafe
-accepted_safe judged sound readings formed bytes lines p o t none (inl k) e =
+accepted_safe judged sound readings formed bytes lines p o t (inl k) e =
     let f : Refused ≡ Good = sym (same_status o (bad_derivation_output k.error) k.whole) ∙ e in absurd cc
-accepted_safe judged sound readings formed bytes lines p o t none (inr k) e = by k.answer k.judged (sym (same_status o (judged_output k.answer) k.whole) ∙ e)
+accepted_safe judged sound readings formed bytes lines p o t (inr k) e = by k.answer k.judged (sym (same_status o (judged_output k.answer) k.whole) ∙ e)
   where
     by : (r : Result ℕ CheckError) → Judged p k.trees k.choices r → judged_status r ≡ Good → IsAccepted bytes lines
-    by (Ok n) j f = accepted_trees judged sound readings formed bytes lines p t none k.trees k.choices n k.told j
+    by (Ok n) j f = accepted_trees judged sound readings formed bytes lines p t k.trees k.choices n k.told j
     by (Err x) j f = let g : Bad ≡ Good = f in absurd cc
 
 -- ---- what was derived is accepted
@@ -83,21 +84,20 @@ status-bad : (b : Bool) → b ≡ false → report_status b ≡ Bad
 status-bad false e = refl
 status-bad true e = absurd cc
 
-pub derived_accepted : FoundAreValid → GoodHaveNoRegions → JudgedAreValid → JudgementsAreOne → LinesAreRead → DerivedAreAccepted
-derived_accepted valid regions judged one read budget p o (inl s) e =
+pub derived_accepted : FoundAreValid → JudgedAreValid → JudgementsAreOne → LinesAreRead → DerivedAreAccepted
+derived_accepted valid judged one read budget bytes p o t (inl s) e =
     let f : Bad ≡ Good = sym (status-bad (is_good p budget) s.bad) ∙ (sym (same_status o (report_output (is_good p budget) _) s.report) ∙ e) in absurd cc
-derived_accepted valid regions judged one read budget p o (inr (inl s)) e =
+derived_accepted valid judged one read budget bytes p o t (inr (inl s)) e =
     let f : Bad ≡ Good = sym (same_status o long_derivation_output s.whole) ∙ e in absurd cc
-derived_accepted valid regions judged one read budget p o (inr (inr s)) e =
+derived_accepted valid judged one read budget bytes p o t (inr (inr s)) e =
     let trees = found_trees p budget in
     let cs = preorder trees in
     let text = derivation_text trees in
     let lines : AreLines (length trees) cs text = subst (λ ds. AreLines (length trees) ds text) (same-preorder trees) s.lines in
     let few : length cs ≤ most_nodes = subst (λ ds. length ds ≤ most_nodes) (same-preorder trees) s.short.nodes in
-    let has : HasTrees p (length trees) cs = (trees, valid p budget s.good, refl, refl) in
+    let has : HasTrees p (length trees) cs = (trees, valid p budget (text-ascends bytes p t) s.good, refl, refl) in
     let k = judged_only p text one (length trees) cs (Ok (length cs)) (read (length trees) cs text lines few) (judged.complete p (length trees) cs has) in
     record {
-      regions = regions p budget s.good;
       nodes = length cs;
       checked = subst (λ t. IsOnly (IsChecked p t) (judged_output (Ok (length cs)))) (sym (ap (λ (q : Output). q.text) s.whole))
           (record { said = k.said; only = k.only });

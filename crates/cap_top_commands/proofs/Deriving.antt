@@ -15,6 +15,7 @@ use Rattle.cap_deriv_write.specs.Written.{derivation_text}
 use Rattle.cap_deriv_laws.specs.Laws.{ValidHaveNoZeros}
 use Rattle.cap_top_report.specs.declared.report.Report.{Report}
 use Rattle.cap_top_report.specs.Report.{is_good}
+use Rattle.cap_rules_ascending.specs.Ascending.{ProgramAscends}
 use Rattle.cap_top_report.specs.Found.{found_trees}
 use Rattle.cap_top_report.specs.Laws.{FoundAreValid}
 use Rattle.cap_top_report.specs.Views.{IsLeftBy, IsWhollyProvedBy}
@@ -54,11 +55,11 @@ module _ (budget : ℕ) (p : PlainProgram) where
         by q (inr (inl s)) = sym s.whole
         by q (inr (inr s)) = absurd (n (subst HaveText (sym h.trees) s.short))
 
-    pub says_lines : FoundAreValid → ValidHaveNoZeros → (text : List ℕ) → IsTextOfTrees (bundle_view b) text
+    pub says_lines : FoundAreValid → ProgramAscends p → ValidHaveNoZeros → (text : List ℕ) → IsTextOfTrees (bundle_view b) text
         → IsOnly (IsDerivation budget p) (derivation_output text)
-    says_lines valid zeros text t =
+    says_lines valid ordered zeros text t =
         let lines : DerivationLines (bundle_view b) (derivation_text (bundle_view b)) =
-        t.lines (subst HaveNoZeros (sym h.trees) (zeros p (found_trees p budget) (valid p budget h.good))) in
+        t.lines (subst HaveNoZeros (sym h.trees) (zeros p (found_trees p budget) (valid p budget ordered h.good))) in
         record {
           said = inr (inr (record {
             good = h.good;

@@ -1,5 +1,5 @@
 -- A report that is good is one of a safe program: the trees that were found are valid, and a program
--- without region types all units of which have valid derivations is safe.
+-- all units of which have valid derivations is safe.
 use Rattle.std.proofs.Common.{◌≡◌, ℕ, inl, inr, Bool, true, false, List, Result, Ok, Err, IfOk, refl, ap, sym, ◌∙◌}
 use Rattle.std.specs.declared.alloc.AllocError.{AllocError}
 use Rattle.cap_prog.specs.Program.{PlainProgram}
@@ -8,12 +8,13 @@ use Rattle.cap_account.specs.Law.{DerivationsAreSound}
 use Rattle.cap_top_reading.specs.Refused.{IsTextOf}
 use Rattle.cap_top_report.specs.Report.{report_text, is_good}
 use Rattle.cap_top_report.specs.Found.{found_trees}
-use Rattle.cap_top_report.specs.Laws.{FoundAreValid, GoodHaveNoRegions}
+use Rattle.cap_top_report.specs.Laws.{FoundAreValid}
 use Rattle.cap_top_commands.specs.declared.output.Output as code
 use Rattle.cap_top_commands.specs.declared.status.Status.TheVariants.{Good, Refused}
 use Rattle.cap_top_commands.specs.Views.{output_view}
 use Rattle.cap_top_commands.specs.Output.{Output, refusal_output, report_output, report_status}
 use Rattle.cap_top_commands.specs.Answers.{IsVerified, IsOnly, IsGood, GoodAnswersAreSafe}
+use Rattle.cap_top_commands.proofs.InOrder.{text-ascends}
 
 -- the programs of texts are well-formed
 abbrev pub TextsAreFormed : Type 0
@@ -23,15 +24,15 @@ TextsAreFormed = (bytes : List ℕ) (p : PlainProgram) → IsTextOf bytes p → 
 pub same_status : (o p : Output) → o ≡ p → o.status ≡ p.status
 same_status o p e = ap (λ (q : Output). q.status) e
 
-good_report : FoundAreValid → GoodHaveNoRegions → DerivationsAreSound → TextsAreFormed → (n : ℕ) (bytes : List ℕ) (p : PlainProgram)
+good_report : FoundAreValid → DerivationsAreSound → TextsAreFormed → (n : ℕ) (bytes : List ℕ) (p : PlainProgram)
     → IsTextOf bytes p → is_good p n ≡ true → IsGood n bytes
-good_report valid regions sound formed n bytes p t proved = record {
+good_report valid sound formed n bytes p t proved = record {
   tree = t.tree;
   spelled = t.spelled;
   program = p;
   stands = t.stands;
   proved = proved;
-  safe = sound p (found_trees p n) (formed bytes p t) (regions p n proved) (valid p n proved);
+  safe = sound p (found_trees p n) (formed bytes p t) (valid p n (text-ascends bytes p t) proved);
 }
 
 status-good : (b : Bool) → report_status b ≡ Good → b ≡ true
@@ -39,11 +40,11 @@ status-good true e = refl
 status-good false e = absurd cc
 
 -- what `verify` says with a good status
-pub good_answer : FoundAreValid → GoodHaveNoRegions → DerivationsAreSound → TextsAreFormed → GoodAnswersAreSafe
-good_answer valid regions sound formed n bytes o (inl c) e =
+pub good_answer : FoundAreValid → DerivationsAreSound → TextsAreFormed → GoodAnswersAreSafe
+good_answer valid sound formed n bytes o (inl c) e =
     let f : Refused ≡ Good = sym (same_status o (refusal_output c.cause) c.whole) ∙ e in absurd cc
-good_answer valid regions sound formed n bytes o (inr s) e =
-    good_report valid regions sound formed n bytes s.thing s.is_so
+good_answer valid sound formed n bytes o (inr s) e =
+    good_report valid sound formed n bytes s.thing s.is_so
     (status-good (is_good s.thing n) (sym (same_status o (report_output (is_good s.thing n) (report_text s.thing n)) s.said) ∙ e))
 
 pub good_result : GoodAnswersAreSafe → (n : ℕ) (bytes : List ℕ) (r : Result code.Output AllocError)

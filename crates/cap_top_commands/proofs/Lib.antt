@@ -1,5 +1,6 @@
 mod Answering
 mod Replays
+mod InOrder
 mod Good
 mod Following
 mod Deriving

@@ -1,13 +1,11 @@
--- What is said of a replay, and nothing else.
-use Rattle.std.proofs.Common.{arith, ◌≡◌, ◌≢◌, ◌==◌, true, false, map, [], ◌∷◌, ℕ, inl, inr, List, length, slice_get, Result, Ok, Err, IfOk, refl, sym, ap, ◌∙◌, subst}
-use Rattle.std.proofs.lemmas.Bool.Decides.{nat_tests}
+-- What is said of a program's file, and of a replay, and nothing else.
+use Rattle.std.proofs.Common.{◌≡◌, ℕ, inl, inr, List, length, slice_get, Result, Ok, Err, IfOk, refl, sym, ap, ◌∙◌, subst}
 use Rattle.std.specs.Prelude.{IsSomeAnd}
 use Rattle.std.specs.FinMap.{from_entries}
 use Rattle.std.specs.declared.alloc.AllocError.{AllocError}
 use Rattle.cap_prog.specs.declared.program.Program.{Program}
 use Rattle.cap_prog.specs.Program.{PlainProgram}
-use Rattle.cap_prog.specs.declared.region.RegionType.{RegionType}
-use Rattle.cap_prog.specs.Views.{region_view, program_view}
+use Rattle.cap_prog.specs.Views.{program_view}
 use Rattle.cap_machine.specs.Machine.{start}
 use Rattle.cap_top_reading.specs.declared.refusal.Refusal.{Refusal}
 use Rattle.cap_top_reading.specs.Reading.{FindsProgram}
@@ -20,87 +18,34 @@ use Rattle.cap_replay.specs.declared.reading.ScheduleError.TheVariants.{BadLine}
 use Rattle.cap_replay.specs.Reading.{Progress, read, IsReadAs}
 use Rattle.cap_replay.specs.RunText.{RunText, run_from, run_text, played_view}
 use Rattle.cap_top_commands.specs.declared.output.Output as code
-use Rattle.cap_top_commands.specs.Answers.{SaysRefusal, IsUnjudged, IsPlayed, IsPlayedAs, IsBadSchedule, TakesArguments, run_along, IsOnly, IsOnlyTextOf}
-use Rattle.cap_top_commands.specs.Output.{Output, refusal_output, later_output, schedule_output, run_output}
-use Rattle.cap_top_commands.specs.Replaying.{IsOnlyEarly, IsOnlyText, IsAny, HasNoRegions}
+use Rattle.cap_top_commands.specs.Answers.{IsPlayed, IsPlayedAs, IsBadSchedule, TakesArguments, run_along, IsOnly, IsOnlyTextOf}
+use Rattle.cap_top_commands.specs.Output.{Output, refusal_output, schedule_output, run_output}
+use Rattle.cap_top_commands.specs.Beginning.{IsOnlyRefusal}
 use Rattle.cap_top_commands.specs.Views.{output_view, IsCause}
 use Rattle.cap_top_commands.proofs.Answering.{AnswersRefusal, caused_only, caused_none}
 
 -- ---- the program
 
-begins_program : (bytes : List ℕ) (p : Program) → FindsProgram bytes (Ok p) → IsOnlyTextOf bytes (program_view p)
+pub begins_program : (bytes : List ℕ) (p : Program) → FindsProgram bytes (Ok p) → IsOnlyTextOf bytes (program_view p)
 begins_program bytes p f = record {
   text_of_it = f.found;
   only = λ q h. f.only_found q h;
   unrefused = λ r h. f.only_caused r h;
 }
 
-pub begins_replay : (bytes : List ℕ) (p : Program) → FindsProgram bytes (Ok p) → IsOnlyText SaysRefusal IsAny bytes (program_view p)
-begins_replay bytes p f =
-    let t = begins_program bytes p f in
-    record {
-      text = record { text_of_it = t.text_of_it; only = t.only; unrefused = t.unrefused };
-      kind = tt;
-      unsaid = λ o s. t.unrefused s.cause s.caused;
-    }
-
-begins_refused : (bytes : List ℕ) (e : Refusal) → IsCause e → FindsProgram bytes (Err e) → IsOnlyEarly SaysRefusal IsAny bytes (refusal_output e)
+begins_refused : (bytes : List ℕ) (e : Refusal) → IsCause e → FindsProgram bytes (Err e) → IsOnlyRefusal bytes (refusal_output e)
 begins_refused bytes e c f =
     let said = caused_only program_view (IsTextOf bytes) (IsRefused bytes) e c f in
     record {
       output = record { said = said.said; only = said.only };
-      none = λ p t k. caused_none program_view (IsTextOf bytes) (IsRefused bytes) e c f p t;
+      none = λ p t. caused_none program_view (IsTextOf bytes) (IsRefused bytes) e c f p t;
     }
 
 pub begins_said : (bytes : List ℕ) (e : Refusal) (r : Result code.Output AllocError)
     → FindsProgram bytes (Err e) → AnswersRefusal e r
-    → IfOk r (λ o. IsOnlyEarly SaysRefusal IsAny bytes (output_view o))
-begins_said bytes e (Ok o) f h = subst (IsOnlyEarly SaysRefusal IsAny bytes) (sym h.0) (begins_refused bytes e h.1 f)
+    → IfOk r (λ o. IsOnlyRefusal bytes (output_view o))
+begins_said bytes e (Ok o) f h = subst (IsOnlyRefusal bytes) (sym h.0) (begins_refused bytes e h.1 f)
 begins_said bytes e (Err a) f h = tt
-
--- ---- the program whose derivation is judged
-
-pub no_regions : (ks : List RegionType) → (length ks == 0) ≡ true → map region_view ks ≡ []
-no_regions [] h = refl
-no_regions (k ∷ ks) h = absurd (let n : length (k ∷ ks) == 0 ≡ false = grind (arith, nat_tests) in let f : true ≡ false = sym h ∙ n in cc)
-
-pub some_regions : (ks : List RegionType) → (length ks == 0) ≡ false → map region_view ks ≢ []
-some_regions [] h = absurd (let f : true ≡ false = h in cc)
-some_regions (k ∷ ks) h = λ e. cc
-
-pub begins_checked : (bytes : List ℕ) (p : PlainProgram) → IsOnlyText SaysRefusal IsAny bytes p → p.regions ≡ [] → IsOnlyText IsUnjudged HasNoRegions bytes p
-begins_checked bytes p t e = record {
-  text = record { text_of_it = t.text.text_of_it; only = t.text.only; unrefused = t.text.unrefused };
-  kind = e;
-  unsaid = by;
-}
-  where
-    by : (o : Output) → IsUnjudged bytes o → ⊥
-    by o (inl c) = t.text.unrefused c.cause c.caused
-    by o (inr s) = s.said.regions (ap (λ (q : PlainProgram). q.regions) (sym (t.text.only s.thing s.is_so)) ∙ e)
-
-pub begins_later : (bytes : List ℕ) (p : PlainProgram) → IsOnlyText SaysRefusal IsAny bytes p → p.regions ≢ [] → IsOnlyEarly IsUnjudged HasNoRegions bytes later_output
-begins_later bytes p t n = record {
-  output = record {
-    said = inr (record { thing = p; is_so = t.text.text_of_it; said = record { regions = n; whole = refl } });
-    only = by;
-  };
-  none = λ q h k. n (ap (λ (r : PlainProgram). r.regions) (t.text.only q h) ∙ k);
-}
-  where
-    by : (q : Output) → IsUnjudged bytes q → later_output ≡ q
-    by q (inl c) = absurd (t.text.unrefused c.cause c.caused)
-    by q (inr s) = sym s.said.whole
-
-pub begins_unread : (bytes : List ℕ) (o : Output) → IsOnlyEarly SaysRefusal IsAny bytes o → IsOnlyEarly IsUnjudged HasNoRegions bytes o
-begins_unread bytes o h = record {
-  output = record { said = inl h.output.said; only = by };
-  none = λ p t k. h.none p t tt;
-}
-  where
-    by : (q : Output) → IsUnjudged bytes q → o ≡ q
-    by q (inl c) = h.output.only q c
-    by q (inr s) = absurd (h.none s.thing s.is_so tt)
 
 -- ---- the schedule
 

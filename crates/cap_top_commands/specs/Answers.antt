@@ -24,7 +24,7 @@ use Rattle.cap_top_report.specs.Report.{is_good}
 use Rattle.cap_top_commands.specs.declared.status.Status.TheVariants.{Good}
 use Rattle.cap_top_commands.specs.Task.{Task, verify, derive, check, show, replay}
 use Rattle.cap_top_commands.specs.Report.{IsReport}
-use Rattle.cap_top_commands.specs.Derivations.{IsDerivation, SaysLater, IsChecked}
+use Rattle.cap_top_commands.specs.Derivations.{IsDerivation, IsChecked}
 use Rattle.cap_top_commands.specs.Output.{Output, usage_output, unreadable_output, long_output, refusal_output, tree_output, schedule_output, run_output, judged_output}
 
 -- ---- by the bytes of a text
@@ -55,10 +55,6 @@ IsVerified budget bytes o = OfProgram bytes (IsReport budget) o
 
 abbrev pub IsDerived : ℕ → List ℕ → Output → Type 0
 IsDerived budget bytes o = OfProgram bytes (IsDerivation budget) o
-
--- the bytes are a program's text that is not judged yet, or they are refused
-abbrev pub IsUnjudged : List ℕ → Output → Type 0
-IsUnjudged bytes o = OfProgram bytes SaysLater o
 
 abbrev pub IsCanonical : ProgramTree → Output → Type 0
 IsCanonical t o = o ≡ tree_output (canonical_text t)
@@ -137,13 +133,12 @@ abbrev pub ByOne : List ℕ → (List ℕ → Output → Type 0) → List Fetche
 ByOne name IsSaid (x ∷ []) o = After name x IsSaid o
 ByOne name IsSaid _ o = ⊥
 
--- One file is read, whose bytes are answered early; or a second one too, as the first gave a
--- program's text, by which the second is answered.
-abbrev pub ByTwo : List ℕ → (List ℕ → Output → Type 0) → (PlainProgram → Fetched → Output → Type 0)
-    → List Fetched → Output → Type 0
-ByTwo name IsEarly IsLate (x ∷ []) o = After name x IsEarly o
-ByTwo name IsEarly IsLate (x ∷ (y ∷ [])) o = HoldsProgram x (λ p. IsLate p y) o
-ByTwo name IsEarly IsLate _ o = ⊥
+-- One file is read, whose bytes are refused; or a second one too, as the first gave a program's
+-- text, by which the second is answered.
+abbrev pub ByTwo : List ℕ → (PlainProgram → Fetched → Output → Type 0) → List Fetched → Output → Type 0
+ByTwo name IsSaid (x ∷ []) o = After name x SaysRefusal o
+ByTwo name IsSaid (x ∷ (y ∷ [])) o = HoldsProgram x (λ p. IsSaid p y) o
+ByTwo name IsSaid _ o = ⊥
 
 -- what is said once the schedule's file gave this
 abbrev pub IsReplayed : List ℕ → PlainProgram → Fetched → Output → Type 0
@@ -151,7 +146,7 @@ IsReplayed name p x o = After name x (IsPlayed p) o
 
 -- what is said once the derivation's file gave this
 abbrev pub IsJudged : List ℕ → PlainProgram → Fetched → Output → Type 0
-IsJudged name p x o = (p.regions ≡ []) × After name x (IsChecked p) o
+IsJudged name p x o = After name x (IsChecked p) o
 
 abbrev pub IsUsage : List Fetched → Output → Type 0
 IsUsage [] o = o ≡ usage_output
@@ -162,9 +157,9 @@ abbrev pub IsOutput : Option Task → List Fetched → Output → Type 0
 IsOutput None = IsUsage
 IsOutput (Some (verify file budget)) = ByOne file (IsVerified budget)
 IsOutput (Some (derive file budget)) = ByOne file (IsDerived budget)
-IsOutput (Some (check file derivation)) = ByTwo file IsUnjudged (IsJudged derivation)
+IsOutput (Some (check file derivation)) = ByTwo file (IsJudged derivation)
 IsOutput (Some (show file)) = ByOne file IsShown
-IsOutput (Some (replay file schedule)) = ByTwo file SaysRefusal (IsReplayed schedule)
+IsOutput (Some (replay file schedule)) = ByTwo file (IsReplayed schedule)
 
 -- it is so of this output, and of no other
 pub record IsOnly (IsSaid : Output → Type 0) (o : Output) : Type 0 where
@@ -194,8 +189,8 @@ pub record IsOnlyTextOf (bytes : List ℕ) (p : PlainProgram) : Type 0 where
 
 -- The bytes spell a tree that stands for a program, all of which is proved within a budget, and
 -- every run of it, of every length and along every schedule, from every state that meets the
--- precondition of `main`, makes no memory fault, fails no assertion and keeps the contracts of its
--- functions.
+-- precondition of `main`, makes no memory fault, fails no assertion, changes regions only by actions
+-- whose guards the stepping thread held, and keeps the contracts of its functions.
 pub record IsGood (budget : ℕ) (bytes : List ℕ) : Type 0 where
   pub tree : ProgramTree
   pub spelled : Spells bytes tree
@@ -220,20 +215,18 @@ pub record IsAccepted (bytes lines : List ℕ) : Type 0 where
 abbrev pub AcceptedAreSafe : Type 0
 AcceptedAreSafe =
     (bytes lines : List ℕ) (p : PlainProgram) (o : Output) →
-    IsTextOf bytes p → p.regions ≡ [] → IsChecked p lines o → o.status ≡ Good →
-    IsAccepted bytes lines
+    IsTextOf bytes p → IsChecked p lines o → o.status ≡ Good → IsAccepted bytes lines
 
 -- `check` says of these lines, and of the program, that they are accepted, and nothing else
 pub record AreAccepted (p : PlainProgram) (lines : List ℕ) : Type 0 where
-  pub regions : p.regions ≡ []
   pub nodes : ℕ
   pub checked : IsOnly (IsChecked p lines) (judged_output (Ok nodes))
 
--- what `derive` says with a good status is accepted by `check`, of the same program
+-- what `derive` says of a text's program with a good status is accepted by `check`, of that program
 abbrev pub DerivedAreAccepted : Type 0
 DerivedAreAccepted =
-    (budget : ℕ) (p : PlainProgram) (o : Output) →
-    IsDerivation budget p o → o.status ≡ Good → AreAccepted p o.text
+    (budget : ℕ) (bytes : List ℕ) (p : PlainProgram) (o : Output) →
+    IsTextOf bytes p → IsDerivation budget p o → o.status ≡ Good → AreAccepted p o.text
 
 -- what `verify` says with a good status is said of the text of a safe program
 abbrev pub GoodAnswersAreSafe : Type 0

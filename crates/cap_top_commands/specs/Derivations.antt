@@ -1,5 +1,5 @@
 -- What is said of a program's derivation: the lines that are written for it, and how lines are judged.
-use Rattle.std.specs.Prelude.{◌≡◌, ◌≢◌, ◌⊎◌, ℕ, ◌≤◌, ◌<◌, ◌^◌, true, false, List, [], length, Option, Result}
+use Rattle.std.specs.Prelude.{◌≡◌, ◌⊎◌, ℕ, ◌≤◌, ◌<◌, ◌^◌, true, false, List, length, Option, Result}
 use Rattle.cap_prog.specs.Program.{PlainProgram}
 use Rattle.cap_goal_spec.specs.Choices.{PlainChoice, PlainTree}
 use Rattle.cap_deriv.specs.Told.{told_by_bytes, opening_told, choices_told, all_told, bad_told, unended_told, too_many_told, most_nodes}
@@ -13,7 +13,7 @@ use Rattle.cap_kernel_check.specs.declared.error.CheckError.{CheckError}
 use Rattle.cap_kernel_check.specs.Judges.{Judged}
 use Rattle.cap_top_report.specs.Report.{is_good}
 use Rattle.cap_top_report.specs.Found.{found_trees}
-use Rattle.cap_top_commands.specs.Output.{Output, derivation_output, long_derivation_output, bad_derivation_output, later_output, judged_output}
+use Rattle.cap_top_commands.specs.Output.{Output, derivation_output, long_derivation_output, bad_derivation_output, judged_output}
 use Rattle.cap_top_commands.specs.Report.{IsReport}
 
 -- ---- the lines that are written
@@ -51,11 +51,6 @@ abbrev pub IsDerivation : ℕ → PlainProgram → Output → Type 0
 IsDerivation budget p o = SaysReport budget p o ⊎ (SaysTooLong budget p o ⊎ SaysLines budget p o)
 
 -- ---- the lines that are judged
-
--- a program with a region type is not judged yet
-pub record SaysLater (p : PlainProgram) (o : Output) : Type 0 where
-  pub regions : p.regions ≢ []
-  pub whole : o ≡ later_output
 
 -- the bytes are no lines of a derivation
 abbrev pub IsBadDerivation : List ℕ → DerivError → Type 0

@@ -6,4 +6,4 @@ pub mod Derivations
 pub mod Deriving
 pub mod Answers
 pub mod Views
-pub mod Replaying
+pub mod Beginning

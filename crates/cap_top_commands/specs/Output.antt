@@ -71,9 +71,6 @@ derivation_line deriv.OutOfMemory = []
 abbrev pub bad_derivation_output : DerivError → Output
 bad_derivation_output e = record { status = Refused; text = derivation_line e }
 
-abbrev pub later_output : Output
-later_output = record { status = Bad; text = codes "later\n" }
-
 abbrev pub judged_status : Result ℕ CheckError → Status
 judged_status (Ok n) = Good
 judged_status (Err e) = Bad

@@ -2,8 +2,8 @@
 use Rattle.cap_top_reading.specs.declared.refusal.Refusal.{Refusal}
 use Rattle.cap_top_reading.specs.declared.refusal.Refusal.TheVariants.{OutOfMemory}
 use Rattle.cap_top_commands.specs.declared.output.Output as code
-use Rattle.cap_top_commands.specs.declared.output.Output.TheVariants.{Usage, Unreadable, TooLong, Refused, Reported, Derived, DerivedTooLong, BadDerivation, Later, Judged, Shown, BadSchedule, Played}
-use Rattle.cap_top_commands.specs.Output.{Output, usage_output, unreadable_output, long_output, refusal_output, report_output, derivation_output, long_derivation_output, bad_derivation_output, later_output, judged_output, tree_output, schedule_output, run_output}
+use Rattle.cap_top_commands.specs.declared.output.Output.TheVariants.{Usage, Unreadable, TooLong, Refused, Reported, Derived, DerivedTooLong, BadDerivation, Judged, Shown, BadSchedule, Played}
+use Rattle.cap_top_commands.specs.Output.{Output, usage_output, unreadable_output, long_output, refusal_output, report_output, derivation_output, long_derivation_output, bad_derivation_output, judged_output, tree_output, schedule_output, run_output}
 
 abbrev pub output_view : code.Output → Output
 output_view Usage = usage_output
@@ -14,7 +14,6 @@ output_view (Reported r) = report_output r.good r.text.items
 output_view (Derived text) = derivation_output text.items
 output_view DerivedTooLong = long_derivation_output
 output_view (BadDerivation e) = bad_derivation_output e
-output_view Later = later_output
 output_view (Judged r) = judged_output r
 output_view (Shown text) = tree_output text.items
 output_view (BadSchedule e) = schedule_output e

@@ -8,33 +8,14 @@ ghost use Rattle.cap_kernel_check.specs.Judges.{JudgesNext};
 ghost use Rattle.cap_kernel_check.specs.JudgeViews.{judge_view};
 ghost use Rattle.cap_top_commands.specs.Answers.{IsOnly};
 ghost use Rattle.cap_top_commands.specs.Derivations.{IsChecked};
-ghost use Rattle.cap_top_commands.specs.Replaying.{BeginsCheck};
 ghost use Rattle.cap_top_commands.specs.Views.{output_view};
 
 use crate::output::Output;
-use crate::replaying::{Begun, begin_replay};
 use cap_deriv::{Cursor, DerivError};
 use cap_goal::Choice;
 use cap_kernel_check::{Judge, judgements_are_one};
 use cap_prog::Program;
 use std::alloc::{AllocError, Global};
-
-/// Reads the program whose derivation is judged, which has no region types. The only error is want
-/// of memory.
-pub fn begin_check<'a>(alloc: Global, bytes: &[u8]) -> Result<Begun<'a>, AllocError>
-    ensures { IfOk result (BeginsCheck bytes.now) }
-{
-    match begin_replay(alloc, bytes)? {
-        Begun::Program(program) => {
-            if program.regions().is_empty() {
-                Ok(Begun::Program(program))
-            } else {
-                Ok(Begun::Said(Output::Later))
-            }
-        }
-        Begun::Said(output) => Ok(Begun::Said(output)),
-    }
-}
 
 /// What is said of bytes that are no derivation's lines, unless for want of memory.
 fn bad_lines<'a>(error: DerivError) -> Result<Output<'a>, AllocError>
@@ -56,9 +37,9 @@ fn take(judge: &mut Judge<'_>, choice: Choice) -> Result<(), AllocError>
     judge.push(&choice)
 }
 
-/// What is said of a derivation of these bytes, of a program without region types. It is judged line
-/// by line, and no more is kept than what is owed after the lines so far. A bad line is refused
-/// wherever a node failed. The only error is want of memory.
+/// What is said of a derivation of these bytes, of a program. It is judged line by line, and no more
+/// is kept than what is owed after the lines so far. A bad line is refused wherever a node failed.
+/// The only error is want of memory.
 pub fn check<'a>(alloc: Global, program: &Program, bytes: &[u8]) -> Result<Output<'a>, AllocError>
     ensures { IfOk result (λ o.
         IsOnly (IsChecked (program_view program.now) bytes.now) (output_view o)) }

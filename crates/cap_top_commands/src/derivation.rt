@@ -1,6 +1,7 @@
 //! The derivation of a program, as lines.
 ghost use Rattle.std.specs.Prelude.{IfOk};
 ghost use Rattle.cap_prog.specs.Views.{program_view};
+ghost use Rattle.cap_rules_ascending.specs.Ascending.{ProgramAscends};
 ghost use Rattle.cap_goal.specs.Trees.{bundle_view};
 ghost use Rattle.cap_top_commands.specs.Answers.{IsDerived, IsOnly};
 ghost use Rattle.cap_top_commands.specs.Derivations.{IsDerivation};
@@ -37,12 +38,14 @@ fn text_of(alloc: Global, bundle: &Bundle) -> Result<Option<Vec<u8>>, AllocError
     Ok(Some(text))
 }
 
-/// What `derive` says of a program, each unit of which is searched within a budget of visits.
+/// What `derive` says of a program, each unit of which is searched within a budget of visits. The
+/// parts of its terms are in order, as those of a text's program are.
 fn derivation_of<'a>(
     alloc: Global,
     program: &Program,
     budget: u64,
 ) -> Result<Output<'a>, AllocError>
+    requires { ProgramAscends (program_view program.now) }
     ensures { IfOk result
         (λ o. IsOnly (IsDerivation budget (program_view program.now)) (output_view o)) }
 {

@@ -5,16 +5,14 @@ use cap_account::derivations_are_sound;
 use cap_deriv_write::readings_are_lines;
 use cap_kernel_check::{judged_are_valid, judgements_are_one};
 use cap_top_reading::programs_of_texts_are_well_formed;
-use cap_top_report::{found_trees_are_valid, good_programs_have_no_regions};
+use cap_top_report::found_trees_are_valid;
 
-/// A law: what `verify` says with a good status is said of the text of a program that is safe. (A
-/// region type and what uses one is not judged yet, so that such a program is never good.)
+/// A law: what `verify` says with a good status is said of the text of a program that is safe.
 pub fn good_answers_are_safe()
     ensures { GoodAnswersAreSafe }
 {
     derivations_are_sound();
     found_trees_are_valid();
-    good_programs_have_no_regions();
     programs_of_texts_are_well_formed();
 }
 
@@ -29,12 +27,12 @@ pub fn accepted_are_safe()
     programs_of_texts_are_well_formed();
 }
 
-/// A law: what `derive` says with a good status is accepted by `check` of the same program.
+/// A law: what `derive` says of a text's program with a good status is accepted by `check` of that
+/// program.
 pub fn derived_are_accepted()
     ensures { DerivedAreAccepted }
 {
     found_trees_are_valid();
-    good_programs_have_no_regions();
     judged_are_valid();
     judgements_are_one();
     readings_are_lines();

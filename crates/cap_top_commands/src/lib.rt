@@ -2,6 +2,7 @@
 #![tactic(auto)]
 
 mod answer;
+mod beginning;
 mod checking;
 mod derivation;
 mod laws;
@@ -11,10 +12,11 @@ mod status;
 mod task;
 
 pub use answer::{show, verify};
-pub use checking::{begin_check, check};
+pub use beginning::{Begun, begin};
+pub use checking::check;
 pub use derivation::derive;
 pub use laws::{accepted_are_safe, derived_are_accepted, good_answers_are_safe};
 pub use output::Output;
-pub use replaying::{Begun, begin_replay, play};
+pub use replaying::play;
 pub use status::Status;
 pub use task::Task;

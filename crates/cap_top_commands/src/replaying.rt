@@ -1,34 +1,13 @@
 //! What is answered to `replay`.
-ghost use Rattle.std.specs.Prelude.{IfOk, MatchResult, List, ℕ};
+ghost use Rattle.std.specs.Prelude.{IfOk};
 ghost use Rattle.cap_prog.specs.Views.{program_view};
 ghost use Rattle.cap_top_commands.specs.Answers.{IsPlayed, IsOnly};
-ghost use Rattle.cap_top_commands.specs.Replaying.{BeginsReplay};
 ghost use Rattle.cap_top_commands.specs.Views.{output_view};
 
-use crate::answer::refuse;
 use crate::output::Output;
 use cap_prog::Program;
 use cap_replay::{ScheduleError, fits, read_schedule, replay as run_along};
-use cap_top_reading::read_program;
 use std::alloc::{AllocError, Global};
-
-/// What is known once a program's file was read: the program, whose second file is read next, or
-/// what is said without one.
-#[derive(Drop)]
-pub enum Begun<'a> {
-    Program(Program),
-    Said(Output<'a>),
-}
-
-/// Reads the program whose run is replayed. The only error is want of memory.
-pub fn begin_replay<'a>(alloc: Global, bytes: &[u8]) -> Result<Begun<'a>, AllocError>
-    ensures { IfOk result (BeginsReplay bytes.now) }
-{
-    match read_program(alloc, bytes) {
-        Ok(program) => Ok(Begun::Program(program)),
-        Err(refusal) => Ok(Begun::Said(refuse(refusal)?)),
-    }
-}
 
 /// What is said of a schedule of these bytes: what the run along it writes, or why it is none. The
 /// only error is want of memory.

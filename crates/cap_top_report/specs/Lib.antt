@@ -1,4 +1,3 @@
-pub mod Units
 pub mod Texts
 pub mod Report
 pub mod Found

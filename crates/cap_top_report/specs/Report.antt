@@ -4,22 +4,21 @@ use Rattle.std.specs.Fmt.{decimal}
 use Rattle.cap_prog.specs.Program.{PlainProgram}
 use Rattle.cap_goal_spec.specs.Roots.{PlainUnit, units}
 use Rattle.cap_search_spec.specs.Starts.{empty_start}
-use Rattle.cap_search_spec.specs.Verdicts.{is_proved}
-use Rattle.cap_top_report.specs.Units.{UnitVerdict, searched, unit_verdict}
+use Rattle.cap_search_spec.specs.Verdicts.{PlainVerdict, is_proved, verdict}
 use Rattle.cap_top_report.specs.Texts.{unit_title, titled_line}
 
 abbrev pub unit_line : PlainProgram → ℕ → PlainUnit → List ℕ
-unit_line p budget u = titled_line (unit_title p u) (unit_verdict p budget u)
+unit_line p budget u = titled_line (unit_title p u) (verdict p u budget)
 
 -- ---- how many are proved
 
-abbrev pub once_proved : UnitVerdict → ℕ
-once_proved (searched (is_proved trees)) = 1
+abbrev pub once_proved : PlainVerdict → ℕ
+once_proved (is_proved trees) = 1
 once_proved _ = 0
 
 abbrev pub count_proved : PlainProgram → ℕ → List PlainUnit → ℕ
 count_proved p budget [] = 0
-count_proved p budget (u ∷ us) = once_proved (unit_verdict p budget u) + count_proved p budget us
+count_proved p budget (u ∷ us) = once_proved (verdict p u budget) + count_proved p budget us
 
 abbrev pub proved_count : PlainProgram → ℕ → ℕ
 proved_count p budget = count_proved p budget (units p)

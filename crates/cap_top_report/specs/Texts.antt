@@ -6,7 +6,6 @@ use Rattle.cap_prog.specs.Program.{PlainRegionType, PlainFunction, PlainProgram}
 use Rattle.cap_goal_spec.specs.Roots.{PlainUnit, region_unit, function_unit}
 use Rattle.cap_search_spec.specs.Leaves.{Need, lacks_fact, lacks_cell, lacks_region, lacks_guard, lacks_move, lacks_state, PlainObligation}
 use Rattle.cap_search_spec.specs.Verdicts.{PlainVerdict, is_proved, is_spent, is_deep, is_wide, is_rows, is_stuck}
-use Rattle.cap_top_report.specs.Units.{UnitVerdict, later, searched}
 
 abbrev pub need_word : Need → List ℕ
 need_word lacks_fact = codes "fact"
@@ -31,10 +30,6 @@ verdict_text (is_wide a b) =
 verdict_text is_rows = codes "rows 4096"
 verdict_text (is_stuck o) = obligation_text o
 
-abbrev pub unit_verdict_text : UnitVerdict → List ℕ
-unit_verdict_text later = codes "later"
-unit_verdict_text (searched v) = verdict_text v
-
 abbrev pub region_title : Option PlainRegionType → List ℕ
 region_title None = []
 region_title (Some k) = codes "region " ++ k.name
@@ -48,5 +43,5 @@ abbrev pub unit_title : PlainProgram → PlainUnit → List ℕ
 unit_title p (region_unit n) = region_title (slice_get p.regions n)
 unit_title p (function_unit n) = function_title (slice_get p.functions n)
 
-abbrev pub titled_line : List ℕ → UnitVerdict → List ℕ
-titled_line title v = title ++ (codes ": " ++ (unit_verdict_text v ++ codes "\n"))
+abbrev pub titled_line : List ℕ → PlainVerdict → List ℕ
+titled_line title v = title ++ (codes ": " ++ (verdict_text v ++ codes "\n"))

@@ -1,21 +1,13 @@
--- What contracts see of judgements, reports and conclusions.
+-- What contracts see of reports and conclusions.
 use Rattle.std.specs.Prelude.{◌≡◌, ℕ, true, false}
 use Rattle.cap_prog.specs.Program.{PlainProgram}
 use Rattle.cap_goal.specs.Trees.{bundle_view}
 use Rattle.cap_goal.specs.declared.choice.Bundle.{Bundle}
-use Rattle.cap_search.specs.Views.{verdict_view}
 use Rattle.cap_top_report.specs.declared.derive.Conclusion.{Conclusion}
 use Rattle.cap_top_report.specs.declared.derive.Conclusion.TheVariants.{Proved, Reported}
-use Rattle.cap_top_report.specs.declared.lines.Judgement.{Judgement}
-use Rattle.cap_top_report.specs.declared.lines.Judgement.TheVariants.{Later, Searched}
 use Rattle.cap_top_report.specs.declared.report.Report.{Report}
 use Rattle.cap_top_report.specs.Found.{found_trees}
-use Rattle.cap_top_report.specs.Units.{UnitVerdict, later, searched}
 use Rattle.cap_top_report.specs.Report.{report_text, is_good}
-
-abbrev pub judgement_view : Judgement → UnitVerdict
-judgement_view Later = later
-judgement_view (Searched v) = searched (verdict_view v)
 
 -- the report is that of the program, within a budget
 pub record IsReportOf (p : PlainProgram) (budget : ℕ) (r : Report) : Type 0 where

@@ -4,17 +4,17 @@ ghost use Rattle.std.specs.List.{AllByRecursion};
 ghost use Rattle.cap_prog.specs.Views.{program_view};
 ghost use Rattle.cap_goal.specs.Views.{unit_view};
 ghost use Rattle.cap_goal_roots.specs.Units.{HasUnit};
-ghost use Rattle.cap_search.specs.Views.{trees_seen};
+ghost use Rattle.cap_search.specs.Views.{trees_seen, verdict_view};
 ghost use Rattle.cap_top_report.specs.Found.{proof_trees, found_of};
 ghost use Rattle.cap_top_report.specs.Report.{unit_line, count_proved};
-ghost use Rattle.cap_top_report.specs.Views.{judgement_view, IsConclusionOf};
+ghost use Rattle.cap_top_report.specs.Views.{IsConclusionOf};
 
-use crate::lines::{Judgement, judge, once_proved, push_line};
+use crate::lines::{once_proved, push_line};
 use crate::report::{Report, finish};
 use crate::units::units;
 use cap_goal::{Bundle, Node, Unit};
 use cap_prog::Program;
-use cap_search::Verdict;
+use cap_search::{Verdict, search};
 use std::alloc::{AllocError, Global};
 
 /// What a search of all units comes to: the trees of all roots, where each unit is proved and the
@@ -26,19 +26,16 @@ pub enum Conclusion {
 }
 
 // The trees of a unit that is proved, and none of any other.
-fn into_trees(alloc: Global, judgement: Judgement) -> Vec<Option<Node>>
-    ensures { trees_seen result ≡ proof_trees (judgement_view judgement) }
+fn into_trees(alloc: Global, verdict: Verdict) -> Vec<Option<Node>>
+    ensures { trees_seen result ≡ proof_trees (verdict_view verdict) }
 {
-    match judgement {
-        Judgement::Searched(Verdict::Proved(trees)) => trees,
-        Judgement::Searched(
-            Verdict::Spent(_)
-            | Verdict::Deep
-            | Verdict::Wide(_, _)
-            | Verdict::Rows
-            | Verdict::Stuck(_),
-        )
-        | Judgement::Later => Vec::new(alloc),
+    match verdict {
+        Verdict::Proved(trees) => trees,
+        Verdict::Spent(_)
+        | Verdict::Deep
+        | Verdict::Wide(_, _)
+        | Verdict::Rows
+        | Verdict::Stuck(_) => Vec::new(alloc),
     }
 }
 
@@ -61,10 +58,10 @@ fn derive_units(
 {
     let mut proved = 0;
     for unit in units {
-        let judgement = judge(alloc, program, *unit, budget)?;
-        push_line(alloc, text, program, *unit, &judgement)?;
-        proved += once_proved(&judgement);
-        let mut found = into_trees(alloc, judgement);
+        let verdict = search(alloc, program, *unit, budget)?;
+        push_line(alloc, text, program, *unit, &verdict)?;
+        proved += once_proved(&verdict);
+        let mut found = into_trees(alloc, verdict);
         trees.append(&mut found)?;
     }
     Ok(proved)

@@ -9,5 +9,5 @@ mod report;
 mod units;
 
 pub use derive::{Conclusion, derive_on};
-pub use laws::{found_trees_are_valid, good_programs_have_no_regions};
+pub use laws::found_trees_are_valid;
 pub use report::{Report, report_on};

@@ -4,59 +4,29 @@ ghost use Rattle.cap_syntax.specs.Place.{place_text as text_of_place};
 ghost use Rattle.cap_prog.specs.Views.{program_view};
 ghost use Rattle.cap_goal.specs.Views.{unit_view};
 ghost use Rattle.cap_goal_roots.specs.Units.{HasUnit};
-ghost use Rattle.cap_search.specs.Views.{need_view, obligation_view};
-ghost use Rattle.cap_top_report.specs.Units.{unit_verdict};
+ghost use Rattle.cap_search.specs.Views.{need_view, obligation_view, verdict_view};
 ghost use Rattle.cap_top_report.specs.Texts.{need_word as word_of_need, obligation_text as text_of};
-ghost use Rattle.cap_top_report.specs.Texts.{unit_verdict_text, unit_title, titled_line};
-ghost use Rattle.cap_top_report.specs.Report.{unit_line, once_proved};
-ghost use Rattle.cap_top_report.specs.Views.{judgement_view};
+ghost use Rattle.cap_top_report.specs.Texts.{verdict_text as text_of_verdict};
+ghost use Rattle.cap_top_report.specs.Texts.{unit_title, titled_line};
+ghost use Rattle.cap_top_report.specs.Report.{once_proved};
 
 use cap_goal::Unit;
 use cap_prog::Program;
-use cap_search::{Need, Obligation, Verdict, search};
+use cap_search::{Need, Obligation, Verdict};
 use cap_syntax::Place;
-use cap_top_later::is_later;
 use std::alloc::{AllocError, Global};
 
-/// What is found of a unit: that it is not searched yet, or the verdict of its search.
-#[derive(Debug, Drop)]
-pub(crate) enum Judgement {
-    Later,
-    Searched(Verdict),
-}
-
-/// Searches a unit, within a budget of visits, unless it is not searched yet.
-pub(crate) fn judge(
-    alloc: Global,
-    program: &Program,
-    unit: Unit,
-    budget: u64,
-) -> Result<Judgement, AllocError>
-    requires { HasUnit (program_view program.now) (unit_view unit) }
-    ensures { IfOk result (λ j. judgement_view j
-        ≡ unit_verdict (program_view program.now) budget (unit_view unit)) }
+/// How often a unit with this verdict counts as proved.
+pub(crate) fn once_proved(verdict: &Verdict) -> usize
+    ensures { result ≡ once_proved (verdict_view verdict.now) }
 {
-    if is_later(program, unit) {
-        Ok(Judgement::Later)
-    } else {
-        Ok(Judgement::Searched(search(alloc, program, unit, budget)?))
-    }
-}
-
-/// How often a unit counts as proved.
-pub(crate) fn once_proved(judgement: &Judgement) -> usize
-    ensures { result ≡ once_proved (judgement_view judgement.now) }
-{
-    match judgement {
-        Judgement::Searched(Verdict::Proved(_)) => 1,
-        Judgement::Searched(
-            Verdict::Spent(_)
-            | Verdict::Deep
-            | Verdict::Wide(_, _)
-            | Verdict::Rows
-            | Verdict::Stuck(_),
-        )
-        | Judgement::Later => 0,
+    match verdict {
+        Verdict::Proved(_) => 1,
+        Verdict::Spent(_)
+        | Verdict::Deep
+        | Verdict::Wide(_, _)
+        | Verdict::Rows
+        | Verdict::Stuck(_) => 0,
     }
 }
 
@@ -91,20 +61,17 @@ fn obligation_text(alloc: Global, obligation: Obligation) -> Result<String, Allo
     Ok(text)
 }
 
-fn verdict_text(alloc: Global, judgement: &Judgement) -> Result<String, AllocError>
+fn verdict_text(alloc: Global, verdict: &Verdict) -> Result<String, AllocError>
     ensures { IfOk result
-        (λ text. string_bytes text ≡ unit_verdict_text (judgement_view judgement.now)) }
+        (λ text. string_bytes text ≡ text_of_verdict (verdict_view verdict.now)) }
 {
-    match judgement {
-        Judgement::Later => String::from_str(alloc, "later"),
-        Judgement::Searched(Verdict::Proved(_)) => String::from_str(alloc, "proved"),
-        Judgement::Searched(Verdict::Spent(budget)) => format!(in alloc; "spent {budget}"),
-        Judgement::Searched(Verdict::Deep) => String::from_str(alloc, "deep 1000"),
-        Judgement::Searched(Verdict::Wide(first, second)) => {
-            format!(in alloc; "wide {first} {second}")
-        }
-        Judgement::Searched(Verdict::Rows) => String::from_str(alloc, "rows 4096"),
-        Judgement::Searched(Verdict::Stuck(obligation)) => obligation_text(alloc, *obligation),
+    match verdict {
+        Verdict::Proved(_) => String::from_str(alloc, "proved"),
+        Verdict::Spent(budget) => format!(in alloc; "spent {budget}"),
+        Verdict::Deep => String::from_str(alloc, "deep 1000"),
+        Verdict::Wide(first, second) => format!(in alloc; "wide {first} {second}"),
+        Verdict::Rows => String::from_str(alloc, "rows 4096"),
+        Verdict::Stuck(obligation) => obligation_text(alloc, *obligation),
     }
 }
 
@@ -127,20 +94,20 @@ fn push_title(text: &mut Vec<u8>, program: &Program, unit: Unit) -> Result<(), A
     Ok(())
 }
 
-/// Writes the line of a unit of which this is found.
+/// Writes the line of a unit with this verdict.
 pub(crate) fn push_line(
     alloc: Global,
     text: &mut Vec<u8>,
     program: &Program,
     unit: Unit,
-    judgement: &Judgement,
+    verdict: &Verdict,
 ) -> Result<(), AllocError>
     requires { HasUnit (program_view program.now) (unit_view unit) }
     ensures { OnOk result (text.new.items ≡ text.old.items
         ++ titled_line (unit_title (program_view program.now) (unit_view unit))
-        (judgement_view judgement.now)) }
+        (verdict_view verdict.now)) }
 {
-    let verdict = verdict_text(alloc, judgement)?;
+    let verdict = verdict_text(alloc, verdict)?;
     push_title(text, program, unit)?;
     text.extend_from_slice(b": ")?;
     text.extend_from_slice(verdict.as_bytes())?;

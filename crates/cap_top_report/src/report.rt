@@ -11,11 +11,11 @@ ghost use Rattle.cap_top_report.specs.Report.{unit_line, count_proved, start_lin
 ghost use Rattle.cap_top_report.specs.Report.{count_line as line_of_counts};
 ghost use Rattle.cap_top_report.specs.Views.{IsReportOf};
 
-use crate::lines::{judge, once_proved, push_line};
+use crate::lines::{once_proved, push_line};
 use crate::units::units;
 use cap_goal::Unit;
 use cap_prog::Program;
-use cap_search::empty_start;
+use cap_search::{empty_start, search};
 use std::alloc::{AllocError, Global};
 
 /// What is said of a program: its text, and whether each unit is proved and the precondition of
@@ -42,9 +42,9 @@ fn push_units(
 {
     let mut proved = 0;
     for unit in units {
-        let judgement = judge(alloc, program, *unit, budget)?;
-        push_line(alloc, text, program, *unit, &judgement)?;
-        proved += once_proved(&judgement);
+        let verdict = search(alloc, program, *unit, budget)?;
+        push_line(alloc, text, program, *unit, &verdict)?;
+        proved += once_proved(&verdict);
     }
     Ok(proved)
 }

@@ -1,8 +1,6 @@
 use Rattle.std.proofs.Common.{subst}
 use Rattle.cap_prog.specs.Views.{program_view}
-use Rattle.cap_top_commands.specs.Answers.{IsUnjudged}
-use Rattle.cap_top_commands.specs.declared.replaying.Begun.TheVariants.{Program, Said}
-use Rattle.cap_top_commands.specs.Replaying.{HasNoRegions}
+use Rattle.cap_top_commands.specs.declared.beginning.Begun.TheVariants.{Program, Said}
 use Rattle.cap_top_commands.specs.Views.{output_view}
 use Rattle.cap_top.specs.Views.{fetched_view, BeginsAfter}
 use Rattle.cap_top.proofs.Two.{checking, early_said, late_said}
@@ -10,16 +8,16 @@ use Rattle.cap_top.proofs.program.check_files.Goals as goal
 
 pub returns-in-Said : goal.returns-in-Said
 returns-in-Said g c =
-    let b : BeginsAfter IsUnjudged HasNoRegions c.args.file.now (fetched_view c.in_ok-fetched.fetched) (Said c.in-Said.output) =
-    subst (BeginsAfter IsUnjudged HasNoRegions c.args.file.now (fetched_view c.in_ok-fetched.fetched)) c.in-Said.is c.in_ok-output.ensures in
-    early_said _ _ _ _ _ _ _ (checking c.args.file.now c.args.derivation.now) _ _ _ _ _ (fetched_view c.in_ok-fetched.fetched)
+    let b : BeginsAfter c.args.file.now (fetched_view c.in_ok-fetched.fetched) (Said c.in-Said.output) =
+    subst (BeginsAfter c.args.file.now (fetched_view c.in_ok-fetched.fetched)) c.in-Said.is c.in_ok-output.ensures in
+    early_said _ _ _ _ _ (checking c.args.file.now c.args.derivation.now) _ _ _ _ _ (fetched_view c.in_ok-fetched.fetched)
     (output_view c.in-Said.output) c.in_ok-fetched.ensures.fetched c.in_ok-fetched.ensures.counted b
 
 pub returns-in_ok-fetched-in-Program : goal.returns-in_ok-fetched-in-Program
 returns-in_ok-fetched-in-Program g c =
-    let b : BeginsAfter IsUnjudged HasNoRegions c.args.file.now (fetched_view c.in_ok-fetched.fetched) (Program c.in-Program.program) =
-    subst (BeginsAfter IsUnjudged HasNoRegions c.args.file.now (fetched_view c.in_ok-fetched.fetched)) c.in-Program.is c.in_ok-output.ensures in
-    late_said _ _ _ _ _ _ _ (checking c.args.file.now c.args.derivation.now) _ c.in_ok-fetched.ensures.kept _ _ _ _ _ _ _ _
+    let b : BeginsAfter c.args.file.now (fetched_view c.in_ok-fetched.fetched) (Program c.in-Program.program) =
+    subst (BeginsAfter c.args.file.now (fetched_view c.in_ok-fetched.fetched)) c.in-Program.is c.in_ok-output.ensures in
+    late_said _ _ _ _ _ (checking c.args.file.now c.args.derivation.now) _ c.in_ok-fetched.ensures.kept _ _ _ _ _ _ _ _
     (fetched_view c.in_ok-fetched.fetched) (fetched_view c.in_ok-fetched-in-Program.fetched) b.0
     (program_view c.in-Program.program) c.check_file.result
     c.in_ok-fetched.ensures.later c.in_ok-fetched.ensures.fetched c.in_ok-fetched.ensures.counted b.1 b.2

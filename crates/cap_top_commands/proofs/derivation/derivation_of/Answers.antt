@@ -10,5 +10,5 @@ pub returns-in-Some : goal.returns-in-Some
 returns-in-Some c =
     says_lines c.args.budget (program_view c.args.program.now) c.in-Proved.bundle
     (subst (IsConclusionOf (program_view c.args.program.now) c.args.budget) c.in-Proved.is c.in_ok-report.ensures)
-    c.found_trees_are_valid.ensures c.valid_trees_have_no_zeros.ensures c.in-Some.text.items
+    c.found_trees_are_valid.ensures c.requires c.valid_trees_have_no_zeros.ensures c.in-Some.text.items
     (subst (FindsText (bundle_view c.in-Proved.bundle)) c.in-Some.is c.in_ok-text-in-Proved.ensures)

@@ -1,5 +1,10 @@
+use Rattle.cap_prog.specs.Views.{program_view}
 use Rattle.cap_top_commands.proofs.Deriving.{derives_program, derives_refusal}
+use Rattle.cap_top_commands.proofs.InOrder.{text-ascends}
 use Rattle.cap_top_commands.proofs.derivation.derive.Goals as goal
+
+pub derivation_of-requires : goal.derivation_of-requires
+derivation_of-requires c = text-ascends c.args.bytes.now (program_view c.in-Ok.program) c.in-Ok.ensures.found
 
 pub returns-in-Ok : goal.returns-in-Ok
 returns-in-Ok c =

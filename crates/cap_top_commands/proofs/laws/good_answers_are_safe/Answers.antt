@@ -3,5 +3,4 @@ use Rattle.cap_top_commands.proofs.laws.good_answers_are_safe.Goals as goal
 
 pub returns : goal.returns
 returns c =
-    good_answer c.found_trees_are_valid.ensures c.good_programs_have_no_regions.ensures
-    c.derivations_are_sound.ensures c.programs_of_texts_are_well_formed.ensures
+    good_answer c.found_trees_are_valid.ensures c.derivations_are_sound.ensures c.programs_of_texts_are_well_formed.ensures

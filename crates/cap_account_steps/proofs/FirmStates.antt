@@ -1,5 +1,5 @@
 -- States of firm facts, where other variables are kept free and get other values.
-use Rattle.std.proofs.Common.{◌≡◌, ℕ, ◌+◌, ◌≤◌, ℤ, List, [], ◌∷◌, arith, refl, sym, ap, ◌∙◌, subst, Bool, true, false, inl, inr}
+use Rattle.std.proofs.Common.{◌≡◌, ℕ, List, [], ◌∷◌, refl, sym, ◌∙◌, subst, Bool, true, false, inl, inr}
 use Rattle.std.specs.List.{AllByRecursion}
 use Rattle.cap_lin.specs.Values.{Valuation}
 use Rattle.cap_lin.specs.declared.row.Sort.{Sort}
@@ -7,15 +7,15 @@ use Rattle.cap_lin.specs.declared.row.Sort.TheVariants.{Int}
 use Rattle.cap_prog.specs.Program.{PlainProgram}
 use Rattle.cap_goal_spec.specs.States.{PlainFact, PlainState}
 use Rattle.cap_machine_accounts.specs.Accounts.{EachTwo}
+use Rattle.cap_account_states.proofs.KnowsLater.{backed-at, backed-same}
 use Rattle.cap_account_resources.specs.Parts.{Table}
 use Rattle.cap_account_resources.proofs.Lists.{all-more, Among}
-use Rattle.cap_account_resources.proofs.Covering.{Covered}
 use Rattle.cap_account_resources.proofs.Stocks.{Stock}
-use Rattle.cap_account_states.proofs.Meets.{Usable, Meets, need}
-use Rattle.cap_account_states.proofs.Alike.{Alike, need-alike}
+use Rattle.cap_account_states.proofs.Meets.{Usable, Meets}
+use Rattle.cap_account_states.proofs.Alike.{Alike}
 use Rattle.cap_account_states.proofs.Adding.{PieceOver}
 use Rattle.cap_account_states.proofs.Pieces.{AllFit}
-use Rattle.cap_account_states.proofs.Compatible.{pieces-more, covered-alike}
+use Rattle.cap_account_states.proofs.Compatible.{pieces-more}
 use Rattle.cap_account_states.proofs.Facts.{FactHolds, FactOver, LooseState, StatesDiffer, Facts, fact-more, facts-alike}
 use Rattle.cap_account_states.proofs.Backed.{IsFirm, Backed, Grounded}
 
@@ -95,15 +95,5 @@ module _ (p : PlainProgram) (ks js : List ℕ) (P : ℕ → Type 0) (v w : Valua
   }
 
   pub backed-between : (q : Stock) → Grounded p ks v s → Backed p v s q → Backed p w t q
-  backed-between q g h = record {
-    cells = λ a z.
-        let c = h.cells a z in
-        let e = ap (λ cs. need w cs a z) b.cells
-        ∙ need-alike (Usable ks s.sorts) P v w (b.uses Int) b.alike s.cells g.meets.cells_over a z
-        in
-        omega (arith, c, e);
-    guards = λ n. subst (λ ps. Covered p w ps n (q.guards n)) (sym b.guards)
-        (covered-alike p P v w b.alike s.guards n (q.guards n)
-        (pieces-more (Usable ks s.sorts) (λ o. P) b.uses s.guards g.pieces_over)
-        (h.guards n));
-  }
+  backed-between q g h =
+      backed-same p s t w q b.cells b.guards (backed-at p s ks P v w q b.uses b.alike g h)

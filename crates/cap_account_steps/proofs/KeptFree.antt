@@ -12,13 +12,12 @@ use Rattle.cap_lin.specs.declared.row.Sort.TheVariants.{Int}
 use Rattle.cap_prog.specs.Program.{PlainProgram}
 use Rattle.cap_goal_spec.specs.States.{PlainState}
 use Rattle.cap_account_resources.proofs.Lists.{all-more, get-first, Among}
-use Rattle.cap_account_resources.proofs.Stocks.{Stock}
 use Rattle.cap_account_states.proofs.Terms.{RowOver, Agree, agree-less}
-use Rattle.cap_account_states.proofs.Alike.{Alike, need-alike}
 use Rattle.cap_account_states.proofs.Attempts.{sort_added}
-use Rattle.cap_account_states.proofs.Compatible.{pieces-more, covered-alike}
-use Rattle.cap_account_states.proofs.Meets.{Free, Usable, usable-on, Old, meets-fresh, CellOver, cell-more, row-more, meets-agree, new-whole, new-share, with-agrees, variable-value}
-use Rattle.cap_account_states.proofs.Backed.{Backed, Grounded}
+use Rattle.cap_account_states.proofs.Compatible.{pieces-more}
+use Rattle.cap_account_states.proofs.Meets.{Free, Usable, usable-on, Old, CellOver, cell-more, row-more, new-whole, new-share, with-agrees, variable-value}
+use Rattle.cap_account_states.proofs.Alike.{meets-fresh, meets-agree}
+use Rattle.cap_account_states.proofs.Backed.{Grounded}
 use Rattle.cap_account_assertions.proofs.Named.{set_to}
 
 -- ---- one variable gets a number
@@ -106,23 +105,6 @@ module _ (p : PlainProgram) (s : PlainState) where
             pieces-more (Usable ks s.sorts) (Usable ks (s.sorts ++ Int ∷ []))
             (usable-on ks s.sorts (s.sorts ++ Int ∷ []) grow) s.guards g.pieces_over;
         pieces_fit = g.pieces_fit;
-      }
-
-  -- what is held backs the state at values that are alike on what it uses
-  pub backed-at :
-      (ks : List ℕ) (P : ℕ → Type 0) (v w : Valuation) (q : Stock) →
-      ((o : Sort) (x : ℕ) → Usable ks s.sorts o x → P x) → Alike P v w → Grounded p ks v s →
-      Backed p v s q → Backed p w s q
-  backed-at ks P v w q uses l g b =
-      let R = Usable ks s.sorts in
-      record {
-        cells = λ x z.
-            let e = need-alike R P v w (uses Int) l s.cells g.meets.cells_over x z in
-            let i = b.cells x z in
-            omega (arith, e, i);
-        guards = λ n.
-            covered-alike p P v w l s.guards n (q.guards n)
-            (pieces-more R (λ o. P) uses s.guards g.pieces_over) (b.guards n);
       }
 
 -- ---- all of them but one
