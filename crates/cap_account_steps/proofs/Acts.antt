@@ -10,7 +10,7 @@ use Rattle.cap_lin.specs.declared.row.Row.{Row}
 use Rattle.cap_lin.specs.declared.row.Sort.TheVariants.{Int}
 use Rattle.cap_lin.specs.declared.row.Op.TheVariants.{Eq as Equal, Ne as Unequal}
 use Rattle.cap_lin.proofs.Rows.{row_of-means}
-use Rattle.cap_prog.specs.Program.{PlainAct, set, read, write, cas, alloc, call, fork, branch, loop, check, give_back, Block, first, PlainFunction}
+use Rattle.cap_prog.specs.Program.{PlainAct, set, read, write, cas, alloc, call, fork, branch, loop, check, give_back, Block, PlainFunction}
 use Rattle.cap_goal_spec.specs.States.{PlainState, Home, goals_of}
 use Rattle.cap_goal_spec.specs.Environments.{zero_value, one_value}
 use Rattle.cap_goal_spec.specs.Choices.{PlainTrees}

@@ -1,6 +1,6 @@
 -- Allocation: the state has new cells behind a fresh variable.
 use Rattle.cap_account_states.proofs.Terms.{value-number, Over, over-plus, row-over, Agree}
-use Rattle.std.proofs.Common.{◌≡◌, ℕ, ◌+◌, ◌<◌, ◌≤◌, ℤ, pos, ◌*ℤ◌, ◌<ℤ◌, ◌≤ℤ◌, List, [], ◌++◌, length, arith, refl, sym, ap, ◌∙◌, subst}
+use Rattle.std.proofs.Common.{◌≡◌, ℕ, ◌+◌, ◌≤◌, ℤ, pos, ◌*ℤ◌, ◌<ℤ◌, ◌≤ℤ◌, List, [], ◌++◌, length, arith, refl, sym, ap, ◌∙◌, subst}
 use Rattle.std.proofs.lemmas.Int.{ints}
 use Rattle.cap_lin.specs.Linear.{Linear, number}
 use Rattle.cap_lin.specs.Rows.{row_of}
@@ -34,7 +34,7 @@ use Rattle.cap_account_states.proofs.Checked.{Checked, one-child}
 use Rattle.cap_account_states.proofs.Roots.{values-length}
 use Rattle.cap_account_steps.proofs.Stores.{running, store-alike}
 use Rattle.cap_account_steps.proofs.Cells.{new_cells, comes-new-cells, address-is, need-both, new-cells-need, new-cells-all, store-local}
-use Rattle.cap_account_steps.proofs.Frames.{Node, Sits, SitsAt}
+use Rattle.cap_account_steps.proofs.Frames.{Node, SitsAt}
 use Rattle.cap_account_steps.proofs.Statements.{AllocLaw, Before}
 use Rattle.cap_account_assertions.proofs.Named.{set_to}
 use Rattle.cap_account_steps.proofs.Local.{given-up}

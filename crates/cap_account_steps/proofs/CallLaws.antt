@@ -1,5 +1,5 @@
 -- The laws of calls and forks.
-use Rattle.std.proofs.Common.{◌≡◌, ℕ, ◌+◌, ◌<◌, ℤ, pos, List, [], ◌∷◌, ◌++◌, length, map, arith, refl, sym, ap, ◌∙◌, subst, Option, Some, None}
+use Rattle.std.proofs.Common.{◌≡◌, ℕ, ℤ, pos, List, [], ◌∷◌, length, map, arith, refl, ◌∙◌, subst, Option, Some, None}
 use Rattle.std.specs.Prelude.{slice_get, IsSomeAnd}
 use Rattle.cap_lin.specs.Linear.{Linear}
 use Rattle.cap_lin.specs.Values.{Valuation}
@@ -7,7 +7,7 @@ use Rattle.cap_lin.specs.declared.row.Sort.TheVariants.{Int}
 use Rattle.cap_prog.specs.Program.{Label, call, fork, Block, first, PlainFunction}
 use Rattle.cap_prog.specs.Scopes.{fixed_start}
 use Rattle.cap_prog.specs.WellFormed.{IsWellFormed}
-use Rattle.cap_goal_spec.specs.States.{PlainState, Home, PlainTask, to_run, to_take, to_rest}
+use Rattle.cap_goal_spec.specs.States.{PlainState, PlainTask, to_run, to_take, to_rest}
 use Rattle.cap_goal_spec.specs.Choices.{node, by_absurd, by_call, by_fork, PlainTree, PlainTrees}
 use Rattle.cap_rules.specs.Attempts.{◌>>=◌}
 use Rattle.cap_rules.specs.Making.{env_at}
@@ -29,7 +29,7 @@ use Rattle.cap_account_assertions.proofs.Named.{set_to, rest_values}
 use Rattle.cap_account_steps.proofs.Points.{FrameOk, point-act, point-next, ok-rest}
 use Rattle.cap_account_steps.proofs.Stores.{Store, running}
 use Rattle.cap_account_steps.proofs.Callees.{fixed_values, fixed-fit, ok-put, after-called}
-use Rattle.cap_account_steps.proofs.Frames.{Node, Sits, Roomy, Calls, Forks, WaitsLike}
+use Rattle.cap_account_steps.proofs.Frames.{Node, Roomy, Calls, Forks, WaitsLike}
 use Rattle.cap_account_steps.proofs.Statements.{Before, CallLaw, ForkLaw}
 use Rattle.cap_account_steps.proofs.Local.{given-up}
 use Rattle.cap_account_steps.proofs.OwnNames.{canon}

@@ -6,7 +6,7 @@ use Rattle.std.specs.List.{AllByRecursion}
 use Rattle.cap_lin.specs.Values.{Valuation, value}
 use Rattle.cap_lin.specs.declared.row.Sort.{Sort}
 use Rattle.cap_lin.specs.declared.row.Sort.TheVariants.{Int}
-use Rattle.cap_prog.specs.Program.{Label, call, Block, first, PlainFunction}
+use Rattle.cap_prog.specs.Program.{Label, Block, PlainFunction}
 use Rattle.cap_prog.specs.Scopes.{fixed_start, requires_scope, ensures_scope}
 use Rattle.cap_prog.specs.WellFormed.{IsWellFormed}
 use Rattle.cap_goal_spec.specs.States.{PlainState, Home, PlainTask, to_take, to_give, to_rest}
@@ -18,7 +18,6 @@ use Rattle.cap_account_states.proofs.Alike.{values-alike, Alike, InScope, meets-
 use Rattle.cap_account_resources.specs.Parts.{Table}
 use Rattle.cap_account_resources.proofs.Interference.{Relies, relies-trans, relies-less}
 use Rattle.cap_account_resources.proofs.Lists.{some-same, map-length, get-first, push-length, all-more}
-use Rattle.cap_account_resources.proofs.Room.{room}
 use Rattle.cap_account_resources.proofs.Stocks.{Stock, both, inside-first, inside-second, inside-guards}
 use Rattle.cap_account_states.specs.Nodes.{Open}
 use Rattle.cap_account_states.proofs.Terms.{Over, vars-more, Agree}
@@ -37,7 +36,7 @@ use Rattle.cap_account_assertions.proofs.MadeTables.{made-fits, made-full, made-
 use Rattle.cap_account_steps.proofs.Points.{FrameOk}
 use Rattle.cap_account_steps.proofs.Stores.{Store, running, fixed-alike}
 use Rattle.cap_account_steps.proofs.Callees.{fixed-fit, put_at, map-put, receives-is}
-use Rattle.cap_account_steps.proofs.Frames.{Sits, Roomy, Waits, HandsOver, Calls, SitsLike, WaitsLike}
+use Rattle.cap_account_steps.proofs.Frames.{Sits, Roomy, HandsOver, SitsLike, WaitsLike}
 use Rattle.cap_account_steps.proofs.FirmStates.{Between, facts-between, grounded-between, backed-between}
 use Rattle.cap_account_steps.proofs.CallSite.{Caller, TakenHere, kept, v1, s1, args_are, at-call, backed1, env2, a1, callee_fixed}
 use Rattle.cap_account_steps.proofs.Results.{with_result, alike4, result-value, firm2, grounded2, facts2, backed2, placed2, means2}

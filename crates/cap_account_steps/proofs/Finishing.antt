@@ -31,7 +31,7 @@ use Rattle.cap_account_states.proofs.KnowsLater.{Steady, usable-steady}
 use Rattle.cap_account_assertions.proofs.Laws.{TakenLaw, Reached}
 use Rattle.cap_account_steps.proofs.Points.{FrameOk}
 use Rattle.cap_account_steps.proofs.Stores.{Store, running, name-alike, fixed-name}
-use Rattle.cap_account_steps.proofs.Frames.{Roomy, Stands, StandsAt}
+use Rattle.cap_account_steps.proofs.Frames.{Roomy, StandsAt}
 use Rattle.cap_account_steps.proofs.Worlds.{regions_of, opened_table, SettlesBy, ClosingLaw}
 use Rattle.cap_account_assertions.proofs.Named.{rest_values}
 use Rattle.cap_account_steps.proofs.Firming.{firm_values}

@@ -1,5 +1,5 @@
 -- The law of heap statements: up to two regions are opened, and then the statement acts.
-use Rattle.std.proofs.Common.{◌≡◌, ℕ, zero, suc, ◌+◌, ◌<◌, ◌≤◌, ℤ, List, [], ◌∷◌, length, map, arith, refl, sym, ap, ◌∙◌, subst, Option, Some, None}
+use Rattle.std.proofs.Common.{◌≡◌, ℕ, zero, suc, ◌+◌, ℤ, List, [], length, arith, refl, sym, ap, subst, Some}
 use Rattle.std.specs.List.{AllByRecursion}
 use Rattle.cap_lin.specs.Linear.{Linear}
 use Rattle.cap_lin.specs.Values.{Valuation}
@@ -7,22 +7,21 @@ use Rattle.cap_lin.specs.declared.row.Sort.TheVariants.{Int}
 use Rattle.cap_farkas.specs.declared.cert.Cert.{Cert}
 use Rattle.cap_prog.specs.Program.{Label, PlainAct, set, read, write, cas, alloc, call, fork, branch, loop, check, give_back, Block, first, PlainFunction}
 use Rattle.cap_prog.specs.WellFormed.{IsWellFormed}
-use Rattle.cap_goal_spec.specs.States.{PlainState, Home, PlainTask}
+use Rattle.cap_goal_spec.specs.States.{PlainState, Home}
 use Rattle.cap_goal_spec.specs.Choices.{PlainTree, node, by_absurd, by_clash, by_enter, by_act, PlainTrees}
 use Rattle.cap_rules.specs.Closing.{address_of}
 use Rattle.cap_machine.specs.Machine.{Heap, Frame, with_rest}
 use Rattle.cap_machine_accounts.specs.Assertions.{NameValue}
 use Rattle.cap_account_resources.specs.Parts.{Table}
 use Rattle.cap_account_resources.proofs.Lists.{none-some}
-use Rattle.cap_account_resources.proofs.Stocks.{Stock, no_stock, both, all_of, none-right}
+use Rattle.cap_account_resources.proofs.Stocks.{Stock, both, all_of, none-right}
 use Rattle.cap_account_states.proofs.Checked.{Checked}
 use Rattle.cap_account_states.proofs.Meets.{Usable, solves}
 use Rattle.cap_account_states.proofs.Roots.{values-length}
 use Rattle.cap_account_states.proofs.Backed.{Backed}
 use Rattle.cap_account_assertions.proofs.Laws.{GivenLaw}
 use Rattle.cap_account_steps.proofs.Points.{FrameOk}
-use Rattle.cap_account_steps.proofs.Stores.{Store, running}
-use Rattle.cap_account_steps.proofs.Frames.{Node}
+use Rattle.cap_account_steps.proofs.Stores.{running}
 use Rattle.cap_account_steps.proofs.Worlds.{Differ, World, Exact, AllOver, regions_of, Earlier, IfAny, Opening, after_act, HeapStep}
 use Rattle.cap_account_steps.proofs.Statements.{Before, HeapLaw}
 use Rattle.cap_account_steps.proofs.Entering.{Opened, Enters, entered}

@@ -28,7 +28,7 @@ use Rattle.cap_account_states.proofs.Meets.{Usable, Meets, meets-row, solves, pr
 use Rattle.cap_account_states.proofs.Checked.{Checked, children-split, one-child}
 use Rattle.cap_account_steps.proofs.Points.{point-act}
 use Rattle.cap_account_steps.proofs.Stores.{running, here, here-value, here-over, holds-here, row-here-over, met-here}
-use Rattle.cap_account_steps.proofs.Frames.{Node, Sits, SitsAt}
+use Rattle.cap_account_steps.proofs.Frames.{Node, SitsAt}
 use Rattle.cap_account_steps.proofs.Statements.{Before, SetLaw, CheckLaw, BranchLaw}
 
 module _ (p : Checked) (part : Stock) (T : Table) (fn : PlainFunction) (fixed : List NameValue) where
