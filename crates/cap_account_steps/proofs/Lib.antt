@@ -38,6 +38,7 @@ pub mod CallSite
 pub mod Results
 pub mod Calling
 pub mod CallLaws
+pub mod GivenNames
 pub mod SettledTables
 pub mod SettledTwice
 pub mod StillOpen
