@@ -27,7 +27,7 @@ use Rattle.cap_account_states.proofs.Checked.{Checked}
 use Rattle.cap_account_states.proofs.Naming.{Placed, Means, Stays}
 use Rattle.cap_account_states.proofs.Matching.{Outside}
 use Rattle.cap_account_states.proofs.Backed.{IsFirm, IsOpened, Backed, Grounded, GoesOn, OtherEnvs}
-use Rattle.cap_account_assertions.proofs.Named.{rest_values}
+use Rattle.cap_account_assertions.proofs.Named.{rest_values, rest_counts}
 use Rattle.cap_account_assertions.proofs.Asserted.{DrawsAll, OwnsRegion, OwnsRequires, OwnsEnsures, OwnsInvariant}
 
 -- ---- states and tables
@@ -137,6 +137,7 @@ pub record Rested (p : Checked) (U : Table) (v : Valuation) (part : Stock) (s : 
   pub w : Valuation
   pub named : w ≡ rest_values U s.facts trees (length s.sorts) v
   pub after : PlainState
+  pub count : length after.sorts ≡ rest_counts s.facts trees (length s.sorts)
   pub children : PlainTrees
   pub goes : Open p.N children after ts
   pub grounded : Grounded p.program [] w after

@@ -55,3 +55,8 @@ abbrev pub rest_values : Table → List PlainFact → PlainTrees → ℕ → Val
 rest_values U (f ∷ fs) (tree (node c kids) no_trees) n v =
     rest_values U fs kids (rest_next c n) (rest_value U f c n v)
 rest_values U fs trees n v = v
+
+-- so many variables there are then
+abbrev pub rest_counts : List PlainFact → PlainTrees → ℕ → ℕ
+rest_counts (f ∷ fs) (tree (node c kids) no_trees) n = rest_counts fs kids (rest_next c n)
+rest_counts fs trees n = n

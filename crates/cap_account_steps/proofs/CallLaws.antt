@@ -1,5 +1,5 @@
 -- The laws of calls and forks.
-use Rattle.std.proofs.Common.{◌≡◌, ℕ, ℤ, pos, List, [], ◌∷◌, length, map, arith, refl, ◌∙◌, subst, Option, Some, None}
+use Rattle.std.proofs.Common.{◌≡◌, ℕ, ℤ, pos, List, [], ◌∷◌, length, map, arith, refl, ◌∙◌, subst, Option, Some, None, ◌<◌}
 use Rattle.std.specs.Prelude.{slice_get, IsSomeAnd}
 use Rattle.cap_lin.specs.Linear.{Linear}
 use Rattle.cap_lin.specs.Values.{Valuation}
@@ -25,7 +25,7 @@ use Rattle.cap_account_states.proofs.Meets.{Old}
 use Rattle.cap_account_states.proofs.Checked.{Checked, one-child}
 use Rattle.cap_account_states.proofs.Roots.{values-length}
 use Rattle.cap_account_assertions.proofs.Laws.{GivenLaw, TakenLaw, Rested, RestsLaw, Stable}
-use Rattle.cap_account_assertions.proofs.Named.{set_to, rest_values}
+use Rattle.cap_account_assertions.proofs.Named.{set_to, rest_values, rest_counts}
 use Rattle.cap_account_steps.proofs.Points.{FrameOk, point-act, point-next, ok-rest}
 use Rattle.cap_account_steps.proofs.Stores.{Store, running}
 use Rattle.cap_account_steps.proofs.Callees.{fixed_values, fixed-fit, ok-put, after-called}
@@ -54,7 +54,8 @@ module _ (p : Checked) (part : Stock) (T : Table) (fixed : List NameValue) (f : 
     pub values_are : calls.meets.values ≡ required took after
     pub fixed_are : calls.fixed ≡ fixed_values (required took after) (fixed_start g) g.fixed
     pub waits :
-        WaitsLike p calls.kept calls.over.U fixed f x n args calls.fixed (Old after)
+        WaitsLike p calls.kept calls.over.U fixed f x n args calls.fixed
+        (λ y. y < rest_counts after.facts children (length after.sorts))
         (λ W r. rest_values W after.facts children (length after.sorts)
         (set_to took (length s.sorts) r))
     pub are_those : waits.waits ≡ calls.goes_on

@@ -30,7 +30,7 @@ use Rattle.cap_account_states.proofs.Wants.{scaled-finer}
 use Rattle.cap_account_states.proofs.Backed.{IsOpened}
 use Rattle.cap_account_assertions.proofs.Asserted.{OwnsEnsures}
 use Rattle.cap_account_assertions.proofs.Finer.{draws-all-finer}
-use Rattle.cap_account_assertions.proofs.Named.{set_to, rest_values}
+use Rattle.cap_account_assertions.proofs.Named.{set_to, rest_values, rest_counts}
 use Rattle.cap_account_assertions.proofs.Laws.{StateAt, GivenLaw, TakenLaw, Reached, Rested, RestsLaw, Stable}
 use Rattle.cap_account_assertions.proofs.MadeTables.{made-fits, made-full, made-room}
 use Rattle.cap_account_steps.proofs.Points.{FrameOk}
@@ -276,7 +276,7 @@ module _ (p : Checked) (program : IsWellFormed p.program) (give : GivenLaw p) (t
         (callee_fixed p part T f.store c ts tk) r →
         (W : Table) → Relies p.program (both p.program tk.left handed).guards U W →
         SitsLike p (both p.program tk.left handed) W fn fixed (receives c.x r (with_rest f b))
-        (Old tk.after) (back_values W r)
+        (λ x. x < rest_counts tk.after.facts tk.children (length tk.after.sorts)) (back_values W r)
     back-at U relies handed r g2 e2 there me W on =
         let P = p.program in
         let whole = both P tk.left handed in
@@ -304,12 +304,14 @@ module _ (p : Checked) (program : IsWellFormed p.program) (give : GivenLaw p) (t
         (map-length (value_in f.store) c.args ∙ c.size)
         (fixed-fit (a1 p part T f.store c ts tk) (fixed_start c.g) c.g.fixed) mine)
         rs in
-        let count = rs.goes_on.count in
+        let There : ℕ → Type 0 =
+        λ x. x < rest_counts tk.after.facts tk.children (length tk.after.sorts) in
+        let count = rs.count in
         record {
           sits = q.sits;
           alike =
-              subst (λ u. Alike (Old tk.after) u q.sits.at_node.v) rs.named
-              (alike-less (Old tk.after) (Old rs.after) rs.w q.sits.at_node.v
+              subst (λ u. Alike There u q.sits.at_node.v) rs.named
+              (alike-less There (Old rs.after) rs.w q.sits.at_node.v
               (λ x i. (omega (arith, i, count))) q.alike);
         }
 
@@ -318,7 +320,8 @@ module _ (p : Checked) (program : IsWellFormed p.program) (give : GivenLaw p) (t
         FrameOk p.program fn fixed (with_rest f b) →
         ((r : ℤ) → FrameOk p.program fn fixed (receives c.x r (with_rest f b))) →
         WaitsLike p tk.left tk.U fixed (with_rest f b) c.x n (args_are p part T f.store c)
-        (callee_fixed p part T f.store c ts tk) (Old tk.after) back_values
+        (callee_fixed p part T f.store c ts tk)
+        (λ x. x < rest_counts tk.after.facts tk.children (length tk.after.sorts)) back_values
     waits-here ok later = record {
       waits = record {
         fn = fn;

@@ -1,5 +1,5 @@
 -- A callee's fixed names may be given any values that they have: the same fractions, written otherwise.
-use Rattle.std.proofs.Common.{◌≡◌, ℕ, suc, ◌+◌, ℤ, pos, ◌*ℤ◌, List, [], ◌∷◌, length, Option, Some, refl, sym, ap, ◌∙◌, subst, arith}
+use Rattle.std.proofs.Common.{◌≡◌, ℕ, suc, ◌+◌, ℤ, pos, ◌*ℤ◌, List, [], ◌∷◌, length, Option, Some, refl, sym, ap, ◌∙◌, subst, arith, ◌<◌}
 use Rattle.std.specs.Prelude.{slice_get, ◌<ℤ◌}
 use Rattle.std.proofs.lemmas.Int.{ints}
 use Rattle.cap_lin.specs.Values.{Valuation, denominator}
@@ -17,9 +17,8 @@ use Rattle.cap_account_resources.proofs.Interference.{Relies}
 use Rattle.cap_account_resources.proofs.Order.{cancel, swapped}
 use Rattle.cap_account_resources.proofs.Stocks.{Stock}
 use Rattle.cap_account_states.proofs.Checked.{Checked}
-use Rattle.cap_account_states.proofs.Meets.{Old}
 use Rattle.cap_account_assertions.proofs.Asserted.{OwnsEnsures}
-use Rattle.cap_account_assertions.proofs.Named.{set_to, rest_values}
+use Rattle.cap_account_assertions.proofs.Named.{set_to, rest_values, rest_counts}
 use Rattle.cap_account_steps.proofs.Callees.{value_for, fixed_values}
 use Rattle.cap_account_steps.proofs.Frames.{Calls, Forks, WaitsLike}
 use Rattle.cap_account_steps.proofs.CallLaws.{required, CallsAt, ForksAt}
@@ -66,7 +65,8 @@ module _ (p : Checked) (part : Stock) (T : Table) (fixed : List NameValue) (f : 
     pub calls : Calls p part T fixed f x n g args
     pub fixed_are : calls.fixed ≡ given
     pub waits :
-        WaitsLike p calls.kept calls.over.U fixed f x n args calls.fixed (Old after)
+        WaitsLike p calls.kept calls.over.U fixed f x n args calls.fixed
+        (λ y. y < rest_counts after.facts children (length after.sorts))
         (λ W r. rest_values W after.facts children (length after.sorts)
         (set_to took (length s.sorts) r))
     pub are_those : waits.waits ≡ calls.goes_on
@@ -93,7 +93,8 @@ module _ (p : Checked) (part : Stock) (T : Table) (fixed : List NameValue) (f : 
         met = o.met;
       }) in
       let w = c.waits in
-      let waits : WaitsLike p h.kept h.over.U fixed f x n args given (Old c.after)
+      let waits : WaitsLike p h.kept h.over.U fixed f x n args given
+      (λ y. y < rest_counts c.after.facts c.children (length c.after.sorts))
       (λ W r. rest_values W c.after.facts c.children (length c.after.sorts)
       (set_to c.took (length s.sorts) r)) = record {
         waits = record {

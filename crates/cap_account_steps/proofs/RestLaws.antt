@@ -19,7 +19,7 @@ use Rattle.cap_account_states.proofs.Alike.{agree-alike}
 use Rattle.cap_account_states.proofs.Meets.{Free, Usable, Old}
 use Rattle.cap_account_states.proofs.Facts.{FactHolds, FactOver, StateHolds, StateOver, Facts}
 use Rattle.cap_account_states.proofs.Backed.{IsFirm, Backed, Grounded, GoesOn}
-use Rattle.cap_account_assertions.proofs.Named.{set_to, lone, told_state, rest_values}
+use Rattle.cap_account_assertions.proofs.Named.{set_to, lone, told_state, rest_values, rest_counts}
 use Rattle.cap_account_assertions.proofs.Laws.{Reached, RestsLaw}
 use Rattle.cap_account_steps.proofs.Worlds.{Exact, AllOver}
 use Rattle.cap_account_steps.proofs.FirmStates.{firm-loose, firm-differ}
@@ -59,6 +59,7 @@ pub record Settled (p : Checked) (ks : List ℕ) (T U : Table) (v : Valuation) (
   pub named :
       w ≡ rest_values U s.facts trees (length s.sorts) (firm_values T v s.facts)
   pub after : PlainState
+  pub count : length after.sorts ≡ rest_counts s.facts trees (length s.sorts)
   pub children : PlainTrees
   pub goes : Open p.N children after ts
   pub grounded : Grounded p.program [] w after
@@ -96,6 +97,7 @@ rests-loose p wf ks part T U n ts trees v s reached goes g fs backed =
       named =
           r.named ∙ ap (rest_values U s.facts trees (length s.sorts)) fm.named;
       after = r.after;
+      count = r.count;
       children = r.children;
       goes = r.goes;
       grounded = r.grounded;
@@ -127,6 +129,7 @@ rests p wf part T U n ts trees v s reached goes g fs firm backed =
       named =
           r.named ∙ ap (rest_values U s.facts trees (length s.sorts)) (none-loose T v s.facts firm);
       after = r.after;
+      count = r.count;
       children = r.children;
       goes = r.goes;
       grounded = r.grounded;

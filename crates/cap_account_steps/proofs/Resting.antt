@@ -28,7 +28,7 @@ use Rattle.cap_account_states.proofs.Adding.{comes-rows}
 use Rattle.cap_account_states.proofs.Checked.{Checked}
 use Rattle.cap_account_states.proofs.Meets.{Free, Usable, solves}
 use Rattle.cap_account_states.proofs.Backed.{IsFirm, Grounded}
-use Rattle.cap_account_assertions.proofs.Named.{set_to, told_state, rest_values}
+use Rattle.cap_account_assertions.proofs.Named.{set_to, told_state, rest_values, rest_counts}
 use Rattle.cap_account_steps.proofs.Keeping.{same_row, comes-kept}
 use Rattle.cap_account_steps.proofs.Settling.{IsCandidate, row_at, comes-at, comes-stable}
 use Rattle.cap_account_steps.proofs.Worlds.{Exact, AllOver}
@@ -131,6 +131,7 @@ pub record AtRest (p : Checked) (ks : List ℕ) (U : Table) (v : Valuation) (s :
   pub w : Valuation
   pub named : w ≡ rest_values U fs trees (length s.sorts) v
   pub after : PlainState
+  pub count : length after.sorts ≡ rest_counts fs trees (length s.sorts)
   pub children : PlainTrees
   pub goes : Open p.N children after ts
   pub as_before : AsBefore v w s after
@@ -158,6 +159,10 @@ module _ (p : Checked) (ks : List ℕ) (part : Stock) (T U : Table)
         (fs : List PlainFact) →
         rest_values U (f ∷ fs) (tree d no_trees) (length s.sorts) v
         ≡ rest_values U fs trees (length state.sorts) w
+    counts :
+        (fs : List PlainFact) →
+        rest_counts (f ∷ fs) (tree d no_trees) (length s.sorts)
+        ≡ rest_counts fs trees (length state.sorts)
 
   one-on :
       (j n : ℕ) (ts : List PlainTask) (t : PlainState) (trees : PlainTrees) →
@@ -210,6 +215,8 @@ module _ (p : Checked) (ks : List ℕ) (part : Stock) (T U : Table)
         named = λ fs.
             ap (λ i. rest_values U fs kids i (set_to v (length s.sorts) (told_state U v f.0)))
             (let q = push-length s.sorts Int in omega (arith, q));
+        counts = λ fs.
+            ap (rest_counts fs kids) (let q = push-length s.sorts Int in omega (arith, q));
       }
   next-turn j n ts v s mid (node (by_keep cs) kids) h =
       let P = Children p.N kids in
@@ -231,6 +238,7 @@ module _ (p : Checked) (ks : List ℕ) (part : Stock) (T U : Table)
         is_fact = f.1;
         facts = refl;
         named = λ fs. refl;
+        counts = λ fs. refl;
       }
   next-turn j n ts v s mid d h = absurd (p.step h).1
 
@@ -245,6 +253,7 @@ module _ (p : Checked) (ks : List ℕ) (part : Stock) (T U : Table)
       record {
         w = v;
         named = ap (λ fs. rest_values U fs trees (length s.sorts) v) (sym nothing);
+        count = ap (λ fs. rest_counts fs trees (length s.sorts)) (sym nothing);
         after = s;
         children = trees;
         goes =
@@ -279,6 +288,14 @@ module _ (p : Checked) (ks : List ℕ) (part : Stock) (T U : Table)
             ∙ sym (turn.named (drop (suc j) s.facts))
             ∙ ap (λ ds. rest_values U (turn.f ∷ drop (suc j) s.facts) ds (length s.sorts) v) (sym one.2)
             ∙ ap (λ fs. rest_values U fs trees (length s.sorts) v)
+            (sym (drop-one s.facts j turn.f turn.is_fact));
+        count =
+            r.count
+            ∙ ap (λ fs. rest_counts fs turn.trees (length turn.state.sorts))
+            (ap (drop (suc j)) turn.facts ∙ drop-set s.facts j turn.g)
+            ∙ sym (turn.counts (drop (suc j) s.facts))
+            ∙ ap (λ ds. rest_counts (turn.f ∷ drop (suc j) s.facts) ds (length s.sorts)) (sym one.2)
+            ∙ ap (λ fs. rest_counts fs trees (length s.sorts))
             (sym (drop-one s.facts j turn.f turn.is_fact));
         after = r.after;
         children = r.children;
