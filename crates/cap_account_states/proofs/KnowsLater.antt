@@ -1,5 +1,4 @@
--- What is known of a state at alike values and in later states, by larger tables, and where more is
--- held.
+-- What is known of a state at alike values and in later states, and where more is held.
 use Rattle.std.proofs.Common.{◌≡◌, ℕ, ◌<◌, ◌≤◌, List, length, Some, arith, sym, ap, ◌∙◌, subst}
 use Rattle.std.specs.Prelude.{slice_get}
 use Rattle.std.specs.List.{AllByRecursion}

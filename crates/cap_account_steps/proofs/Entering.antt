@@ -1,4 +1,5 @@
 -- A region is opened: what it has is given to the state, in the case in which the region is.
+use Rattle.cap_account_states.proofs.Alike.{usable-alike, Alike, InScope, alike-trans, alike-less, agree-alike, scaled-alike}
 use Rattle.cap_account_resources.proofs.Lists.{all-map, some-same, all-more, all-both, all-at, all-remove, map-join, map-length, get-or-push, push-length}
 use Rattle.std.proofs.Common.{◌≡◌, ◌≢◌, ℕ, suc, ◌<◌, ℤ, List, [], ◌∷◌, ◌++◌, length, map, arith, refl, sym, ap, ◌∙◌, subst, Some, Bool, true, false}
 use Rattle.std.specs.Prelude.{slice_get, nat_lt, remove, ◌==◌, if◌then◌else◌}
@@ -29,7 +30,6 @@ use Rattle.cap_account_resources.proofs.Room.{room, room-some, part-some}
 use Rattle.cap_account_resources.proofs.Stocks.{Stock, both, all_of, none-right, stock-laws, Composes}
 use Rattle.cap_account_states.specs.Nodes.{Comes, Children, Open}
 use Rattle.cap_account_states.proofs.Terms.{Over, row-over, vars-more, Agree}
-use Rattle.cap_account_states.proofs.Alike.{Alike, InScope, alike-trans, alike-less, agree-alike, scaled-alike, value-alike}
 use Rattle.cap_account_states.proofs.Wants.{scaled-finer}
 use Rattle.cap_account_states.proofs.Attempts.{comes-bind, after-found, after-need, after-proved}
 use Rattle.cap_account_states.proofs.Adding.{PieceOver}
@@ -353,10 +353,6 @@ module _ (p : Checked) (program : IsWellFormed p.program) (give : GivenLaw p) (V
           int-on u k = vars-more (Usable [] s.sorts Int) (Usable [] s2.sorts Int) (usable2 Int)
               u.parts k
 
-          int-old : (u : Linear) → Over (Usable [] s.sorts Int) u → Over (Old s) u
-          int-old u k = vars-more (Usable [] s.sorts Int) (Old s) (usable-old [] s.sorts Int)
-              u.parts k
-
           all-open : AllByRecursion IsOpen s2.opened
           all-open = all-both IsOpen s.opened (f ∷ []) o.opened ((over, exact), tt)
 
@@ -364,7 +360,7 @@ module _ (p : Checked) (program : IsWellFormed p.program) (give : GivenLaw p) (V
           opened2 g told = (
             int-on g.region told.0.0,
             known_as g.kind (map (value v.whole) g.args) (Some (value v.whole g.state)),
-            ap V (value-alike (Old s) v w alike2 g.region (int-old g.region told.0.0)) ∙ told.1,
+            ap V (usable-alike [] s v w alike2 g.region told.0.0) ∙ told.1,
           )
 
           state2 : StateAt p.program [] V sc (length s.envs) w s2
@@ -449,7 +445,7 @@ module _ (p : Checked) (program : IsWellFormed p.program) (give : GivenLaw p) (V
               regions_of given.w fs ≡ regions_of v fs
           regions-same [] h = refl
           regions-same (g ∷ fs) h =
-              let e = value-alike (Old s) v given.w alike3 g.region (int-old g.region h.0.0.0) in
+              let e = usable-alike [] s v given.w alike3 g.region h.0.0.0 in
               let r = regions-same fs h.1 in
               rw (e, r) refl
 
