@@ -106,7 +106,7 @@ pub record OwnsInvariant (p : PlainProgram) (T : Table) (q : Stock) (f : PlainFu
 
 module _ (p : PlainProgram) where
   -- out of more, leaving less
-  mutual
+  abbrev mutual
     pub draws-more :
         (T : Table) (v : Valuation) (i : PlainItem) (q q' r : Stock) → Inside p q q' →
         Draws p T v i q r → Draws p T v i q' r
@@ -136,7 +136,7 @@ module _ (p : PlainProgram) where
       draws-all-more T v more h.0 h.0 r r' (inside-same p h.0) less h.2,
     )
 
-  pub draws-join :
+  abbrev pub draws-join :
       (T : Table) (v : Valuation) (xs ys : Items) (q m r : Stock) → DrawsAll p T v xs q m →
       DrawsAll p T v ys m r → DrawsAll p T v (append_items xs ys) q r
   draws-join T v none ys q m r h k = draws-all-more T v ys m q r r h (inside-same p r) k

@@ -1,17 +1,18 @@
 -- Rule `create`: the case is taken, the region is made, and the fact is taken again.
-use Rattle.std.proofs.Common.{◌≡◌, ℕ, suc, ◌+◌, ◌<◌, ◌≤◌, ℤ, pos, ◌+ℤ◌, List, [], ◌∷◌, ◌++◌, arith, refl, sym, ◌∙◌, subst, inl, inr, Some}
+use Rattle.std.proofs.Common.{◌≡◌, ℕ, suc, ◌<◌, ◌≤◌, ℤ, pos, ◌+ℤ◌, List, [], ◌∷◌, ◌++◌, arith, refl, sym, ◌∙◌, subst, inl, inr, Some}
 use Rattle.std.specs.Prelude.{length, slice_get, IsSomeAnd}
 use Rattle.std.specs.List.{AllByRecursion}
 use Rattle.cap_lin.specs.Values.{Valuation}
+use Rattle.cap_lin.specs.declared.row.Sort.TheVariants.{Int}
 use Rattle.cap_prog.specs.declared.assertion.Slot.{Slot}
-use Rattle.cap_prog.specs.Program.{PlainItem, fact, Items, item, PlainProgram}
+use Rattle.cap_prog.specs.Program.{PlainItem, Items, item, PlainProgram}
 use Rattle.cap_prog.specs.WellFormed.{FactFits, RegionFits}
 use Rattle.cap_goal_spec.specs.States.{PlainState, PlainTask, PlainGoal, goal, to_make}
 use Rattle.cap_goal_spec.specs.Choices.{PlainTree, node, PlainTrees, no_trees, tree, by_absurd, by_made}
 use Rattle.cap_rules.specs.Making.{fresh}
 use Rattle.cap_rules.specs.Rules.{at_create}
 use Rattle.cap_account_resources.specs.Parts.{known_as, Table}
-use Rattle.cap_account_resources.proofs.Lists.{all-both, all-more}
+use Rattle.cap_account_resources.proofs.Lists.{all-both, all-more, push-length}
 use Rattle.cap_account_resources.proofs.Monoid.{atom, both as plus}
 use Rattle.cap_account_resources.proofs.Interference.{Holding}
 use Rattle.cap_account_resources.proofs.Room.{all_guards, with_known}
@@ -19,6 +20,7 @@ use Rattle.cap_account_resources.proofs.Stocks.{Stock, guard_stock, both, Inside
 use Rattle.cap_account_resources.proofs.Tables.{extends-trans}
 use Rattle.cap_account_resources.proofs.Owners.{Owner, owned, guards_of_all, owned-join, guards-join, numbered-join}
 use Rattle.cap_account_states.specs.Nodes.{NodePredicate, Comes, Children}
+use Rattle.cap_account_states.proofs.Brought.{a_whole, brought-join}
 use Rattle.cap_account_states.proofs.Meets.{solves}
 use Rattle.cap_account_states.proofs.Checked.{Checked}
 use Rattle.cap_account_assertions.proofs.Asserted.{DrawsAll}
@@ -27,7 +29,7 @@ use Rattle.cap_account_assertions.proofs.TreeSizes.{tree_size, trees_size}
 use Rattle.cap_account_assertions.proofs.Follows.{follows-trans}
 use Rattle.cap_account_assertions.proofs.NewRegions.{told-here, told-apart, told-extends, owner-extends, none-of-both}
 use Rattle.cap_account_assertions.proofs.TakeSteps.{Job, tasks_of, remaining, TakeStart, Took, TookLaw}
-use Rattle.cap_account_assertions.proofs.FreshRegions.{fresh_values}
+use Rattle.cap_account_assertions.proofs.FreshRegions.{fresh_values, fresh-brought}
 use Rattle.cap_account_assertions.proofs.MadeRegions.{RegionMade, made-region}
 use Rattle.cap_account_assertions.proofs.CaseStarts.{lim_with, case_state, case_job, fact_job, CaseStart, case-start}
 use Rattle.cap_account_assertions.proofs.CaseTaken.{CaseTook, case-pending, made_state, made_known, made-follows, lim_made, start-again}
@@ -113,6 +115,17 @@ module _ (p : Checked) (regions : AllByRecursion (RegionFits p.program) p.progra
               (tasks_of (fact_job j i more left)) Q m) u.after
               (made-follows p ks T next lim j v s c k n left i more P a size st some t
               (tasks_of (fact_job j i more left)) Q m) u.follows;
+          brings = a_whole next ∷ (t.brings ++ u.brings);
+          brought =
+              let at_case = case_state s a.rows a.guards a.env in
+              let made = made_state p ks T next lim j v s c k n left i more P a size st some t
+              (tasks_of (fact_job j i more left)) Q m in
+              let chosen = fresh_values s v next in
+              let first = brought-join s at_case t.after chosen t.w (a_whole next ∷ [])
+              t.brings (fresh-brought s at_case v next (push-length s.sorts Int)) t.follows.alike
+              t.brought in
+              brought-join s made u.after t.w u.w (a_whole next ∷ t.brings) u.brings
+              (record { count = first.count; are = first.are }) u.follows.alike u.brought;
           children = u.children;
           goes = u.goes;
           no_larger = (let l = u.no_larger in omega (arith, l, le));

@@ -1,19 +1,18 @@
 -- What items draw at values, they draw at alike values over a multiple of the denominator.
-use Rattle.std.proofs.Common.{◌≡◌, ℕ, ℤ, pos, ◌<ℤ◌, List, [], ◌∷◌, Option, Some, None, refl, sym, ap, ◌∙◌, subst, inl, inr}
+use Rattle.std.proofs.Common.{ℕ, ℤ, pos, ◌<ℤ◌, List, [], ◌∷◌, Option, Some, None, sym, ap, ◌∙◌, subst, inl, inr}
 use Rattle.std.specs.Prelude.{slice_get, IsSomeAnd}
 use Rattle.std.specs.List.{AllByRecursion}
-use Rattle.cap_lin.specs.Values.{Valuation, value}
+use Rattle.cap_lin.specs.Values.{Valuation}
 use Rattle.cap_lin.specs.declared.row.Sort.TheVariants.{Int}
 use Rattle.cap_galg.specs.Algebras.{atom_algebra}
-use Rattle.cap_prog.specs.declared.assertion.Comp.{Comp}
 use Rattle.cap_prog.specs.declared.assertion.Asked.{Asked}
 use Rattle.cap_prog.specs.declared.assertion.Slot.{Slot}
 use Rattle.cap_prog.specs.Parts.{all_items}
 use Rattle.cap_prog.specs.Program.{PlainItem, compare, choose, fact, atom, cell, Items, none, item, PlainRegionType, PlainProgram}
-use Rattle.cap_prog.specs.Scopes.{Scope, CompFits, SlotFits}
+use Rattle.cap_prog.specs.Scopes.{Scope, SlotFits}
 use Rattle.cap_prog.specs.WellFormed.{ItemFits, AtomFits, FactFits}
-use Rattle.cap_machine_accounts.specs.Assertions.{CompHolds, SlotsAre}
-use Rattle.cap_account_resources.specs.Parts.{known_as, Table}
+use Rattle.cap_machine_accounts.specs.Assertions.{SlotsAre}
+use Rattle.cap_account_resources.specs.Parts.{Table}
 use Rattle.cap_account_resources.proofs.Lists.{all-first, all-second}
 use Rattle.cap_account_resources.proofs.Marks.{Mark}
 use Rattle.cap_account_resources.proofs.Stocks.{Stock, guard_stock, cell_stock, both, Inside}
@@ -25,7 +24,7 @@ use Rattle.cap_account_assertions.proofs.Asserted.{WantsAtom, Draws, DrawsAll}
 
 module _ (p : PlainProgram) (T : Table) (sc : Scope) (v w : Valuation) (l : Alike (InScope sc) v w)
     (finer : IsFiner v w) where
-  slots-alike :
+  pub slots-alike :
       (ss : List Slot) (zs : List ℤ) → AllByRecursion (SlotFits sc Int) ss → SlotsAre v ss zs →
       SlotsAre w ss zs
   slots-alike [] [] f h = h
@@ -35,7 +34,7 @@ module _ (p : PlainProgram) (T : Table) (sc : Scope) (v w : Valuation) (l : Alik
       (slot-alike sc v w l s z f.0 h.0, slots-alike ss zs f.1 h.1)
 
   -- of a region type that there is
-  of-type :
+  pub of-type :
       (P : PlainRegionType → Type 0) (A : Type 0) (k : ℕ) →
       ((t : PlainRegionType) → P t → A) → IsSomeAnd (slice_get p.regions k) P → A
   of-type P A k f h = by (slice_get p.regions k) h
@@ -44,7 +43,7 @@ module _ (p : PlainProgram) (T : Table) (sc : Scope) (v w : Valuation) (l : Alik
       by None h = absurd h
       by (Some t) h = f t h
 
-  atom-finer :
+  abbrev pub atom-finer :
       (k i : ℕ) (asked : Asked) (m : Option Mark) → AskedOver sc asked →
       WantsAtom p v k (i, asked) m → WantsAtom p w k (i, asked) m
   atom-finer k i asked m over h = record {
@@ -54,7 +53,7 @@ module _ (p : PlainProgram) (T : Table) (sc : Scope) (v w : Valuation) (l : Alik
     is_mark = h.is_mark;
   }
 
-  mutual
+  abbrev mutual
     pub draws-finer :
         (i : PlainItem) (more : Items) (q r : Stock) → AreFit p sc (item i more) →
         Draws p T v i q r → Draws p T w i q r

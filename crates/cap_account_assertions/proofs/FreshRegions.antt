@@ -27,6 +27,7 @@ use Rattle.cap_account_resources.proofs.Stocks.{Stock, guard_stock, both, Compos
 use Rattle.cap_account_states.specs.Nodes.{Comes}
 use Rattle.cap_account_states.proofs.Terms.{Over, vars-more}
 use Rattle.cap_account_states.proofs.Attempts.{comes-bind, after-sort, sort_added}
+use Rattle.cap_account_states.proofs.Brought.{Brought, a_whole}
 use Rattle.cap_account_states.proofs.Meets.{Free, Usable, usable-on, usable-old, Old, same-fresh, with_value, new-whole, new-share, with-agrees, variable-value}
 use Rattle.cap_account_states.proofs.Compatible.{pieces-more, covered-alike}
 use Rattle.cap_account_states.proofs.Facts.{FactHolds, FactOver, Facts, facts-on}
@@ -63,6 +64,26 @@ fresh-alike s v n =
     (with-agrees (Old s) v (length s.sorts) n (n *ℤ denominator v.fraction)
     (λ x l e. omega (arith, l, e)))
 
+fresh-whole :
+    (s : PlainState) (v : Valuation) (n : ℤ) → IsWholeAt (fresh_values s v n) (length s.sorts)
+fresh-whole s v n =
+    let x = length s.sorts in
+    let d = denominator v.fraction in
+    new-share v x n (n *ℤ d) ∙ ap (λ z. z *ℤ d) (sym (new-whole v x n (n *ℤ d)))
+
+-- the number is what the rule brings
+pub fresh-brought :
+    (s t : PlainState) (v : Valuation) (n : ℤ) → length t.sorts ≡ length s.sorts + 1 →
+    Brought s t (fresh_values s v n) (a_whole n ∷ [])
+fresh-brought s t v n e = record {
+  count = omega (arith, e);
+  are = (
+    new-whole v (length s.sorts) n (n *ℤ denominator v.fraction),
+    fresh-whole s v n,
+    tt,
+  );
+}
+
 pub free-above :
     (n : ℕ) (ks : List ℕ) → AllByRecursion (λ k. k < n) ks → Free ks n
 free-above n ks h = all-more (λ k. k < n) (λ k. n ≢ k) (λ k l e. omega (arith, l, e)) ks h
@@ -81,8 +102,6 @@ fresh-known p ks T v s c n h =
     let w = fresh_values s v n in
     let t = sort_added s Int in
     let d = denominator v.fraction in
-    let whole : IsWholeAt w x =
-    new-share v x n (n *ℤ d) ∙ ap (λ z. z *ℤ d) (sym (new-whole v x n (n *ℤ d))) in
     let l = fresh-alike s v n in
     let R = Usable ks s.sorts in
     let S = Usable ks t.sorts in
@@ -93,7 +112,8 @@ fresh-known p ks T v s c n h =
       grounded = record {
         meets =
             meets-fresh ks v w s Int
-            (with-agrees (Old s) v x n (n *ℤ d) (λ y a e. omega (arith, a, e))) whole m;
+            (with-agrees (Old s) v x n (n *ℤ d) (λ y a e. omega (arith, a, e)))
+            (fresh-whole s v n) m;
         pieces_over = pieces-more R S on s.guards h.grounded.pieces_over;
         pieces_fit = h.grounded.pieces_fit;
       };

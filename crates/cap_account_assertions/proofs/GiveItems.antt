@@ -32,12 +32,14 @@ use Rattle.cap_account_states.specs.Nodes.{Comes}
 use Rattle.cap_account_states.proofs.Terms.{Over, row-over, value-number, Agree}
 use Rattle.cap_account_states.proofs.Attempts.{comes-bind, comes-comparison, after-cell, cell_added, row_added}
 use Rattle.cap_account_states.proofs.Meets.{Usable, usable-old, CellOver, Meets, Old, meets-row, variable-value}
+use Rattle.cap_account_states.proofs.Filled.{Filled, filled_at, fill_parts, fill_slot, fill_slots}
 use Rattle.cap_account_states.proofs.Naming.{Ready, Step, step-trans}
 use Rattle.cap_account_states.proofs.Adding.{comes-piece, piece_added}
 use Rattle.cap_account_states.proofs.Facts.{StateHolds, facts-same, FactHolds, FactOver, fact_added, comes-fact, no-other-type}
 use Rattle.cap_account_states.proofs.Backed.{IsFirm, Knows}
 use Rattle.cap_account_states.proofs.KnowsLater.{knows-more}
 use Rattle.cap_account_states.proofs.PiecesHeld.{fact-known, piece_stock, piece-known}
+use Rattle.cap_account_assertions.proofs.Filling.{fill_form}
 use Rattle.cap_account_assertions.proofs.GiveTerms.{term-given, slot-given, sides-given, sides-row, over-later, number-later, need-join}
 use Rattle.cap_account_assertions.proofs.GiveSlots.{slots-given, shaped-takes, form-given}
 use Rattle.cap_account_assertions.proofs.GiveState.{underway-step, Due, ItemGiven, drawn-beside, drawn-held, goes}
@@ -126,12 +128,13 @@ abbrev pub IsPlain : PlainItem → Type 0
 IsPlain (choose c x y) = ⊥
 IsPlain i = Unit {0}
 
-module _ (p : PlainProgram) (T : Table) (sc : Scope) (e : ℕ) (a : Valuation) (total : Stock) where
+module _ (p : PlainProgram) (T : Table) (sc : Scope) (e : ℕ) (a : Valuation) (total : Stock)
+    (goal : Filled) where
   abbrev IsDue : PlainItem → Items → Valuation → PlainState → Type 0
-  IsDue one more v s = Due p T sc e a total (item one more) v s
+  IsDue one more v s = Due p T sc e a total goal (item one more) v s
 
   abbrev IsGiven : Items → Valuation → PlainState → (PlainState → Type 0) → Type 0
-  IsGiven more v s P = ItemGiven p T sc e a total more v s P
+  IsGiven more v s P = ItemGiven p T sc e a total goal more v s P
 
   -- ---- comparisons
 
@@ -146,8 +149,8 @@ module _ (p : PlainProgram) (T : Table) (sc : Scope) (e : ℕ) (a : Valuation) (
       let m = sides-row sc e a v s c c.op _ g d.draws.1.0 in
       let t = row_added g.after (row_of g.left c.op g.right c.sort) in
       let now = underway-step p T sc e a v s t d.held d.underway m in
-      goes p T sc e a total i more v s P d t t m d.held m.ready.meets now.knows now.firm
-      (drawn-beside p T sc e a total i more v s P d d.draws.0 d.draws.1.1)
+      goes p T sc e a total goal i more v s P d t t m d.held g.filled m.ready.meets now.knows now.firm
+      (drawn-beside p T sc e a total goal i more v s P d d.draws.0 d.draws.1.1)
       (comes-comparison g.after g.left c.op g.right c.sort P g.comes)
 
   -- ---- cells
@@ -178,21 +181,22 @@ module _ (p : PlainProgram) (T : Table) (sc : Scope) (e : ℕ) (a : Valuation) (
       let same : cell_stock (value a.whole x) took.0 ≡ q =
       λ j. cell_stock (sym at j) (sym k.number_is j) in
       let room =
-      drawn-held p T sc e a total i more v s P d q
+      drawn-held p T sc e a total goal i more v s P d q
       (subst (λ r. Inside p (both p r d.draws.0) d.left) same took.3) in
       let comes =
       comes-comparison (cell_added k.after g.term k.term) g.term AtLeast one_value Int P
       (after-cell k.after g.term k.term _ P k.comes) in
-      goes p T sc e a total i more v s P d k.after (cell_known k.after g.term k.term) m
-      (both p d.held q) known.meets known.knows now.firm room comes
+      goes p T sc e a total goal i more v s P d k.after (cell_known k.after g.term k.term) m
+      (both p d.held q) (k.filled ∙ ap (fill_slot a y took.0) g.filled) known.meets known.knows now.firm room comes
 
   -- ---- facts
 
   -- the region, arguments and state that the names have got
   record FactMade (v : Valuation) (s : PlainState) (n k : ℕ) (zs : List ℤ) (z : ℤ)
-      (P : PlainState → Type 0) : Type 0 where
+      (f : Filled) (P : PlainState → Type 0) : Type 0 where
     pub after : PlainState
     pub step : Step sc e a v s after
+    pub filled : filled_at e step.w after ≡ f
     pub made : PlainFact
     pub tight : IsFirm made
     pub kind_is : made.kind ≡ k
@@ -207,7 +211,9 @@ module _ (p : PlainProgram) (T : Table) (sc : Scope) (e : ℕ) (a : Valuation) (
       (v : Valuation) (s : PlainState) (P : PlainState → Type 0) → Ready sc e a v s →
       HasSort sc Int n → AllByRecursion (SlotFits sc Int) args × SlotFits sc Int x →
       SlotsAre a args zs → SlotIs a x z → Comes (give_item p s e (fact place n k args x)) P →
-      FactMade v s n k zs z P
+      FactMade v s n k zs z
+      (fill_slot a x z (fill_slots a args zs (fill_parts a Int (variable n).parts (filled_at e v s))))
+      P
   fact-made place n k args x zs z v s P r o f are is h =
       let g =
       term-given sc e a v s Int (variable n) _ r (o, tt)
@@ -222,6 +228,9 @@ module _ (p : PlainProgram) (T : Table) (sc : Scope) (e : ℕ) (a : Valuation) (
       record {
         after = c.after;
         step = step-trans sc e a v s g.after c.after g.step on;
+        filled =
+            c.filled
+            ∙ ap (fill_slot a x z) (b.filled ∙ ap (fill_slots a args zs) g.filled);
         made = fact_of g.term k b.made c.term;
         tight = refl;
         kind_is = refl;
@@ -265,9 +274,10 @@ module _ (p : PlainProgram) (T : Table) (sc : Scope) (e : ℕ) (a : Valuation) (
       let known =
       fact-known p [] w T g.after f d.held now.ready.meets now.knows now.firm g.tight holds
       g.over in
-      goes p T sc e a total i more v s P d g.after (fact_added g.after f) g.step d.held known.meets
+      goes p T sc e a total goal i more v s P d g.after (fact_added g.after f) g.step d.held g.filled
+      known.meets
       known.knows known.firm
-      (drawn-beside p T sc e a total i more v s P d d.draws.0 d.draws.1.1)
+      (drawn-beside p T sc e a total goal i more v s P d d.draws.0 d.draws.1.1)
       (comes-fact g.after f P (no-other-type w T f g.after.facts holds now.knows.facts.holds)
       g.comes)
 
@@ -302,7 +312,7 @@ module _ (p : PlainProgram) (T : Table) (sc : Scope) (e : ℕ) (a : Valuation) (
       let same : guard_stock (a.whole n) d.draws.1.0 ≡ q =
       λ j. guard_stock (at j) (wants.is_mark j) in
       let room =
-      drawn-held p T sc e a total i more v s P d q
+      drawn-held p T sc e a total goal i more v s P d q
       (subst (λ z. Inside p (both p z d.draws.0) d.left) same d.draws.1.2) in
       let held = both p d.held q in
       let inside =
@@ -312,7 +322,8 @@ module _ (p : PlainProgram) (T : Table) (sc : Scope) (e : ℕ) (a : Valuation) (
       (fit.0, shaped-takes sc b asked f.made fit.1 f.is.1)
       (over-later g.after f.after Int g.term f.step.same g.over, f.is.2) f.is.0
       (composes-inside p held total inside ne) in
-      goes p T sc e a total i more v s P d f.after (piece_added p f.after r) m held known.meets
+      goes p T sc e a total goal i more v s P d f.after (piece_added p f.after r) m held
+      (f.filled ∙ ap (fill_form a asked y wants.wanted) g.filled) known.meets
       known.knows now.firm room (comes-piece p f.after r P f.comes).2
 
   -- ---- any item but a conditional one

@@ -1,5 +1,5 @@
 -- Giving the items of an assertion, one after the other: the law.
-use Rattle.std.proofs.Common.{ℕ, zero, suc, ◌+◌, ◌≤◌, List, [], ◌∷◌, arith, inl, inr}
+use Rattle.std.proofs.Common.{◌≡◌, ℕ, zero, suc, ◌+◌, ◌≤◌, List, [], ◌∷◌, arith, refl, ap, ◌∙◌, inl, inr}
 use Rattle.cap_lin.specs.Rows.{row_of}
 use Rattle.cap_lin.specs.Values.{Valuation}
 use Rattle.cap_lin.specs.declared.row.Op.{Op}
@@ -20,10 +20,12 @@ use Rattle.cap_account_states.specs.Nodes.{Comes, Children, Open}
 use Rattle.cap_account_states.proofs.Attempts.{comes-bind, after-comparison, row_added}
 use Rattle.cap_account_states.proofs.Meets.{solves}
 use Rattle.cap_account_states.proofs.Checked.{Checked, children-split, one-child}
+use Rattle.cap_account_states.proofs.Filled.{Filled, filled_at, fill_sides}
 use Rattle.cap_account_states.proofs.Naming.{Step}
 use Rattle.cap_account_states.proofs.Items.{items_size, size-positive, append-size, AreFit, fits-append, fits-more, fits-sides}
 use Rattle.cap_account_states.proofs.KnowsLater.{backed-more}
 use Rattle.cap_account_assertions.proofs.Asserted.{DrawsAll, draws-join}
+use Rattle.cap_account_assertions.proofs.Filling.{fill_item, fill_items, fill-join}
 use Rattle.cap_account_assertions.proofs.Laws.{Given, GivenLaw}
 use Rattle.cap_account_assertions.proofs.GiveTerms.{sides-given, sides-row}
 use Rattle.cap_account_assertions.proofs.GiveState.{Onward, onward-none, onward-step, onward-trans, underway-step, Due}
@@ -32,8 +34,9 @@ use Rattle.cap_account_assertions.proofs.GiveItems.{IsPlain, item-gives}
 -- what is given to a state that went on is given to the first one
 given-on :
     (p : Checked) (T : Table) (e : ℕ) (v w : Valuation) (total : Stock) (s t : PlainState)
-    (ts : List PlainTask) → Onward e v w s t → Given p T e w total t ts → Given p T e v total s ts
-given-on p T e v w total s t ts o g =
+    (ts : List PlainTask) (goal : Filled) → Onward e v w s t → Given p T e w total t ts goal →
+    Given p T e v total s ts goal
+given-on p T e v w total s t ts goal o g =
     let on =
     onward-trans e v w g.w s t g.after o
     (record { agree = g.agree; goes_on = g.goes_on; others = g.others }) in
@@ -47,6 +50,7 @@ given-on p T e v w total s t ts o g =
       firm = g.firm;
       backed = g.backed;
       agree = on.agree;
+      filled = g.filled;
       goes_on = on.goes_on;
       others = on.others;
     }
@@ -54,16 +58,16 @@ given-on p T e v w total s t ts o g =
 -- ---- the two sides of a conditional item
 
 module _ (p : Checked) (T : Table) (sc : Scope) (e : ℕ) (a : Valuation) (total : Stock)
-    (ne : Composes total) (n : ℕ) (ts : List PlainTask) where
+    (goal : Filled) (ne : Composes total) (n : ℕ) (ts : List PlainTask) where
   abbrev IsDue : Items → Valuation → PlainState → Type 0
-  IsDue items v s = Due p.program T sc e a total items v s
+  IsDue items v s = Due p.program T sc e a total goal items v s
 
   abbrev IsOpen : PlainTrees → PlainState → Items → Type 0
   IsOpen ks s items = Open p.N ks s (to_give items e n ∷ ts)
 
   given-none :
       (ks : PlainTrees) (v : Valuation) (s : PlainState) → Open p.N ks s ts → IsDue none v s →
-      Given p T e v total s ts
+      Given p T e v total s ts goal
   given-none ks v s h d =
       let u = d.underway in
       let on = onward-none e v s in
@@ -84,6 +88,7 @@ module _ (p : Checked) (T : Table) (sc : Scope) (e : ℕ) (a : Valuation) (total
             (inside-trans p.program d.held (both p.program d.held d.left) total
             (inside-first p.program d.held d.left) d.room) u.knows.backed;
         agree = on.agree;
+        filled = d.fills;
         goes_on = on.goes_on;
         others = on.others;
       }
@@ -92,15 +97,24 @@ module _ (p : Checked) (T : Table) (sc : Scope) (e : ℕ) (a : Valuation) (total
   side-due :
       (c : Comp) (x y side more : Items) (v : Valuation) (s t : PlainState)
       (d : IsDue (item (choose c x y) more) v s) (m : Step sc e a v s t) →
-      AreFit p.program sc side → DrawsAll p.program T a side d.left d.draws.0 →
-      IsDue (append_items side more) m.w t
-  side-due c x y side more v s t d m f h = record {
+      AreFit p.program sc side → (h : DrawsAll p.program T a side d.left d.draws.0) →
+      filled_at e m.w t ≡ fill_sides a c (filled_at e v s) →
+      fill_items p.program T a more d.draws.0 d.rest d.draws.2
+      (fill_items p.program T a side d.left d.draws.0 h (fill_sides a c (filled_at e v s)))
+      ≡ goal → IsDue (append_items side more) m.w t
+  side-due c x y side more v s t d m f h filled fills = record {
     held = d.held;
     left = d.left;
     rest = d.rest;
     underway = underway-step p.program T sc e a v s t d.held d.underway m;
     fit = fits-append p.program sc side more f (fits-more p.program sc (choose c x y) more d.fit);
     draws = draws-join p.program T a side more d.left d.draws.0 d.rest h d.draws.2;
+    fills =
+        fill-join p.program T a side more d.left d.draws.0 d.rest h d.draws.2 (filled_at e m.w t)
+        ∙ ap
+        (λ k. fill_items p.program T a more d.draws.0 d.rest d.draws.2
+        (fill_items p.program T a side d.left d.draws.0 h k)) filled
+        ∙ fills;
     room = d.room;
   }
 
@@ -110,13 +124,13 @@ module _ (p : Checked) (T : Table) (sc : Scope) (e : ℕ) (a : Valuation) (total
   abbrev AllGiven : ℕ → Type 0
   AllGiven size =
       (items : Items) → items_size items ≤ size → (ks : PlainTrees) (v : Valuation)
-      (s : PlainState) → IsOpen ks s items → IsDue items v s → Given p T e v total s ts
+      (s : PlainState) → IsOpen ks s items → IsDue items v s → Given p T e v total s ts goal
 
   abbrev ListGiven : Items → Type 0
   ListGiven items =
       (ks : PlainTrees) (v : Valuation) (s : PlainState) →
       Comes (give p.program s e n ts items) (Children p.N ks) → IsDue items v s →
-      Given p T e v total s ts
+      Given p T e v total s ts goal
 
   -- an item that isn't conditional, and those that follow
   after-item :
@@ -124,12 +138,12 @@ module _ (p : Checked) (T : Table) (sc : Scope) (e : ℕ) (a : Valuation) (total
       (ks : PlainTrees) (v : Valuation) (s : PlainState) →
       Comes (give_item p.program s e i)
       (λ t. Comes (give p.program t e n ts more) (Children p.N ks)) → IsDue (item i more) v s →
-      Given p T e v total s ts
+      Given p T e v total s ts goal
   after-item i more ok law ks v s h d =
       let g =
-      item-gives p.program T sc e a total ne i ok more v s
+      item-gives p.program T sc e a total goal ne i ok more v s
       (λ t. Comes (give p.program t e n ts more) (Children p.N ks)) d h in
-      given-on p T e v g.w total s g.after ts g.onward (law ks g.w g.after g.comes g.due)
+      given-on p T e v g.w total s g.after ts goal g.onward (law ks g.w g.after g.comes g.due)
 
   -- by the side that the values choose
   after-choice :
@@ -142,6 +156,7 @@ module _ (p : Checked) (T : Table) (sc : Scope) (e : ℕ) (a : Valuation) (total
       sides-given sc e a v s c _ d.underway.ready d.fit.0
       (comes-bind (give_sides s e c) _ (Children p.N ks) h) in
       let after = λ (op : Op). row_added g.after (row_of g.left op g.right c.sort) in
+      let then = λ (f : Filled). fill_items p.program T a more d.draws.0 d.rest d.draws.2 f in
       let todo = λ (side : Items). to_give (append_items side more) e n ∷ ts in
       let first = after-comparison g.after g.left c.op g.right c.sort _ (Children p.N ks) g.comes in
       let second =
@@ -152,19 +167,26 @@ module _ (p : Checked) (T : Table) (sc : Scope) (e : ℕ) (a : Valuation) (total
       let by =
       λ (op : Op) (side : Items) (m : Step sc e a v s (after op))
       (small : items_size (append_items side more) ≤ size) (f : AreFit p.program sc side)
-      (took : DrawsAll p.program T a side d.left d.draws.0) (ls : PlainTrees)
+      (took : DrawsAll p.program T a side d.left d.draws.0)
+      (filled : filled_at e m.w (after op) ≡ fill_sides a c (filled_at e v s))
+      (fills : then (fill_items p.program T a side d.left d.draws.0 took
+      (fill_sides a c (filled_at e v s)))
+      ≡ goal) (ls : PlainTrees)
       (o : Open p.N ls (after op) (todo side)).
-      given-on p T e v m.w total s (after op) ts (onward-step sc e a v s (after op) m)
+      given-on p T e v m.w total s (after op) ts goal (onward-step sc e a v s (after op) m)
       (law (append_items side more) small ls m.w (after op) o
-      (side-due c x y side more v s (after op) d m f took)) in
-      elim d.draws.1 [
-        | inl w ↦ by c.op x (sides-row sc e a v s c c.op _ g w.0) small_x
-            (all-first (ItemFits p.program sc) (all_items x) (all_items y) fit) w.1 k.left k.first
-        | inr w ↦ by (opposite c.op) y
+      (side-due c x y side more v s (after op) d m f took filled fills)) in
+      (elim d.draws.1 as (λ o. then
+      (fill_item p.program T a (choose c x y) d.left d.draws.0 o (filled_at e v s)) ≡ goal →
+      Given p T e v total s ts goal) [
+        | inl w ↦ λ k2. by c.op x (sides-row sc e a v s c c.op _ g w.0) small_x
+            (all-first (ItemFits p.program sc) (all_items x) (all_items y) fit) w.1 g.filled k2 k.left
+            k.first
+        | inr w ↦ λ k2. by (opposite c.op) y
             (sides-row sc e a v s c (opposite c.op) _ g (unless-relates c.op _ _ w.0)) small_y
-            (all-second (ItemFits p.program sc) (all_items x) (all_items y) fit) w.1 k.right
-            k.second
-      ]
+            (all-second (ItemFits p.program sc) (all_items x) (all_items y) fit) w.1 g.filled k2
+            k.right k.second
+      ]) d.fills
 
   list-given : (size : ℕ) → AllGiven size → (items : Items) → items_size items ≤ size + 1 →
       ListGiven items
@@ -195,7 +217,7 @@ module _ (p : Checked) (T : Table) (sc : Scope) (e : ℕ) (a : Valuation) (total
       (size : ℕ) → AllGiven size → (i : PlainItem) (more : Items) →
       items_size (item i more) ≤ size + 1 → (t : PlainTree) (v : Valuation) (s : PlainState) →
       p.N t s (to_give (item i more) e n ∷ ts) → IsDue (item i more) v s →
-      Given p T e v total s ts
+      Given p T e v total s ts goal
   node-given size law i more le (node (by_absurd c) ks) v s h d =
       absurd ((p.step h).0.0 v (solves [] v s d.underway.ready.meets))
   node-given size law i more le (node by_give ks) v s h d =
@@ -214,7 +236,8 @@ module _ (p : Checked) (T : Table) (sc : Scope) (e : ℕ) (a : Valuation) (total
 
 pub given-law : (p : Checked) → GivenLaw p
 given-law p T sc e n a held h r items ts trees v s hd at firm means fit draws backed ne =
-    all-given p T sc e a (both p.program held h) ne n ts (items_size items) items (omega arith)
+    all-given p T sc e a (both p.program held h)
+    (fill_items p.program T a items h r draws (filled_at e v s)) ne n ts (items_size items) items (omega arith)
     trees v s hd (record {
       held = held;
       left = h;
@@ -237,5 +260,6 @@ given-law p T sc e n a held h r items ts trees v s hd at firm means fit draws ba
       };
       fit = fit;
       draws = draws;
+      fills = refl;
       room = inside-same p.program (both p.program held h);
     })

@@ -20,24 +20,27 @@ use Rattle.cap_prog.specs.WellFormed.{AskedFits}
 use Rattle.cap_machine_accounts.specs.Assertions.{SlotsAre}
 use Rattle.cap_goal_spec.specs.States.{PlainState}
 use Rattle.cap_rules.specs.Attempts.{unit}
-use Rattle.cap_rules.specs.Making.{fresh}
+use Rattle.cap_rules.specs.Making.{fresh, env_at}
 use Rattle.cap_rules.specs.Giving.{Given as Pair, given as pair, give_slot, give_slots, give_form}
 use Rattle.cap_account_states.specs.Nodes.{Comes}
-use Rattle.cap_account_resources.proofs.Lists.{get-last}
+use Rattle.cap_account_resources.proofs.Lists.{get-last, push-length}
 use Rattle.cap_account_states.proofs.Terms.{Over}
 use Rattle.cap_account_states.proofs.Attempts.{comes-bind, after-sort, sort_added}
 use Rattle.cap_account_states.proofs.Meets.{Usable, new-share, variable-amount}
+use Rattle.cap_account_states.proofs.Filled.{Filled, filled_at, fill_slots, fill_amount}
 use Rattle.cap_account_states.proofs.Naming.{Ready, Step, step-none, step-trans, step-fresh}
 use Rattle.cap_account_states.proofs.Wants.{AmountIs, Wants}
 use Rattle.cap_account_states.proofs.Guarding.{FormOver}
+use Rattle.cap_account_assertions.proofs.Filling.{fill_form}
 use Rattle.cap_account_assertions.proofs.GiveTerms.{TermGiven, term-given, slot-given, over-later, number-later}
 
 -- what is given becomes something of which this holds, after names have got variables
-pub record Becomes (sc : Scope) (e : ℕ) (a v : Valuation) (s : PlainState) (A : Type 0)
-    (Q : Valuation → PlainState → A → Type 0) (P : Pair A → Type 0) : Type 0 where
+pub record Becomes (sc : Scope) (e : ℕ) (a v : Valuation) (s : PlainState) (f : Filled)
+    (A : Type 0) (Q : Valuation → PlainState → A → Type 0) (P : Pair A → Type 0) : Type 0 where
   pub after : PlainState
   pub made : A
   pub step : Step sc e a v s after
+  pub filled : filled_at e step.w after ≡ f
   pub is : Q step.w after made
   pub comes : P (pair after made)
 
@@ -52,9 +55,16 @@ pub slots-given :
     (sc : Scope) (e : ℕ) (a : Valuation) (xs : List Slot) (zs : List ℤ) (v : Valuation)
     (s : PlainState) (P : Pair (List Linear) → Type 0) → Ready sc e a v s →
     AllByRecursion (SlotFits sc Int) xs → SlotsAre a xs zs → Comes (give_slots s e xs) P →
-    Becomes sc e a v s (List Linear) (TermsAre zs) P
+    Becomes sc e a v s (fill_slots a xs zs (filled_at e v s)) (List Linear) (TermsAre zs) P
 slots-given sc e a [] [] v s P r f m c =
-    record { after = s; made = []; step = step-none sc e a v s r; is = (refl, tt); comes = c.1 }
+    record {
+      after = s;
+      made = [];
+      step = step-none sc e a v s r;
+      filled = refl;
+      is = (refl, tt);
+      comes = c.1;
+    }
 slots-given sc e a [] (z ∷ zs) v s P r f m c = absurd m
 slots-given sc e a (x ∷ xs) [] v s P r f m c = absurd m
 slots-given sc e a (x ∷ xs) (z ∷ zs) v s P r f m c =
@@ -67,6 +77,7 @@ slots-given sc e a (x ∷ xs) (z ∷ zs) v s P r f m c =
       after = k.after;
       made = g.term ∷ k.made;
       step = step-trans sc e a v s g.after k.after g.step k.step;
+      filled = k.filled ∙ ap (fill_slots a xs zs) g.filled;
       is = (
         λ i. (first ∙ g.number_is) i ∷ k.is.0 i,
         (over-later g.after k.after Int g.term k.step.same g.over, k.is.1),
@@ -80,13 +91,16 @@ slots-given sc e a (x ∷ xs) (z ∷ zs) v s P r f m c =
 pub amount-given :
     (sc : Scope) (e : ℕ) (a v : Valuation) (s : PlainState) (x : Slot) (z : ℤ)
     (P : Pair Linear → Type 0) → Ready sc e a v s → SlotFits sc Perm x → AmountIs a x z →
-    Comes (give_slot s e Perm x) P → TermGiven sc e a v s Perm z P
+    Comes (give_slot s e Perm x) P →
+    TermGiven sc e a v s Perm z (fill_amount a x z (filled_at e v s)) P
 amount-given sc e a v s Any z P r f m c =
     let step = step-fresh sc e a v s Perm (pos 0) z tt r in
     record {
       after = sort_added s Perm;
       term = fresh s;
       step = step;
+      filled =
+          λ i. record { env = env_at s e; next = push-length s.sorts Perm i; values = step.w };
       number_is =
           variable-amount step.w (length s.sorts) ∙ new-share v (length s.sorts) (pos 0) z;
       over = (((Perm, get-last s.sorts Perm), tt), tt);
@@ -98,6 +112,7 @@ amount-given sc e a v s (Is t) z P r f m c =
       after = g.after;
       term = g.term;
       step = g.step;
+      filled = g.filled;
       number_is = g.number_is ∙ m;
       over = g.over;
       comes = g.comes;
@@ -133,25 +148,29 @@ module _ (sc : Scope) (e : ℕ) (a v : Valuation) (s : PlainState) (y : Element)
     (P : Pair Form → Type 0) (r : Ready sc e a v s) where
   -- made of this term
   form-of :
-      (asked : Asked) (make : Linear → Form) (o : Sort) (z : ℤ) →
-      (g : TermGiven sc e a v s o z (λ t. Comes (unit (pair t.state (make t.value))) P)) →
-      FormIs asked y g.step.w g.after (make g.term) → Becomes sc e a v s Form (FormIs asked y) P
-  form-of asked make o z g h = record {
+      (asked : Asked) (make : Linear → Form) (o : Sort) (z : ℤ) (f : Filled) →
+      (g : TermGiven sc e a v s o z f (λ t. Comes (unit (pair t.state (make t.value))) P)) →
+      FormIs asked y g.step.w g.after (make g.term) →
+      Becomes sc e a v s f Form (FormIs asked y) P
+  form-of asked make o z f g h = record {
     after = g.after;
     made = make g.term;
     step = g.step;
+    filled = g.filled;
     is = h;
     comes = g.comes.1;
   }
 
   -- what is wanted
   pub form-given :
-      (asked : Asked) (b : PlainAlgebra) → AskedFits sc b asked → Wants a asked y →
-      Comes (give_form s e asked) P → Becomes sc e a v s Form (FormIs asked y) P
+      (asked : Asked) (b : PlainAlgebra) → AskedFits sc b asked → (h : Wants a asked y) →
+      Comes (give_form s e asked) P →
+      Becomes sc e a v s (fill_form a asked y h (filled_at e v s)) Form (FormIs asked y) P
   form-given One unique f h c = record {
     after = s;
     made = form.One;
     step = step-none sc e a v s r;
+    filled = refl;
     is = (h, tt, tt);
     comes = c.1;
   }
@@ -161,13 +180,13 @@ module _ (sc : Scope) (e : ℕ) (a v : Valuation) (s : PlainState) (y : Element)
       ap (λ n. pos h.0.num *ℤ pos (n + 1)) (sym g.step.ready.means.under)
       ∙ sym h.4
       ∙ ap (λ z. z *ℤ pos h.0.den) (sym g.number_is) in
-      form-of (Share x) form.Share Perm h.1 g ((h.0, h.2, is_value, h.5), tt, g.over)
+      form-of (Share x) form.Share Perm h.1 _ g ((h.0, h.2, is_value, h.5), tt, g.over)
   form-given (Src x) counting f h c =
       let g = slot-given sc e a v s x (pos h.0) _ r f h.1 (comes-bind (give_slot s e Int x) _ P c)
       in
-      form-of (Src x) form.Src Int (pos h.0) g ((h.0, g.number_is, h.2), tt, g.over)
+      form-of (Src x) form.Src Int (pos h.0) _ g ((h.0, g.number_is, h.2), tt, g.over)
   form-given (Tok x) counting f h c =
       let g = slot-given sc e a v s x (pos h.0) _ r f h.1 (comes-bind (give_slot s e Int x) _ P c)
       in
-      form-of (Tok x) form.Tok Int (pos h.0) g ((h.0, g.number_is, h.2), tt, g.over)
+      form-of (Tok x) form.Tok Int (pos h.0) _ g ((h.0, g.number_is, h.2), tt, g.over)
   form-given asked b f h c = absurd f

@@ -1,6 +1,6 @@
 -- What giving keeps of a state: its names have the values that are given, and all that it has is
 -- held, within what is held in all.
-use Rattle.std.proofs.Common.{ℕ, [], refl, sym, ◌∙◌, subst, arith}
+use Rattle.std.proofs.Common.{◌≡◌, ℕ, [], refl, sym, ap, ◌∙◌, subst, arith}
 use Rattle.std.specs.List.{AllByRecursion}
 use Rattle.cap_lin.specs.Values.{Valuation}
 use Rattle.cap_prog.specs.Program.{PlainItem, Items, item, PlainProgram}
@@ -11,11 +11,13 @@ use Rattle.cap_account_resources.proofs.Stocks.{Stock, both, stock-laws, Inside,
 use Rattle.cap_account_states.proofs.Terms.{Agree, agree-same, agree-trans, agree-less}
 use Rattle.cap_account_states.proofs.Alike.{agree-alike}
 use Rattle.cap_account_states.proofs.Meets.{Meets, Old}
+use Rattle.cap_account_states.proofs.Filled.{Filled, filled_at}
 use Rattle.cap_account_states.proofs.Naming.{Ready, Step}
 use Rattle.cap_account_states.proofs.Items.{AreFit, fits-more}
 use Rattle.cap_account_states.proofs.Backed.{IsFirm, Knows, GoesOn, OtherEnvs}
 use Rattle.cap_account_states.proofs.KnowsLater.{IsKept, old-steady, knows-on}
 use Rattle.cap_account_assertions.proofs.Asserted.{DrawsAll}
+use Rattle.cap_account_assertions.proofs.Filling.{fill_item, fill_items}
 
 -- ---- states that go on
 
@@ -121,8 +123,9 @@ module _ (p : PlainProgram) (T : Table) (sc : Scope) (e : ℕ) (a : Valuation) w
     firm = subst (AllByRecursion IsFirm) (sym m.same.facts) u.firm;
   }
 
-  module _ (total : Stock) where
-    -- these items are still to be given, out of what is left beside what is held
+  module _ (total : Stock) (goal : Filled) where
+    -- these items are still to be given, out of what is left beside what is held; then the
+    -- environment, the number of variables and the values are these
     pub record Due (items : Items) (v : Valuation) (s : PlainState) : Type 0 where
       pub held : Stock
       pub left : Stock
@@ -130,6 +133,7 @@ module _ (p : PlainProgram) (T : Table) (sc : Scope) (e : ℕ) (a : Valuation) w
       pub underway : Underway v s held
       pub fit : AreFit p sc items
       pub draws : DrawsAll p T a items left rest
+      pub fills : fill_items p T a items left rest draws (filled_at e v s) ≡ goal
       pub room : Inside p (both p held left) total
 
     pub record ItemGiven (more : Items) (v : Valuation) (s : PlainState)
@@ -158,10 +162,11 @@ module _ (p : PlainProgram) (T : Table) (sc : Scope) (e : ℕ) (a : Valuation) w
       -- its names have got variables, and then rows, cells, pieces and facts have changed to these
       pub goes :
           (t u : PlainState) (m : Step sc e a v s t) (q : Stock) →
+          filled_at e m.w t ≡ fill_item p T a one d.left d.draws.0 d.draws.1 (filled_at e v s) →
           Meets [] m.w (with_lists t u) → Knows p [] m.w T (with_lists t u) q →
           AllByRecursion IsFirm u.facts → Inside p (both p q d.draws.0) total →
           P (with_lists t u) → ItemGiven more v s P
-      goes t u m q meets knows firm room c = record {
+      goes t u m q filled meets knows firm room c = record {
         after = with_lists t u;
         w = m.w;
         due = record {
@@ -180,6 +185,7 @@ module _ (p : PlainProgram) (T : Table) (sc : Scope) (e : ℕ) (a : Valuation) w
           };
           fit = fits-more p sc one more d.fit;
           draws = d.draws.2;
+          fills = ap (fill_items p T a more d.draws.0 d.rest d.draws.2) filled ∙ d.fills;
           room = room;
         };
         onward = onward-lists sc e a v s t u m;

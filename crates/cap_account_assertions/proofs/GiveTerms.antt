@@ -2,7 +2,7 @@
 use Rattle.std.proofs.Common.{◌≡◌, ℕ, ◌+◌, ℤ, ◌*ℤ◌, List, [], ◌∷◌, ◌++◌, length, arith, sym, ap, ◌∙◌}
 use Rattle.cap_lin.specs.Linear.{Linear}
 use Rattle.cap_lin.specs.Rows.{row_of}
-use Rattle.cap_lin.specs.Values.{Valuation, denominator, value}
+use Rattle.cap_lin.specs.Values.{Valuation, denominator}
 use Rattle.cap_lin.specs.Solves.{value_by_sort, Holds, Relates, IsWholeAt}
 use Rattle.cap_lin.specs.declared.row.Row.{Row}
 use Rattle.cap_lin.specs.declared.row.Sort.{Sort}
@@ -12,7 +12,6 @@ use Rattle.cap_lin.proofs.Rows.{row_of-means}
 use Rattle.cap_prog.specs.declared.assertion.Comp.{Comp}
 use Rattle.cap_prog.specs.declared.assertion.Slot.{Slot}
 use Rattle.cap_prog.specs.declared.assertion.Slot.TheVariants.{Any, Is}
-use Rattle.cap_prog.specs.Program.{item}
 use Rattle.cap_prog.specs.Scopes.{Scope, TermFits, SlotFits, CompFits}
 use Rattle.cap_machine_accounts.specs.Assertions.{SlotIs}
 use Rattle.cap_goal_spec.specs.States.{PlainState}
@@ -21,10 +20,11 @@ use Rattle.cap_rules.specs.Attempts.{Attempt, unit, ◌>>=◌}
 use Rattle.cap_rules.specs.Making.{value_by, fresh, env_at}
 use Rattle.cap_rules.specs.Giving.{name_parts, Given as Pair, given as pair, give_term, give_slot, give_sides}
 use Rattle.cap_account_states.specs.Nodes.{Comes}
-use Rattle.cap_account_resources.proofs.Lists.{get-last}
+use Rattle.cap_account_resources.proofs.Lists.{get-last, push-length}
 use Rattle.cap_account_states.proofs.Terms.{Over, vars-more, RowOver, row-over, Agree, number-agree, relates-same}
 use Rattle.cap_account_states.proofs.Attempts.{comes-bind, after-computed, after-sort, sort_added, row_added}
 use Rattle.cap_account_states.proofs.Meets.{Usable, usable-old, need, Old, Same, same-trans, with_value, new-whole, new-share, variable-value, meets-row, same-row, usable-on}
+use Rattle.cap_account_states.proofs.Filled.{Filled, filled_at, fill_parts, fill_slot, fill_sides}
 use Rattle.cap_account_states.proofs.Naming.{Ready, Step, step-trans, step-fresh, parts-named, term-over, term-number}
 
 -- the same with a row more
@@ -56,10 +56,11 @@ step-row sc e a v s t r m h o = record {
 
 -- a term gets its value
 pub record TermGiven (sc : Scope) (e : ℕ) (a v : Valuation) (s : PlainState) (o : Sort) (z : ℤ)
-    (P : Pair Linear → Type 0) : Type 0 where
+    (f : Filled) (P : Pair Linear → Type 0) : Type 0 where
   pub after : PlainState
   pub term : Linear
   pub step : Step sc e a v s after
+  pub filled : filled_at e step.w after ≡ f
   pub number_is : value_by_sort o step.w term ≡ z
   pub over : Over (Usable [] after.sorts o) term
   pub comes : P (pair after term)
@@ -67,7 +68,7 @@ pub record TermGiven (sc : Scope) (e : ℕ) (a v : Valuation) (s : PlainState) (
 pub term-given :
     (sc : Scope) (e : ℕ) (a v : Valuation) (s : PlainState) (o : Sort) (t : Linear)
     (P : Pair Linear → Type 0) → Ready sc e a v s → TermFits sc o t → Comes (give_term s e o t) P →
-    TermGiven sc e a v s o (value_by_sort o a t) P
+    TermGiven sc e a v s o (value_by_sort o a t) (fill_parts a o t.parts (filled_at e v s)) P
 term-given sc e a v s o t P r h c =
     let rest : PlainState → Attempt (Pair Linear) = λ s'. value_by (env_at s' e) t >>= λ u. unit
     (pair s' u) in
@@ -77,6 +78,7 @@ term-given sc e a v s o t P r h c =
       after = m.after;
       term = term_in (env_at m.after e) t;
       step = m.step;
+      filled = m.filled;
       number_is = term-number sc m.step.w (env_at m.after e) a o t m.step.ready.means h m.bound;
       over = term-over [] sc m.after.sorts (env_at m.after e) o t m.step.ready.placed h m.bound;
       comes =
@@ -87,7 +89,8 @@ term-given sc e a v s o t P r h c =
 pub slot-given :
     (sc : Scope) (e : ℕ) (a v : Valuation) (s : PlainState) (x : Slot) (z : ℤ)
     (P : Pair Linear → Type 0) → Ready sc e a v s → SlotFits sc Int x → SlotIs a x z →
-    Comes (give_slot s e Int x) P → TermGiven sc e a v s Int z P
+    Comes (give_slot s e Int x) P →
+    TermGiven sc e a v s Int z (fill_slot a x z (filled_at e v s)) P
 slot-given sc e a v s Any z P r h m c =
     let n = length s.sorts in
     let y = z *ℤ denominator v.fraction in
@@ -98,6 +101,7 @@ slot-given sc e a v s Any z P r h m c =
       after = sort_added s Int;
       term = fresh s;
       step = step-fresh sc e a v s Int z y ok r;
+      filled = λ i. record { env = env_at s e; next = push-length s.sorts Int i; values = w };
       number_is = variable-value w n ∙ new-whole v n z y;
       over = ((get-last s.sorts Int, tt), tt);
       comes = (after-sort s Int (λ s'. unit (pair s' (fresh s))) P c).1;
@@ -108,6 +112,7 @@ slot-given sc e a v s (Is t) z P r h m c =
       after = k.after;
       term = k.term;
       step = k.step;
+      filled = k.filled;
       number_is = k.number_is ∙ m;
       over = k.over;
       comes = k.comes;
@@ -120,6 +125,7 @@ pub record SidesGiven (sc : Scope) (e : ℕ) (a v : Valuation) (s : PlainState) 
   pub left : Linear
   pub right : Linear
   pub step : Step sc e a v s after
+  pub filled : filled_at e step.w after ≡ fill_sides a c (filled_at e v s)
   pub left_is : value_by_sort c.sort step.w left ≡ value_by_sort c.sort a c.left
   pub right_is : value_by_sort c.sort step.w right ≡ value_by_sort c.sort a c.right
   pub left_over : Over (Usable [] after.sorts c.sort) left
@@ -161,6 +167,7 @@ sides-given sc e a v s c P r h k =
       left = m.term;
       right = n.term;
       step = step-trans sc e a v s m.after n.after m.step n.step;
+      filled = n.filled ∙ ap (fill_parts a c.sort c.right.parts) m.filled;
       left_is =
           number-later m.after m.step.w n.step.w c.sort m.term n.step.agree m.over ∙ m.number_is;
       right_is = n.number_is;

@@ -20,15 +20,18 @@ use Rattle.cap_account_resources.proofs.Owners.{Owner, owned, numbers_of}
 use Rattle.cap_account_states.specs.Nodes.{Open}
 use Rattle.cap_account_states.proofs.Terms.{Agree}
 use Rattle.cap_account_states.proofs.Alike.{Alike}
+use Rattle.cap_account_states.proofs.Brought.{Bring, Brought}
 use Rattle.cap_account_states.proofs.Meets.{Usable, Old}
 use Rattle.cap_account_states.proofs.Facts.{Facts}
 use Rattle.cap_account_states.proofs.Items.{AreFit}
 use Rattle.cap_account_states.proofs.Checked.{Checked}
+use Rattle.cap_account_states.proofs.Filled.{Filled, filled_at}
 use Rattle.cap_account_states.proofs.Naming.{Placed, Means, Stays}
 use Rattle.cap_account_states.proofs.Matching.{Outside}
 use Rattle.cap_account_states.proofs.Backed.{IsFirm, IsOpened, Backed, Grounded, GoesOn, OtherEnvs}
 use Rattle.cap_account_assertions.proofs.Named.{rest_values, rest_counts}
 use Rattle.cap_account_assertions.proofs.Asserted.{DrawsAll, OwnsRegion, OwnsRequires, OwnsEnsures, OwnsInvariant}
+use Rattle.cap_account_assertions.proofs.Filling.{fill_items}
 
 -- ---- states and tables
 
@@ -55,8 +58,9 @@ pub record Made (p : PlainProgram) (T U : Table) (new : List Owner) : Type 0 whe
 
 -- ---- giving
 
+-- the values are those before, and new variables' as the items are drawn
 pub record Given (p : Checked) (T : Table) (e : ℕ) (v : Valuation) (total : Stock) (s : PlainState)
-    (ts : List PlainTask) : Type 0 where
+    (ts : List PlainTask) (goal : Filled) : Type 0 where
   pub w : Valuation
   pub after : PlainState
   pub children : PlainTrees
@@ -66,6 +70,7 @@ pub record Given (p : Checked) (T : Table) (e : ℕ) (v : Valuation) (total : St
   pub firm : AllByRecursion IsFirm after.facts
   pub backed : Backed p.program w after total
   pub agree : Agree (Old s) v w
+  pub filled : filled_at e w after ≡ goal
   pub goes_on : GoesOn s after
   pub others : OtherEnvs e s after
 
@@ -76,18 +81,22 @@ GivenLaw p =
     (ts : List PlainTask) (trees : PlainTrees) (v : Valuation) (s : PlainState) →
     Open p.N trees s (to_give items e n ∷ ts) → StateAt p.program [] T sc e v s →
     AllByRecursion IsFirm s.facts → Means sc v (env_at s e) a → AreFit p.program sc items →
-    DrawsAll p.program T a items h r → Backed p.program v s held →
-    Composes (both p.program held h) → Given p T e v (both p.program held h) s ts
+    (d : DrawsAll p.program T a items h r) → Backed p.program v s held →
+    Composes (both p.program held h) →
+    Given p T e v (both p.program held h) s ts
+    (fill_items p.program T a items h r d (filled_at e v s))
 
 -- ---- taking
 
--- so many regions may be created (`most`); what is given has the items at all values alike to the
+-- new variables have the values that are brought; so many regions may be created (`most`); what is given has the items at all values alike to the
 -- present ones
 pub record Taken (p : Checked) (ks : List ℕ) (T : Table) (sc : Scope) (e most : ℕ) (v : Valuation)
     (held : Stock) (s : PlainState) (items : Items) (ts : List PlainTask) : Type 0 where
   pub w : Valuation
   pub alike : Alike (Old s) v w
   pub after : PlainState
+  pub brings : List Bring
+  pub brought : Brought s after w brings
   pub children : PlainTrees
   pub goes : Open p.N children after ts
   pub U : Table

@@ -1,6 +1,7 @@
-pub mod GiveTerms
 pub mod Asserted
 pub mod Named
+pub mod Filling
+pub mod GiveTerms
 pub mod Laws
 pub mod NewRegions
 pub mod TreeSizes
@@ -31,3 +32,4 @@ pub mod GiveLaw
 pub mod MadeTables
 pub mod TakenStill
 pub mod Again
+pub mod Coarser

@@ -1,5 +1,6 @@
 -- Items are taken one after the other, by the size of the trees.
 use Rattle.std.proofs.Common.{◌≡◌, ℕ, zero, suc, ◌≤◌, ℤ, List, ◌∷◌, arith, refl, subst}
+use Rattle.std.specs.Prelude.{slice_get}
 use Rattle.std.specs.List.{AllByRecursion}
 use Rattle.cap_lin.specs.Values.{Valuation}
 use Rattle.cap_syntax.specs.declared.place.Place.{Place}
@@ -10,11 +11,14 @@ use Rattle.cap_prog.specs.Program.{PlainItem, compare, choose, fact, atom, cell,
 use Rattle.cap_prog.specs.WellFormed.{ItemFits, RegionFits}
 use Rattle.cap_goal_spec.specs.States.{PlainState, to_take}
 use Rattle.cap_goal_spec.specs.Choices.{PlainTree, node, PlainTrees, by_absurd, by_fact, by_cases, by_cell, by_region, by_guard, by_convert, by_create}
+use Rattle.cap_rules.specs.Making.{env_at}
 use Rattle.cap_rules.specs.Rules.{at_guard, at_convert, creates}
 use Rattle.cap_account_resources.specs.Parts.{Table}
 use Rattle.cap_account_resources.proofs.Interference.{Holding}
 use Rattle.cap_account_resources.proofs.Stocks.{Stock}
 use Rattle.cap_account_states.specs.Nodes.{Comes, Children, Open}
+use Rattle.cap_account_states.proofs.Brought.{Bring, piece_brings}
+use Rattle.cap_account_states.proofs.Guarding.{is_open}
 use Rattle.cap_account_states.proofs.Meets.{solves}
 use Rattle.cap_account_states.proofs.Checked.{Checked}
 use Rattle.cap_account_states.proofs.Items.{AreFit, fits-more}
@@ -45,6 +49,8 @@ took-within p ks T next j v s c few many le t = record {
   w = t.w;
   after = t.after;
   follows = t.follows;
+  brings = t.brings;
+  brought = t.brought;
   children = t.children;
   goes = t.goes;
   no_larger = (let l = t.no_larger in omega (arith, l, le));
@@ -73,7 +79,9 @@ module _ (p : Checked) (regions : AllByRecursion (RegionFits p.program) p.progra
         (trees : PlainTrees) (i way : ℕ) (place : Place) (n k m : ℕ) (asked : Asked)
         (more : Items) → ItemFits p.program j.scope (atom place n k m asked) →
         Comes (at_guard s i way n k m asked (remaining j more)) (Children p.N trees) →
-        ItemTaken p ks T j v s c trees (atom place n k m asked) more
+        ItemTaken p ks T j v s c trees
+        (piece_brings (is_open asked (env_at s j.env)) (slice_get s.guards i))
+        (atom place n k m asked) more
     guard-taken-by trees i (suc (suc zero)) place n k m (Tok x) more f h =
         none-taken p ks T j v s c st.ready st.backed trees i place n k m x more f h
     guard-taken-by trees i (suc (suc zero)) place n k m One more f h =
@@ -97,8 +105,10 @@ module _ (p : Checked) (regions : AllByRecursion (RegionFits p.program) p.progra
       fits = subst (AreFit p.program j.scope) are st.fits
 
       -- the item goes, or other items are to be taken
-      goes-then : ItemTaken p ks T j v s c trees i more → Took p ks T next j v s c (suc size)
-      goes-then r =
+      goes-then :
+          {bs : List Bring} → ItemTaken p ks T j v s c trees bs i more →
+          Took p ks T next j v s c (suc size)
+      goes-then {bs} r =
           took-taken p ks T j v s c trees next lim st size small law i more are
           (fits-more p.program j.scope i more fits) r
 

@@ -1,6 +1,6 @@
 -- Guards are taken: no tokens, and atoms cut out of a piece (the rule `guard`).
+use Rattle.std.proofs.Common.{◌≡◌, ◌≢◌, ℕ, ◌<◌, ℤ, List, [], length, arith, refl, sym, ap, ◌∙◌, subst, Option, Some, None}
 use Rattle.cap_account_states.proofs.Wants.{asked-over}
-use Rattle.std.proofs.Common.{◌≡◌, ◌≢◌, ℕ, ◌<◌, ℤ, List, length, arith, refl, sym, ap, ◌∙◌, subst, Option, Some, None}
 use Rattle.std.specs.Prelude.{slice_get, IsSomeAnd}
 use Rattle.std.specs.List.{AllByRecursion}
 use Rattle.cap_lin.specs.Values.{Valuation}
@@ -19,6 +19,7 @@ use Rattle.cap_prog.specs.WellFormed.{AtomFits, ItemFits}
 use Rattle.cap_machine_accounts.specs.Parts.{algebra_of}
 use Rattle.cap_goal_spec.specs.States.{PlainState}
 use Rattle.cap_goal_spec.specs.Choices.{PlainTrees}
+use Rattle.cap_rules.specs.Making.{env_at}
 use Rattle.cap_rules.specs.Rules.{at_no_tokens, at_piece}
 use Rattle.cap_account_resources.specs.Parts.{Table}
 use Rattle.cap_account_resources.proofs.Lists.{all-more}
@@ -27,9 +28,11 @@ use Rattle.cap_account_resources.proofs.Covering.{mark, Covered}
 use Rattle.cap_account_resources.proofs.Stocks.{Stock, no_stock, guard_stock, both, Inside, inside-same, inside-is}
 use Rattle.cap_account_states.specs.Nodes.{Comes, Children}
 use Rattle.cap_account_states.proofs.Alike.{need-alike}
+use Rattle.cap_account_states.proofs.Brought.{Bring, piece_brings}
 use Rattle.cap_account_states.proofs.Meets.{Usable, usable-old, need, Old, same-trans}
 use Rattle.cap_account_states.proofs.Checked.{Checked}
 use Rattle.cap_account_states.proofs.Asking.{AskedOver}
+use Rattle.cap_account_states.proofs.Guarding.{is_open}
 use Rattle.cap_account_states.proofs.Adding.{PieceOver}
 use Rattle.cap_account_states.proofs.Pieces.{AllFit, left_pieces}
 use Rattle.cap_account_states.proofs.Guards.{GuardTaken, guard-taken, no-tokens-taken}
@@ -55,7 +58,7 @@ module _ (p : Checked) (ks : List ℕ) (T : Table) (j : Job) (v : Valuation) (s 
       (i : ℕ) (place : Place) (n k m : ℕ) (x : Slot) (more : Items) →
       ItemFits p.program j.scope (atom place n k m (Tok x)) →
       Comes (at_no_tokens s i x (remaining j more)) (Children p.N trees) →
-      ItemTaken p ks T j v s c trees (atom place n k m (Tok x)) more
+      ItemTaken p ks T j v s c trees [] (atom place n k m (Tok x)) more
   none-taken i place n k m x more fits h =
       let over = atom-over j.scope (slice_get p.program.regions k) m (Tok x) fits.1 in
       let g = no-tokens-taken ks j.scope v s i x (remaining j more) (Children p.N trees)
@@ -131,14 +134,18 @@ module _ (p : Checked) (ks : List ℕ) (T : Table) (j : Job) (v : Valuation) (s 
           subst (λ qs. Covered p.program g.w qs z (cuts z).rest) (sym pieces-left) (cuts z).covered;
     }
 
-    abbrev head-piece : Head p.program ks T j v s c
+    -- half of the share out of which an open amount is cut, or nothing
+    abbrev piece_brought : List Bring
+    piece_brought = piece_brings (is_open asked (env_at s j.env)) (slice_get s.guards i)
+
+    abbrev head-piece : Head p.program ks T j v s c piece_brought
     head-piece =
         head-bound p.program ks T j v s c st
         (head-kept p.program ks T j v s c st g.w state_left rest
         (guard_stock region_taken guards_taken)
         (same-trans s g.after state_left g.same
         (same-parts g.after g.after.rows g.after.cells state_left.guards)) g.envs g.alike
-        grounded-left backed-left
+        (record { count = g.brought.count; are = g.brought.are }) grounded-left backed-left
         (left-apart p.program g.w pieces_then region_taken guards_taken c cuts)) g.later g.placed
         g.stays g.outside g.size
 
@@ -170,7 +177,9 @@ module _ (p : Checked) (ks : List ℕ) (T : Table) (j : Job) (v : Valuation) (s 
       AllByRecursion (λ y. y < length s.sorts) ks →
       ItemFits p.program j.scope (atom place n k m asked) →
       Comes (at_piece s i way n k m asked (remaining j more)) (Children p.N trees) →
-      ItemTaken p ks T j v s c trees (atom place n k m asked) more
+      ItemTaken p ks T j v s c trees
+      (piece_brings (is_open asked (env_at s j.env)) (slice_get s.guards i))
+      (atom place n k m asked) more
   piece-taken i way place n k m asked more low fits h =
       let apart = all-more (λ y. y < length s.sorts) (λ y. length s.sorts ≢ y)
       (λ y l e. omega (arith, l, e)) ks low in

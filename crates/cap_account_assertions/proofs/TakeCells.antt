@@ -26,6 +26,7 @@ use Rattle.cap_account_resources.proofs.Stocks.{Stock, cell_stock, both, Inside,
 use Rattle.cap_account_states.specs.Nodes.{Comes, Children}
 use Rattle.cap_account_states.proofs.Terms.{row-over}
 use Rattle.cap_account_states.proofs.Attempts.{comes-bind, after-found, after-proved, after-determined}
+use Rattle.cap_account_states.proofs.Brought.{brought-none}
 use Rattle.cap_account_states.proofs.Meets.{Usable, CellOver, need, Old, proved-holds}
 use Rattle.cap_account_states.proofs.Checked.{Checked}
 use Rattle.cap_account_states.proofs.Naming.{term-over, term-number, bound-of}
@@ -63,12 +64,13 @@ module _ (p : Checked) (ks : List ℕ) (T : Table) (j : Job) (v : Valuation) (s 
       record { cells = λ a z. c.cells a z - (cell_of d).cells a z; guards = c.guards }
 
   abbrev head-cell :
-      (i : ℕ) (d : Linear × Linear) → slice_get s.cells i ≡ Some d → Head p.program ks T j v s c
+      (i : ℕ) (d : Linear × Linear) → slice_get s.cells i ≡ Some d →
+      Head p.program ks T j v s c []
   head-cell i d e =
       let me = st.grounded.meets in
       head-kept p.program ks T j v s c st v (without_cell i) (others_than d) (cell_of d)
       (same-parts s s.rows (remove s.cells i) s.guards) refl
-      (alike-same (Old s) v) (record {
+      (alike-same (Old s) v) (brought-none s (without_cell i) v refl) (record {
         meets = record {
           sorted = me.sorted;
           rows = me.rows;
@@ -98,7 +100,7 @@ module _ (p : Checked) (ks : List ℕ) (T : Table) (j : Job) (v : Valuation) (s 
   pub cell-taken :
       (i : ℕ) (place : Place) (x : Linear) (y : Slot) (more : Items) → TermFits j.scope Int x →
       SlotFits j.scope Int y → Comes (at_cell s i x y (remaining j more)) (Children p.N trees) →
-      ItemTaken p ks T j v s c trees (cell place x y) more
+      ItemTaken p ks T j v s c trees [] (cell place x y) more
   cell-taken i place x y more fx fy h =
       let P = Children p.N trees in
       let env = env_at s j.env in

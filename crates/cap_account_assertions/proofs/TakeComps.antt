@@ -1,5 +1,5 @@
 -- Comparisons and conditional items are taken: the rules `fact` and `cases`.
-use Rattle.std.proofs.Common.{◌≡◌, ℕ, ◌≤◌, List, ◌++◌, arith, refl, sym, subst, inl, inr}
+use Rattle.std.proofs.Common.{◌≡◌, ℕ, ◌≤◌, List, [], ◌++◌, arith, refl, sym, subst, inl, inr}
 use Rattle.cap_lin.specs.Values.{Valuation}
 use Rattle.cap_lin.specs.Solves.{value_by_sort, Holds, Relates}
 use Rattle.cap_lin.specs.declared.row.Op.{Op}
@@ -22,6 +22,7 @@ use Rattle.cap_account_resources.proofs.Stocks.{Stock, no_stock, both, inside-se
 use Rattle.cap_account_states.specs.Nodes.{Comes, Children, Open}
 use Rattle.cap_account_states.proofs.Attempts.{after-prove, after-row, after-with-row, comp_row, row_added}
 use Rattle.cap_account_states.proofs.Alike.{Alike, alike-same, row-alike}
+use Rattle.cap_account_states.proofs.Brought.{brought-none}
 use Rattle.cap_account_states.proofs.Meets.{Usable, usable-old, Old, meets-row, same-row, proved-holds}
 use Rattle.cap_account_states.proofs.Checked.{Checked}
 use Rattle.cap_account_states.proofs.Naming.{Means, CompBound, comp-over, comp-means, comp-bound}
@@ -52,7 +53,7 @@ module _ (p : Checked) (ks : List ℕ) (T : Table) (j : Job) (v : Valuation) (s 
   pub compare-taken :
       (x : Comp) (more : Items) → CompFits j.scope x →
       Comes (at_fact s x (remaining j more)) (Children p.N trees) →
-      ItemTaken p ks T j v s c trees (compare x) more
+      ItemTaken p ks T j v s c trees [] (compare x) more
   compare-taken x more f h =
       let P = Children p.N trees in
       let end : Unit {0} → Attempt (List PlainGoal) = λ u. goes s (remaining j more) in
@@ -87,7 +88,7 @@ module _ (p : Checked) (ks : List ℕ) (T : Table) (j : Job) (v : Valuation) (s 
         record {
           head =
               head-kept p.program ks T j v s c st v (row_added s row) c no_stock (same-row s row)
-              refl (alike-same (Old s) v) (record {
+              refl (alike-same (Old s) v) (brought-none s (row_added s row) v refl) (record {
                 meets = meets-row ks v s row st.grounded.meets holds over;
                 pieces_over = st.grounded.pieces_over;
                 pieces_fit = st.grounded.pieces_fit;

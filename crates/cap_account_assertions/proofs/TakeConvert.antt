@@ -28,6 +28,7 @@ use Rattle.cap_account_resources.proofs.Stocks.{Stock, no_stock, guard_stock, bo
 use Rattle.cap_account_states.specs.Nodes.{Comes, Children}
 use Rattle.cap_account_states.proofs.Attempts.{comes-bind, after-found}
 use Rattle.cap_account_states.proofs.Alike.{alike-same}
+use Rattle.cap_account_states.proofs.Brought.{brought-none}
 use Rattle.cap_account_states.proofs.Meets.{Old}
 use Rattle.cap_account_states.proofs.Checked.{Checked}
 use Rattle.cap_account_states.proofs.Sums.{Full, sides-full, SidesFull}
@@ -137,7 +138,7 @@ module _ (p : Checked) (ks : List ℕ) (T : Table) (j : Job) (v : Valuation) (s 
               head-kept p.program ks T j v s c st v (with_parts s come.rows come.guards) now
               no_stock
               (same-parts s come.rows s.cells come.guards) refl (alike-same (Old s) v)
-              (record {
+              (brought-none s (with_parts s come.rows come.guards) v refl) (record {
                 meets = come.grounded.meets;
                 pieces_over = come.grounded.pieces_over;
                 pieces_fit = come.grounded.pieces_fit;

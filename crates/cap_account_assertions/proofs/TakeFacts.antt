@@ -71,7 +71,7 @@ module _ (p : Checked) (ks : List ℕ) (T : Table) (j : Job) (v : Valuation) (s 
       (i : ℕ) (place : Place) (n k : ℕ) (args : List Slot) (y : Slot) (more : Items) →
       ItemFits p.program j.scope (fact place n k args y) →
       Comes (at_region s i n k args y (remaining j more)) (Children p.N trees) →
-      ItemTaken p ks T j v s c trees (fact place n k args y) more
+      ItemTaken p ks T j v s c trees [] (fact place n k args y) more
   fact-taken i place n k args y more fits h =
       let P = Children p.N trees in
       let R = Usable ks s.sorts Int in

@@ -19,6 +19,7 @@ use Rattle.cap_account_resources.proofs.Interference.{Holding}
 use Rattle.cap_account_resources.proofs.Stocks.{Stock, no_stock, both, Inside, inside-is, none-right}
 use Rattle.cap_account_states.specs.Nodes.{Open}
 use Rattle.cap_account_states.proofs.Terms.{vars-more}
+use Rattle.cap_account_states.proofs.Brought.{Bring, Brought, brought-none}
 use Rattle.cap_account_states.proofs.Meets.{Usable, usable-on, Old, Same, same-state, meets-env}
 use Rattle.cap_account_states.proofs.Checked.{Checked}
 use Rattle.cap_account_states.proofs.Naming.{Placed, Means, Stays, placed-more, at-env, others-env}
@@ -155,12 +156,13 @@ module _ (p : PlainProgram) (ks : List ℕ) (T : Table) (j : Job) (v : Valuation
     (c : Stock) (st : StateAt p ks T j.scope j.env v s) where
   -- with the environments as they are
   abbrev pub head-kept :
-      (w : Valuation) (t : PlainState) (left taken : Stock) → Same s t → t.envs ≡ s.envs →
-      Alike (Old s) v w → Grounded p ks w t → Backed p w t left → Inside p (both p left taken) c →
-      Head p ks T j v s c
-  head-kept w t left taken same envs alike g b apart = record {
+      (w : Valuation) (t : PlainState) (left taken : Stock) {bs : List Bring} → Same s t →
+      t.envs ≡ s.envs → Alike (Old s) v w → Brought s t w bs → Grounded p ks w t →
+      Backed p w t left → Inside p (both p left taken) c → Head p ks T j v s c bs
+  head-kept w t left taken {bs} same envs alike brought g b apart = record {
     w = w;
     after = t;
+    brought = brought;
     follows = follows-kept j.scope j.env v w s t same envs alike;
     ready = ready-kept j.scope j.env v w s t same envs alike p ks T st g;
     left = left;
@@ -170,19 +172,21 @@ module _ (p : PlainProgram) (ks : List ℕ) (T : Table) (j : Job) (v : Valuation
   }
 
   -- the state as it is, of which nothing is taken
-  abbrev pub head-same : Backed p v s c → Head p ks T j v s c
+  abbrev pub head-same : Backed p v s c → Head p ks T j v s c []
   head-same b =
-      head-kept v s c no_stock (same-state s) refl (alike-same (Old s) v) st.grounded b
+      head-kept v s c no_stock (same-state s) refl (alike-same (Old s) v) (brought-none s s v refl)
+      st.grounded b
       (inside-is p (both p c no_stock) c (none-right p c))
 
   -- and then with names bound
   abbrev pub head-bound :
-      (h : Head p ks T j v s c) (later : PlainEnv) → Placed ks j.scope h.after.sorts later →
+      {bs : List Bring} (h : Head p ks T j v s c bs) (later : PlainEnv) → Placed ks j.scope h.after.sorts later →
       Stays j.scope (env_at s j.env) later → Outside j.scope (env_at s j.env) later →
-      length later ≡ length (env_at s j.env) → Head p ks T j v s c
-  head-bound h later placed stays outside size = record {
+      length later ≡ length (env_at s j.env) → Head p ks T j v s c bs
+  head-bound {bs} h later placed stays outside size = record {
     w = h.w;
     after = with_env_at h.after j.env later;
+    brought = record { count = h.brought.count; are = h.brought.are };
     follows =
         follows-bound j.scope j.env h.after later h.ready.there v h.w s h.follows stays outside
         size;
@@ -197,15 +201,15 @@ module _ (p : PlainProgram) (ks : List ℕ) (T : Table) (j : Job) (v : Valuation
 
 module _ (p : Checked) (ks : List ℕ) (T : Table) (j : Job) (v : Valuation) (s : PlainState)
     (c : Stock) (trees : PlainTrees) where
-  -- the item goes
-  pub record ItemTaken (i : PlainItem) (more : Items) : Type 0 where
-    pub head : Head p.program ks T j v s c
+  -- the item goes, and this is brought
+  pub record ItemTaken (bs : List Bring) (i : PlainItem) (more : Items) : Type 0 where
+    pub head : Head p.program ks T j v s c bs
     pub claim : Claim p.program T j.scope head.w head.after j.env i head.taken
     pub goes : Open p.N trees head.after (tasks_of (with_items j more))
 
-  -- other items are to be taken
+  -- other items are to be taken, and nothing is brought
   pub record ItemsTurned : Type 0 where
-    pub head : Head p.program ks T j v s c
+    pub head : Head p.program ks T j v s c []
     pub rest : Items
     pub fits : AreFit p.program j.scope rest
     pub turns : Turns p.program T j.scope head.w head.after j.env head.taken j.items rest
@@ -216,9 +220,9 @@ module _ (p : Checked) (ks : List ℕ) (T : Table) (j : Job) (v : Valuation) (s 
   module _ (next : ℤ) (lim : Holding) (st : TakeStart p.program ks T next lim j v s c) (size : ℕ)
       (small : trees_size trees ≤ size) (law : TookLaw p ks size) where
     pub took-taken :
-        (i : PlainItem) (more : Items) → j.items ≡ item i more → AreFit p.program j.scope more →
-        ItemTaken i more → Took p ks T next j v s c (suc size)
-    took-taken i more e f r =
+        {bs : List Bring} (i : PlainItem) (more : Items) → j.items ≡ item i more →
+        AreFit p.program j.scope more → ItemTaken bs i more → Took p ks T next j v s c (suc size)
+    took-taken {bs} i more e f r =
         took-item p ks T next j v s c r.head i more e r.claim size (suc size) (omega arith)
         (law T next lim (with_items j more) trees r.head.w r.head.after r.head.left small r.goes
         (start-after p.program ks T next lim j more v s c st r.head f))

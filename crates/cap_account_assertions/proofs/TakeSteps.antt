@@ -1,5 +1,5 @@
 -- What taking an assertion starts from and leads to, and how one step of it is put before the rest.
-use Rattle.std.proofs.Common.{◌≡◌, ◌≢◌, ℕ, ◌<◌, ◌≤◌, ℤ, ◌≤ℤ◌, List, [], ◌∷◌, length, arith, refl, sym, subst, Some, None}
+use Rattle.std.proofs.Common.{◌≡◌, ◌≢◌, ℕ, ◌<◌, ◌≤◌, ℤ, ◌≤ℤ◌, List, [], ◌∷◌, ◌++◌, length, arith, refl, sym, subst, Some, None}
 use Rattle.std.specs.List.{AllByRecursion}
 use Rattle.cap_lin.specs.Values.{Valuation}
 use Rattle.cap_prog.specs.Program.{PlainItem, Items, none, item, PlainProgram}
@@ -19,6 +19,7 @@ use Rattle.cap_account_resources.proofs.Tables.{Extends, extends-states}
 use Rattle.cap_account_resources.proofs.Owners.{Owner, owned, guards_of_all, numbers_of, Numbered}
 use Rattle.cap_account_states.specs.Nodes.{Open}
 use Rattle.cap_account_states.proofs.Alike.{Alike}
+use Rattle.cap_account_states.proofs.Brought.{Bring, Brought, brought-none, brought-join}
 use Rattle.cap_account_states.proofs.Meets.{Old}
 use Rattle.cap_account_states.proofs.Checked.{Checked}
 use Rattle.cap_account_states.proofs.Naming.{Means}
@@ -84,6 +85,8 @@ pub record Took (p : Checked) (ks : List ℕ) (T : Table) (next : ℤ) (j : Job)
   pub w : Valuation
   pub after : PlainState
   pub follows : Follows j.scope j.env v s w after
+  pub brings : List Bring
+  pub brought : Brought s after w brings
   pub children : PlainTrees
   pub goes : Open p.N children after j.tasks
   pub no_larger : trees_size children ≤ most_trees
@@ -112,12 +115,13 @@ TookLaw p ks most_trees =
 
 -- ---- one step
 
--- what one item's rule leads to: what is left to the state, and what is taken of it
+-- what one item's rule leads to: what it brings, what is left to the state, and what is taken of it
 pub record Head (p : PlainProgram) (ks : List ℕ) (T : Table) (j : Job) (v : Valuation)
-    (s : PlainState) (c : Stock) : Type 0 where
+    (s : PlainState) (c : Stock) (bs : List Bring) : Type 0 where
   pub w : Valuation
   pub after : PlainState
   pub follows : Follows j.scope j.env v s w after
+  pub brought : Brought s after w bs
   pub ready : StateAt p ks T j.scope j.env w after
   pub left : Stock
   pub backed : Backed p w after left
@@ -163,10 +167,10 @@ module _ (p : PlainProgram) where
   -- what follows a step starts from what it left
   pub start-after :
       (ks : List ℕ) (T : Table) (next : ℤ) (lim : Holding) (j : Job) (items : Items)
-      (v : Valuation) (s : PlainState) (c : Stock) → TakeStart p ks T next lim j v s c →
-      (h : Head p ks T j v s c) → AreFit p j.scope items →
+      (v : Valuation) (s : PlainState) (c : Stock) {bs : List Bring} →
+      TakeStart p ks T next lim j v s c → (h : Head p ks T j v s c bs) → AreFit p j.scope items →
       TakeStart p ks T next lim (with_items j items) h.w h.after h.left
-  start-after ks T next lim j items v s c st h f = record {
+  start-after ks T next lim j items v s c {bs} st h f = record {
     ready = h.ready;
     backed = h.backed;
     low =
@@ -187,14 +191,17 @@ module _ (p : Checked) (ks : List ℕ) (T : Table) (next : ℤ) (j : Job) (v : V
     (s : PlainState) (c : Stock) where
   -- after a step, other items
   pub took-other :
-      (h : Head p.program ks T j v s c) (rest : Items) →
+      {bs : List Bring} (h : Head p.program ks T j v s c bs) (rest : Items) →
       Turns p.program T j.scope h.w h.after j.env h.taken j.items rest → (few many : ℕ) →
       few ≤ many → Took p ks T next (with_items j rest) h.w h.after h.left few →
       Took p ks T next j v s c many
-  took-other h rest turns few many le t = record {
+  took-other {bs} h rest turns few many le t = record {
     w = t.w;
     after = t.after;
     follows = follows-trans j.scope j.env v h.w t.w s h.after t.after h.follows t.follows;
+    brings = bs ++ t.brings;
+    brought =
+        brought-join s h.after t.after h.w t.w bs t.brings h.brought t.follows.alike t.brought;
     children = t.children;
     goes = t.goes;
     no_larger = (let n = t.no_larger in omega (arith, n, le));
@@ -221,10 +228,10 @@ module _ (p : Checked) (ks : List ℕ) (T : Table) (next : ℤ) (j : Job) (v : V
 
   -- after an item's rule, the items behind it
   pub took-item :
-      (h : Head p.program ks T j v s c) (i : PlainItem) (more : Items) → j.items ≡ item i more →
+      {bs : List Bring} (h : Head p.program ks T j v s c bs) (i : PlainItem) (more : Items) → j.items ≡ item i more →
       Claim p.program T j.scope h.w h.after j.env i h.taken → (few many : ℕ) → few ≤ many →
       Took p ks T next (with_items j more) h.w h.after h.left few → Took p ks T next j v s c many
-  took-item h i more e claim few many le t =
+  took-item {bs} h i more e claim few many le t =
       took-other h more
       (λ U g x l a m q r d.
       subst (λ is. DrawsAll p.program U a is (both p.program h.taken q) r) (sym e) (
@@ -244,6 +251,8 @@ took-none p ks T next j v s c trees e goes ready backed = record {
   w = v;
   after = s;
   follows = follows-none j.scope j.env v s;
+  brings = [];
+  brought = brought-none s s v refl;
   children = trees;
   goes = goes;
   no_larger = omega arith;

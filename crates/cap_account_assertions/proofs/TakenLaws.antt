@@ -111,6 +111,8 @@ taken-from p regions ks convert T sc e most n items ts trees v s held next goes 
         w = t.w;
         alike = t.follows.alike;
         after = t.after;
+        brings = t.brings;
+        brought = t.brought;
         children = t.children;
         goes = t.goes;
         U = t.U;

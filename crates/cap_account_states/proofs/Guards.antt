@@ -28,6 +28,7 @@ use Rattle.cap_prog.specs.declared.assertion.Slot.{Slot}
 use Rattle.cap_prog.specs.declared.assertion.Asked.TheVariants.{One, Share, Src, Tok}
 use Rattle.cap_account_states.proofs.Alike.{usable-alike, Alike, alike-same, alike-on}
 use Rattle.cap_account_states.proofs.Terms.{Over, vars-more}
+use Rattle.cap_account_states.proofs.Brought.{Brought, form_brings, piece_brings, brought-none}
 use Rattle.cap_account_states.proofs.Compatible.{pieces-more, form-alike, covered-alike}
 use Rattle.cap_account_states.proofs.Cutting.{Cuts, one-fraction}
 use Rattle.cap_account_states.proofs.Halving.{halved, half_state, half-cut}
@@ -87,6 +88,8 @@ pub record GuardTaken (p : PlainProgram) (ks : List ℕ) (sc : Scope) (v : Valua
   pub away :
       (z : ℤ) → region_of w piece ≢ z →
       CutAt p w (left_pieces s.guards j piece left) z (Some free) (held z)
+  pub brought :
+      Brought s after w (piece_brings (is_open asked (env_at s r.env)) (slice_get s.guards j))
   pub comes : Comes (goes (after_cut r.env j piece (cut later after left)) r) P
 
 -- pieces with other forms that fit the atom
@@ -198,6 +201,9 @@ closed-taken p ks sc v s j way n k i asked r held P me ov fit cover pl hn ao op 
       fit = left-fits p s.guards j q g.left fit lf;
       here = h.cut u.0 g.left el lf u.3;
       away = λ z ne. cut-away p v s.guards j q g.left z (held z) k1.1 ne (cover z);
+      brought =
+          subst (λ o. Brought s s v (piece_brings o (slice_get s.guards j))) (sym op)
+          (brought-none s s v refl);
       comes = g.comes;
     }
 
@@ -312,6 +318,10 @@ open-taken p ks sc v s j way n k i x y r held P me apart ov fit cover pl hn ao o
       fit = left-fits p s.guards j q left fit lf;
       here = hw.cut ho.taken left el lf (subst (λ z. Cuts w z ho.taken left) one ho.cuts);
       away = λ z ne. cut-away p w s.guards j q left z (held z) k1.1 ne (cw z);
+      brought =
+          subst (Brought s (half_state s a) w)
+          (sym ((λ l. piece_brings (is_open_reading (op l)) (k1.1 l)) ∙ ap form_brings g.1))
+          ho.brought;
       comes = ho.comes;
     }
 

@@ -27,14 +27,15 @@ use Rattle.cap_rules.specs.Attempts.{Attempt, unit, ◌>>=◌}
 use Rattle.cap_rules.specs.Making.{fresh, with_comparison, difference}
 use Rattle.cap_rules.specs.Taking.{Cut, cut, cut_share}
 use Rattle.cap_account_states.specs.Nodes.{Comes}
-use Rattle.cap_account_resources.proofs.Lists.{some-same, set-length, get-last}
+use Rattle.cap_account_resources.proofs.Lists.{some-same, set-length, get-last, push-length}
 use Rattle.cap_account_states.proofs.Terms.{Vars, Over, vars-more, over-minus, row-over, Agree, amount-agree}
 use Rattle.cap_account_states.proofs.Attempts.{sort_added, row_added, after-sort, after-comparison, after-computed}
-use Rattle.cap_account_states.proofs.Meets.{Free, Usable, usable-on, usable-old, Meets, Old, Same, same-trans, meets-row, same-fresh, same-row, with-agrees, variable-amount, with_value, new-share}
-use Rattle.cap_account_states.proofs.Alike.{meets-fresh, Alike, scaled-agree-alike}
+use Rattle.cap_account_states.proofs.Meets.{Free, Usable, usable-on, usable-old, Meets, Old, Same, same-trans, meets-row, same-fresh, same-row, with-agrees, variable-amount, with_value, new-whole, new-share}
 use Rattle.cap_account_states.proofs.Naming.{Placed, Means, Stays, term-same, term-other, placed-set, placed-more, stays-set}
 use Rattle.cap_account_states.proofs.Matching.{Outside, lone-is}
 use Rattle.cap_account_states.proofs.Values.{scaled, meets-scaled, scaled-amount}
+use Rattle.cap_account_states.proofs.Brought.{Brought, a_half}
+use Rattle.cap_account_states.proofs.Alike.{Alike, scaled-agree-alike, meets-fresh}
 use Rattle.cap_account_states.proofs.Wants.{AmountIs, value-of-alike, share-wants}
 use Rattle.cap_account_states.proofs.Guarding.{WantedNear, shared}
 use Rattle.cap_account_states.proofs.Cutting.{Cuts, cut-share}
@@ -161,6 +162,7 @@ pub record HalfOk (ks : List ℕ) (sc : Scope) (v : Valuation) (s : PlainState) 
   pub is_element : (b : PlainAlgebra) → Takes b (form.Share a) → IsElement b taken
   pub left_over : Over (Usable ks (half_state s a).sorts Perm) (minus a (fresh s))
   pub cuts : Cuts (halved v (length s.sorts) a) own taken (form.Share (minus a (fresh s)) ∷ [])
+  pub brought : Brought s (half_state s a) (halved v (length s.sorts) a) (a_half a ∷ [])
   pub comes :
       P (cut (bind_open env y (fresh s)) (half_state s a) (form.Share (minus a (fresh s)) ∷ []))
 
@@ -227,5 +229,18 @@ half-cut ks sc v s env slot y a own P me free pl h o e i c =
       left_over = over-minus (Usable ks s1.sorts Perm) a (fresh s) a1 new;
       is_element = λ l tk. shared l a (share k.0) k.1 tk;
       cuts = subst (λ z. Cuts w z (share k.0) (form.Share (minus a (fresh s)) ∷ [])) (sym i.3) k.3;
+      brought =
+          let up = variable-amount w n in
+          let all = hf.whole in
+          let more = push-length s.sorts Perm in
+          record {
+            count = omega (arith, more);
+            are = (
+              new-whole (scaled 1 v) n (pos 0) (amount v.fraction a),
+              omega (arith, ints, up, all),
+              old,
+              tt,
+            );
+          };
       comes = k4.1;
     }

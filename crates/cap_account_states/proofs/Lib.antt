@@ -3,6 +3,7 @@ pub mod Terms
 pub mod Meets
 pub mod Checked
 pub mod Items
+pub mod Filled
 pub mod Naming
 pub mod Scopes
 pub mod Values
@@ -20,6 +21,7 @@ pub mod Halving
 pub mod Guards
 pub mod Facts
 pub mod Alike
+pub mod Brought
 pub mod Wants
 pub mod Backed
 pub mod Sums

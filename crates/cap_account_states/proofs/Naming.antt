@@ -18,9 +18,10 @@ use Rattle.cap_rules.specs.Attempts.{unit}
 use Rattle.cap_rules.specs.Making.{fresh, env_at, with_env_at}
 use Rattle.cap_rules.specs.Giving.{name_as, name_parts}
 use Rattle.cap_account_states.specs.Nodes.{Comes}
-use Rattle.cap_account_resources.proofs.Lists.{get-first, get-last, get-set-same, get-set-other, set-length, get-or-set, get-or-other, none-some, some-same}
+use Rattle.cap_account_resources.proofs.Lists.{get-first, get-last, get-set-same, get-set-other, set-length, get-or-set, get-or-other, push-length, none-some, some-same}
 use Rattle.cap_account_states.proofs.Terms.{Vars, Over, vars-more, over-over, RowOver, row-over, by_terms, value-is, amount-is, number-over, Agree, agree-same, value-agree, amount-agree, sum-agree, relates-same}
 use Rattle.cap_account_states.proofs.Attempts.{comes-bind, comp_row, AreDetermined, sort_added, after-sort}
+use Rattle.cap_account_states.proofs.Filled.{Filled, filled_at, share_for, fill_name, fill_parts}
 use Rattle.cap_account_states.proofs.Meets.{Usable, is-of, usable-on, usable-old, Meets, Old, Same, same-state, same-trans, same-fresh, agree-on, with_value, new-whole, new-share, with-agrees, variable-value, variable-amount, meets-env}
 use Rattle.cap_account_states.proofs.Alike.{SortOk, meets-fresh}
 
@@ -366,22 +367,20 @@ step-fresh sc e a v s o z y ok r =
       others = λ x ne. refl;
     }
 
--- the fraction that a name of this sort has
-abbrev pub share_for : Sort → ℤ → ℤ → ℤ
-share_for Int z y = z
-share_for Perm z y = y
-
-pub record Named (sc : Scope) (e : ℕ) (a v : Valuation) (s : PlainState) (x : ℕ)
+-- a name got a term, and the values are these
+pub record Named (sc : Scope) (e : ℕ) (a v : Valuation) (s : PlainState) (x : ℕ) (f : Filled)
     (P : PlainState → Type 0) : Type 0 where
   pub after : PlainState
   pub step : Step sc e a v s after
+  pub filled : filled_at e step.w after ≡ f
   pub bound : Bound (env_at after e) x
   pub comes : P after
 
 pub named :
     (sc : Scope) (e : ℕ) (a v : Valuation) (s : PlainState) (x : ℕ) (o : Sort)
     (P : PlainState → Type 0) → Ready sc e a v s → HasSort sc o x →
-    Comes (name_as s e o x (term_of (env_at s e) x)) P → Named sc e a v s x P
+    Comes (name_as s e o x (term_of (env_at s e) x)) P →
+    Named sc e a v s x (fill_name a o x (term_of (env_at s e) x) (filled_at e v s)) P
 named sc e a v s x o P r i c = by (term_of (env_at s e) x) refl c
   where
     n : ℕ
@@ -408,10 +407,11 @@ named sc e a v s x o P r i c = by (term_of (env_at s e) x) refl c
 
     by :
         (m : Option Linear) → term_of (env_at s e) x ≡ m → Comes (name_as s e o x m) P →
-        Named sc e a v s x P
+        Named sc e a v s x (fill_name a o x m (filled_at e v s)) P
     by (Some t) q c = record {
       after = s;
       step = step-none sc e a v s r;
+      filled = refl;
       bound = (t, q);
       comes = c.1;
     }
@@ -451,6 +451,7 @@ named sc e a v s x o P r i c = by (term_of (env_at s e) x) refl c
             stays = λ z p j t h. ap (λ u. term_of u z) at1 ∙ st z p j t h;
             others = others-env s1 e env1;
           };
+          filled = λ i. record { env = at1 i; next = push-length s.sorts o i; values = w };
           bound = (fresh s, ap (λ z. term_of z x) at1 ∙ term-same env x (fresh s) l);
           comes =
               (after-sort s o
@@ -459,19 +460,22 @@ named sc e a v s x o P r i c = by (term_of (env_at s e) x) refl c
 
 -- all names of a term get terms
 pub record PartsNamed (sc : Scope) (e : ℕ) (a v : Valuation) (s : PlainState) (ps : List (ℕ × ℤ))
-    (P : PlainState → Type 0) : Type 0 where
+    (f : Filled) (P : PlainState → Type 0) : Type 0 where
   pub after : PlainState
   pub step : Step sc e a v s after
+  pub filled : filled_at e step.w after ≡ f
   pub bound : Vars (Bound (env_at after e)) ps
   pub comes : P after
 
 pub parts-named :
     (sc : Scope) (e : ℕ) (a : Valuation) (o : Sort) (ps : List (ℕ × ℤ)) (v : Valuation)
     (s : PlainState) (P : PlainState → Type 0) → Ready sc e a v s → Vars (HasSort sc o) ps →
-    Comes (name_parts s e o ps) P → PartsNamed sc e a v s ps P
+    Comes (name_parts s e o ps) P →
+    PartsNamed sc e a v s ps (fill_parts a o ps (filled_at e v s)) P
 parts-named sc e a o [] v s P r h c = record {
   after = s;
   step = step-none sc e a v s r;
+  filled = refl;
   bound = tt;
   comes = c.1;
 }
@@ -483,6 +487,7 @@ parts-named sc e a o (p ∷ ps) v s P r h c =
     record {
       after = n.after;
       step = step-trans sc e a v s m.after n.after m.step n.step;
+      filled = n.filled ∙ ap (fill_parts a o ps) m.filled;
       bound = ((m.bound.0, n.step.stays p.0 o h.0 m.bound.0 m.bound.1), n.bound);
       comes = n.comes;
     }

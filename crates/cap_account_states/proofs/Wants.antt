@@ -3,7 +3,7 @@
 use Rattle.cap_account_resources.proofs.Order.{cancel, swapped, grouped}
 use Rattle.std.proofs.Common.{◌≡◌, ℕ, ◌+◌, ℤ, pos, ◌*ℤ◌, refl, sym, ap, ◌∙◌, subst}
 use Rattle.cap_lin.specs.Linear.{Linear}
-use Rattle.cap_lin.specs.Values.{Valuation, denominator, amount, value}
+use Rattle.cap_lin.specs.Values.{Valuation, denominator, amount}
 use Rattle.cap_lin.specs.declared.row.Sort.TheVariants.{Int, Perm}
 use Rattle.cap_galg.specs.declared.fraction.Fraction.{Fraction}
 use Rattle.cap_galg.specs.Fractions.{IsShare}
@@ -21,7 +21,6 @@ use Rattle.cap_account_states.proofs.Values.{scaled, scaled-denominator}
 use Rattle.cap_account_states.proofs.Asking.{AskedOver}
 use Rattle.cap_galg.specs.Algebras.{PlainAlgebra, unique, divisible, counting}
 use Rattle.cap_prog.specs.WellFormed.{AskedFits}
-use Rattle.cap_rules.specs.Resting.{ask}
 
 abbrev pub AmountIs : Valuation → Slot → ℤ → Type 0
 AmountIs v Any z = Unit {0}
@@ -88,7 +87,7 @@ slot-alike sc v w a Any z f h = tt
 slot-alike sc v w a (Is t) z f h =
     value-alike (InScope sc) v w a t (fits-over sc Int t f) ∙ h
 
-pub wants-alike :
+abbrev pub wants-alike :
     (sc : Scope) (v w : Valuation) → Alike (InScope sc) v w → (asked : Asked) (x : Element) →
     AskedOver sc asked → StaysWanted v w asked → Wants v asked x → Wants w asked x
 wants-alike sc v w a One x f k h = h
@@ -110,18 +109,19 @@ wants-alike sc v w a (Share (Is t)) x f k h =
 wants-alike sc v w a (Src s) x f k h = (h.0, slot-alike sc v w a s (pos h.0) f h.1, h.2)
 wants-alike sc v w a (Tok s) x f k h = (h.0, slot-alike sc v w a s (pos h.0) f h.1, h.2)
 
+abbrev pub stays-finer : (v w : Valuation) → IsFiner v w → (asked : Asked) → StaysWanted v w asked
+stays-finer v w k One = tt
+stays-finer v w k (Share Any) = k
+stays-finer v w k (Share (Is t)) = tt
+stays-finer v w k (Src s) = tt
+stays-finer v w k (Tok s) = tt
+
 -- over a multiple of the denominator all stays
-pub wants-finer :
+abbrev pub wants-finer :
     (sc : Scope) (v w : Valuation) → Alike (InScope sc) v w → IsFiner v w → (asked : Asked)
     (x : Element) → AskedOver sc asked → Wants v asked x → Wants w asked x
-wants-finer sc v w a k asked x f h = wants-alike sc v w a asked x f (by asked) h
-  where
-    by : (asked : Asked) → StaysWanted v w asked
-    by One = tt
-    by (Share Any) = k
-    by (Share (Is t)) = tt
-    by (Src s) = tt
-    by (Tok s) = tt
+wants-finer sc v w a k asked x f h =
+    wants-alike sc v w a asked x f (stays-finer v w k asked) h
 
 pub asked-over : (sc : Scope) (b : PlainAlgebra) (asked : Asked) → AskedFits sc b asked →
     AskedOver sc asked

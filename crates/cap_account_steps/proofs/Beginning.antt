@@ -28,12 +28,14 @@ use Rattle.cap_account_states.proofs.Meets.{Usable, Old}
 use Rattle.cap_account_states.proofs.Alike.{agree-alike}
 use Rattle.cap_account_states.proofs.Items.{AreFit}
 use Rattle.cap_account_states.proofs.Checked.{Checked, one-child}
+use Rattle.cap_account_states.proofs.Filled.{Filled, filled_at}
 use Rattle.cap_account_states.proofs.Naming.{Ready}
 use Rattle.cap_account_states.proofs.Values.{normal}
 use Rattle.cap_account_states.proofs.Scopes.{rep-length, length-join}
 use Rattle.cap_account_states.proofs.Roots.{values-length, function-fits, renamed, Root, fixed-usable, root-ready, root-fixed, root-whole, variables-values, map-zero, variables-join, variables-over, zeros-over}
 use Rattle.cap_account_states.proofs.Backed.{Backed}
 use Rattle.cap_account_assertions.proofs.Asserted.{Owns, OwnsRequires, OwnsInvariant}
+use Rattle.cap_account_assertions.proofs.Filling.{fill_items}
 use Rattle.cap_account_assertions.proofs.Laws.{StateAt, Given, GivenLaw, Reached, Stable}
 use Rattle.cap_account_steps.proofs.Points.{Point, FrameOk, loop_point, point-next, point-again, point-loop, point-act}
 use Rattle.cap_account_steps.proofs.Stores.{Store, store-alike}
@@ -82,11 +84,15 @@ module _ (p : Checked) (program : IsWellFormed p.program) (give : GivenLaw p)
   given-all :
       (T : Table) (sc : Scope) (a v : Valuation) (s : PlainState) (items : Items) (part : Stock)
       (number : ℕ) (ts : List PlainTask) (trees : PlainTrees) → Bare s → Ready sc 0 a v s →
-      FitsRoom p.program T part → AreFit p.program sc items → Owns p.program T part a items →
-      Open p.N trees s (to_give items 0 number ∷ ts) → Given p T 0 v part s ts
+      FitsRoom p.program T part → AreFit p.program sc items →
+      (met : Owns p.program T part a items) → Open p.N trees s (to_give items 0 number ∷ ts) →
+      Given p T 0 v part s ts
+      (fill_items p.program T a items part met.0 met.1 (filled_at 0 v s))
   given-all T sc a v s items part number ts trees b r room fits met go =
       let alone : both p.program no_stock part ≡ part = (stock-laws p.program).zero_left part in
-      subst (λ q. Given p T 0 v q s ts) alone
+      subst
+      (λ q. Given p T 0 v q s ts
+      (fill_items p.program T a items part met.0 met.1 (filled_at 0 v s))) alone
       (give T sc 0 number a no_stock part met.0 items ts trees v s go (bare-at T sc a v s b r)
       (rw b.facts tt) r.means fits met.1 (nothing-backed v s b)
       (subst Composes (sym alone) (fits-composes p.program T part room)))
@@ -95,10 +101,10 @@ module _ (p : Checked) (program : IsWellFormed p.program) (give : GivenLaw p)
   given-sits :
       (T : Table) (v : Valuation) (s : PlainState) (part : Stock) (h : Home) (fn : PlainFunction)
       (fixed : List NameValue) (f : Frame) (tasks : Home → List PlainTask) →
-      s.opened ≡ [] → (gv : Given p T 0 v part s (tasks h)) → Store v s h fn fixed f →
+      (goal : Filled) → s.opened ≡ [] → (gv : Given p T 0 v part s (tasks h) goal) → Store v s h fn fixed f →
       length fixed ≡ length fn.fixed → AllByRecursion (Over (Usable [] s.sorts Int)) s.store →
       (d : PlainTree) → p.N d gv.after (tasks h) → Node p part T fn fixed f tasks d
-  given-sits T v s part h fn fixed f tasks none gv st size over d valid = record {
+  given-sits T v s part h fn fixed f tasks goal none gv st size over d valid = record {
     state = gv.after;
     v = gv.w;
     home = h;
@@ -156,7 +162,7 @@ module _ (p : Checked) (program : IsWellFormed p.program) (give : GivenLaw p)
         record {
           tree = child.0;
           at_node = given-sits U v entered part h g fixed (new_frame n g args destination) tasks
-              refl gv (record {
+              _ refl gv (record {
                 home = refl;
                 store = entered-store v len
                     (variables-values v 0 args (root-whole top args len me.args_are));
@@ -217,7 +223,7 @@ module _ (p : Checked) (program : IsWellFormed p.program) (give : GivenLaw p)
         let size = ok.size in
         let len : length f.store ≤ fn.params + fn.locals = omega (arith, size) in
         (turn-at p part U fn fixed f l b c inv body child.0 act.0
-        (given-sits U v turned part h fn fixed f tasks refl gv (record {
+        (given-sits U v turned part h fn fixed f tasks _ refl gv (record {
           home = refl;
           store = turned-store v
               (variables-values v 0 f.store (root-whole top f.store len me.store_is));

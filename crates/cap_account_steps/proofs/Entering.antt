@@ -37,12 +37,14 @@ use Rattle.cap_account_states.proofs.Checked.{Checked, children-split, one-child
 use Rattle.cap_account_states.proofs.Compatible.{pieces-more, covered-alike}
 use Rattle.cap_account_states.proofs.Facts.{StateHolds, StateOver, FactHolds, FactOver, Facts}
 use Rattle.cap_account_states.proofs.Meets.{Usable, usable-old, usable-on, Meets, Old, proved-holds}
+use Rattle.cap_account_states.proofs.Filled.{filled_at}
 use Rattle.cap_account_states.proofs.Naming.{Placed, Means}
 use Rattle.cap_account_states.proofs.Scopes.{length-join}
 use Rattle.cap_account_states.proofs.Pieces.{AllFit}
 use Rattle.cap_account_states.proofs.Backed.{IsFirm, IsOpened, Backed, Grounded}
-use Rattle.cap_account_assertions.proofs.Asserted.{OwnsRegion}
+use Rattle.cap_account_assertions.proofs.Asserted.{DrawsAll, OwnsRegion}
 use Rattle.cap_account_assertions.proofs.Finer.{draws-all-finer}
+use Rattle.cap_account_assertions.proofs.Filling.{fill_items}
 use Rattle.cap_account_assertions.proofs.Laws.{StateAt, Given, GivenLaw}
 use Rattle.cap_account_steps.proofs.Stores.{Store, running, store-alike}
 use Rattle.cap_account_steps.proofs.Exact.{exact-alike, over-more}
@@ -411,7 +413,16 @@ module _ (p : Checked) (program : IsWellFormed p.program) (give : GivenLaw p) (V
               (room p.program V m) (world.room (numbers ++ n ∷ []) differ1 there1 m)
               (room-some p.program V m))
 
+          drawn : DrawsAll p.program V names c.items (share n) own.met.0
+          drawn =
+              draws-all-finer p.program V sc own.values names
+              (scaled-alike (InScope sc) v.fraction.under own.values)
+              (scaled-finer v.fraction.under own.values) c.items (share n) own.met.0
+              case-fits.items.items own.met.1
+
           given : Given p V (length s.envs) w (both p.program held (share n)) s2 ts
+              (fill_items p.program V names c.items (share n) own.met.0 drawn
+              (filled_at (length s.envs) w s2))
           given =
               give V sc (length s.envs) l.number names held (share n) own.met.0 c.items ts trees.0 w
               s2
@@ -419,11 +430,7 @@ module _ (p : Checked) (program : IsWellFormed p.program) (give : GivenLaw p) (V
               (subst (λ env. Means sc w env names) (sym (get-or-push s.envs (case_names s1 f c) []))
               (holds.means p.program v s1 f k c own.values in-case meets1 goal.goes.state_known
               goal.goes.conditions_known))
-              case-fits.items.items
-              (draws-all-finer p.program V sc own.values names
-              (scaled-alike (InScope sc) v.fraction.under own.values)
-              (scaled-finer v.fraction.under own.values) c.items (share n) own.met.0
-              case-fits.items.items own.met.1)
+              case-fits.items.items drawn
               (backed-between p.program [] [] (Old s) v w s1 s2 between2 held grounded1
               (record { cells = o.backed.cells; guards = o.backed.guards })) composes
 
