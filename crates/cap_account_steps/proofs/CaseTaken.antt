@@ -1,6 +1,6 @@
 -- A region is to be closed: a case and a move are chosen, and the case's items are taken out of
 -- what is held.
-use Rattle.std.proofs.Common.{◌≡◌, ℕ, ◌<◌, ℤ, List, [], ◌∷◌, length, map, Some, None, true, refl, sym, ◌∙◌, subst, arith}
+use Rattle.std.proofs.Common.{◌+◌, ◌≡◌, ℕ, ◌<◌, ℤ, List, [], ◌∷◌, length, map, Some, None, true, refl, sym, ◌∙◌, subst, arith}
 use Rattle.std.specs.Prelude.{slice_get}
 use Rattle.cap_lin.specs.Values.{Valuation, value}
 use Rattle.cap_lin.specs.declared.row.Sort.TheVariants.{Int}
@@ -16,6 +16,7 @@ use Rattle.cap_account_resources.specs.Parts.{known_as, Table}
 use Rattle.cap_account_resources.proofs.Lists.{map-length, push-length, get-or-push, all-at, all-more}
 use Rattle.cap_account_resources.proofs.Stocks.{Stock, no_stock, both, inside-first}
 use Rattle.cap_account_resources.proofs.Tables.{TableFits, AreListed, fits-less}
+use Rattle.cap_account_states.proofs.Brought.{Bring, Brings}
 use Rattle.cap_account_states.proofs.Alike.{Alike, alike-same, alike-less}
 use Rattle.cap_account_states.proofs.Attempts.{env_added}
 use Rattle.cap_account_states.proofs.Meets.{Usable, Old, meets-env, solves}
@@ -49,6 +50,9 @@ pub record CaseTaken (p : Checked) (V W : Table) (part : Stock) (ks : List ℕ) 
   pub w : Valuation
   pub t : PlainState
   pub alike : Alike (Old s) v w
+  pub brings : List Bring
+  pub count : length t.sorts ≡ length s.sorts + length brings
+  pub brought : Brings w (length s.sorts) brings
   pub later : LaterState ks ks v w s t
   pub movable : Movable p.program ks t f k
   pub same_region : value w.whole f.region ≡ value v.whole f.region
@@ -188,6 +192,9 @@ module _ (p : Checked) (program : IsWellFormed p.program) (taken : TakenLaw p) (
             w = tk.w;
             t = tk.after;
             alike = tk.alike;
+            brings = tk.brings;
+            count = tk.brought.count;
+            brought = tk.brought.are;
             later = later;
             movable =
                 movable-on p.program ks ks s tk.after pk.f pk.k

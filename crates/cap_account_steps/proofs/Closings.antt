@@ -111,6 +111,8 @@ module _ (p : Checked) (V : Table) (part : Stock) (ts : List PlainTask) where
             shuts = rc.shut ∷ r.shuts;
             named = (
               rc.took,
+              rc.count,
+              rc.brought,
               subst (λ n. Leads n (shut_values rc.shut) r.shuts (length r.after.sorts) r.w)
                   (sym rc.counts)
                   (subst (λ u. Leads (length rc.after.sorts) u r.shuts (length r.after.sorts) r.w)

@@ -1,5 +1,5 @@
 -- A region is closed: its move is proved, it has what its case says, and its fact joins the others.
-use Rattle.std.proofs.Common.{◌≡◌, ◌≢◌, inl, inr, ℕ, suc, ℤ, List, [], ◌∷◌, ◌++◌, length, map, Some, None, true, refl, sym, ap, ◌∙◌, arith}
+use Rattle.std.proofs.Common.{◌+◌, ◌≡◌, ◌≢◌, inl, inr, ℕ, suc, ℤ, List, [], ◌∷◌, ◌++◌, length, map, Some, None, true, refl, sym, ap, ◌∙◌, arith}
 use Rattle.std.specs.Prelude.{slice_get, remove, if◌then◌else◌}
 use Rattle.std.specs.List.{AllByRecursion}
 use Rattle.cap_gsolve.specs.declared.piece.Piece.{Piece}
@@ -17,6 +17,7 @@ use Rattle.cap_account_resources.proofs.Lists.{none-some, map-length, all-at, al
 use Rattle.cap_account_resources.proofs.Stocks.{Stock, both}
 use Rattle.cap_account_resources.proofs.Tables.{TableFits, AreListed}
 use Rattle.cap_account_resources.proofs.Owners.{Owner}
+use Rattle.cap_account_states.proofs.Brought.{Bring, Brings}
 use Rattle.cap_account_states.proofs.Alike.{Alike, alike-less, agree-alike}
 use Rattle.cap_account_states.proofs.Meets.{Free, Usable, Old, solves}
 use Rattle.cap_account_states.proofs.Facts.{FactHolds, FactOver, Facts}
@@ -56,6 +57,8 @@ pub record RegionClosed (p : Checked) (V W : Table) (part : Stock) (ks : List �
   pub closing : Closing p.program V by.U part js w after left
   pub shut : Shut
   pub took : Alike (Old s) v shut.took
+  pub count : shut.later ≡ length s.sorts + length shut.brings
+  pub brought : Brings shut.took (length s.sorts) shut.brings
   pub counts : shut.later ≡ length after.sorts
   pub named : w ≡ shut_values shut
   pub is_closed : by.closed ≡ shut_owner shut ∷ []
@@ -273,6 +276,7 @@ module _ (p : Checked) (V W : Table) (part : Stock) (ks : List ℕ) (v : Valuati
       abbrev shut_here : Shut
       shut_here = record {
         took = ct.w;
+        brings = ct.brings;
         facts = ct.t.facts;
         later = length ct.t.sorts;
         fact = with_state ct.f sh.new;
@@ -303,6 +307,8 @@ module _ (p : Checked) (V W : Table) (part : Stock) (ks : List ℕ) (v : Valuati
         closing = closing;
         shut = shut_here;
         took = ct.alike;
+        count = ct.count;
+        brought = ct.brought;
         counts = refl;
         named = jn.named;
         is_closed = ap (λ rs. rs ++ r ∷ []) ct.none_closed;

@@ -1,6 +1,6 @@
 -- Values by name where opened regions are closed: what the case's items are taken at, and what the join
 -- makes of these; the region keeps its case at what the case's environment says then.
-use Rattle.std.specs.Prelude.{◌≡◌, ℕ, ◌<◌, List, [], ◌∷◌, map, find}
+use Rattle.std.specs.Prelude.{length, ◌+◌, ◌≡◌, ℕ, ◌<◌, List, [], ◌∷◌, map, find}
 use Rattle.cap_lin.specs.Values.{Valuation, value}
 use Rattle.cap_prog.specs.Program.{PlainProgram}
 use Rattle.cap_goal_spec.specs.States.{PlainFact, PlainEnv}
@@ -9,6 +9,7 @@ use Rattle.cap_account_resources.specs.Parts.{Table}
 use Rattle.cap_account_resources.proofs.Stocks.{Stock}
 use Rattle.cap_account_resources.proofs.Tables.{KeepsStates}
 use Rattle.cap_account_resources.proofs.Owners.{Owner}
+use Rattle.cap_account_states.proofs.Brought.{Bring, Brings}
 use Rattle.cap_account_states.proofs.Alike.{Alike}
 use Rattle.cap_account_states.proofs.Naming.{values_in}
 use Rattle.cap_account_assertions.proofs.Asserted.{OwnsRegion, draws-all-kept}
@@ -18,6 +19,7 @@ use Rattle.cap_account_assertions.proofs.Named.{joined_values}
 -- its case, the environment of the case's names, and what it gets
 pub record Shut : Type 0 where
   pub took : Valuation
+  pub brings : List Bring
   pub facts : List PlainFact
   pub later : ℕ
   pub fact : PlainFact
@@ -37,11 +39,14 @@ shut_owner c = record {
   stock = c.stock;
 }
 
--- from n variables and their values over these closings to m and theirs
+-- from n variables and their values over these closings to m and theirs; each Take brings what is said
 abbrev pub Leads : ℕ → Valuation → List Shut → ℕ → Valuation → Type 0
 Leads n v [] m w = (m ≡ n) × (w ≡ v)
 Leads n v (c ∷ cs) m w =
-    Alike (λ x. x < n) v c.took × Leads c.later (shut_values c) cs m w
+    Alike (λ x. x < n) v c.took
+    × (c.later ≡ n + length c.brings)
+    × Brings c.took n c.brings
+    × Leads c.later (shut_values c) cs m w
 
 -- the region has its case at the values of the case's environment
 abbrev pub KeepsCase : PlainProgram → Table → Shut → Type 0
