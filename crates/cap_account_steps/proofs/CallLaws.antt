@@ -1,5 +1,5 @@
 -- The laws of calls and forks.
-use Rattle.std.proofs.Common.{◌≡◌, ℕ, ℤ, pos, List, [], ◌∷◌, length, map, arith, refl, ◌∙◌, subst, Option, Some, None, ◌<◌}
+use Rattle.std.proofs.Common.{◌++◌, ◌+◌, ◌≡◌, ℕ, ℤ, pos, List, [], ◌∷◌, length, map, arith, refl, ◌∙◌, subst, Option, Some, None, ◌<◌}
 use Rattle.std.specs.Prelude.{slice_get, IsSomeAnd}
 use Rattle.cap_lin.specs.Linear.{Linear}
 use Rattle.cap_lin.specs.Values.{Valuation}
@@ -19,6 +19,7 @@ use Rattle.cap_account_resources.proofs.Lists.{get-first, push-length}
 use Rattle.cap_account_resources.proofs.Interference.{Relies}
 use Rattle.cap_account_resources.proofs.Stocks.{Stock}
 use Rattle.cap_account_states.specs.Nodes.{Children}
+use Rattle.cap_account_states.proofs.Brought.{Bring, Brings}
 use Rattle.cap_account_states.proofs.Alike.{Alike, alike-trans, alike-less, agree-alike}
 use Rattle.cap_account_states.proofs.Attempts.{after-found}
 use Rattle.cap_account_states.proofs.Meets.{Old}
@@ -51,6 +52,9 @@ module _ (p : Checked) (part : Stock) (T : Table) (fixed : List NameValue) (f : 
     pub after : PlainState
     pub children : PlainTrees
     pub alike : Alike (Old s) v took
+    pub brings : List Bring
+    pub count : length after.sorts ≡ length (s.sorts ++ Int ∷ []) + length brings
+    pub brought : Brings took (length (s.sorts ++ Int ∷ [])) brings
     pub values_are : calls.meets.values ≡ required took after
     pub fixed_are : calls.fixed ≡ fixed_values (required took after) (fixed_start g) g.fixed
     pub waits :
@@ -66,6 +70,9 @@ module _ (p : Checked) (part : Stock) (T : Table) (fixed : List NameValue) (f : 
     pub after : PlainState
     pub children : PlainTrees
     pub alike : Alike (Old s) v took
+    pub brings : List Bring
+    pub count : length after.sorts ≡ length (s.sorts ++ Int ∷ []) + length brings
+    pub brought : Brings took (length (s.sorts ++ Int ∷ [])) brings
     pub values_are : forks.meets.values ≡ required took after
     pub fixed_are : forks.fixed ≡ fixed_values (required took after) (fixed_start g) g.fixed
     pub named :
@@ -183,6 +190,9 @@ module _ (p : Checked) (program : IsWellFormed p.program) (give : GivenLaw p) (t
           after = tk.after;
           children = tk.children;
           alike = alike2 p part T f.store c (rest g) tk;
+          brings = tk.brings;
+          count = tk.brought.count;
+          brought = tk.brought.are;
           values_are = refl;
           fixed_are = refl;
           waits = waits;
@@ -293,6 +303,9 @@ module _ (p : Checked) (program : IsWellFormed p.program) (give : GivenLaw p) (t
           after = tk.after;
           children = tk.children;
           alike = alike2 p part T f.store c rest tk;
+          brings = tk.brings;
+          count = tk.brought.count;
+          brought = tk.brought.are;
           values_are = refl;
           fixed_are = refl;
           named = λ U relies. (rested U relies).named;
