@@ -149,13 +149,28 @@ module _ (p : Checked) (program : IsWellFormed p.program) (give : GivenLaw p) (V
     pub is_type : slice_get p.program.regions f.kind ≡ Some k
     pub exact : Exact v V f
     pub opened : t.opened ≡ s.opened ++ f ∷ []
+    pub own :
+        OwnsRegion p.program V (value v.whole f.region) f.kind (map (value v.whole) f.args)
+        (value v.whole f.state) (share (value v.whole f.region))
+    pub is_own :
+        own
+        ≡ world.owns (value v.whole f.region) f.kind (map (value v.whole) f.args)
+        (value v.whole f.state) exact
     pub named :
-        let own : OwnsRegion p.program V (value v.whole f.region) f.kind
-        (map (value v.whole) f.args) (value v.whole f.state) (share (value v.whole f.region)) =
-        world.owns (value v.whole f.region) f.kind (map (value v.whole) f.args)
-        (value v.whole f.state) exact in
         Agree (Old (case_state (with_opened s i f) f own.case))
         (case_values v own.values (length s.sorts) k.params (region_scope k own.case.names)) w
+    pub drawn :
+        DrawsAll p.program V
+        (names_values v own.values (length s.sorts) k.params (region_scope k own.case.names))
+        own.case.items (share (value v.whole f.region)) own.met.0
+    pub filled :
+        filled_at (length s.envs) w t
+        ≡ fill_items p.program V
+        (names_values v own.values (length s.sorts) k.params (region_scope k own.case.names))
+        own.case.items (share (value v.whole f.region)) own.met.0 drawn
+        (filled_at (length s.envs)
+        (case_values v own.values (length s.sorts) k.params (region_scope k own.case.names))
+        (case_state (with_opened s i f) f own.case))
 
   module _ (v : Valuation) (s : PlainState) (o : Opening p.program V share part v s)
       (st : Store v s h0 fn fixed f0) (i : ℕ) (f : PlainFact) (k : PlainRegionType)
@@ -573,7 +588,11 @@ module _ (p : Checked) (program : IsWellFormed p.program) (give : GivenLaw p) (V
                   is_type = is_type;
                   exact = exact;
                   opened = given.goes_on.opened;
+                  own = own;
+                  is_own = refl;
                   named = given.agree;
+                  drawn = drawn;
+                  filled = given.filled;
                 },
               )
 
