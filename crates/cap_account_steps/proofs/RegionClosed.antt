@@ -17,7 +17,7 @@ use Rattle.cap_account_resources.proofs.Lists.{none-some, map-length, all-at, al
 use Rattle.cap_account_resources.proofs.Stocks.{Stock, both}
 use Rattle.cap_account_resources.proofs.Tables.{TableFits, AreListed}
 use Rattle.cap_account_resources.proofs.Owners.{Owner}
-use Rattle.cap_account_states.proofs.Brought.{Bring, Brings}
+use Rattle.cap_account_states.proofs.Brought.{Brings}
 use Rattle.cap_account_states.proofs.Alike.{Alike, alike-less, agree-alike}
 use Rattle.cap_account_states.proofs.Meets.{Free, Usable, Old, solves}
 use Rattle.cap_account_states.proofs.Facts.{FactHolds, FactOver, Facts}
