@@ -29,6 +29,7 @@ use Rattle.cap_account_states.proofs.Filled.{Filled, filled_at}
 use Rattle.cap_account_states.proofs.Naming.{Placed, Means, Stays}
 use Rattle.cap_account_states.proofs.Matching.{Outside}
 use Rattle.cap_account_states.proofs.Backed.{IsFirm, IsOpened, Backed, Grounded, GoesOn, OtherEnvs}
+use Rattle.cap_account_assertions.proofs.Named.{rest_values, rest_counts}
 use Rattle.cap_account_assertions.proofs.Asserted.{DrawsAll, OwnsRegion, OwnsRequires, OwnsEnsures, OwnsInvariant}
 use Rattle.cap_account_assertions.proofs.Filling.{fill_items}
 
@@ -141,9 +142,11 @@ pub record Reached (p : PlainProgram) (T U : Table) (q : Stock) : Type 0 where
 
 -- what a Rest leads to: facts hold by the table that others led to
 pub record Rested (p : Checked) (U : Table) (v : Valuation) (part : Stock) (s : PlainState)
-    (ts : List PlainTask) : Type 0 where
+    (ts : List PlainTask) (trees : PlainTrees) : Type 0 where
   pub w : Valuation
+  pub named : w ≡ rest_values U s.facts trees (length s.sorts) v
   pub after : PlainState
+  pub count : length after.sorts ≡ rest_counts s.facts trees (length s.sorts)
   pub children : PlainTrees
   pub goes : Open p.N children after ts
   pub grounded : Grounded p.program [] w after
@@ -159,7 +162,7 @@ RestsLaw p =
     (part : Stock) (T U : Table) (n : ℕ) (ts : List PlainTask) (trees : PlainTrees) (v : Valuation)
     (s : PlainState) → Reached p.program T U part → Open p.N trees s (to_rest 0 n ∷ ts) →
     Grounded p.program [] v s → Facts [] v T s → AllByRecursion IsFirm s.facts →
-    Backed p.program v s part → Rested p U v part s ts
+    Backed p.program v s part → Rested p U v part s ts trees
 
 -- contracts, invariants and interpretations, whatever others do
 pub record Stable (p : PlainProgram) : Type 0 where

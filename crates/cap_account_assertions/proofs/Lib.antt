@@ -1,4 +1,5 @@
 pub mod Asserted
+pub mod Named
 pub mod Filling
 pub mod GiveTerms
 pub mod Laws

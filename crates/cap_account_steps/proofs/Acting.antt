@@ -1,29 +1,35 @@
 -- A heap statement acts where up to two regions are open, and they are closed again.
-use Rattle.std.proofs.Common.{◌≡◌, ℕ, ◌+◌, ℤ, List, [], length, arith, sym, ap, ◌∙◌, subst, Some}
-use Rattle.std.specs.Prelude.{slice_get, is_some, map}
+use Rattle.std.proofs.Common.{◌≡◌, ℕ, ◌+◌, ◌≤◌, ℤ, List, [], ◌∷◌, length, arith, sym, ap, ◌∙◌, subst, Some}
+use Rattle.std.specs.Prelude.{slice_get, is_some, map, Option, Bool}
 use Rattle.std.specs.List.{AllByRecursion}
+use Rattle.cap_lin.specs.Linear.{Linear}
 use Rattle.cap_lin.specs.Values.{Valuation, value}
 use Rattle.cap_lin.specs.declared.row.Sort.{Sort}
 use Rattle.cap_lin.specs.declared.row.Sort.TheVariants.{Int}
-use Rattle.cap_prog.specs.Program.{PlainFunction}
-use Rattle.cap_goal_spec.specs.States.{PlainFact, PlainState, Home}
-use Rattle.cap_goal_spec.specs.Choices.{PlainTrees}
-use Rattle.cap_machine.specs.Machine.{Frame, value_in, with_rest}
+use Rattle.cap_farkas.specs.declared.cert.Cert.{Cert}
+use Rattle.cap_prog.specs.Program.{Label, PlainAct, Block, first, PlainFunction}
+use Rattle.cap_goal_spec.specs.States.{PlainFact, PlainState, Home, PlainTask, to_rest}
+use Rattle.cap_goal_spec.specs.Choices.{node, by_act, PlainTrees}
+use Rattle.cap_rules.specs.Closing.{address_of}
+use Rattle.cap_machine.specs.Machine.{Heap, Frame, value_in, with_rest}
 use Rattle.cap_machine_accounts.specs.Assertions.{NameValue}
 use Rattle.cap_account_states.specs.Nodes.{Open}
 use Rattle.cap_account_resources.specs.Parts.{Table}
 use Rattle.cap_account_resources.proofs.Lists.{map-length}
 use Rattle.cap_account_resources.proofs.Heaps.{there-in}
+use Rattle.cap_account_resources.proofs.Interference.{Relies}
 use Rattle.cap_account_resources.proofs.Stocks.{Stock, no_stock, both, all_of, inside-first}
 use Rattle.cap_account_resources.proofs.Tables.{TableFits, NoneOpen, FitsRoom, AreListed, fits-less}
 use Rattle.cap_account_states.proofs.Terms.{Over}
 use Rattle.cap_account_states.proofs.Checked.{Checked}
 use Rattle.cap_account_states.proofs.Meets.{Free, Usable}
 use Rattle.cap_account_steps.proofs.Points.{FrameOk}
-use Rattle.cap_account_steps.proofs.Stores.{Store}
-use Rattle.cap_account_steps.proofs.Frames.{Stands}
-use Rattle.cap_account_steps.proofs.Worlds.{regions_of, opened_table, Closing, SettlesBy, after_act, recelled}
-use Rattle.cap_account_steps.proofs.HeapLaws.{ActsLaw}
+use Rattle.cap_account_steps.proofs.Stores.{Store, running}
+use Rattle.cap_account_assertions.proofs.Named.{rest_values}
+use Rattle.cap_account_steps.proofs.Firming.{firm_values}
+use Rattle.cap_account_steps.proofs.Marking.{mark_values}
+use Rattle.cap_account_steps.proofs.Frames.{StandsAt}
+use Rattle.cap_account_steps.proofs.Worlds.{World, Opening, HeapStep, regions_of, opened_table, Closing, SettlesBy, Closed, after_act, recelled}
 use Rattle.cap_account_steps.proofs.OpenTables.{opened-there, open-fits, open-listed}
 use Rattle.cap_account_steps.proofs.Changing.{holds-cell}
 use Rattle.cap_account_steps.proofs.AtCell.{then_close, at-cell}
@@ -31,12 +37,23 @@ use Rattle.cap_account_steps.proofs.Acts.{statement-done}
 
 -- ---- after the statement
 
+-- the values once all is closed and the facts rest, by a table to which others lead from T
+abbrev pub last_values :
+    {p : Checked} {V W : Table} {part : Stock} {ks : List ℕ} {v : Valuation} {s : PlainState}
+    {held : Stock} {ts : List PlainTask} → Table → Closed p V W part ks v s held ts → Table → Valuation
+last_values T c U =
+    rest_values U c.after.facts c.children (length c.after.sorts) (firm_values T c.w c.after.facts)
+
 -- all open regions are closed, and the frame stands with what is kept
-pub record Finished (p : Checked) (V W : Table) (part held : Stock) (ns : List ℤ)
-    (fixed : List NameValue) (f : Frame) : Type 0 where
+pub record Finished (p : Checked) (V W : Table) (part held : Stock) (ns : List ℤ) (ks : List ℕ)
+    (v : Valuation) (s : PlainState) (n : ℕ) (h : Home) (fixed : List NameValue)
+    (f : Frame) : Type 0 where
+  pub closed : Closed p V W part ks v s held (to_rest 0 n ∷ running f.rest h)
   pub kept : Stock
   pub by : SettlesBy p.program V W part held ns kept
-  pub stands : Stands p kept by.U fixed f
+  pub table : by.U ≡ closed.by.U
+  pub owners : by.closed ≡ closed.by.closed
+  pub stands : StandsAt p kept by.U fixed f (last_values by.U closed)
 
 abbrev pub FinishingLaw : Checked → Type 0
 FinishingLaw p =
@@ -48,9 +65,44 @@ FinishingLaw p =
     FitsRoom p.program V part → Closing p.program V (opened_table ns V) part ks v s held →
     AllByRecursion (Over (Usable ks s.sorts Int)) s.store →
     ((i : ℕ) (o : Sort) → slice_get fn.fixed i ≡ Some o → Free ks (h.fixed + i)) →
-    Store v s h fn fixed f → Finished p V (opened_table ns V) part held ns fixed f
+    Store v s h fn fixed f →
+    Finished p V (opened_table ns V) part held ns ks v s n h fixed f
 
 -- ---- the statement
+
+-- a heap statement that acted: its state is that of the marks, and once all is closed and rests, the
+-- frame's states hold at these values
+pub record Acted (p : Checked) (V : Table) (share : ℤ → Stock) (part : Stock) (heap : Heap)
+    (fixed : List NameValue) (f : Frame) (l : Label) (a : PlainAct) (b : Block) (x : Linear)
+    (v : Valuation) (s : PlainState) (h : Home) : Type 0 where
+  pub step : HeapStep p V share part heap fixed f a b x
+  pub ms : List Bool
+  pub marked : Valuation
+  pub marks : marked ≡ mark_values v (length s.sorts) ms
+  pub ks : List ℕ
+  pub t : PlainState
+  pub held : Stock
+  pub closed :
+      Closed p V (opened_table (regions_of v s.opened) V) part ks marked t held
+      (to_rest 0 l.number ∷ running (after_act a f b step.content).1.rest h)
+  pub table : step.by.U ≡ closed.by.U
+  pub owners : step.by.closed ≡ closed.by.closed
+  pub named :
+      (U : Table) (r : Relies p.program step.kept.guards step.by.U U) →
+      (step.stands.all U r).at_node.v ≡ last_values step.by.U closed U
+
+-- a heap statement acts where up to two regions are open
+abbrev pub ActsLaw : Checked → Type 0
+ActsLaw p =
+    (V : Table) (share : ℤ → Stock) (part : Stock) (heap : Heap) (fn : PlainFunction)
+    (fixed : List NameValue) (f : Frame) (l : Label) (a : PlainAct) (b : Block) (x : Linear) →
+    address_of a ≡ Some x → World p.program V share part heap →
+    ((z : ℤ) → FrameOk p.program fn fixed (after_act a f b z).1) → (v : Valuation)
+    (s : PlainState) (h : Home) → Opening p.program V share part v s → length s.opened ≤ 2 →
+    Store v s h fn fixed (with_rest f (first l a b)) → length fixed ≡ length fn.fixed → (j : ℕ)
+    (cs : List Cert) (ms : List (Option Cert)) (ks : PlainTrees) →
+    p.N (node (by_act j cs ms) ks) s (running (first l a b) h) →
+    Acted p V share part heap fixed f l a b x v s h
 
 pub acts-law : (p : Checked) → FinishingLaw p → ActsLaw p
 acts-law p finish V share part heap fn fixed f l a b x is-address world ok v s h o two st size j cs
@@ -64,7 +116,8 @@ acts-law p finish V share part heap fn fixed f l a b x is-address world ok v s h
     let z = value k.v.whole k.c.1 in
     let had = holds-cell p.program V (opened_table ns V) part k.ks k.v k.s held h fn fixed
     (with_rest f b) k.ready k.j k.c k.is at k.address in
-    let done = statement-done p V part held ns fn fixed f h l.number b x a is-address k in
+    let done = statement-done p V part held ns fn fixed f h l.number b x v (length s.sorts)
+    (map is_some ms) a is-address k in
     let r = after_act a f b z in
     let count = ap length done.opened in
     let room = fits-less p.program V part (both p.program part no_stock)
@@ -75,7 +128,7 @@ acts-law p finish V share part heap fn fixed f l a b x is-address world ok v s h
     done.goes)
     (open-fits p.program ns V world.fits) (open-listed p.program ns V world.bound world.listed)
     world.full room done.ready.closing done.ready.over k.names done.ready.store in
-    record {
+    let step : HeapStep p V share part heap fixed f a b x = record {
       content = z;
       is_cell = there-in heap at z (λ c y.
           let one = had c y in
@@ -89,5 +142,18 @@ acts-law p finish V share part heap fn fixed f l a b x is-address world ok v s h
       had = had;
       kept = finished.kept;
       by = finished.by;
-      stands = finished.stands;
+      stands = finished.stands.stands;
+    } in
+    record {
+      step = step;
+      ms = map is_some ms;
+      marked = k.v;
+      marks = k.named;
+      ks = k.ks;
+      t = done.t;
+      held = recelled held at z r.0;
+      closed = finished.closed;
+      table = finished.table;
+      owners = finished.owners;
+      named = finished.stands.named;
     }

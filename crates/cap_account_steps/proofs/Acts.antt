@@ -10,7 +10,7 @@ use Rattle.cap_lin.specs.declared.row.Row.{Row}
 use Rattle.cap_lin.specs.declared.row.Sort.TheVariants.{Int}
 use Rattle.cap_lin.specs.declared.row.Op.TheVariants.{Eq as Equal, Ne as Unequal}
 use Rattle.cap_lin.proofs.Rows.{row_of-means}
-use Rattle.cap_prog.specs.Program.{PlainAct, set, read, write, cas, alloc, call, fork, branch, loop, check, give_back, Block, first, PlainFunction}
+use Rattle.cap_prog.specs.Program.{PlainAct, set, read, write, cas, alloc, call, fork, branch, loop, check, give_back, Block, PlainFunction}
 use Rattle.cap_goal_spec.specs.States.{PlainState, Home, goals_of}
 use Rattle.cap_goal_spec.specs.Environments.{zero_value, one_value}
 use Rattle.cap_goal_spec.specs.Choices.{PlainTrees}
@@ -33,9 +33,10 @@ use Rattle.cap_account_steps.proofs.Changing.{Ready, here-free, ready-row, ready
 use Rattle.cap_account_steps.proofs.AtCell.{then_close, AtCell}
 
 module _ (p : Checked) (V : Table) (part held : Stock) (ns : List ℤ) (fn : PlainFunction)
-    (fixed : List NameValue) (f : Frame) (h : Home) (n : ℕ) (b : Block) (x : Linear) where
+    (fixed : List NameValue) (f : Frame) (h : Home) (n : ℕ) (b : Block) (x : Linear)
+    (v0 : Valuation) (m0 : ℕ) (ms : List Bool) where
   abbrev Cells : PlainAct → Type 0
-  Cells a = AtCell p V part held ns fn fixed f h n a b (value_in f.store x)
+  Cells a = AtCell p V part held ns fn fixed f h n a b (value_in f.store x) v0 m0 ms
 
   -- one of the states after the statement is that of the frame, with what its cell is now
   pub record Done (a : PlainAct) (k : Cells a) (r : Option ℤ × Frame) : Type 0 where

@@ -1,6 +1,6 @@
 -- Allocation: the state has new cells behind a fresh variable.
 use Rattle.cap_account_states.proofs.Terms.{value-number, Over, over-plus, row-over, Agree}
-use Rattle.std.proofs.Common.{◌≡◌, ℕ, ◌+◌, ◌<◌, ◌≤◌, ℤ, pos, ◌*ℤ◌, ◌<ℤ◌, ◌≤ℤ◌, List, [], ◌++◌, length, arith, refl, sym, ap, ◌∙◌, subst}
+use Rattle.std.proofs.Common.{◌≡◌, ℕ, ◌+◌, ◌≤◌, ℤ, pos, ◌*ℤ◌, ◌<ℤ◌, ◌≤ℤ◌, List, [], ◌++◌, length, arith, refl, sym, ap, ◌∙◌, subst}
 use Rattle.std.proofs.lemmas.Int.{ints}
 use Rattle.cap_lin.specs.Linear.{Linear, number}
 use Rattle.cap_lin.specs.Rows.{row_of}
@@ -34,8 +34,9 @@ use Rattle.cap_account_states.proofs.Checked.{Checked, one-child}
 use Rattle.cap_account_states.proofs.Roots.{values-length}
 use Rattle.cap_account_steps.proofs.Stores.{running, store-alike}
 use Rattle.cap_account_steps.proofs.Cells.{new_cells, comes-new-cells, address-is, need-both, new-cells-need, new-cells-all, store-local}
-use Rattle.cap_account_steps.proofs.Frames.{Node, Sits}
-use Rattle.cap_account_steps.proofs.Statements.{AllocLaw}
+use Rattle.cap_account_steps.proofs.Frames.{Node, SitsAt}
+use Rattle.cap_account_steps.proofs.Statements.{AllocLaw, Before}
+use Rattle.cap_account_assertions.proofs.Named.{set_to}
 use Rattle.cap_account_steps.proofs.Local.{given-up}
 
 module _ (p : Checked) (part : Stock) (T : Table) (fn : PlainFunction) (fixed : List NameValue)
@@ -152,49 +153,53 @@ module _ (p : Checked) (part : Stock) (T : Table) (fn : PlainFunction) (fixed : 
 
     sits-allocated :
         (e : PlainTree) → p.N e (allocated s) (running b k.home) →
-        Sits p enlarged T fn fixed (with_value (with_rest f b) x base)
+        SitsAt p enlarged T fn fixed (with_value (with_rest f b) x base)
+        (set_to k.v (length k.state.sorts) base)
     sits-allocated e valid = record {
-      tree = e;
-      at_node = record {
-        state = allocated s;
-        v = w;
-        home = k.home;
-        valid = valid;
-        none_open = k.none_open;
-        grounded = record {
-          meets = meets-allocated;
-          pieces_over = pieces-more (Usable [] s.sorts) (Usable [] (sort_added s Int).sorts)
-              (usable-on [] s.sorts (sort_added s Int).sorts (same-fresh s Int).sorts) s.guards
-              k.grounded.pieces_over;
-          pieces_fit = k.grounded.pieces_fit;
+      sits = record {
+        tree = e;
+        at_node = record {
+          state = allocated s;
+          v = w;
+          home = k.home;
+          valid = valid;
+          none_open = k.none_open;
+          grounded = record {
+            meets = meets-allocated;
+            pieces_over = pieces-more (Usable [] s.sorts) (Usable [] (sort_added s Int).sorts)
+                (usable-on [] s.sorts (sort_added s Int).sorts (same-fresh s Int).sorts) s.guards
+                k.grounded.pieces_over;
+            pieces_fit = k.grounded.pieces_fit;
+          };
+          facts = facts-allocated;
+          firm = k.firm;
+          backed = record { cells = cells-allocated; guards = guards-allocated };
+          store = store-local w (with_cells s) k.home fn fixed f x u base b is-base
+              (let st = store-alike v w s (sort_added s Int) k.home fn fixed f
+              k.grounded.meets.store_over (agree-alike (Old s) v w agrees) (same-fresh s Int).sorts refl
+              size (record {
+                home = k.store.home;
+                store = k.store.store;
+                fixed_are = k.store.fixed_are;
+                fixed_known = k.store.fixed_known;
+              }) in
+              record {
+                home = st.home;
+                store = st.store;
+                fixed_are = st.fixed_are;
+                fixed_known = st.fixed_known;
+              });
         };
-        facts = facts-allocated;
-        firm = k.firm;
-        backed = record { cells = cells-allocated; guards = guards-allocated };
-        store = store-local w (with_cells s) k.home fn fixed f x u base b is-base
-            (let st = store-alike v w s (sort_added s Int) k.home fn fixed f
-            k.grounded.meets.store_over (agree-alike (Old s) v w agrees) (same-fresh s Int).sorts
-            refl
-            size (record {
-              home = k.store.home;
-              store = k.store.store;
-              fixed_are = k.store.fixed_are;
-              fixed_known = k.store.fixed_known;
-            }) in
-            record {
-              home = st.home;
-              store = st.store;
-              fixed_are = st.fixed_are;
-              fixed_known = st.fixed_known;
-            });
       };
+      named = refl;
     }
 
   alloc-at :
       (f : Frame) (l : Label) (b : Block) (d : PlainTree) →
-      Node p part T fn fixed (with_rest f (first l (alloc x n) b))
-      (running (first l (alloc x n) b)) d →
-      Sits p enlarged T fn fixed (with_value (with_rest f b) x base)
+      (k : Node p part T fn fixed (with_rest f (first l (alloc x n) b))
+      (running (first l (alloc x n) b)) d) →
+      SitsAt p enlarged T fn fixed (with_value (with_rest f b) x base)
+      (set_to k.v (length k.state.sorts) base)
   alloc-at f l b (node (by_absurd c) ks) k =
       given-up p part T fn fixed (with_rest f (first l (alloc x n) b))
       (λ h. to_run h (first l (alloc x n) b)) c ks k
@@ -213,7 +218,18 @@ module _ (p : Checked) (part : Stock) (T : Table) (fn : PlainFunction) (fixed : 
       sits-allocated f l b (node by_alloc ks) k q.0 q.1
   alloc-at f l b d k = absurd (p.step k.valid).1
 
-pub alloc-law : (p : Checked) → AllocLaw p
-alloc-law p part T fn fixed f l b x n base up k =
+-- the fresh variable is the base
+pub alloc-named :
+    (p : Checked) (part : Stock) (T : Table) (fn : PlainFunction) (fixed : List NameValue)
+    (f : Frame) (l : Label) (b : Block) (x n : ℕ) (base : ℤ) → pos 1 ≤ℤ base →
+    (k : Before p part T fn fixed f l (alloc x n) b) →
+    SitsAt p (both p.program part (record { cells = fresh_cells base n; guards = no_guards })) T fn
+    fixed (with_value (with_rest f b) x base)
+    (set_to k.sits.at_node.v (length k.sits.at_node.state.sorts) base)
+alloc-named p part T fn fixed f l b x n base up k =
     alloc-at p part T fn fixed (values-length fn.fixed fixed k.ok.values) x n base up f l b
     k.sits.tree k.sits.at_node
+
+pub alloc-law : (p : Checked) → AllocLaw p
+alloc-law p part T fn fixed f l b x n base up k =
+    (alloc-named p part T fn fixed f l b x n base up k).sits

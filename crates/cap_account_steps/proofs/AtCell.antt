@@ -29,6 +29,7 @@ use Rattle.cap_account_steps.proofs.Stores.{Store, running, here, here-value, he
 use Rattle.cap_account_steps.proofs.Cells.{Cell, equal-here}
 use Rattle.cap_account_steps.proofs.Worlds.{Differ, regions_of, Opening, opened_table, closes}
 use Rattle.cap_account_steps.proofs.OpenTables.{open-room}
+use Rattle.cap_account_steps.proofs.Marking.{mark_values}
 use Rattle.cap_account_steps.proofs.Rivals.{acting}
 use Rattle.cap_account_steps.proofs.Changing.{Ready}
 
@@ -42,12 +43,14 @@ closing-closes :
 closing-closes [] n ts = refl
 closing-closes (f ∷ fs) n ts = ap (λ us. to_close true n ∷ us) (closing-closes fs n ts)
 
--- before statement a, then b: these regions are opened, and this is held
+-- before statement a, then b: these regions are opened, and this is held; the values are those that the
+-- marks make of v0
 pub record AtCell (p : Checked) (V : Table) (part held : Stock) (ns : List ℤ) (fn : PlainFunction)
     (fixed : List NameValue) (f : Frame) (h : Home) (n : ℕ) (a : PlainAct) (b : Block)
-    (x : ℤ) : Type 0 where
+    (x : ℤ) (v0 : Valuation) (m0 : ℕ) (ms : List Bool) : Type 0 where
   pub ks : List ℕ
   pub v : Valuation
+  pub named : v ≡ mark_values v0 m0 ms
   pub s : PlainState
   pub regions : regions_of v s.opened ≡ ns
   pub names : (i : ℕ) (o : Sort) → slice_get fn.fixed i ≡ Some o → Free ks (h.fixed + i)
@@ -77,7 +80,7 @@ module _ (p : Checked) (V : Table) (share : ℤ → Stock) (part : Stock) (fn : 
       (ms : List Bool) (ks : PlainTrees) →
       Comes (at_act s j ms l a (running b h)) (Children p.N ks) →
       AtCell p V part (both p.program part (all_of p.program (regions_of v s.opened) share))
-      (regions_of v s.opened) fn fixed f h l.number a b (value_in f.store x)
+      (regions_of v s.opened) fn fixed f h l.number a b (value_in f.store x) v (length s.sorts) ms
   at-cell x is-address o room st size j ms trees go =
       let N = Children p.N trees in
       let m = o.grounded.meets in
@@ -115,6 +118,7 @@ module _ (p : Checked) (V : Table) (share : ℤ → Stock) (part : Stock) (fn : 
       record {
         ks = r.js;
         v = w;
+        named = r.named;
         s = t;
         regions = k.regions;
         names = λ i q e. r.free (h.fixed + i)

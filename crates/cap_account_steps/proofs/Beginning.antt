@@ -222,14 +222,14 @@ module _ (p : Checked) (program : IsWellFormed p.program) (give : GivenLaw p)
         let child = one-child p.N gv.children gv.after (tasks h) gv.goes in
         let size = ok.size in
         let len : length f.store ≤ fn.params + fn.locals = omega (arith, size) in
-        turn-at p part U fn fixed f l b c inv body child.0 act.0
+        (turn-at p part U fn fixed f l b c inv body child.0 act.0
         (given-sits U v turned part h fn fixed f tasks _ refl gv (record {
           home = refl;
           store = turned-store v
               (variables-values v 0 f.store (root-whole top f.store len me.store_is));
           fixed_are = root-fixed top fixed ok.values me.fixed_are;
           fixed_known = fixed-usable top;
-        }) (values-length fn.fixed fixed ok.values) turned-over child.0 child.1)
+        }) (values-length fn.fixed fixed ok.values) turned-over child.0 child.1)).sits
 
   -- ---- the laws
 

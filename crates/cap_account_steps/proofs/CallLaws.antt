@@ -1,36 +1,87 @@
 -- The laws of calls and forks.
-use Rattle.std.proofs.Common.{◌≡◌, ℕ, ◌+◌, ◌<◌, ℤ, pos, List, [], ◌∷◌, ◌++◌, length, map, arith, refl, sym, ap, ◌∙◌, subst, Option, Some, None}
+use Rattle.std.proofs.Common.{◌++◌, ◌+◌, ◌≡◌, ℕ, ℤ, pos, List, [], ◌∷◌, length, map, arith, refl, ◌∙◌, subst, Option, Some, None, ◌<◌}
 use Rattle.std.specs.Prelude.{slice_get, IsSomeAnd}
 use Rattle.cap_lin.specs.Linear.{Linear}
+use Rattle.cap_lin.specs.Values.{Valuation}
 use Rattle.cap_lin.specs.declared.row.Sort.TheVariants.{Int}
 use Rattle.cap_prog.specs.Program.{Label, call, fork, Block, first, PlainFunction}
 use Rattle.cap_prog.specs.Scopes.{fixed_start}
 use Rattle.cap_prog.specs.WellFormed.{IsWellFormed}
-use Rattle.cap_goal_spec.specs.States.{PlainState, Home, PlainTask, to_run, to_take, to_rest}
-use Rattle.cap_goal_spec.specs.Choices.{node, by_absurd, by_call, by_fork, PlainTree}
+use Rattle.cap_goal_spec.specs.States.{PlainState, PlainTask, to_run, to_take, to_rest}
+use Rattle.cap_goal_spec.specs.Choices.{node, by_absurd, by_call, by_fork, PlainTree, PlainTrees}
 use Rattle.cap_rules.specs.Attempts.{◌>>=◌}
+use Rattle.cap_rules.specs.Making.{env_at}
 use Rattle.cap_rules.specs.Rules.{leaves, called}
 use Rattle.cap_machine.specs.Machine.{Frame, value_in, with_rest}
 use Rattle.cap_machine_accounts.specs.Assertions.{NameValue}
 use Rattle.cap_account_resources.specs.Parts.{Table}
 use Rattle.cap_account_resources.proofs.Lists.{get-first, push-length}
+use Rattle.cap_account_resources.proofs.Interference.{Relies}
 use Rattle.cap_account_resources.proofs.Stocks.{Stock}
 use Rattle.cap_account_states.specs.Nodes.{Children}
+use Rattle.cap_account_states.proofs.Brought.{Bring, Brings}
 use Rattle.cap_account_states.proofs.Alike.{Alike, alike-trans, alike-less, agree-alike}
 use Rattle.cap_account_states.proofs.Attempts.{after-found}
 use Rattle.cap_account_states.proofs.Meets.{Old}
 use Rattle.cap_account_states.proofs.Checked.{Checked, one-child}
 use Rattle.cap_account_states.proofs.Roots.{values-length}
-use Rattle.cap_account_assertions.proofs.Laws.{GivenLaw, TakenLaw, RestsLaw, Stable}
+use Rattle.cap_account_assertions.proofs.Laws.{GivenLaw, TakenLaw, Rested, RestsLaw, Stable}
+use Rattle.cap_account_assertions.proofs.Named.{set_to, rest_values, rest_counts}
 use Rattle.cap_account_steps.proofs.Points.{FrameOk, point-act, point-next, ok-rest}
 use Rattle.cap_account_steps.proofs.Stores.{Store, running}
-use Rattle.cap_account_steps.proofs.Callees.{fixed-fit, ok-put, after-called}
-use Rattle.cap_account_steps.proofs.Frames.{Node, Sits, Roomy, Calls, Forks}
+use Rattle.cap_account_steps.proofs.Callees.{fixed_values, fixed-fit, ok-put, after-called}
+use Rattle.cap_account_steps.proofs.Frames.{Node, Roomy, Calls, Forks, WaitsLike}
 use Rattle.cap_account_steps.proofs.Statements.{Before, CallLaw, ForkLaw}
 use Rattle.cap_account_steps.proofs.Local.{given-up}
-use Rattle.cap_account_steps.proofs.CallSite.{Caller, a1, callee_fixed, met-requires}
+use Rattle.cap_account_steps.proofs.OwnNames.{canon}
+use Rattle.cap_account_steps.proofs.CallSite.{Caller, a1, callee_fixed, alike2, met-requires}
 use Rattle.cap_account_steps.proofs.Results.{with_result, alike4, firm2, grounded2, facts2, backed2}
 use Rattle.cap_account_steps.proofs.Calling.{store-received, after_call, take-here, hands, reached-left, waits-here}
+
+-- ---- by name
+
+-- what a callee's `requires` is taken at, and the values that its names have then
+module _ (p : Checked) (part : Stock) (T : Table) (fixed : List NameValue) (f : Frame)
+    (g : PlainFunction) (args : List ℤ) (v : Valuation) (s : PlainState) where
+  abbrev pub required : Valuation → PlainState → Valuation
+  required took after = canon took (env_at after (length s.envs))
+
+  pub record CallsAt (x : Option ℕ) (n : ℕ) : Type 0 where
+    pub calls : Calls p part T fixed f x n g args
+    pub took : Valuation
+    pub after : PlainState
+    pub children : PlainTrees
+    pub alike : Alike (Old s) v took
+    pub brings : List Bring
+    pub count : length after.sorts ≡ length (s.sorts ++ Int ∷ []) + length brings
+    pub brought : Brings took (length (s.sorts ++ Int ∷ [])) brings
+    pub values_are : calls.meets.values ≡ required took after
+    pub fixed_are : calls.fixed ≡ fixed_values (required took after) (fixed_start g) g.fixed
+    pub waits :
+        WaitsLike p calls.kept calls.over.U fixed f x n args calls.fixed
+        (λ y. y < rest_counts after.facts children (length after.sorts))
+        (λ W r. rest_values W after.facts children (length after.sorts)
+        (set_to took (length s.sorts) r))
+    pub are_those : waits.waits ≡ calls.goes_on
+
+  pub record ForksAt : Type 0 where
+    pub forks : Forks p part T fixed f g args
+    pub took : Valuation
+    pub after : PlainState
+    pub children : PlainTrees
+    pub alike : Alike (Old s) v took
+    pub brings : List Bring
+    pub count : length after.sorts ≡ length (s.sorts ++ Int ∷ []) + length brings
+    pub brought : Brings took (length (s.sorts ++ Int ∷ [])) brings
+    pub values_are : forks.meets.values ≡ required took after
+    pub fixed_are : forks.fixed ≡ fixed_values (required took after) (fixed_start g) g.fixed
+    pub named :
+        (U : Table) (r : Relies p.program forks.kept.guards forks.over.U U) →
+        (forks.goes_on.all U r).at_node.v
+        ≡ rest_values U after.facts children (length after.sorts)
+        (set_to took (length s.sorts) (pos 0))
+
+-- ---- the laws
 
 module _ (p : Checked) (program : IsWellFormed p.program) (give : GivenLaw p) (take : TakenLaw p)
     (rests : RestsLaw p) (stable : Stable p.program) (part : Stock) (T : Table)
@@ -78,10 +129,10 @@ module _ (p : Checked) (program : IsWellFormed p.program) (give : GivenLaw p) (t
   call-at :
       (f : Frame) (l : Label) (x : Option ℕ) (n : ℕ) (args : List Linear) (b : Block)
       (d : PlainTree) → FrameOk p.program fn fixed (with_rest f (first l (call x n args) b)) →
-      Node p part T fn fixed (with_rest f (first l (call x n args) b))
-      (running (first l (call x n args) b)) d →
+      (k : Node p part T fn fixed (with_rest f (first l (call x n args) b))
+      (running (first l (call x n args) b)) d) →
       (g : PlainFunction) × (slice_get p.program.functions n ≡ Some g)
-      × Calls p part T fixed (with_rest f b) x n g (map (value_in f.store) args)
+      × CallsAt p part T fixed (with_rest f b) g (map (value_in f.store) args) k.v k.state x n
   call-at f l x n args b (node (by_absurd u) ks) ok k =
       given-up p part T fn fixed (with_rest f (first l (call x n args) b))
       (λ h. to_run h (first l (call x n args) b)) u ks k
@@ -105,33 +156,47 @@ module _ (p : Checked) (program : IsWellFormed p.program) (give : GivenLaw p) (t
       let tk = take-here p program give take rests stable part T roomy f.store c (rest g) l.number n
       ks is_g go in
       let ok1 = ok-rest p.program fn fixed (with_rest f r0) b ok
-      (point-next p.program fn l (call x n args) b ok.point) in (
+      (point-next p.program fn l (call x n args) b ok.point) in
+      let waits = waits-here p program give take rests stable part T roomy fn fixed
+      (values-length fn.fixed fixed ok.values) f r0 c h
+      (same-store f r0 (node by_call ks) k) n is_g l b tk
+      (same-ok (with_rest f b) (record {
+        is_fn = ok1.is_fn;
+        size = ok1.size;
+        args = ok1.args;
+        values = ok1.values;
+        point = ok1.point;
+      }))
+      (λ r. ok-put p.program fn fixed (with_rest f b) x r act.0 (record {
+        is_fn = ok1.is_fn;
+        size = ok1.size;
+        args = ok1.args;
+        values = ok1.values;
+        point = ok1.point;
+      })) in (
         g,
         is_g,
         record {
-          kept = tk.left;
-          given = tk.given;
-          over = hands p program give take rests stable part T roomy f.store c (rest g) tk;
-          fixed = callee_fixed p part T f.store c (rest g) tk;
-          fit = fixed-fit (a1 p part T f.store c (rest g) tk) (fixed_start g) g.fixed;
-          meets = met-requires p part T f.store c (rest g) tk;
-          goes_on = waits-here p program give take rests stable part T roomy fn fixed
-              (values-length fn.fixed fixed ok.values) f r0 c h
-              (same-store f r0 (node by_call ks) k) n is_g l b tk
-              (same-ok (with_rest f b) (record {
-                is_fn = ok1.is_fn;
-                size = ok1.size;
-                args = ok1.args;
-                values = ok1.values;
-                point = ok1.point;
-              }))
-              (λ r. ok-put p.program fn fixed (with_rest f b) x r act.0 (record {
-                is_fn = ok1.is_fn;
-                size = ok1.size;
-                args = ok1.args;
-                values = ok1.values;
-                point = ok1.point;
-              }));
+          calls = record {
+            kept = tk.left;
+            given = tk.given;
+            over = hands p program give take rests stable part T roomy f.store c (rest g) tk;
+            fixed = callee_fixed p part T f.store c (rest g) tk;
+            fit = fixed-fit (a1 p part T f.store c (rest g) tk) (fixed_start g) g.fixed;
+            meets = met-requires p part T f.store c (rest g) tk;
+            goes_on = waits.waits;
+          };
+          took = tk.w;
+          after = tk.after;
+          children = tk.children;
+          alike = alike2 p part T f.store c (rest g) tk;
+          brings = tk.brings;
+          count = tk.brought.count;
+          brought = tk.brought.are;
+          values_are = refl;
+          fixed_are = refl;
+          waits = waits;
+          are_those = refl;
         },
       )
   call-at f l x n args b d ok k = absurd (p.step k.valid).1
@@ -139,10 +204,10 @@ module _ (p : Checked) (program : IsWellFormed p.program) (give : GivenLaw p) (t
   fork-at :
       (f : Frame) (l : Label) (n : ℕ) (args : List Linear) (b : Block) (d : PlainTree) →
       FrameOk p.program fn fixed (with_rest f (first l (fork n args) b)) →
-      Node p part T fn fixed (with_rest f (first l (fork n args) b))
-      (running (first l (fork n args) b)) d →
+      (k : Node p part T fn fixed (with_rest f (first l (fork n args) b))
+      (running (first l (fork n args) b)) d) →
       (g : PlainFunction) × (slice_get p.program.functions n ≡ Some g)
-      × Forks p part T fixed (with_rest f b) g (map (value_in f.store) args)
+      × ForksAt p part T fixed (with_rest f b) g (map (value_in f.store) args) k.v k.state
   fork-at f l n args b (node (by_absurd u) ks) ok k =
       given-up p part T fn fixed (with_rest f (first l (fork n args) b))
       (λ h. to_run h (first l (fork n args) b)) u ks k
@@ -169,81 +234,119 @@ module _ (p : Checked) (program : IsWellFormed p.program) (give : GivenLaw p) (t
       (point-next p.program fn l (fork n args) b ok.point) in
       let size = values-length fn.fixed fixed ok.values in
       -- the variable for a result stays 0
-      let w = with_result p part T f.store c rest tk (pos 0) in (
+      let w = with_result p part T f.store c rest tk (pos 0) in
+      let rested : (U : Table) → Relies p.program tk.left.guards tk.U U →
+      Rested p U w tk.left tk.after (running b h) tk.children =
+      λ U relies. rests tk.left tk.U U l.number (running b h) tk.children w tk.after
+      (reached-left p program give take rests stable part T roomy f.store c rest tk U relies)
+      tk.goes (grounded2 p part T f.store c rest tk (pos 0))
+      (facts2 p part T f.store c rest tk (pos 0)) (firm2 p part T f.store c rest tk (pos 0))
+      (backed2 p part T f.store c rest tk (pos 0)) in (
         g,
         is_g,
         record {
-          kept = tk.left;
-          given = tk.given;
-          over = hands p program give take rests stable part T roomy f.store c rest tk;
-          fixed = callee_fixed p part T f.store c rest tk;
-          fit = fixed-fit (a1 p part T f.store c rest tk) (fixed_start g) g.fixed;
-          meets = met-requires p part T f.store c rest tk;
-          goes_on = record {
-            fn = fn;
-            ok = record {
-              is_fn = ok1.is_fn;
-              size = ok1.size;
-              args = ok1.args;
-              values = ok1.values;
-              point = ok1.point;
-            };
-            all = λ U relies.
-                let rs = rests tk.left tk.U U l.number (running b h) tk.children w tk.after
-                (reached-left p program give take rests stable part T roomy f.store c rest tk U
-                relies) tk.goes (grounded2 p part T f.store c rest tk (pos 0))
-                (facts2 p part T f.store c rest tk (pos 0))
-                (firm2 p part T f.store c rest tk (pos 0))
-                (backed2 p part T f.store c rest tk (pos 0)) in
-                let kid = one-child p.N rs.children rs.after (running b h) rs.goes in
-                let c0 = push-length s.sorts Int in
-                let c1 = tk.goes_on.count in
-                let since : Alike (Old s) k.v rs.w =
-                alike-trans (Old s) k.v w rs.w (alike4 p part T f.store c rest tk (pos 0))
-                (alike-less (Old s) (Old tk.after) w rs.w (λ y i. (omega (arith, i, c0, c1)))
-                (agree-alike (Old tk.after) w rs.w rs.agree)) in
-                record {
-                  tree = kid.0;
-                  at_node = record {
-                    state = rs.after;
-                    v = rs.w;
-                    home = h;
-                    valid = kid.1;
-                    none_open = rs.goes_on.opened ∙ tk.goes_on.opened ∙ k.none_open;
-                    grounded = rs.grounded;
-                    facts = rs.facts;
-                    firm = rs.firm;
-                    backed = rs.backed;
-                    store =
-                        let later = store-received s rs.after k.v rs.w h fn fixed f r0 b None
-                        (rs.w.whole (length s.sorts)) k.grounded.meets.store_over
-                        (same-store f r0 (node by_fork ks) k) size since refl
-                        (rs.goes_on.store ∙ tk.goes_on.store)
-                        (λ y o q. rs.goes_on.sorts y o
-                        (tk.goes_on.sorts y o (get-first s.sorts (Int ∷ []) y o q))) in
-                        record {
-                          home = later.home;
-                          store = later.store;
-                          fixed_are = later.fixed_are;
-                          fixed_known = later.fixed_known;
-                        };
+          forks = record {
+            kept = tk.left;
+            given = tk.given;
+            over = hands p program give take rests stable part T roomy f.store c rest tk;
+            fixed = callee_fixed p part T f.store c rest tk;
+            fit = fixed-fit (a1 p part T f.store c rest tk) (fixed_start g) g.fixed;
+            meets = met-requires p part T f.store c rest tk;
+            goes_on = record {
+              fn = fn;
+              ok = record {
+                is_fn = ok1.is_fn;
+                size = ok1.size;
+                args = ok1.args;
+                values = ok1.values;
+                point = ok1.point;
+              };
+              all = λ U relies.
+                  let rs = rested U relies in
+                  let kid = one-child p.N rs.children rs.after (running b h) rs.goes in
+                  let c0 = push-length s.sorts Int in
+                  let c1 = tk.goes_on.count in
+                  let since : Alike (Old s) k.v rs.w =
+                  alike-trans (Old s) k.v w rs.w (alike4 p part T f.store c rest tk (pos 0))
+                  (alike-less (Old s) (Old tk.after) w rs.w (λ y i. (omega (arith, i, c0, c1)))
+                  (agree-alike (Old tk.after) w rs.w rs.agree)) in
+                  record {
+                    tree = kid.0;
+                    at_node = record {
+                      state = rs.after;
+                      v = rs.w;
+                      home = h;
+                      valid = kid.1;
+                      none_open = rs.goes_on.opened ∙ tk.goes_on.opened ∙ k.none_open;
+                      grounded = rs.grounded;
+                      facts = rs.facts;
+                      firm = rs.firm;
+                      backed = rs.backed;
+                      store =
+                          let later = store-received s rs.after k.v rs.w h fn fixed f r0 b None
+                          (rs.w.whole (length s.sorts)) k.grounded.meets.store_over
+                          (same-store f r0 (node by_fork ks) k) size since refl
+                          (rs.goes_on.store ∙ tk.goes_on.store)
+                          (λ y o q. rs.goes_on.sorts y o
+                          (tk.goes_on.sorts y o (get-first s.sorts (Int ∷ []) y o q))) in
+                          record {
+                            home = later.home;
+                            store = later.store;
+                            fixed_are = later.fixed_are;
+                            fixed_known = later.fixed_known;
+                          };
+                    };
                   };
-                };
+            };
           };
+          took = tk.w;
+          after = tk.after;
+          children = tk.children;
+          alike = alike2 p part T f.store c rest tk;
+          brings = tk.brings;
+          count = tk.brought.count;
+          brought = tk.brought.are;
+          values_are = refl;
+          fixed_are = refl;
+          named = λ U relies. (rested U relies).named;
         },
       )
   fork-at f l n args b d ok k = absurd (p.step k.valid).1
+
+pub call-named :
+    (p : Checked) → IsWellFormed p.program → GivenLaw p → TakenLaw p → RestsLaw p →
+    Stable p.program → (part : Stock) (T : Table) (fn : PlainFunction) (fixed : List NameValue)
+    (f : Frame) (l : Label) (b : Block) (x : Option ℕ) (n : ℕ) (args : List Linear) →
+    Roomy p.program T part → (k : Before p part T fn fixed f l (call x n args) b) →
+    (g : PlainFunction) × (slice_get p.program.functions n ≡ Some g)
+    × CallsAt p part T fixed (with_rest f b) g (map (value_in f.store) args) k.sits.at_node.v
+    k.sits.at_node.state x n
+call-named p program give take rests stable part T fn fixed f l b x n args roomy k =
+    call-at p program give take rests stable part T fn fixed roomy f l x n args b k.sits.tree k.ok
+    k.sits.at_node
+
+pub fork-named :
+    (p : Checked) → IsWellFormed p.program → GivenLaw p → TakenLaw p → RestsLaw p →
+    Stable p.program → (part : Stock) (T : Table) (fn : PlainFunction) (fixed : List NameValue)
+    (f : Frame) (l : Label) (b : Block) (n : ℕ) (args : List Linear) →
+    Roomy p.program T part → (k : Before p part T fn fixed f l (fork n args) b) →
+    (g : PlainFunction) × (slice_get p.program.functions n ≡ Some g)
+    × ForksAt p part T fixed (with_rest f b) g (map (value_in f.store) args) k.sits.at_node.v
+    k.sits.at_node.state
+fork-named p program give take rests stable part T fn fixed f l b n args roomy k =
+    fork-at p program give take rests stable part T fn fixed roomy f l n args b k.sits.tree k.ok
+    k.sits.at_node
 
 pub call-law :
     (p : Checked) → IsWellFormed p.program → GivenLaw p → TakenLaw p → RestsLaw p →
     Stable p.program → CallLaw p
 call-law p program give take rests stable part T fn fixed f l b x n args roomy k =
-    call-at p program give take rests stable part T fn fixed roomy f l x n args b k.sits.tree k.ok
-    k.sits.at_node
+    let r = call-named p program give take rests stable part T fn fixed f l b x n args roomy k in
+    (r.0, r.1, r.2.calls)
 
 pub fork-law :
     (p : Checked) → IsWellFormed p.program → GivenLaw p → TakenLaw p → RestsLaw p →
     Stable p.program → ForkLaw p
 fork-law p program give take rests stable part T fn fixed f l b n args roomy k =
-    fork-at p program give take rests stable part T fn fixed roomy f l n args b k.sits.tree k.ok
-    k.sits.at_node
+    let r = fork-named p program give take rests stable part T fn fixed f l b n args roomy k in
+    (r.0, r.1, r.2.forks)

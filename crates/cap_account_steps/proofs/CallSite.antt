@@ -223,7 +223,7 @@ module _ (p : Checked) (part : Stock) (T : Table) (store : List ℤ) (c : Caller
         stays1 x Int (param-requires g x l) (here s u)
         (callee-param g params (fresh s) params-count x l ∙ map-at (here s) c.args x u e)
 
-    pub met-requires : OwnsRequires p.program tk.U tk.given g args_are callee_fixed
+    abbrev pub met-requires : OwnsRequires p.program tk.U tk.given g args_are callee_fixed
     met-requires = record {
       values = a1;
       args_are = whole-of a1 0 args_are (λ i z j.

@@ -7,7 +7,7 @@ use Rattle.cap_lin.specs.Linear.{Linear}
 use Rattle.cap_lin.specs.Values.{Valuation}
 use Rattle.cap_lin.specs.declared.row.Sort.{Sort}
 use Rattle.cap_lin.specs.declared.row.Sort.TheVariants.{Int, Perm}
-use Rattle.cap_prog.specs.Program.{call, fork, PlainFunction, PlainProgram}
+use Rattle.cap_prog.specs.Program.{PlainFunction, PlainProgram}
 use Rattle.cap_prog.specs.WellFormed.{GivesLocal}
 use Rattle.cap_goal_spec.specs.States.{PlainEnv, PlainState}
 use Rattle.cap_goal_spec.specs.Environments.{callee_env}
@@ -20,7 +20,6 @@ use Rattle.cap_account_states.specs.Nodes.{Comes}
 use Rattle.cap_account_resources.proofs.Lists.{some-same, none-some, map-set, all-more}
 use Rattle.cap_account_states.proofs.Terms.{RowOver}
 use Rattle.cap_account_states.proofs.Attempts.{sort_added, env_added, comes-bind, comes-appended, after-values-here, after-sort}
-use Rattle.cap_account_states.proofs.Meets as meets
 use Rattle.cap_account_states.proofs.Meets.{Usable, usable-old, CellOver, row-more, cell-more, Meets}
 use Rattle.cap_account_steps.proofs.Points.{FrameOk, ok-store}
 use Rattle.cap_account_steps.proofs.Stores.{here}

@@ -6,7 +6,7 @@ use Rattle.std.specs.List.{AllByRecursion}
 use Rattle.cap_lin.specs.Values.{Valuation, value}
 use Rattle.cap_lin.specs.declared.row.Sort.{Sort}
 use Rattle.cap_lin.specs.declared.row.Sort.TheVariants.{Int}
-use Rattle.cap_prog.specs.Program.{Label, call, Block, first, PlainFunction}
+use Rattle.cap_prog.specs.Program.{Label, Block, PlainFunction}
 use Rattle.cap_prog.specs.Scopes.{fixed_start, requires_scope, ensures_scope}
 use Rattle.cap_prog.specs.WellFormed.{IsWellFormed}
 use Rattle.cap_goal_spec.specs.States.{PlainState, Home, PlainTask, to_take, to_give, to_rest}
@@ -18,7 +18,6 @@ use Rattle.cap_account_states.proofs.Alike.{values-alike, Alike, InScope, meets-
 use Rattle.cap_account_resources.specs.Parts.{Table}
 use Rattle.cap_account_resources.proofs.Interference.{Relies, relies-trans, relies-less}
 use Rattle.cap_account_resources.proofs.Lists.{some-same, map-length, get-first, push-length, all-more}
-use Rattle.cap_account_resources.proofs.Room.{room}
 use Rattle.cap_account_resources.proofs.Stocks.{Stock, both, inside-first, inside-second, inside-guards}
 use Rattle.cap_account_states.specs.Nodes.{Open}
 use Rattle.cap_account_states.proofs.Terms.{Over, vars-more, Agree}
@@ -31,12 +30,13 @@ use Rattle.cap_account_states.proofs.Wants.{scaled-finer}
 use Rattle.cap_account_states.proofs.Backed.{IsOpened}
 use Rattle.cap_account_assertions.proofs.Asserted.{OwnsEnsures}
 use Rattle.cap_account_assertions.proofs.Finer.{draws-all-finer}
+use Rattle.cap_account_assertions.proofs.Named.{set_to, rest_values, rest_counts}
 use Rattle.cap_account_assertions.proofs.Laws.{StateAt, GivenLaw, TakenLaw, Reached, Rested, RestsLaw, Stable}
 use Rattle.cap_account_assertions.proofs.MadeTables.{made-fits, made-full, made-room}
 use Rattle.cap_account_steps.proofs.Points.{FrameOk}
 use Rattle.cap_account_steps.proofs.Stores.{Store, running, fixed-alike}
 use Rattle.cap_account_steps.proofs.Callees.{fixed-fit, put_at, map-put, receives-is}
-use Rattle.cap_account_steps.proofs.Frames.{Sits, Roomy, Waits, HandsOver, Calls}
+use Rattle.cap_account_steps.proofs.Frames.{Sits, Roomy, HandsOver, SitsLike, WaitsLike}
 use Rattle.cap_account_steps.proofs.FirmStates.{Between, facts-between, grounded-between, backed-between}
 use Rattle.cap_account_steps.proofs.CallSite.{Caller, TakenHere, kept, v1, s1, args_are, at-call, backed1, env2, a1, callee_fixed}
 use Rattle.cap_account_steps.proofs.Results.{with_result, alike4, result-value, firm2, grounded2, facts2, backed2, placed2, means2}
@@ -148,7 +148,8 @@ module _ (p : Checked) (program : IsWellFormed p.program) (give : GivenLaw p) (t
         (room : FitsRoom p.program W (both p.program tk.left handed))
         (me : OwnsEnsures p.program W handed c.g (args_are p part T f.store c)
         (callee_fixed p part T f.store c ts tk) r)
-        (rs : Rested p W (with_result p part T f.store c ts tk r) tk.left tk.after behind) where
+        (rs : Rested p W (with_result p part T f.store c ts tk r) tk.left tk.after behind
+        tk.children) where
       -- all over the product of the denominators
       abbrev now : Valuation
       now = scaled me.values.fraction.under rs.w
@@ -197,7 +198,8 @@ module _ (p : Checked) (program : IsWellFormed p.program) (give : GivenLaw p) (t
       }
 
       pub comes-back :
-          Sits p (both p.program tk.left handed) W fn fixed (receives c.x r (with_rest f b))
+          SitsLike p (both p.program tk.left handed) W fn fixed (receives c.x r (with_rest f b))
+          (Old rs.after) rs.w
       comes-back =
           let sc = ensures_scope c.g c.g.ensures.names in
           let items = c.g.ensures.items in
@@ -225,7 +227,8 @@ module _ (p : Checked) (program : IsWellFormed p.program) (give : GivenLaw p) (t
           let since : Alike (Old c.s) c.v gv.w =
           alike-trans (Old c.s) c.v w gv.w (alike4 p part T f.store c ts tk r)
           (alike-less (Old c.s) (Old tk.after) w gv.w (λ x i. (omega (arith, i, c0, c1))) was) in
-          record {
+          let sits : Sits p (both p.program tk.left handed) W fn fixed
+          (receives c.x r (with_rest f b)) = record {
             tree = k.0;
             at_node = record {
               state = gv.after;
@@ -246,50 +249,89 @@ module _ (p : Checked) (program : IsWellFormed p.program) (give : GivenLaw p) (t
                   (λ x o q. gv.goes_on.sorts x o (rs.goes_on.sorts x o
                   (tk.goes_on.sorts x o (get-first c.s.sorts (Int ∷ []) x o q))));
             };
+          } in
+          record {
+            sits = sits;
+            alike =
+                alike-trans (Old rs.after) rs.w now gv.w
+                (scaled-alike (Old rs.after) me.values.fraction.under rs.w)
+                (agree-alike (Old rs.after) now gv.w gv.agree);
           }
         where
           rest-of : (y : Option ℕ) → b ≡ (receives y r (with_rest f b)).rest
           rest-of None = refl
           rest-of (Some x) = refl
 
+    -- the values where the result is r and the table W
+    abbrev pub back_values : Table → ℤ → Valuation
+    back_values W r =
+        rest_values W tk.after.facts tk.children (length tk.after.sorts)
+        (set_to tk.w (length c.s.sorts) r)
+
+    back-at :
+        (U : Table) → Relies p.program tk.left.guards tk.U U → (handed : Stock) (r : ℤ)
+        (g2 : PlainFunction) → slice_get p.program.functions n ≡ Some g2 →
+        Roomy p.program U (both p.program tk.left handed) →
+        OwnsEnsures p.program U handed g2 (args_are p part T f.store c)
+        (callee_fixed p part T f.store c ts tk) r →
+        (W : Table) → Relies p.program (both p.program tk.left handed).guards U W →
+        SitsLike p (both p.program tk.left handed) W fn fixed (receives c.x r (with_rest f b))
+        (λ x. x < rest_counts tk.after.facts tk.children (length tk.after.sorts)) (back_values W r)
+    back-at U relies handed r g2 e2 there me W on =
+        let P = p.program in
+        let whole = both P tk.left handed in
+        let first = relies-less P tk.left.guards whole.guards U W
+        (inside-guards P tk.left whole (inside-first P tk.left handed)) on in
+        let second = relies-less P handed.guards whole.guards U W
+        (inside-guards P handed whole (inside-second P tk.left handed)) on in
+        let to_w = relies-trans P tk.left.guards tk.U U W relies first in
+        let w = with_result p part T f.store c ts tk r in
+        let rs = rests tk.left tk.U W l.number behind tk.children w tk.after
+        (reached-left part T roomy f.store c ts tk W to_w) tk.goes
+        (grounded2 p part T f.store c ts tk r) (facts2 p part T f.store c ts tk r)
+        (firm2 p part T f.store c ts tk r) (backed2 p part T f.store c ts tk r) in
+        let mine : OwnsEnsures P U handed c.g (args_are p part T f.store c)
+        (callee_fixed p part T f.store c ts tk) r =
+        subst (λ y. OwnsEnsures P U handed y (args_are p part T f.store c)
+        (callee_fixed p part T f.store c ts tk) r) (some-same g2 c.g (sym e2 ∙ is_g)) me in
+        let q = comes-back W handed r (fits-relied P U W whole there.full on there.room)
+        (stable.ensures U W handed n c.g is_g (record {
+          fits = there.fits;
+          full = there.full;
+          room = fits-less P U handed whole (inside-second P tk.left handed) there.room;
+          relies = second;
+        }) (args_are p part T f.store c) (callee_fixed p part T f.store c ts tk) r
+        (map-length (value_in f.store) c.args ∙ c.size)
+        (fixed-fit (a1 p part T f.store c ts tk) (fixed_start c.g) c.g.fixed) mine)
+        rs in
+        let There : ℕ → Type 0 =
+        λ x. x < rest_counts tk.after.facts tk.children (length tk.after.sorts) in
+        let count = rs.count in
+        record {
+          sits = q.sits;
+          alike =
+              subst (λ u. Alike There u q.sits.at_node.v) rs.named
+              (alike-less There (Old rs.after) rs.w q.sits.at_node.v
+              (λ x i. (omega (arith, i, count))) q.alike);
+        }
+
     -- so the caller waits
     pub waits-here :
         FrameOk p.program fn fixed (with_rest f b) →
         ((r : ℤ) → FrameOk p.program fn fixed (receives c.x r (with_rest f b))) →
-        Waits p tk.left tk.U fixed (with_rest f b) c.x n (args_are p part T f.store c)
+        WaitsLike p tk.left tk.U fixed (with_rest f b) c.x n (args_are p part T f.store c)
         (callee_fixed p part T f.store c ts tk)
+        (λ x. x < rest_counts tk.after.facts tk.children (length tk.after.sorts)) back_values
     waits-here ok later = record {
-      fn = fn;
-      ok = ok;
-      all = λ U relies handed r g2 e2 there me. record {
+      waits = record {
         fn = fn;
-        ok = later r;
-        all = λ W on.
-            let P = p.program in
-            let whole = both P tk.left handed in
-            let first = relies-less P tk.left.guards whole.guards U W
-            (inside-guards P tk.left whole (inside-first P tk.left handed)) on in
-            let second = relies-less P handed.guards whole.guards U W
-            (inside-guards P handed whole (inside-second P tk.left handed)) on in
-            let to_w = relies-trans P tk.left.guards tk.U U W relies first in
-            let w = with_result p part T f.store c ts tk r in
-            let rs = rests tk.left tk.U W l.number behind tk.children w tk.after
-            (reached-left part T roomy f.store c ts tk W to_w) tk.goes
-            (grounded2 p part T f.store c ts tk r) (facts2 p part T f.store c ts tk r)
-            (firm2 p part T f.store c ts tk r) (backed2 p part T f.store c ts tk r) in
-            let mine : OwnsEnsures P U handed c.g (args_are p part T f.store c)
-            (callee_fixed p part T f.store c ts tk) r =
-            subst (λ y. OwnsEnsures P U handed y (args_are p part T f.store c)
-            (callee_fixed p part T f.store c ts tk) r) (some-same g2 c.g (sym e2 ∙ is_g)) me in
-            comes-back W handed r (fits-relied P U W whole there.full on there.room)
-            (stable.ensures U W handed n c.g is_g (record {
-              fits = there.fits;
-              full = there.full;
-              room = fits-less P U handed whole (inside-second P tk.left handed) there.room;
-              relies = second;
-            }) (args_are p part T f.store c) (callee_fixed p part T f.store c ts tk) r
-            (map-length (value_in f.store) c.args ∙ c.size)
-            (fixed-fit (a1 p part T f.store c ts tk) (fixed_start c.g) c.g.fixed) mine)
-            rs;
+        ok = ok;
+        all = λ U relies handed r g2 e2 there me. record {
+          fn = fn;
+          ok = later r;
+          all = λ W on. (back-at U relies handed r g2 e2 there me W on).sits;
+        };
       };
+      named = λ U relies handed r g2 e2 there me W on.
+          (back-at U relies handed r g2 e2 there me W on).alike;
     }

@@ -1,6 +1,6 @@
 -- A region is to be closed: a case and a move are chosen, and the case's items are taken out of
 -- what is held.
-use Rattle.std.proofs.Common.{◌≡◌, ℕ, ◌<◌, ℤ, List, [], ◌∷◌, length, map, Some, None, true, refl, sym, ◌∙◌, subst, arith}
+use Rattle.std.proofs.Common.{◌+◌, ◌≡◌, ℕ, ◌<◌, ℤ, List, [], ◌∷◌, length, map, Some, None, true, refl, sym, ◌∙◌, subst, arith}
 use Rattle.std.specs.Prelude.{slice_get}
 use Rattle.cap_lin.specs.Values.{Valuation, value}
 use Rattle.cap_lin.specs.declared.row.Sort.TheVariants.{Int}
@@ -16,7 +16,8 @@ use Rattle.cap_account_resources.specs.Parts.{known_as, Table}
 use Rattle.cap_account_resources.proofs.Lists.{map-length, push-length, get-or-push, all-at, all-more}
 use Rattle.cap_account_resources.proofs.Stocks.{Stock, no_stock, both, inside-first}
 use Rattle.cap_account_resources.proofs.Tables.{TableFits, AreListed, fits-less}
-use Rattle.cap_account_states.proofs.Alike.{alike-same, alike-less}
+use Rattle.cap_account_states.proofs.Brought.{Bring, Brings}
+use Rattle.cap_account_states.proofs.Alike.{Alike, alike-same, alike-less}
 use Rattle.cap_account_states.proofs.Attempts.{env_added}
 use Rattle.cap_account_states.proofs.Meets.{Usable, Old, meets-env, solves}
 use Rattle.cap_account_states.proofs.Facts.{facts-same}
@@ -48,6 +49,10 @@ pub record CaseTaken (p : Checked) (V W : Table) (part : Stock) (ks : List ℕ) 
   pub is_case : slice_get k.cases number ≡ Some x
   pub w : Valuation
   pub t : PlainState
+  pub alike : Alike (Old s) v w
+  pub brings : List Bring
+  pub count : length t.sorts ≡ length s.sorts + length brings
+  pub brought : Brings w (length s.sorts) brings
   pub later : LaterState ks ks v w s t
   pub movable : Movable p.program ks t f k
   pub same_region : value w.whole f.region ≡ value v.whole f.region
@@ -59,6 +64,7 @@ pub record CaseTaken (p : Checked) (V W : Table) (part : Stock) (ks : List ℕ) 
   pub left : Stock
   pub given : Stock
   pub by : SettlesBy p.program V W part held [] (both p.program left given)
+  pub none_closed : by.closed ≡ []
   pub owns :
       (X : Valuation) → Means (region_scope k x.names) w (env_at t env) X →
       Owns p.program by.U given X x.items
@@ -185,6 +191,10 @@ module _ (p : Checked) (program : IsWellFormed p.program) (taken : TakenLaw p) (
             is_case = pk.is_case;
             w = tk.w;
             t = tk.after;
+            alike = tk.alike;
+            brings = tk.brings;
+            count = tk.brought.count;
+            brought = tk.brought.are;
             later = later;
             movable =
                 movable-on p.program ks ks s tk.after pk.f pk.k
@@ -202,6 +212,7 @@ module _ (p : Checked) (program : IsWellFormed p.program) (taken : TakenLaw p) (
             by =
                 makes-by p.program V W tk.U part tk.new tk.made held
                 (both p.program tk.left tk.given) tk.budget;
+            none_closed = refl;
             owns = λ X m.
                 owns-all p.program tk.U X pk.x.items tk.given
                 (tk.draws tk.w (alike-same (Old tk.after) tk.w) X m no_stock);

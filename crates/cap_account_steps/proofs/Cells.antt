@@ -1,7 +1,7 @@
 -- Cells of a state: which of them are needed, and one changed.
 use Rattle.cap_account_resources.proofs.Lists.{join-assoc, some-same, none-some, map-set}
 use Rattle.cap_account_states.proofs.Terms.{value-number, Over, row-over}
-use Rattle.std.proofs.Common.{sym, ◌≡◌, ℕ, zero, suc, ◌+◌, ◌<◌, ◌≤◌, ℤ, List, [], ◌∷◌, arith, ap, ◌∙◌, subst, Some, ◌-◌, pos, ◌+ℤ◌, ◌++◌, refl}
+use Rattle.std.proofs.Common.{sym, ◌≡◌, ℕ, zero, suc, ◌+◌, ◌<◌, ◌≤◌, ℤ, List, [], ◌∷◌, arith, ap, ◌∙◌, subst, Some, pos, ◌+ℤ◌, ◌++◌, refl}
 use Rattle.std.specs.Prelude.{slice_get, slice_set}
 use Rattle.std.specs.List.{AllByRecursion}
 use Rattle.cap_lin.specs.Linear.{Linear, number, plus}

@@ -1,7 +1,7 @@
 -- While regions are open a statement acts on one cell: rows come, the cell gets another content and
 -- a local another value.
 use Rattle.cap_account_states.proofs.Environments.{all-vars}
-use Rattle.std.proofs.Common.{◌≡◌, ℕ, ◌-◌, ◌≤◌, ℤ, pos, ◌<ℤ◌, List, [], ◌∷◌, Some, arith, ap, ◌∙◌}
+use Rattle.std.proofs.Common.{◌≡◌, ℕ, ◌≤◌, ℤ, pos, ◌<ℤ◌, List, [], ◌∷◌, Some, arith, ap, ◌∙◌}
 use Rattle.std.specs.Prelude.{slice_get}
 use Rattle.std.specs.List.{AllByRecursion}
 use Rattle.cap_lin.specs.Linear.{Linear}

@@ -17,8 +17,9 @@ use Rattle.cap_account_resources.proofs.Owners.{numbers_of}
 use Rattle.cap_account_states.proofs.Checked.{Checked, one-child}
 use Rattle.cap_account_states.proofs.Meets.{Usable}
 use Rattle.cap_account_assertions.proofs.Laws.{TakenLaw}
+use Rattle.cap_account_steps.proofs.Shutting.{shut_values, shut_owner, Leads, keeps-on}
 use Rattle.cap_account_steps.proofs.Worlds.{AllOver, regions_of, IsStillOpen, Closing, SettlesBy, closes, Closed, ClosingLaw}
-use Rattle.cap_account_steps.proofs.SettledTables.{settled-fits, settled-listed}
+use Rattle.cap_account_steps.proofs.SettledTables.{settled-states, settled-fits, settled-listed}
 use Rattle.cap_account_steps.proofs.SettledTwice.{settles-for, settles-again}
 use Rattle.cap_account_steps.proofs.StillOpen.{LaterState, later-same, later-trans, region-or, regions-later, length-remove}
 use Rattle.cap_account_steps.proofs.ClosedTables.{makes-by, made-none}
@@ -107,6 +108,25 @@ module _ (p : Checked) (V : Table) (part : Stock) (ts : List PlainTask) where
             sorts = l.sorts;
             count = l.count;
             backed = r.backed;
+            shuts = rc.shut ∷ r.shuts;
+            named = (
+              rc.took,
+              rc.count,
+              rc.brought,
+              subst (λ n. Leads n (shut_values rc.shut) r.shuts (length r.after.sorts) r.w)
+                  (sym rc.counts)
+                  (subst (λ u. Leads (length rc.after.sorts) u r.shuts (length r.after.sorts) r.w)
+                  rc.named r.named),
+            );
+            are_closed =
+                ap (λ rs. rs ++ r.by.closed) rc.is_closed
+                ∙ ap (λ rs. shut_owner rc.shut ∷ rs) r.are_closed;
+            keeps = (
+              keeps-on p.program rc.by.U r.by.U
+                  (settled-states p.program V rc.by.U r.by.U part r.by.opened r.by.closed r.by.made
+                  r.by.settles) rc.shut rc.keeps,
+              r.keeps,
+            );
           }
 
 module _ (p : Checked) (program : IsWellFormed p.program) (taken : TakenLaw p) where
@@ -137,6 +157,10 @@ module _ (p : Checked) (program : IsWellFormed p.program) (taken : TakenLaw p) w
         sorts = l.sorts;
         count = l.count;
         backed = c.backed;
+        shuts = [];
+        named = (refl, refl);
+        are_closed = refl;
+        keeps = tt;
       }
   closed-from (suc m) V W part held ks v s n ts trees bound size goes fits listed c =
       let tasks = closes n m ts in

@@ -1,7 +1,7 @@
 -- A region is opened: what it has is given to the state, in the case in which the region is.
 use Rattle.cap_account_states.proofs.Alike.{usable-alike, Alike, InScope, alike-trans, alike-less, agree-alike, scaled-alike}
 use Rattle.cap_account_resources.proofs.Lists.{all-map, some-same, all-more, all-both, all-at, all-remove, map-join, map-length, get-or-push, push-length}
-use Rattle.std.proofs.Common.{◌≡◌, ◌≢◌, ℕ, suc, ◌+◌, ◌<◌, ℤ, List, [], ◌∷◌, ◌++◌, length, map, arith, refl, sym, ap, ◌∙◌, subst, Some, Bool, true, false}
+use Rattle.std.proofs.Common.{◌≡◌, ◌≢◌, ℕ, suc, ◌<◌, ℤ, List, [], ◌∷◌, ◌++◌, length, map, arith, refl, sym, ap, ◌∙◌, subst, Some, Bool, true, false}
 use Rattle.std.specs.Prelude.{slice_get, nat_lt, remove, ◌==◌, if◌then◌else◌}
 use Rattle.std.specs.List.{AllByRecursion}
 use Rattle.std.proofs.lemmas.Bool.Decides.{nat_tests}
@@ -29,7 +29,7 @@ use Rattle.cap_account_resources.proofs.Covering.{Covered}
 use Rattle.cap_account_resources.proofs.Room.{room, room-some, part-some}
 use Rattle.cap_account_resources.proofs.Stocks.{Stock, both, all_of, none-right, stock-laws, Composes}
 use Rattle.cap_account_states.specs.Nodes.{Comes, Children, Open}
-use Rattle.cap_account_states.proofs.Terms.{Over, row-over, vars-more}
+use Rattle.cap_account_states.proofs.Terms.{Over, row-over, vars-more, Agree}
 use Rattle.cap_account_states.proofs.Wants.{scaled-finer}
 use Rattle.cap_account_states.proofs.Attempts.{comes-bind, after-found, after-need, after-proved}
 use Rattle.cap_account_states.proofs.Adding.{PieceOver}
@@ -139,6 +139,39 @@ module _ (p : Checked) (program : IsWellFormed p.program) (give : GivenLaw p) (V
     pub store : Store v s h0 fn fixed f0
     pub are : length s.opened ≡ count
 
+  -- fact number i of the first state is opened: the case and its values are what the region's part
+  -- has, and the second state holds at these beside the first one's
+  pub record Enters (v : Valuation) (s : PlainState) (i : ℕ) (w : Valuation)
+      (t : PlainState) : Type 0 where
+    pub f : PlainFact
+    pub is_fact : slice_get s.facts i ≡ Some f
+    pub k : PlainRegionType
+    pub is_type : slice_get p.program.regions f.kind ≡ Some k
+    pub exact : Exact v V f
+    pub opened : t.opened ≡ s.opened ++ f ∷ []
+    pub own :
+        OwnsRegion p.program V (value v.whole f.region) f.kind (map (value v.whole) f.args)
+        (value v.whole f.state) (share (value v.whole f.region))
+    pub is_own :
+        own
+        ≡ world.owns (value v.whole f.region) f.kind (map (value v.whole) f.args)
+        (value v.whole f.state) exact
+    pub named :
+        Agree (Old (case_state (with_opened s i f) f own.case))
+        (case_values v own.values (length s.sorts) k.params (region_scope k own.case.names)) w
+    pub drawn :
+        DrawsAll p.program V
+        (names_values v own.values (length s.sorts) k.params (region_scope k own.case.names))
+        own.case.items (share (value v.whole f.region)) own.met.0
+    pub filled :
+        filled_at (length s.envs) w t
+        ≡ fill_items p.program V
+        (names_values v own.values (length s.sorts) k.params (region_scope k own.case.names))
+        own.case.items (share (value v.whole f.region)) own.met.0 drawn
+        (filled_at (length s.envs)
+        (case_values v own.values (length s.sorts) k.params (region_scope k own.case.names))
+        (case_state (with_opened s i f) f own.case))
+
   module _ (v : Valuation) (s : PlainState) (o : Opening p.program V share part v s)
       (st : Store v s h0 fn fixed f0) (i : ℕ) (f : PlainFact) (k : PlainRegionType)
       (is_fact : slice_get s.facts i ≡ Some f)
@@ -167,7 +200,7 @@ module _ (p : Checked) (program : IsWellFormed p.program) (give : GivenLaw p) (V
           firm-over (Usable [] s.sorts Int) f firm
           (all-at (FactOver (Usable [] s.sorts Int)) s.facts i f o.facts.over is_fact)
 
-      own : OwnsRegion p.program V n f.kind args state (share n)
+      abbrev own : OwnsRegion p.program V n f.kind args state (share n)
       own = world.owns n f.kind args state exact
 
       same-type : own.type ≡ k
@@ -517,7 +550,8 @@ module _ (p : Checked) (program : IsWellFormed p.program) (give : GivenLaw p) (V
           any-opened [] P h = tt
           any-opened (g ∷ os) P h = h
 
-          pub region-opened : (tree : PlainTree) × Opened tree ts (suc (length s.opened))
+          pub region-opened :
+              (tree : PlainTree) × (r : Opened tree ts (suc (length s.opened))) × Enters v s i r.v r.s
           region-opened =
               let child = one-child p.N given.children given.after ts given.goes in (
                 child.0,
@@ -547,6 +581,19 @@ module _ (p : Checked) (program : IsWellFormed p.program) (give : GivenLaw p) (V
                   are = ap length given.goes_on.opened
                       ∙ (let q = push-length s.opened f in omega (arith, q));
                 },
+                record {
+                  f = f;
+                  is_fact = is_fact;
+                  k = k;
+                  is_type = is_type;
+                  exact = exact;
+                  opened = given.goes_on.opened;
+                  own = own;
+                  is_own = refl;
+                  named = given.agree;
+                  drawn = drawn;
+                  filled = given.filled;
+                },
               )
 
   -- the rule: fewer than two regions were open, and one more is
@@ -556,7 +603,9 @@ module _ (p : Checked) (program : IsWellFormed p.program) (give : GivenLaw p) (V
       (ks : PlainTrees) →
       Comes (at_enter p.program s i l a (running (first l a b) h0)) (Children p.N ks) →
       (length s.opened < 2)
-      × (tree : PlainTree) × Opened tree (running (first l a b) h0) (suc (length s.opened))
+      × (tree : PlainTree)
+      × (r : Opened tree (running (first l a b) h0) (suc (length s.opened)))
+      × Enters v s i r.v r.s
   entered v s o st i l a b ks go =
       let ts = running (first l a b) h0 in
       let N = Children p.N ks in
@@ -571,4 +620,4 @@ module _ (p : Checked) (program : IsWellFormed p.program) (give : GivenLaw p) (V
       (comes-bind (prove_other s f (of_type f.kind s.opened)) rest N type.2) in
       let test = few.0 in
       let r = region-opened v s o st i f k fact.1 type.1 other.0 l a b ks other.1 in
-      (grind (arith, nat_tests, test), r.0, r.1)
+      (grind (arith, nat_tests, test), r.0, r.1, r.2)

@@ -1,5 +1,5 @@
 -- After a heap statement: once all regions are closed again, and the facts rest, the frame stands.
-use Rattle.std.proofs.Common.{◌≡◌, ℕ, ◌+◌, ℤ, List, [], ◌∷◌, ◌++◌, length, map, Some, sym, ap, ◌∙◌, subst, arith}
+use Rattle.std.proofs.Common.{◌≡◌, ℕ, ◌+◌, ℤ, List, [], ◌∷◌, ◌++◌, length, map, Some, refl, sym, ap, ◌∙◌, subst, arith}
 use Rattle.std.specs.Prelude.{slice_get}
 use Rattle.std.specs.List.{AllByRecursion}
 use Rattle.cap_lin.specs.Linear.{Linear}
@@ -16,6 +16,7 @@ use Rattle.cap_account_states.proofs.Alike.{values-alike, Alike, agree-alike}
 use Rattle.cap_account_states.specs.Nodes.{Open}
 use Rattle.cap_account_resources.specs.Parts.{Table}
 use Rattle.cap_account_resources.proofs.Lists.{all-more, there-is, within, Among}
+use Rattle.cap_account_resources.proofs.Interference.{Relies}
 use Rattle.cap_account_resources.proofs.Stocks.{Stock, both, inside-first, inside-trans}
 use Rattle.cap_account_resources.proofs.Tables.{TableFits, NoneOpen, AreListed, FitsRoom, new_guards, fits-less, fits-later}
 use Rattle.cap_account_resources.proofs.Owners.{owned, numbers_of}
@@ -27,18 +28,19 @@ use Rattle.cap_account_states.proofs.Roots.{values-length}
 use Rattle.cap_account_states.proofs.Values.{named-of}
 use Rattle.cap_account_states.proofs.Backed.{Backed, Grounded}
 use Rattle.cap_account_states.proofs.KnowsLater.{Steady, usable-steady}
-use Rattle.cap_account_assertions.proofs.Laws.{TakenLaw}
+use Rattle.cap_account_assertions.proofs.Laws.{TakenLaw, Reached}
 use Rattle.cap_account_steps.proofs.Points.{FrameOk}
 use Rattle.cap_account_steps.proofs.Stores.{Store, running, name-alike, fixed-name}
-use Rattle.cap_account_steps.proofs.Frames.{Roomy, Stands}
+use Rattle.cap_account_steps.proofs.Frames.{Roomy, StandsAt}
 use Rattle.cap_account_steps.proofs.Worlds.{regions_of, opened_table, SettlesBy, ClosingLaw}
-use Rattle.cap_account_steps.proofs.RestLaws.{rests-loose}
+use Rattle.cap_account_assertions.proofs.Named.{rest_values}
+use Rattle.cap_account_steps.proofs.Firming.{firm_values}
+use Rattle.cap_account_steps.proofs.RestLaws.{Settled, rests-loose}
 use Rattle.cap_account_steps.proofs.SettledTables.{settled-types, settled-fits, settled-listed, settled-full}
 use Rattle.cap_account_steps.proofs.SettledTwice.{settles-for}
 use Rattle.cap_account_steps.proofs.StillOpen.{LaterState, usable-later}
 use Rattle.cap_account_steps.proofs.Closings.{later-of, closing-law}
-use Rattle.cap_account_steps.proofs.Acting.{FinishingLaw, acts-law}
-use Rattle.cap_account_steps.proofs.HeapLaws.{ActsLaw}
+use Rattle.cap_account_steps.proofs.Acting.{ActsLaw, FinishingLaw, acts-law}
 
 -- ---- a frame's store in a state where other variables are kept free
 
@@ -104,33 +106,46 @@ module _ (h : Home) (fn : PlainFunction) (fixed : List NameValue) (f : Frame) wh
         (v : Valuation) (n : ℕ) → Roomy p.program T part →
         Open p.N trees s (to_rest 0 n ∷ running f.rest h) → s.opened ≡ [] →
         Grounded p.program ks v s → Facts ks v T s → Backed p.program v s part →
-        StoreBeside ks v s h fn fixed f → Stands p part T fixed f
+        StoreBeside ks v s h fn fixed f →
+        StandsAt p part T fixed f
+        (λ U. rest_values U s.facts trees (length s.sorts) (firm_values T v s.facts))
     rest-stands ks part T trees s v n roomy goes none g facts backed b = record {
-      fn = fn;
-      ok = ok;
-      all = λ U relies.
-          let r = rests-loose p program ks part T U n (running f.rest h) trees v s
-          (record { fits = roomy.fits; full = roomy.full; room = roomy.room; relies = relies }) goes
-          g facts backed in
-          let d = one-child p.N r.children r.after (running f.rest h) r.goes in
-          record {
-            tree = d.0;
-            at_node = record {
-              state = r.after;
-              v = r.w;
-              home = h;
-              valid = d.1;
-              none_open = r.goes_on.opened ∙ none;
-              grounded = r.grounded;
-              facts = r.facts;
-              firm = r.firm;
-              backed = r.backed;
-              store =
-                  store-later ks v r.w s r.after (agree-alike (Steady ks s) v r.w r.agree)
-                  r.goes_on.sorts r.goes_on.store b;
+      stands = record {
+        fn = fn;
+        ok = ok;
+        all = λ U relies.
+            let r = rest-of U relies in
+            let d = one-child p.N r.children r.after (running f.rest h) r.goes in
+            record {
+              tree = d.0;
+              at_node = record {
+                state = r.after;
+                v = r.w;
+                home = h;
+                valid = d.1;
+                none_open = r.goes_on.opened ∙ none;
+                grounded = r.grounded;
+                facts = r.facts;
+                firm = r.firm;
+                backed = r.backed;
+                store =
+                    store-later ks v r.w s r.after (agree-alike (Steady ks s) v r.w r.agree)
+                    r.goes_on.sorts r.goes_on.store b;
+              };
             };
-          };
+      };
+      named = λ U relies. (rest-of U relies).named;
     }
+      where
+        reached : (U : Table) → Relies p.program part.guards T U → Reached p.program T U part
+        reached U relies =
+            record { fits = roomy.fits; full = roomy.full; room = roomy.room; relies = relies }
+
+        rest-of : (U : Table) → Relies p.program part.guards T U →
+            Settled p ks T U v part s (running f.rest h) trees
+        rest-of U relies =
+            rests-loose p program ks part T U n (running f.rest h) trees v s (reached U relies) goes
+            g facts backed
 
 -- ---- all open regions are closed, and then the facts rest
 
@@ -173,6 +188,9 @@ finishing-law p program closing V part held ns ks v s n h fn fixed f trees bound
       count = values-length fn.fixed fixed ok.values;
     }) in
     record {
+      closed = cl;
+      table = refl;
+      owners = refl;
       kept = cl.left;
       by = settles-for q V W part held cl.left ns (regions_of v s.opened)
           (λ m a. subst (Among m) (sym are) a) (ap length are) b;

@@ -1,16 +1,16 @@
 -- Where no region of the table is open, the states of loose facts are set to the table's: then each
 -- fact says just what the table does, and no variable is kept free any more.
-use Rattle.std.proofs.Common.{◌≡◌, ◌≢◌, ℕ, ℤ, pos, List, [], ◌∷◌, map, Option, Some, None, Bool, true, false, refl, sym, ap, ◌∙◌, subst}
-use Rattle.std.specs.Prelude.{slice_get, get_or, if◌then◌else◌}
+use Rattle.std.proofs.Common.{◌≡◌, ◌≢◌, ℕ, ℤ, List, [], ◌∷◌, map, Some, Bool, true, false, refl, sym, ap, ◌∙◌, subst}
+use Rattle.std.specs.Prelude.{slice_get, if◌then◌else◌}
 use Rattle.std.specs.List.{AllByRecursion}
-use Rattle.cap_lin.specs.Linear.{Linear, variable}
+use Rattle.cap_lin.specs.Linear.{variable}
 use Rattle.cap_lin.specs.Values.{Valuation, value}
 use Rattle.cap_lin.specs.declared.row.Sort.{Sort}
 use Rattle.cap_lin.specs.declared.row.Sort.TheVariants.{Int}
 use Rattle.cap_prog.specs.Program.{PlainProgram}
 use Rattle.cap_machine_accounts.specs.Accounts.{EachTwo}
 use Rattle.cap_goal_spec.specs.States.{PlainFact, PlainState}
-use Rattle.cap_account_resources.specs.Parts.{Known, known_as, Table}
+use Rattle.cap_account_resources.specs.Parts.{known_as, Table}
 use Rattle.cap_account_resources.proofs.Lists.{all-more, Among}
 use Rattle.cap_account_resources.proofs.Tables.{NoneOpen}
 use Rattle.cap_account_states.proofs.Terms.{Over, vars-more, Agree, agree-same, agree-trans, agree-less, value-agree}
@@ -18,23 +18,12 @@ use Rattle.cap_account_states.proofs.Alike.{agree-alike}
 use Rattle.cap_account_states.proofs.Meets.{Free, Usable}
 use Rattle.cap_account_states.proofs.Facts.{StateHolds, FactHolds, StateOver, FactOver, LooseState, StatesDiffer, Facts, fact-more}
 use Rattle.cap_account_states.proofs.Backed.{Grounded}
+use Rattle.cap_account_assertions.proofs.Named.{set_to, lone, state_or, known_state, told_state}
 use Rattle.cap_account_steps.proofs.Worlds.{Exact, AllOver}
 use Rattle.cap_account_steps.proofs.Exact.{told-alike, all-two}
-use Rattle.cap_account_steps.proofs.KeptFree.{set_to, set-agrees, set-is, set-whole, kept-other, AllSorted, grounded-at, usable-free, grounded-free}
+use Rattle.cap_account_steps.proofs.KeptFree.{set-agrees, set-is, set-whole, kept-other, AllSorted, grounded-at, usable-free, grounded-free}
 
 -- ---- the table's states
-
-abbrev state_or : Option ℤ → ℤ
-state_or (Some b) = b
-state_or None = pos 0
-
-abbrev known_state : Option Known → ℤ
-known_state (Some e) = state_or e.state
-known_state None = pos 0
-
--- the state that the table gives the fact's region
-abbrev pub told_state : Table → Valuation → PlainFact → ℤ
-told_state T v f = known_state (T (value v.whole f.region))
 
 told-there :
     (T : Table) (v : Valuation) (f : PlainFact) → NoneOpen T → FactHolds v T f →
@@ -54,10 +43,6 @@ told-firm T v f h firm =
     sym (ap known_state h.1 ∙ ap state_or e)
 
 -- ---- values at which loose facts have them
-
--- the variable that the term is
-abbrev pub lone : Linear → ℕ
-lone t = (get_or {A = ℕ × ℤ} t.parts 0 (0, pos 0)).0
 
 abbrev pub firm_values : Table → Valuation → List PlainFact → Valuation
 firm_values T v [] = v
@@ -184,6 +169,7 @@ module _ (ks : List ℕ) (sorts : List Sort) (T : Table) (v : Valuation) where
 pub record Firmed (p : PlainProgram) (ks : List ℕ) (T : Table) (v : Valuation)
     (s : PlainState) : Type 0 where
   pub w : Valuation
+  pub named : w ≡ firm_values T v s.facts
   pub agree : Agree (Free ks) v w
   pub grounded : Grounded p [] w s
   pub exact : AllByRecursion (Exact w T) s.facts
@@ -215,6 +201,7 @@ firmed p ks T v s full g fs =
     let told = firm-told ks s.sorts T v s.facts fs.holds near fs.loose fs.differ in
     record {
       w = w;
+      named = refl;
       agree = a;
       grounded = grounded-free p s ks [] w (usable-free p s ks [] (λ y h. tt))
           (grounded-at p s ks v w a (firm-sorted ks s.sorts T v g.meets.sorted s.facts) g);

@@ -12,6 +12,7 @@ use Rattle.cap_account_resources.proofs.Interference.{Relies, relies-same, relie
 use Rattle.cap_account_resources.proofs.Stocks.{Stock, both, no_stock, Inside}
 use Rattle.cap_account_resources.proofs.Tables.{TableFits, NoneOpen, FitsRoom, AreListed, new_guards}
 use Rattle.cap_account_resources.proofs.Owners.{Owner, owned}
+use Rattle.cap_account_states.proofs.Alike.{Alike}
 use Rattle.cap_account_states.proofs.Checked.{Checked}
 use Rattle.cap_account_states.proofs.Facts.{Facts}
 use Rattle.cap_account_states.proofs.Backed.{IsFirm, Backed, Grounded}
@@ -43,12 +44,31 @@ pub record Sits (p : Checked) (part : Stock) (T : Table) (fn : PlainFunction)
   pub tree : PlainTree
   pub at_node : Node p part T fn fixed f (running f.rest) tree
 
+-- and its state holds at these values
+pub record SitsAt (p : Checked) (part : Stock) (T : Table) (fn : PlainFunction)
+    (fixed : List NameValue) (f : Frame) (w : Valuation) : Type 0 where
+  pub sits : Sits p part T fn fixed f
+  pub named : sits.at_node.v ≡ w
+
+-- and its state holds at values alike to these
+pub record SitsLike (p : Checked) (part : Stock) (T : Table) (fn : PlainFunction)
+    (fixed : List NameValue) (f : Frame) (P : ℕ → Type 0) (w : Valuation) : Type 0 where
+  pub sits : Sits p part T fn fixed f
+  pub alike : Alike P w sits.at_node.v
+
 -- and so it does by each table that others can lead to
 pub record Stands (p : Checked) (part : Stock) (T : Table) (fixed : List NameValue)
     (f : Frame) : Type 0 where
   pub fn : PlainFunction
   pub ok : FrameOk p.program fn fixed f
   pub all : (U : Table) → Relies p.program part.guards T U → Sits p part U fn fixed f
+
+-- where that table is U, its state holds at these values
+pub record StandsAt (p : Checked) (part : Stock) (T : Table) (fixed : List NameValue)
+    (f : Frame) (w : Table → Valuation) : Type 0 where
+  pub stands : Stands p part T fixed f
+  pub named :
+      (U : Table) (r : Relies p.program part.guards T U) → (stands.all U r).at_node.v ≡ w U
 
 -- ---- a frame that waits
 
@@ -72,6 +92,19 @@ pub record Waits (p : Checked) (part : Stock) (T : Table) (fixed : List NameValu
       Roomy p.program U (both p.program part handed) →
       OwnsEnsures p.program U handed g args callee_fixed r →
       Stands p (both p.program part handed) U fixed (receives destination r f)
+
+-- where the callee returns r and the table is W then, its state holds at values alike to these
+pub record WaitsLike (p : Checked) (part : Stock) (T : Table) (fixed : List NameValue) (f : Frame)
+    (destination : Option ℕ) (callee : ℕ) (args : List ℤ) (callee_fixed : List NameValue)
+    (P : ℕ → Type 0) (w : Table → ℤ → Valuation) : Type 0 where
+  pub waits : Waits p part T fixed f destination callee args callee_fixed
+  pub named :
+      (U : Table) (relies : Relies p.program part.guards T U) (handed : Stock) (r : ℤ)
+      (g : PlainFunction) (is_g : slice_get p.program.functions callee ≡ Some g)
+      (roomy : Roomy p.program U (both p.program part handed))
+      (owns : OwnsEnsures p.program U handed g args callee_fixed r) (W : Table)
+      (on : Relies p.program (both p.program part handed).guards U W) →
+      Alike P (w W r) ((waits.all U relies handed r g is_g roomy owns).all W on).at_node.v
 
 module _ (p : Checked) where
   pub stands-on :

@@ -1,5 +1,5 @@
 -- The law of heap statements: up to two regions are opened, and then the statement acts.
-use Rattle.std.proofs.Common.{◌≡◌, ℕ, zero, suc, ◌+◌, ◌<◌, ◌≤◌, ℤ, List, [], ◌∷◌, length, map, arith, refl, sym, ap, ◌∙◌, subst, Option, Some, None}
+use Rattle.std.proofs.Common.{◌≡◌, ℕ, zero, suc, ◌+◌, ℤ, List, [], length, arith, refl, sym, ap, subst, Some}
 use Rattle.std.specs.List.{AllByRecursion}
 use Rattle.cap_lin.specs.Linear.{Linear}
 use Rattle.cap_lin.specs.Values.{Valuation}
@@ -7,40 +7,27 @@ use Rattle.cap_lin.specs.declared.row.Sort.TheVariants.{Int}
 use Rattle.cap_farkas.specs.declared.cert.Cert.{Cert}
 use Rattle.cap_prog.specs.Program.{Label, PlainAct, set, read, write, cas, alloc, call, fork, branch, loop, check, give_back, Block, first, PlainFunction}
 use Rattle.cap_prog.specs.WellFormed.{IsWellFormed}
-use Rattle.cap_goal_spec.specs.States.{PlainState, Home, PlainTask}
+use Rattle.cap_goal_spec.specs.States.{PlainState, Home}
 use Rattle.cap_goal_spec.specs.Choices.{PlainTree, node, by_absurd, by_clash, by_enter, by_act, PlainTrees}
 use Rattle.cap_rules.specs.Closing.{address_of}
 use Rattle.cap_machine.specs.Machine.{Heap, Frame, with_rest}
 use Rattle.cap_machine_accounts.specs.Assertions.{NameValue}
 use Rattle.cap_account_resources.specs.Parts.{Table}
 use Rattle.cap_account_resources.proofs.Lists.{none-some}
-use Rattle.cap_account_resources.proofs.Stocks.{Stock, no_stock, both, all_of, none-right}
+use Rattle.cap_account_resources.proofs.Stocks.{Stock, both, all_of, none-right}
 use Rattle.cap_account_states.proofs.Checked.{Checked}
 use Rattle.cap_account_states.proofs.Meets.{Usable, solves}
 use Rattle.cap_account_states.proofs.Roots.{values-length}
 use Rattle.cap_account_states.proofs.Backed.{Backed}
 use Rattle.cap_account_assertions.proofs.Laws.{GivenLaw}
 use Rattle.cap_account_steps.proofs.Points.{FrameOk}
-use Rattle.cap_account_steps.proofs.Stores.{Store, running}
-use Rattle.cap_account_steps.proofs.Frames.{Node}
+use Rattle.cap_account_steps.proofs.Stores.{running}
 use Rattle.cap_account_steps.proofs.Worlds.{Differ, World, Exact, AllOver, regions_of, Earlier, IfAny, Opening, after_act, HeapStep}
 use Rattle.cap_account_steps.proofs.Statements.{Before, HeapLaw}
-use Rattle.cap_account_steps.proofs.Entering.{Opened, entered}
+use Rattle.cap_account_steps.proofs.Entering.{Opened, Enters, entered}
+use Rattle.cap_account_steps.proofs.Acting.{Acted, ActsLaw}
 
 module _ (p : Checked) where
-  -- a heap statement acts where up to two regions are open
-  abbrev pub ActsLaw : Type 0
-  ActsLaw =
-      (V : Table) (share : ℤ → Stock) (part : Stock) (heap : Heap) (fn : PlainFunction)
-      (fixed : List NameValue) (f : Frame) (l : Label) (a : PlainAct) (b : Block) (x : Linear) →
-      address_of a ≡ Some x → World p.program V share part heap →
-      ((z : ℤ) → FrameOk p.program fn fixed (after_act a f b z).1) → (v : Valuation)
-      (s : PlainState) (h : Home) → Opening p.program V share part v s → length s.opened ≤ 2 →
-      Store v s h fn fixed (with_rest f (first l a b)) → length fixed ≡ length fn.fixed → (j : ℕ)
-      (cs : List Cert) (ms : List (Option Cert)) (ks : PlainTrees) →
-      p.N (node (by_act j cs ms) ks) s (running (first l a b) h) →
-      HeapStep p V share part heap fixed f a b x
-
   -- two cells of a state aren't at one address
   abbrev pub ClashLaw : Type 0
   ClashLaw =
@@ -65,17 +52,32 @@ module _ (p : Checked) (program : IsWellFormed p.program) (give : GivenLaw p) (a
   Ready a = (z : ℤ) → FrameOk p.program fn fixed (after_act a f b z).1
 
   -- so many regions may still be opened
+  -- some regions are opened, each at values by name, and then the statement acts
+  pub data ActsBy (a : PlainAct) (x : Linear) (step : HeapStep p V share part heap fixed f a b x) :
+      Valuation → PlainState → Type 0 where
+    acts_now :
+        (v : Valuation) (s : PlainState)
+        (r : Acted p V share part heap fixed f l a b x v s h) → r.step ≡ step →
+        ActsBy a x step v s
+    opens_first :
+        (v : Valuation) (s : PlainState) (i : ℕ) (w : Valuation) (t : PlainState) →
+        Enters p program give V share part heap world fn fixed size (with_rest f (first l a b)) h v
+        s i w t →
+        ActsBy a x step w t → ActsBy a x step v s
+
   acts-at :
       (fuel n : ℕ) → n + fuel ≡ 2 → (a : PlainAct) (x : Linear) → address_of a ≡ Some x →
-      Ready a → (d : PlainTree) → Here a d n → HeapStep p V share part heap fixed f a b x
+      Ready a → (d : PlainTree) → (o : Here a d n) →
+      (step : HeapStep p V share part heap fixed f a b x) × ActsBy a x step o.v o.s
   acts-at fuel n e a x is ok (node (by_absurd c) ks) o =
       absurd ((p.step o.valid).0.0 o.v (solves [] o.v o.s o.opening.grounded.meets))
   acts-at fuel n e a x is ok (node (by_clash i j cs) ks) o =
       absurd (clash V share part heap l a b world o.v o.s h o.opening i j cs ks o.valid)
   acts-at fuel n e a x is ok (node (by_act j cs ms) ks) o =
       let few = o.are in
-      acts V share part heap fn fixed f l a b x is world ok o.v o.s h o.opening
-      (omega (arith, few, e)) o.store size j cs ms ks o.valid
+      let r = acts V share part heap fn fixed f l a b x is world ok o.v o.s h o.opening
+      (omega (arith, few, e)) o.store size j cs ms ks o.valid in
+      (r.step, acts_now o.v o.s r refl)
   acts-at zero n e a x is ok (node (by_enter i cs) ks) o =
       let r = entered p program give V share part heap world fn fixed size
       (with_rest f (first l a b)) h o.v o.s o.opening o.store i l a b ks (p.step o.valid) in
@@ -86,7 +88,8 @@ module _ (p : Checked) (program : IsWellFormed p.program) (give : GivenLaw p) (a
       let r = entered p program give V share part heap world fn fixed size
       (with_rest f (first l a b)) h o.v o.s o.opening o.store i l a b ks (p.step o.valid) in
       let few = o.are in
-      acts-at fuel (suc (length o.s.opened)) (omega (arith, few, e)) a x is ok r.1 r.2
+      let q = acts-at fuel (suc (length o.s.opened)) (omega (arith, few, e)) a x is ok r.1 r.2 in
+      (q.0, opens_first o.v o.s i r.2.v r.2.s r.3 q.1)
   acts-at fuel n e (read y t) x is ok d o = absurd (p.step o.valid).1
   acts-at fuel n e (write t u) x is ok d o = absurd (p.step o.valid).1
   acts-at fuel n e (cas y t u w) x is ok d o = absurd (p.step o.valid).1
@@ -99,9 +102,18 @@ module _ (p : Checked) (program : IsWellFormed p.program) (give : GivenLaw p) (a
   acts-at fuel n e (check c) x is ok d o = absurd (none-some is)
   acts-at fuel n e (give_back t) x is ok d o = absurd (none-some is)
 
-pub heap-law :
-    (p : Checked) → IsWellFormed p.program → GivenLaw p → ActsLaw p → ClashLaw p → HeapLaw p
-heap-law p program give acts clash V share part heap fn fixed f l a b x is world ok k =
+pub heap-named :
+    (p : Checked) (program : IsWellFormed p.program) (give : GivenLaw p) (acts : ActsLaw p)
+    (clash : ClashLaw p) (V : Table) (share : ℤ → Stock) (part : Stock) (heap : Heap)
+    (fn : PlainFunction) (fixed : List NameValue) (f : Frame) (l : Label) (a : PlainAct) (b : Block)
+    (x : Linear) → address_of a ≡ Some x → (world : World p.program V share part heap) →
+    ((z : ℤ) → FrameOk p.program fn fixed (after_act a f b z).1) →
+    (k : Before p part V fn fixed f l a b) →
+    (step : HeapStep p V share part heap fixed f a b x)
+    × ActsBy p program give acts clash V share part heap fn fixed f l b world
+    (values-length fn.fixed fixed k.ok.values) k.sits.at_node.home a x step k.sits.at_node.v
+    k.sits.at_node.state
+heap-named p program give acts clash V share part heap fn fixed f l a b x is world ok k =
     let n = k.sits.at_node in
     let s = n.state in
     acts-at p program give acts clash V share part heap fn fixed f l b world
@@ -130,3 +142,8 @@ heap-law p program give acts clash V share part heap fn fixed f l a b x is world
       };
       are = ap length n.none_open;
     })
+
+pub heap-law :
+    (p : Checked) → IsWellFormed p.program → GivenLaw p → ActsLaw p → ClashLaw p → HeapLaw p
+heap-law p program give acts clash V share part heap fn fixed f l a b x is world ok k =
+    (heap-named p program give acts clash V share part heap fn fixed f l a b x is world ok k).0

@@ -26,8 +26,9 @@ use Rattle.cap_account_states.proofs.Alike.{agree-alike}
 use Rattle.cap_account_states.proofs.Meets.{Free, Usable}
 use Rattle.cap_account_states.proofs.Facts.{FactHolds, StateOver, FactOver, LooseState, StatesDiffer, Facts, facts-alike, fact-more, equal_rows, merging_rows, fact_added, knowns-same, equal-hold, equal-over, found-all, all-without, tight-state, each-without, each-last}
 use Rattle.cap_account_states.proofs.Backed.{IsFirm, Grounded, Backed}
+use Rattle.cap_account_assertions.proofs.Named.{set_to, lone, joined_values}
 use Rattle.cap_account_steps.proofs.Exact.{all-two}
-use Rattle.cap_account_steps.proofs.KeptFree.{set_to, set-agrees, set-is, set-whole, kept-other, AllSorted, grounded-at, usable-free, grounded-free, all_but, all-but, but-free, among-but}
+use Rattle.cap_account_steps.proofs.KeptFree.{set-agrees, set-is, set-whole, kept-other, AllSorted, grounded-at, usable-free, grounded-free, all_but, all-but, but-free, among-but}
 
 -- what is found stands to all others as each two of the list do
 found-rest :
@@ -49,6 +50,7 @@ found-rest R test back (y ∷ ys) x h e = by (test y) e (λ q. found-rest R test
 pub record Joined (p : PlainProgram) (ks : List ℕ) (v : Valuation) (U : Table) (s : PlainState)
     (f : PlainFact) : Type 0 where
   pub w : Valuation
+  pub named : w ≡ joined_values v f (find (is_of_region f) s.facts)
   pub agree : Agree (Free ks) v w
   pub js : List ℕ
   pub less : (y : ℕ) → Free ks y → Free js y
@@ -71,6 +73,7 @@ module _ (p : PlainProgram) (ks : List ℕ) (v : Valuation) (U : Table) (s : Pla
   -- the region has the state of the new one
   record Freed : Type 0 where
     w : Valuation
+    named : w ≡ joined_values v f (find test s.facts)
     agree : Agree (Free ks) v w
     sorted : AllSorted s.sorts w
     js : List ℕ
@@ -123,6 +126,7 @@ module _ (p : PlainProgram) (ks : List ℕ) (v : Valuation) (U : Table) (s : Pla
       ((h : PlainFact) → find test s.facts ≡ Some h → h.loose ≡ false) → Freed
   plainly tight = record {
     w = v;
+    named = same-values (find test s.facts) refl;
     agree = agree-same (Free ks) v;
     sorted = g.meets.sorted;
     js = ks;
@@ -135,6 +139,12 @@ module _ (p : PlainProgram) (ks : List ℕ) (v : Valuation) (U : Table) (s : Pla
           (found-all (FactOver (Usable ks s.sorts Int)) test s.facts h fs.over e).0 (tight h e),
     );
   }
+    where
+      same-values : (o : Option PlainFact) → find test s.facts ≡ o → v ≡ joined_values v f o
+      same-values None e = refl
+      same-values (Some h) e =
+          sym (ap (λ b. if b then set_to v (lone h.state) (value v.whole f.state) else v)
+          (tight h e))
 
   set-state :
       (h : PlainFact) → find test s.facts ≡ Some h → h.loose ≡ true → Freed
@@ -150,6 +160,10 @@ module _ (p : PlainProgram) (ks : List ℕ) (v : Valuation) (U : Table) (s : Pla
       in
       record {
         w = w;
+        named =
+            ap (λ y. set_to v y z) (sym (ap lone q.1))
+            ∙ sym (ap (joined_values v f) is
+            ∙ ap (λ b. if b then set_to v (lone h.state) z else v) e);
         agree = a;
         sorted = λ y i. set-whole v x z y (g.meets.sorted y i);
         js = js;
@@ -233,6 +247,7 @@ module _ (p : PlainProgram) (ks : List ℕ) (v : Valuation) (U : Table) (s : Pla
         fs.over in
         record {
           w = w;
+          named = r.named;
           agree = r.agree;
           js = js;
           less = r.less;

@@ -15,15 +15,12 @@ use Rattle.cap_account_resources.proofs.Lists.{all-more, get-first, Among}
 use Rattle.cap_account_states.proofs.Terms.{RowOver, Agree, agree-less}
 use Rattle.cap_account_states.proofs.Attempts.{sort_added}
 use Rattle.cap_account_states.proofs.Compatible.{pieces-more}
-use Rattle.cap_account_states.proofs.Meets.{Free, Usable, usable-on, Old, CellOver, cell-more, row-more, with_value, new-whole, new-share, with-agrees, variable-value}
+use Rattle.cap_account_states.proofs.Meets.{Free, Usable, usable-on, Old, CellOver, cell-more, row-more, new-whole, new-share, with-agrees, variable-value}
 use Rattle.cap_account_states.proofs.Alike.{meets-fresh, meets-agree}
 use Rattle.cap_account_states.proofs.Backed.{Grounded}
+use Rattle.cap_account_assertions.proofs.Named.{set_to}
 
 -- ---- one variable gets a number
-
--- the number as a fraction too
-abbrev pub set_to : Valuation → ℕ → ℤ → Valuation
-set_to v x z = with_value v x z (z *ℤ denominator v.fraction)
 
 module _ (v : Valuation) (x : ℕ) (z : ℤ) where
   pub set-agrees : Agree (λ y. y ≢ x) v (set_to v x z)

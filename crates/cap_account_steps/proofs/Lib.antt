@@ -7,6 +7,7 @@ pub mod Keeping
 pub mod Settling
 pub mod Stores
 pub mod Frames
+pub mod Shutting
 pub mod Worlds
 pub mod Statements
 pub mod Local
@@ -37,6 +38,7 @@ pub mod CallSite
 pub mod Results
 pub mod Calling
 pub mod CallLaws
+pub mod GivenNames
 pub mod SettledTables
 pub mod SettledTwice
 pub mod StillOpen
@@ -53,14 +55,14 @@ pub mod RegionClosed
 pub mod Closings
 pub mod Entering
 pub mod CaseRoots
-pub mod HeapLaws
 pub mod StableRegions
 pub mod StableLaws
-pub mod StatementLaws
-pub mod Finishing
 pub mod OpenTables
 pub mod Changing
-pub mod Clashing
 pub mod AtCell
 pub mod Acts
 pub mod Acting
+pub mod HeapLaws
+pub mod Clashing
+pub mod Finishing
+pub mod StatementLaws

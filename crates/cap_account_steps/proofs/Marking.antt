@@ -1,6 +1,6 @@
 -- The marks of pairs of an opened region and a fact: either the two regions differ, or the fact is
 -- loose from then on and has a new variable as its state, which is kept free.
-use Rattle.std.proofs.Common.{◌≡◌, ◌≢◌, ℕ, ◌<◌, pos, List, [], ◌∷◌, ◌++◌, length, Some, Bool, true, false, inl, inr, refl, sym, ap, ◌∙◌, arith}
+use Rattle.std.proofs.Common.{◌≡◌, ◌≢◌, ℕ, suc, ◌<◌, pos, List, [], ◌∷◌, ◌++◌, length, Some, Bool, true, false, inl, inr, refl, sym, ap, ◌∙◌, arith}
 use Rattle.std.specs.Prelude.{slice_get, slice_set}
 use Rattle.std.specs.List.{AllByRecursion}
 use Rattle.cap_lin.specs.Linear.{Linear}
@@ -25,8 +25,8 @@ use Rattle.cap_account_states.proofs.Meets.{Free, Usable, usable-on, usable-old,
 use Rattle.cap_account_states.proofs.Facts.{FactHolds, FactOver, LooseState, StatesDiffer, Facts, facts-alike, fact-more}
 use Rattle.cap_account_states.proofs.Backed.{Grounded}
 use Rattle.cap_account_steps.proofs.Exact.{Each, set-here, each-set, each-two-set}
-use Rattle.cap_account_steps.proofs.KeptFree.{set_to, set-agrees, set-here-whole, grounded-free, grounded-fresh}
-use Rattle.cap_account_steps.proofs.Firming.{lone}
+use Rattle.cap_account_steps.proofs.KeptFree.{set-agrees, set-here-whole, grounded-free, grounded-fresh}
+use Rattle.cap_account_assertions.proofs.Named.{set_to, lone}
 use Rattle.cap_account_steps.proofs.Turning.{AsBefore, before-same, before-trans}
 
 -- ---- pairs
@@ -48,14 +48,33 @@ IsClear v s x =
     (f : PlainFact) → slice_get s.facts x.number ≡ Some f → f.loose ≡ false →
     value v.whole x.opened.region ≢ value v.whole x.fact.region
 
+-- a pair's mark: without it, variable n is new, and 0
+abbrev pub mark_value : Valuation → ℕ → Bool → Valuation
+mark_value v n true = v
+mark_value v n false = set_to v n (pos 0)
+
+abbrev pub mark_next : ℕ → Bool → ℕ
+mark_next n true = n
+mark_next n false = suc n
+
+abbrev pub mark_values : Valuation → ℕ → List Bool → Valuation
+mark_values v n [] = v
+mark_values v n (b ∷ ms) = mark_values (mark_value v n b) (mark_next n b) ms
+
+abbrev pub marks_next : ℕ → List Bool → ℕ
+marks_next n [] = n
+marks_next n (b ∷ ms) = marks_next (mark_next n b) ms
+
 -- what marks lead to
 pub record Marked (p : PlainProgram) (V : Table) (ks : List ℕ) (v : Valuation) (s : PlainState)
-    (xs : List Rival) (P : PlainState → Type 0) : Type 0 where
+    (xs : List Rival) (ms : List Bool) (P : PlainState → Type 0) : Type 0 where
   pub js : List ℕ
   pub w : Valuation
+  pub named : w ≡ mark_values v (length s.sorts) ms
   pub after : PlainState
   pub comes : P after
   pub as_before : AsBefore v w s after
+  pub count : length after.sorts ≡ marks_next (length s.sorts) ms
   pub rows : after.rows ≡ s.rows
   pub old : AllByRecursion (λ j. j < length after.sorts) js
   pub free : (x : ℕ) → x < length s.sorts → Free ks x → Free js x
@@ -182,7 +201,7 @@ module _ (p : PlainProgram) (V : Table) where
 
     one-mark :
         (b : Bool) (P : PlainState → Type 0) → Comes (with_mark s x b) P →
-        Marked p V ks v s (x ∷ []) P
+        Marked p V ks v s (x ∷ []) (b ∷ []) P
     one-mark true P c =
         let a = x.opened.region in
         let b = x.fact.region in
@@ -192,6 +211,8 @@ module _ (p : PlainProgram) (V : Table) where
         record {
           js = ks;
           w = v;
+          named = refl;
+          count = refl;
           after = s;
           comes = k.1.1;
           as_before = before-same v s;
@@ -212,6 +233,8 @@ module _ (p : PlainProgram) (V : Table) where
         record {
           js = n ∷ ks;
           w = zero_there;
+          named = refl;
+          count = (let q = push-length s.sorts Int in omega (arith, q));
           after = loosened_state;
           comes = (after-sort s Int last P k).1;
           as_before = one-more;
@@ -254,10 +277,12 @@ module _ (p : PlainProgram) (V : Table) where
       (xs : List Rival) (ms : List Bool) (ks : List ℕ) (v : Valuation) (s : PlainState)
       (P : PlainState → Type 0) → AllByRecursion (λ k. k < length s.sorts) ks →
       Grounded p ks v s → Facts ks v V s → AllByRecursion (IsPair ks v V s) xs →
-      Comes (with_marks s xs ms) P → Marked p V ks v s xs P
+      Comes (with_marks s xs ms) P → Marked p V ks v s xs ms P
   all-marks [] [] ks v s P old g fs is c = record {
     js = ks;
     w = v;
+    named = refl;
+    count = refl;
     after = s;
     comes = c.1;
     as_before = before-same v s;
@@ -279,9 +304,15 @@ module _ (p : PlainProgram) (V : Table) where
       let r = all-marks xs ms one.js one.w one.after P one.old one.grounded one.facts
       (all-more (IsPair ks v V s) (IsPair one.js one.w V one.after) later xs is.1) one.comes in
       let count = one.as_before.goes_on.count in
+      let n = length s.sorts in
       record {
         js = r.js;
         w = r.w;
+        named =
+            r.named
+            ∙ ap (λ u. mark_values u (length one.after.sorts) ms) one.named
+            ∙ ap (λ i. mark_values (mark_value v n b) i ms) one.count;
+        count = r.count ∙ ap (λ i. marks_next i ms) one.count;
         after = r.after;
         comes = r.comes;
         as_before = before-trans v one.w r.w s one.after r.after one.as_before r.as_before;

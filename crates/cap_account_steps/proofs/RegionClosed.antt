@@ -1,5 +1,5 @@
 -- A region is closed: its move is proved, it has what its case says, and its fact joins the others.
-use Rattle.std.proofs.Common.{◌≡◌, ◌≢◌, inl, inr, ℕ, suc, ℤ, List, [], ◌∷◌, length, map, Some, None, true, refl, sym, ap, ◌∙◌, arith}
+use Rattle.std.proofs.Common.{◌+◌, ◌≡◌, ◌≢◌, inl, inr, ℕ, suc, ℤ, List, [], ◌∷◌, ◌++◌, length, map, Some, None, true, refl, sym, ap, ◌∙◌, arith}
 use Rattle.std.specs.Prelude.{slice_get, remove, if◌then◌else◌}
 use Rattle.std.specs.List.{AllByRecursion}
 use Rattle.cap_gsolve.specs.declared.piece.Piece.{Piece}
@@ -17,8 +17,9 @@ use Rattle.cap_account_resources.proofs.Lists.{none-some, map-length, all-at, al
 use Rattle.cap_account_resources.proofs.Stocks.{Stock, both}
 use Rattle.cap_account_resources.proofs.Tables.{TableFits, AreListed}
 use Rattle.cap_account_resources.proofs.Owners.{Owner}
-use Rattle.cap_account_states.proofs.Alike.{alike-less, agree-alike}
-use Rattle.cap_account_states.proofs.Meets.{Free, Usable, solves}
+use Rattle.cap_account_states.proofs.Brought.{Brings}
+use Rattle.cap_account_states.proofs.Alike.{Alike, alike-less, agree-alike}
+use Rattle.cap_account_states.proofs.Meets.{Free, Usable, Old, solves}
 use Rattle.cap_account_states.proofs.Facts.{FactHolds, FactOver, Facts}
 use Rattle.cap_account_states.proofs.Checked.{Checked}
 use Rattle.cap_account_states.proofs.Naming.{values_in, values-mean}
@@ -30,11 +31,12 @@ use Rattle.cap_account_steps.proofs.Exact.{all-two}
 use Rattle.cap_account_steps.proofs.Joining.{Joined, fact-joined}
 use Rattle.cap_account_steps.proofs.Moves.{MovesTo, move-says}
 use Rattle.cap_account_steps.proofs.Shifting.{closed_state, none-other, Shifted, shifted}
+use Rattle.cap_account_steps.proofs.Shutting.{Shut, shut_values, shut_owner, KeepsCase, keeps-on}
 use Rattle.cap_account_steps.proofs.Worlds.{Earlier, IfAny, IsStillOpen, Closing, HasMoved, SettlesBy}
 use Rattle.cap_account_steps.proofs.SettledTables.{told_of, open_of, settled-types}
 use Rattle.cap_account_steps.proofs.SettledTwice.{settles-for, settles-again}
 use Rattle.cap_account_steps.proofs.StillOpen.{LaterState, later-trans, if-any, StaysOpen, closing-later, others-differ, differ-remove}
-use Rattle.cap_account_steps.proofs.ClosedTables.{closed_table, facts-closed, closes-by, room-kept}
+use Rattle.cap_account_steps.proofs.ClosedTables.{closed_table, closed-states, facts-closed, closes-by, room-kept}
 use Rattle.cap_account_steps.proofs.CaseTaken.{CaseTaken, close-takes}
 
 -- open region number o is closed, and the others stay open
@@ -53,6 +55,14 @@ pub record RegionClosed (p : Checked) (V W : Table) (part : Stock) (ks : List �
   pub children : PlainTrees
   pub goes : Open p.N children after ts
   pub closing : Closing p.program V by.U part js w after left
+  pub shut : Shut
+  pub took : Alike (Old s) v shut.took
+  pub count : shut.later ≡ length s.sorts + length shut.brings
+  pub brought : Brings shut.took (length s.sorts) shut.brings
+  pub counts : shut.later ≡ length after.sorts
+  pub named : w ≡ shut_values shut
+  pub is_closed : by.closed ≡ shut_owner shut ∷ []
+  pub keeps : KeepsCase p.program by.U shut
 
 -- what is known only while a region is open
 known-open :
@@ -131,7 +141,7 @@ module _ (p : Checked) (V W : Table) (part : Stock) (ks : List ℕ) (v : Valuati
     moved : HasMoved p.program V part r
     moved = record { state = value w.whole f.state; was = this-open.1; moves = moves.0 }
 
-    owns : OwnsRegion p.program T r.number r.kind r.args r.state r.stock
+    abbrev owns : OwnsRegion p.program T r.number r.kind r.args r.state r.stock
     owns =
         let X = values_in w (env_at t ct.env) in
         let m = values-mean sc w (env_at t ct.env) in
@@ -263,6 +273,18 @@ module _ (p : Checked) (V W : Table) (part : Stock) (ks : List ℕ) (v : Valuati
             room = room-kept p.program T U ct.left types ct.closing.room;
           })
 
+      abbrev shut_here : Shut
+      shut_here = record {
+        took = ct.w;
+        brings = ct.brings;
+        facts = ct.t.facts;
+        later = length ct.t.sorts;
+        fact = with_state ct.f sh.new;
+        number = ct.number;
+        env = env_at ct.t ct.env;
+        stock = ct.given;
+      }
+
       region-closed : RegionClosed p V W part ks v s held ts
       region-closed = record {
         o = ct.o;
@@ -283,6 +305,15 @@ module _ (p : Checked) (V W : Table) (part : Stock) (ks : List ℕ) (v : Valuati
         children = kids;
         goes = moves.1;
         closing = closing;
+        shut = shut_here;
+        took = ct.alike;
+        count = ct.count;
+        brought = ct.brought;
+        counts = refl;
+        named = jn.named;
+        is_closed = ap (λ rs. rs ++ r ∷ []) ct.none_closed;
+        keeps =
+            keeps-on p.program T U (closed-states T r is_open) shut_here (owns, refl, refl);
       }
 
   pub shift-closes :

@@ -22,11 +22,12 @@ use Rattle.cap_account_states.proofs.Alike.{agree-alike, meets-fresh}
 use Rattle.cap_account_states.proofs.Attempts.{sort_added}
 use Rattle.cap_account_states.proofs.Compatible.{pieces-more}
 use Rattle.cap_account_states.proofs.Meets.{Free, Usable, usable-on, usable-old, Old, Meets, solves, new-whole, new-share, with-agrees, variable-value}
+use Rattle.cap_account_assertions.proofs.Named.{set_to}
 use Rattle.cap_account_steps.proofs.Others.{first_values}
 use Rattle.cap_account_steps.proofs.Settling.{changed, replaced-value, replaced-over, IsCandidate, HoldsAt, row_at}
 use Rattle.cap_account_steps.proofs.Worlds.{Exact, AllOver}
 use Rattle.cap_account_steps.proofs.Exact.{told-alike, over-more, covered-old, all-two}
-use Rattle.cap_account_steps.proofs.Turning.{Midway, Turned, settled_state, Turn, own as own-of, Later, later, due-set, candidates-stay}
+use Rattle.cap_account_steps.proofs.Turning.{Midway, Turned, settled_state, Turn, own as own-of, told as told-of, later, due-set, candidates-stay}
 
 module _ (p : PlainProgram) (ks : List ℕ) (part : Stock) (T U : Table) (j : ℕ) (v : Valuation)
     (s : PlainState) (turn : Turn p ks part T U j v s) where
@@ -45,8 +46,8 @@ module _ (p : PlainProgram) (ks : List ℕ) (part : Stock) (T U : Table) (j : �
   own : AllOver (Usable ks s.sorts Int) f
   own = own-of p ks part T U j v s turn
 
-  abbrev next : Later p ks part T U j v s turn
-  next = later p ks part T U j v s turn
+  abbrev told : ℤ
+  told = told-of p ks part T U j v s turn
 
   abbrev more : List Sort
   more = s.sorts ++ Int ∷ []
@@ -137,18 +138,17 @@ module _ (p : PlainProgram) (ks : List ℕ) (part : Stock) (T U : Table) (j : �
     pub settled :
         AllByRecursion (λ r. Proves s.rows (row_at s f.state r)) named →
         Comes (prove_stable k s f named k.actions) (λ x. Unit {0}) →
-        Turned p ks part T U j v s (settled_state s j f named)
+        Turned p ks part T U j v (set_to v (length s.sorts) told) s (settled_state s j f named)
     settled proved c =
         let hold =
         candidates-stay p ks part T U j v s turn named are c
         (all-two (IsCandidate s) (λ r. Proves s.rows (row_at s f.state r))
         (HoldsAt v s b) holds-first named are proved) in
-        let z = next.0 in
+        let z = told in
         let w = at-value z in
         let g = with_state f (later_state s) in
         let m = meets-more z in
         record {
-          w = w;
           before = record {
             agree = agrees z;
             goes_on = record {
@@ -192,10 +192,11 @@ module _ (p : PlainProgram) (ks : List ℕ) (part : Stock) (T U : Table) (j : �
           };
         }
       where
-        new-exact : Exact (at-value next.0) U (with_state f (later_state s))
+        new-exact : Exact (at-value told) U (with_state f (later_state s))
         new-exact =
             let low = over-more (Usable ks s.sorts Int) (Old s) (usable-old ks s.sorts Int) f own in
-            told-alike (Old s) v (at-value next.0) U
-            (agree-alike (Old s) v (at-value next.0) (agrees next.0)) f (later_state s) next.0
+            told-alike (Old s) v (at-value told) U
+            (agree-alike (Old s) v (at-value told) (agrees told)) f (later_state s) told
             low.0 low.1
-            (variable-value (at-value next.0) (length s.sorts) ∙ new-is next.0) next.2
+            (variable-value (at-value told) (length s.sorts) ∙ new-is told)
+            (later p ks part T U j v s turn).1

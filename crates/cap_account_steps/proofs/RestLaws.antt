@@ -1,12 +1,12 @@
--- Where all facts rest, each says what a table does that others can reach, also where some were
--- loose.
-use Rattle.std.proofs.Common.{◌≡◌, ℕ, ◌<◌, ℤ, List, [], ◌∷◌, length, Some, Bool, true, false, refl}
+-- Where all facts rest, each says what a table does that others can reach, also where some were loose.
+use Rattle.std.proofs.Common.{◌≡◌, ℕ, ◌<◌, ℤ, List, [], ◌∷◌, length, Some, Bool, true, false, refl, ap, ◌∙◌}
+use Rattle.std.specs.Prelude.{if◌then◌else◌}
 use Rattle.std.specs.List.{AllByRecursion}
 use Rattle.cap_lin.specs.Linear.{Linear}
 use Rattle.cap_lin.specs.Values.{Valuation, value}
 use Rattle.cap_lin.specs.declared.row.Sort.TheVariants.{Int}
 use Rattle.cap_prog.specs.WellFormed.{IsWellFormed}
-use Rattle.cap_goal_spec.specs.States.{PlainState, PlainTask, to_rest}
+use Rattle.cap_goal_spec.specs.States.{PlainFact, PlainState, PlainTask, to_rest}
 use Rattle.cap_goal_spec.specs.Choices.{PlainTrees}
 use Rattle.cap_account_states.proofs.KnowsLater.{backed-at}
 use Rattle.cap_account_states.specs.Nodes.{Open}
@@ -19,12 +19,13 @@ use Rattle.cap_account_states.proofs.Alike.{agree-alike}
 use Rattle.cap_account_states.proofs.Meets.{Free, Usable, Old}
 use Rattle.cap_account_states.proofs.Facts.{FactHolds, FactOver, StateHolds, StateOver, Facts}
 use Rattle.cap_account_states.proofs.Backed.{IsFirm, Backed, Grounded, GoesOn}
+use Rattle.cap_account_assertions.proofs.Named.{set_to, lone, told_state, rest_values, rest_counts}
 use Rattle.cap_account_assertions.proofs.Laws.{Reached, RestsLaw}
 use Rattle.cap_account_steps.proofs.Worlds.{Exact, AllOver}
 use Rattle.cap_account_steps.proofs.FirmStates.{firm-loose, firm-differ}
 use Rattle.cap_account_steps.proofs.Turning.{backed-before, Reaching}
 use Rattle.cap_account_steps.proofs.Resting.{at-rest}
-use Rattle.cap_account_steps.proofs.Firming.{firmed}
+use Rattle.cap_account_steps.proofs.Firming.{firm_values, firmed}
 
 -- firm facts that say just what the table does
 exact-facts :
@@ -52,10 +53,13 @@ exact-facts v T s firm exact over = record {
     state-over false t o = o
 
 -- what Rests lead to from a state with loose facts: their states may have got other values
-pub record Settled (p : Checked) (ks : List ℕ) (U : Table) (v : Valuation) (part : Stock)
-    (s : PlainState) (ts : List PlainTask) : Type 0 where
+pub record Settled (p : Checked) (ks : List ℕ) (T U : Table) (v : Valuation) (part : Stock)
+    (s : PlainState) (ts : List PlainTask) (trees : PlainTrees) : Type 0 where
   pub w : Valuation
+  pub named :
+      w ≡ rest_values U s.facts trees (length s.sorts) (firm_values T v s.facts)
   pub after : PlainState
+  pub count : length after.sorts ≡ rest_counts s.facts trees (length s.sorts)
   pub children : PlainTrees
   pub goes : Open p.N children after ts
   pub grounded : Grounded p.program [] w after
@@ -71,7 +75,7 @@ pub rests-loose :
     (ts : List PlainTask) (trees : PlainTrees) (v : Valuation) (s : PlainState) →
     Reached p.program T U part → Open p.N trees s (to_rest 0 n ∷ ts) →
     Grounded p.program ks v s → Facts ks v T s → Backed p.program v s part →
-    Settled p ks U v part s ts
+    Settled p ks T U v part s ts trees
 rests-loose p wf ks part T U n ts trees v s reached goes g fs backed =
     let q = p.program in
     let fm = firmed q ks T v s reached.full g fs in
@@ -90,7 +94,10 @@ rests-loose p wf ks part T U n ts trees v s reached goes g fs backed =
     let P : ℕ → Type 0 = λ x. (x < length s.sorts) × Free ks x in
     record {
       w = r.w;
+      named =
+          r.named ∙ ap (rest_values U s.facts trees (length s.sorts)) fm.named;
       after = r.after;
+      count = r.count;
       children = r.children;
       goes = r.goes;
       grounded = r.grounded;
@@ -104,12 +111,25 @@ rests-loose p wf ks part T U n ts trees v s reached goes g fs backed =
       envs = c.envs;
     }
 
+-- where all facts are firm, the values stay
+none-loose :
+    (T : Table) (v : Valuation) (fs : List PlainFact) → AllByRecursion IsFirm fs →
+    firm_values T v fs ≡ v
+none-loose T v [] h = refl
+none-loose T v (f ∷ fs) h =
+    ap (λ b. if b then set_to (firm_values T v fs) (lone f.state) (told_state T v f)
+    else firm_values T v fs) h.0
+    ∙ none-loose T v fs h.1
+
 pub rests : (p : Checked) → IsWellFormed p.program → RestsLaw p
 rests p wf part T U n ts trees v s reached goes g fs firm backed =
     let r = rests-loose p wf [] part T U n ts trees v s reached goes g fs backed in
     record {
       w = r.w;
+      named =
+          r.named ∙ ap (rest_values U s.facts trees (length s.sorts)) (none-loose T v s.facts firm);
       after = r.after;
+      count = r.count;
       children = r.children;
       goes = r.goes;
       grounded = r.grounded;

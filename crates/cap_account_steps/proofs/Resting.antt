@@ -1,5 +1,5 @@
 -- A chain of Rests leads to any table that others can reach: each fact in turn goes over to it.
-use Rattle.std.proofs.Common.{◌≡◌, ℕ, zero, suc, ◌+◌, ◌<◌, ℤ, List, [], ◌∷◌, ◌++◌, length, Some, true, false, subst, arith}
+use Rattle.std.proofs.Common.{◌≡◌, ℕ, zero, suc, ◌+◌, ◌<◌, ℤ, List, [], ◌∷◌, ◌++◌, length, drop, Some, true, false, refl, sym, ap, ◌∙◌, subst, arith}
 use Rattle.std.specs.Prelude.{slice_get, slice_set, option_to_list, ◌==◌, if◌then◌else◌}
 use Rattle.std.specs.List.{AllByRecursion}
 use Rattle.std.proofs.lemmas.Bool.Decides.{nat_tests}
@@ -12,22 +12,23 @@ use Rattle.cap_lin.specs.declared.row.Sort.TheVariants.{Int}
 use Rattle.cap_prog.specs.Program.{PlainRegionType}
 use Rattle.cap_goal_spec.specs.States.{PlainFact, PlainState, PlainTask, to_rest, goal, goal_of, with_state}
 use Rattle.cap_goal_spec.specs.Candidates.{later_state, candidates}
-use Rattle.cap_goal_spec.specs.Choices.{PlainTree, node, PlainTrees, by_absurd, by_settle, by_keep}
+use Rattle.cap_goal_spec.specs.Choices.{PlainTree, node, PlainTrees, no_trees, tree, by_absurd, by_settle, by_keep}
 use Rattle.cap_rules.specs.Attempts.{unit, found, ◌>>=◌}
 use Rattle.cap_rules.specs.Making.{with_rows}
 use Rattle.cap_rules.specs.Resting.{named_candidates, prove_at, prove_stable, with_settled, settle, prove_kept, keep}
 use Rattle.cap_rules.specs.Rules.{leaves}
-use Rattle.cap_account_states.specs.Nodes.{Comes, Children, Open}
+use Rattle.cap_account_states.specs.Nodes.{NodePredicate, Comes, Children, Open}
 use Rattle.cap_account_resources.specs.Parts.{Table}
-use Rattle.cap_account_resources.proofs.Lists.{within, all-at}
+use Rattle.cap_account_resources.proofs.Lists.{within, all-at, push-length, none-some, some-same}
 use Rattle.cap_account_resources.proofs.Covering.{Covered}
 use Rattle.cap_account_resources.proofs.Stocks.{Stock}
 use Rattle.cap_account_states.proofs.Terms.{RowOver}
 use Rattle.cap_account_states.proofs.Attempts.{comes-bind, comes-more, after-found, after-sort, after-computed, sort_added}
 use Rattle.cap_account_states.proofs.Adding.{comes-rows}
-use Rattle.cap_account_states.proofs.Checked.{Checked, one-child}
+use Rattle.cap_account_states.proofs.Checked.{Checked}
 use Rattle.cap_account_states.proofs.Meets.{Free, Usable, solves}
 use Rattle.cap_account_states.proofs.Backed.{IsFirm, Grounded}
+use Rattle.cap_account_assertions.proofs.Named.{set_to, told_state, rest_values, rest_counts}
 use Rattle.cap_account_steps.proofs.Keeping.{same_row, comes-kept}
 use Rattle.cap_account_steps.proofs.Settling.{IsCandidate, row_at, comes-at, comes-stable}
 use Rattle.cap_account_steps.proofs.Worlds.{Exact, AllOver}
@@ -92,13 +93,45 @@ comes-keep k s j f Q h =
       (comes-kept k s f k.actions R c).1.1,
     )
 
+-- ---- the facts that are left
+
+drop-all : {A : Type 0} (xs : List A) (j : ℕ) → length xs ≡ j → drop j xs ≡ []
+drop-all [] zero h = refl
+drop-all [] (suc j) h = refl
+drop-all (x ∷ xs) zero h = absurd (omega (arith, h))
+drop-all (x ∷ xs) (suc j) h = drop-all xs j (omega (arith, h))
+
+drop-one :
+    {A : Type 0} (xs : List A) (j : ℕ) (x : A) → slice_get xs j ≡ Some x →
+    drop j xs ≡ x ∷ drop (suc j) xs
+drop-one [] j x h = absurd (none-some h)
+drop-one (y ∷ ys) zero x h = ap (λ z. z ∷ ys) (some-same y x h)
+drop-one (y ∷ ys) (suc j) x h = drop-one ys j x h
+
+drop-set :
+    {A : Type 0} (xs : List A) (j : ℕ) (x : A) →
+    drop (suc j) (slice_set xs j x) ≡ drop (suc j) xs
+drop-set [] j x = refl
+drop-set (y ∷ ys) zero x = refl
+drop-set (y ∷ ys) (suc j) x = drop-set ys j x
+
+-- the tree of the only child
+lone-child :
+    (N : NodePredicate) (ks : PlainTrees) (s : PlainState) (ts : List PlainTask) →
+    Children N ks (goal s ts ∷ []) → (d : PlainTree) × N d s ts × (ks ≡ tree d no_trees)
+lone-child N no_trees s ts h = absurd h
+lone-child N (tree t no_trees) s ts h = (t, h.0, refl)
+lone-child N (tree t (tree u us)) s ts h = absurd h.1
+
 -- ---- the chain
 
 -- what a chain of Rests leads to: all facts say what the later table does, and are firm
 pub record AtRest (p : Checked) (ks : List ℕ) (U : Table) (v : Valuation) (s : PlainState)
-    (ts : List PlainTask) : Type 0 where
+    (ts : List PlainTask) (fs : List PlainFact) (trees : PlainTrees) : Type 0 where
   pub w : Valuation
+  pub named : w ≡ rest_values U fs trees (length s.sorts) v
   pub after : PlainState
+  pub count : length after.sorts ≡ rest_counts fs trees (length s.sorts)
   pub children : PlainTrees
   pub goes : Open p.N children after ts
   pub as_before : AsBefore v w s after
@@ -111,11 +144,25 @@ pub record AtRest (p : Checked) (ks : List ℕ) (U : Table) (v : Valuation) (s :
 module _ (p : Checked) (ks : List ℕ) (part : Stock) (T U : Table)
     (reaching : Reaching p.program part T U) where
   -- one turn later
-  record Next (j n : ℕ) (ts : List PlainTask) (v : Valuation) (s : PlainState) : Type 0 where
+  record Next (j n : ℕ) (ts : List PlainTask) (v : Valuation) (s : PlainState)
+      (d : PlainTree) : Type 0 where
     state : PlainState
     trees : PlainTrees
+    w : Valuation
     goes : Open p.N trees state (to_rest (suc j) n ∷ ts)
-    turned : Turned p.program ks part T U j v s state
+    turned : Turned p.program ks part T U j v w s state
+    f : PlainFact
+    g : PlainFact
+    is_fact : slice_get s.facts j ≡ Some f
+    facts : state.facts ≡ slice_set s.facts j g
+    named :
+        (fs : List PlainFact) →
+        rest_values U (f ∷ fs) (tree d no_trees) (length s.sorts) v
+        ≡ rest_values U fs trees (length state.sorts) w
+    counts :
+        (fs : List PlainFact) →
+        rest_counts (f ∷ fs) (tree d no_trees) (length s.sorts)
+        ≡ rest_counts fs trees (length state.sorts)
 
   one-on :
       (j n : ℕ) (ts : List PlainTask) (t : PlainState) (trees : PlainTrees) →
@@ -140,7 +187,7 @@ module _ (p : Checked) (ks : List ℕ) (part : Stock) (T U : Table)
   next-turn :
       (j n : ℕ) (ts : List PlainTask) (v : Valuation) (s : PlainState) →
       Midway p.program ks part T U j v s → (d : PlainTree) → p.N d s (to_rest j n ∷ ts) →
-      Next j n ts v s
+      Next j n ts v s d
   next-turn j n ts v s mid (node (by_absurd c) kids) h =
       absurd ((p.step h).0.0 v (solves ks v s mid.grounded.meets))
   next-turn j n ts v s mid (node (by_settle list cs) kids) h =
@@ -159,7 +206,17 @@ module _ (p : Checked) (ks : List ℕ) (part : Stock) (T U : Table)
         state = settled_state s j f.0 r.named;
         trees = kids;
         goes = one-on j n ts (settled_state s j f.0 r.named) kids r.comes.1;
+        w = set_to v (length s.sorts) (told_state U v f.0);
         turned = settled p.program ks part T U j v s turn r.named r.are r.over r.proved r.stable;
+        f = f.0;
+        g = with_state f.0 (later_state s);
+        is_fact = f.1;
+        facts = refl;
+        named = λ fs.
+            ap (λ i. rest_values U fs kids i (set_to v (length s.sorts) (told_state U v f.0)))
+            (let q = push-length s.sorts Int in omega (arith, q));
+        counts = λ fs.
+            ap (rest_counts fs kids) (let q = push-length s.sorts Int in omega (arith, q));
       }
   next-turn j n ts v s mid (node (by_keep cs) kids) h =
       let P = Children p.N kids in
@@ -174,20 +231,29 @@ module _ (p : Checked) (ks : List ℕ) (part : Stock) (T U : Table)
         state = kept_state s j f.0;
         trees = kids;
         goes = one-on j n ts (kept_state s j f.0) kids r.1.1;
+        w = v;
         turned = kept p.program ks part T U j v s (turn-of j v s mid f.0 f.1 k.0 k.1) r.0;
+        f = f.0;
+        g = with_state f.0 f.0.state;
+        is_fact = f.1;
+        facts = refl;
+        named = λ fs. refl;
+        counts = λ fs. refl;
       }
   next-turn j n ts v s mid d h = absurd (p.step h).1
 
   pub at-rest-from :
       (left j n : ℕ) (ts : List PlainTask) (trees : PlainTrees) (v : Valuation) (s : PlainState) →
       j + left ≡ length s.facts → Midway p.program ks part T U j v s →
-      Open p.N trees s (to_rest j n ∷ ts) → AtRest p ks U v s ts
+      Open p.N trees s (to_rest j n ∷ ts) → AtRest p ks U v s ts (drop j s.facts) trees
   at-rest-from zero j n ts trees v s count mid goes =
       let all : (j == length s.facts) ≡ true = grind (arith, nat_tests, count) in
       let each = λ (i : ℕ) (f : PlainFact) (e : slice_get s.facts i ≡ Some f).
       (mid.due i f e).1 (let l = within s.facts i f e in omega (arith, l, count)) in
       record {
         w = v;
+        named = ap (λ fs. rest_values U fs trees (length s.sorts) v) (sym nothing);
+        count = ap (λ fs. rest_counts fs trees (length s.sorts)) (sym nothing);
         after = s;
         children = trees;
         goes =
@@ -201,21 +267,40 @@ module _ (p : Checked) (ks : List ℕ) (part : Stock) (T U : Table)
         over =
             all-each (AllOver (Usable ks s.sorts Int)) s.facts (λ i f e. (mid.due i f e).0);
       }
+    where
+      nothing : drop j s.facts ≡ []
+      nothing = drop-all s.facts j (omega (arith, count))
   at-rest-from (suc left) j n ts trees v s count mid goes =
-      let one = one-child p.N trees s (to_rest j n ∷ ts)
+      let one = lone-child p.N trees s (to_rest j n ∷ ts)
       (subst (λ b. Children p.N trees (option_to_list
       (if b then goal_of s ts else Some (goal s (to_rest j n ∷ ts))))) more goes) in
       let turn = next-turn j n ts v s mid one.0 one.1 in
       let before = turn.turned.before in
       let size = before.facts in
-      let r = at-rest-from left (suc j) n ts turn.trees turn.turned.w turn.state
+      let r = at-rest-from left (suc j) n ts turn.trees turn.w turn.state
       (omega (arith, count, size)) turn.turned.midway turn.goes in
       record {
         w = r.w;
+        named =
+            r.named
+            ∙ ap (λ fs. rest_values U fs turn.trees (length turn.state.sorts) turn.w)
+            (ap (drop (suc j)) turn.facts ∙ drop-set s.facts j turn.g)
+            ∙ sym (turn.named (drop (suc j) s.facts))
+            ∙ ap (λ ds. rest_values U (turn.f ∷ drop (suc j) s.facts) ds (length s.sorts) v) (sym one.2)
+            ∙ ap (λ fs. rest_values U fs trees (length s.sorts) v)
+            (sym (drop-one s.facts j turn.f turn.is_fact));
+        count =
+            r.count
+            ∙ ap (λ fs. rest_counts fs turn.trees (length turn.state.sorts))
+            (ap (drop (suc j)) turn.facts ∙ drop-set s.facts j turn.g)
+            ∙ sym (turn.counts (drop (suc j) s.facts))
+            ∙ ap (λ ds. rest_counts (turn.f ∷ drop (suc j) s.facts) ds (length s.sorts)) (sym one.2)
+            ∙ ap (λ fs. rest_counts fs trees (length s.sorts))
+            (sym (drop-one s.facts j turn.f turn.is_fact));
         after = r.after;
         children = r.children;
         goes = r.goes;
-        as_before = before-trans v turn.turned.w r.w s turn.state r.after before r.as_before;
+        as_before = before-trans v turn.w r.w s turn.state r.after before r.as_before;
         old = r.old;
         grounded = r.grounded;
         exact = r.exact;
@@ -233,7 +318,7 @@ module _ (p : Checked) (ks : List ℕ) (part : Stock) (T U : Table)
       AllByRecursion (AllOver (Usable ks s.sorts Int)) s.facts →
       AllByRecursion (Exact v T) s.facts →
       ((m : ℤ) → Covered p.program v s.guards m (part.guards m)) →
-      Open p.N trees s (to_rest 0 n ∷ ts) → AtRest p ks U v s ts
+      Open p.N trees s (to_rest 0 n ∷ ts) → AtRest p ks U v s ts s.facts trees
   at-rest n ts trees v s old grounded over exact covered goes =
       at-rest-from (length s.facts) 0 n ts trees v s count
       (record {

@@ -148,8 +148,8 @@ fact-opened v V ns f h apart =
 -- ---- the state after the marks
 
 pub record Acting (p : PlainProgram) (V : Table) (v : Valuation) (s : PlainState)
-    (P : PlainState → Type 0) : Type 0 where
-  pub marked : Marked p V [] v s (rivals s) P
+    (ms : List Bool) (P : PlainState → Type 0) : Type 0 where
+  pub marked : Marked p V [] v s (rivals s) ms P
   pub facts : Facts marked.js marked.w (opened_table (regions_of v s.opened) V) marked.after
   pub opened :
       AllByRecursion
@@ -181,7 +181,7 @@ module _ (p : PlainProgram) (V : Table) (v : Valuation) (s : PlainState) (P : Pl
       }) s.opened s.facts os
       (all-two (FactOver R) (FactHolds v V) B (λ f o h. (o, h)) s.facts fs.over fs.holds)
 
-  module _ (m : Marked p V [] v s (rivals s) P) where
+  module _ (ms : List Bool) (m : Marked p V [] v s (rivals s) ms P) where
     abbrev w : Valuation
     w = m.w
 
@@ -299,7 +299,7 @@ module _ (p : PlainProgram) (V : Table) (v : Valuation) (s : PlainState) (P : Pl
               (h.covered n));
         }
 
-    acting-from : Acting p V v s P
+    acting-from : Acting p V v s ms P
     acting-from =
         let e = sym m.as_before.goes_on.opened in
         record {
@@ -322,5 +322,5 @@ module _ (p : PlainProgram) (V : Table) (v : Valuation) (s : PlainState) (P : Pl
         if-any [] f h = tt
         if-any (x ∷ xs) f h = f h
 
-  pub acting : (ms : List Bool) → Comes (with_marks s (rivals s) ms) P → Acting p V v s P
-  acting ms c = acting-from (all-marks p V (rivals s) ms [] v s P tt g fs pairs c)
+  pub acting : (ms : List Bool) → Comes (with_marks s (rivals s) ms) P → Acting p V v s ms P
+  acting ms c = acting-from ms (all-marks p V (rivals s) ms [] v s P tt g fs pairs c)

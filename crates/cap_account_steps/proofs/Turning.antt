@@ -25,6 +25,7 @@ use Rattle.cap_account_states.proofs.Terms.{Agree, agree-same, agree-trans, agre
 use Rattle.cap_account_states.proofs.Alike.{agree-alike}
 use Rattle.cap_account_states.proofs.Meets.{Usable, usable-on, usable-old, Old, need}
 use Rattle.cap_account_states.proofs.Backed.{IsFirm, Backed, Grounded, GoesOn}
+use Rattle.cap_account_assertions.proofs.Named.{known_state, told_state}
 use Rattle.cap_account_steps.proofs.Others.{Resting}
 use Rattle.cap_account_steps.proofs.Keeping.{same_row, kept-rests}
 use Rattle.cap_account_steps.proofs.Settling.{IsCandidate, HoldsAt, settled-rests}
@@ -119,8 +120,7 @@ pub record Midway (p : PlainProgram) (ks : List ℕ) (part : Stock) (T U : Table
 
 -- the next fact has changed over
 pub record Turned (p : PlainProgram) (ks : List ℕ) (part : Stock) (T U : Table) (j : ℕ)
-    (v : Valuation) (s t : PlainState) : Type 0 where
-  pub w : Valuation
+    (v w : Valuation) (s t : PlainState) : Type 0 where
   pub before : AsBefore v w s t
   pub midway : Midway p ks part T U (suc j) w t
 
@@ -213,13 +213,19 @@ module _ (p : PlainProgram) (ks : List ℕ) (part : Stock) (T U : Table) (j : �
       subst (IsPartOf p (Some held.mark)) (sym held.is) (Some free, free-right p (Some held.mark))
 
   -- the state to which others led the region
-  abbrev pub Later : Type 0
-  Later =
-      (c : ℤ) × (i : ℕ) × (U n ≡ Some (known_as f.kind args (Some c)))
-      × Reach p (part.guards n) f.kind n args i b c
+  abbrev pub told : ℤ
+  told = told_state U v turn.f
 
-  pub later : Later
-  later = turn.reaching.relies n f.kind args b exact
+  pub later :
+      (i : ℕ) × (U n ≡ Some (known_as f.kind args (Some told)))
+      × Reach p (part.guards n) f.kind n args i b told
+  later =
+      let r = turn.reaching.relies n f.kind args b exact in
+      let is : r.0 ≡ told = sym (ap known_state r.2) in (
+        r.1,
+        r.2 ∙ ap (λ c. Some (known_as f.kind args (Some c))) is,
+        subst (Reach p (part.guards n) f.kind n args r.1 b) is r.3,
+      )
 
   -- the facts, where this one changes over, at values that agree and with more variables
   pub due-set :
@@ -251,23 +257,22 @@ module _ (p : PlainProgram) (ks : List ℕ) (part : Stock) (T U : Table) (j : �
   pub candidates-stay :
       (named : List Row) → AllByRecursion (IsCandidate s) named →
       Comes (prove_stable k s f named k.actions) (λ x. Unit {0}) →
-      AllByRecursion (HoldsAt v s b) named → AllByRecursion (HoldsAt v s later.0) named
+      AllByRecursion (HoldsAt v s b) named → AllByRecursion (HoldsAt v s told) named
   candidates-stay named is c h =
       settled-rests p ks v s k f turn.is_type actions resting held.mark held.of_kind covered-here
-      named is (λ x. Unit {0}) c (part.guards n) all-held later.1 b later.0 later.3 h
+      named is (λ x. Unit {0}) c (part.guards n) all-held later.0 b told later.2 h
 
   -- ---- the same state
 
   pub kept :
       Comes (prove_kept k s f (same_row s f) k.actions) (λ x. Unit {0}) →
-      Turned p ks part T U j v s (kept_state s j f)
+      Turned p ks part T U j v v s (kept_state s j f)
   kept c =
-      let same : later.0 ≡ b =
+      let same : told ≡ b =
       kept-rests p ks v s k f turn.is_type actions resting held.mark held.of_kind covered-here
-      (λ x. Unit {0}) own.2 c (part.guards n) all-held later.1 later.0 later.3 in
+      (λ x. Unit {0}) own.2 c (part.guards n) all-held later.0 told later.2 in
       let m = mid.grounded.meets in
       record {
-        w = v;
         before = record {
           agree = agree-same (Old s) v;
           goes_on = record {
@@ -299,7 +304,7 @@ module _ (p : PlainProgram) (ks : List ℕ) (part : Stock) (T U : Table) (j : �
           };
           due =
               due-set s.sorts v (with_state f f.state) (λ x o e. e) (agree-same (Old s) v) own
-              (later.2 ∙ ap (λ z. Some (known_as f.kind args (Some z))) same) refl;
+              (later.1 ∙ ap (λ z. Some (known_as f.kind args (Some z))) same) refl;
           covered = mid.covered;
         };
       }

@@ -31,6 +31,7 @@ use Rattle.cap_account_states.proofs.Facts.{Facts}
 use Rattle.cap_account_states.proofs.Backed.{IsFirm, Backed, Grounded}
 use Rattle.cap_account_assertions.proofs.Asserted.{OwnsRegion}
 use Rattle.cap_account_assertions.proofs.Laws.{IsOwner}
+use Rattle.cap_account_steps.proofs.Shutting.{Shut, shut_owner, Leads, KeepsCase}
 use Rattle.cap_account_steps.proofs.Frames.{Stands}
 
 -- ---- a table, and what each of its regions has
@@ -189,6 +190,10 @@ pub record Closed (p : Checked) (V W : Table) (part : Stock) (ks : List ℕ) (v 
   pub sorts : (x : ℕ) (o : Sort) → slice_get s.sorts x ≡ Some o → slice_get after.sorts x ≡ Some o
   pub count : length s.sorts ≤ length after.sorts
   pub backed : Backed p.program w after left
+  pub shuts : List Shut
+  pub named : Leads (length s.sorts) v shuts (length after.sorts) w
+  pub are_closed : by.closed ≡ map shut_owner shuts
+  pub keeps : AllByRecursion (KeepsCase p.program by.U) shuts
 
 -- closing them all, where the table's regions are listed
 abbrev pub ClosingLaw : Checked → Type 0
