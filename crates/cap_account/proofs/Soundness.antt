@@ -1,5 +1,4 @@
 -- Derivations are sound.
-use Rattle.cap_prog.specs.WellFormed.{IsWellFormed}
 use Rattle.cap_account.specs.Law.{DerivationsAreSound}
 use Rattle.cap_account_states.proofs.Checked.{Checked, derivations}
 use Rattle.cap_account_assertions.proofs.Laws.{Stable}

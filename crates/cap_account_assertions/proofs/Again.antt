@@ -1,6 +1,6 @@
 -- An assertion that is given can be taken again of the same part, by a table that others led to.
 use Rattle.cap_account_resources.proofs.Order.{cancel, swapped}
-use Rattle.std.proofs.Common.{◌≡◌, ◌≢◌, ℕ, suc, ◌+◌, ◌<◌, ℤ, pos, ◌*ℤ◌, List, [], ◌∷◌, length, arith, sym, ap, ◌∙◌, subst, Some}
+use Rattle.std.proofs.Common.{◌≡◌, ◌≢◌, ℕ, suc, ◌+◌, ◌<◌, pos, ◌*ℤ◌, List, [], ◌∷◌, length, arith, sym, ap, ◌∙◌, subst, Some}
 use Rattle.std.specs.Prelude.{get_or, unwrap_or}
 use Rattle.std.specs.List.{AllByRecursion}
 use Rattle.cap_lin.specs.Linear.{Linear}

@@ -9,7 +9,7 @@ use Rattle.cap_lin.specs.declared.row.Row.{Row}
 use Rattle.cap_lin.specs.declared.row.Sort.TheVariants.{Int}
 use Rattle.cap_gsolve.specs.declared.piece.Piece.{Piece}
 use Rattle.cap_prog.specs.declared.assertion.Slot.{Slot}
-use Rattle.cap_prog.specs.Program.{PlainItem, fact, Items, item, PlainCase, PlainRegionType, PlainProgram}
+use Rattle.cap_prog.specs.Program.{PlainItem, Items, item, PlainCase, PlainRegionType, PlainProgram}
 use Rattle.cap_prog.specs.Scopes.{Scope, region_scope}
 use Rattle.cap_prog.specs.WellFormed.{FactFits, CaseFits, RegionFits}
 use Rattle.cap_goal_spec.specs.States.{PlainEnv, PlainState, PlainTask, PlainGoal, to_take, to_make, goals_of}

@@ -1,5 +1,5 @@
 -- Values by name: at which values the states hold that Rests lead to.
-use Rattle.std.proofs.Common.{ℕ, suc, ℤ, pos, ◌*ℤ◌, List, [], ◌∷◌, Option, Some, None}
+use Rattle.std.proofs.Common.{ℕ, suc, ℤ, pos, ◌*ℤ◌, List, ◌∷◌, Option, Some, None}
 use Rattle.std.specs.Prelude.{get_or, if◌then◌else◌}
 use Rattle.cap_lin.specs.Linear.{Linear}
 use Rattle.cap_lin.specs.Values.{Valuation, denominator, value}

@@ -1,10 +1,10 @@
 -- What is held, cells and guards together: a commutative monoid, ordered by what it adds.
-use Rattle.std.proofs.Common.{◌≡◌, ◌≢◌, ℕ, ◌+◌, ◌-◌, ◌≤◌, ℤ, List, [], ◌∷◌, Option, Some, None, refl, sym, ap, ◌∙◌, subst, arith}
+use Rattle.std.proofs.Common.{◌≡◌, ◌≢◌, ℕ, ◌+◌, ◌-◌, ◌≤◌, ℤ, List, [], ◌∷◌, Option, Some, None, refl, ap, ◌∙◌, subst, arith}
 use Rattle.cap_prog.specs.Program.{PlainProgram}
 use Rattle.cap_account_resources.specs.Parts.{Cells, one_cell}
 use Rattle.cap_account_resources.proofs.Monoid.{IsCommutative, Sum, flat, within, fewer, reorder, meaning, each_of, below_trans, below_plus}
 use Rattle.cap_account_resources.proofs.Marks.{Mark, free, joins-law}
-use Rattle.cap_account_resources.proofs.Covering.{join_marks, IsPartOf, free-right, part-trans}
+use Rattle.cap_account_resources.proofs.Covering.{join_marks}
 use Rattle.cap_account_resources.proofs.Interference.{Holding, ArePartOf}
 use Rattle.cap_account_resources.proofs.Room.{alone, part-some}
 

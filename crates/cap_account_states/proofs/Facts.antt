@@ -16,7 +16,6 @@ use Rattle.cap_lin.specs.declared.row.Op.TheVariants.{Eq as Equal}
 use Rattle.cap_lin.proofs.Rows.{row_of-means}
 use Rattle.cap_prog.specs.declared.assertion.Slot.{Slot}
 use Rattle.cap_prog.specs.declared.assertion.Slot.TheVariants.{Is}
-use Rattle.cap_prog.specs.Program.{fact}
 use Rattle.cap_prog.specs.Scopes.{Scope, SlotFits}
 use Rattle.cap_machine_accounts.specs.Assertions.{SlotIs, SlotsAre}
 use Rattle.cap_machine_accounts.specs.Accounts.{EachTwo}
