@@ -127,27 +127,26 @@ fn proves_a_case_without_items(rt: HostRuntime) -> Result<(), Fail> {
     Ok(())
 }
 
-// The case asks for a fact of another region, which its action can take to 1: once the case is given
-// and others have acted, the fact is known with no state, and the case lacks it.
+// The first region's case asks for a fact of another region, which its action can take to 1.
+const WATCH: &str = "region Watch(w, r) { guards G; interpretation {
+0 : Flag(r; 0); } actions { } }
+region Flag(r) { guards SET; interpretation { 0 : true; 1 : true; } actions { SET : 0 ~> 1; } }
+function main() { }
+";
+
+// Once the case is given and others have acted, the fact is known with no state, and the case lacks
+// it.
 #[test]
 fn a_case_that_others_break_is_left_open(rt: HostRuntime) -> Result<(), Fail> {
     let alloc = rt.alloc();
-    let text =
-        "region W(w, r) { guards G; interpretation { 0 : F(r; 0); } actions { } } region F(r) { guards S; interpretation { 0 : true; 1 : true; } actions { S : 0 ~> 1; } } function main() { }";
-    let open = match verdict_on_region(alloc, text, 200_000)? {
+    let open = match verdict_on_region(alloc, WATCH, 200_000)? {
         Verdict::Stuck(open) => Some(open),
         _ => None,
     };
     let lacks = Obligation {
-        statement: Place {
-            line: 1,
-            column: 45,
-        },
+        statement: Place { line: 2, column: 1 },
         need: Need::Region,
-        item: Place {
-            line: 1,
-            column: 49,
-        },
+        item: Place { line: 2, column: 5 },
     };
     assert_eq!(rt; open, Some(lacks));
     Ok(())

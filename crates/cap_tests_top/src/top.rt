@@ -927,30 +927,43 @@ function zero(x) requires Counter(r, x; _) &*& r@INC[1p]; {
 function main() { }
 ";
 
+// What is said of these and of the lock and the counter.
+const LOCK_REPORT: &str = "region SLock: proved
+function makeLock: proved
+function lock: proved
+function unlock: proved
+function worker: proved
+function main: proved
+proved 6 of 6
+";
+
+const COUNTER_REPORT: &str = "region Counter: proved
+function make: proved
+function inc: proved
+function main: open 22:3 needs fact 22:10
+proved 3 of 4
+";
+
+const WATCH_REPORT: &str = "region Flag: proved
+region Watch: open 3:1 needs region 3:5
+function main: proved
+proved 2 of 3
+";
+
+const ZEROED_REPORT: &str = "region Counter: proved
+function zero: open 7:3 needs move 3:20
+function main: proved
+proved 2 of 3
+";
+
 #[test]
 fn verdicts_on_region_types(rt: HostRuntime) -> Result<(), Fail> {
     let alloc = rt.alloc();
     for (text, status, written) in [
-        (
-            LOCK,
-            Status::Good,
-            "region SLock: proved\nfunction makeLock: proved\nfunction lock: proved\nfunction unlock: proved\nfunction worker: proved\nfunction main: proved\nproved 6 of 6\n",
-        ),
-        (
-            COUNTER,
-            Status::Bad,
-            "region Counter: proved\nfunction make: proved\nfunction inc: proved\nfunction main: open 22:3 needs fact 22:10\nproved 3 of 4\n",
-        ),
-        (
-            WATCH,
-            Status::Bad,
-            "region Flag: proved\nregion Watch: open 3:1 needs region 3:5\nfunction main: proved\nproved 2 of 3\n",
-        ),
-        (
-            ZEROED,
-            Status::Bad,
-            "region Counter: proved\nfunction zero: open 7:3 needs move 3:20\nfunction main: proved\nproved 2 of 3\n",
-        ),
+        (LOCK, Status::Good, LOCK_REPORT),
+        (COUNTER, Status::Bad, COUNTER_REPORT),
+        (WATCH, Status::Bad, WATCH_REPORT),
+        (ZEROED, Status::Bad, ZEROED_REPORT),
     ] {
         verifies(&rt, alloc, text, status, written)?;
     }
@@ -992,15 +1005,7 @@ fn derivations_with_region_types(rt: HostRuntime) -> Result<(), Fail> {
     derives(&rt, alloc, STILL, STILL_DERIVATION, "accepted 3\n")?;
     derives(&rt, alloc, HELD, HELD_DERIVATION, "accepted 5\n")?;
     // Of a program that isn't proved the report is written.
-    says(
-        &rt,
-        alloc,
-        "derive f",
-        WATCH,
-        "",
-        Status::Bad,
-        "region Flag: proved\nregion Watch: open 3:1 needs region 3:5\nfunction main: proved\nproved 2 of 3\n",
-    )?;
+    says(&rt, alloc, "derive f", WATCH, "", Status::Bad, WATCH_REPORT)?;
     // The lock has 17 roots, and its first tree begins with what its case gives.
     for (lines, status, written) in [
         ("", Status::Refused, "refused derivation: no end\n"),
