@@ -2,3 +2,4 @@ pub mod Listed
 pub mod ShelfLemmas
 pub mod Known
 pub mod Exact
+mod Walks

@@ -1,10 +1,11 @@
 -- What the next fetch of a shelf in memory answers, and how it leaves the shelf, is what every shelf ensures.
-use Rattle.std.proofs.Common.{arith, ◌≡◌, ◌≢◌, ℕ, ◌+◌, ◌≤◌, true, false, Bool, List, [], Option, Some, None, Result, Ok, Err, Vec, ◌⊎◌, inl, inr, refl, sym, subst, ◌∙◌}
+use Rattle.std.proofs.Common.{arith, ◌≡◌, ◌≢◌, ℕ, ◌+◌, ◌≤◌, true, false, Bool, List, [], ◌++◌, append-nil, ap, Option, Some, None, Result, Ok, Err, Vec, ◌⊎◌, inl, inr, refl, sym, subst, ◌∙◌}
 use Rattle.std.specs.Global.{Global}
 use Rattle.cap_io.specs.declared.shelf.FetchError.{FetchError}
 use Rattle.cap_io.specs.declared.shelf.FetchError.TheVariants.{Failed, Absent, TooLong, OutOfMemory}
-use Rattle.cap_io.specs.Outside.{Unfaulted, Faulted, Blames, Counts, Measures, content, found, plain_answer}
-use Rattle.cap_io.specs.Memory.{ShelfState, failed_fetches, fails_next, fetched, after_fetch}
+use Rattle.cap_io.specs.Files.{content, SeenShelf}
+use Rattle.cap_io.specs.Outside.{Unfaulted, Faulted, Gives, Blames, Counts, Measures, found, plain_answer}
+use Rattle.cap_io.specs.Memory.{ShelfState, failed_fetches, fails_next, fetched, gifts_of, after_fetch, seen_memory}
 use Rattle.cap_io.proofs.Listed.{listed_hit, listed_miss}
 
 -- a fetch that fails is one more
@@ -34,10 +35,14 @@ answer_passes s name a ne e = go (fails_next s) refl
     go false h = sym h
     go true h = absurd (ne (let k : fails_next s ≡ true = sym h in rw k at e))
 
-faulted_next : (s : ShelfState) (name : List ℕ) → fails_next s ≡ true → Faulted name (failed_fetches s) (failed_fetches (after_fetch s name)) (after_fetch s name).blamed
+-- what is seen of the shelf after the next fetch
+abbrev next_seen : ShelfState → List ℕ → SeenShelf
+next_seen s name = seen_memory (after_fetch s name)
+
+faulted_next : (s : ShelfState) (name : List ℕ) → fails_next s ≡ true → Faulted name (seen_memory s) (next_seen s name)
 faulted_next s name h = (omega (arith, failed_more s name h), omega (arith, failed_more s name h), rw h refl)
 
-unfaulted_next : (s : ShelfState) (name : List ℕ) → fails_next s ≡ false → Unfaulted (failed_fetches s) (failed_fetches (after_fetch s name)) s.blamed (after_fetch s name).blamed
+unfaulted_next : (s : ShelfState) (name : List ℕ) → fails_next s ≡ false → Unfaulted (seen_memory s) (next_seen s name)
 unfaulted_next s name h = (failed_same s name h, rw h refl)
 
 -- with enough memory the fetch has its answer and the shelf moves on; else the shelf is as before
@@ -75,12 +80,18 @@ passed_too_long n = λ h. cc
 
 -- an answer other than `Failed` met no fault
 passes_next : (s : ShelfState) (name : List ℕ) (t : ShelfState) (r : Result (Vec ℕ Global) FetchError) → IsNext s name t r
-    → IsAnswered r → HasPassed (plain_answer r) → Unfaulted (failed_fetches s) (failed_fetches t) s.blamed t.blamed
+    → IsAnswered r → HasPassed (plain_answer r) → Unfaulted (seen_memory s) (seen_memory t)
 passes_next s name t r next answered passed =
     rw (next.after answered) (unfaulted_next s name (answer_passes s name (plain_answer r) passed (next.answer answered)))
 
+-- it has noted what its answer gives
+noted : (s : ShelfState) (name : List ℕ) (t : ShelfState) (r : Result (Vec ℕ Global) FetchError) → IsNext s name t r
+    → IsAnswered r → t.given ≡ s.given ++ gifts_of name (plain_answer r)
+noted s name t r next answered =
+    ap (λ u. u.given) (next.after answered) ∙ ap (λ a. s.given ++ gifts_of name a) (sym (next.answer answered))
+
 pub blames_next : (s : ShelfState) (name : List ℕ) (t : ShelfState) (r : Result (Vec ℕ Global) FetchError) → IsNext s name t r
-    → Blames name (failed_fetches s) (failed_fetches t) s.blamed t.blamed r
+    → Blames name (seen_memory s) (seen_memory t) r
 blames_next s name t (Ok bytes) next = inl (passes_next s name t (Ok bytes) next (answered_ok bytes) (passed_ok bytes.items))
 blames_next s name t (Err Failed) next =
     rw (next.after answered_failed) (faulted_next s name (answer_fails s name (next.answer answered_failed)))
@@ -89,7 +100,7 @@ blames_next s name t (Err (TooLong n)) next = inl (passes_next s name t (Err (To
 blames_next s name t (Err OutOfMemory) next = rw (next.out_of_memory refl) (inl (refl, refl))
 
 pub measures_next : (s : ShelfState) (name : List ℕ) (t : ShelfState) (r : Result (Vec ℕ Global) FetchError) → IsNext s name t r
-    → Measures (Some s.files) (failed_fetches s) (failed_fetches t) r
+    → Measures (seen_memory s) (seen_memory t) r
 measures_next s name t (Ok bytes) next = tt
 measures_next s name t (Err Failed) next = tt
 measures_next s name t (Err Absent) next = tt
@@ -98,12 +109,21 @@ measures_next s name t (Err OutOfMemory) next = tt
 
 -- the fetch is counted, unless memory is short
 pub counts_next : (s : ShelfState) (name : List ℕ) (t : ShelfState) (r : Result (Vec ℕ Global) FetchError) → IsNext s name t r
-    → Counts (Some s.fetches) (Some t.fetches) r
+    → Counts (seen_memory s) (seen_memory t) r
 counts_next s name t (Ok bytes) next = rw (next.after (answered_ok bytes)) refl
 counts_next s name t (Err Failed) next = rw (next.after answered_failed) refl
 counts_next s name t (Err Absent) next = rw (next.after answered_absent) refl
 counts_next s name t (Err (TooLong n)) next = rw (next.after (answered_too_long n)) refl
 counts_next s name t (Err OutOfMemory) next = rw (next.out_of_memory refl) refl
+
+-- what the fetch gave is noted
+pub gives_next : (s : ShelfState) (name : List ℕ) (t : ShelfState) (r : Result (Vec ℕ Global) FetchError) → IsNext s name t r
+    → Gives name (seen_memory s) (seen_memory t) r
+gives_next s name t (Ok bytes) next = noted s name t (Ok bytes) next (answered_ok bytes)
+gives_next s name t (Err Failed) next = noted s name t (Err Failed) next answered_failed
+gives_next s name t (Err Absent) next = noted s name t (Err Absent) next answered_absent
+gives_next s name t (Err (TooLong n)) next = noted s name t (Err (TooLong n)) next (answered_too_long n)
+gives_next s name t (Err OutOfMemory) next = rw (next.out_of_memory refl) (sym (append-nil s.given))
 
 -- a fetch leaves the shelf as it was, or moves it on
 moves : (s : ShelfState) (name : List ℕ) (t : ShelfState) (r : Result (Vec ℕ Global) FetchError) → IsNext s name t r → (t ≡ s) ⊎ (t ≡ after_fetch s name)

@@ -1,11 +1,12 @@
 -- A shelf and a sink in memory, whose calls fail by their numbers.
-use Rattle.std.specs.Prelude.{ℕ, zero, suc, ◌+◌, ◌-◌, ◌≤◌, ◌==◌, ◌&&◌, nat_lt, min, Bool, List, length, map, string_bytes, String, Vec, Option, Some, None, IsNone, unwrap_or, Result, Err, if◌then◌else◌}
+use Rattle.std.specs.Prelude.{ℕ, zero, suc, ◌+◌, ◌-◌, ◌≤◌, ◌==◌, ◌&&◌, nat_lt, min, Bool, List, [], ◌∷◌, ◌++◌, length, map, string_bytes, String, Vec, Option, Some, None, IsNone, unwrap_or, Result, Ok, Err, if◌then◌else◌}
 use Rattle.std.specs.Global.{Global}
 use Rattle.std.specs.List.{list_any}
 use Rattle.std.specs.Map.{lookup}
 use Rattle.cap_io.specs.declared.shelf.FetchError.{FetchError}
 use Rattle.cap_io.specs.declared.shelf.FetchError.TheVariants.{Failed}
-use Rattle.cap_io.specs.Outside.{Files, content, found, last_count, counted}
+use Rattle.cap_io.specs.Files.{Files, content, SeenShelf}
+use Rattle.cap_io.specs.Outside.{found, last_count, counted}
 
 -- the names and contents of files
 abbrev pub files_of : List (String Global × Vec ℕ Global) → Files
@@ -16,6 +17,7 @@ pub record ShelfState : Type 0 where
   pub failing : List ℕ  -- the numbers of the fetches that fail
   pub fetches : ℕ  -- how many fetches were counted so far
   pub blamed : Option (List ℕ)  -- the name of the last fetch that failed
+  pub given : Files  -- the names and the bytes of all fetches so far that gave bytes, in order
 
 -- the call of this number is listed
 abbrev pub is_listed : List ℕ → ℕ → Bool
@@ -38,9 +40,28 @@ fails_next s = nat_lt s.fetches last_count && is_listed s.failing (s.fetches + 1
 abbrev pub fetched : ShelfState → List ℕ → Result (List ℕ) FetchError
 fetched s name = if fails_next s then Err Failed else found (content s.files name)
 
+-- what an answer to a fetch of this name adds to what was given
+abbrev pub gifts_of : List ℕ → Result (List ℕ) FetchError → Files
+gifts_of name (Ok bytes) = (name, bytes) ∷ []
+gifts_of name (Err e) = []
+
 -- the shelf after that answer
 abbrev pub after_fetch : ShelfState → List ℕ → ShelfState
-after_fetch s name = record s { fetches = counted s.fetches; blamed = if fails_next s then Some name else s.blamed }
+after_fetch s name = record s {
+  fetches = counted s.fetches;
+  blamed = if fails_next s then Some name else s.blamed;
+  given = s.given ++ gifts_of name (fetched s name);
+}
+
+-- what is seen of the shelf: it tells its files, and counts fetches
+abbrev pub seen_memory : ShelfState → SeenShelf
+seen_memory s = record {
+  holds = Some s.files;
+  given = s.given;
+  faults = failed_fetches s;
+  blamed = s.blamed;
+  fetches = Some s.fetches;
+}
 
 pub record SinkState : Type 0 where
   pub written : List ℕ

@@ -3,6 +3,7 @@
 //! output.
 #![tactic(auto)]
 
+mod given;
 mod memory;
 mod shelf;
 mod system;

@@ -1,24 +1,30 @@
 //! A shelf and a sink in memory, which meet faults where they are listed.
 ghost use Rattle.std.specs.Map.{lookup};
-ghost use Rattle.std.specs.Prelude.{◌≡◌, ◌≢◌, ◌≤◌, ◌==◌, ◌↔◌, ◌++◌, [], take, Err, Some, None, IsOk, IfOk, OnOk, OnErr, option_map};
+ghost use Rattle.std.specs.Prelude.{◌≡◌, ◌≢◌, ◌≤◌, ◌==◌, ◌↔◌, ◌++◌, [], take};
+ghost use Rattle.std.specs.Prelude.{Err, Some, None, IsOk, IfOk, OnOk, OnErr, option_map};
 ghost use Rattle.cap_io.specs.declared.shelf.FetchError.TheVariants.{Failed, OutOfMemory};
-ghost use Rattle.cap_io.specs.Outside.{content, counted, found, plain_answer, Blames, Counts, Measures};
-ghost use Rattle.cap_io.specs.Memory.{files_of, failed_fetches, fails_next, fetched};
+ghost use Rattle.cap_io.specs.Files.{content};
+ghost use Rattle.cap_io.specs.Outside.{counted, found, plain_answer, Gives, Blames, Counts};
+ghost use Rattle.cap_io.specs.Outside.{Measures};
+ghost use Rattle.cap_io.specs.Memory.{files_of, failed_fetches, fails_next, fetched, seen_memory};
 ghost use Rattle.cap_io.specs.Memory.{after_fetch, TakesWhole, taken, fails_after};
 
+use crate::given::Given;
 use crate::shelf::LONGEST;
 use crate::{FetchError, PutFailed, Shelf, Sink};
 use std::alloc::{AllocError, Global};
 use std::marker::Model;
 
 /// Files in memory, with fetches that fail by number. It tells its files. Contracts see it as its
-/// files, the numbers of the fetches that fail, how many fetches were counted, and the blamed name.
+/// files, the numbers of the fetches that fail, how many fetches were counted, the blamed name, and
+/// what fetches gave.
 #[derive(Drop)]
 pub struct MemoryShelf {
     files: Vec<(String, Vec<u8>)>,
     failing: Vec<u64>,
     fetches: u64,
     blamed: Option<String>,
+    given: Given,
 }
 
 impl Model for MemoryShelf {
@@ -27,7 +33,13 @@ impl Model for MemoryShelf {
 
     ghost Value = { ShelfState };
 
-    ghost view = { λ s. record { files = files_of s.files.items; failing = s.failing.items; fetches = s.fetches; blamed = option_map string_bytes s.blamed } };
+    ghost view = { λ s. record {
+      files = files_of s.files.items;
+      failing = s.failing.items;
+      fetches = s.fetches;
+      blamed = option_map string_bytes s.blamed;
+      given = s.given.files;
+    } };
 }
 
 impl MemoryShelf {
@@ -36,9 +48,10 @@ impl MemoryShelf {
     /// the last number, are not counted.
     #[tactic(auto, using(crate::proofs::Listed::listed_zero))]
     pub fn new(files: Vec<(String, Vec<u8>)>, failing: Vec<u64>) -> MemoryShelf
-        ensures files { ⟦<MemoryShelf as Shelf>⟧.holds result ≡ Some (files_of files.items) }
-        ensures faults { ⟦<MemoryShelf as Shelf>⟧.faults result ≡ 0 }
-        ensures blamed { ⟦<MemoryShelf as Shelf>⟧.blamed result ≡ None }
+        ensures files { (⟦<MemoryShelf as Shelf>⟧.seen result).holds ≡ Some (files_of files.items) }
+        ensures given { (⟦<MemoryShelf as Shelf>⟧.seen result).given ≡ [] }
+        ensures faults { (⟦<MemoryShelf as Shelf>⟧.seen result).faults ≡ 0 }
+        ensures blamed { (⟦<MemoryShelf as Shelf>⟧.seen result).blamed ≡ None }
         ensures failing { result.failing ≡ failing.items }
         ensures fetches { result.fetches ≡ 0 }
     {
@@ -47,6 +60,7 @@ impl MemoryShelf {
             failing,
             fetches: 0,
             blamed: None,
+            given: Given::nothing(),
         }
     }
 
@@ -76,6 +90,9 @@ impl MemoryShelf {
             return Err(FetchError::Failed);
         }
         let answer = copied(alloc, find(&self.files, name));
+        if let Ok(bytes) = &answer {
+            self.given = self.given.and(&own_name, bytes);
+        }
         if !matches!(&answer, Err(FetchError::OutOfMemory)) {
             self.fetches = number;
         }
@@ -109,16 +126,10 @@ fn copied(alloc: Global, file: Option<&Vec<u8>>) -> Result<Vec<u8>, FetchError>
 }
 
 impl Shelf for MemoryShelf {
-    ghost use Rattle.std.specs.Prelude.{◌≡◌, [], Some};
-    ghost use Rattle.cap_io.specs.Memory.{failed_fetches};
+    ghost use Rattle.std.specs.Prelude.{◌≡◌, []};
+    ghost use Rattle.cap_io.specs.Memory.{seen_memory};
 
-    ghost holds = { λ s. Some s.files };
-
-    ghost faults = { λ s. failed_fetches s };
-
-    ghost blamed = { λ s. s.blamed };
-
-    ghost fetches = { λ s. Some s.fetches };
+    ghost seen = { λ s. seen_memory s };
 
     ghost never_fails = { λ s. s.failing ≡ [] };
 
@@ -128,11 +139,13 @@ impl Shelf for MemoryShelf {
         ensures out_of_memory { result ≡ Err OutOfMemory → self.new ≡ self.old }
 
         // What every shelf ensures, at this one.
+        ensures given { Gives name.now (seen_memory self.old) (seen_memory self.new) result }
         ensures later { failed_fetches self.old ≤ failed_fetches self.new }
-        ensures blame { Blames name.now (failed_fetches self.old) (failed_fetches self.new) self.old.blamed self.new.blamed result }
-        ensures counts { Counts (Some self.old.fetches) (Some self.new.fetches) result }
-        ensures measure { Measures (Some self.old.files) (failed_fetches self.old) (failed_fetches self.new) result }
-        ensures sure { self.old.failing ≡ [] → (self.new.failing ≡ []) × (failed_fetches self.new ≡ failed_fetches self.old) × (result ≢ Err Failed) }
+        ensures blame { Blames name.now (seen_memory self.old) (seen_memory self.new) result }
+        ensures counts { Counts (seen_memory self.old) (seen_memory self.new) result }
+        ensures measure { Measures (seen_memory self.old) (seen_memory self.new) result }
+        ensures sure { self.old.failing ≡ [] → (self.new.failing ≡ [])
+            × (failed_fetches self.new ≡ failed_fetches self.old) × (result ≢ Err Failed) }
     {
         self.next_fetch(name)
     }
@@ -165,8 +178,8 @@ impl MemorySink {
     /// bytes it takes before; of two pairs of one number the first counts. A put past the room, a
     /// number of bytes, fails after filling it. The room is reserved here, so no put takes memory.
     pub fn new(alloc: Global, failing: Vec<(u64, u64)>, room: u64) -> Result<MemorySink, AllocError>
-        ensures written { IfOk result (λ s. ⟦<MemorySink as Sink>⟧.written s ≡ Some []) }
-        ensures faults { IfOk result (λ s. ⟦<MemorySink as Sink>⟧.faults s ≡ 0) }
+        ensures written { IfOk result (λ s. (⟦<MemorySink as Sink>⟧.seen s).written ≡ Some []) }
+        ensures faults { IfOk result (λ s. (⟦<MemorySink as Sink>⟧.seen s).faults ≡ 0) }
         ensures failing { IfOk result (λ s. s.failing ≡ failing.items) }
         ensures room { IfOk result (λ s. s.room ≡ room) }
         ensures puts { IfOk result (λ s. s.puts ≡ 0) }
@@ -184,7 +197,7 @@ impl MemorySink {
 
     /// All bytes that were written.
     pub fn bytes(&self) -> &[u8]
-        ensures { ⟦<MemorySink as Sink>⟧.written self.now ≡ Some result.now }
+        ensures { (⟦<MemorySink as Sink>⟧.seen self.now).written ≡ Some result.now }
     {
         &self.bytes
     }
@@ -215,9 +228,7 @@ impl Sink for MemorySink {
     ghost use Rattle.std.specs.Prelude.{Some};
     ghost use Rattle.cap_io.specs.Memory.{TakesWhole};
 
-    ghost written = { λ s. Some s.written };
-
-    ghost faults = { λ s. s.failures };
+    ghost seen = { λ s. record { written = Some s.written; faults = s.failures } };
 
     ghost takes = { λ s bytes. TakesWhole s bytes };
 

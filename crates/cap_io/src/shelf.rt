@@ -1,8 +1,9 @@
 //! What a shelf and a sink are: where files are read by name, and what takes the output.
-ghost use Rattle.std.specs.Prelude.{◌≡◌, ◌≢◌, ◌≤◌, List, ℕ, Option, None, Err, IsOk, OnOk, OnErr};
+ghost use Rattle.std.specs.Prelude.{◌≡◌, ◌≢◌, ◌≤◌, List, ℕ, Err, IsOk, OnOk, OnErr};
 ghost use Rattle.cap_io.specs.declared.shelf.FetchError.TheVariants.{Failed, OutOfMemory};
-ghost use Rattle.cap_io.specs.Outside.{Files, FetchAnswers, AnswersAreExact, Blames, Counts, Measures};
-ghost use Rattle.cap_io.specs.Outside.{Gains, GainsPrefix, Rose};
+ghost use Rattle.cap_io.specs.Files.{SeenShelf};
+ghost use Rattle.cap_io.specs.Outside.{FetchAnswers, AnswersAreExact, Gives, Blames, Counts};
+ghost use Rattle.cap_io.specs.Outside.{Measures, SeenSink, Gains, GainsPrefix, Rose};
 
 use std::alloc::{AllocError, AllocFailed};
 use thiserror::Error;
@@ -49,18 +50,10 @@ pub struct PutFailed;
 
 /// Files that are read by name.
 pub trait Shelf {
-    /// The files, where the shelf tells them.
-    ghost holds: { Self → Option Files };
-
-    /// How many faults came so far: a count that never falls, and stands still at 2^64 - 1.
-    ghost faults: { Self → ℕ };
-
-    /// The name whose fetch met the last fault.
-    ghost blamed: { Self → Option (List ℕ) };
-
-    /// How many fetches were answered so far, want of memory aside: a count that stands still at
-    /// 2^64 - 1. A shelf that does not count them leaves this out.
-    ghost fetches: { Self → Option ℕ } = { λ _. None };
+    /// What is seen of the shelf: its files, where it tells them, what fetches gave so far, how many
+    /// faults came so far, the name that met the last one, and how many fetches were answered, want of
+    /// memory aside, where it counts them. The counts stand still at 2^64 - 1.
+    ghost seen: { Self → SeenShelf };
 
     /// No fetch meets a fault, from here on. A shelf that cannot know leaves this out.
     ghost never_fails: { Self → Type 0 } = { λ _. ⊥ };
@@ -72,13 +65,15 @@ pub trait Shelf {
     /// exactly where it has more bytes than that, unless memory is short. A shelf that does not tell
     /// its files never answers `Absent`.
     fn fetch(&mut self, name: &str) -> Result<Vec<u8>, FetchError>
-        ensures kept { holds self.new ≡ holds self.old }
-        ensures answer { FetchAnswers (holds self.old) name.now result }
-        ensures later { faults self.old ≤ faults self.new }
-        ensures blame { Blames name.now (faults self.old) (faults self.new) (blamed self.old) (blamed self.new) result }
-        ensures counts { Counts (fetches self.old) (fetches self.new) result }
-        ensures measure { Measures (holds self.old) (faults self.old) (faults self.new) result }
-        ensures sure { never_fails self.old → never_fails self.new × (faults self.new ≡ faults self.old) × (result ≢ Err Failed) };
+        ensures kept { (seen self.new).holds ≡ (seen self.old).holds }
+        ensures answer { FetchAnswers (seen self.old).holds name.now result }
+        ensures given { Gives name.now (seen self.old) (seen self.new) result }
+        ensures later { (seen self.old).faults ≤ (seen self.new).faults }
+        ensures blame { Blames name.now (seen self.old) (seen self.new) result }
+        ensures counts { Counts (seen self.old) (seen self.new) result }
+        ensures measure { Measures (seen self.old) (seen self.new) result }
+        ensures sure { never_fails self.old → never_fails self.new
+            × ((seen self.new).faults ≡ (seen self.old).faults) × (result ≢ Err Failed) };
 }
 
 /// A law of every shelf that tells its files: where no fault came and memory is not short, a fetch answers
@@ -89,11 +84,9 @@ pub fn answers_are_exact()
 
 /// A place that bytes are written to.
 pub trait Sink {
-    /// The bytes that were written so far, where the sink tells them.
-    ghost written: { Self → Option (List ℕ) };
-
-    /// How many faults came so far: a count that never falls, and stands still at 2^64 - 1.
-    ghost faults: { Self → ℕ };
+    /// What is seen of the sink: the bytes that were written so far, where it tells them, and how many
+    /// faults came so far, a count that stands still at 2^64 - 1.
+    ghost seen: { Self → SeenSink };
 
     /// The next put, of these bytes, does not fail. A sink that cannot know leaves this out.
     ghost takes: { Self → List ℕ → Type 0 } = { λ _ _. ⊥ };
@@ -101,9 +94,11 @@ pub trait Sink {
     /// Appends the bytes: all of them, or, where it fails, the first of them. It fails only where a
     /// fault came in this call.
     fn put(&mut self, bytes: &[u8]) -> Result<(), PutFailed>
-        ensures later { faults self.old ≤ faults self.new }
-        ensures all { OnOk result (Gains (written self.old) (written self.new) bytes.now) }
-        ensures prefix { OnErr result (GainsPrefix (written self.old) (written self.new) bytes.now) }
-        ensures cause { OnErr result (Rose (faults self.old) (faults self.new)) }
+        ensures later { (seen self.old).faults ≤ (seen self.new).faults }
+        ensures all { OnOk result
+            (Gains (seen self.old).written (seen self.new).written bytes.now) }
+        ensures prefix { OnErr result
+            (GainsPrefix (seen self.old).written (seen self.new).written bytes.now) }
+        ensures cause { OnErr result (Rose (seen self.old).faults (seen self.new).faults) }
         ensures sure { takes self.old bytes.now → IsOk result };
 }

@@ -1,5 +1,6 @@
 //! The files of the system as a shelf, and its output as a sink.
-ghost use Rattle.std.specs.Prelude.{◌≡◌, ◌≢◌, ◌↔◌, ◌+◌, ◌≤◌, None, IfOk, IfErr, OnOk, OnErr, length, option_map, string_bytes};
+ghost use Rattle.std.specs.Prelude.{◌≡◌, ◌≢◌, ◌↔◌, ◌+◌, ◌≤◌, [], length, option_map, string_bytes};
+ghost use Rattle.std.specs.Prelude.{None, IfOk, IfErr, OnOk, OnErr};
 ghost use Rattle.std.specs.Io.{ReadsAtMost, WritesAtMost};
 ghost use Rattle.std.specs.Io.KnownBytes.{ReadConsumes, WriteAppends, Consumes, IsAtEnd};
 ghost use Rattle.std.specs.IoError.{error_kind};
@@ -7,6 +8,7 @@ ghost use Rattle.cap_io.specs.declared.shelf.FetchError.TheVariants.{Failed, Out
 ghost use Rattle.cap_io.specs.Outside.{longest, Gains, GainsPrefix};
 ghost use Rattle.cap_io.specs.Reading.{IsReadError};
 
+use crate::given::Given;
 use crate::shelf::LONGEST;
 use crate::{FetchError, PutFailed, Shelf, Sink};
 use std::alloc::Global;
@@ -27,20 +29,23 @@ pub struct FileShelf<'a, R: Files> {
     alloc: Global,
     faults: u64,
     blamed: Option<String>,
+    given: Given,
 }
 
 impl<'a, R: Files> FileShelf<'a, R> {
     /// The shelf of the files that the runtime reaches.
     pub fn new(alloc: Global, rt: &'a R) -> FileShelf<'a, R>
-        ensures holds { ⟦<FileShelf<'a, R> as Shelf>⟧.holds result ≡ None }
-        ensures faults { ⟦<FileShelf<'a, R> as Shelf>⟧.faults result ≡ 0 }
-        ensures blamed { ⟦<FileShelf<'a, R> as Shelf>⟧.blamed result ≡ None }
+        ensures holds { (⟦<FileShelf<'a, R> as Shelf>⟧.seen result).holds ≡ None }
+        ensures given { (⟦<FileShelf<'a, R> as Shelf>⟧.seen result).given ≡ [] }
+        ensures faults { (⟦<FileShelf<'a, R> as Shelf>⟧.seen result).faults ≡ 0 }
+        ensures blamed { (⟦<FileShelf<'a, R> as Shelf>⟧.seen result).blamed ≡ None }
     {
         FileShelf {
             rt,
             alloc,
             faults: 0,
             blamed: None,
+            given: Given::nothing(),
         }
     }
 }
@@ -127,16 +132,21 @@ fn read_file<R: Files>(alloc: Global, rt: &R, path: &str) -> Result<Vec<u8>, Fet
 }
 
 impl<'a, R: Files> Shelf for FileShelf<'a, R> {
-    ghost holds = { λ _. None };
-
-    ghost faults = { λ s. s.faults };
-
-    ghost blamed = { λ s. option_map string_bytes s.blamed };
+    ghost seen = { λ s. record {
+      holds = None;
+      given = s.given.files;
+      faults = s.faults;
+      blamed = option_map string_bytes s.blamed;
+      fetches = None;
+    } };
 
     fn fetch(&mut self, name: &str) -> Result<Vec<u8>, FetchError> {
         let own_name = String::from_str(self.alloc, name)?;
         match read_file(self.alloc, self.rt, name) {
-            Ok(bytes) => Ok(bytes),
+            Ok(bytes) => {
+                self.given = self.given.and(&own_name, &bytes);
+                Ok(bytes)
+            }
             Err(FetchError::TooLong(seen)) => Err(FetchError::TooLong(seen)),
             Err(FetchError::OutOfMemory) => Err(FetchError::OutOfMemory),
             Err(FetchError::Failed | FetchError::Absent) => {
@@ -158,8 +168,8 @@ pub struct StdSink<W: Write> {
 impl<W: Write> StdSink<W> {
     /// The sink of this writer. What it holds already counts as written.
     pub fn new(out: W) -> StdSink<W>
-        ensures written { ⟦<StdSink<W> as Sink>⟧.written result ≡ W.contents out }
-        ensures faults { ⟦<StdSink<W> as Sink>⟧.faults result ≡ 0 }
+        ensures written { (⟦<StdSink<W> as Sink>⟧.seen result).written ≡ W.contents out }
+        ensures faults { (⟦<StdSink<W> as Sink>⟧.seen result).faults ≡ 0 }
     {
         StdSink { out, failures: 0 }
     }
@@ -197,9 +207,7 @@ fn write_bytes<W: Write>(out: &mut W, bytes: &[u8]) -> io::Result<()>
 }
 
 impl<W: Write> Sink for StdSink<W> {
-    ghost written = { λ s. W.contents s.out };
-
-    ghost faults = { λ s. s.failures };
+    ghost seen = { λ s. record { written = W.contents s.out; faults = s.failures } };
 
     fn put(&mut self, bytes: &[u8]) -> Result<(), PutFailed> {
         match write_bytes(&mut self.out, bytes) {

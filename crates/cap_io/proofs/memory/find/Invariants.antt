@@ -1,7 +1,7 @@
 -- The name has the same content in the rest as in the whole.
 use Rattle.std.proofs.Common.{◌≡◌, length}
 use Rattle.cap_io.specs.Memory.{files_of}
-use Rattle.cap_io.specs.Outside.{content}
+use Rattle.cap_io.specs.Files.{content}
 use Rattle.cap_io.proofs.memory.find.Given as goal
 
 abbrev pub invariant-loop-file : goal.invariant-loop-file
