@@ -1,6 +1,7 @@
 -- What a run promises, by what was found and put.
 use Rattle.std.proofs.Common.{◌≡◌, ◌≢◌, ℕ, ◌≤◌, ◌⊎◌, inl, inr, Bool, true, false, List, [], ◌∷◌, length, Option, Some, None, IfSome, Result, Ok, Err, refl, sym, ap, ◌∙◌, subst, arith}
-use Rattle.cap_io.specs.Outside.{Files, content, longest, Rose, Gains}
+use Rattle.cap_io.specs.Files.{Files, content, SeenShelf}
+use Rattle.cap_io.specs.Outside.{SeenSink, longest, Rose, Gains}
 use Rattle.cap_parse_tree.specs.Tree.{ProgramTree}
 use Rattle.cap_parse_tree.specs.Canonical.{canonical_text}
 use Rattle.cap_parse_tree.specs.Texts.{Spells}
@@ -19,9 +20,10 @@ use Rattle.cap_top_commands.specs.Answers.{Fetched, held, unread, long, After, S
 use Rattle.cap_top_report.specs.Report.{report_text, is_good}
 use Rattle.cap_top_commands.specs.Task.{Task, verify, derive, check, show, replay, files_of}
 use Rattle.cap_top_commands.specs.Output.{Output, usage_output, unreadable_output, long_output, refusal_output, report_output, derivation_output, long_derivation_output, bad_derivation_output, judged_output, judged_status, tree_output, schedule_output, run_output, report_status, end_status}
-use Rattle.cap_top.specs.Reads.{IsFetched, AreFetched, given_by, AreGiven}
+use Rattle.cap_top.specs.Reads.{IsFetched, AreFetched, AreRead, given_by, AreGiven}
 use Rattle.cap_top.specs.Run.{IsSaid, IsRun}
-use Rattle.cap_top.specs.Promise.{VerifiesFile, DerivesFile, ChecksFiles, IsShownAs, ShowsFile, EndsRun, ReplaysFiles, Ends, Says, AnswersFiles, HoldsGood, HoldAccepted, HoldsTree, IsTextFor, Refuses, IsOneOf, ReadFails}
+use Rattle.cap_top.specs.Verified.{IsRead, VerifiesFile}
+use Rattle.cap_top.specs.Promise.{AreBothRead, ProvesFile, DerivesFile, ChecksFiles, IsShownAs, ShowsFile, EndsRun, ReplaysFiles, Ends, NoFault, Says, AnswersFiles, HoldsGood, HoldAccepted, HoldsTree, IsTextFor, Refuses, IsOneOf, ReadFails}
 use Rattle.cap_top.proofs.Reading.{held-given, agree-given, first-given, given-held, given-unread}
 
 -- ---- the statuses of outputs
@@ -101,18 +103,18 @@ after_ended IsSaid f name (held bytes) o h = inl (f bytes o h)
 after_ended IsSaid f name unread o h = inr (same_status o (unreadable_output name) h, refl)
 after_ended IsSaid f name long o h = inl (answer_as o long_output h tt)
 
-module _ (told : Option Files) (reads reads_now : ℕ) (blamed : Option (List ℕ)) where
+module _ (shelf shelf_now : SeenShelf) where
   -- an answer, or a fault of reading
   abbrev IsSettled : Option Task → Status → Type 0
-  IsSettled task s = IsAnswer s ⊎ ((s ≡ ReadFault) × ReadFails told task reads reads_now blamed)
+  IsSettled task s = IsAnswer s ⊎ ((s ≡ ReadFault) × ReadFails task shelf shelf_now)
 
   settled_by : (task : Option Task) (name : List ℕ) (x : Fetched) (s : Status) → IsOneOf name (files_of task)
-      → IsFetched told reads reads_now blamed name x → IsEnded x s → IsSettled task s
+      → IsFetched shelf shelf_now name x → IsEnded x s → IsSettled task s
   settled_by task name x s i f (inl a) = inl a
   settled_by task name x s i f (inr r) =
-      inr (r.0, (name, i, subst (IsFetched told reads reads_now blamed name) r.1 f))
+      inr (r.0, (name, i, subst (IsFetched shelf shelf_now name) r.1 f))
 
-  settled : (t : Task) (got : List Fetched) (o : Output) → AreFetched told reads reads_now blamed (files_of (Some t)) got
+  settled : (t : Task) (got : List Fetched) (o : Output) → AreFetched shelf shelf_now (files_of (Some t)) got
       → IsOutput (Some t) got o → IsSettled (Some t) o.status
   settled (verify name budget) (x ∷ []) o f h =
       settled_by (Some (verify name budget)) name x o.status (inl refl) f.0 (after_ended (IsVerified budget) (verified_answers budget) name x o h)
@@ -147,7 +149,7 @@ module _ (told : Option Files) (reads reads_now : ℕ) (blamed : Option (List �
   IsFinal None s = s ≡ Usage
   IsFinal (Some t) s = IsSettled (Some t) s
 
-  final : (task : Option Task) (got : List Fetched) (o : Output) → AreFetched told reads reads_now blamed (files_of task) got
+  final : (task : Option Task) (got : List Fetched) (o : Output) → AreFetched shelf shelf_now (files_of task) got
       → IsOutput task got o → IsFinal task o.status
   final None [] o f h = same_status o usage_output h
   final None (x ∷ xs) o f h = absurd h
@@ -158,7 +160,7 @@ module _ (told : Option Files) (reads reads_now : ℕ) (blamed : Option (List �
   final_usage (Some t) s (inl a) e = absurd (subst IsAnswer e a)
   final_usage (Some t) s (inr r) e = let g : ReadFault ≡ Usage = sym r.0 ∙ e in absurd cc
 
-  final_read : (task : Option Task) (s : Status) → IsFinal task s → s ≡ ReadFault → ReadFails told task reads reads_now blamed
+  final_read : (task : Option Task) (s : Status) → IsFinal task s → s ≡ ReadFault → ReadFails task shelf shelf_now
   final_read None s h e = let g : Usage ≡ ReadFault = sym h ∙ e in absurd cc
   final_read (Some t) s (inl a) e = absurd (subst IsAnswer e a)
   final_read (Some t) s (inr r) e = r.1
@@ -179,22 +181,26 @@ bad_good : (b : Bool) → b ≡ false → report_status b ≡ Good → ⊥
 bad_good false e f = cc
 bad_good true e f = cc
 
-module _ (told : Option Files) (reads reads_now : ℕ) (blamed : Option (List ℕ)) (name : List ℕ) (o : Output) where
-  good_by : GoodAnswersAreSafe → (budget : ℕ) (got : List Fetched) → AreFetched told reads reads_now blamed (name ∷ []) got
-      → IsOutput (Some (verify name budget)) got o → o.status ≡ Good → VerifiesFile told budget name
-  good_by safe budget (held bytes ∷ []) f h e = record { bytes = bytes; held = f.0.1; good = safe budget bytes o h e }
+module _ (shelf shelf_now : SeenShelf) (name : List ℕ) (o : Output) where
+  -- one file was read
+  read-one : (bytes : List ℕ) → AreRead shelf shelf_now (name ∷ []) (held bytes ∷ []) → IsRead shelf shelf_now name bytes
+  read-one bytes f = record { given = f.given; held = f.fetched.0.1 }
+
+  good_by : GoodAnswersAreSafe → (budget : ℕ) (got : List Fetched) → AreRead shelf shelf_now (name ∷ []) got
+      → IsOutput (Some (verify name budget)) got o → o.status ≡ Good → ProvesFile shelf shelf_now budget name
+  good_by safe budget (held bytes ∷ []) f h e = record { bytes = bytes; read = read-one bytes f; good = safe budget bytes o h e }
   good_by safe budget (unread ∷ []) f h e =
       let g : ReadFault ≡ Good = sym (same_status o (unreadable_output name) h) ∙ e in absurd cc
   good_by safe budget (long ∷ []) f h e = let g : Refused ≡ Good = sym (same_status o long_output h) ∙ e in absurd cc
   good_by safe budget [] f h e = absurd h
   good_by safe budget (x ∷ (y ∷ ys)) f h e = absurd h
 
-  derived_bytes : DerivedAreAccepted → (budget : ℕ) (written gained : Option (List ℕ)) (bytes : List ℕ)
-      → IfSome told (λ files. content files name ≡ Some bytes) → IsDerived budget bytes o → o.status ≡ Good
-      → Gains written gained o.text → DerivesFile told budget name written gained
-  derived_bytes accepts budget written gained bytes c (inl k) e g =
+  derived_bytes : DerivedAreAccepted → (budget : ℕ) (sink sink_now : SeenSink) (bytes : List ℕ)
+      → IsRead shelf shelf_now name bytes → IsDerived budget bytes o → o.status ≡ Good
+      → Gains sink.written sink_now.written o.text → DerivesFile shelf shelf_now budget name sink sink_now
+  derived_bytes accepts budget sink sink_now bytes c (inl k) e g =
       let f : Refused ≡ Good = sym (same_status o (refusal_output k.cause) k.whole) ∙ e in absurd cc
-  derived_bytes accepts budget written gained bytes c (inr s) e g = by s.said
+  derived_bytes accepts budget sink sink_now bytes c (inr s) e g = by s.said
     where
       lines_proved : IsDerivation budget s.thing o → is_good s.thing budget ≡ true
       lines_proved (inl k) =
@@ -210,73 +216,90 @@ module _ (told : Option Files) (reads reads_now : ℕ) (blamed : Option (List �
       lines_whole (inr (inl k)) = let f : Bad ≡ Good = sym (same_status o long_derivation_output k.whole) ∙ e in absurd cc
       lines_whole (inr (inr k)) = same_text o (derivation_output (derivation_text (found_trees s.thing budget))) k.whole
 
-      by : IsDerivation budget s.thing o → DerivesFile told budget name written gained
+      lines_short : IsDerivation budget s.thing o → length o.text ≤ longest
+      lines_short (inl k) =
+          absurd (bad_good (is_good s.thing budget) k.bad
+          (sym (same_status o (report_output (is_good s.thing budget) (report_text s.thing budget)) k.report) ∙ e))
+      lines_short (inr (inl k)) = let f : Bad ≡ Good = sym (same_status o long_derivation_output k.whole) ∙ e in absurd cc
+      lines_short (inr (inr k)) =
+          subst (λ t. length t ≤ longest)
+          (sym (same_text o (derivation_output (derivation_text (found_trees s.thing budget))) k.whole)) k.short.bytes
+
+      by : IsDerivation budget s.thing o → DerivesFile shelf shelf_now budget name sink sink_now
       by d = record {
         bytes = bytes;
-        held = c;
+        read = c;
         program = s.thing;
         text_of_it = s.is_so;
         proved = lines_proved d;
         lines = o.text;
         whole = lines_whole d;
+        short = lines_short d;
         accepted = accepts budget bytes s.thing o s.is_so d e;
         gains = g;
       }
 
-  derived_by : DerivedAreAccepted → (budget : ℕ) (written gained : Option (List ℕ)) (got : List Fetched)
-      → AreFetched told reads reads_now blamed (name ∷ []) got
+  derived_by : DerivedAreAccepted → (budget : ℕ) (sink sink_now : SeenSink) (got : List Fetched)
+      → AreRead shelf shelf_now (name ∷ []) got
       → IsOutput (Some (derive name budget)) got o → o.status ≡ Good
-      → Gains written gained o.text → DerivesFile told budget name written gained
-  derived_by accepts budget written gained (held bytes ∷ []) f h e g = derived_bytes accepts budget written gained bytes f.0.1 h e g
-  derived_by accepts budget written gained (unread ∷ []) f h e g =
+      → Gains sink.written sink_now.written o.text → DerivesFile shelf shelf_now budget name sink sink_now
+  derived_by accepts budget sink sink_now (held bytes ∷ []) f h e g = derived_bytes accepts budget sink sink_now bytes (read-one bytes f) h e g
+  derived_by accepts budget sink sink_now (unread ∷ []) f h e g =
       let k : ReadFault ≡ Good = sym (same_status o (unreadable_output name) h) ∙ e in absurd cc
-  derived_by accepts budget written gained (long ∷ []) f h e g =
+  derived_by accepts budget sink sink_now (long ∷ []) f h e g =
       let k : Refused ≡ Good = sym (same_status o long_output h) ∙ e in absurd cc
-  derived_by accepts budget written gained [] f h e g = absurd h
-  derived_by accepts budget written gained (x ∷ (y ∷ ys)) f h e g = absurd h
+  derived_by accepts budget sink sink_now [] f h e g = absurd h
+  derived_by accepts budget sink sink_now (x ∷ (y ∷ ys)) f h e g = absurd h
 
   shown_bytes : (bytes : List ℕ) → IsShown bytes o → o.status ≡ Good → IsShownAs bytes o.text
   shown_bytes bytes (inl c) e = let g : Refused ≡ Good = sym (same_status o (refusal_output c.cause) c.whole) ∙ e in absurd cc
   shown_bytes bytes (inr s) e =
       record { tree = s.thing; spelled = s.is_so; canonical = same_text o (tree_output (canonical_text s.thing)) s.said }
 
-  shown_by : (written gained : Option (List ℕ)) → (got : List Fetched)
-      → AreFetched told reads reads_now blamed (name ∷ []) got
+  shown_by : (sink sink_now : SeenSink) → (got : List Fetched)
+      → AreRead shelf shelf_now (name ∷ []) got
       → IsOutput (Some (show name)) got o → o.status ≡ Good
-      → Gains written gained o.text → ShowsFile told name written gained
-  shown_by written gained (held bytes ∷ []) f h e g =
-      record { bytes = bytes; held = f.0.1; text = o.text; shown = shown_bytes bytes h e; gains = g }
-  shown_by written gained (unread ∷ []) f h e g =
+      → Gains sink.written sink_now.written o.text → ShowsFile shelf shelf_now name sink sink_now
+  shown_by sink sink_now (held bytes ∷ []) f h e g =
+      record { bytes = bytes; read = read-one bytes f; text = o.text; shown = shown_bytes bytes h e; gains = g }
+  shown_by sink sink_now (unread ∷ []) f h e g =
       let k : ReadFault ≡ Good = sym (same_status o (unreadable_output name) h) ∙ e in absurd cc
-  shown_by written gained (long ∷ []) f h e g = let k : Refused ≡ Good = sym (same_status o long_output h) ∙ e in absurd cc
-  shown_by written gained [] f h e g = absurd h
-  shown_by written gained (x ∷ (y ∷ ys)) f h e g = absurd h
+  shown_by sink sink_now (long ∷ []) f h e g = let k : Refused ≡ Good = sym (same_status o long_output h) ∙ e in absurd cc
+  shown_by sink sink_now [] f h e g = absurd h
+  shown_by sink sink_now (x ∷ (y ∷ ys)) f h e g = absurd h
 
 -- ---- derivations that are judged
 
-module _ (told : Option Files) (reads reads_now : ℕ) (blamed : Option (List ℕ)) (file derivation : List ℕ) (o : Output) where
-  accepted_late : AcceptedAreSafe → (bytes : List ℕ) (p : PlainProgram) (y : Fetched)
-      → IfSome told (λ files. content files file ≡ Some bytes) → IsTextOf bytes p
-      → IsFetched told reads reads_now blamed derivation y → After derivation y (IsChecked p) o → o.status ≡ Good
-      → ChecksFiles told file derivation
-  accepted_late safe bytes p (held lines) c t f h e = record {
+module _ (shelf shelf_now : SeenShelf) (file second : List ℕ) where
+  -- the first file gave these bytes, by which the second was read, and gave those
+  both-read : (bytes more : List ℕ) (x : Fetched) → x ≡ held bytes
+      → AreRead shelf shelf_now (file ∷ (second ∷ [])) (x ∷ (held more ∷ []))
+      → AreBothRead shelf shelf_now file bytes second more
+  both-read bytes more x e f =
+      let g : AreRead shelf shelf_now (file ∷ (second ∷ [])) (held bytes ∷ (held more ∷ [])) =
+      subst (λ y. AreRead shelf shelf_now (file ∷ (second ∷ [])) (y ∷ (held more ∷ []))) e f in
+      record { given = g.given; held = g.fetched.0.1; second_held = g.fetched.1.0.1 }
+
+module _ (shelf shelf_now : SeenShelf) (file derivation : List ℕ) (o : Output) where
+  accepted_late : AcceptedAreSafe → (bytes : List ℕ) (p : PlainProgram) (x y : Fetched) → x ≡ held bytes
+      → IsTextOf bytes p → AreRead shelf shelf_now (file ∷ (derivation ∷ [])) (x ∷ (y ∷ []))
+      → After derivation y (IsChecked p) o → o.status ≡ Good
+      → ChecksFiles shelf shelf_now file derivation
+  accepted_late safe bytes p x (held lines) gave t f h e = record {
     bytes = bytes;
-    held = c;
     lines = lines;
-    lines_held = f.1;
+    read = both-read shelf shelf_now file derivation bytes lines x gave f;
     accepted = safe bytes lines p o t h e;
   }
-  accepted_late safe bytes p unread c t f h e =
+  accepted_late safe bytes p x unread gave t f h e =
       let g : ReadFault ≡ Good = sym (same_status o (unreadable_output derivation) h) ∙ e in absurd cc
-  accepted_late safe bytes p long c t f h e =
+  accepted_late safe bytes p x long gave t f h e =
       let g : Refused ≡ Good = sym (same_status o long_output h) ∙ e in absurd cc
 
-  accepted_by : AcceptedAreSafe → (got : List Fetched) → AreFetched told reads reads_now blamed (file ∷ (derivation ∷ [])) got
-      → IsOutput (Some (check file derivation)) got o → o.status ≡ Good → ChecksFiles told file derivation
+  accepted_by : AcceptedAreSafe → (got : List Fetched) → AreRead shelf shelf_now (file ∷ (derivation ∷ [])) got
+      → IsOutput (Some (check file derivation)) got o → o.status ≡ Good → ChecksFiles shelf shelf_now file derivation
   accepted_by safe (x ∷ (y ∷ [])) f h e =
-      let first : IsFetched told reads reads_now blamed file (held h.bytes) =
-      subst (IsFetched told reads reads_now blamed file) h.gave f.0 in
-      accepted_late safe h.bytes h.program y first.1 h.text_of_it f.1.0 h.said e
+      accepted_late safe h.bytes h.program x y h.gave h.text_of_it f h.said e
   accepted_by safe (held bytes ∷ []) f h e =
       let g : Refused ≡ Good = sym (same_status o (refusal_output h.cause) h.whole) ∙ e in absurd cc
   accepted_by safe (unread ∷ []) f h e =
@@ -287,39 +310,36 @@ module _ (told : Option Files) (reads reads_now : ℕ) (blamed : Option (List �
 
 -- ---- replays
 
-module _ (told : Option Files) (reads reads_now : ℕ) (blamed written gained : Option (List ℕ)) (file schedule : List ℕ) where
+module _ (shelf shelf_now : SeenShelf) (sink sink_now : SeenSink) (file schedule : List ℕ) where
   no_run : (o p : Output) → o ≡ p → EndsRun o.status → EndsRun p.status
   no_run o p e r = subst EndsRun (same_status o p e) r
 
-  played_by : (bytes : List ℕ) (p : PlainProgram) (y : Fetched) (o : Output)
-      → IfSome told (λ files. content files file ≡ Some bytes) → IsTextOf bytes p
-      → IsFetched told reads reads_now blamed schedule y → After schedule y (IsPlayed p) o
-      → EndsRun o.status → Gains written gained o.text
-      → ReplaysFiles told file schedule written gained o.status
-  played_by bytes p (held entries) o c t f (inr k) r g = record {
+  played_by : (bytes : List ℕ) (p : PlainProgram) (x y : Fetched) (o : Output) → x ≡ held bytes
+      → IsTextOf bytes p → AreRead shelf shelf_now (file ∷ (schedule ∷ [])) (x ∷ (y ∷ []))
+      → After schedule y (IsPlayed p) o
+      → EndsRun o.status → Gains sink.written sink_now.written o.text
+      → ReplaysFiles shelf shelf_now file schedule sink sink_now o.status
+  played_by bytes p x (held entries) o gave t f (inr k) r g = record {
     bytes = bytes;
-    held = c;
+    entries = entries;
+    read = both-read shelf shelf_now file schedule bytes entries x gave f;
     program = p;
     text_of_it = t;
-    entries = entries;
-    entries_held = f.1;
     text = k.text;
     end = k.end;
     played = k.played;
     ended = same_status o (run_output k.text k.end) k.whole;
-    gains = subst (Gains written gained) (same_text o (run_output k.text k.end) k.whole) g;
+    gains = subst (Gains sink.written sink_now.written) (same_text o (run_output k.text k.end) k.whole) g;
   }
-  played_by bytes p (held entries) o c t f (inl k) r g = absurd (no_run o (schedule_output k.error) k.whole r)
-  played_by bytes p unread o c t f h r g = absurd (no_run o (unreadable_output schedule) h r)
-  played_by bytes p long o c t f h r g = absurd (no_run o long_output h r)
+  played_by bytes p x (held entries) o gave t f (inl k) r g = absurd (no_run o (schedule_output k.error) k.whole r)
+  played_by bytes p x unread o gave t f h r g = absurd (no_run o (unreadable_output schedule) h r)
+  played_by bytes p x long o gave t f h r g = absurd (no_run o long_output h r)
 
-  replays_by : (got : List Fetched) (o : Output) → AreFetched told reads reads_now blamed (file ∷ (schedule ∷ [])) got
-      → IsOutput (Some (replay file schedule)) got o → EndsRun o.status → Gains written gained o.text
-      → ReplaysFiles told file schedule written gained o.status
+  replays_by : (got : List Fetched) (o : Output) → AreRead shelf shelf_now (file ∷ (schedule ∷ [])) got
+      → IsOutput (Some (replay file schedule)) got o → EndsRun o.status → Gains sink.written sink_now.written o.text
+      → ReplaysFiles shelf shelf_now file schedule sink sink_now o.status
   replays_by (x ∷ (y ∷ [])) o f h r g =
-      let first : IsFetched told reads reads_now blamed file (held h.bytes) =
-      subst (IsFetched told reads reads_now blamed file) h.gave f.0 in
-      played_by h.bytes h.program y o first.1 h.text_of_it f.1.0 h.said r g
+      played_by h.bytes h.program x y o h.gave h.text_of_it f h.said r g
   replays_by (held bytes ∷ []) o f h r g = absurd (no_run o (refusal_output h.cause) h.whole r)
   replays_by (unread ∷ []) o f h r g = absurd (no_run o (unreadable_output file) h r)
   replays_by (long ∷ []) o f h r g = absurd (no_run o long_output h r)
@@ -328,88 +348,96 @@ module _ (told : Option Files) (reads reads_now : ℕ) (blamed written gained : 
 
 -- ---- the whole run
 
-module _ (told : Option Files) (task : Option Task) (reads reads_now : ℕ) (blamed : Option (List ℕ))
-    (fetches fetches_now : Option ℕ) (written gained : Option (List ℕ))
-    (writes writes_now : ℕ) (status : Status)
-    (run : IsRun told task reads reads_now blamed fetches fetches_now written gained writes writes_now status) where
+module _ (task : Option Task) (shelf shelf_now : SeenShelf) (sink sink_now : SeenSink) (status : Status)
+    (run : IsRun task shelf shelf_now sink sink_now status) where
   abbrev Runs : Type 0
-  Runs = IsRun told task reads reads_now blamed fetches fetches_now written gained writes writes_now status
+  Runs = IsRun task shelf shelf_now sink sink_now status
 
-  ended_as : (o : Output) → IsSaid told task reads reads_now blamed fetches fetches_now o → IsFinal told reads reads_now blamed task o.status
-  ended_as o said = final told reads reads_now blamed task said.got o said.fetched said.output.said
+  ended_as : (o : Output) → IsSaid shelf shelf_now task o → IsFinal shelf shelf_now task o.status
+  ended_as o said = final shelf shelf_now task said.got o said.read.fetched said.output.said
 
-  pub good_run : GoodAnswersAreSafe → (name : List ℕ) (budget : ℕ) → task ≡ Some (verify name budget) → status ≡ Good → VerifiesFile told budget name
-  good_run safe name budget t e = by run
+  pub found_run : GoodAnswersAreSafe → (name : List ℕ) (budget : ℕ) → task ≡ Some (verify name budget) → status ≡ Good → ProvesFile shelf shelf_now budget name
+  found_run safe name budget t e = by run
     where
-      by : Runs → VerifiesFile told budget name
+      by : Runs → ProvesFile shelf shelf_now budget name
       by (inr m) = let f : NoMemory ≡ Good = sym m.0 ∙ e in absurd cc
       by (inl (o, said, inl p)) =
-          good_by told reads reads_now blamed name o safe budget said.got
-          (subst (λ x. AreFetched told reads reads_now blamed (files_of x) said.got) t said.fetched)
+          good_by shelf shelf_now name o safe budget said.got
+          (subst (λ x. AreRead shelf shelf_now (files_of x) said.got) t said.read)
           (subst (λ x. IsOutput x said.got o) t said.output.said) (sym p.0 ∙ e)
       by (inl (o, said, inr p)) = let f : WriteFault ≡ Good = sym p.0 ∙ e in absurd cc
 
+  pub good_run : GoodAnswersAreSafe → (name : List ℕ) (budget : ℕ) → task ≡ Some (verify name budget) → status ≡ Good
+      → VerifiesFile shelf shelf_now name
+  good_run safe name budget t e =
+      let f : ProvesFile shelf shelf_now budget name = found_run safe name budget t e in
+      record {
+        bytes = f.bytes;
+        read = record { given = f.read.given; held = f.read.held };
+        safe = f.good.text;
+      }
+
   pub derived_run : DerivedAreAccepted → (name : List ℕ) (budget : ℕ) → task ≡ Some (derive name budget) → status ≡ Good
-      → DerivesFile told budget name written gained
+      → DerivesFile shelf shelf_now budget name sink sink_now
   derived_run accepts name budget t e = by run
     where
-      by : Runs → DerivesFile told budget name written gained
+      by : Runs → DerivesFile shelf shelf_now budget name sink sink_now
       by (inr m) = let f : NoMemory ≡ Good = sym m.0 ∙ e in absurd cc
       by (inl (o, said, inl p)) =
-          derived_by told reads reads_now blamed name o accepts budget written gained said.got
-          (subst (λ x. AreFetched told reads reads_now blamed (files_of x) said.got) t said.fetched)
+          derived_by shelf shelf_now name o accepts budget sink sink_now said.got
+          (subst (λ x. AreRead shelf shelf_now (files_of x) said.got) t said.read)
           (subst (λ x. IsOutput x said.got o) t said.output.said) (sym p.0 ∙ e) p.1
       by (inl (o, said, inr p)) = let f : WriteFault ≡ Good = sym p.0 ∙ e in absurd cc
 
   pub accepted_run : AcceptedAreSafe → (file derivation : List ℕ) → task ≡ Some (check file derivation) → status ≡ Good
-      → ChecksFiles told file derivation
+      → ChecksFiles shelf shelf_now file derivation
   accepted_run safe file derivation t e = by run
     where
-      by : Runs → ChecksFiles told file derivation
+      by : Runs → ChecksFiles shelf shelf_now file derivation
       by (inr m) = let f : NoMemory ≡ Good = sym m.0 ∙ e in absurd cc
       by (inl (o, said, inl p)) =
-          accepted_by told reads reads_now blamed file derivation o safe said.got
-          (subst (λ x. AreFetched told reads reads_now blamed (files_of x) said.got) t said.fetched)
+          accepted_by shelf shelf_now file derivation o safe said.got
+          (subst (λ x. AreRead shelf shelf_now (files_of x) said.got) t said.read)
           (subst (λ x. IsOutput x said.got o) t said.output.said) (sym p.0 ∙ e)
       by (inl (o, said, inr p)) = let f : WriteFault ≡ Good = sym p.0 ∙ e in absurd cc
 
-  pub shown_run : (name : List ℕ) → task ≡ Some (show name) → status ≡ Good → ShowsFile told name written gained
+  pub shown_run : (name : List ℕ) → task ≡ Some (show name) → status ≡ Good → ShowsFile shelf shelf_now name sink sink_now
   shown_run name t e = by run
     where
-      by : Runs → ShowsFile told name written gained
+      by : Runs → ShowsFile shelf shelf_now name sink sink_now
       by (inr m) = let f : NoMemory ≡ Good = sym m.0 ∙ e in absurd cc
       by (inl (o, said, inl p)) =
-          shown_by told reads reads_now blamed name o written gained said.got
-          (subst (λ x. AreFetched told reads reads_now blamed (files_of x) said.got) t said.fetched)
+          shown_by shelf shelf_now name o sink sink_now said.got
+          (subst (λ x. AreRead shelf shelf_now (files_of x) said.got) t said.read)
           (subst (λ x. IsOutput x said.got o) t said.output.said) (sym p.0 ∙ e) p.1
       by (inl (o, said, inr p)) = let f : WriteFault ≡ Good = sym p.0 ∙ e in absurd cc
 
   pub replayed_run : (file schedule : List ℕ) → task ≡ Some (replay file schedule) → EndsRun status
-      → ReplaysFiles told file schedule written gained status
+      → ReplaysFiles shelf shelf_now file schedule sink sink_now status
   replayed_run file schedule t r = by run
     where
-      by : Runs → ReplaysFiles told file schedule written gained status
+      by : Runs → ReplaysFiles shelf shelf_now file schedule sink sink_now status
       by (inr m) = absurd (subst EndsRun m.0 r)
       by (inl (o, said, inl p)) =
-          subst (ReplaysFiles told file schedule written gained) (sym p.0)
-          (replays_by told reads reads_now blamed written gained file schedule said.got o
-          (subst (λ x. AreFetched told reads reads_now blamed (files_of x) said.got) t said.fetched)
+          subst (ReplaysFiles shelf shelf_now file schedule sink sink_now) (sym p.0)
+          (replays_by shelf shelf_now sink sink_now file schedule said.got o
+          (subst (λ x. AreRead shelf shelf_now (files_of x) said.got) t said.read)
           (subst (λ x. IsOutput x said.got o) t said.output.said) (subst EndsRun p.0 r) p.1)
       by (inl (o, said, inr p)) = absurd (subst EndsRun p.0 r)
 
-  pub ends_run : Ends told task reads reads_now blamed fetches fetches_now written gained writes writes_now status
+  pub ends_run : Ends task shelf shelf_now sink sink_now status
   ends_run = by run
     where
-      by : Runs → Ends told task reads reads_now blamed fetches fetches_now written gained writes writes_now status
+      by : Runs → Ends task shelf shelf_now sink sink_now status
       by (inr m) = inr m
-      by (inl (o, said, p)) = inl (said.got, said.fetched, said.counted, (o, said.output.said, p))
+      by (inl (o, said, p)) = inl (said.got, said.read, (o, said.output.said, p))
 
   pub usage_run : status ≡ Usage → task ≡ None
   usage_run e = by run
     where
       by : Runs → task ≡ None
       by (inr m) = let f : NoMemory ≡ Usage = sym m.0 ∙ e in absurd cc
-      by (inl (o, said, inl p)) = final_usage told reads reads_now blamed task o.status (ended_as o said) (sym p.0 ∙ e)
+      by (inl (o, said, inl p)) = final_usage shelf shelf_now task o.status (ended_as o said) (sym p.0 ∙ e)
       by (inl (o, said, inr p)) = let f : WriteFault ≡ Usage = sym p.0 ∙ e in absurd cc
 
   pub command_run : task ≡ None → (status ≡ Usage) ⊎ ((status ≡ WriteFault) ⊎ (status ≡ NoMemory))
@@ -418,51 +446,50 @@ module _ (told : Option Files) (task : Option Task) (reads reads_now : ℕ) (bla
       by : Runs → (status ≡ Usage) ⊎ ((status ≡ WriteFault) ⊎ (status ≡ NoMemory))
       by (inr m) = inr (inr m.0)
       by (inl (o, said, inl p)) =
-          inl (p.0 ∙ subst (λ x. IsFinal told reads reads_now blamed x o.status) t (ended_as o said))
+          inl (p.0 ∙ subst (λ x. IsFinal shelf shelf_now x o.status) t (ended_as o said))
       by (inl (o, said, inr p)) = inr (inl p.0)
 
-  pub read_run : status ≡ ReadFault → ReadFails told task reads reads_now blamed
+  pub read_run : status ≡ ReadFault → ReadFails task shelf shelf_now
   read_run e = by run
     where
-      by : Runs → ReadFails told task reads reads_now blamed
+      by : Runs → ReadFails task shelf shelf_now
       by (inr m) = let f : NoMemory ≡ ReadFault = sym m.0 ∙ e in absurd cc
-      by (inl (o, said, inl p)) = final_read told reads reads_now blamed task o.status (ended_as o said) (sym p.0 ∙ e)
+      by (inl (o, said, inl p)) = final_read shelf shelf_now task o.status (ended_as o said) (sym p.0 ∙ e)
       by (inl (o, said, inr p)) = let f : WriteFault ≡ ReadFault = sym p.0 ∙ e in absurd cc
 
-  pub write_run : status ≡ WriteFault → Rose writes writes_now
+  pub write_run : status ≡ WriteFault → Rose sink.faults sink_now.faults
   write_run e = by run
     where
-      by : Runs → Rose writes writes_now
+      by : Runs → Rose sink.faults sink_now.faults
       by (inr m) = let f : NoMemory ≡ WriteFault = sym m.0 ∙ e in absurd cc
-      by (inl (o, said, inl p)) = absurd (final_writes told reads reads_now blamed task o.status (ended_as o said) (sym p.0 ∙ e))
+      by (inl (o, said, inl p)) = absurd (final_writes shelf shelf_now task o.status (ended_as o said) (sym p.0 ∙ e))
       by (inl (o, said, inr p)) = p.1
 
-  pub memory_run : status ≡ NoMemory → gained ≡ written
+  pub memory_run : status ≡ NoMemory → sink_now.written ≡ sink.written
   memory_run e = by run
     where
-      by : Runs → gained ≡ written
+      by : Runs → sink_now.written ≡ sink.written
       by (inr m) = m.1
-      by (inl (o, said, inl p)) = absurd (final_memory told reads reads_now blamed task o.status (ended_as o said) (sym p.0 ∙ e))
+      by (inl (o, said, inl p)) = absurd (final_memory shelf shelf_now task o.status (ended_as o said) (sym p.0 ∙ e))
       by (inl (o, said, inr p)) = let f : WriteFault ≡ NoMemory = sym p.0 ∙ e in absurd cc
 
 -- ---- over files that are told, where no fault comes
 
-module _ (files : Files) (task : Option Task) (reads reads_now : ℕ) (blamed : Option (List ℕ))
-    (fetches fetches_now : Option ℕ) (written gained : Option (List ℕ))
-    (writes writes_now : ℕ) (status : Status)
-    (run : IsRun (Some files) task reads reads_now blamed fetches fetches_now written gained writes writes_now status)
-    (read : ¬ Rose reads reads_now) (wrote : ¬ Rose writes writes_now) where
+module _ (files : Files) (task : Option Task) (shelf shelf_now : SeenShelf)
+    (told : shelf.holds ≡ Some files) (sink sink_now : SeenSink) (status : Status)
+    (run : IsRun task shelf shelf_now sink sink_now status)
+    (read : ¬ Rose shelf.faults shelf_now.faults) (wrote : ¬ Rose sink.faults sink_now.faults) where
   abbrev RunsOver : Type 0
-  RunsOver = IsRun (Some files) task reads reads_now blamed fetches fetches_now written gained writes writes_now status
+  RunsOver = IsRun task shelf shelf_now sink sink_now status
 
-  answers_told : AnswersFiles task files written gained status
+  answers_told : AnswersFiles task files sink sink_now status
   answers_told got o g h = by run
     where
-      by : RunsOver → Says written gained status o ⊎ (status ≡ NoMemory)
+      by : RunsOver → Says sink sink_now status o ⊎ (status ≡ NoMemory)
       by (inr m) = inr m.0
       by (inl (p, said, inl put)) =
-          let agree = agree-given files reads reads_now blamed read (files_of task) said.got got said.fetched g in
-          inl (subst (Says written gained status) (said.output.only got o agree h) put)
+          let agree = agree-given files shelf shelf_now told read (files_of task) said.got got said.read.fetched g in
+          inl (subst (Says sink sink_now status) (said.output.only got o agree h) put)
       by (inl (p, said, inr put)) = absurd (wrote put.1)
 
   one-file : (name bytes : List ℕ) → content files name ≡ Some bytes → length bytes ≤ longest
@@ -472,22 +499,22 @@ module _ (files : Files) (task : Option Task) (reads reads_now : ℕ) (blamed : 
   short : (bytes : List ℕ) (t : ProgramTree) → Spells bytes t → length bytes ≤ longest
   short bytes t s = omega (arith, s.fits)
 
-  good_status : (o : Output) → o.status ≡ Good → Says written gained status o ⊎ (status ≡ NoMemory)
+  good_status : (o : Output) → o.status ≡ Good → Says sink sink_now status o ⊎ (status ≡ NoMemory)
       → (status ≡ Good) ⊎ (status ≡ NoMemory)
   good_status o e (inl s) = inl (s.0 ∙ e)
   good_status o e (inr m) = inr m
 
   proved_told : (name : List ℕ) (budget : ℕ) → task ≡ Some (verify name budget) → HoldsGood budget name files → (status ≡ Good) ⊎ (status ≡ NoMemory)
   proved_told name budget t h =
-      let o : Output = report_output true (report_text h.good.program budget) in
+      let o : Output = report_output true (report_text h.good.text.program budget) in
       let is : IsVerified budget h.bytes o = inr (record {
-        thing = h.good.program;
-        is_so = record { tree = h.good.tree; spelled = h.good.spelled; stands = h.good.stands };
-        said = ap (λ b. report_output b (report_text h.good.program budget)) (sym h.good.proved);
+        thing = h.good.text.program;
+        is_so = record { tree = h.good.text.tree; spelled = h.good.text.spelled; stands = h.good.text.stands };
+        said = ap (λ b. report_output b (report_text h.good.text.program budget)) (sym h.good.proved);
       }) in
       good_status o refl
       (answers_told (held h.bytes ∷ []) o
-      (subst (λ x. AreGiven files (files_of x) (held h.bytes ∷ [])) (sym t) (one-file name h.bytes h.held (short h.bytes h.good.tree h.good.spelled)))
+      (subst (λ x. AreGiven files (files_of x) (held h.bytes ∷ [])) (sym t) (one-file name h.bytes h.held (short h.bytes h.good.text.tree h.good.text.spelled)))
       (subst (λ x. IsOutput x (held h.bytes ∷ []) o) (sym t) is))
 
   shows_told : (name text : List ℕ) → task ≡ Some (show name) → HoldsTree name text files → (status ≡ Good) ⊎ (status ≡ NoMemory)
@@ -550,14 +577,14 @@ module _ (files : Files) (task : Option Task) (reads reads_now : ℕ) (blamed : 
 
   first_gives : (a b : List ℕ) (ns ms : List (List ℕ)) (x : Fetched) (xs : List Fetched) → a ∷ ns ≡ b ∷ ms
       → (bytes : List ℕ) → content files b ≡ Some bytes
-      → AreFetched (Some files) reads reads_now blamed (a ∷ ns) (x ∷ xs) → given_by (Some bytes) ≡ x
+      → AreFetched shelf shelf_now (a ∷ ns) (x ∷ xs) → given_by (Some bytes) ≡ x
   first_gives a b ns ms x xs e bytes c f =
       let same : a ≡ b = cc in
-      sym (ap given_by c) ∙ (ap (λ n. given_by (content files n)) (sym same) ∙ first-given files reads reads_now blamed read a ns x xs f)
+      sym (ap given_by c) ∙ (ap (λ n. given_by (content files n)) (sym same) ∙ first-given files shelf shelf_now told read a ns x xs f)
 
   refused_output : (t : Task) (name : List ℕ) (names : List (List ℕ)) (bytes : List ℕ) (got : List Fetched) (o : Output)
       → files_of (Some t) ≡ name ∷ names → content files name ≡ Some bytes → (IsTextFor t bytes → ⊥)
-      → AreFetched (Some files) reads reads_now blamed (files_of (Some t)) got
+      → AreFetched shelf shelf_now (files_of (Some t)) got
       → IsOutput (Some t) got o → o.status ≡ Refused
   refused_output (verify file budget) name names bytes (x ∷ []) o e c n f h =
       refused_after (IsVerified budget) file bytes x o
@@ -603,46 +630,48 @@ module _ (files : Files) (task : Option Task) (reads reads_now : ℕ) (blamed : 
       by (inr m) = inr m.0
       by (inl (p, said, inl put)) =
           inl (put.0 ∙ refused_output t name names bytes said.got p (ap files_of (sym e) ∙ f) c n
-          (subst (λ y. AreFetched (Some files) reads reads_now blamed (files_of y) said.got) e said.fetched)
+          (subst (λ y. AreFetched shelf shelf_now (files_of y) said.got) e said.read.fetched)
           (subst (λ y. IsOutput y said.got p) e said.output.said))
       by (inl (p, said, inr put)) = absurd (wrote put.1)
 
--- the same over any shelf
-module _ (told : Option Files) (task : Option Task) (reads reads_now : ℕ) (blamed : Option (List ℕ))
-    (fetches fetches_now : Option ℕ) (written gained : Option (List ℕ))
-    (writes writes_now : ℕ) (status : Status) where
+-- ---- the same over any shelf
+
+told-some : (o : Option Files) (Q : Files → Type 0) → ((files : Files) → o ≡ Some files → Q files) → IfSome o Q
+told-some None Q f = tt
+told-some (Some files) Q f = f files refl
+
+module _ (task : Option Task) (shelf shelf_now : SeenShelf) (sink sink_now : SeenSink) (status : Status)
+    (run : IsRun task shelf shelf_now sink sink_now status) where
   -- what is said where the shelf tells its files, and no fault comes
   abbrev Over : (Files → Type 0) → Type 0
-  Over P = IfSome told (λ files. ¬ Rose reads reads_now → ¬ Rose writes writes_now → P files)
+  Over P = IfSome shelf.holds (λ files. NoFault shelf shelf_now sink sink_now → P files)
 
   over : (P : Files → Type 0)
-      → ((files : Files) → IsRun (Some files) task reads reads_now blamed fetches fetches_now written gained writes writes_now status
-      → ¬ Rose reads reads_now → ¬ Rose writes writes_now → P files)
-      → (x : Option Files) → IsRun x task reads reads_now blamed fetches fetches_now written gained writes writes_now status
-      → IfSome x (λ files. ¬ Rose reads reads_now → ¬ Rose writes writes_now → P files)
-  over P f None h = tt
-  over P f (Some files) h = λ r w. f files h r w
+      → ((files : Files) → shelf.holds ≡ Some files → NoFault shelf shelf_now sink sink_now → P files) → Over P
+  over P f = told-some shelf.holds (λ files. NoFault shelf shelf_now sink sink_now → P files) f
 
-  module _ (run : IsRun told task reads reads_now blamed fetches fetches_now written gained writes writes_now status) where
-    pub answers_run : Over (λ files. AnswersFiles task files written gained status)
-    answers_run = over (λ files. AnswersFiles task files written gained status)
-        (λ files h r w. answers_told files task reads reads_now blamed fetches fetches_now written gained writes writes_now status h r w) told run
+  pub answers_run : Over (λ files. AnswersFiles task files sink sink_now status)
+  answers_run = over (λ files. AnswersFiles task files sink sink_now status)
+      (λ files e n. answers_told files task shelf shelf_now e sink sink_now status run n.0 n.1)
 
-    pub proved_run : Over (λ files. (name : List ℕ) (budget : ℕ) → task ≡ Some (verify name budget) → HoldsGood budget name files → (status ≡ Good) ⊎ (status ≡ NoMemory))
-    proved_run = over
-        (λ files. (name : List ℕ) (budget : ℕ) → task ≡ Some (verify name budget) → HoldsGood budget name files → (status ≡ Good) ⊎ (status ≡ NoMemory))
-        (λ files h r w. proved_told files task reads reads_now blamed fetches fetches_now written gained writes writes_now status h r w) told run
+  pub proved_run : Over (λ files. (name : List ℕ) (budget : ℕ) → task ≡ Some (verify name budget)
+      → HoldsGood budget name files → (status ≡ Good) ⊎ (status ≡ NoMemory))
+  proved_run = over (λ files. (name : List ℕ) (budget : ℕ) → task ≡ Some (verify name budget)
+      → HoldsGood budget name files → (status ≡ Good) ⊎ (status ≡ NoMemory))
+      (λ files e n. proved_told files task shelf shelf_now e sink sink_now status run n.0 n.1)
 
-    pub accepts_run : Over (λ files. (file derivation : List ℕ) → task ≡ Some (check file derivation) → HoldAccepted file derivation files → (status ≡ Good) ⊎ (status ≡ NoMemory))
-    accepts_run = over
-        (λ files. (file derivation : List ℕ) → task ≡ Some (check file derivation) → HoldAccepted file derivation files → (status ≡ Good) ⊎ (status ≡ NoMemory))
-        (λ files h r w. accepts_told files task reads reads_now blamed fetches fetches_now written gained writes writes_now status h r w) told run
+  pub accepts_run : Over (λ files. (file derivation : List ℕ) → task ≡ Some (check file derivation)
+      → HoldAccepted file derivation files → (status ≡ Good) ⊎ (status ≡ NoMemory))
+  accepts_run = over (λ files. (file derivation : List ℕ) → task ≡ Some (check file derivation)
+      → HoldAccepted file derivation files → (status ≡ Good) ⊎ (status ≡ NoMemory))
+      (λ files e n. accepts_told files task shelf shelf_now e sink sink_now status run n.0 n.1)
 
-    pub shows_run : Over (λ files. (name text : List ℕ) → task ≡ Some (show name) → HoldsTree name text files → (status ≡ Good) ⊎ (status ≡ NoMemory))
-    shows_run = over
-        (λ files. (name text : List ℕ) → task ≡ Some (show name) → HoldsTree name text files → (status ≡ Good) ⊎ (status ≡ NoMemory))
-        (λ files h r w. shows_told files task reads reads_now blamed fetches fetches_now written gained writes writes_now status h r w) told run
+  pub shows_run : Over (λ files. (name text : List ℕ) → task ≡ Some (show name)
+      → HoldsTree name text files → (status ≡ Good) ⊎ (status ≡ NoMemory))
+  shows_run = over (λ files. (name text : List ℕ) → task ≡ Some (show name)
+      → HoldsTree name text files → (status ≡ Good) ⊎ (status ≡ NoMemory))
+      (λ files e n. shows_told files task shelf shelf_now e sink sink_now status run n.0 n.1)
 
-    pub refuses_run : Over (λ files. Refuses task files status)
-    refuses_run = over (λ files. Refuses task files status)
-        (λ files h r w. refuses_told files task reads reads_now blamed fetches fetches_now written gained writes writes_now status h r w) told run
+  pub refuses_run : Over (λ files. Refuses task files status)
+  refuses_run = over (λ files. Refuses task files status)
+      (λ files e n. refuses_told files task shelf shelf_now e sink sink_now status run n.0 n.1)

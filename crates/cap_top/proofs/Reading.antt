@@ -1,8 +1,9 @@
 -- What the files of a task gave where no fault came is what they hold.
-use Rattle.std.proofs.Common.{◌≡◌, ℕ, ◌<◌, ◌≤◌, inl, inr, nat_lt, Bool, true, false, if◌then◌else◌, List, [], ◌∷◌, length, Option, Some, None, refl, sym, ap, ◌∙◌, arith}
+use Rattle.std.proofs.Common.{◌≡◌, ℕ, ◌<◌, ◌≤◌, inl, inr, nat_lt, Bool, true, false, if◌then◌else◌, List, [], ◌∷◌, length, Option, Some, None, refl, sym, ap, ◌∙◌, subst, arith}
 use Rattle.std.proofs.lemmas.Bool.Decides.{nat_tests}
-use Rattle.std.specs.Prelude.{IsSomeAnd}
-use Rattle.cap_io.specs.Outside.{Files, content, longest, Rose}
+use Rattle.std.specs.Prelude.{IfSome, IsSomeAnd}
+use Rattle.cap_io.specs.Files.{Files, content, SeenShelf}
+use Rattle.cap_io.specs.Outside.{longest, Rose}
 use Rattle.cap_top_commands.specs.Answers.{Fetched, held, unread, long}
 use Rattle.cap_top_commands.specs.Answers.{Agree}
 use Rattle.cap_top.specs.Reads.{IsFetched, AreFetched, given_by, AreGiven}
@@ -24,16 +25,26 @@ some-long : (o : Option (List ℕ)) → IsSomeAnd o (λ bytes. longest < length 
 some-long None h = absurd h
 some-long (Some bytes) h = long-given bytes h
 
-module _ (files : Files) (before now : ℕ) (blames : Option (List ℕ)) (calm : ¬ Rose before now) where
-  one-given : (name : List ℕ) (x : Fetched) → IsFetched (Some files) before now blames name x
+module _ (files : Files) (shelf shelf_now : SeenShelf) (told : shelf.holds ≡ Some files)
+    (calm : ¬ Rose shelf.faults shelf_now.faults) where
+  of-told : (P : Files → Type 0) → IfSome shelf.holds P → P files
+  of-told P h = subst (λ o. IfSome o P) told h
+
+  has-told : (P : Files → Type 0) → IsSomeAnd shelf.holds P → P files
+  has-told P h = subst (λ o. IsSomeAnd o P) told h
+
+  one-given : (name : List ℕ) (x : Fetched) → IsFetched shelf shelf_now name x
       → given_by (content files name) ≡ x
-  one-given name (held bytes) h = held-given (content files name) bytes h.1 h.0
+  one-given name (held bytes) h =
+      held-given (content files name) bytes (of-told (λ fs. content fs name ≡ Some bytes) h.1) h.0
   one-given name unread (inl h) = absurd (calm h.0)
-  one-given name unread (inr h) = ap given_by h
-  one-given name long h = some-long (content files name) h
+  one-given name unread (inr h) = ap given_by (has-told (λ fs. content fs name ≡ None) h)
+  one-given name long h =
+      some-long (content files name)
+      (of-told (λ fs. IsSomeAnd (content fs name) (λ bytes. longest < length bytes)) h)
 
   -- whatever else is given, what was read is the same
-  pub agree-given : (names : List (List ℕ)) (xs ys : List Fetched) → AreFetched (Some files) before now blames names xs
+  pub agree-given : (names : List (List ℕ)) (xs ys : List Fetched) → AreFetched shelf shelf_now names xs
       → AreGiven files names ys → Agree xs ys
   agree-given names [] ys h g = tt
   agree-given [] (x ∷ xs) ys h g = absurd h
@@ -42,7 +53,7 @@ module _ (files : Files) (before now : ℕ) (blames : Option (List ℕ)) (calm :
       (sym (one-given name x h.0) ∙ g.0, agree-given names xs ys h.1 g.1)
 
   pub first-given : (name : List ℕ) (names : List (List ℕ)) (x : Fetched) (xs : List Fetched)
-      → AreFetched (Some files) before now blames (name ∷ names) (x ∷ xs) → given_by (content files name) ≡ x
+      → AreFetched shelf shelf_now (name ∷ names) (x ∷ xs) → given_by (content files name) ≡ x
   first-given name names x xs h = one-given name x h.0
 
 -- what a file that is there gives is not that it can't be read, and where it gives bytes it gives its own

@@ -1,19 +1,25 @@
 -- What is said of one file is said of its task.
-use Rattle.std.proofs.Common.{◌≡◌, ℕ, List, [], ◌∷◌, Option, Some, None, Result, Ok, Err, IfOk, refl, sym, subst}
+use Rattle.std.proofs.Common.{◌≡◌, ℕ, List, [], ◌∷◌, append-nil, Option, Some, None, Result, Ok, Err, IfOk, refl, sym, subst}
 use Rattle.std.specs.declared.alloc.AllocError.{AllocError}
-use Rattle.cap_io.specs.Outside.{Files, IsCounted}
+use Rattle.cap_io.specs.Files.{SeenShelf, HasGiven}
+use Rattle.cap_io.specs.Outside.{IsCounted}
 use Rattle.cap_top_commands.specs.declared.output.Output as code
 use Rattle.cap_top_commands.specs.Answers.{Fetched, held, After, ByOne, IsVerified, IsDerived, IsShown, IsOutput, IsOnly, IsOnlyOutput, Agree}
 use Rattle.cap_top_commands.specs.Output.{Output}
 use Rattle.cap_top_commands.specs.Task.{Task, verify, derive, show, files_of}
 use Rattle.cap_top_commands.specs.Views.{output_view}
-use Rattle.cap_top.specs.Reads.{IsFetched, AreFetched, AreCounted}
+use Rattle.cap_top.specs.Reads.{IsFetched, gift, AreRead}
 use Rattle.cap_top.specs.Run.{IsSaid}
 
--- one fetch was counted
-pub one_counted : (fetches fetches_now : Option ℕ) (x : Fetched) → IsCounted fetches fetches_now → AreCounted fetches fetches_now (x ∷ [])
-one_counted None now x h = tt
-one_counted (Some n) now x h = h
+-- one file was read
+pub one_read : (shelf shelf_now : SeenShelf) (name : List ℕ) (names : List (List ℕ)) (x : Fetched)
+    → IsFetched shelf shelf_now name x → HasGiven shelf shelf_now (gift name x) → IsCounted shelf shelf_now
+    → AreRead shelf shelf_now (name ∷ names) (x ∷ [])
+one_read shelf shelf_now name names x f g n = record {
+  fetched = (f, tt);
+  given = subst (HasGiven shelf shelf_now) (sym (append-nil (gift name x))) g;
+  counted = n;
+}
 
 -- what is said of bytes is said of the file that gave them
 pub said_held : (name bytes : List ℕ) (IsAnswer : List ℕ → Output → Type 0) (r : Result code.Output AllocError)
@@ -31,20 +37,20 @@ module _ (name : List ℕ) (x : Fetched) where
       by (y ∷ []) q a s = h.only q (subst (λ z. After name z IsAnswer q) (sym a.0) s)
       by (y ∷ (z ∷ zs)) q a s = absurd s
 
-  module _ (told : Option Files) (before now : ℕ) (blames : Option (List ℕ)) (fetches fetches_now : Option ℕ)
-      (f : IsFetched told before now blames name x) (n : IsCounted fetches fetches_now) where
+  module _ (shelf shelf_now : SeenShelf) (f : IsFetched shelf shelf_now name x)
+      (g : HasGiven shelf shelf_now (gift name x)) (n : IsCounted shelf shelf_now) where
     by_task : (task : Option Task) (t : Task) (o : Output) → task ≡ Some t → files_of (Some t) ≡ name ∷ []
-        → IsOnlyOutput (IsOutput (Some t)) (x ∷ []) o → IsSaid told task before now blames fetches fetches_now o
-    by_task task t o e m h = subst (λ y. IsSaid told y before now blames fetches fetches_now o) (sym e) (record {
+        → IsOnlyOutput (IsOutput (Some t)) (x ∷ []) o → IsSaid shelf shelf_now task o
+    by_task task t o e m h = subst (λ y. IsSaid shelf shelf_now y o) (sym e) (record {
       got = x ∷ [];
-      fetched = subst (λ names. AreFetched told before now blames names (x ∷ [])) (sym m) (f, tt);
-      counted = one_counted fetches fetches_now x n;
+      read = subst (λ names. AreRead shelf shelf_now names (x ∷ [])) (sym m)
+          (one_read shelf shelf_now name [] x f g n);
       output = h;
     })
 
     pub verify_said : (budget : ℕ) (task : Option Task) (r : Result code.Output AllocError) → task ≡ Some (verify name budget)
         → IfOk r (λ o. IsOnly (After name x (IsVerified budget)) (output_view o))
-        → IfOk r (λ o. IsSaid told task before now blames fetches fetches_now (output_view o))
+        → IfOk r (λ o. IsSaid shelf shelf_now task (output_view o))
     verify_said budget task (Ok o) e h =
         let k = one_file (IsVerified budget) (output_view o) (record { said = h.said; only = h.only }) in
         by_task task (verify name budget) (output_view o) e refl (record { said = k.said; only = k.only })
@@ -52,7 +58,7 @@ module _ (name : List ℕ) (x : Fetched) where
 
     pub derive_said : (budget : ℕ) (task : Option Task) (r : Result code.Output AllocError) → task ≡ Some (derive name budget)
         → IfOk r (λ o. IsOnly (After name x (IsDerived budget)) (output_view o))
-        → IfOk r (λ o. IsSaid told task before now blames fetches fetches_now (output_view o))
+        → IfOk r (λ o. IsSaid shelf shelf_now task (output_view o))
     derive_said budget task (Ok o) e h =
         let k = one_file (IsDerived budget) (output_view o) (record { said = h.said; only = h.only }) in
         by_task task (derive name budget) (output_view o) e refl (record { said = k.said; only = k.only })
@@ -60,7 +66,7 @@ module _ (name : List ℕ) (x : Fetched) where
 
     pub show_said : (task : Option Task) (r : Result code.Output AllocError) → task ≡ Some (show name)
         → IfOk r (λ o. IsOnly (After name x IsShown) (output_view o))
-        → IfOk r (λ o. IsSaid told task before now blames fetches fetches_now (output_view o))
+        → IfOk r (λ o. IsSaid shelf shelf_now task (output_view o))
     show_said task (Ok o) e h =
         let k = one_file IsShown (output_view o) (record { said = h.said; only = h.only }) in
         by_task task (show name) (output_view o) e refl (record { said = k.said; only = k.only })

@@ -1,7 +1,8 @@
 -- What is said of two files: they are read one after the other, the second where it is needed.
-use Rattle.std.proofs.Common.{◌≡◌, ℕ, ◌≤◌, inl, inr, List, [], ◌∷◌, Option, Some, None, IfSome, Result, Ok, Err, IfOk, refl, sym, ◌∙◌, subst, arith}
+use Rattle.std.proofs.Common.{◌≡◌, ℕ, ◌≤◌, inl, inr, ◌<◌, List, [], ◌∷◌, ◌++◌, length, append-nil, append_assoc, Option, Some, None, IfSome, IsSomeAnd, Result, Ok, Err, IfOk, refl, sym, ap, ◌∙◌, subst, arith}
 use Rattle.std.specs.declared.alloc.AllocError.{AllocError}
-use Rattle.cap_io.specs.Outside.{Files, counted, IsCounted, Rose}
+use Rattle.cap_io.specs.Files.{Files, content, SeenShelf, HasGiven}
+use Rattle.cap_io.specs.Outside.{longest, counted, IsCounted, Rose}
 use Rattle.cap_prog.specs.Program.{PlainProgram}
 use Rattle.cap_top_reading.specs.Refused.{IsTextOf}
 use Rattle.cap_top_commands.specs.declared.output.Output as code
@@ -14,9 +15,9 @@ use Rattle.cap_top_commands.specs.declared.beginning.Begun.{Begun}
 use Rattle.cap_top_commands.specs.declared.beginning.Begun.TheVariants as begun
 use Rattle.cap_top_commands.specs.Beginning.{Begins}
 use Rattle.cap_top.specs.Views.{BeginsAfter, IsSaidEarly}
-use Rattle.cap_top.specs.Reads.{IsFetched, AreFetched, AreCounted}
+use Rattle.cap_top.specs.Reads.{IsFetched, gift, AreRead}
 use Rattle.cap_top.specs.Run.{IsSaid}
-use Rattle.cap_top.proofs.Saying.{one_counted}
+use Rattle.cap_top.proofs.Saying.{one_read}
 
 same_bytes : (a b : List ℕ) → held a ≡ held b → a ≡ b
 same_bytes a b e = cc
@@ -56,16 +57,43 @@ module _ (name : List ℕ) (IsLate : PlainProgram → Fetched → Output → Typ
 rose-more : (before middle now : ℕ) → before ≤ middle → Rose middle now → Rose before now
 rose-more before middle now l r = grind (arith)
 
-fetched-more : (told : Option Files) (before middle now : ℕ) (blames : Option (List ℕ)) (name : List ℕ) (y : Fetched) → before ≤ middle
-    → IsFetched told middle now blames name y → IsFetched told before now blames name y
-fetched-more told before middle now blames name (held bytes) l h = h
-fetched-more told before middle now blames name unread l (inl r) = inl (rose-more before middle now l r.0, r.1)
-fetched-more told before middle now blames name unread l (inr r) = inr r
-fetched-more told before middle now blames name long l h = h
+module _ (shelf middle shelf_now : SeenShelf) (kept : middle.holds ≡ shelf.holds) (l : shelf.faults ≤ middle.faults) where
+  -- what is read later is read in the whole time
+  fetched-more : (name : List ℕ) (y : Fetched) → IsFetched middle shelf_now name y → IsFetched shelf shelf_now name y
+  fetched-more name (held bytes) h = (h.0, subst (λ o. IfSome o (λ files. content files name ≡ Some bytes)) kept h.1)
+  fetched-more name unread (inl r) = inl (rose-more shelf.faults middle.faults shelf_now.faults l r.0, r.1)
+  fetched-more name unread (inr r) = inr (subst (λ o. IsSomeAnd o (λ files. content files name ≡ None)) kept r)
+  fetched-more name long h =
+      subst (λ o. IfSome o (λ files. IsSomeAnd (content files name) (λ bytes. longest < length bytes))) kept h
 
-two_counted : (a b c : Option ℕ) (x y : Fetched) → IsCounted a b → IsCounted b c → AreCounted a c (x ∷ (y ∷ []))
-two_counted None b c x y h k = tt
-two_counted (Some n) b c x y h k = subst (λ o. IfSome o (λ m. c ≡ Some (counted m))) h k
+  -- a file that gave bytes has given them for good
+  held-more : (name bytes : List ℕ) → IsFetched shelf middle name (held bytes) → IsFetched shelf shelf_now name (held bytes)
+  held-more name bytes h = h
+
+two-counted : (a b c : Option ℕ) → IfSome a (λ n. b ≡ Some (counted n)) → IfSome b (λ n. c ≡ Some (counted n))
+    → IfSome a (λ n. c ≡ Some (counted (counted n)))
+two-counted None b c h k = tt
+two-counted (Some n) b c h k = subst (λ o. IfSome o (λ m. c ≡ Some (counted m))) h k
+
+two-given : (shelf middle shelf_now : SeenShelf) (xs ys : Files) → HasGiven shelf middle xs → HasGiven middle shelf_now ys
+    → HasGiven shelf shelf_now (xs ++ (ys ++ []))
+two-given shelf middle shelf_now xs ys g h =
+    h ∙ (ap (λ us. us ++ ys) g ∙ (append_assoc shelf.given xs ys ∙ ap (λ us. shelf.given ++ (xs ++ us)) (sym (append-nil ys))))
+
+-- two files were read, one after the other
+pub two_read : (shelf middle shelf_now : SeenShelf) → middle.holds ≡ shelf.holds → shelf.faults ≤ middle.faults
+    → (file second bytes : List ℕ) (y : Fetched)
+    → IsFetched shelf middle file (held bytes) → HasGiven shelf middle (gift file (held bytes)) → IsCounted shelf middle
+    → IsFetched middle shelf_now second y → HasGiven middle shelf_now (gift second y) → IsCounted middle shelf_now
+    → AreRead shelf shelf_now (file ∷ (second ∷ [])) (held bytes ∷ (y ∷ []))
+two_read shelf middle shelf_now kept l file second bytes y f1 g1 n1 f2 g2 n2 = record {
+  fetched = (
+    held-more shelf middle shelf_now kept l file bytes f1,
+    (fetched-more shelf middle shelf_now kept l second y f2, tt),
+  );
+  given = two-given shelf middle shelf_now (gift file (held bytes)) (gift second y) g1 g2;
+  counted = two-counted shelf.fetches middle.fetches shelf_now.fetches n1 n2;
+}
 
 -- ---- what is said
 
@@ -94,37 +122,35 @@ checking file derivation = record {
       record { said = k.said; only = k.only };
 }
 
-module _ (told : Option Files) (t : Task) (file second : List ℕ) (IsLate : PlainProgram → List ℕ → Output → Type 0)
-    (a : Answering t file second IsLate) where
+module _ (t : Task) (file second : List ℕ) (IsLate : PlainProgram → List ℕ → Output → Type 0)
+    (a : Answering t file second IsLate) (shelf shelf_now : SeenShelf) where
   -- without a program
-  pub early_said : (before now : ℕ) (blames : Option (List ℕ)) (fetches fetches_now : Option ℕ) (x : Fetched) (o : Output)
-      → IsFetched told before now blames file x → IsCounted fetches fetches_now
-      → IsSaidEarly file x o
-      → IsSaid told (Some t) before now blames fetches fetches_now o
-  early_said before now blames fetches fetches_now x o f n h = record {
+  pub early_said : (x : Fetched) (o : Output) → IsFetched shelf shelf_now file x
+      → HasGiven shelf shelf_now (gift file x) → IsCounted shelf shelf_now → IsSaidEarly file x o
+      → IsSaid shelf shelf_now (Some t) o
+  early_said x o f g n h = record {
     got = x ∷ [];
-    fetched = subst (λ names. AreFetched told before now blames names (x ∷ [])) (sym a.files) (f, tt);
-    counted = one_counted fetches fetches_now x n;
+    read = subst (λ names. AreRead shelf shelf_now names (x ∷ [])) (sym a.files)
+        (one_read shelf shelf_now file (second ∷ []) x f g n);
     output = a.early x o h;
   }
 
   -- with one
-  pub late_said : (later : Option Files) → later ≡ told → (before middle now : ℕ) (blamed blames : Option (List ℕ))
-      (i j k : Option ℕ) (x y : Fetched) (bytes : List ℕ) (p : PlainProgram)
-      (r : Result code.Output AllocError) → before ≤ middle → IsFetched told before middle blamed file x → IsCounted i j
+  pub late_said : (middle : SeenShelf) → middle.holds ≡ shelf.holds → shelf.faults ≤ middle.faults
+      → (x y : Fetched) (bytes : List ℕ) (p : PlainProgram) (r : Result code.Output AllocError)
+      → IsFetched shelf middle file x → HasGiven shelf middle (gift file x) → IsCounted shelf middle
       → x ≡ held bytes → IsOnlyTextOf bytes p
-      → IsFetched later middle now blames second y → IsCounted j k
+      → IsFetched middle shelf_now second y → HasGiven middle shelf_now (gift second y) → IsCounted middle shelf_now
       → IfOk r (λ o. IsOnly (After second y (IsLate p)) (output_view o))
-      → IfOk r (λ o. IsSaid told (Some t) before now blames i k (output_view o))
-  late_said later same before middle now blamed blames i j k x y bytes p (Err e) l f n1 q u g n2 h = tt
-  late_said later same before middle now blamed blames i j k x y bytes p (Ok o) l f n1 e u g n2 h =
-      let late : IsFetched told middle now blames second y = subst (λ files. IsFetched files middle now blames second y) same g in
-      let early : IsFetched told before middle blamed file (held bytes) = subst (IsFetched told before middle blamed file) e f in
+      → IfOk r (λ o. IsSaid shelf shelf_now (Some t) (output_view o))
+  late_said middle kept l x y bytes p (Err e) f1 g1 n1 q u f2 g2 n2 h = tt
+  late_said middle kept l x y bytes p (Ok o) f1 g1 n1 e u f2 g2 n2 h =
+      let first : IsFetched shelf middle file (held bytes) = subst (IsFetched shelf middle file) e f1 in
+      let gave : HasGiven shelf middle (gift file (held bytes)) = subst (λ z. HasGiven shelf middle (gift file z)) e g1 in
       record {
         got = held bytes ∷ (y ∷ []);
-        fetched = subst (λ names. AreFetched told before now blames names (held bytes ∷ (y ∷ []))) (sym a.files)
-            (early, (fetched-more told before middle now blames second y l late, tt));
-        counted = two_counted i j k (held bytes) y n1 n2;
+        read = subst (λ names. AreRead shelf shelf_now names (held bytes ∷ (y ∷ []))) (sym a.files)
+            (two_read shelf middle shelf_now kept l file second bytes y first gave n1 f2 g2 n2);
         output = a.late bytes y p (output_view o) u (record { said = h.said; only = h.only });
       }
 

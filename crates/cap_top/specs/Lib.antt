@@ -1,4 +1,5 @@
 pub mod Reads
 pub mod Views
 pub mod Run
+pub mod Verified
 pub mod Promise

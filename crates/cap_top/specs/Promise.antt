@@ -1,9 +1,13 @@
--- What a run of the whole program promises.
-use Rattle.std.specs.Prelude.{◌≡◌, ℕ, ◌⊎◌, ◌≤◌, true, List, [], ◌∷◌, length, Option, Some, None, IfSome, IsSomeAnd}
-use Rattle.cap_io.specs.Outside.{Files, content, longest, Rose, Gains}
+-- What a run of the whole program promises, beside what it promises where `verify` ends well
+-- (`Verified`).
+use Rattle.std.specs.Prelude.{◌≡◌, ℕ, ◌⊎◌, ◌≤◌, true, List, [], ◌∷◌, length}
+use Rattle.std.specs.Prelude.{Option, Some, None, IfSome, IsSomeAnd}
+use Rattle.cap_io.specs.Files.{Files, content, SeenShelf, HasGiven}
+use Rattle.cap_io.specs.Outside.{SeenSink, longest, Rose, Gains}
 use Rattle.cap_prog.specs.Program.{PlainProgram}
 use Rattle.cap_parse_tree.specs.Tree.{ProgramTree}
 use Rattle.cap_parse_tree.specs.Texts.{Spells}
+use Rattle.cap_parse_tree.specs.Canonical.{canonical_text}
 use Rattle.cap_top_reading.specs.Refused.{IsTextOf}
 use Rattle.cap_top_commands.specs.declared.status.Status.{Status}
 use Rattle.cap_top_commands.specs.declared.status.Status.TheVariants.{Good, Bad, Refused, NoMemory, NotEnabled, Wide}
@@ -11,41 +15,52 @@ use Rattle.cap_replay.specs.declared.playing.End.{End}
 use Rattle.cap_top_report.specs.Report.{is_good}
 use Rattle.cap_top_report.specs.Found.{found_trees}
 use Rattle.cap_deriv_write.specs.Written.{derivation_text}
-use Rattle.cap_parse_tree.specs.Canonical.{canonical_text}
-use Rattle.cap_top_commands.specs.Answers.{Fetched, IsPlayedAs, IsOutput, IsGood, IsAccepted, AreAccepted}
+use Rattle.cap_top_commands.specs.Good.{IsGood, IsAccepted}
+use Rattle.cap_top_commands.specs.Answers.{Fetched, IsPlayedAs, IsOutput, AreAccepted}
 use Rattle.cap_top_commands.specs.Task.{Task, verify, derive, check, show, replay, files_of}
 use Rattle.cap_top_commands.specs.Output.{Output, end_status}
-use Rattle.cap_top.specs.Reads.{AreFetched, AreCounted, AreGiven}
+use Rattle.cap_top.specs.Verified.{IsRead}
+use Rattle.cap_top.specs.Reads.{AreRead, AreGiven}
 use Rattle.cap_top.specs.Run.{IsPut, IsNothing}
 
--- The bytes that were read of the file of this name, which are those that it holds where the shelf
--- tells its files, are the text of a safe program.
-pub record VerifiesFile (told : Option Files) (budget : ℕ) (name : List ℕ) : Type 0 where
+-- ---- what a good status promises
+
+-- In this call these two files were read, one after the other, and no other file; they gave these
+-- bytes, which are those that they hold where the shelf tells its files.
+pub record AreBothRead (shelf shelf_now : SeenShelf) (name bytes second more : List ℕ)
+    : Type 0 where
+  pub given : HasGiven shelf shelf_now ((name, bytes) ∷ ((second, more) ∷ []))
+  pub held : IfSome shelf.holds (λ files. content files name ≡ Some bytes)
+  pub second_held : IfSome shelf.holds (λ files. content files second ≡ Some more)
+
+-- The bytes that the file gave are the text of a safe program, all of which is proved within the
+-- budget.
+pub record ProvesFile (shelf shelf_now : SeenShelf) (budget : ℕ) (name : List ℕ) : Type 0 where
   pub bytes : List ℕ
-  pub held : IfSome told (λ files. content files name ≡ Some bytes)
+  pub read : IsRead shelf shelf_now name bytes
   pub good : IsGood budget bytes
 
--- The bytes that were read of the file of this name are the text of a program, and the sink has gained
--- the lines of a valid derivation of all its units, which `check` accepts.
-pub record DerivesFile (told : Option Files) (budget : ℕ) (name : List ℕ)
-    (written gained : Option (List ℕ)) : Type 0 where
+-- The bytes that the file gave are the text of a program, and the sink has gained the lines of a valid
+-- derivation of all its units, no more than a file may have, which `check` accepts.
+pub record DerivesFile (shelf shelf_now : SeenShelf) (budget : ℕ) (name : List ℕ)
+    (sink sink_now : SeenSink) : Type 0 where
   pub bytes : List ℕ
-  pub held : IfSome told (λ files. content files name ≡ Some bytes)
+  pub read : IsRead shelf shelf_now name bytes
   pub program : PlainProgram
   pub text_of_it : IsTextOf bytes program
   pub proved : is_good program budget ≡ true
   pub lines : List ℕ
   pub whole : lines ≡ derivation_text (found_trees program budget)
+  pub short : length lines ≤ longest
   pub accepted : AreAccepted program lines
-  pub gains : Gains written gained lines
+  pub gains : Gains sink.written sink_now.written lines
 
--- The bytes that were read of the first file are the text of a safe program, those of the second the
--- lines of a valid derivation of it.
-pub record ChecksFiles (told : Option Files) (file derivation : List ℕ) : Type 0 where
+-- The bytes that the first file gave are the text of a safe program, those of the second the lines of
+-- a valid derivation of it.
+pub record ChecksFiles (shelf shelf_now : SeenShelf) (file derivation : List ℕ) : Type 0 where
   pub bytes : List ℕ
-  pub held : IfSome told (λ files. content files file ≡ Some bytes)
   pub lines : List ℕ
-  pub lines_held : IfSome told (λ files. content files derivation ≡ Some lines)
+  pub read : AreBothRead shelf shelf_now file bytes derivation lines
   pub accepted : IsAccepted bytes lines
 
 -- the bytes spell a tree, of which this is the canonical text
@@ -54,14 +69,14 @@ pub record IsShownAs (bytes text : List ℕ) : Type 0 where
   pub spelled : Spells bytes tree
   pub canonical : text ≡ canonical_text tree
 
--- The sink has gained the canonical text of the tree that those bytes spell.
-pub record ShowsFile (told : Option Files) (name : List ℕ) (written gained : Option (List ℕ))
+-- The sink has gained the canonical text of the tree that the file's bytes spell.
+pub record ShowsFile (shelf shelf_now : SeenShelf) (name : List ℕ) (sink sink_now : SeenSink)
     : Type 0 where
   pub bytes : List ℕ
-  pub held : IfSome told (λ files. content files name ≡ Some bytes)
+  pub read : IsRead shelf shelf_now name bytes
   pub text : List ℕ
   pub shown : IsShownAs bytes text
-  pub gains : Gains written gained text
+  pub gains : Gains sink.written sink_now.written text
 
 -- The statuses of a run that took some entries or all: it ended, it came to a fault, or to an entry
 -- that is not enabled or too wide.
@@ -72,42 +87,47 @@ EndsRun NotEnabled = Unit {0}
 EndsRun Wide = Unit {0}
 EndsRun _ = ⊥
 
--- The bytes that were read of the first file are the text of a program, those of the second a
--- schedule for it, and the sink has gained what the program's run along it writes, which ends with
--- this status.
-pub record ReplaysFiles (told : Option Files) (file schedule : List ℕ)
-    (written gained : Option (List ℕ)) (status : Status) : Type 0 where
+-- The bytes that the first file gave are the text of a program, those of the second a schedule for
+-- it, and the sink has gained what the program's run along it writes, which ends with this status.
+pub record ReplaysFiles (shelf shelf_now : SeenShelf) (file schedule : List ℕ)
+    (sink sink_now : SeenSink) (status : Status) : Type 0 where
   pub bytes : List ℕ
-  pub held : IfSome told (λ files. content files file ≡ Some bytes)
+  pub entries : List ℕ
+  pub read : AreBothRead shelf shelf_now file bytes schedule entries
   pub program : PlainProgram
   pub text_of_it : IsTextOf bytes program
-  pub entries : List ℕ
-  pub entries_held : IfSome told (λ files. content files schedule ≡ Some entries)
   pub text : List ℕ
   pub end : End
   pub played : IsPlayedAs program entries text end
   pub ended : status ≡ end_status end
-  pub gains : Gains written gained text
+  pub gains : Gains sink.written sink_now.written text
+
+-- ---- whatever faults come
 
 -- The ways to end: an output by what the files that were read gave, whole or, where the put failed,
 -- the first of it; or no memory, with nothing. No file is read but those.
-abbrev pub Ends : Option Files → Option Task → ℕ → ℕ → Option (List ℕ) → Option ℕ → Option ℕ
-    → Option (List ℕ) → Option (List ℕ) → ℕ → ℕ → Status → Type 0
-Ends told task reads reads_now blamed fetches fetches_now written gained writes writes_now status =
-    ((got : List Fetched) × AreFetched told reads reads_now blamed (files_of task) got
-    × AreCounted fetches fetches_now got
-    × ((o : Output) × IsOutput task got o × IsPut written gained writes writes_now status o))
-    ⊎ IsNothing written gained status
+abbrev pub Ends : Option Task → SeenShelf → SeenShelf → SeenSink → SeenSink → Status → Type 0
+Ends task shelf shelf_now sink sink_now status =
+    ((got : List Fetched) × AreRead shelf shelf_now (files_of task) got
+    × ((o : Output) × IsOutput task got o × IsPut sink sink_now status o))
+    ⊎ IsNothing sink sink_now status
+
+-- ---- where no fault comes
+
+-- no fault came, of reading or of writing
+abbrev pub NoFault : SeenShelf → SeenShelf → SeenSink → SeenSink → Type 0
+NoFault shelf shelf_now sink sink_now =
+    ¬ Rose shelf.faults shelf_now.faults × ¬ Rose sink.faults sink_now.faults
 
 -- the sink has gained this output's text, and the status is its
-abbrev pub Says : Option (List ℕ) → Option (List ℕ) → Status → Output → Type 0
-Says written gained status o = (status ≡ o.status) × Gains written gained o.text
+abbrev pub Says : SeenSink → SeenSink → Status → Output → Type 0
+Says sink sink_now status o = (status ≡ o.status) × Gains sink.written sink_now.written o.text
 
 -- each output over these files is the one that is said, unless memory ran out
-abbrev pub AnswersFiles : Option Task → Files → Option (List ℕ) → Option (List ℕ) → Status → Type 0
-AnswersFiles task files written gained status =
+abbrev pub AnswersFiles : Option Task → Files → SeenSink → SeenSink → Status → Type 0
+AnswersFiles task files sink sink_now status =
     (got : List Fetched) (o : Output) → AreGiven files (files_of task) got → IsOutput task got o
-    → Says written gained status o ⊎ (status ≡ NoMemory)
+    → Says sink sink_now status o ⊎ (status ≡ NoMemory)
 
 -- the file holds the text of a safe program, all of which is proved within the budget
 pub record HoldsGood (budget : ℕ) (name : List ℕ) (files : Files) : Type 0 where
@@ -147,13 +167,15 @@ Refuses task files status =
     → task ≡ Some t → files_of task ≡ name ∷ names → content files name ≡ Some bytes
     → (IsTextFor t bytes → ⊥) → (status ≡ Refused) ⊎ (status ≡ NoMemory)
 
+-- ---- causes
+
 abbrev pub IsOneOf : List ℕ → List (List ℕ) → Type 0
 IsOneOf name [] = ⊥
 IsOneOf name (n ∷ ns) = (name ≡ n) ⊎ IsOneOf name ns
 
 -- a fault came in the read of a file of the task, which is then blamed, or the told files lack it
-abbrev pub ReadFails : Option Files → Option Task → ℕ → ℕ → Option (List ℕ) → Type 0
-ReadFails told task reads reads_now blamed =
+abbrev pub ReadFails : Option Task → SeenShelf → SeenShelf → Type 0
+ReadFails task shelf shelf_now =
     (name : List ℕ) × IsOneOf name (files_of task)
-    × ((Rose reads reads_now × (blamed ≡ Some name))
-    ⊎ IsSomeAnd told (λ files. content files name ≡ None))
+    × ((Rose shelf.faults shelf_now.faults × (shelf_now.blamed ≡ Some name))
+    ⊎ IsSomeAnd shelf.holds (λ files. content files name ≡ None))

@@ -5,8 +5,9 @@ ghost use Rattle.cap_top_commands.specs.Answers.{After, IsVerified, IsDerived, I
 ghost use Rattle.cap_top_commands.specs.Answers.{IsPlayed, IsOnly};
 ghost use Rattle.cap_top_commands.specs.Derivations.{IsChecked};
 ghost use Rattle.cap_top_commands.specs.Views.{output_view};
+ghost use Rattle.cap_io.specs.Files.{HasGiven};
 ghost use Rattle.cap_io.specs.Outside.{IsCounted};
-ghost use Rattle.cap_top.specs.Reads.{IsFetched};
+ghost use Rattle.cap_top.specs.Reads.{IsFetched, gift};
 ghost use Rattle.cap_top.specs.Views.{fetched_view, BeginsAfter};
 
 use cap_io::{FetchError, Shelf};
@@ -24,11 +25,13 @@ pub(crate) enum Fetched {
 
 /// Reads a file. The only error is want of memory.
 pub(crate) fn fetch<S: Shelf>(shelf: &mut S, name: &str) -> Result<Fetched, AllocError>
-    ensures kept { S.holds shelf.new ≡ S.holds shelf.old }
-    ensures later { S.faults shelf.old ≤ S.faults shelf.new }
-    ensures fetched { IfOk result (λ x. IsFetched (S.holds shelf.old)
-        (S.faults shelf.old) (S.faults shelf.new) (S.blamed shelf.new) name.now (fetched_view x)) }
-    ensures counted { IfOk result (λ _. IsCounted (S.fetches shelf.old) (S.fetches shelf.new)) }
+    ensures kept { (S.seen shelf.new).holds ≡ (S.seen shelf.old).holds }
+    ensures later { (S.seen shelf.old).faults ≤ (S.seen shelf.new).faults }
+    ensures fetched { IfOk result (λ x.
+        IsFetched (S.seen shelf.old) (S.seen shelf.new) name.now (fetched_view x)) }
+    ensures given { IfOk result (λ x.
+        HasGiven (S.seen shelf.old) (S.seen shelf.new) (gift name.now (fetched_view x))) }
+    ensures counted { IfOk result (λ _. IsCounted (S.seen shelf.old) (S.seen shelf.new)) }
 {
     match shelf.fetch(name) {
         Ok(bytes) => Ok(Fetched::Held(bytes)),

@@ -5,9 +5,10 @@ ghost use Rattle.cap_top_commands.specs.Task.{task_in, verify, derive, check, sh
 ghost use Rattle.cap_top_commands.specs.Views.{output_view};
 ghost use Rattle.cap_top_commands.specs.declared.status.Status.TheVariants.{Good, Usage, ReadFault};
 ghost use Rattle.cap_top_commands.specs.declared.status.Status.TheVariants.{WriteFault, NoMemory};
-ghost use Rattle.cap_top.specs.Promise.{VerifiesFile, DerivesFile, ChecksFiles, ShowsFile};
-ghost use Rattle.cap_top.specs.Promise.{EndsRun, ReplaysFiles, Ends, AnswersFiles, HoldsGood};
-ghost use Rattle.cap_top.specs.Promise.{HoldAccepted, HoldsTree, Refuses, ReadFails};
+ghost use Rattle.cap_top.specs.Verified.{VerifiesFile};
+ghost use Rattle.cap_top.specs.Promise.{ProvesFile, DerivesFile, ChecksFiles, ShowsFile};
+ghost use Rattle.cap_top.specs.Promise.{EndsRun, ReplaysFiles, Ends, NoFault, AnswersFiles};
+ghost use Rattle.cap_top.specs.Promise.{HoldsGood, HoldAccepted, HoldsTree, Refuses, ReadFails};
 ghost use Rattle.cap_top.specs.Run.{IsSaid, IsRun};
 
 use crate::fetching::{
@@ -26,9 +27,9 @@ fn replay_files<'a, S: Shelf>(
     file: &'a str,
     schedule: &'a str,
 ) -> Result<Output<'a>, AllocError>
-    ensures { IfOk result (λ o. IsSaid (S.holds shelf.old) (Some (replay file.now schedule.now))
-        (S.faults shelf.old) (S.faults shelf.new) (S.blamed shelf.new)
-        (S.fetches shelf.old) (S.fetches shelf.new) (output_view o)) }
+    ensures kept { (S.seen shelf.new).holds ≡ (S.seen shelf.old).holds }
+    ensures said { IfOk result (λ o. IsSaid (S.seen shelf.old) (S.seen shelf.new)
+        (Some (replay file.now schedule.now)) (output_view o)) }
 {
     let fetched = fetch(shelf, file)?;
     match begin_file(alloc, file, fetched)? {
@@ -48,9 +49,9 @@ fn check_files<'a, S: Shelf>(
     file: &'a str,
     derivation: &'a str,
 ) -> Result<Output<'a>, AllocError>
-    ensures { IfOk result (λ o. IsSaid (S.holds shelf.old) (Some (check file.now derivation.now))
-        (S.faults shelf.old) (S.faults shelf.new) (S.blamed shelf.new)
-        (S.fetches shelf.old) (S.fetches shelf.new) (output_view o)) }
+    ensures kept { (S.seen shelf.new).holds ≡ (S.seen shelf.old).holds }
+    ensures said { IfOk result (λ o. IsSaid (S.seen shelf.old) (S.seen shelf.new)
+        (Some (check file.now derivation.now)) (output_view o)) }
 {
     let fetched = fetch(shelf, file)?;
     match begin_file(alloc, file, fetched)? {
@@ -68,9 +69,9 @@ fn respond<'a, S: Shelf>(
     words: &'a [String],
     shelf: &mut S,
 ) -> Result<Output<'a>, AllocError>
-    ensures { IfOk result (λ o. IsSaid (S.holds shelf.old) (task_in words.entry.now)
-        (S.faults shelf.old) (S.faults shelf.new) (S.blamed shelf.new)
-        (S.fetches shelf.old) (S.fetches shelf.new) (output_view o)) }
+    ensures kept { (S.seen shelf.new).holds ≡ (S.seen shelf.old).holds }
+    ensures said { IfOk result (λ o. IsSaid (S.seen shelf.old) (S.seen shelf.new)
+        (task_in words.entry.now) (output_view o)) }
 {
     match Task::from_words(alloc, words)? {
         Some(Task::Verify { file, budget }) => {
@@ -98,10 +99,9 @@ fn perform<S: Shelf, K: Sink>(
     shelf: &mut S,
     sink: &mut K,
 ) -> Status
-    ensures { IsRun (S.holds shelf.old) (task_in words.now)
-        (S.faults shelf.old) (S.faults shelf.new) (S.blamed shelf.new)
-        (S.fetches shelf.old) (S.fetches shelf.new)
-        (K.written sink.old) (K.written sink.new) (K.faults sink.old) (K.faults sink.new) result }
+    ensures kept { (S.seen shelf.new).holds ≡ (S.seen shelf.old).holds }
+    ensures whole { IsRun (task_in words.now)
+        (S.seen shelf.old) (S.seen shelf.new) (K.seen sink.old) (K.seen sink.new) result }
 {
     let Ok(output) = respond(alloc, words, shelf) else {
         return Status::NoMemory;
@@ -128,63 +128,63 @@ pub fn run<S: Shelf, K: Sink>(
     shelf: &mut S,
     sink: &mut K,
 ) -> Status
-    // Where `verify` ends well, the program that was read is safe.
+    // Where `verify` ends well, the bytes that the file gave are the text of a safe program.
     ensures good { (name : List ℕ) (budget : ℕ) → task_in words.now ≡ Some (verify name budget)
-        → result ≡ Good → VerifiesFile (S.holds shelf.old) budget name }
+        → result ≡ Good → VerifiesFile (S.seen shelf.old) (S.seen shelf.new) name }
 
-    // Where `derive` ends well, the sink has gained a derivation of the program that was read, which
-    // `check` accepts.
+    // All of that program is proved.
+    ensures found { (name : List ℕ) (budget : ℕ) → task_in words.now ≡ Some (verify name budget)
+        → result ≡ Good → ProvesFile (S.seen shelf.old) (S.seen shelf.new) budget name }
+
+    // Where `derive` ends well, the sink has gained a derivation of the program whose text the file
+    // gave, which `check` accepts.
     ensures derived { (name : List ℕ) (budget : ℕ) → task_in words.now ≡ Some (derive name budget)
-        → result ≡ Good → DerivesFile (S.holds shelf.old) budget name
-        (K.written sink.old) (K.written sink.new) }
+        → result ≡ Good → DerivesFile (S.seen shelf.old) (S.seen shelf.new) budget name
+        (K.seen sink.old) (K.seen sink.new) }
 
-    // Where `check` ends well, the derivation that was read is valid, and its program safe.
+    // Where `check` ends well, the derivation that was given is valid, and its program safe.
     ensures accepted { (file derivation : List ℕ)
-        → task_in words.now ≡ Some (check file derivation)
-        → result ≡ Good → ChecksFiles (S.holds shelf.old) file derivation }
+        → task_in words.now ≡ Some (check file derivation) → result ≡ Good
+        → ChecksFiles (S.seen shelf.old) (S.seen shelf.new) file derivation }
 
-    // Where `show` ends well, the text that was read is shown: the canonical one of its tree.
-    ensures shown { (name : List ℕ) → task_in words.now ≡ Some (show name)
-        → result ≡ Good
-        → ShowsFile (S.holds shelf.old) name (K.written sink.old) (K.written sink.new) }
+    // Where `show` ends well, the text that was given is shown: the canonical one of its tree.
+    ensures shown { (name : List ℕ) → task_in words.now ≡ Some (show name) → result ≡ Good
+        → ShowsFile (S.seen shelf.old) (S.seen shelf.new) name
+        (K.seen sink.old) (K.seen sink.new) }
 
     // Where a replay ends so, the sink has gained what the program's run along the schedule writes.
     ensures replayed { (file schedule : List ℕ) → task_in words.now ≡ Some (replay file schedule)
-        → EndsRun result → ReplaysFiles (S.holds shelf.old) file schedule
-        (K.written sink.old) (K.written sink.new) result }
+        → EndsRun result → ReplaysFiles (S.seen shelf.old) (S.seen shelf.new) file schedule
+        (K.seen sink.old) (K.seen sink.new) result }
 
     // Whatever faults come, what is said is what follows from what the files gave that were read. A
     // second file is read only where the first gave a program's text.
-    ensures ends { Ends (S.holds shelf.old) (task_in words.now)
-        (S.faults shelf.old) (S.faults shelf.new) (S.blamed shelf.new)
-        (S.fetches shelf.old) (S.fetches shelf.new)
-        (K.written sink.old) (K.written sink.new) (K.faults sink.old) (K.faults sink.new) result }
+    ensures ends { Ends (task_in words.now)
+        (S.seen shelf.old) (S.seen shelf.new) (K.seen sink.old) (K.seen sink.new) result }
+
+    // The shelf holds what it held.
+    ensures kept { (S.seen shelf.new).holds ≡ (S.seen shelf.old).holds }
 
     // Where no fault comes the output is the one that the files give, unless memory runs out: a
     // program all of which is proved is told so, the text of a tree is shown, and what is no text
     // is refused.
-    ensures answers { IfSome (S.holds shelf.old) (λ files.
-        ¬ Rose (S.faults shelf.old) (S.faults shelf.new)
-        → ¬ Rose (K.faults sink.old) (K.faults sink.new)
-        → AnswersFiles (task_in words.now) files (K.written sink.old) (K.written sink.new) result) }
-    ensures proved { IfSome (S.holds shelf.old) (λ files.
-        ¬ Rose (S.faults shelf.old) (S.faults shelf.new)
-        → ¬ Rose (K.faults sink.old) (K.faults sink.new)
+    ensures answers { IfSome (S.seen shelf.old).holds (λ files.
+        NoFault (S.seen shelf.old) (S.seen shelf.new) (K.seen sink.old) (K.seen sink.new)
+        → AnswersFiles (task_in words.now) files (K.seen sink.old) (K.seen sink.new) result) }
+    ensures proved { IfSome (S.seen shelf.old).holds (λ files.
+        NoFault (S.seen shelf.old) (S.seen shelf.new) (K.seen sink.old) (K.seen sink.new)
         → (name : List ℕ) (budget : ℕ) → task_in words.now ≡ Some (verify name budget)
         → HoldsGood budget name files → (result ≡ Good) ⊎ (result ≡ NoMemory)) }
-    ensures shows { IfSome (S.holds shelf.old) (λ files.
-        ¬ Rose (S.faults shelf.old) (S.faults shelf.new)
-        → ¬ Rose (K.faults sink.old) (K.faults sink.new)
+    ensures shows { IfSome (S.seen shelf.old).holds (λ files.
+        NoFault (S.seen shelf.old) (S.seen shelf.new) (K.seen sink.old) (K.seen sink.new)
         → (name text : List ℕ) → task_in words.now ≡ Some (show name)
         → HoldsTree name text files → (result ≡ Good) ⊎ (result ≡ NoMemory)) }
-    ensures accepts { IfSome (S.holds shelf.old) (λ files.
-        ¬ Rose (S.faults shelf.old) (S.faults shelf.new)
-        → ¬ Rose (K.faults sink.old) (K.faults sink.new)
+    ensures accepts { IfSome (S.seen shelf.old).holds (λ files.
+        NoFault (S.seen shelf.old) (S.seen shelf.new) (K.seen sink.old) (K.seen sink.new)
         → (file derivation : List ℕ) → task_in words.now ≡ Some (check file derivation)
         → HoldAccepted file derivation files → (result ≡ Good) ⊎ (result ≡ NoMemory)) }
-    ensures refuses { IfSome (S.holds shelf.old) (λ files.
-        ¬ Rose (S.faults shelf.old) (S.faults shelf.new)
-        → ¬ Rose (K.faults sink.old) (K.faults sink.new)
+    ensures refuses { IfSome (S.seen shelf.old).holds (λ files.
+        NoFault (S.seen shelf.old) (S.seen shelf.new) (K.seen sink.old) (K.seen sink.new)
         → Refuses (task_in words.now) files result) }
 
     // Each answer has its cause, and nothing is lost.
@@ -192,11 +192,11 @@ pub fn run<S: Shelf, K: Sink>(
     ensures command { task_in words.now ≡ None
         → (result ≡ Usage) ⊎ ((result ≡ WriteFault) ⊎ (result ≡ NoMemory)) }
     ensures read_fault { result ≡ ReadFault
-        → ReadFails (S.holds shelf.old) (task_in words.now)
-        (S.faults shelf.old) (S.faults shelf.new) (S.blamed shelf.new) }
+        → ReadFails (task_in words.now) (S.seen shelf.old) (S.seen shelf.new) }
     ensures write_fault { result ≡ WriteFault
-        → Rose (K.faults sink.old) (K.faults sink.new) }
-    ensures no_memory { result ≡ NoMemory → K.written sink.new ≡ K.written sink.old }
+        → Rose (K.seen sink.old).faults (K.seen sink.new).faults }
+    ensures no_memory { result ≡ NoMemory
+        → (K.seen sink.new).written ≡ (K.seen sink.old).written }
 {
     good_answers_are_safe();
     derived_are_accepted();

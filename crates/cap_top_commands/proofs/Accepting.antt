@@ -16,12 +16,13 @@ use Rattle.cap_top_report.specs.Report.{is_good}
 use Rattle.cap_top_report.specs.Found.{found_trees}
 use Rattle.cap_top_report.specs.Laws.{FoundAreValid}
 use Rattle.cap_top_commands.specs.declared.status.Status.TheVariants.{Good, Bad, Refused}
-use Rattle.cap_top_commands.specs.Answers.{IsOnly, IsAccepted, AcceptedAreSafe, DerivedAreAccepted}
+use Rattle.cap_top_commands.specs.Answers.{IsOnly, AcceptedAreSafe, DerivedAreAccepted}
+use Rattle.cap_top_commands.specs.Good.{IsAccepted}
 use Rattle.cap_top_commands.specs.Derivations.{IsChecked}
 use Rattle.cap_top_commands.specs.Output.{Output, report_output, report_status, long_derivation_output, bad_derivation_output, judged_output, judged_status}
 use Rattle.cap_top_commands.proofs.Following.{judged_only}
 use Rattle.cap_top_commands.proofs.InOrder.{text-ascends}
-use Rattle.cap_top_commands.proofs.Good.{TextsAreFormed, same_status}
+use Rattle.cap_top_commands.proofs.Good.{TextsAreFormed, safe_text, same_status}
 
 -- ---- one preorder
 
@@ -58,15 +59,11 @@ accepted_trees : JudgedAreValid → DerivationsAreSound → ReadingsAreLines →
 accepted_trees judged sound readings formed bytes lines p t trees cs n told j =
     let has : HasTrees p trees cs = judged.sound p trees n cs j in
     record {
-      tree = t.tree;
-      spelled = t.spelled;
-      program = p;
-      stands = t.stands;
+      text = safe_text sound formed bytes p t has.0 has.1;
       trees = has.0;
       told = subst (λ k. AreLines k (preorder has.0) lines) (sym has.2)
           (subst (λ ds. AreLines trees ds lines) (sym has.3) (readings trees cs lines told));
       valid = has.1;
-      safe = sound p has.0 (formed bytes p t) has.1;
     }
 
 pub accepted_safe : JudgedAreValid → DerivationsAreSound → ReadingsAreLines → TextsAreFormed → AcceptedAreSafe

@@ -1,9 +1,11 @@
 -- A report that is good is one of a safe program: the trees that were found are valid, and a program
 -- all units of which have valid derivations is safe.
-use Rattle.std.proofs.Common.{◌≡◌, ℕ, inl, inr, Bool, true, false, List, Result, Ok, Err, IfOk, refl, ap, sym, ◌∙◌}
+use Rattle.std.proofs.Common.{◌≡◌, ℕ, inl, inr, Bool, true, false, List, Option, Result, Ok, Err, IfOk, refl, ap, sym, ◌∙◌}
 use Rattle.std.specs.declared.alloc.AllocError.{AllocError}
 use Rattle.cap_prog.specs.Program.{PlainProgram}
 use Rattle.cap_prog.specs.WellFormed.{IsWellFormed}
+use Rattle.cap_goal_spec.specs.Choices.{PlainTree}
+use Rattle.cap_rules.specs.Valid.{Valid}
 use Rattle.cap_account.specs.Law.{DerivationsAreSound}
 use Rattle.cap_top_reading.specs.Refused.{IsTextOf}
 use Rattle.cap_top_report.specs.Report.{report_text, is_good}
@@ -13,7 +15,9 @@ use Rattle.cap_top_commands.specs.declared.output.Output as code
 use Rattle.cap_top_commands.specs.declared.status.Status.TheVariants.{Good, Refused}
 use Rattle.cap_top_commands.specs.Views.{output_view}
 use Rattle.cap_top_commands.specs.Output.{Output, refusal_output, report_output, report_status}
-use Rattle.cap_top_commands.specs.Answers.{IsVerified, IsOnly, IsGood, GoodAnswersAreSafe}
+use Rattle.cap_top_commands.specs.Answers.{IsVerified, IsOnly, GoodAnswersAreSafe}
+use Rattle.cap_top_commands.specs.Good.{IsGood}
+use Rattle.cap_top_commands.specs.SafeText.{IsSafeText}
 use Rattle.cap_top_commands.proofs.InOrder.{text-ascends}
 
 -- the programs of texts are well-formed
@@ -24,15 +28,23 @@ TextsAreFormed = (bytes : List ℕ) (p : PlainProgram) → IsTextOf bytes p → 
 pub same_status : (o p : Output) → o ≡ p → o.status ≡ p.status
 same_status o p e = ap (λ (q : Output). q.status) e
 
-good_report : FoundAreValid → DerivationsAreSound → TextsAreFormed → (n : ℕ) (bytes : List ℕ) (p : PlainProgram)
-    → IsTextOf bytes p → is_good p n ≡ true → IsGood n bytes
-good_report valid sound formed n bytes p t proved = record {
+-- a text of a program of which a bundle is valid
+pub safe_text :
+    DerivationsAreSound → TextsAreFormed → (bytes : List ℕ) (p : PlainProgram) → IsTextOf bytes p →
+    (trees : List (Option PlainTree)) → Valid p trees → IsSafeText bytes
+safe_text sound formed bytes p t trees valid = record {
   tree = t.tree;
   spelled = t.spelled;
   program = p;
   stands = t.stands;
+  safe = sound p trees (formed bytes p t) valid;
+}
+
+good_report : FoundAreValid → DerivationsAreSound → TextsAreFormed → (n : ℕ) (bytes : List ℕ) (p : PlainProgram)
+    → IsTextOf bytes p → is_good p n ≡ true → IsGood n bytes
+good_report valid sound formed n bytes p t proved = record {
+  text = safe_text sound formed bytes p t (found_trees p n) (valid p n (text-ascends bytes p t) proved);
   proved = proved;
-  safe = sound p (found_trees p n) (formed bytes p t) (valid p n (text-ascends bytes p t) proved);
 }
 
 status-good : (b : Bool) → report_status b ≡ Good → b ≡ true

@@ -1,17 +1,11 @@
 -- What is answered to a task, by what its files gave.
-use Rattle.std.specs.Prelude.{◌≡◌, ℕ, true, List, [], ◌∷◌, Option, Some, None}
+use Rattle.std.specs.Prelude.{◌≡◌, ℕ, List, [], ◌∷◌, Option, Some, None}
 use Rattle.std.specs.Prelude.{◌⊎◌, length, slice_get, IsSomeAnd, Ok, Err}
 use Rattle.std.specs.FinMap.{from_entries}
 use Rattle.cap_prog.specs.Program.{PlainProgram}
-use Rattle.cap_goal_spec.specs.Choices.{PlainTree}
-use Rattle.cap_rules.specs.Valid.{Valid}
-use Rattle.cap_kernel_check.specs.Owed.{preorder}
-use Rattle.cap_deriv_write.specs.Spelled.{AreLines}
 use Rattle.cap_parse_tree.specs.Tree.{ProgramTree}
 use Rattle.cap_parse_tree.specs.Canonical.{canonical_text}
 use Rattle.cap_parse_tree.specs.Texts.{Spells}
-use Rattle.cap_machine_accounts.specs.Safety.{Safe}
-use Rattle.cap_resolve_spec.specs.Stands.{Stands}
 use Rattle.cap_machine.specs.Machine.{start}
 use Rattle.cap_replay.specs.declared.playing.End.{End}
 use Rattle.cap_replay.specs.declared.reading.ScheduleError.{ScheduleError}
@@ -20,8 +14,8 @@ use Rattle.cap_replay.specs.Reading.{Progress, read}
 use Rattle.cap_replay.specs.RunText.{RunText, run_from}
 use Rattle.cap_top_reading.specs.declared.refusal.Refusal.{Refusal}
 use Rattle.cap_top_reading.specs.Refused.{SpellNone, IsRefused, IsTextOf}
-use Rattle.cap_top_report.specs.Report.{is_good}
 use Rattle.cap_top_commands.specs.declared.status.Status.TheVariants.{Good}
+use Rattle.cap_top_commands.specs.Good.{IsGood, IsAccepted}
 use Rattle.cap_top_commands.specs.Task.{Task, verify, derive, check, show, replay}
 use Rattle.cap_top_commands.specs.Report.{IsReport}
 use Rattle.cap_top_commands.specs.Derivations.{IsDerivation, IsChecked}
@@ -186,30 +180,6 @@ pub record IsOnlyTextOf (bytes : List ℕ) (p : PlainProgram) : Type 0 where
   pub unrefused : (r : Refusal) → IsRefused bytes r → ⊥
 
 -- ---- what a good answer means
-
--- The bytes spell a tree that stands for a program, all of which is proved within a budget, and
--- every run of it, of every length and along every schedule, from every state that meets the
--- precondition of `main`, makes no memory fault, fails no assertion, changes regions only by actions
--- whose guards the stepping thread held, and keeps the contracts of its functions.
-pub record IsGood (budget : ℕ) (bytes : List ℕ) : Type 0 where
-  pub tree : ProgramTree
-  pub spelled : Spells bytes tree
-  pub program : PlainProgram
-  pub stands : Stands tree program
-  pub proved : is_good program budget ≡ true
-  pub safe : Safe program
-
--- The bytes of the first file spell a tree that stands for a program, those of the second are the
--- lines of a valid derivation of all its units, and every run of it is as said above.
-pub record IsAccepted (bytes lines : List ℕ) : Type 0 where
-  pub tree : ProgramTree
-  pub spelled : Spells bytes tree
-  pub program : PlainProgram
-  pub stands : Stands tree program
-  pub trees : List (Option PlainTree)
-  pub told : AreLines (length trees) (preorder trees) lines
-  pub valid : Valid program trees
-  pub safe : Safe program
 
 -- what `check` says with a good status is said of a valid derivation of a safe program
 abbrev pub AcceptedAreSafe : Type 0

@@ -4,6 +4,8 @@ pub mod Output
 pub mod Report
 pub mod Derivations
 pub mod Deriving
+pub mod SafeText
+pub mod Good
 pub mod Answers
 pub mod Views
 pub mod Beginning

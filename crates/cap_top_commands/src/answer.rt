@@ -1,7 +1,8 @@
 //! What is answered to `verify` and `show`, and to what is refused.
 ghost use Rattle.std.specs.Prelude.{◌≡◌, IfOk, MatchResult};
 ghost use Rattle.cap_top_reading.specs.declared.refusal.Refusal.TheVariants.{OutOfMemory};
-ghost use Rattle.cap_top_commands.specs.Answers.{IsVerified, IsShown, IsOnly, IsGood};
+ghost use Rattle.cap_top_commands.specs.Answers.{IsVerified, IsShown, IsOnly};
+ghost use Rattle.cap_top_commands.specs.Good.{IsGood};
 ghost use Rattle.cap_top_commands.specs.Output.{refusal_output};
 ghost use Rattle.cap_top_commands.specs.Views.{output_view, IsCause};
 ghost use Rattle.cap_top_commands.specs.declared.status.Status.TheVariants.{Good};

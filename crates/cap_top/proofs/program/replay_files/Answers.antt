@@ -10,16 +10,18 @@ pub returns-in-Said : goal.returns-in-Said
 returns-in-Said g c =
     let b : BeginsAfter c.args.file.now (fetched_view c.in_ok-fetched.fetched) (Said c.in-Said.output) =
     subst (BeginsAfter c.args.file.now (fetched_view c.in_ok-fetched.fetched)) c.in-Said.is c.in_ok-output.ensures in
-    early_said _ _ _ _ _ (replaying c.args.file.now c.args.schedule.now) _ _ _ _ _ (fetched_view c.in_ok-fetched.fetched)
-    (output_view c.in-Said.output) c.in_ok-fetched.ensures.fetched c.in_ok-fetched.ensures.counted b
+    early_said _ _ _ _ (replaying c.args.file.now c.args.schedule.now) _ _ (fetched_view c.in_ok-fetched.fetched)
+    (output_view c.in-Said.output) c.in_ok-fetched.ensures.fetched c.in_ok-fetched.ensures.given
+    c.in_ok-fetched.ensures.counted b
 
 pub returns-in_ok-fetched-in-Program : goal.returns-in_ok-fetched-in-Program
 returns-in_ok-fetched-in-Program g c =
     let b : BeginsAfter c.args.file.now (fetched_view c.in_ok-fetched.fetched) (Program c.in-Program.program) =
     subst (BeginsAfter c.args.file.now (fetched_view c.in_ok-fetched.fetched)) c.in-Program.is c.in_ok-output.ensures in
-    late_said _ _ _ _ _ (replaying c.args.file.now c.args.schedule.now) _ c.in_ok-fetched.ensures.kept _ _ _ _ _ _ _ _
+    late_said _ _ _ _ (replaying c.args.file.now c.args.schedule.now) _ _ _
+    c.in_ok-fetched.ensures.kept c.in_ok-fetched.ensures.later
     (fetched_view c.in_ok-fetched.fetched) (fetched_view c.in_ok-fetched-in-Program.fetched) b.0
     (program_view c.in-Program.program) c.play_file.result
-    c.in_ok-fetched.ensures.later c.in_ok-fetched.ensures.fetched c.in_ok-fetched.ensures.counted b.1 b.2
-    c.in_ok-fetched-in-Program.ensures.fetched c.in_ok-fetched-in-Program.ensures.counted
-    c.play_file.ensures
+    c.in_ok-fetched.ensures.fetched c.in_ok-fetched.ensures.given c.in_ok-fetched.ensures.counted b.1 b.2
+    c.in_ok-fetched-in-Program.ensures.fetched c.in_ok-fetched-in-Program.ensures.given
+    c.in_ok-fetched-in-Program.ensures.counted c.play_file.ensures

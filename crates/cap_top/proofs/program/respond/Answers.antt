@@ -9,8 +9,9 @@ returns-in_ok-fetched-in-Some-Verify g c =
     let t : task_in c.args.words.now ≡ Some (verify c.in-Some-Verify.file.now c.in-Some-Verify.budget) =
     sym c.in_ok-file.ensures ∙ ap (option_map task_view) c.in-Some-Verify.is
     ∙ ap (λ x. Some (task_view x)) c.in-Some-Verify.field-0-is in
-    verify_said c.in-Some-Verify.file.now (fetched_view c.in_ok-fetched-in-Some-Verify.fetched) _ _ _ _ _ _
-    c.in_ok-fetched-in-Some-Verify.ensures.fetched c.in_ok-fetched-in-Some-Verify.ensures.counted
+    verify_said c.in-Some-Verify.file.now (fetched_view c.in_ok-fetched-in-Some-Verify.fetched) _ _
+    c.in_ok-fetched-in-Some-Verify.ensures.fetched c.in_ok-fetched-in-Some-Verify.ensures.given
+    c.in_ok-fetched-in-Some-Verify.ensures.counted
     c.in-Some-Verify.budget _ c.verify_file.result t c.verify_file.ensures
 
 pub returns-in_ok-fetched-in-Some-Derive : goal.returns-in_ok-fetched-in-Some-Derive
@@ -18,8 +19,9 @@ returns-in_ok-fetched-in-Some-Derive g c =
     let t : task_in c.args.words.now ≡ Some (derive c.in-Some-Derive.file.now c.in-Some-Derive.budget) =
     sym c.in_ok-file.ensures ∙ ap (option_map task_view) c.in-Some-Derive.is
     ∙ ap (λ x. Some (task_view x)) c.in-Some-Derive.field-0-is in
-    derive_said c.in-Some-Derive.file.now (fetched_view c.in_ok-fetched-in-Some-Derive.fetched) _ _ _ _ _ _
-    c.in_ok-fetched-in-Some-Derive.ensures.fetched c.in_ok-fetched-in-Some-Derive.ensures.counted
+    derive_said c.in-Some-Derive.file.now (fetched_view c.in_ok-fetched-in-Some-Derive.fetched) _ _
+    c.in_ok-fetched-in-Some-Derive.ensures.fetched c.in_ok-fetched-in-Some-Derive.ensures.given
+    c.in_ok-fetched-in-Some-Derive.ensures.counted
     c.in-Some-Derive.budget _ c.derive_file.result t c.derive_file.ensures
 
 pub returns-in_ok-fetched-in-Some-Show : goal.returns-in_ok-fetched-in-Some-Show
@@ -27,6 +29,7 @@ returns-in_ok-fetched-in-Some-Show g c =
     let t : task_in c.args.words.now ≡ Some (show c.in-Some-Show.file.now) =
     sym c.in_ok-file.ensures ∙ ap (option_map task_view) c.in-Some-Show.is
     ∙ ap (λ x. Some (task_view x)) c.in-Some-Show.field-0-is in
-    show_said c.in-Some-Show.file.now (fetched_view c.in_ok-fetched-in-Some-Show.fetched) _ _ _ _ _ _
-    c.in_ok-fetched-in-Some-Show.ensures.fetched c.in_ok-fetched-in-Some-Show.ensures.counted
+    show_said c.in-Some-Show.file.now (fetched_view c.in_ok-fetched-in-Some-Show.fetched) _ _
+    c.in_ok-fetched-in-Some-Show.ensures.fetched c.in_ok-fetched-in-Some-Show.ensures.given
+    c.in_ok-fetched-in-Some-Show.ensures.counted
     _ c.show_file.result t c.show_file.ensures

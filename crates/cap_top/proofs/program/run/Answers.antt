@@ -1,50 +1,53 @@
-use Rattle.cap_top.proofs.Promises.{good_run, derived_run, accepted_run, shown_run, replayed_run, ends_run, answers_run, proved_run, accepts_run, shows_run, refuses_run, usage_run, command_run, read_run, write_run, memory_run}
+use Rattle.cap_top.proofs.Promises.{good_run, found_run, derived_run, accepted_run, shown_run, replayed_run, ends_run, answers_run, proved_run, accepts_run, shows_run, refuses_run, usage_run, command_run, read_run, write_run, memory_run}
 use Rattle.cap_top.proofs.program.run.Goals as goal
 
 pub returns-clause-good : goal.returns-clause-good
-returns-clause-good g c = good_run _ _ _ _ _ _ _ _ _ _ _ _ c.perform.ensures c.good_answers_are_safe.ensures
+returns-clause-good g c = good_run _ _ _ _ _ _ c.perform.ensures.whole c.good_answers_are_safe.ensures
+
+pub returns-clause-found : goal.returns-clause-found
+returns-clause-found g c = found_run _ _ _ _ _ _ c.perform.ensures.whole c.good_answers_are_safe.ensures
 
 pub returns-clause-derived : goal.returns-clause-derived
-returns-clause-derived g c = derived_run _ _ _ _ _ _ _ _ _ _ _ _ c.perform.ensures c.derived_are_accepted.ensures
+returns-clause-derived g c = derived_run _ _ _ _ _ _ c.perform.ensures.whole c.derived_are_accepted.ensures
 
 pub returns-clause-accepted : goal.returns-clause-accepted
-returns-clause-accepted g c = accepted_run _ _ _ _ _ _ _ _ _ _ _ _ c.perform.ensures c.accepted_are_safe.ensures
+returns-clause-accepted g c = accepted_run _ _ _ _ _ _ c.perform.ensures.whole c.accepted_are_safe.ensures
 
 pub returns-clause-shown : goal.returns-clause-shown
-returns-clause-shown g c = shown_run _ _ _ _ _ _ _ _ _ _ _ _ c.perform.ensures
+returns-clause-shown g c = shown_run _ _ _ _ _ _ c.perform.ensures.whole
 
 pub returns-clause-replayed : goal.returns-clause-replayed
-returns-clause-replayed g c = replayed_run _ _ _ _ _ _ _ _ _ _ _ _ c.perform.ensures
+returns-clause-replayed g c = replayed_run _ _ _ _ _ _ c.perform.ensures.whole
 
 pub returns-clause-ends : goal.returns-clause-ends
-returns-clause-ends g c = ends_run _ _ _ _ _ _ _ _ _ _ _ _ c.perform.ensures
+returns-clause-ends g c = ends_run _ _ _ _ _ _ c.perform.ensures.whole
 
 pub returns-clause-answers : goal.returns-clause-answers
-returns-clause-answers g c = answers_run _ _ _ _ _ _ _ _ _ _ _ _ c.perform.ensures
+returns-clause-answers g c = answers_run _ _ _ _ _ _ c.perform.ensures.whole
 
 pub returns-clause-proved : goal.returns-clause-proved
-returns-clause-proved g c = proved_run _ _ _ _ _ _ _ _ _ _ _ _ c.perform.ensures
+returns-clause-proved g c = proved_run _ _ _ _ _ _ c.perform.ensures.whole
 
 pub returns-clause-accepts : goal.returns-clause-accepts
-returns-clause-accepts g c = accepts_run _ _ _ _ _ _ _ _ _ _ _ _ c.perform.ensures
+returns-clause-accepts g c = accepts_run _ _ _ _ _ _ c.perform.ensures.whole
 
 pub returns-clause-shows : goal.returns-clause-shows
-returns-clause-shows g c = shows_run _ _ _ _ _ _ _ _ _ _ _ _ c.perform.ensures
+returns-clause-shows g c = shows_run _ _ _ _ _ _ c.perform.ensures.whole
 
 pub returns-clause-refuses : goal.returns-clause-refuses
-returns-clause-refuses g c = refuses_run _ _ _ _ _ _ _ _ _ _ _ _ c.perform.ensures
+returns-clause-refuses g c = refuses_run _ _ _ _ _ _ c.perform.ensures.whole
 
 pub returns-clause-usage : goal.returns-clause-usage
-returns-clause-usage g c = usage_run _ _ _ _ _ _ _ _ _ _ _ _ c.perform.ensures
+returns-clause-usage g c = usage_run _ _ _ _ _ _ c.perform.ensures.whole
 
 pub returns-clause-command : goal.returns-clause-command
-returns-clause-command g c = command_run _ _ _ _ _ _ _ _ _ _ _ _ c.perform.ensures
+returns-clause-command g c = command_run _ _ _ _ _ _ c.perform.ensures.whole
 
 pub returns-clause-read_fault : goal.returns-clause-read_fault
-returns-clause-read_fault g c = read_run _ _ _ _ _ _ _ _ _ _ _ _ c.perform.ensures
+returns-clause-read_fault g c = read_run _ _ _ _ _ _ c.perform.ensures.whole
 
 pub returns-clause-write_fault : goal.returns-clause-write_fault
-returns-clause-write_fault g c = write_run _ _ _ _ _ _ _ _ _ _ _ _ c.perform.ensures
+returns-clause-write_fault g c = write_run _ _ _ _ _ _ c.perform.ensures.whole
 
 pub returns-clause-no_memory : goal.returns-clause-no_memory
-returns-clause-no_memory g c = memory_run _ _ _ _ _ _ _ _ _ _ _ _ c.perform.ensures
+returns-clause-no_memory g c = memory_run _ _ _ _ _ _ c.perform.ensures.whole
