@@ -29,7 +29,7 @@ pub same_status : (o p : Output) → o ≡ p → o.status ≡ p.status
 same_status o p e = ap (λ (q : Output). q.status) e
 
 -- a text of a program of which a bundle is valid
-pub safe_text :
+abbrev pub safe_text :
     DerivationsAreSound → TextsAreFormed → (bytes : List ℕ) (p : PlainProgram) → IsTextOf bytes p →
     (trees : List (Option PlainTree)) → Valid p trees → IsSafeText bytes
 safe_text sound formed bytes p t trees valid = record {

@@ -6,16 +6,16 @@ use Rattle.cap_top.specs.Views.{fetched_view, BeginsAfter}
 use Rattle.cap_top.proofs.Two.{replaying, early_said, late_said}
 use Rattle.cap_top.proofs.program.replay_files.Goals as goal
 
-pub returns-in-Said : goal.returns-in-Said
-returns-in-Said g c =
+pub returns-in-Said-clause-said : goal.returns-in-Said-clause-said
+returns-in-Said-clause-said g c =
     let b : BeginsAfter c.args.file.now (fetched_view c.in_ok-fetched.fetched) (Said c.in-Said.output) =
     subst (BeginsAfter c.args.file.now (fetched_view c.in_ok-fetched.fetched)) c.in-Said.is c.in_ok-output.ensures in
     early_said _ _ _ _ (replaying c.args.file.now c.args.schedule.now) _ _ (fetched_view c.in_ok-fetched.fetched)
     (output_view c.in-Said.output) c.in_ok-fetched.ensures.fetched c.in_ok-fetched.ensures.given
     c.in_ok-fetched.ensures.counted b
 
-pub returns-in_ok-fetched-in-Program : goal.returns-in_ok-fetched-in-Program
-returns-in_ok-fetched-in-Program g c =
+pub returns-in_ok-fetched-in-Program-clause-said : goal.returns-in_ok-fetched-in-Program-clause-said
+returns-in_ok-fetched-in-Program-clause-said g c =
     let b : BeginsAfter c.args.file.now (fetched_view c.in_ok-fetched.fetched) (Program c.in-Program.program) =
     subst (BeginsAfter c.args.file.now (fetched_view c.in_ok-fetched.fetched)) c.in-Program.is c.in_ok-output.ensures in
     late_said _ _ _ _ (replaying c.args.file.now c.args.schedule.now) _ _ _

@@ -4,8 +4,8 @@ use Rattle.cap_top.specs.Views.{fetched_view}
 use Rattle.cap_top.proofs.Saying.{verify_said, derive_said, show_said}
 use Rattle.cap_top.proofs.program.respond.Goals as goal
 
-pub returns-in_ok-fetched-in-Some-Verify : goal.returns-in_ok-fetched-in-Some-Verify
-returns-in_ok-fetched-in-Some-Verify g c =
+pub returns-in_ok-fetched-in-Some-Verify-clause-said : goal.returns-in_ok-fetched-in-Some-Verify-clause-said
+returns-in_ok-fetched-in-Some-Verify-clause-said g c =
     let t : task_in c.args.words.now ≡ Some (verify c.in-Some-Verify.file.now c.in-Some-Verify.budget) =
     sym c.in_ok-file.ensures ∙ ap (option_map task_view) c.in-Some-Verify.is
     ∙ ap (λ x. Some (task_view x)) c.in-Some-Verify.field-0-is in
@@ -14,8 +14,8 @@ returns-in_ok-fetched-in-Some-Verify g c =
     c.in_ok-fetched-in-Some-Verify.ensures.counted
     c.in-Some-Verify.budget _ c.verify_file.result t c.verify_file.ensures
 
-pub returns-in_ok-fetched-in-Some-Derive : goal.returns-in_ok-fetched-in-Some-Derive
-returns-in_ok-fetched-in-Some-Derive g c =
+pub returns-in_ok-fetched-in-Some-Derive-clause-said : goal.returns-in_ok-fetched-in-Some-Derive-clause-said
+returns-in_ok-fetched-in-Some-Derive-clause-said g c =
     let t : task_in c.args.words.now ≡ Some (derive c.in-Some-Derive.file.now c.in-Some-Derive.budget) =
     sym c.in_ok-file.ensures ∙ ap (option_map task_view) c.in-Some-Derive.is
     ∙ ap (λ x. Some (task_view x)) c.in-Some-Derive.field-0-is in
@@ -24,8 +24,8 @@ returns-in_ok-fetched-in-Some-Derive g c =
     c.in_ok-fetched-in-Some-Derive.ensures.counted
     c.in-Some-Derive.budget _ c.derive_file.result t c.derive_file.ensures
 
-pub returns-in_ok-fetched-in-Some-Show : goal.returns-in_ok-fetched-in-Some-Show
-returns-in_ok-fetched-in-Some-Show g c =
+pub returns-in_ok-fetched-in-Some-Show-clause-said : goal.returns-in_ok-fetched-in-Some-Show-clause-said
+returns-in_ok-fetched-in-Some-Show-clause-said g c =
     let t : task_in c.args.words.now ≡ Some (show c.in-Some-Show.file.now) =
     sym c.in_ok-file.ensures ∙ ap (option_map task_view) c.in-Some-Show.is
     ∙ ap (λ x. Some (task_view x)) c.in-Some-Show.field-0-is in
