@@ -36,11 +36,12 @@ use Rattle.cap_account_states.proofs.Roots.{values-length, function-fits, rename
 use Rattle.cap_account_states.proofs.Backed.{Backed}
 use Rattle.cap_account_assertions.proofs.Asserted.{Owns, OwnsRequires, OwnsInvariant}
 use Rattle.cap_account_assertions.proofs.Filling.{fill_items}
-use Rattle.cap_account_assertions.proofs.Laws.{StateAt, Given, GivenLaw, Reached, Stable}
+use Rattle.cap_account_assertions.proofs.Laws.{StateAt, Given, GivenLaw, Reached}
 use Rattle.cap_account_steps.proofs.Points.{Point, FrameOk, loop_point, point-next, point-again, point-loop, point-act}
 use Rattle.cap_account_steps.proofs.Stores.{Store, store-alike}
 use Rattle.cap_account_steps.proofs.Entries.{take-all, entry_root, loop_root, low-variable}
 use Rattle.cap_account_steps.proofs.Bundles.{UnitRoots}
+use Rattle.cap_account_steps.proofs.Regained.{met_again, Stable}
 use Rattle.cap_account_steps.proofs.Frames.{Node, Sits, Roomy}
 use Rattle.cap_account_steps.proofs.Statements.{BodyLaw, TurnLaw}
 use Rattle.cap_account_steps.proofs.Local.{turn-at}
@@ -257,8 +258,8 @@ module _ (p : Checked) (program : IsWellFormed p.program) (give : GivenLaw p)
     all = λ U relies.
         body-sits n g is_g args fixed destination count fit part U
         (fits-relied p.program T U part roomy.full relies roomy.room)
-        (stable.requires T U part n g is_g (reached-room T U part roomy relies) args fixed count fit
-        me);
+        (met_again _ _ _ _ (stable.requires T U part n g is_g (reached-room T U part roomy relies)
+        args fixed count fit me));
   }
 
   pub turn-law : TurnLaw p
@@ -274,9 +275,9 @@ module _ (p : Checked) (program : IsWellFormed p.program) (give : GivenLaw p)
     all = λ U relies.
         turn-sits fn fixed f l c i x b ok part U
         (fits-relied p.program T U part roomy.full relies roomy.room)
-        (stable.invariant T U part f.function fn ok.is_fn (loop_point l c i x b)
+        (met_again _ _ _ _ (stable.invariant T U part f.function fn ok.is_fn (loop_point l c i x b)
         (point-loop p.program fn l c i x b ok.point) (reached-room T U part roomy relies) f.store
-        fixed ok.size ok.values me);
+        fixed ok.size ok.values me));
   }
     where
       on :
