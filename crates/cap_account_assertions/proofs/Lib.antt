@@ -32,6 +32,7 @@ pub mod GiveLaw
 pub mod MadeTables
 pub mod TakenStill
 pub mod FilledAlike
+pub mod DrawnSame
 pub mod Passages
 pub mod Again
 pub mod Coarser
