@@ -17,7 +17,8 @@ use Rattle.cap_account_resources.proofs.Room.{room}
 use Rattle.cap_account_resources.proofs.Stocks.{Stock, both, all_of, Inside, reordered, some-inside, inside-same, inside-trans, inside-first, inside-second, inside-both, inside-cells, inside-guards}
 use Rattle.cap_account_resources.proofs.Owners.{Owner, owned, numbers_of}
 use Rattle.cap_account_assertions.proofs.Asserted.{OwnsRegion}
-use Rattle.cap_account_assertions.proofs.Laws.{Reached, Stable}
+use Rattle.cap_account_assertions.proofs.Laws.{Reached}
+use Rattle.cap_account_steps.proofs.Regained.{Stable}
 use Rattle.cap_account_steps.proofs.Frames.{Roomy}
 use Rattle.cap_account_steps.proofs.Worlds.{Differ, World, opened_at, opened_table, SettlesBy}
 use Rattle.cap_account.proofs.Stocked.{sum_by, known_by, table_by, stock_or_none, share_by, OwnsItsOwn}

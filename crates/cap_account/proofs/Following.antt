@@ -14,7 +14,7 @@ use Rattle.cap_account_resources.proofs.Stocks.{Stock, both, all_of, Inside, ins
 use Rattle.cap_account_resources.proofs.Tables.{FitsRoom, new_guards, fits-less}
 use Rattle.cap_account_resources.proofs.Owners.{Owner, owned, numbers_of}
 use Rattle.cap_account_states.proofs.Checked.{Checked}
-use Rattle.cap_account_assertions.proofs.Laws.{Stable}
+use Rattle.cap_account_steps.proofs.Regained.{Stable}
 use Rattle.cap_account.proofs.Stocked.{part_stock, sum_by, owner_of, owner_at, known_by, table_by, share_by, account_table, Turn}
 use Rattle.cap_account.proofs.Totals.{parts_stock, sum-join, owners-sum}
 use Rattle.cap_account.proofs.Parts.{fits-guards, Together, all-apart, counted-cell}

@@ -19,7 +19,7 @@ use Rattle.cap_account_resources.proofs.Stocks.{Stock, no_stock, both, Inside, r
 use Rattle.cap_account_resources.proofs.Tables.{fits-less}
 use Rattle.cap_account_states.proofs.Checked.{Checked}
 use Rattle.cap_account_assertions.proofs.Asserted.{OwnsRequires, OwnsEnsures}
-use Rattle.cap_account_assertions.proofs.Laws.{Stable}
+use Rattle.cap_account_steps.proofs.Regained.{Stable}
 use Rattle.cap_account_steps.proofs.Points.{point-act}
 use Rattle.cap_account_steps.proofs.Frames.{Stands, Roomy, Waits, Hands}
 use Rattle.cap_account_steps.proofs.Statements.{Statements}

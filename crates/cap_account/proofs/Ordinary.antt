@@ -17,7 +17,7 @@ use Rattle.cap_account_resources.proofs.Covering.{free-right}
 use Rattle.cap_account_resources.proofs.Interference.{Relies, relies-less, relies-same}
 use Rattle.cap_account_resources.proofs.Stocks.{Stock, no_guards, both, inside-first, inside-guards}
 use Rattle.cap_account_states.proofs.Checked.{Checked}
-use Rattle.cap_account_assertions.proofs.Laws.{Stable}
+use Rattle.cap_account_steps.proofs.Regained.{Stable}
 use Rattle.cap_account_steps.proofs.Points.{Point, point-act, point-next, point-then, point-else, ok-rest, ok-store}
 use Rattle.cap_account_steps.proofs.Frames.{Sits, Stands}
 use Rattle.cap_account_steps.proofs.Statements.{Before, Statements}

@@ -9,7 +9,8 @@ use Rattle.cap_account_resources.specs.Parts.{Known, known_as, Table}
 use Rattle.cap_account_resources.proofs.Interference.{Can, Guarantees}
 use Rattle.cap_account_resources.proofs.Stocks.{Stock, both, all_of, Inside}
 use Rattle.cap_account_resources.proofs.Owners.{Owner, owned, numbers_of, owned-join}
-use Rattle.cap_account_assertions.proofs.Laws.{IsOwner, Reached, Stable}
+use Rattle.cap_account_assertions.proofs.Laws.{IsOwner, Reached}
+use Rattle.cap_account_steps.proofs.Regained.{Stable, region-again}
 use Rattle.cap_account_steps.proofs.Worlds.{HasMoved, Settles}
 use Rattle.cap_account.proofs.Stocked.{sum_by, owner_at, known_by, table_by, stock_or_none, share_by, OwnsItsOwn}
 use Rattle.cap_account.proofs.Totals.{sum-map, sum-each}
@@ -336,7 +337,7 @@ module _ (p : PlainProgram) (rs : List Owner) (s : Shift p rs) where
             subst (OwnsItsOwn p s.U) (sym (becomes r o m k q e)) (closed-owner o k).owns
         | missing f q ↦
             subst (OwnsItsOwn p s.U) (sym (stays-same s.closed r q))
-            (stable.region V s.U r.stock r.number r.kind r.args r.state
+            (region-again p stable V s.U r.stock r.number r.kind r.args r.state
             (reached r.stock (free-each r m q)) (known-at r m)
             (stays-known r.number (known_by r) (known-at r m) f)
             (of-member (OwnsItsOwn p V) r rs m own))

@@ -20,7 +20,7 @@ use Rattle.cap_account_resources.proofs.Stocks.{Stock, no_stock, both, Inside, s
 use Rattle.cap_account_resources.proofs.Tables.{new_guards}
 use Rattle.cap_account_resources.proofs.Owners.{owned}
 use Rattle.cap_account_states.proofs.Checked.{Checked}
-use Rattle.cap_account_assertions.proofs.Laws.{Stable}
+use Rattle.cap_account_steps.proofs.Regained.{Stable}
 use Rattle.cap_account_steps.proofs.Frames.{Stands, HandsOver, Returns}
 use Rattle.cap_account_steps.proofs.Statements.{Statements}
 use Rattle.cap_account.proofs.Stocked.{part_stock, frames_stock, account_table, callee_of, AllWait, Turn, spot_of, Advances}

@@ -1,7 +1,7 @@
 -- Derivations are sound.
 use Rattle.cap_account.specs.Law.{DerivationsAreSound}
 use Rattle.cap_account_states.proofs.Checked.{Checked, derivations}
-use Rattle.cap_account_assertions.proofs.Laws.{Stable}
+use Rattle.cap_account_steps.proofs.Regained.{Stable}
 use Rattle.cap_account_steps.proofs.Bundles.{unit-roots}
 use Rattle.cap_account_steps.proofs.StableLaws.{valid-stable}
 use Rattle.cap_account_steps.proofs.Statements.{Statements}

@@ -16,7 +16,8 @@ use Rattle.cap_account_resources.proofs.Stocks.{Stock, no_stock, both, Inside, s
 use Rattle.cap_account_resources.proofs.Tables.{new_guards}
 use Rattle.cap_account_resources.proofs.Owners.{Owner, owned}
 use Rattle.cap_account_states.proofs.Checked.{Checked}
-use Rattle.cap_account_assertions.proofs.Laws.{Made, Stable}
+use Rattle.cap_account_assertions.proofs.Laws.{Made}
+use Rattle.cap_account_steps.proofs.Regained.{Stable}
 use Rattle.cap_account_steps.proofs.Frames.{Stands, HandsOver}
 use Rattle.cap_account_steps.proofs.Worlds.{opened_table, Settles}
 use Rattle.cap_account.proofs.Stocked.{part_stock, frames_stock, account_table, callee_of, AllWait, Sound, Turn, Followed}

@@ -14,7 +14,7 @@ use Rattle.cap_account_resources.proofs.Stocks.{Stock, both, Inside, reordered, 
 use Rattle.cap_account_resources.proofs.Tables.{FitsRoom, fits-less}
 use Rattle.cap_account_resources.proofs.Owners.{owned}
 use Rattle.cap_account_states.proofs.Checked.{Checked}
-use Rattle.cap_account_assertions.proofs.Laws.{Stable}
+use Rattle.cap_account_steps.proofs.Regained.{Stable}
 use Rattle.cap_account_steps.proofs.Frames.{stands-on, waits-on}
 use Rattle.cap_account.proofs.Stocked.{part_stock, sum_by, frames_stock, threads_stock, owners, account_table, Callee, callee_of, AllWait, StackStands, EachStands, OwnsItsOwn, Sound, Turn}
 use Rattle.cap_account.proofs.Totals.{sum-set, sum-last}

@@ -16,7 +16,7 @@ use Rattle.cap_account_resources.proofs.Stocks.{Stock, both, Inside, stock-laws,
 use Rattle.cap_account_resources.proofs.Tables.{FitsRoom, fits-less}
 use Rattle.cap_account_resources.proofs.Owners.{Owner, owned, numbers_of}
 use Rattle.cap_account_states.proofs.Checked.{Checked}
-use Rattle.cap_account_assertions.proofs.Laws.{Stable}
+use Rattle.cap_account_steps.proofs.Regained.{Stable}
 use Rattle.cap_account.proofs.Stocked.{part_stock, sum_by, frames_stock, owner_of, owners, owner_at, table_by, account_table, account_stock, Turn}
 use Rattle.cap_account.proofs.Totals.{sum-at, sum-each}
 use Rattle.cap_account.proofs.Parts.{part_for, part-has, part-within}

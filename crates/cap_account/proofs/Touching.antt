@@ -20,7 +20,7 @@ use Rattle.cap_account_resources.proofs.Heaps.{one-itself, one-other, written}
 use Rattle.cap_account_resources.proofs.Interference.{relies-same}
 use Rattle.cap_account_resources.proofs.Stocks.{Stock, both, all_of}
 use Rattle.cap_account_states.proofs.Checked.{Checked}
-use Rattle.cap_account_assertions.proofs.Laws.{Stable}
+use Rattle.cap_account_steps.proofs.Regained.{Stable}
 use Rattle.cap_account_steps.proofs.Points.{FrameOk, point-act, point-next, ok-rest, ok-store}
 use Rattle.cap_account_steps.proofs.Frames.{Stands}
 use Rattle.cap_account_steps.proofs.Worlds.{after_cas, after_act, new_content, recelled, HeapStep}

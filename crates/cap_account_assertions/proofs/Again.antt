@@ -10,7 +10,7 @@ use Rattle.cap_lin.specs.declared.row.Sort.TheVariants.{Int, Perm}
 use Rattle.cap_prog.specs.Program.{Items, PlainProgram}
 use Rattle.cap_prog.specs.Scopes.{Scope, HasSort}
 use Rattle.cap_machine_accounts.specs.Assertions.{NameValue, a_number, a_fraction, HasNameSort, IsNamed}
-use Rattle.cap_goal_spec.specs.States.{PlainEnv, PlainState, PlainTask, to_give, to_take, to_rest}
+use Rattle.cap_goal_spec.specs.States.{PlainEnv, PlainFact, PlainState, PlainTask, to_give, to_take, to_rest}
 use Rattle.cap_goal_spec.specs.Environments.{zero_value, term_of}
 use Rattle.cap_goal_spec.specs.Choices.{PlainTrees}
 use Rattle.cap_rules.specs.Making.{env_at}
@@ -20,7 +20,8 @@ use Rattle.cap_account_resources.proofs.Stocks.{Stock, no_stock, both, Composes,
 use Rattle.cap_account_resources.proofs.Tables.{fits-relied}
 use Rattle.cap_account_states.specs.Nodes.{Open}
 use Rattle.cap_account_states.proofs.Terms.{Over, vars-more, Agree, agree-trans, agree-less}
-use Rattle.cap_account_states.proofs.Alike.{Alike, agree-alike, value-alike, amount-alike, above-zero}
+use Rattle.cap_account_states.proofs.Alike.{Alike, alike-same, agree-alike, value-alike, amount-alike, above-zero}
+use Rattle.cap_account_states.proofs.Filled.{Filled, filled_at}
 use Rattle.cap_account_states.proofs.Meets.{Usable, usable-old, Old}
 use Rattle.cap_account_states.proofs.Facts.{Facts}
 use Rattle.cap_account_states.proofs.Checked.{Checked}
@@ -30,7 +31,10 @@ use Rattle.cap_account_states.proofs.Backed.{IsFirm, IsOpened, Backed, Grounded,
 use Rattle.cap_account_assertions.proofs.Asserted.{DrawsAll, Owns}
 use Rattle.cap_account_assertions.proofs.Laws.{StateAt, GivenLaw, Reached, RestsLaw}
 use Rattle.cap_account_assertions.proofs.Follows.{alike-between}
-use Rattle.cap_account_assertions.proofs.TakenStill.{StillLaw}
+use Rattle.cap_account_assertions.proofs.Named.{rest_values, rest_counts}
+use Rattle.cap_account_assertions.proofs.Filling.{fill_items}
+use Rattle.cap_account_assertions.proofs.Passages.{Passage, EndsAt, end-of, end-before, end-brings}
+use Rattle.cap_account_assertions.proofs.TakenStill.{StillLaw, still-named}
 
 -- ---- values of the names that an environment binds
 
@@ -81,8 +85,9 @@ names-kept ks sc s v w env later a p l stay m = record {
 
 -- ---- given, and then others took steps
 
+-- the values are those at which it was given, and then what the Rests make of them
 pub record GivenRested (p : Checked) (U : Table) (v : Valuation) (h : Stock) (s : PlainState)
-    (ts : List PlainTask) : Type 0 where
+    (ts : List PlainTask) (start : Filled) : Type 0 where
   pub w : Valuation
   pub after : PlainState
   pub children : PlainTrees
@@ -93,6 +98,10 @@ pub record GivenRested (p : Checked) (U : Table) (v : Valuation) (h : Stock) (s 
   pub agree : Agree (Old s) v w
   pub goes_on : GoesOn s after
   pub others : (x : ℕ) → x < length s.envs → x ≢ 0 → env_at after x ≡ env_at s x
+  pub told : List PlainFact
+  pub trees : PlainTrees
+  pub named : w ≡ rest_values U told trees start.next start.values
+  pub count : length after.sorts ≡ rest_counts told trees start.next
 
 module _ (p : Checked) (gives : GivenLaw p) (rests : RestsLaw p) where
   pub given-rested :
@@ -100,8 +109,9 @@ module _ (p : Checked) (gives : GivenLaw p) (rests : RestsLaw p) where
       (ts : List PlainTask) (trees : PlainTrees) →
       Open p.N trees s (to_give items 0 0 ∷ to_rest 0 0 ∷ ts) → StateAt p.program [] T sc 0 v s →
       AllByRecursion IsFirm s.facts → Means sc v (env_at s 0) a → AreFit p.program sc items →
-      DrawsAll p.program T a items h r → Backed p.program v s no_stock → Reached p.program T U h →
-      GivenRested p U v h s ts
+      (d : DrawsAll p.program T a items h r) → Backed p.program v s no_stock →
+      Reached p.program T U h →
+      GivenRested p U v h s ts (fill_items p.program T a items h r d (filled_at 0 v s))
   given-rested T U sc a v s h r items ts trees goes at firm means fits draws backed reached =
       let pp = p.program in
       let all : both pp no_stock h ≡ h = (stock-laws pp).zero_left h in
@@ -114,6 +124,10 @@ module _ (p : Checked) (gives : GivenLaw p) (rests : RestsLaw p) where
       let first = g.goes_on in
       let more = t.goes_on in
       let count = first.count in
+      let next : length g.after.sorts
+      ≡ (fill_items pp T a items h r draws (filled_at 0 v s)).next = λ i. (g.filled i).next in
+      let values : g.w ≡ (fill_items pp T a items h r draws (filled_at 0 v s)).values =
+      λ i. (g.filled i).values in
       record {
         w = t.w;
         after = t.after;
@@ -134,16 +148,30 @@ module _ (p : Checked) (gives : GivenLaw p) (rests : RestsLaw p) where
           envs = (let m = first.envs in let n = more.envs in omega (arith, m, n));
         };
         others = λ x l ne. ap (λ es. get_or es x []) t.envs ∙ g.others x l ne;
+        told = g.after.facts;
+        trees = g.children;
+        named = t.named
+            ∙ (λ i. rest_values U g.after.facts g.children (next i) (values i));
+        count = t.count ∙ ap (rest_counts g.after.facts g.children) next;
       }
 
 -- ---- and taken again
 
--- the part has the items by the later table, at values that the known names keep
+-- the part has the items by the later table, at these values, which the known names keep
 pub record Again (p : PlainProgram) (U : Table) (h : Stock) (sc : Scope) (env : PlainEnv)
-    (a : Valuation) (items : Items) : Type 0 where
-  pub values : Valuation
-  pub kept : NamesKept sc env a values
-  pub met : Owns p U h values items
+    (a : Valuation) (items : Items) (b : Valuation) : Type 0 where
+  pub kept : NamesKept sc env a b
+  pub met : Owns p U h b items
+
+-- so it is at all values at which a passage ends
+pub record AgainBy (p : PlainProgram) (U : Table) (h : Stock) (sc : Scope) (env : PlainEnv)
+    (a : Valuation) (items : Items) (start : Filled) : Type 0 where
+  pub passage : Passage
+  pub u : Valuation
+  pub ends : EndsAt U start passage u
+  pub each :
+      (x : Valuation) → EndsAt U start passage x →
+      Again p U h sc env a items (values_in x passage.env)
 
 -- from a root whose second environment knows what is to stay
 pub again :
@@ -152,12 +180,15 @@ pub again :
     Open p.N trees s (to_give items 0 0 ∷ to_rest 0 0 ∷ to_take items 1 0 0 ∷ []) →
     StateAt p.program [] T sc 0 v s → AllByRecursion IsFirm s.facts → s.opened ≡ [] →
     Means sc v (env_at s 0) a → 1 < length s.envs → Placed [] sc s.sorts (env_at s 1) →
-    Means sc v (env_at s 1) a → AreFit p.program sc items → Owns p.program T h a items →
-    Backed p.program v s no_stock → Reached p.program T U h →
-    Again p.program U h sc (env_at s 1) a items
+    Means sc v (env_at s 1) a → AreFit p.program sc items →
+    (owns : Owns p.program T h a items) → Backed p.program v s no_stock →
+    Reached p.program T U h →
+    AgainBy p.program U h sc (env_at s 1) a items
+    (fill_items p.program T a items h owns.0 owns.1 (filled_at 0 v s))
 again p gives rests still T U sc a v s h items trees goes at firm none means two placed same fits
     owns backed reached =
     let pp = p.program in
+    let start = fill_items pp T a items h owns.0 owns.1 (filled_at 0 v s) in
     let g = given-rested p gives rests T U sc a v s h owns.0 items (to_take items 1 0 0 ∷ []) trees
     goes at firm means fits owns.1 backed reached in
     let on = g.goes_on in
@@ -174,12 +205,25 @@ again p gives rests still T U sc a v s h items trees goes at firm none means two
       placed = subst (Placed [] sc g.after.sorts) (sym env) now;
     }) tt fits g.backed (fits-relied pp T U h reached.full reached.relies reached.room) in
     let late = env_at t.after 1 in
+    let y : Passage = record {
+      told = g.told;
+      trees = g.trees;
+      brings = t.brings;
+      env = late;
+    } in
     record {
-      values = values_in t.w late;
-      kept =
-          names-kept [] sc s v t.w (env_at s 1) late a placed
-          (alike-between s g.after v g.w t.w on (agree-alike (Old s) v g.w g.agree)
-          t.follows.alike)
-          (λ x o i u e. t.follows.stays x o i u (ap (λ y. term_of y x) env ∙ e)) same;
-      met = t.met (values_in t.w late) (values-mean sc t.w late);
+      passage = y;
+      u = t.w;
+      ends = end-of U start y g.after g.w g.named g.count t.w t.follows.alike t.brought.are;
+      each = λ x l.
+          let m = end-before U start y g.after g.w g.named g.count x l in
+          let k = still-named p [] U sc 1 g.w h g.after items [] t x m
+          (end-brings U start y g.after g.w g.named g.count x l) in
+          record {
+            kept =
+                names-kept [] sc s v x (env_at s 1) late a placed
+                (alike-between s g.after v g.w x on (agree-alike (Old s) v g.w g.agree) m)
+                (λ x o i u e. t.follows.stays x o i u (ap (λ y. term_of y x) env ∙ e)) same;
+            met = k.met x (alike-same (Old t.after) x) (values_in x late) (values-mean sc x late);
+          };
     }

@@ -22,6 +22,16 @@ use Rattle.cap_account_states.proofs.Items.{AreFit, fits-more, fits-sides}
 use Rattle.cap_account_states.proofs.Wants.{IsFiner, slot-alike, wants-finer, asked-over}
 use Rattle.cap_account_assertions.proofs.Asserted.{WantsAtom, Draws, DrawsAll}
 
+-- of a region type that there is
+pub of-type :
+    (p : PlainProgram) (P : PlainRegionType → Type 0) (A : Type 0) (k : ℕ) →
+    ((t : PlainRegionType) → P t → A) → IsSomeAnd (slice_get p.regions k) P → A
+of-type p P A k f h = by (slice_get p.regions k) h
+  where
+    by : (o : Option PlainRegionType) → IsSomeAnd o P → A
+    by None h = absurd h
+    by (Some t) h = f t h
+
 module _ (p : PlainProgram) (T : Table) (sc : Scope) (v w : Valuation) (l : Alike (InScope sc) v w)
     (finer : IsFiner v w) where
   pub slots-alike :
@@ -32,16 +42,6 @@ module _ (p : PlainProgram) (T : Table) (sc : Scope) (v w : Valuation) (l : Alik
   slots-alike (s ∷ ss) [] f h = h
   slots-alike (s ∷ ss) (z ∷ zs) f h =
       (slot-alike sc v w l s z f.0 h.0, slots-alike ss zs f.1 h.1)
-
-  -- of a region type that there is
-  pub of-type :
-      (P : PlainRegionType → Type 0) (A : Type 0) (k : ℕ) →
-      ((t : PlainRegionType) → P t → A) → IsSomeAnd (slice_get p.regions k) P → A
-  of-type P A k f h = by (slice_get p.regions k) h
-    where
-      by : (o : Option PlainRegionType) → IsSomeAnd o P → A
-      by None h = absurd h
-      by (Some t) h = f t h
 
   abbrev pub atom-finer :
       (k i : ℕ) (asked : Asked) (m : Option Mark) → AskedOver sc asked →
@@ -76,9 +76,9 @@ module _ (p : PlainProgram) (T : Table) (sc : Scope) (v w : Valuation) (l : Alik
     ]
     draws-finer (fact place n k args s) more q r f h =
         let n_same = l.whole n (Int, f.0.0) in
-        let slots = of-type (λ t. FactFits sc t args s) (AllByRecursion (SlotFits sc Int) args) k
+        let slots = of-type p (λ t. FactFits sc t args s) (AllByRecursion (SlotFits sc Int) args) k
         (λ t g. g.slots) f.0.1 in
-        let state = of-type (λ t. FactFits sc t args s) (SlotFits sc Int s) k (λ t g. g.value) f.0.1
+        let state = of-type p (λ t. FactFits sc t args s) (SlotFits sc Int s) k (λ t g. g.value) f.0.1
         in (
           (
             h.0.0,
@@ -91,7 +91,7 @@ module _ (p : PlainProgram) (T : Table) (sc : Scope) (v w : Valuation) (l : Alik
         )
     draws-finer (atom place n k i asked) more q r f h =
         let n_same = l.whole n (Int, f.0.0) in
-        let over = of-type (λ t. AtomFits sc t i asked) (AskedOver sc asked) k
+        let over = of-type p (λ t. AtomFits sc t i asked) (AskedOver sc asked) k
         (λ t g. asked-over sc (atom_algebra t.algebra i) asked g.form) f.0.1 in (
           h.0,
           atom-finer k i asked h.0 over h.1,

@@ -1,14 +1,12 @@
 -- What giving, taking and stability lead to, by tables and stocks.
-use Rattle.std.specs.Prelude.{◌≡◌, ◌≢◌, ℕ, ◌<◌, ℤ, List, [], ◌∷◌, length, slice_get, true, Some, None}
+use Rattle.std.specs.Prelude.{◌≡◌, ◌≢◌, ℕ, ◌<◌, ℤ, List, [], ◌∷◌, length, true, Some, None}
 use Rattle.std.specs.List.{AllByRecursion}
 use Rattle.cap_lin.specs.Values.{Valuation}
 use Rattle.cap_lin.specs.declared.row.Sort.TheVariants.{Int}
-use Rattle.cap_prog.specs.Program.{Items, done, PlainFunction, PlainProgram}
-use Rattle.cap_prog.specs.Scopes.{Scope, fixed_start}
-use Rattle.cap_machine_accounts.specs.Assertions.{NameValue, ValuesFit}
+use Rattle.cap_prog.specs.Program.{Items, PlainProgram}
+use Rattle.cap_prog.specs.Scopes.{Scope}
 use Rattle.cap_machine_accounts.specs.Accounts.{EachTwo}
 use Rattle.cap_goal_spec.specs.States.{PlainState, PlainTask, to_give, to_take, to_rest}
-use Rattle.cap_goal_spec.specs.Roots.{LoopPoint, loops_in}
 use Rattle.cap_goal_spec.specs.Choices.{PlainTrees}
 use Rattle.cap_rules.specs.Making.{env_at}
 use Rattle.cap_account_resources.specs.Parts.{known_as, Table}
@@ -30,7 +28,7 @@ use Rattle.cap_account_states.proofs.Naming.{Placed, Means, Stays}
 use Rattle.cap_account_states.proofs.Matching.{Outside}
 use Rattle.cap_account_states.proofs.Backed.{IsFirm, IsOpened, Backed, Grounded, GoesOn, OtherEnvs}
 use Rattle.cap_account_assertions.proofs.Named.{rest_values, rest_counts}
-use Rattle.cap_account_assertions.proofs.Asserted.{DrawsAll, OwnsRegion, OwnsRequires, OwnsEnsures, OwnsInvariant}
+use Rattle.cap_account_assertions.proofs.Asserted.{DrawsAll, OwnsRegion}
 use Rattle.cap_account_assertions.proofs.Filling.{fill_items}
 
 -- ---- states and tables
@@ -163,24 +161,3 @@ RestsLaw p =
     (s : PlainState) → Reached p.program T U part → Open p.N trees s (to_rest 0 n ∷ ts) →
     Grounded p.program [] v s → Facts [] v T s → AllByRecursion IsFirm s.facts →
     Backed p.program v s part → Rested p U v part s ts trees
-
--- contracts, invariants and interpretations, whatever others do
-pub record Stable (p : PlainProgram) : Type 0 where
-  pub requires :
-      (T U : Table) (q : Stock) (n : ℕ) (f : PlainFunction) → slice_get p.functions n ≡ Some f →
-      Reached p T U q → (args : List ℤ) (fixed : List NameValue) → length args ≡ f.params →
-      ValuesFit f.fixed fixed → OwnsRequires p T q f args fixed → OwnsRequires p U q f args fixed
-  pub ensures :
-      (T U : Table) (q : Stock) (n : ℕ) (f : PlainFunction) → slice_get p.functions n ≡ Some f →
-      Reached p T U q → (args : List ℤ) (fixed : List NameValue) (r : ℤ) →
-      length args ≡ f.params → ValuesFit f.fixed fixed →
-      OwnsEnsures p T q f args fixed r → OwnsEnsures p U q f args fixed r
-  pub invariant :
-      (T U : Table) (q : Stock) (n : ℕ) (f : PlainFunction) → slice_get p.functions n ≡ Some f →
-      (w : LoopPoint) → Among w (loops_in f.body done) → Reached p T U q → (store : List ℤ)
-      (fixed : List NameValue) → length store ≡ fixed_start f → ValuesFit f.fixed fixed →
-      OwnsInvariant p T q f store fixed w.invariant → OwnsInvariant p U q f store fixed w.invariant
-  pub region :
-      (T U : Table) (q : Stock) (n : ℤ) (k : ℕ) (args : List ℤ) (b : ℤ) → Reached p T U q →
-      T n ≡ Some (known_as k args (Some b)) → U n ≡ Some (known_as k args (Some b)) →
-      OwnsRegion p T n k args b q → OwnsRegion p U n k args b q

@@ -31,5 +31,8 @@ pub mod GiveItems
 pub mod GiveLaw
 pub mod MadeTables
 pub mod TakenStill
+pub mod FilledAlike
+pub mod DrawnSame
+pub mod Passages
 pub mod Again
 pub mod Coarser

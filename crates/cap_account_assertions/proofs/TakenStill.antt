@@ -16,7 +16,8 @@ use Rattle.cap_account_resources.proofs.Stocks.{Stock, no_stock, both, Inside, n
 use Rattle.cap_account_resources.proofs.Tables.{Extends, extends-states, FitsRoom}
 use Rattle.cap_account_resources.proofs.Owners.{Owner, owned, guards_of_all, numbers_of}
 use Rattle.cap_account_states.specs.Nodes.{Open}
-use Rattle.cap_account_states.proofs.Alike.{alike-same}
+use Rattle.cap_account_states.proofs.Alike.{Alike, alike-trans}
+use Rattle.cap_account_states.proofs.Brought.{Bring, Brings, Brought}
 use Rattle.cap_account_states.proofs.Meets.{Old}
 use Rattle.cap_account_states.proofs.Checked.{Checked}
 use Rattle.cap_account_states.proofs.Naming.{Means}
@@ -24,6 +25,7 @@ use Rattle.cap_account_states.proofs.Items.{AreFit}
 use Rattle.cap_account_states.proofs.Backed.{Backed}
 use Rattle.cap_account_assertions.proofs.Asserted.{Owns, draws-all-kept, draws-all-more}
 use Rattle.cap_account_assertions.proofs.Laws.{StateAt}
+use Rattle.cap_account_assertions.proofs.Coarser.{then-alike, follows-named, state-alike}
 use Rattle.cap_account_assertions.proofs.TreeSizes.{trees_size}
 use Rattle.cap_account_assertions.proofs.Follows.{Follows}
 use Rattle.cap_account_assertions.proofs.TakeSteps.{Job}
@@ -32,7 +34,8 @@ use Rattle.cap_account_assertions.proofs.CaseStarts.{known-at, state-at}
 use Rattle.cap_account_assertions.proofs.TakeAll.{ConvertLaw, took}
 use Rattle.cap_account_assertions.proofs.TakeConvert.{convert-law}
 
--- what is held has the items at the values of the names in the end, by the same table
+-- new variables have the values that are brought. What is held has the items, by the same table, at all
+-- values alike to those in the end
 pub record Still (p : Checked) (ks : List ℕ) (T : Table) (sc : Scope) (e : ℕ) (v : Valuation)
     (held : Stock) (s : PlainState) (items : Items) (ts : List PlainTask) : Type 0 where
   pub w : Valuation
@@ -40,9 +43,12 @@ pub record Still (p : Checked) (ks : List ℕ) (T : Table) (sc : Scope) (e : ℕ
   pub children : PlainTrees
   pub goes : Open p.N children after ts
   pub follows : Follows sc e v s w after
+  pub brings : List Bring
+  pub brought : Brought s after w brings
   pub ready : StateAt p.program ks T sc e w after
   pub met :
-      (a : Valuation) → Means sc w (env_at after e) a → Owns p.program T held a items
+      (x : Valuation) → Alike (Old after) w x → (a : Valuation) → Means sc x (env_at after e) a →
+      Owns p.program T held a items
 
 abbrev pub StillLaw : Checked → Type 0
 StillLaw p =
@@ -106,8 +112,10 @@ still-law p regions convert ks T sc e n items ts trees v s held goes at low fits
       children = t.children;
       goes = t.goes;
       follows = t.follows;
+      brings = t.brings;
+      brought = t.brought;
       ready = state-at pp ks T sc e t.w t.after t.left known t.ready.there t.ready.placed;
-      met = λ a m. (
+      met = λ x l a m. (
         no_stock,
         draws-all-more pp T a items (both pp t.given no_stock) held no_stock no_stock
             (inside-trans pp (both pp t.given no_stock) t.given held
@@ -115,10 +123,32 @@ still-law p regions convert ks T sc e n items ts trees v s held goes at low fits
             (given-held pp t.left t.given held t.new none t.budget)) (inside-same pp no_stock)
             (draws-all-kept pp t.U T (extends-states t.U T back) a items
             (both pp t.given no_stock) no_stock
-            (t.draws t.w (alike-same (Old t.after) t.w) a m no_stock)),
+            (t.draws x l a m no_stock)),
       );
     }
 
 pub still-always :
     (p : Checked) → AllByRecursion (RegionFits p.program) p.program.regions → StillLaw p
 still-always p regions = still-law p regions (convert-law p)
+
+-- ---- at values of which the same is brought
+
+abbrev pub still-named :
+    (p : Checked) (ks : List ℕ) (T : Table) (sc : Scope) (e : ℕ) (v : Valuation) (held : Stock)
+    (s : PlainState) (items : Items) (ts : List PlainTask) (t : Still p ks T sc e v held s items ts)
+    (u : Valuation) → Alike (Old s) v u → Brings u (length s.sorts) t.brings →
+    Still p ks T sc e v held s items ts
+still-named p ks T sc e v held s items ts t u l k =
+    let f = t.follows in
+    let now = then-alike s t.after v t.w u t.brings t.brought f.alike l k in
+    record {
+      w = u;
+      after = t.after;
+      children = t.children;
+      goes = t.goes;
+      follows = follows-named sc e v t.w u s t.after f l;
+      brings = t.brings;
+      brought = record { count = t.brought.count; are = k };
+      ready = state-alike p.program ks T sc e t.w u t.after now t.ready;
+      met = λ x m. t.met x (alike-trans (Old t.after) t.w u x now m);
+    }

@@ -36,12 +36,14 @@ use Rattle.cap_account_states.proofs.Roots.{values-length, function-fits, rename
 use Rattle.cap_account_states.proofs.Backed.{Backed}
 use Rattle.cap_account_assertions.proofs.Asserted.{Owns, OwnsRequires, OwnsInvariant}
 use Rattle.cap_account_assertions.proofs.Filling.{fill_items}
-use Rattle.cap_account_assertions.proofs.Laws.{StateAt, Given, GivenLaw, Reached, Stable}
+use Rattle.cap_account_assertions.proofs.Laws.{StateAt, Given, GivenLaw, Reached}
+use Rattle.cap_account_assertions.proofs.Passages.{EndsAt}
 use Rattle.cap_account_steps.proofs.Points.{Point, FrameOk, loop_point, point-next, point-again, point-loop, point-act}
 use Rattle.cap_account_steps.proofs.Stores.{Store, store-alike}
 use Rattle.cap_account_steps.proofs.Entries.{take-all, entry_root, loop_root, low-variable}
 use Rattle.cap_account_steps.proofs.Bundles.{UnitRoots}
-use Rattle.cap_account_steps.proofs.Frames.{Node, Sits, Roomy}
+use Rattle.cap_account_steps.proofs.Regained.{Regained, given_requires, given_invariant, Stable}
+use Rattle.cap_account_steps.proofs.Frames.{Node, Sits, StandsAgain, Roomy}
 use Rattle.cap_account_steps.proofs.Statements.{BodyLaw, TurnLaw}
 use Rattle.cap_account_steps.proofs.Local.{turn-at}
 
@@ -98,7 +100,7 @@ module _ (p : Checked) (program : IsWellFormed p.program) (give : GivenLaw p)
       (subst Composes (sym alone) (fits-composes p.program T part room)))
 
   -- and then the frame whose store it has sits there
-  given-sits :
+  abbrev given-sits :
       (T : Table) (v : Valuation) (s : PlainState) (part : Stock) (h : Home) (fn : PlainFunction)
       (fixed : List NameValue) (f : Frame) (tasks : Home → List PlainTask) →
       (goal : Filled) → s.opened ≡ [] → (gv : Given p T 0 v part s (tasks h) goal) → Store v s h fn fixed f →
@@ -145,8 +147,10 @@ module _ (p : Checked) (program : IsWellFormed p.program) (give : GivenLaw p)
         ∙ ap (λ zs. args ++ zs) (map-zero v g.locals)
 
     body-sits :
-        (U : Table) → FitsRoom p.program U part → OwnsRequires p.program U part g args fixed →
-        Sits p part U g fixed (new_frame n g args destination)
+        (U : Table) → FitsRoom p.program U part →
+        (me : OwnsRequires p.program U part g args fixed) →
+        (s : Sits p part U g fixed (new_frame n g args destination))
+        × (s.at_node.v ≡ (given_requires p.program U part n g args fixed me).values)
     body-sits U room me =
         let top : Root = entry_root g n me.values in
         let v = renamed (g.params + 0) g.locals (normal (requires_scope g) me.values) in
@@ -158,18 +162,20 @@ module _ (p : Checked) (program : IsWellFormed p.program) (give : GivenLaw p)
         trees.0 (record { facts = refl; guards = refl; cells = refl; opened = refl }) ready room
         (function-fits p.program program n g is_g).requires.items me.met trees.1 in
         let child = one-child p.N gv.children gv.after (tasks h) gv.goes in
-        let len : length args ≤ g.params + 0 = omega (arith, count) in
-        record {
-          tree = child.0;
-          at_node = given-sits U v entered part h g fixed (new_frame n g args destination) tasks
-              _ refl gv (record {
-                home = refl;
-                store = entered-store v len
-                    (variables-values v 0 args (root-whole top args len me.args_are));
-                fixed_are = root-fixed top fixed fit me.fixed_are;
-                fixed_known = fixed-usable top;
-              }) (values-length g.fixed fixed fit) entered-over child.0 child.1;
-        }
+        let len : length args ≤ g.params + 0 = omega (arith, count) in (
+          record {
+            tree = child.0;
+            at_node = given-sits U v entered part h g fixed (new_frame n g args destination) tasks
+                _ refl gv (record {
+                  home = refl;
+                  store = entered-store v len
+                      (variables-values v 0 args (root-whole top args len me.args_are));
+                  fixed_are = root-fixed top fixed fit me.fixed_are;
+                  fixed_known = fixed-usable top;
+                }) (values-length g.fixed fixed fit) entered-over child.0 child.1;
+          },
+          (λ i. (gv.filled i).values),
+        )
 
   -- ---- turns
 
@@ -203,9 +209,11 @@ module _ (p : Checked) (program : IsWellFormed p.program) (give : GivenLaw p)
 
     turn-sits :
         (U : Table) → FitsRoom p.program U part →
-        OwnsInvariant p.program U part fn f.store fixed inv →
-        Sits p part U fn fixed
-        (with_rest f (if holds f.store c then append body (first l (loop c inv body) b) else b))
+        (me : OwnsInvariant p.program U part fn f.store fixed inv) →
+        (s : Sits p part U fn fixed
+        (with_rest f (if holds f.store c then append body (first l (loop c inv body) b) else b)))
+        × (s.at_node.v
+        ≡ (given_invariant p.program U part f.function fn f.store fixed inv me).values)
     turn-sits U room me =
         let top : Root = loop_root fn f.function inv.names me.values in
         let sc = invariant_scope fn inv.names in
@@ -222,14 +230,15 @@ module _ (p : Checked) (program : IsWellFormed p.program) (give : GivenLaw p)
         let child = one-child p.N gv.children gv.after (tasks h) gv.goes in
         let size = ok.size in
         let len : length f.store ≤ fn.params + fn.locals = omega (arith, size) in
-        (turn-at p part U fn fixed f l b c inv body child.0 act.0
+        let t = turn-at p part U fn fixed f l b c inv body child.0 act.0
         (given-sits U v turned part h fn fixed f tasks _ refl gv (record {
           home = refl;
           store = turned-store v
               (variables-values v 0 f.store (root-whole top f.store len me.store_is));
           fixed_are = root-fixed top fixed ok.values me.fixed_are;
           fixed_known = fixed-usable top;
-        }) (values-length fn.fixed fixed ok.values) turned-over child.0 child.1)).sits
+        }) (values-length fn.fixed fixed ok.values) turned-over child.0 child.1) in
+        (t.sits, t.named ∙ (λ i. (gv.filled i).values))
 
   -- ---- the laws
 
@@ -239,48 +248,108 @@ module _ (p : Checked) (program : IsWellFormed p.program) (give : GivenLaw p)
   reached-room T U part r relies =
       record { fits = r.fits; full = r.full; room = r.room; relies = relies }
 
-  pub body-law : BodyLaw p
-  body-law n g is_g T part args fixed destination roomy count fit me = record {
-    fn = g;
-    ok = record {
-      is_fn = is_g;
-      size =
-          length-join args (replicate g.locals (pos 0))
-          ∙ (let c = rep-length g.locals (pos 0) in omega (arith, c, count));
-      args = take-all args (replicate g.locals (pos 0)) g.params count;
-      values = fit;
-      point = record {
-        fits = (function-fits p.program program n g is_g).body.statements;
-        loops = λ w h. h;
-      };
-    };
-    all = λ U relies.
-        body-sits n g is_g args fixed destination count fit part U
-        (fits-relied p.program T U part roomy.full relies roomy.room)
-        (stable.requires T U part n g is_g (reached-room T U part roomy relies) args fixed count fit
-        me);
-  }
+  -- a body begins at the values at which its `requires` is given, where it is met again
+  pub body-named :
+      (n : ℕ) (g : PlainFunction) → slice_get p.program.functions n ≡ Some g → (T : Table)
+      (part : Stock) (args : List ℤ) (fixed : List NameValue) (destination : Option ℕ) →
+      Roomy p.program T part → length args ≡ g.params → ValuesFit g.fixed fixed →
+      (me : OwnsRequires p.program T part g args fixed) →
+      StandsAgain p part T fixed (new_frame n g args destination)
+      (given_requires p.program T part n g args fixed me)
+      (λ U. OwnsRequires p.program U part g args fixed) (λ U m. m.values)
+      (λ U m s v. v ≡ (given_requires p.program U part n g args fixed m).values)
+  body-named n g is_g T part args fixed destination roomy count fit me =
+      let f = new_frame n g args destination in
+      let start = given_requires p.program T part n g args fixed me in
+      let owned : (U : Table) → Relies p.program part.guards T U →
+      Regained U start (OwnsRequires p.program U part g args fixed) (λ m. m.values) =
+      λ U relies. stable.requires T U part n g is_g (reached-room T U part roomy relies) args fixed
+      count fit me in
+      let each : (U : Table) (relies : Relies p.program part.guards T U) (x : Valuation)
+      (e : EndsAt U start (owned U relies).passage x) → (s : Sits p part U g fixed f)
+      × (s.at_node.v
+      ≡ (given_requires p.program U part n g args fixed ((owned U relies).each x e).0).values) =
+      λ U relies x e. body-sits n g is_g args fixed destination count fit part U
+      (fits-relied p.program T U part roomy.full relies roomy.room)
+      ((owned U relies).each x e).0 in
+      record {
+        stands = record {
+          fn = g;
+          ok = record {
+            is_fn = is_g;
+            size =
+                length-join args (replicate g.locals (pos 0))
+                ∙ (let c = rep-length g.locals (pos 0) in omega (arith, c, count));
+            args = take-all args (replicate g.locals (pos 0)) g.params count;
+            values = fit;
+            point = record {
+              fits = (function-fits p.program program n g is_g).body.statements;
+              loops = λ w h. h;
+            };
+          };
+          all = λ U relies. (each U relies (owned U relies).u (owned U relies).ends).0;
+        };
+        owned = owned;
+        each = each;
+        are = λ U relies. refl;
+      }
 
-  pub turn-law : TurnLaw p
-  turn-law part T fn fixed f l b c i x roomy ok me = record {
-    fn = fn;
-    ok = record {
-      is_fn = ok.is_fn;
-      size = ok.size;
-      args = ok.args;
-      values = ok.values;
-      point = on (holds f.store c);
-    };
-    all = λ U relies.
-        turn-sits fn fixed f l c i x b ok part U
-        (fits-relied p.program T U part roomy.full relies roomy.room)
-        (stable.invariant T U part f.function fn ok.is_fn (loop_point l c i x b)
-        (point-loop p.program fn l c i x b ok.point) (reached-room T U part roomy relies) f.store
-        fixed ok.size ok.values me);
-  }
+  pub body-law : BodyLaw p
+  body-law n g is_g T part args fixed destination roomy count fit me =
+      (body-named n g is_g T part args fixed destination roomy count fit me).stands
+
+  -- a turn begins at those at which its invariant is given, where it is met again
+  pub turn-named :
+      (part : Stock) (T : Table) (fn : PlainFunction) (fixed : List NameValue) (f : Frame)
+      (l : Label) (b : Block) (c : Comp) (i : PlainAssertion) (x : Block) →
+      Roomy p.program T part →
+      FrameOk p.program fn fixed (with_rest f (first l (loop c i x) b)) →
+      (me : OwnsInvariant p.program T part fn f.store fixed i) →
+      StandsAgain p part T fixed
+      (with_rest f (if holds f.store c then append x (first l (loop c i x) b) else b))
+      (given_invariant p.program T part f.function fn f.store fixed i me)
+      (λ U. OwnsInvariant p.program U part fn f.store fixed i) (λ U m. m.values)
+      (λ U m s v. v ≡ (given_invariant p.program U part f.function fn f.store fixed i m).values)
+  turn-named part T fn fixed f l b c i x roomy ok me =
+      let next = with_rest f
+      (if holds f.store c then append x (first l (loop c i x) b) else b) in
+      let start = given_invariant p.program T part f.function fn f.store fixed i me in
+      let owned : (U : Table) → Relies p.program part.guards T U →
+      Regained U start (OwnsInvariant p.program U part fn f.store fixed i) (λ m. m.values) =
+      λ U relies. stable.invariant T U part f.function fn ok.is_fn (loop_point l c i x b)
+      (point-loop p.program fn l c i x b ok.point) (reached-room T U part roomy relies) f.store
+      fixed ok.size ok.values me in
+      let each : (U : Table) (relies : Relies p.program part.guards T U) (y : Valuation)
+      (e : EndsAt U start (owned U relies).passage y) → (s : Sits p part U fn fixed next)
+      × (s.at_node.v
+      ≡ (given_invariant p.program U part f.function fn f.store fixed i
+      ((owned U relies).each y e).0).values) =
+      λ U relies y e. turn-sits fn fixed f l c i x b ok part U
+      (fits-relied p.program T U part roomy.full relies roomy.room)
+      ((owned U relies).each y e).0 in
+      record {
+        stands = record {
+          fn = fn;
+          ok = record {
+            is_fn = ok.is_fn;
+            size = ok.size;
+            args = ok.args;
+            values = ok.values;
+            point = on (holds f.store c);
+          };
+          all = λ U relies. (each U relies (owned U relies).u (owned U relies).ends).0;
+        };
+        owned = owned;
+        each = each;
+        are = λ U relies. refl;
+      }
     where
       on :
           (t : Bool) →
           Point p.program fn (if t then append x (first l (loop c i x) b) else b)
       on true = point-again p.program fn l c i x b ok.point
       on false = point-next p.program fn l (loop c i x) b ok.point
+
+  pub turn-law : TurnLaw p
+  turn-law part T fn fixed f l b c i x roomy ok me =
+      (turn-named part T fn fixed f l b c i x roomy ok me).stands

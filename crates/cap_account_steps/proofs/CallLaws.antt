@@ -1,5 +1,5 @@
 -- The laws of calls and forks.
-use Rattle.std.proofs.Common.{◌++◌, ◌+◌, ◌≡◌, ℕ, ℤ, pos, List, [], ◌∷◌, length, map, arith, refl, ◌∙◌, subst, Option, Some, None, ◌<◌}
+use Rattle.std.proofs.Common.{◌++◌, ◌+◌, ◌≡◌, ℕ, ℤ, pos, List, [], ◌∷◌, length, map, arith, refl, ◌∙◌, subst, Option, Some, None}
 use Rattle.std.specs.Prelude.{slice_get, IsSomeAnd}
 use Rattle.cap_lin.specs.Linear.{Linear}
 use Rattle.cap_lin.specs.Values.{Valuation}
@@ -25,18 +25,19 @@ use Rattle.cap_account_states.proofs.Attempts.{after-found}
 use Rattle.cap_account_states.proofs.Meets.{Old}
 use Rattle.cap_account_states.proofs.Checked.{Checked, one-child}
 use Rattle.cap_account_states.proofs.Roots.{values-length}
-use Rattle.cap_account_assertions.proofs.Laws.{GivenLaw, TakenLaw, Rested, RestsLaw, Stable}
-use Rattle.cap_account_assertions.proofs.Named.{set_to, rest_values, rest_counts}
+use Rattle.cap_account_assertions.proofs.Laws.{GivenLaw, TakenLaw, Rested, RestsLaw}
+use Rattle.cap_account_assertions.proofs.Named.{set_to, rest_values}
 use Rattle.cap_account_steps.proofs.Points.{FrameOk, point-act, point-next, ok-rest}
 use Rattle.cap_account_steps.proofs.Stores.{Store, running}
 use Rattle.cap_account_steps.proofs.Callees.{fixed_values, fixed-fit, ok-put, after-called}
-use Rattle.cap_account_steps.proofs.Frames.{Node, Roomy, Calls, Forks, WaitsLike}
+use Rattle.cap_account_steps.proofs.Regained.{Stable}
+use Rattle.cap_account_steps.proofs.Frames.{Node, Roomy, Calls, Forks, WaitsLike, waits_so}
 use Rattle.cap_account_steps.proofs.Statements.{Before, CallLaw, ForkLaw}
 use Rattle.cap_account_steps.proofs.Local.{given-up}
 use Rattle.cap_account_steps.proofs.OwnNames.{canon}
 use Rattle.cap_account_steps.proofs.CallSite.{Caller, a1, callee_fixed, alike2, met-requires}
 use Rattle.cap_account_steps.proofs.Results.{with_result, alike4, firm2, grounded2, facts2, backed2}
-use Rattle.cap_account_steps.proofs.Calling.{store-received, after_call, take-here, hands, reached-left, waits-here}
+use Rattle.cap_account_steps.proofs.Calling.{store-received, back_start, after_call, take-here, hands, reached-left, waits-here}
 
 -- ---- by name
 
@@ -59,10 +60,10 @@ module _ (p : Checked) (part : Stock) (T : Table) (fixed : List NameValue) (f : 
     pub fixed_are : calls.fixed ≡ fixed_values (required took after) (fixed_start g) g.fixed
     pub waits :
         WaitsLike p calls.kept calls.over.U fixed f x n args calls.fixed
-        (λ y. y < rest_counts after.facts children (length after.sorts))
-        (λ W r. rest_values W after.facts children (length after.sorts)
-        (set_to took (length s.sorts) r))
-    pub are_those : waits.waits ≡ calls.goes_on
+        (back_start s took after children)
+    pub are_those : waits_so p calls.kept calls.over.U fixed f x n args calls.fixed
+        (back_start s took after children) waits
+        ≡ calls.goes_on
 
   pub record ForksAt : Type 0 where
     pub forks : Forks p part T fixed f g args
@@ -184,7 +185,10 @@ module _ (p : Checked) (program : IsWellFormed p.program) (give : GivenLaw p) (t
             fixed = callee_fixed p part T f.store c (rest g) tk;
             fit = fixed-fit (a1 p part T f.store c (rest g) tk) (fixed_start g) g.fixed;
             meets = met-requires p part T f.store c (rest g) tk;
-            goes_on = waits.waits;
+            goes_on =
+                waits_so p tk.left tk.U fixed (with_rest f b) x n (map (value_in f.store) args)
+                (callee_fixed p part T f.store c (rest g) tk)
+                (back_start s tk.w tk.after tk.children) waits;
           };
           took = tk.w;
           after = tk.after;

@@ -13,8 +13,8 @@ use Rattle.cap_goal_spec.specs.States.{PlainState, Home, PlainTask, to_take, to_
 use Rattle.cap_goal_spec.specs.Choices.{PlainTrees}
 use Rattle.cap_rules.specs.Making.{fresh, env_at}
 use Rattle.cap_machine.specs.Machine.{Frame, value_in, with_rest, receives}
-use Rattle.cap_machine_accounts.specs.Assertions.{NameValue}
-use Rattle.cap_account_states.proofs.Alike.{values-alike, Alike, InScope, meets-alike, alike-trans, alike-less, agree-alike, scaled-alike}
+use Rattle.cap_machine_accounts.specs.Assertions.{NameValue, ValuesFit}
+use Rattle.cap_account_states.proofs.Alike.{values-alike, Alike, InScope, meets-alike, alike-back, alike-trans, alike-less, agree-alike, scaled-alike}
 use Rattle.cap_account_resources.specs.Parts.{Table}
 use Rattle.cap_account_resources.proofs.Interference.{Relies, relies-trans, relies-less}
 use Rattle.cap_account_resources.proofs.Lists.{some-same, map-length, get-first, push-length, all-more}
@@ -23,20 +23,25 @@ use Rattle.cap_account_states.specs.Nodes.{Open}
 use Rattle.cap_account_states.proofs.Terms.{Over, vars-more, Agree}
 use Rattle.cap_account_states.proofs.Meets.{Usable, usable-old, Old, variable-value}
 use Rattle.cap_account_states.proofs.Checked.{Checked, one-child}
+use Rattle.cap_account_states.proofs.Filled.{Filled, filled_at}
+use Rattle.cap_account_states.proofs.Items.{AreFit}
 use Rattle.cap_account_states.proofs.Naming.{Placed, Means, means-on, placed-more}
 use Rattle.cap_account_states.proofs.Roots.{function-fits}
 use Rattle.cap_account_states.proofs.Values.{scaled}
 use Rattle.cap_account_states.proofs.Wants.{scaled-finer}
 use Rattle.cap_account_states.proofs.Backed.{IsOpened}
-use Rattle.cap_account_assertions.proofs.Asserted.{OwnsEnsures}
+use Rattle.cap_account_assertions.proofs.Asserted.{DrawsAll, OwnsEnsures}
+use Rattle.cap_account_assertions.proofs.Filling.{fill_items}
+use Rattle.cap_account_assertions.proofs.FilledAlike.{FilledLike, items-alike, all-finer-alike}
 use Rattle.cap_account_assertions.proofs.Finer.{draws-all-finer}
 use Rattle.cap_account_assertions.proofs.Named.{set_to, rest_values, rest_counts}
-use Rattle.cap_account_assertions.proofs.Laws.{StateAt, GivenLaw, TakenLaw, Reached, Rested, RestsLaw, Stable}
+use Rattle.cap_account_assertions.proofs.Laws.{StateAt, GivenLaw, TakenLaw, Reached, Rested, RestsLaw}
 use Rattle.cap_account_assertions.proofs.MadeTables.{made-fits, made-full, made-room}
 use Rattle.cap_account_steps.proofs.Points.{FrameOk}
 use Rattle.cap_account_steps.proofs.Stores.{Store, running, fixed-alike}
 use Rattle.cap_account_steps.proofs.Callees.{fixed-fit, put_at, map-put, receives-is}
-use Rattle.cap_account_steps.proofs.Frames.{Sits, Roomy, HandsOver, SitsLike, WaitsLike}
+use Rattle.cap_account_steps.proofs.Frames.{Sits, Roomy, HandsOver, GivenBack, WaitsLike}
+use Rattle.cap_account_steps.proofs.Regained.{Regained, given_ensures, Stable}
 use Rattle.cap_account_steps.proofs.FirmStates.{Between, facts-between, grounded-between, backed-between}
 use Rattle.cap_account_steps.proofs.CallSite.{Caller, TakenHere, kept, v1, s1, args_are, at-call, backed1, env2, a1, callee_fixed}
 use Rattle.cap_account_steps.proofs.Results.{with_result, alike4, result-value, firm2, grounded2, facts2, backed2, placed2, means2}
@@ -85,6 +90,17 @@ scaled-between m v s = record {
   facts = refl;
   cells = refl;
   guards = refl;
+}
+
+-- where a call's result is r and the table W, the names of the callee's environment, the variables and
+-- their values before its promise is given: from what was taken
+abbrev pub back_start :
+    PlainState → Valuation → PlainState → PlainTrees → Table → ℤ → Filled
+back_start s took after children W r = record {
+  env = env_at after (length s.envs);
+  next = rest_counts after.facts children (length after.sorts);
+  values =
+      rest_values W after.facts children (length after.sorts) (set_to took (length s.sorts) r);
 }
 
 module _ (p : Checked) (program : IsWellFormed p.program) (give : GivenLaw p) (take : TakenLaw p)
@@ -157,6 +173,16 @@ module _ (p : Checked) (program : IsWellFormed p.program) (give : GivenLaw p) (t
       abbrev names : Valuation
       names = scaled tk.w.fraction.under me.values
 
+      abbrev drawn-now :
+          AreFit p.program (ensures_scope c.g c.g.ensures.names) c.g.ensures.items →
+          DrawsAll p.program W names c.g.ensures.items handed me.met.0
+      drawn-now fits =
+          let sc = ensures_scope c.g c.g.ensures.names in
+          draws-all-finer p.program W sc me.values names
+          (scaled-alike (InScope sc) tk.w.fraction.under me.values)
+          (scaled-finer tk.w.fraction.under me.values) c.g.ensures.items handed me.met.0 fits
+          me.met.1
+
       between : Between [] [] (Old rs.after) rs.w now rs.after rs.after
       between = scaled-between me.values.fraction.under rs.w rs.after
 
@@ -197,9 +223,64 @@ module _ (p : Checked) (program : IsWellFormed p.program) (give : GivenLaw p) (t
         placed = placed-now;
       }
 
+      -- the variables and their values before the promise is given
+      abbrev before : Filled
+      before = back_start c.s tk.w tk.after tk.children W r
+
+      -- what it is given at is over one denominator, and alike to any such values
+      like-given :
+          (fits : AreFit p.program (ensures_scope c.g c.g.ensures.names) c.g.ensures.items)
+          (s : PlainState) (v : Valuation) →
+          filled_at (length c.s.envs) v s
+          ≡ fill_items p.program W names c.g.ensures.items handed me.met.0 (drawn-now fits)
+          (filled_at (length c.s.envs) now rs.after) →
+          FilledLike p.program W (ensures_scope c.g c.g.ensures.names) c.g.ensures.items handed
+          before me.values me.met.0 me.met.1 s v
+      like-given fits s v filled x y same one old k e drawn =
+          let sc = ensures_scope c.g c.g.ensures.names in
+          let items = c.g.ensures.items in
+          let start = filled_at (length c.s.envs) now rs.after in
+          let later = record before { values = y } in
+          let count = rs.count in
+          let near : Alike (λ i. i < length rs.after.sorts) now y =
+          alike-trans (Old rs.after) now rs.w y
+          (alike-back (Old rs.after) rs.w now
+          (scaled-alike (Old rs.after) me.values.fraction.under rs.w))
+          (subst (λ u. Alike (Old rs.after) u y) (sym rs.named)
+          (alike-less (Old rs.after) (λ i. i < before.next) before.values y
+          (λ i l. (omega (arith, l, count))) old)) in
+          let g = items-alike sc names x
+          (alike-trans (InScope sc) names me.values x
+          (alike-back (InScope sc) me.values names
+          (scaled-alike (InScope sc) tk.w.fraction.under me.values)) one) p.program W items handed
+          me.met.0 handed k (drawn-now fits) e start later fits
+          (all-finer-alike p.program W sc me.values names x
+          (scaled-alike (InScope sc) tk.w.fraction.under me.values)
+          (scaled-finer tk.w.fraction.under me.values) items handed me.met.0 handed k fits me.met.1
+          e drawn)
+          (record {
+            env = sym env-same;
+            next = sym rs.count;
+            alike = near;
+            first = means-now.under;
+            second = same;
+          }) in
+          let first = fill_items p.program W names items handed me.met.0 (drawn-now fits) start in
+          let last = fill_items p.program W x items handed k e later in
+          let next : length s.sorts ≡ first.next = λ i. (filled i).next in
+          let values : v ≡ first.values = λ i. (filled i).values in
+          let n = g.next in (
+            next ∙ sym g.next,
+            subst (Alike (λ i. i < last.next) last.values) (sym values)
+                (alike-back (λ i. i < last.next) first.values last.values
+                (alike-less (λ i. i < last.next) (λ i. i < first.next) first.values last.values
+                (λ i l. (omega (arith, l, n))) g.alike)),
+          )
+
       pub comes-back :
-          SitsLike p (both p.program tk.left handed) W fn fixed (receives c.x r (with_rest f b))
-          (Old rs.after) rs.w
+          (s : Sits p (both p.program tk.left handed) W fn fixed (receives c.x r (with_rest f b)))
+          × GivenBack p.program W c.g handed before me.values me.met.0 me.met.1 s.at_node.state
+          s.at_node.v
       comes-back =
           let sc = ensures_scope c.g c.g.ensures.names in
           let items = c.g.ensures.items in
@@ -207,9 +288,7 @@ module _ (p : Checked) (program : IsWellFormed p.program) (give : GivenLaw p) (t
           let w = with_result p part T f.store c ts tk r in
           let gv = give W sc (length c.s.envs) l.number names tk.left handed me.met.0 items
           (running b h) rs.children now rs.after rs.goes state-now rs.firm means-now fits
-          (draws-all-finer p.program W sc me.values names
-          (scaled-alike (InScope sc) tk.w.fraction.under me.values)
-          (scaled-finer tk.w.fraction.under me.values) items handed me.met.0 fits me.met.1)
+          (drawn-now fits)
           (backed-between p.program [] [] (Old rs.after) rs.w now rs.after rs.after between tk.left
           rs.grounded rs.backed)
           (fits-composes p.program W (both p.program tk.left handed) room) in
@@ -250,88 +329,120 @@ module _ (p : Checked) (program : IsWellFormed p.program) (give : GivenLaw p) (t
                   (tk.goes_on.sorts x o (get-first c.s.sorts (Int ∷ []) x o q))));
             };
           } in
-          record {
-            sits = sits;
-            alike =
-                alike-trans (Old rs.after) rs.w now gv.w
-                (scaled-alike (Old rs.after) me.values.fraction.under rs.w)
-                (agree-alike (Old rs.after) now gv.w gv.agree);
-          }
+          let size_then = rs.count in (
+            sits,
+            record {
+              before =
+                  subst (λ u. Alike (λ y. y < before.next) u gv.w) rs.named
+                  (alike-less (λ y. y < before.next) (Old rs.after) rs.w gv.w
+                  (λ x i. (omega (arith, i, size_then)))
+                  (alike-trans (Old rs.after) rs.w now gv.w
+                  (scaled-alike (Old rs.after) me.values.fraction.under rs.w)
+                  (agree-alike (Old rs.after) now gv.w gv.agree)));
+              all = like-given fits gv.after gv.w gv.filled;
+            },
+          )
         where
           rest-of : (y : Option ℕ) → b ≡ (receives y r (with_rest f b)).rest
           rest-of None = refl
           rest-of (Some x) = refl
 
-    -- the values where the result is r and the table W
-    abbrev pub back_values : Table → ℤ → Valuation
-    back_values W r =
-        rest_values W tk.after.facts tk.children (length tk.after.sorts)
-        (set_to tk.w (length c.s.sorts) r)
+    -- by whichever function of that number, which is c.g
+    comes-on :
+        (W : Table) (handed : Stock) (r : ℤ) → FitsRoom p.program W (both p.program tk.left handed) →
+        Rested p W (with_result p part T f.store c ts tk r) tk.left tk.after behind tk.children →
+        (g2 : PlainFunction) → c.g ≡ g2 →
+        (m : OwnsEnsures p.program W handed g2 (args_are p part T f.store c)
+        (callee_fixed p part T f.store c ts tk) r) →
+        (s : Sits p (both p.program tk.left handed) W fn fixed (receives c.x r (with_rest f b)))
+        × GivenBack p.program W g2 handed (back_start c.s tk.w tk.after tk.children W r) m.values m.met.0 m.met.1
+        s.at_node.state s.at_node.v
+    comes-on W handed r room rs g2 e =
+        subst (λ g. (m : OwnsEnsures p.program W handed g (args_are p part T f.store c)
+        (callee_fixed p part T f.store c ts tk) r) →
+        (s : Sits p (both p.program tk.left handed) W fn fixed (receives c.x r (with_rest f b)))
+        × GivenBack p.program W g handed (back_start c.s tk.w tk.after tk.children W r) m.values m.met.0 m.met.1
+        s.at_node.state s.at_node.v) e (λ m. comes-back W handed r room m rs)
 
-    back-at :
-        (U : Table) → Relies p.program tk.left.guards tk.U U → (handed : Stock) (r : ℤ)
-        (g2 : PlainFunction) → slice_get p.program.functions n ≡ Some g2 →
-        Roomy p.program U (both p.program tk.left handed) →
-        OwnsEnsures p.program U handed g2 (args_are p part T f.store c)
-        (callee_fixed p part T f.store c ts tk) r →
-        (W : Table) → Relies p.program (both p.program tk.left handed).guards U W →
-        SitsLike p (both p.program tk.left handed) W fn fixed (receives c.x r (with_rest f b))
-        (λ x. x < rest_counts tk.after.facts tk.children (length tk.after.sorts)) (back_values W r)
-    back-at U relies handed r g2 e2 there me W on =
-        let P = p.program in
-        let whole = both P tk.left handed in
-        let first = relies-less P tk.left.guards whole.guards U W
-        (inside-guards P tk.left whole (inside-first P tk.left handed)) on in
-        let second = relies-less P handed.guards whole.guards U W
-        (inside-guards P handed whole (inside-second P tk.left handed)) on in
-        let to_w = relies-trans P tk.left.guards tk.U U W relies first in
-        let w = with_result p part T f.store c ts tk r in
-        let rs = rests tk.left tk.U W l.number behind tk.children w tk.after
-        (reached-left part T roomy f.store c ts tk W to_w) tk.goes
-        (grounded2 p part T f.store c ts tk r) (facts2 p part T f.store c ts tk r)
-        (firm2 p part T f.store c ts tk r) (backed2 p part T f.store c ts tk r) in
-        let mine : OwnsEnsures P U handed c.g (args_are p part T f.store c)
-        (callee_fixed p part T f.store c ts tk) r =
-        subst (λ y. OwnsEnsures P U handed y (args_are p part T f.store c)
-        (callee_fixed p part T f.store c ts tk) r) (some-same g2 c.g (sym e2 ∙ is_g)) me in
-        let q = comes-back W handed r (fits-relied P U W whole there.full on there.room)
-        (stable.ensures U W handed n c.g is_g (record {
-          fits = there.fits;
-          full = there.full;
-          room = fits-less P U handed whole (inside-second P tk.left handed) there.room;
-          relies = second;
-        }) (args_are p part T f.store c) (callee_fixed p part T f.store c ts tk) r
-        (map-length (value_in f.store) c.args ∙ c.size)
-        (fixed-fit (a1 p part T f.store c ts tk) (fixed_start c.g) c.g.fixed) mine)
-        rs in
-        let There : ℕ → Type 0 =
-        λ x. x < rest_counts tk.after.facts tk.children (length tk.after.sorts) in
-        let count = rs.count in
-        record {
-          sits = q.sits;
-          alike =
-              subst (λ u. Alike There u q.sits.at_node.v) rs.named
-              (alike-less There (Old rs.after) rs.w q.sits.at_node.v
-              (λ x i. (omega (arith, i, count))) q.alike);
-        }
+    module _ (U : Table) (relies : Relies p.program tk.left.guards tk.U U) (handed : Stock) (r : ℤ)
+        (g2 : PlainFunction) (e2 : slice_get p.program.functions n ≡ Some g2)
+        (there : Roomy p.program U (both p.program tk.left handed))
+        (me : OwnsEnsures p.program U handed g2 (args_are p part T f.store c)
+        (callee_fixed p part T f.store c ts tk) r) where
+      abbrev whole : Stock
+      whole = both p.program tk.left handed
+
+      same-callee : c.g ≡ g2
+      same-callee = some-same c.g g2 (sym is_g ∙ e2)
+
+      -- what the callee handed over stays so
+      pub handed-again :
+          (W : Table) → Relies p.program whole.guards U W →
+          Regained W
+          (given_ensures p.program U handed n g2 (args_are p part T f.store c)
+          (callee_fixed p part T f.store c ts tk) r me)
+          (OwnsEnsures p.program W handed g2 (args_are p part T f.store c)
+          (callee_fixed p part T f.store c ts tk) r) (λ m. m.values)
+      handed-again W on =
+          let P = p.program in
+          stable.ensures U W handed n g2 e2 (record {
+            fits = there.fits;
+            full = there.full;
+            room = fits-less P U handed whole (inside-second P tk.left handed) there.room;
+            relies =
+                relies-less P handed.guards whole.guards U W
+                (inside-guards P handed whole (inside-second P tk.left handed)) on;
+          }) (args_are p part T f.store c) (callee_fixed p part T f.store c ts tk) r
+          (map-length (value_in f.store) c.args ∙ c.size ∙ ap (λ (g : PlainFunction). g.params)
+          same-callee)
+          (subst (λ (g : PlainFunction). ValuesFit g.fixed (callee_fixed p part T f.store c ts tk))
+          same-callee (fixed-fit (a1 p part T f.store c ts tk) (fixed_start c.g) c.g.fixed)) me
+
+      -- the caller's own facts rest
+      rested-at :
+          (W : Table) → Relies p.program whole.guards U W →
+          Rested p W (with_result p part T f.store c ts tk r) tk.left tk.after behind tk.children
+      rested-at W on =
+          let P = p.program in
+          let first = relies-less P tk.left.guards whole.guards U W
+          (inside-guards P tk.left whole (inside-first P tk.left handed)) on in
+          let to_w = relies-trans P tk.left.guards tk.U U W relies first in
+          rests tk.left tk.U W l.number behind tk.children (with_result p part T f.store c ts tk r)
+          tk.after (reached-left part T roomy f.store c ts tk W to_w) tk.goes
+          (grounded2 p part T f.store c ts tk r) (facts2 p part T f.store c ts tk r)
+          (firm2 p part T f.store c ts tk r) (backed2 p part T f.store c ts tk r)
+
+      back-at :
+          (W : Table) → Relies p.program whole.guards U W →
+          (m : OwnsEnsures p.program W handed g2 (args_are p part T f.store c)
+          (callee_fixed p part T f.store c ts tk) r) →
+          (s : Sits p whole W fn fixed (receives c.x r (with_rest f b)))
+          × GivenBack p.program W g2 handed (back_start c.s tk.w tk.after tk.children W r) m.values m.met.0 m.met.1
+          s.at_node.state s.at_node.v
+      back-at W on =
+          comes-on W handed r (fits-relied p.program U W whole there.full on there.room)
+          (rested-at W on) g2 same-callee
 
     -- so the caller waits
     pub waits-here :
         FrameOk p.program fn fixed (with_rest f b) →
         ((r : ℤ) → FrameOk p.program fn fixed (receives c.x r (with_rest f b))) →
         WaitsLike p tk.left tk.U fixed (with_rest f b) c.x n (args_are p part T f.store c)
-        (callee_fixed p part T f.store c ts tk)
-        (λ x. x < rest_counts tk.after.facts tk.children (length tk.after.sorts)) back_values
+        (callee_fixed p part T f.store c ts tk) (back_start c.s tk.w tk.after tk.children)
     waits-here ok later = record {
-      waits = record {
-        fn = fn;
-        ok = ok;
-        all = λ U relies handed r g2 e2 there me. record {
-          fn = fn;
-          ok = later r;
-          all = λ W on. (back-at U relies handed r g2 e2 there me W on).sits;
-        };
-      };
-      named = λ U relies handed r g2 e2 there me W on.
-          (back-at U relies handed r g2 e2 there me W on).alike;
+      fn = fn;
+      ok = ok;
+      back = λ U relies handed r g2 e2 there me.
+          let again = handed-again U relies handed r g2 e2 there me in
+          let back = back-at U relies handed r g2 e2 there me in
+          record {
+            stands = record {
+              fn = fn;
+              ok = later r;
+              all = λ W on. (back W on ((again W on).each (again W on).u (again W on).ends).0).0;
+            };
+            owned = again;
+            each = λ W on x e. back W on ((again W on).each x e).0;
+            are = λ W on. refl;
+          };
     }

@@ -1,17 +1,17 @@
--- The states at which a function's body and its loops begin.
-use Rattle.std.proofs.Common.{◌≡◌, ℕ, zero, suc, ◌+◌, ◌<◌, List, [], ◌∷◌, ◌++◌, length, take, replicate, arith, refl, sym, ap, ◌∙◌, Some, None}
+-- The states at which a function's body and its loops begin, and at which its promise is given.
+use Rattle.std.proofs.Common.{◌≡◌, ℕ, zero, suc, ◌+◌, ◌<◌, List, [], ◌∷◌, ◌++◌, length, take, replicate, arith, refl, sym, ap, ◌∙◌, subst, Some, None}
 use Rattle.std.specs.Prelude.{slice_get, unwrap_or}
 use Rattle.cap_lin.specs.Linear.{Linear, variable}
 use Rattle.cap_lin.specs.Values.{Valuation}
 use Rattle.cap_lin.specs.declared.row.Sort.{Sort}
 use Rattle.cap_lin.specs.declared.row.Sort.TheVariants.{Int}
 use Rattle.cap_prog.specs.Program.{PlainFunction}
-use Rattle.cap_prog.specs.Scopes.{requires_scope, invariant_scope}
+use Rattle.cap_prog.specs.Scopes.{HasSort, fixed_start, result_name, requires_scope, ensures_scope, invariant_scope}
 use Rattle.cap_goal_spec.specs.Terms.{variables_from}
 use Rattle.cap_goal_spec.specs.Environments.{bound, unbound}
 use Rattle.cap_account_resources.proofs.Lists.{some-same, none-some, within, map-length, get-first}
 use Rattle.cap_account_states.proofs.Meets.{Usable}
-use Rattle.cap_account_states.proofs.Scopes.{requires-early, early-position, invariant-at, param-requires, fixed-requires, store-invariant, fixed-invariant, variables-length, variables-at, unbound-none, rep-length, rep-in}
+use Rattle.cap_account_states.proofs.Scopes.{requires-early, requires-ensures, result-ensures, early-position, ensures-at, invariant-at, param-requires, fixed-requires, store-invariant, fixed-invariant, variables-length, variables-at, unbound-none, rep-length, rep-in}
 use Rattle.cap_account_states.proofs.Roots.{flat-bound, sorts_of, Root, no-sort, no-term}
 
 pub take-all : {X : Type 0} (xs ys : List X) (n : ℕ) → length xs ≡ n → take n (xs ++ ys) ≡ xs
@@ -43,6 +43,40 @@ entry_root f n a = record {
   r_is = λ t e. absurd (no-term t e);
   a = a;
 }
+
+pub one-result :
+    (f : PlainFunction) (new : List Sort) (j : ℕ) → slice_get (Int ∷ []) j ≡ Some Int →
+    HasSort (ensures_scope f new) Int (result_name f + j)
+one-result f new zero e =
+    let here : result_name f ≡ result_name f + 0 = omega arith in
+    subst (HasSort (ensures_scope f new) Int) here (result-ensures f new)
+one-result f new (suc j) e = absurd (none-some e)
+
+-- the root at which `ensures` is given
+abbrev pub exit_root : PlainFunction → ℕ → List Sort → Valuation → Root
+exit_root f n new a =
+    let last = variable (f.params + 0 + length f.fixed) in
+    let early = requires-ensures f new in
+    record {
+      f = f;
+      n = n;
+      l = 0;
+      gap = f.locals;
+      hgap = omega arith;
+      new = new;
+      sc = ensures_scope f new;
+      at_position = ensures-at f new;
+      low_in = λ x q. early x Int (param-requires f x (omega (arith, q)));
+      fixed_in = λ i o e. early (fixed_start f + i) o (fixed-requires f i o e);
+      ls = unbound f.locals;
+      hls = rep-length f.locals None;
+      locals_are = λ i t q. absurd (none-some (sym (unbound-none f.locals i) ∙ q));
+      rs = Int ∷ [];
+      rs_in = one-result f new;
+      r = Some last;
+      r_is = λ t e. (sym (some-same last t e), refl);
+      a = a;
+    }
 
 pub local-variable :
     (f : PlainFunction) (i : ℕ) (t : Linear) →

@@ -1,5 +1,5 @@
 -- A callee's fixed names may be given any values that they have: the same fractions, written otherwise.
-use Rattle.std.proofs.Common.{◌≡◌, ℕ, suc, ◌+◌, ℤ, pos, ◌*ℤ◌, List, [], ◌∷◌, length, Option, Some, refl, sym, ap, ◌∙◌, subst, arith, ◌<◌}
+use Rattle.std.proofs.Common.{◌≡◌, ℕ, suc, ◌+◌, ℤ, pos, ◌*ℤ◌, List, [], ◌∷◌, length, Option, Some, refl, sym, ap, ◌∙◌, subst, arith}
 use Rattle.std.specs.Prelude.{slice_get, ◌<ℤ◌}
 use Rattle.std.proofs.lemmas.Int.{ints}
 use Rattle.cap_lin.specs.Values.{Valuation, denominator}
@@ -9,19 +9,21 @@ use Rattle.cap_prog.specs.Program.{PlainFunction}
 use Rattle.cap_prog.specs.Scopes.{fixed_start}
 use Rattle.cap_goal_spec.specs.States.{PlainState}
 use Rattle.cap_goal_spec.specs.Choices.{PlainTrees}
-use Rattle.cap_machine.specs.Machine.{Frame}
+use Rattle.cap_machine.specs.Machine.{Frame, receives}
 use Rattle.cap_machine_accounts.specs.Assertions.{NameValue, a_number, a_fraction, HasNameSort, ValuesFit, IsNamed, AreNamed}
 use Rattle.cap_account_resources.specs.Parts.{Table}
 use Rattle.cap_account_resources.proofs.Lists.{some-same}
 use Rattle.cap_account_resources.proofs.Interference.{Relies}
 use Rattle.cap_account_resources.proofs.Order.{cancel, swapped}
-use Rattle.cap_account_resources.proofs.Stocks.{Stock}
+use Rattle.cap_account_resources.proofs.Stocks.{Stock, both}
 use Rattle.cap_account_states.proofs.Checked.{Checked}
 use Rattle.cap_account_assertions.proofs.Asserted.{OwnsEnsures}
-use Rattle.cap_account_assertions.proofs.Named.{set_to, rest_values, rest_counts}
+use Rattle.cap_account_assertions.proofs.Named.{set_to, rest_values}
 use Rattle.cap_account_steps.proofs.Callees.{value_for, fixed_values}
-use Rattle.cap_account_steps.proofs.Frames.{Calls, Forks, WaitsLike}
+use Rattle.cap_account_steps.proofs.Frames.{Roomy, Calls, Forks, StandsAgain, GivenBack, WaitsLike, waits_so}
+use Rattle.cap_account_steps.proofs.Regained.{given_ensures}
 use Rattle.cap_account_steps.proofs.CallLaws.{required, CallsAt, ForksAt}
+use Rattle.cap_account_steps.proofs.Calling.{back_start}
 
 -- ---- the same fractions
 
@@ -55,6 +57,36 @@ same-values (o ∷ os) a b x (y ∷ ys) s h k = (
   same-values os a b (suc x) ys s.1 h.1 k.1,
 )
 
+-- and back: who has those fractions has these
+given-value :
+    (o : Sort) (a b : Valuation) (x : ℕ) (y : NameValue) → HasNameSort o y → IsNamed a x y →
+    IsNamed b x (value_for o a x) → IsNamed b x y
+given-value Int a b x (a_number z) s h k = k ∙ h
+given-value Int a b x (a_fraction n d) s h k = absurd s
+given-value Perm a b x (a_number z) s h k = absurd s
+given-value Perm a b x (a_fraction n d) s h k =
+    let p = a.fraction.numerator x in
+    let q = b.fraction.numerator x in
+    let da = denominator a.fraction in
+    let db = denominator b.fraction in
+    let m = pos (suc d) in
+    let above : pos 0 <ℤ denominator a.fraction = omega (arith, ints) in
+    let e : a.fraction.under + 1 ≡ suc a.fraction.under = omega arith in
+    cancel (q *ℤ m) (n *ℤ db) da above
+    (swapped q m da ∙ ap (λ u. u *ℤ m) (ap (λ u. q *ℤ pos u) e ∙ k) ∙ swapped p db m
+    ∙ ap (λ u. u *ℤ db) h ∙ swapped n da db)
+
+given-values :
+    (os : List Sort) (a b : Valuation) (x : ℕ) (ys : List NameValue) → ValuesFit os ys →
+    AreNamed a x ys → AreNamed b x (fixed_values a x os) → AreNamed b x ys
+given-values [] a b x [] s h k = tt
+given-values [] a b x (y ∷ ys) s h k = absurd s
+given-values (o ∷ os) a b x [] s h k = absurd s
+given-values (o ∷ os) a b x (y ∷ ys) s h k = (
+  given-value o a b x y s.0 h.0 k.0,
+  given-values os a b (suc x) ys s.1 h.1 k.1,
+)
+
 -- ---- calls and forks with such values
 
 module _ (p : Checked) (part : Stock) (T : Table) (fixed : List NameValue) (f : Frame)
@@ -66,10 +98,36 @@ module _ (p : Checked) (part : Stock) (T : Table) (fixed : List NameValue) (f : 
     pub fixed_are : calls.fixed ≡ given
     pub waits :
         WaitsLike p calls.kept calls.over.U fixed f x n args calls.fixed
-        (λ y. y < rest_counts after.facts children (length after.sorts))
-        (λ W r. rest_values W after.facts children (length after.sorts)
-        (set_to took (length s.sorts) r))
-    pub are_those : waits.waits ≡ calls.goes_on
+        (back_start s took after children)
+    pub are_those :
+        waits_so p calls.kept calls.over.U fixed f x n args calls.fixed
+        (back_start s took after children) waits
+        ≡ calls.goes_on
+
+  -- what a callee promises with the one values of its fixed names it promises with the others
+  module _ (a : Valuation) (own : List NameValue) (are : own ≡ fixed_values a (fixed_start g) g.fixed)
+      (named : AreNamed a (fixed_start g) given) (U : Table) (q : Stock) (r : ℤ) where
+    abbrev with-own :
+        OwnsEnsures p.program U q g args given r → OwnsEnsures p.program U q g args own r
+    with-own o = record {
+      values = o.values;
+      args_are = o.args_are;
+      fixed_are = subst (AreNamed o.values (fixed_start g)) (sym are)
+          (same-values g.fixed a o.values (fixed_start g) given fit named o.fixed_are);
+      result_is = o.result_is;
+      met = o.met;
+    }
+
+    abbrev with-given :
+        OwnsEnsures p.program U q g args own r → OwnsEnsures p.program U q g args given r
+    with-given o = record {
+      values = o.values;
+      args_are = o.args_are;
+      fixed_are = given-values g.fixed a o.values (fixed_start g) given fit named
+          (subst (AreNamed o.values (fixed_start g)) are o.fixed_are);
+      result_is = o.result_is;
+      met = o.met;
+    }
 
   pub calls-with :
       (x : Option ℕ) (n : ℕ) → slice_get p.program.functions n ≡ Some g →
@@ -79,31 +137,38 @@ module _ (p : Checked) (part : Stock) (T : Table) (fixed : List NameValue) (f : 
   calls-with x n is_g c named =
       let h = c.calls in
       let a = required p part T fixed f g args v s c.took c.after in
-      let back : (U : Table) (q : Stock) (r : ℤ) (g2 : PlainFunction) →
-      slice_get p.program.functions n ≡ Some g2 → OwnsEnsures p.program U q g2 args given r →
-      OwnsEnsures p.program U q g2 args h.fixed r =
-      λ U q r g2 e. subst (λ y. OwnsEnsures p.program U q y args given r →
-      OwnsEnsures p.program U q y args h.fixed r) (some-same g g2 (sym is_g ∙ e))
-      (λ o. record {
-        values = o.values;
-        args_are = o.args_are;
-        fixed_are = subst (AreNamed o.values (fixed_start g)) (sym c.fixed_are)
-            (same-values g.fixed a o.values (fixed_start g) given fit named o.fixed_are);
-        result_is = o.result_is;
-        met = o.met;
-      }) in
+      let start = back_start s c.took c.after c.children in
       let w = c.waits in
-      let waits : WaitsLike p h.kept h.over.U fixed f x n args given
-      (λ y. y < rest_counts c.after.facts c.children (length c.after.sorts))
-      (λ W r. rest_values W c.after.facts c.children (length c.after.sorts)
-      (set_to c.took (length s.sorts) r)) = record {
-        waits = record {
-          fn = w.waits.fn;
-          ok = w.waits.ok;
-          all = λ U relies q r g2 e roomy o. w.waits.all U relies q r g2 e roomy (back U q r g2 e o);
-        };
-        named = λ U relies q r g2 e roomy o W on.
-            w.named U relies q r g2 e roomy (back U q r g2 e o) W on;
+      let from : (U : Table) (q : Stock) (r : ℤ) → OwnsEnsures p.program U q g args given r →
+      OwnsEnsures p.program U q g args h.fixed r = with-own a h.fixed c.fixed_are named in
+      let to : (U : Table) (q : Stock) (r : ℤ) → OwnsEnsures p.program U q g args h.fixed r →
+      OwnsEnsures p.program U q g args given r = with-given a h.fixed c.fixed_are named in
+      let waits : WaitsLike p h.kept h.over.U fixed f x n args given start = record {
+        fn = w.fn;
+        ok = w.ok;
+        back = λ U relies q r g2 e2. subst (λ g3. (e : slice_get p.program.functions n ≡ Some g3) →
+            (roomy : Roomy p.program U (both p.program h.kept q)) →
+            (o : OwnsEnsures p.program U q g3 args given r) →
+            StandsAgain p (both p.program h.kept q) U fixed (receives x r f)
+            (given_ensures p.program U q n g3 args given r o)
+            (λ W. OwnsEnsures p.program W q g3 args given r) (λ W m. m.values)
+            (λ W m t u. GivenBack p.program W g3 q (start W r) m.values m.met.0 m.met.1 t u))
+            (some-same g g2 (sym is_g ∙ e2))
+            (λ e roomy o.
+            let k = w.back U relies q r g e roomy (from U q r o) in
+            record {
+              stands = k.stands;
+              owned = λ W on.
+                  let y = k.owned W on in
+                  record {
+                    passage = y.passage;
+                    u = y.u;
+                    ends = y.ends;
+                    each = λ z i. let m = y.each z i in (to W q r m.0, m.1);
+                  };
+              each = λ W on z i. k.each W on z i;
+              are = λ W on. k.are W on;
+            }) e2;
       } in
       record {
         calls = record {
@@ -118,7 +183,7 @@ module _ (p : Checked) (part : Stock) (T : Table) (fixed : List NameValue) (f : 
             fixed_are = subst (λ u. AreNamed u (fixed_start g) given) (sym c.values_are) named;
             met = h.meets.met;
           };
-          goes_on = waits.waits;
+          goes_on = waits_so p h.kept h.over.U fixed f x n args given start waits;
         };
         fixed_are = refl;
         waits = waits;

@@ -44,6 +44,7 @@ pub mod SettledTwice
 pub mod StillOpen
 pub mod ClosedTables
 pub mod RootNames
+pub mod Regained
 pub mod StableContracts
 pub mod CaseStates
 pub mod CaseValues

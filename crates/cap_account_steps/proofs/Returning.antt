@@ -1,13 +1,13 @@
 -- Returns and loop heads: all that the frame has is taken for what it owes.
-use Rattle.std.proofs.Common.{◌≡◌, ℕ, ◌+◌, ◌-◌, ◌<◌, List, [], ◌∷◌, length, take, drop, arith, refl, sym, ap, ◌∙◌, subst, Some, None, ◌⊎◌, inl, inr}
+use Rattle.std.proofs.Common.{◌≡◌, ℕ, ℤ, ◌+◌, ◌-◌, ◌<◌, List, [], ◌∷◌, length, take, drop, arith, refl, sym, ap, ◌∙◌, subst, Some, None, ◌⊎◌, inl, inr}
 use Rattle.std.specs.Prelude.{slice_get, unwrap_or}
 use Rattle.std.specs.List.{AllByRecursion}
 use Rattle.cap_lin.specs.Linear.{Linear, variable}
-use Rattle.cap_lin.specs.Values.{value}
+use Rattle.cap_lin.specs.Values.{Valuation, value}
 use Rattle.cap_lin.specs.declared.row.Sort.{Sort}
 use Rattle.cap_lin.specs.declared.row.Sort.TheVariants.{Int}
 use Rattle.cap_prog.specs.declared.assertion.Comp.{Comp}
-use Rattle.cap_prog.specs.Program.{PlainAssertion, Items, Label, give_back, loop, Block, first, PlainFunction}
+use Rattle.cap_prog.specs.Program.{PlainAssertion, PlainProgram, Items, Label, give_back, loop, Block, first, PlainFunction}
 use Rattle.cap_prog.specs.Scopes.{Scope, fixed_start, result_name, ensures_scope, invariant_scope, HasSort}
 use Rattle.cap_prog.specs.WellFormed.{IsWellFormed}
 use Rattle.cap_goal_spec.specs.States.{PlainEnv, PlainState, Home, to_run, to_take}
@@ -37,14 +37,31 @@ use Rattle.cap_account_states.proofs.Scopes.{ensures-at, invariant-at, param-req
 use Rattle.cap_account_states.proofs.Values.{whole-of}
 use Rattle.cap_account_states.proofs.Roots.{values-length, function-fits, flat-bound}
 use Rattle.cap_account_states.proofs.Backed.{IsOpened}
-use Rattle.cap_account_assertions.proofs.Asserted.{owns-all}
+use Rattle.cap_account_assertions.proofs.Asserted.{OwnsEnsures, OwnsInvariant, owns-all}
+use Rattle.cap_account_assertions.proofs.Coarser.{taken-named}
 use Rattle.cap_account_assertions.proofs.Laws.{StateAt, Taken, TakenLaw}
 use Rattle.cap_account_steps.proofs.Points.{FrameOk, point-act}
 use Rattle.cap_account_steps.proofs.Stores.{running, here, here-value, here-over}
 use Rattle.cap_account_steps.proofs.OwnNames.{take-get, get-take, get-drop, drop-length, take-length, canon, canon-means, at-new, there-new, own-placed, own-fixed-alike, store-term-alike}
-use Rattle.cap_account_steps.proofs.Frames.{Node, Roomy, HandsOver, Returns, ComesRound}
-use Rattle.cap_account_steps.proofs.Statements.{ReturnLaw, LoopHeadLaw}
+use Rattle.cap_account_steps.proofs.Frames.{Node, Roomy, HandsOver, GivesUpAt, gives_up}
+use Rattle.cap_account_steps.proofs.Statements.{Before, ReturnLaw, LoopHeadLaw}
 use Rattle.cap_account_steps.proofs.Local.{given-up}
+
+-- ---- what is given up, by name
+
+abbrev pub ReturnsAt :
+    PlainProgram → Stock → Table → PlainFunction → List NameValue → Frame → ℤ → Valuation →
+    PlainState → Type 0
+ReturnsAt p part T fn fixed f r =
+    GivesUpAt p part T (λ U given. OwnsEnsures p U given fn f.arguments fixed r)
+    (λ U given m. m.values)
+
+abbrev pub ComesRoundAt :
+    PlainProgram → Stock → Table → PlainFunction → List NameValue → Frame → PlainAssertion →
+    Valuation → PlainState → Type 0
+ComesRoundAt p part T fn fixed f i =
+    GivesUpAt p part T (λ U given. OwnsInvariant p U given fn f.store fixed i)
+    (λ U given m. m.values)
 
 module _ (p : Checked) (program : IsWellFormed p.program) (law : TakenLaw p) (part : Stock)
     (T : Table) (fn : PlainFunction) (fixed : List NameValue) (roomy : Roomy p.program T part) where
@@ -133,8 +150,8 @@ module _ (p : Checked) (program : IsWellFormed p.program) (law : TakenLaw p) (pa
   return-at :
       (f : Frame) (l : Label) (t : Linear) (b : Block) (d : PlainTree) →
       FrameOk p.program fn fixed (with_rest f (first l (give_back t) b)) →
-      NodeAt (with_rest f (first l (give_back t) b)) d →
-      Returns p.program part T fn fixed f (value_in f.store t)
+      (n : NodeAt (with_rest f (first l (give_back t) b)) d) →
+      ReturnsAt p.program part T fn fixed f (value_in f.store t) n.v n.state
   return-at f l t b (node (by_absurd c) ks) ok n =
       given-up p part T fn fixed (with_rest f (first l (give_back t) b))
       (λ h. to_run h (first l (give_back t) b)) c ks n
@@ -181,42 +198,52 @@ module _ (p : Checked) (program : IsWellFormed p.program) (law : TakenLaw p) (pa
       let items = fn.ensures.items in
       let tk = take-all-of f0 d n sc env items l.number ks placed fits.ensures.items.items go in
       let later = env_at tk.after (length s.envs) in
-      let a = canon tk.w later in
       let stays = stays-bound f0 d n sc env items tk in
       let early = requires-ensures fn names in
       record {
         given = tk.given;
         over = over-of f0 d n sc env items tk;
-        meets = record {
-          values = a;
-          args_are = whole-of a 0 f.arguments (λ i z j.
-              let arg = take-get f.store fn.params i z (ap (λ zs. slice_get zs i) ok.args ∙ j) in
-              let term = get-map (value v.whole) s.store i z
-              (ap (λ zs. slice_get zs i) n.store.store ∙ arg.0) in
-              let look = stays i Int term.0 (early i Int (param-requires fn i arg.1))
-              (own-param fn h params none_bound (Some u) (length names) hp hl i arg.1
-              ∙ get-take s.store fn.params i term.0 arg.1 term.1) in
-              let at : 0 + i ≡ i = omega arith in
-              ap a.whole at
-              ∙ ap (λ y. value tk.w.whole (unwrap_or y zero_value)) look
-              ∙ store-term-alike s v tk.w i term.0 m tk.alike term.1
-              ∙ term.2);
-          fixed_are = own-fixed-alike s v tk.w h fn fixed f0 later n.store tk.alike
-              (values-length fn.fixed fixed ok.values)
-              (λ i o j. stays (fixed_start fn + i) o (variable (h.fixed + i))
-              (early (fixed_start fn + i) o (fixed-requires fn i o j))
-              (own-fixed fn h params none_bound (Some u) (length names) hp hl i
-              (within fn.fixed i o j)));
-          result_is =
-              ap (λ y. value tk.w.whole (unwrap_or y zero_value))
-              (stays (result_name fn) Int u (result-ensures fn names)
-              (own-result fn h params none_bound (Some u) (length names) hp hl))
-              ∙ usable-alike [] s v tk.w tk.alike u (here-over [] v s t m)
-              ∙ here-value v s f.store t n.store.store;
-          met = owns-all p.program tk.U a items tk.given
-              (tk.draws tk.w (alike-same (Old tk.after) tk.w) a (canon-means sc tk.w later)
-              no_stock);
-        };
+        brings = tk.brings;
+        env = later;
+        took = tk.w;
+        alike = tk.alike;
+        brought = tk.brought.are;
+        each = λ x near brought.
+            let named = taken-named p [] T sc (length s.envs) 3 v part (env_added s env) items []
+            tk x near brought in
+            let a = canon x later in (
+              record {
+                values = a;
+                args_are = whole-of a 0 f.arguments (λ i z j.
+                    let arg = take-get f.store fn.params i z (ap (λ zs. slice_get zs i) ok.args ∙ j) in
+                    let term = get-map (value v.whole) s.store i z
+                    (ap (λ zs. slice_get zs i) n.store.store ∙ arg.0) in
+                    let look = stays i Int term.0 (early i Int (param-requires fn i arg.1))
+                    (own-param fn h params none_bound (Some u) (length names) hp hl i arg.1
+                    ∙ get-take s.store fn.params i term.0 arg.1 term.1) in
+                    let at : 0 + i ≡ i = omega arith in
+                    ap a.whole at
+                    ∙ ap (λ y. value x.whole (unwrap_or y zero_value)) look
+                    ∙ store-term-alike s v x i term.0 m near term.1
+                    ∙ term.2);
+                fixed_are = own-fixed-alike s v x h fn fixed f0 later n.store near
+                    (values-length fn.fixed fixed ok.values)
+                    (λ i o j. stays (fixed_start fn + i) o (variable (h.fixed + i))
+                    (early (fixed_start fn + i) o (fixed-requires fn i o j))
+                    (own-fixed fn h params none_bound (Some u) (length names) hp hl i
+                    (within fn.fixed i o j)));
+                result_is =
+                    ap (λ y. value x.whole (unwrap_or y zero_value))
+                    (stays (result_name fn) Int u (result-ensures fn names)
+                    (own-result fn h params none_bound (Some u) (length names) hp hl))
+                    ∙ usable-alike [] s v x near u (here-over [] v s t m)
+                    ∙ here-value v s f.store t n.store.store;
+                met = owns-all p.program tk.U a items tk.given
+                    (named.draws x (alike-same (Old tk.after) x) a (canon-means sc x later)
+                    no_stock);
+              },
+              refl,
+            );
       }
   return-at f l t b d ok n = absurd (p.step n.valid).1
 
@@ -229,8 +256,8 @@ module _ (p : Checked) (program : IsWellFormed p.program) (law : TakenLaw p) (pa
   head-at :
       (f : Frame) (l : Label) (c : Comp) (inv : PlainAssertion) (body b : Block) (d : PlainTree) →
       FrameOk p.program fn fixed (with_rest f (first l (loop c inv body) b)) →
-      NodeAt (with_rest f (first l (loop c inv body) b)) d →
-      ComesRound p.program part T fn fixed f inv
+      (n : NodeAt (with_rest f (first l (loop c inv body) b)) d) →
+      ComesRoundAt p.program part T fn fixed f inv n.v n.state
   head-at f l c inv body b (node (by_absurd u) ks) ok n =
       given-up p part T fn fixed (with_rest f (first l (loop c inv body) b))
       (λ h. to_run h (first l (loop c inv body) b)) u ks n
@@ -273,53 +300,82 @@ module _ (p : Checked) (program : IsWellFormed p.program) (law : TakenLaw p) (pa
       let fits = (point-act p.program fn l (loop c inv body) b ok.point).1.items.items in
       let tk = take-all-of f0 d n sc env inv.items l.number ks placed fits go in
       let later = env_at tk.after (length s.envs) in
-      let a = canon tk.w later in
       let stays = stays-bound f0 d n sc env inv.items tk in
       record {
         given = tk.given;
         over = over-of f0 d n sc env inv.items tk;
-        meets = record {
-          values = a;
-          store_is = whole-of a 0 f.store (λ i z j.
-              let term = get-map (value v.whole) s.store i z
-              (ap (λ zs. slice_get zs i) n.store.store ∙ j) in
-              let at : 0 + i ≡ i = omega arith in
-              let len = within s.store i term.0 term.1 in
-              let look : term_of env i ≡ Some term.0 = elim (before-or-behind i fn.params) [
-                | inl low ↦
-                    own-param fn h params locals None (length names) hp hl i low
-                    ∙ get-take s.store fn.params i term.0 low term.1
-                | inr g ↦
-                    let y : i ≡ fn.params + g.0 = g.1 in
-                    ap (term_of env) y
-                    ∙ own-local fn h params locals None (length names) hp hl g.0
-                    (omega (arith, len, size, y))
-                    ∙ flat-bound (drop fn.params s.store) g.0
-                    ∙ get-drop s.store fn.params g.0
-                    ∙ ap (slice_get s.store) (sym y)
-                    ∙ term.1
-              ] in
-              ap a.whole at
-              ∙ ap (λ y. value tk.w.whole (unwrap_or y zero_value))
-              (stays i Int term.0 (store-invariant fn names i (omega (arith, len, size))) look)
-              ∙ store-term-alike s v tk.w i term.0 m tk.alike term.1
-              ∙ term.2);
-          fixed_are = own-fixed-alike s v tk.w h fn fixed f0 later n.store tk.alike
-              (values-length fn.fixed fixed ok.values)
-              (λ i o j. stays (fixed_start fn + i) o (variable (h.fixed + i))
-              (fixed-invariant fn names i o j)
-              (own-fixed fn h params locals None (length names) hp hl i (within fn.fixed i o j)));
-          met = owns-all p.program tk.U a inv.items tk.given
-              (tk.draws tk.w (alike-same (Old tk.after) tk.w) a (canon-means sc tk.w later)
-              no_stock);
-        };
+        brings = tk.brings;
+        env = later;
+        took = tk.w;
+        alike = tk.alike;
+        brought = tk.brought.are;
+        each = λ x near brought.
+            let named = taken-named p [] T sc (length s.envs) 3 v part (env_added s env) inv.items []
+            tk x near brought in
+            let a = canon x later in (
+              record {
+                values = a;
+                store_is = whole-of a 0 f.store (λ i z j.
+                    let term = get-map (value v.whole) s.store i z
+                    (ap (λ zs. slice_get zs i) n.store.store ∙ j) in
+                    let at : 0 + i ≡ i = omega arith in
+                    let len = within s.store i term.0 term.1 in
+                    let look : term_of env i ≡ Some term.0 = elim (before-or-behind i fn.params) [
+                      | inl low ↦
+                          own-param fn h params locals None (length names) hp hl i low
+                          ∙ get-take s.store fn.params i term.0 low term.1
+                      | inr g ↦
+                          let y : i ≡ fn.params + g.0 = g.1 in
+                          ap (term_of env) y
+                          ∙ own-local fn h params locals None (length names) hp hl g.0
+                          (omega (arith, len, size, y))
+                          ∙ flat-bound (drop fn.params s.store) g.0
+                          ∙ get-drop s.store fn.params g.0
+                          ∙ ap (slice_get s.store) (sym y)
+                          ∙ term.1
+                    ] in
+                    ap a.whole at
+                    ∙ ap (λ y. value x.whole (unwrap_or y zero_value))
+                    (stays i Int term.0 (store-invariant fn names i (omega (arith, len, size))) look)
+                    ∙ store-term-alike s v x i term.0 m near term.1
+                    ∙ term.2);
+                fixed_are = own-fixed-alike s v x h fn fixed f0 later n.store near
+                    (values-length fn.fixed fixed ok.values)
+                    (λ i o j. stays (fixed_start fn + i) o (variable (h.fixed + i))
+                    (fixed-invariant fn names i o j)
+                    (own-fixed fn h params locals None (length names) hp hl i (within fn.fixed i o j)));
+                met = owns-all p.program tk.U a inv.items tk.given
+                    (named.draws x (alike-same (Old tk.after) x) a (canon-means sc x later)
+                    no_stock);
+              },
+              refl,
+            );
       }
   head-at f l c inv body b d ok n = absurd (p.step n.valid).1
 
+-- ---- the laws
+
+pub return-named :
+    (p : Checked) → IsWellFormed p.program → TakenLaw p → (part : Stock) (T : Table)
+    (fn : PlainFunction) (fixed : List NameValue) (f : Frame) (l : Label) (b : Block)
+    (t : Linear) → Roomy p.program T part → (k : Before p part T fn fixed f l (give_back t) b) →
+    ReturnsAt p.program part T fn fixed f (value_in f.store t) k.sits.at_node.v k.sits.at_node.state
+return-named p program law part T fn fixed f l b t roomy k =
+    return-at p program law part T fn fixed roomy f l t b k.sits.tree k.ok k.sits.at_node
+
+pub loop-head-named :
+    (p : Checked) → IsWellFormed p.program → TakenLaw p → (part : Stock) (T : Table)
+    (fn : PlainFunction) (fixed : List NameValue) (f : Frame) (l : Label) (b : Block) (c : Comp)
+    (i : PlainAssertion) (x : Block) → Roomy p.program T part →
+    (k : Before p part T fn fixed f l (loop c i x) b) →
+    ComesRoundAt p.program part T fn fixed f i k.sits.at_node.v k.sits.at_node.state
+loop-head-named p program law part T fn fixed f l b c i x roomy k =
+    head-at p program law part T fn fixed roomy f l c i x b k.sits.tree k.ok k.sits.at_node
+
 pub return-law : (p : Checked) → IsWellFormed p.program → TakenLaw p → ReturnLaw p
 return-law p program law part T fn fixed f l b t roomy k =
-    return-at p program law part T fn fixed roomy f l t b k.sits.tree k.ok k.sits.at_node
+    gives_up _ _ _ _ _ _ _ (return-named p program law part T fn fixed f l b t roomy k)
 
 pub loop-head-law : (p : Checked) → IsWellFormed p.program → TakenLaw p → LoopHeadLaw p
 loop-head-law p program law part T fn fixed f l b c i x roomy k =
-    head-at p program law part T fn fixed roomy f l c i x b k.sits.tree k.ok k.sits.at_node
+    gives_up _ _ _ _ _ _ _ (loop-head-named p program law part T fn fixed f l b c i x roomy k)

@@ -22,15 +22,17 @@ use Rattle.cap_account_states.specs.Nodes.{Open}
 use Rattle.cap_account_states.proofs.Terms.{Over}
 use Rattle.cap_account_states.proofs.Meets.{Usable}
 use Rattle.cap_account_states.proofs.Checked.{Checked}
+use Rattle.cap_account_states.proofs.Filled.{Filled}
 use Rattle.cap_account_states.proofs.Items.{AreFit}
 use Rattle.cap_account_states.proofs.Naming.{Bound}
 use Rattle.cap_account_states.proofs.Values.{named-at, named-of, whole-at, whole-of}
 use Rattle.cap_account_states.proofs.Scopes.{less_or, own-param, own-local, own-fixed, variables-length, variables-at}
 use Rattle.cap_account_states.proofs.Roots.{values-length, fits-at, sorts_of, Root, root_names, root_values, root-ready, root-placed, root-means}
 use Rattle.cap_account_assertions.proofs.Asserted.{Owns}
+use Rattle.cap_account_assertions.proofs.Filling.{fill_items}
 use Rattle.cap_account_assertions.proofs.Laws.{GivenLaw, Reached, RestsLaw}
 use Rattle.cap_account_assertions.proofs.TakenStill.{StillLaw}
-use Rattle.cap_account_assertions.proofs.Again.{NamesKept, name-kept, Again, again}
+use Rattle.cap_account_assertions.proofs.Again.{NamesKept, name-kept, AgainBy, again}
 
 module _ (root : Root) where
   -- ---- which names are bound
@@ -114,14 +116,24 @@ module _ (root : Root) where
     envs = root_names root ∷ root_names root ∷ [];
   }
 
+  -- its names, its variables and their values
+  abbrev pub root_filled : Filled
+  root_filled = record {
+    env = root_names root;
+    next = length (sorts_of root.f root.l root.rs);
+    values = root_values root;
+  }
+
   pub root-again :
       (p : Checked) → GivenLaw p → RestsLaw p → StillLaw p → (T U : Table) (h : Stock)
       (items : Items) (store : List Linear) (trees : PlainTrees) →
       AllByRecursion (Over (Usable [] (sorts_of root.f root.l root.rs) Int)) store →
       Open p.N trees (root_start store)
       (to_give items 0 0 ∷ to_rest 0 0 ∷ to_take items 1 0 0 ∷ []) →
-      AreFit p.program root.sc items → Owns p.program T h root.a items → Reached p.program T U h →
-      Again p.program U h root.sc (root_names root) root.a items
+      AreFit p.program root.sc items → (owns : Owns p.program T h root.a items) →
+      Reached p.program T U h →
+      AgainBy p.program U h root.sc (root_names root) root.a items
+      (fill_items p.program T root.a items h owns.0 owns.1 root_filled)
   root-again p gives rests still T U h items store trees over goes fits owns reached =
       let s = root_start store in
       let v = root_values root in

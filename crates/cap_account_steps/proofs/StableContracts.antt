@@ -1,14 +1,13 @@
 -- Contracts and invariants stay true of a part, whatever others do.
-use Rattle.std.proofs.Common.{◌≡◌, ℕ, zero, suc, ◌+◌, ◌<◌, ℤ, List, [], ◌∷◌, ◌++◌, length, replicate, arith, refl, sym, ◌∙◌, subst, Some, None}
+use Rattle.std.proofs.Common.{◌≡◌, ℕ, ◌+◌, ◌<◌, ℤ, List, [], ◌∷◌, ◌++◌, length, replicate, arith, refl, ◌∙◌, Some, None}
 use Rattle.std.specs.Prelude.{slice_get}
 use Rattle.std.specs.List.{AllByRecursion}
 use Rattle.cap_lin.specs.Linear.{variable}
-use Rattle.cap_lin.specs.Values.{Valuation}
 use Rattle.cap_lin.specs.declared.row.Sort.{Sort}
 use Rattle.cap_lin.specs.declared.row.Sort.TheVariants.{Int}
 use Rattle.cap_prog.specs.Program.{Label, PlainAct, set, read, write, cas, alloc, call, fork, branch, loop, check, give_back, Block, done, first, append, PlainFunction, PlainProgram}
 use Rattle.cap_prog.specs.Parts.{block_statements, all_statements}
-use Rattle.cap_prog.specs.Scopes.{HasSort, fixed_start, result_name, ensures_scope, invariant_scope}
+use Rattle.cap_prog.specs.Scopes.{fixed_start, result_name, invariant_scope}
 use Rattle.cap_prog.specs.WellFormed.{IsWellFormed, ActFits, AssertionFits}
 use Rattle.cap_machine_accounts.specs.Assertions.{NameValue, ValuesFit}
 use Rattle.cap_goal_spec.specs.Terms.{variables_from}
@@ -16,56 +15,23 @@ use Rattle.cap_goal_spec.specs.States.{Home}
 use Rattle.cap_goal_spec.specs.Environments.{zero_value, unbound}
 use Rattle.cap_goal_spec.specs.Roots.{LoopPoint, loops_of, loops_in}
 use Rattle.cap_account_resources.specs.Parts.{Table}
-use Rattle.cap_account_resources.proofs.Lists.{some-same, none-some, get-first, all-both, all-first, all-second, Among}
+use Rattle.cap_account_resources.proofs.Lists.{get-first, all-both, all-first, all-second, Among}
 use Rattle.cap_account_resources.proofs.Stocks.{Stock}
 use Rattle.cap_account_states.proofs.Terms.{Over}
 use Rattle.cap_account_states.proofs.Meets.{Usable}
 use Rattle.cap_account_states.proofs.Checked.{Checked}
-use Rattle.cap_account_states.proofs.Scopes.{ensures-at, requires-ensures, result-ensures, param-requires, fixed-requires, own-result, variables-length, variables-at, rep-length, rep-in, unbound-none}
-use Rattle.cap_account_states.proofs.Roots.{function-fits, flat-bound, sorts_of, Root, variables-over, zeros-over}
+use Rattle.cap_account_states.proofs.Naming.{values_in}
+use Rattle.cap_account_states.proofs.Scopes.{result-ensures, own-result, variables-length, variables-at, rep-length, rep-in}
+use Rattle.cap_account_states.proofs.Roots.{function-fits, flat-bound, sorts_of, variables-over, zeros-over}
 use Rattle.cap_account_assertions.proofs.Asserted.{OwnsRequires, OwnsEnsures, OwnsInvariant}
 use Rattle.cap_account_assertions.proofs.Laws.{GivenLaw, Reached, RestsLaw}
 use Rattle.cap_account_assertions.proofs.Follows.{all-among}
 use Rattle.cap_account_assertions.proofs.TakenStill.{StillLaw}
 use Rattle.cap_account_steps.proofs.Points.{StatementsFit}
-use Rattle.cap_account_steps.proofs.Entries.{entry_root, loop_root, low-variable}
+use Rattle.cap_account_steps.proofs.Entries.{entry_root, exit_root, loop_root, low-variable}
 use Rattle.cap_account_steps.proofs.Bundles.{StableRoots}
+use Rattle.cap_account_steps.proofs.Regained.{Regained, given_requires, given_ensures, given_invariant}
 use Rattle.cap_account_steps.proofs.RootNames.{LocalsBound, whole-kept, fixed-kept, root-again}
-
--- ---- the root at which `ensures` is given
-
-pub one-result :
-    (f : PlainFunction) (new : List Sort) (j : ℕ) → slice_get (Int ∷ []) j ≡ Some Int →
-    HasSort (ensures_scope f new) Int (result_name f + j)
-one-result f new zero e =
-    let here : result_name f ≡ result_name f + 0 = omega arith in
-    subst (HasSort (ensures_scope f new) Int) here (result-ensures f new)
-one-result f new (suc j) e = absurd (none-some e)
-
-abbrev pub exit_root : PlainFunction → ℕ → List Sort → Valuation → Root
-exit_root f n new a =
-    let last = variable (f.params + 0 + length f.fixed) in
-    let early = requires-ensures f new in
-    record {
-      f = f;
-      n = n;
-      l = 0;
-      gap = f.locals;
-      hgap = omega arith;
-      new = new;
-      sc = ensures_scope f new;
-      at_position = ensures-at f new;
-      low_in = λ x q. early x Int (param-requires f x (omega (arith, q)));
-      fixed_in = λ i o e. early (fixed_start f + i) o (fixed-requires f i o e);
-      ls = unbound f.locals;
-      hls = rep-length f.locals None;
-      locals_are = λ i t q. absurd (none-some (sym (unbound-none f.locals i) ∙ q));
-      rs = Int ∷ [];
-      rs_in = one-result f new;
-      r = Some last;
-      r_is = λ t e. (sym (some-same last t e), refl);
-      a = a;
-    }
 
 -- ---- the loops of a body have invariants that fit
 
@@ -130,8 +96,9 @@ module _ (p : Checked) (program : IsWellFormed p.program) (roots : StableRoots p
       ))) (zeros-over R f.locals)
 
   pub requires-stable :
-      (args : List ℤ) → length args ≡ f.params → OwnsRequires p.program T q f args fixed →
-      OwnsRequires p.program U q f args fixed
+      (args : List ℤ) → length args ≡ f.params → (h : OwnsRequires p.program T q f args fixed) →
+      Regained U (given_requires p.program T q n f args fixed h)
+      (OwnsRequires p.program U q f args fixed) (λ m. m.values)
   requires-stable args size h =
       let root = entry_root f n h.values in
       let trees = roots.requires n f is in
@@ -140,17 +107,29 @@ module _ (p : Checked) (program : IsWellFormed p.program) (roots : StableRoots p
       (variables_from 0 f.params ++ replicate f.locals zero_value) trees.0 (entry-over []) trees.1
       fits h.met reached in
       record {
-        values = g.values;
-        args_are =
-            whole-kept root g.values g.kept (λ i l. no-locals i l) args (omega (arith, size))
-            h.args_are;
-        fixed_are = fixed-kept root g.values g.kept fixed fit h.fixed_are;
-        met = g.met;
+        passage = g.passage;
+        u = g.u;
+        ends = g.ends;
+        each = λ x e.
+            let b = values_in x g.passage.env in
+            let k = g.each x e in (
+              record {
+                values = b;
+                args_are =
+                    whole-kept root b k.kept (λ i l. no-locals i l) args (omega (arith, size))
+                    h.args_are;
+                fixed_are = fixed-kept root b k.kept fixed fit h.fixed_are;
+                met = k.met;
+              },
+              refl,
+            );
       }
 
   pub ensures-stable :
       (args : List ℤ) (r : ℤ) → length args ≡ f.params →
-      OwnsEnsures p.program T q f args fixed r → OwnsEnsures p.program U q f args fixed r
+      (h : OwnsEnsures p.program T q f args fixed r) →
+      Regained U (given_ensures p.program T q n f args fixed r h)
+      (OwnsEnsures p.program U q f args fixed r) (λ m. m.values)
   ensures-stable args r size h =
       let new = f.ensures.names in
       let root = exit_root f n new h.values in
@@ -162,25 +141,37 @@ module _ (p : Checked) (program : IsWellFormed p.program) (roots : StableRoots p
       let home : Home = record { function = n; fixed = f.params + 0 } in
       let last = variable (f.params + 0 + length f.fixed) in
       record {
-        values = g.values;
-        args_are =
-            whole-kept root g.values g.kept (λ i l. no-locals i l) args (omega (arith, size))
-            h.args_are;
-        fixed_are = fixed-kept root g.values g.kept fixed fit h.fixed_are;
-        result_is =
-            g.kept.whole (result_name f) (result-ensures f new) (
-              last,
-              own-result f home (variables_from 0 f.params) (unbound f.locals) (Some last)
-                  (length new) (variables-length 0 f.params) (rep-length f.locals None),
-            )
-            ∙ h.result_is;
-        met = g.met;
+        passage = g.passage;
+        u = g.u;
+        ends = g.ends;
+        each = λ x e.
+            let b = values_in x g.passage.env in
+            let k = g.each x e in (
+              record {
+                values = b;
+                args_are =
+                    whole-kept root b k.kept (λ i l. no-locals i l) args (omega (arith, size))
+                    h.args_are;
+                fixed_are = fixed-kept root b k.kept fixed fit h.fixed_are;
+                result_is =
+                    k.kept.whole (result_name f) (result-ensures f new) (
+                      last,
+                      own-result f home (variables_from 0 f.params) (unbound f.locals) (Some last)
+                          (length new) (variables-length 0 f.params) (rep-length f.locals None),
+                    )
+                    ∙ h.result_is;
+                met = k.met;
+              },
+              refl,
+            );
       }
 
   pub invariant-stable :
       (w : LoopPoint) → Among w (loops_in f.body done) → (store : List ℤ) →
-      length store ≡ fixed_start f → OwnsInvariant p.program T q f store fixed w.invariant →
-      OwnsInvariant p.program U q f store fixed w.invariant
+      length store ≡ fixed_start f →
+      (h : OwnsInvariant p.program T q f store fixed w.invariant) →
+      Regained U (given_invariant p.program T q n f store fixed w.invariant h)
+      (OwnsInvariant p.program U q f store fixed w.invariant) (λ m. m.values)
   invariant-stable w among store size h =
       let root = loop_root f n w.invariant.names h.values in
       let trees = roots.invariants n f is w among in
@@ -199,9 +190,19 @@ module _ (p : Checked) (program : IsWellFormed p.program) (roots : StableRoots p
         flat-bound (variables_from f.params f.locals) i ∙ variables-at f.params f.locals i l,
       ) in
       record {
-        values = g.values;
-        store_is =
-            whole-kept root g.values g.kept known store (omega (arith, size)) h.store_is;
-        fixed_are = fixed-kept root g.values g.kept fixed fit h.fixed_are;
-        met = g.met;
+        passage = g.passage;
+        u = g.u;
+        ends = g.ends;
+        each = λ x e.
+            let b = values_in x g.passage.env in
+            let k = g.each x e in (
+              record {
+                values = b;
+                store_is =
+                    whole-kept root b k.kept known store (omega (arith, size)) h.store_is;
+                fixed_are = fixed-kept root b k.kept fixed fit h.fixed_are;
+                met = k.met;
+              },
+              refl,
+            );
       }

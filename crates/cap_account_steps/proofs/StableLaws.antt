@@ -6,9 +6,10 @@ use Rattle.cap_goal_spec.specs.Choices.{PlainTree}
 use Rattle.cap_rules.specs.Valid.{Valid}
 use Rattle.cap_account_states.proofs.Checked.{Checked, derivations}
 use Rattle.cap_account_assertions.proofs.GiveLaw.{given-law}
-use Rattle.cap_account_assertions.proofs.Laws.{GivenLaw, RestsLaw, Stable}
+use Rattle.cap_account_assertions.proofs.Laws.{GivenLaw, RestsLaw}
 use Rattle.cap_account_assertions.proofs.TakenStill.{StillLaw, still-always}
 use Rattle.cap_account_steps.proofs.Bundles.{StableRoots, stable-roots}
+use Rattle.cap_account_steps.proofs.Regained.{Stable}
 use Rattle.cap_account_steps.proofs.RestLaws.{rests}
 use Rattle.cap_account_steps.proofs.StableContracts.{requires-stable, ensures-stable, invariant-stable}
 use Rattle.cap_account_steps.proofs.StableRegions.{region-stable}

@@ -7,7 +7,7 @@ use Rattle.std.proofs.lemmas.Bool.Decides.{nat_tests}
 use Rattle.cap_lin.specs.Linear.{Linear}
 use Rattle.cap_lin.specs.Values.{Valuation, value}
 use Rattle.cap_lin.specs.declared.row.Sort.TheVariants.{Int}
-use Rattle.cap_prog.specs.Program.{PlainCase, PlainRegionType}
+use Rattle.cap_prog.specs.Program.{PlainCase, PlainRegionType, PlainProgram}
 use Rattle.cap_prog.specs.Scopes.{region_scope}
 use Rattle.cap_prog.specs.WellFormed.{CaseFits, RegionFits}
 use Rattle.cap_machine_accounts.specs.Assertions.{AreWhole}
@@ -18,7 +18,7 @@ use Rattle.cap_goal_spec.specs.Choices.{PlainTree, node, PlainTrees, by_absurd, 
 use Rattle.cap_goal_spec.specs.Roots.{case_fact, case_state}
 use Rattle.cap_rules.specs.Making.{env_at}
 use Rattle.cap_rules.specs.Closing.{may_move, prove_move}
-use Rattle.cap_account_states.proofs.Alike.{values-alike, Alike, agree-alike, value-alike}
+use Rattle.cap_account_states.proofs.Alike.{values-alike, Alike, alike-same, agree-alike, value-alike}
 use Rattle.cap_account_resources.specs.Parts.{known_as, Table}
 use Rattle.cap_account_resources.proofs.Lists.{within, get-map, get-or-push, push-length, map-length, all-at, all-more}
 use Rattle.cap_account_resources.proofs.Stocks.{Stock}
@@ -27,6 +27,7 @@ use Rattle.cap_account_states.specs.Nodes.{Comes, Open}
 use Rattle.cap_account_states.proofs.Terms.{Over, vars-more}
 use Rattle.cap_account_states.proofs.Attempts.{env_added}
 use Rattle.cap_account_states.proofs.Meets.{Usable, usable-on, usable-old, Old, solves, variable-value}
+use Rattle.cap_account_states.proofs.Brought.{Bring, Brings}
 use Rattle.cap_account_states.proofs.Checked.{Checked}
 use Rattle.cap_account_states.proofs.Scopes.{bound-first, variables-length}
 use Rattle.cap_account_states.proofs.Naming.{Placed, values_in, values-mean}
@@ -39,12 +40,14 @@ use Rattle.cap_account_assertions.proofs.FreshRegions.{IsKnown}
 use Rattle.cap_account_assertions.proofs.MadeRegions.{param-sort}
 use Rattle.cap_account_assertions.proofs.CaseStarts.{state-at, known-envs}
 use Rattle.cap_account_assertions.proofs.Creating.{one-tree}
-use Rattle.cap_account_assertions.proofs.TakenStill.{Still, StillLaw}
+use Rattle.cap_account_assertions.proofs.Passages.{Passage, end-of, end-before, end-brings}
+use Rattle.cap_account_assertions.proofs.TakenStill.{Still, StillLaw, still-named}
 use Rattle.cap_account_assertions.proofs.Again.{given-rested}
 use Rattle.cap_account_steps.proofs.Worlds.{AllOver}
 use Rattle.cap_account_steps.proofs.Moves.{Movable, movable-on, kept-says}
 use Rattle.cap_account_steps.proofs.Shifting.{Picked, picked, none-other, closed_state, shifted}
 use Rattle.cap_account_steps.proofs.Bundles.{StableRoots}
+use Rattle.cap_account_steps.proofs.Regained.{Regained, given_region}
 use Rattle.cap_account_steps.proofs.CaseRoots.{case-term, sort-known, case_root_values, case-means, case-at, case-backed}
 
 -- ---- what an opened region's fact says
@@ -142,6 +145,19 @@ may-stay m k e =
     second true z e = e
     second false z e = absurd (cc)
 
+-- the region stays in this case, at all values that are alike before and of which the same is brought
+record StaysInCase (p : PlainProgram) (U : Table) (h : Stock) (n : ℤ) (k : ℕ) (args : List ℤ)
+    (b : ℤ) (w : Valuation) (s : PlainState) : Type 0 where
+  number : ℕ
+  brings : List Bring
+  env : PlainEnv
+  u : Valuation
+  alike : Alike (Old s) w u
+  brought : Brings u (length s.sorts) brings
+  each :
+      (x : Valuation) → Alike (Old s) w x → Brings x (length s.sorts) brings →
+      (o : OwnsRegion p U n k args b h) × (o.number ≡ number) × (o.values ≡ values_in x env)
+
 module _ (p : Checked) (still : StillLaw p) (U : Table) (h : Stock) (room : FitsRoom p.program U h)
     (n : ℤ) (k : ℕ) (args : List ℤ) (b : ℤ) (there : U n ≡ Some (known_as k args (Some b)))
     (w : Valuation) (s : PlainState) (known : IsKnown p.program [] U w s h) where
@@ -156,7 +172,8 @@ module _ (p : Checked) (still : StillLaw p) (U : Table) (h : Stock) (room : Fits
       (t : Still p [] U (region_scope q.k q.x.names) (length s.envs) w h
       (env_added s (region_env q.f q.names)) q.x.items (to_shift o cn m (length s.envs) 0 ∷ [])) →
       (d : PlainTree) → p.N d t.after (to_shift o cn m (length s.envs) 0 ∷ []) →
-      OwnsRegion p.program U n k args b h
+      (r : OwnsRegion p.program U n k args b h) × (r.number ≡ cn)
+      × (r.values ≡ values_in t.w (env_at t.after (length s.envs)))
   shifted-owns o cn m kids q says none t (node (by_absurd x) below) hd =
       absurd ((p.step hd).0.0 t.w (solves [] t.w t.after t.ready.grounded.meets))
   shifted-owns o cn m kids q says none t (node (by_shift cs) below) hd =
@@ -190,31 +207,34 @@ module _ (p : Checked) (still : StillLaw p) (U : Table) (h : Stock) (room : Fits
       let size = map-length (value t.w.whole) q.f.args in
       let same = ap length now.args_are in
       let count = q.movable.arity in
-      let first = at-new s (region_env q.f q.names) in
-      record {
-        type = q.k;
-        is_type = ap (slice_get pp.regions) (sym now.kind_is) ∙ q.movable.is_type;
-        arity = omega (arith, size, same, count);
-        number = cn;
-        case = q.x;
-        is_case = q.is_case;
-        values = X;
-        args_are =
-            subst (λ zs. AreWhole X 0 (n ∷ zs)) now.args_are
-            (subst (λ z. AreWhole X 0 (z ∷ map (value t.w.whole) q.f.args)) now.region_is
-            (region-args t.w q.f q.names env (λ x l u g.
-            t.follows.stays x Int (param-sort q.k q.x.names x (omega (arith, l, count))) u
-            (ap (λ es. term_of es x) first ∙ g))));
-        state_is = sym (sh.state_is X mean) ∙ keeps.0 ∙ now.state_is;
-        conditions = sh.conditions X mean;
-        met = t.met X mean;
-      }
+      let first = at-new s (region_env q.f q.names) in (
+        record {
+          type = q.k;
+          is_type = ap (slice_get pp.regions) (sym now.kind_is) ∙ q.movable.is_type;
+          arity = omega (arith, size, same, count);
+          number = cn;
+          case = q.x;
+          is_case = q.is_case;
+          values = X;
+          args_are =
+              subst (λ zs. AreWhole X 0 (n ∷ zs)) now.args_are
+              (subst (λ z. AreWhole X 0 (z ∷ map (value t.w.whole) q.f.args)) now.region_is
+              (region-args t.w q.f q.names env (λ x l u g.
+              t.follows.stays x Int (param-sort q.k q.x.names x (omega (arith, l, count))) u
+              (ap (λ es. term_of es x) first ∙ g))));
+          state_is = sym (sh.state_is X mean) ∙ keeps.0 ∙ now.state_is;
+          conditions = sh.conditions X mean;
+          met = t.met t.w (alike-same (Old t.after) t.w) X mean;
+        },
+        refl,
+        refl,
+      )
   shifted-owns o cn m kids q says none t d hd = absurd (p.step hd).1
 
   -- rule `pick`, and its case taken
   picked-owns :
       AllByRecursion Told s.opened → (d : PlainTree) → p.N d s (to_close false 0 ∷ []) →
-      OwnsRegion p.program U n k args b h
+      StaysInCase p.program U h n k args b w s
   picked-owns told (node (by_absurd x) kids) hd =
       absurd ((p.step hd).0.0 w (solves [] w s known.grounded.meets))
   picked-owns told (node (by_pick o cn m) kids) hd =
@@ -235,7 +255,17 @@ module _ (p : Checked) (still : StillLaw p) (U : Table) (h : Stock) (room : Fits
       (state-at pp [] U sc e w start h now (omega (arith, size))
       (subst (Placed [] sc s.sorts) (sym last) q.placed)) tt fits.items.items now.backed room in
       let d = one-tree p.N t.children t.after tasks t.goes in
-      shifted-owns o cn m kids q says (may-stay m q.k q.may) t d.0 d.1
+      record {
+        number = cn;
+        brings = t.brings;
+        env = env_at t.after e;
+        u = t.w;
+        alike = t.follows.alike;
+        brought = t.brought.are;
+        each = λ x l b.
+            shifted-owns o cn m kids q says (may-stay m q.k q.may)
+            (still-named p [] U sc e w h start q.x.items tasks t x l b) d.0 d.1;
+      }
   picked-owns told d hd = absurd (p.step hd).1
 
 -- ---- the law
@@ -244,8 +274,9 @@ pub region-stable :
     (p : Checked) → AllByRecursion (RegionFits p.program) p.program.regions → StableRoots p →
     GivenLaw p → RestsLaw p → StillLaw p → (T U : Table) (h : Stock) (n : ℤ) (k : ℕ)
     (args : List ℤ) (b : ℤ) → Reached p.program T U h → T n ≡ Some (known_as k args (Some b)) →
-    U n ≡ Some (known_as k args (Some b)) → OwnsRegion p.program T n k args b h →
-    OwnsRegion p.program U n k args b h
+    U n ≡ Some (known_as k args (Some b)) → (o : OwnsRegion p.program T n k args b h) →
+    (number : ℕ) × Regained U (given_region p.program T h n k args b o)
+    ((m : OwnsRegion p.program U n k args b h) × (m.number ≡ number)) (λ m. m.0.values)
 region-stable p regions roots gives rests still T U h n k args b reached before after i =
     let pp = p.program in
     let y = i.type in
@@ -292,8 +323,26 @@ region-stable p regions roots gives rests still T U h n k args b reached before 
       backed = g.backed;
     } in
     let d = one-tree p.N g.children g.after (to_close false 0 ∷ []) g.goes in
-    picked-owns p still U h (fits-relied pp T U h reached.full reached.relies reached.room) n k args
-    b after g.w g.after known
+    let r = picked-owns p still U h
+    (fits-relied pp T U h reached.full reached.relies reached.room) n k args b after g.w g.after known
     (subst (AllByRecursion (Told p still U h
     (fits-relied pp T U h reached.full reached.relies reached.room) n k args b after g.w g.after
-    known)) (sym g.goes_on.opened) ((later, y, now), tt)) d.0 d.1
+    known)) (sym g.goes_on.opened) ((later, y, now), tt)) d.0 d.1 in
+    let start = given_region pp T h n k args b i in
+    let passage : Passage = record {
+      told = g.told;
+      trees = g.trees;
+      brings = r.brings;
+      env = r.env;
+    } in (
+      r.number,
+      record {
+        passage = passage;
+        u = r.u;
+        ends = end-of U start passage g.after g.w g.named g.count r.u r.alike r.brought;
+        each = λ x e.
+            let o = r.each x (end-before U start passage g.after g.w g.named g.count x e)
+            (end-brings U start passage g.after g.w g.named g.count x e) in
+            ((o.0, o.1), o.2);
+      },
+    )

@@ -2,7 +2,7 @@
 use Rattle.cap_prog.specs.WellFormed.{IsWellFormed}
 use Rattle.cap_account_states.proofs.Checked.{Checked}
 use Rattle.cap_account_assertions.proofs.GiveLaw.{given-law}
-use Rattle.cap_account_assertions.proofs.Laws.{GivenLaw, TakenLaw, RestsLaw, Stable}
+use Rattle.cap_account_assertions.proofs.Laws.{GivenLaw, TakenLaw, RestsLaw}
 use Rattle.cap_account_assertions.proofs.TakeConvert.{taken-always}
 use Rattle.cap_account_steps.proofs.Allocating.{alloc-law}
 use Rattle.cap_account_steps.proofs.Beginning.{body-law, turn-law}
@@ -12,6 +12,7 @@ use Rattle.cap_account_steps.proofs.Clashing.{clash-law}
 use Rattle.cap_account_steps.proofs.Finishing.{acts}
 use Rattle.cap_account_steps.proofs.HeapLaws.{heap-law}
 use Rattle.cap_account_steps.proofs.Local.{set-law, check-law, branch-law}
+use Rattle.cap_account_steps.proofs.Regained.{Stable}
 use Rattle.cap_account_steps.proofs.RestLaws.{rests}
 use Rattle.cap_account_steps.proofs.Returning.{return-law, loop-head-law}
 use Rattle.cap_account_steps.proofs.Statements.{Statements}
