@@ -20,7 +20,7 @@ use Rattle.cap_account_resources.proofs.Owners.{Owner, owned, numbers_of}
 use Rattle.cap_account_states.specs.Nodes.{Open}
 use Rattle.cap_account_states.proofs.Terms.{Agree}
 use Rattle.cap_account_states.proofs.Alike.{Alike}
-use Rattle.cap_account_states.proofs.Brought.{Bring, Brought}
+use Rattle.cap_account_states.proofs.Brought.{Bring, Brought, HasHalves}
 use Rattle.cap_account_states.proofs.Meets.{Usable, Old}
 use Rattle.cap_account_states.proofs.Facts.{Facts}
 use Rattle.cap_account_states.proofs.Items.{AreFit}
@@ -130,6 +130,24 @@ TakenLaw p =
     AllByRecursion (λ k. k < length s.sorts) ks → AreFit p.program sc items →
     Backed p.program v s held → FitsRoom p.program T held → AreListed bound T →
     Taken p ks T sc e most v held s items ts
+
+-- where each share that is halved has a half over the denominator that there is, the values are over
+-- this one
+pub record TakenOnce (p : Checked) (ks : List ℕ) (T : Table) (sc : Scope) (e most : ℕ)
+    (v : Valuation) (held : Stock) (s : PlainState) (items : Items) (ts : List PlainTask) : Type 0
+  where
+    pub taken : Taken p ks T sc e most v held s items ts
+    pub once : HasHalves v (length s.sorts) taken.brings → Agree (Old s) v taken.w
+
+-- taking, over one denominator as long as there are halves
+abbrev pub TakenOnceLaw : Checked → Type 0
+TakenOnceLaw p =
+    (ks : List ℕ) (T : Table) (sc : Scope) (e most n : ℕ) (items : Items) (ts : List PlainTask)
+    (trees : PlainTrees) (v : Valuation) (s : PlainState) (held : Stock) (bound : List ℤ) →
+    Open p.N trees s (to_take items e most n ∷ ts) → StateAt p.program ks T sc e v s →
+    AllByRecursion (λ k. k < length s.sorts) ks → AreFit p.program sc items →
+    Backed p.program v s held → FitsRoom p.program T held → AreListed bound T →
+    TakenOnce p ks T sc e most v held s items ts
 
 -- ---- what stays true
 

@@ -110,9 +110,13 @@ module _ (p : Checked) (V : Table) (part : Stock) (ts : List PlainTask) where
             backed = r.backed;
             shuts = rc.shut ∷ r.shuts;
             named = (
-              rc.took,
-              rc.count,
-              rc.brought,
+              record {
+                alike = rc.took;
+                once = rc.once;
+                count = rc.count;
+                brought = rc.brought;
+                over = rc.over;
+              },
               subst (λ n. Leads n (shut_values rc.shut) r.shuts (length r.after.sorts) r.w)
                   (sym rc.counts)
                   (subst (λ u. Leads (length rc.after.sorts) u r.shuts (length r.after.sorts) r.w)
