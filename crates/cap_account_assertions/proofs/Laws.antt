@@ -32,6 +32,7 @@ use Rattle.cap_account_states.proofs.Backed.{IsFirm, IsOpened, Backed, Grounded,
 use Rattle.cap_account_assertions.proofs.Named.{rest_values, rest_counts}
 use Rattle.cap_account_assertions.proofs.Asserted.{DrawsAll, OwnsRegion, OwnsRequires, OwnsEnsures, OwnsInvariant}
 use Rattle.cap_account_assertions.proofs.Filling.{fill_items}
+use Rattle.cap_account_assertions.proofs.GivenTrees.{given_trees}
 
 -- ---- states and tables
 
@@ -85,6 +86,24 @@ GivenLaw p =
     Composes (both p.program held h) →
     Given p T e v (both p.program held h) s ts
     (fill_items p.program T a items h r d (filled_at e v s))
+
+-- and these are the trees to which the sides that are drawn lead
+pub record GivenAlong (p : Checked) (T : Table) (e : ℕ) (v : Valuation) (total : Stock)
+    (s : PlainState) (ts : List PlainTask) (goal : Filled) (kids : PlainTrees) : Type 0 where
+  pub given : Given p T e v total s ts goal
+  pub along : given.children ≡ kids
+
+abbrev pub GivenAlongLaw : Checked → Type 0
+GivenAlongLaw p =
+    (T : Table) (sc : Scope) (e n : ℕ) (a : Valuation) (held h r : Stock) (items : Items)
+    (ts : List PlainTask) (trees : PlainTrees) (v : Valuation) (s : PlainState) →
+    Open p.N trees s (to_give items e n ∷ ts) → StateAt p.program [] T sc e v s →
+    AllByRecursion IsFirm s.facts → Means sc v (env_at s e) a → AreFit p.program sc items →
+    (d : DrawsAll p.program T a items h r) → Backed p.program v s held →
+    Composes (both p.program held h) →
+    GivenAlong p T e v (both p.program held h) s ts
+    (fill_items p.program T a items h r d (filled_at e v s))
+    (given_trees p.program T a items h r d trees)
 
 -- ---- taking
 

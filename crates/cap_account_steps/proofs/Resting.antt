@@ -25,7 +25,7 @@ use Rattle.cap_account_resources.proofs.Stocks.{Stock}
 use Rattle.cap_account_states.proofs.Terms.{RowOver}
 use Rattle.cap_account_states.proofs.Attempts.{comes-bind, comes-more, after-found, after-sort, after-computed, sort_added}
 use Rattle.cap_account_states.proofs.Adding.{comes-rows}
-use Rattle.cap_account_states.proofs.Checked.{Checked}
+use Rattle.cap_account_states.proofs.Checked.{Checked, lone-child}
 use Rattle.cap_account_states.proofs.Meets.{Free, Usable, solves}
 use Rattle.cap_account_states.proofs.Backed.{IsFirm, Grounded}
 use Rattle.cap_account_assertions.proofs.Named.{set_to, told_state, rest_values, rest_counts}
@@ -114,14 +114,6 @@ drop-set :
 drop-set [] j x = refl
 drop-set (y ∷ ys) zero x = refl
 drop-set (y ∷ ys) (suc j) x = drop-set ys j x
-
--- the tree of the only child
-lone-child :
-    (N : NodePredicate) (ks : PlainTrees) (s : PlainState) (ts : List PlainTask) →
-    Children N ks (goal s ts ∷ []) → (d : PlainTree) × N d s ts × (ks ≡ tree d no_trees)
-lone-child N no_trees s ts h = absurd h
-lone-child N (tree t no_trees) s ts h = (t, h.0, refl)
-lone-child N (tree t (tree u us)) s ts h = absurd h.1
 
 -- ---- the chain
 
