@@ -2,7 +2,7 @@
 use Rattle.cap_account_states.proofs.Alike.{usable-alike, Alike, InScope, alike-trans, alike-less, agree-alike, scaled-alike}
 use Rattle.cap_account_resources.proofs.Lists.{all-map, some-same, all-more, all-both, all-at, all-remove, map-join, map-length, get-or-push, push-length}
 use Rattle.std.proofs.Common.{◌≡◌, ◌≢◌, ℕ, suc, ◌<◌, ℤ, List, [], ◌∷◌, ◌++◌, length, map, arith, refl, sym, ap, ◌∙◌, subst, Some, Bool, true, false}
-use Rattle.std.specs.Prelude.{slice_get, nat_lt, remove, ◌==◌, if◌then◌else◌}
+use Rattle.std.specs.Prelude.{slice_get, nat_eq, nat_lt, remove, ◌==◌, if◌then◌else◌}
 use Rattle.std.specs.List.{AllByRecursion}
 use Rattle.std.proofs.lemmas.Bool.Decides.{nat_tests}
 use Rattle.cap_lin.specs.Linear.{Linear}
@@ -52,9 +52,9 @@ use Rattle.cap_account_steps.proofs.Exact.{exact-alike, over-more}
 use Rattle.cap_account_steps.proofs.Worlds.{Differ, IsThere, World, Exact, AllOver, regions_of, Earlier, IfAny, Opening}
 use Rattle.cap_account_steps.proofs.FirmStates.{firm-loose, firm-differ, Between, facts-between, grounded-between, backed-between}
 use Rattle.cap_account_steps.proofs.CaseStates.{case_state, LeavesOne, CaseGoal, case-goal}
-use Rattle.cap_account_steps.proofs.CaseValues.{case_values, names_values}
+use Rattle.cap_account_steps.proofs.CaseValues.{names_values, entered_values, entered_names}
 use Rattle.cap_account_steps.proofs.CaseHolds as holds
-use Rattle.cap_account_steps.proofs.CaseHolds.{IsInCase, meets-case}
+use Rattle.cap_account_steps.proofs.CaseHolds.{IsInCase}
 
 -- ---- firm facts say just what the table does
 
@@ -160,23 +160,23 @@ module _ (p : Checked) (program : IsWellFormed p.program) (give : GivenAlongLaw 
         (value v.whole f.state) exact
     pub named :
         Agree (Old (case_state (with_opened s i f) f own.case))
-        (case_values v own.values (length s.sorts) k.params (region_scope k own.case.names)) w
+        (entered_values v own.values (length s.sorts) k.params (region_scope k own.case.names)) w
     pub drawn :
         DrawsAll p.program V
-        (names_values v own.values (length s.sorts) k.params (region_scope k own.case.names))
+        (entered_names v own.values (length s.sorts) k.params (region_scope k own.case.names))
         own.case.items (share (value v.whole f.region)) own.met.0
     pub filled :
         filled_at (length s.envs) w t
         ≡ fill_items p.program V
-        (names_values v own.values (length s.sorts) k.params (region_scope k own.case.names))
+        (entered_names v own.values (length s.sorts) k.params (region_scope k own.case.names))
         own.case.items (share (value v.whole f.region)) own.met.0 drawn
         (filled_at (length s.envs)
-        (case_values v own.values (length s.sorts) k.params (region_scope k own.case.names))
+        (entered_values v own.values (length s.sorts) k.params (region_scope k own.case.names))
         (case_state (with_opened s i f) f own.case))
     pub child :
         tree d no_trees
         ≡ given_trees p.program V
-        (names_values v own.values (length s.sorts) k.params (region_scope k own.case.names))
+        (entered_names v own.values (length s.sorts) k.params (region_scope k own.case.names))
         own.case.items (share (value v.whole f.region)) own.met.0 drawn
         (first_trees 1 (later_trees own.number ks))
 
@@ -325,10 +325,10 @@ module _ (p : Checked) (program : IsWellFormed p.program) (give : GivenAlongLaw 
           s2 = case_state s1 f own.case
 
           abbrev w : Valuation
-          w = case_values v own.values (length s.sorts) k.params (region_scope k own.case.names)
+          w = entered_values v own.values (length s.sorts) k.params (region_scope k own.case.names)
 
           abbrev names : Valuation
-          names = names_values v own.values (length s.sorts) k.params
+          names = entered_names v own.values (length s.sorts) k.params
               (region_scope k own.case.names)
 
           abbrev held : Stock
@@ -358,7 +358,7 @@ module _ (p : Checked) (program : IsWellFormed p.program) (give : GivenAlongLaw 
 
           alike2 : Alike (Old s) v w
           alike2 =
-              holds.alike p.program v s1 f k c own.values in-case meets1 goal.goes.state_known
+              holds.start-alike p.program v s1 f k c own.values in-case meets1 goal.goes.state_known
               goal.goes.conditions_known
 
           usable2 : (o : Sort) (x : ℕ) → Usable [] s.sorts o x → Usable [] s2.sorts o x
@@ -403,7 +403,7 @@ module _ (p : Checked) (program : IsWellFormed p.program) (give : GivenAlongLaw 
           state2 : StateAt p.program [] V sc (length s.envs) w s2
           state2 = record {
             grounded = grounded-between p.program [] [] (Old s) v w s1 s2 between2
-                (meets-case p.program v s1 f k c own.values in-case meets1 goal.goes.state_known
+                (holds.start-meets p.program v s1 f k c own.values in-case meets1 goal.goes.state_known
                 goal.goes.conditions_known) grounded1;
             facts = facts-between p.program [] [] (Old s) v w s1 s2 between2 V firm1 facts1;
             opened = all-more IsOpen (IsOpened (Usable [] s2.sorts Int) w V) opened2 s2.opened
@@ -449,11 +449,21 @@ module _ (p : Checked) (program : IsWellFormed p.program) (give : GivenAlongLaw 
               (room-some p.program V m))
 
           drawn : DrawsAll p.program V names c.items (share n) own.met.0
-          drawn =
-              draws-all-finer p.program V sc own.values names
-              (scaled-alike (InScope sc) v.fraction.under own.values)
-              (scaled-finer v.fraction.under own.values) c.items (share n) own.met.0
-              case-fits.items.items own.met.1
+          drawn = by (nat_eq v.fraction.under own.values.fraction.under)
+            where
+              by :
+                  (b : Bool) →
+                  DrawsAll p.program V
+                  (if b then own.values
+                  else names_values v own.values (length s.sorts) k.params sc)
+                  c.items (share n) own.met.0
+              by true = own.met.1
+              by false =
+                  draws-all-finer p.program V sc own.values
+                  (names_values v own.values (length s.sorts) k.params sc)
+                  (scaled-alike (InScope sc) v.fraction.under own.values)
+                  (scaled-finer v.fraction.under own.values) c.items (share n) own.met.0
+                  case-fits.items.items own.met.1
 
           along : GivenAlong p V (length s.envs) w (both p.program held (share n)) s2 ts
               (fill_items p.program V names c.items (share n) own.met.0 drawn
@@ -463,7 +473,7 @@ module _ (p : Checked) (program : IsWellFormed p.program) (give : GivenAlongLaw 
               give V sc (length s.envs) l.number names held (share n) own.met.0 c.items ts kids w s2
               kids-goals state2 firm1
               (subst (λ env. Means sc w env names) (sym (get-or-push s.envs (case_names s1 f c) []))
-              (holds.means p.program v s1 f k c own.values in-case meets1 goal.goes.state_known
+              (holds.start-means p.program v s1 f k c own.values in-case meets1 goal.goes.state_known
               goal.goes.conditions_known))
               case-fits.items.items drawn
               (backed-between p.program [] [] (Old s) v w s1 s2 between2 held grounded1
