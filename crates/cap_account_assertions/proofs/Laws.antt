@@ -29,7 +29,7 @@ use Rattle.cap_account_states.proofs.Filled.{Filled, filled_at}
 use Rattle.cap_account_states.proofs.Naming.{Placed, Means, Stays}
 use Rattle.cap_account_states.proofs.Matching.{Outside}
 use Rattle.cap_account_states.proofs.Backed.{IsFirm, IsOpened, Backed, Grounded, GoesOn, OtherEnvs}
-use Rattle.cap_account_assertions.proofs.Named.{rest_values, rest_counts}
+use Rattle.cap_account_assertions.proofs.Named.{rest_values, rest_counts, rest_children}
 use Rattle.cap_account_assertions.proofs.Asserted.{DrawsAll, OwnsRegion, OwnsRequires, OwnsEnsures, OwnsInvariant}
 use Rattle.cap_account_assertions.proofs.Filling.{fill_items}
 use Rattle.cap_account_assertions.proofs.GivenTrees.{given_trees}
@@ -185,6 +185,7 @@ pub record Rested (p : Checked) (U : Table) (v : Valuation) (part : Stock) (s : 
   pub after : PlainState
   pub count : length after.sorts ≡ rest_counts s.facts trees (length s.sorts)
   pub children : PlainTrees
+  pub leads : children ≡ rest_children s.facts trees
   pub goes : Open p.N children after ts
   pub grounded : Grounded p.program [] w after
   pub facts : Facts [] w U after
