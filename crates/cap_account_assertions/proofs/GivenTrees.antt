@@ -1,6 +1,6 @@
 -- The trees to which giving items leads, below those of a goal: by the sides of conditionals that are
 -- drawn.
-use Rattle.std.proofs.Common.{◌≡◌, Bool, true, false, ◌||◌, refl, sym, ap, ◌∙◌, inl, inr}
+use Rattle.std.proofs.Common.{◌≡◌, Bool, true, false, ◌||◌, refl, ap, ◌∙◌, inl, inr}
 use Rattle.cap_lin.specs.Values.{Valuation}
 use Rattle.cap_prog.specs.Program.{PlainItem, compare, choose, fact, atom, cell, Items, none, item, append_items, PlainProgram}
 use Rattle.cap_goal_spec.specs.Choices.{node, PlainTrees, no_trees, tree}
