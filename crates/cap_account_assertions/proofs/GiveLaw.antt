@@ -19,14 +19,14 @@ use Rattle.cap_account_resources.proofs.Stocks.{Stock, both, Composes, inside-tr
 use Rattle.cap_account_states.specs.Nodes.{Comes, Children, Open}
 use Rattle.cap_account_states.proofs.Attempts.{comes-bind, after-comparison, row_added}
 use Rattle.cap_account_states.proofs.Meets.{solves}
-use Rattle.cap_account_states.proofs.Checked.{Checked, children-split, lone-child, first_side, second_side, Sides, goals-alike, sides-are}
+use Rattle.cap_account_states.proofs.Checked.{Checked, children-split, lone-child, first_kids, second_kids, SideGoals, goals-alike, sides-are}
 use Rattle.cap_account_states.proofs.Filled.{Filled, filled_at, fill_sides}
 use Rattle.cap_account_states.proofs.Naming.{Step}
 use Rattle.cap_account_states.proofs.Items.{items_size, size-positive, append-size, AreFit, fits-append, fits-more, fits-sides}
 use Rattle.cap_account_states.proofs.KnowsLater.{backed-more}
 use Rattle.cap_account_assertions.proofs.Asserted.{DrawsAll, draws-join}
 use Rattle.cap_account_assertions.proofs.Filling.{fill_item, fill_items, fill-join}
-use Rattle.cap_account_assertions.proofs.GivenTrees.{has_items, below_node, item_trees, all_trees, trees-join, has-both}
+use Rattle.cap_account_assertions.proofs.GivenTrees.{has_items, below_node, item_trees, items_trees, trees-join, has-both}
 use Rattle.cap_account_assertions.proofs.Laws.{GivenLaw, GivenAlong, GivenAlongLaw}
 use Rattle.cap_account_assertions.proofs.GiveTerms.{sides-given, sides-row}
 use Rattle.cap_account_assertions.proofs.GiveState.{Onward, onward-none, onward-step, onward-trans, underway-step, Due}
@@ -116,8 +116,8 @@ module _ (p : Checked) (T : Table) (sc : Scope) (e : ℕ) (a : Valuation) (total
       (fill_items p.program T a side d.left d.draws.0 h (fill_sides a c (filled_at e v s)))
       ≡ goal →
       IsDue
-      (λ ks. all_trees p.program T a more false d.draws.0 d.rest d.draws.2
-      (all_trees p.program T a side (has_items more) d.left d.draws.0 h ks))
+      (λ ks. items_trees p.program T a more false d.draws.0 d.rest d.draws.2
+      (items_trees p.program T a side (has_items more) d.left d.draws.0 h ks))
       (append_items side more) m.w t
   side-due way c x y side more v s t d m f h filled fills = record {
     held = d.held;
@@ -169,14 +169,14 @@ module _ (p : Checked) (T : Table) (sc : Scope) (e : ℕ) (a : Valuation) (total
   -- the first side is sure to have left a goal where it has items
   sides-left :
       (xs ys : Items) (s t : PlainState) → length s.facts ≡ length t.facts →
-      Sides (has_items xs) (goal_of s (to_give xs e n ∷ ts)) (goal_of t (to_give ys e n ∷ ts))
+      SideGoals (has_items xs) (goal_of s (to_give xs e n ∷ ts)) (goal_of t (to_give ys e n ∷ ts))
   sides-left (item i more) ys s t q = tt
   sides-left none none s t q = goals-alike s t ts q
   sides-left none (item i more) s t q = by (goal_of s ts)
     where
       by :
           (g : Option PlainGoal) →
-          Sides false g (goal_of t (to_give (item i more) e n ∷ ts))
+          SideGoals false g (goal_of t (to_give (item i more) e n ∷ ts))
       by None = tt
       by (Some g) = tt
 
@@ -193,7 +193,7 @@ module _ (p : Checked) (T : Table) (sc : Scope) (e : ℕ) (a : Valuation) (total
       let after = λ (op : Op). row_added g.after (row_of g.left op g.right c.sort) in
       let then = λ (f : Filled). fill_items p.program T a more d.draws.0 d.rest d.draws.2 f in
       let behind =
-      λ (ts : PlainTrees). all_trees p.program T a more false d.draws.0 d.rest d.draws.2 ts in
+      λ (ts : PlainTrees). items_trees p.program T a more false d.draws.0 d.rest d.draws.2 ts in
       let todo = λ (side : Items). to_give (append_items side more) e n ∷ ts in
       let first = after-comparison g.after g.left c.op g.right c.sort _ (Children p.N ks) g.comes in
       let second =
@@ -214,16 +214,16 @@ module _ (p : Checked) (T : Table) (sc : Scope) (e : ℕ) (a : Valuation) (total
       (fill_sides a c (filled_at e v s)))
       ≡ goal) (ls : PlainTrees)
       (o : Open p.N ls (after op) (todo side))
-      (leads : behind (all_trees p.program T a side (has_items more) d.left d.draws.0 took
+      (leads : behind (items_trees p.program T a side (has_items more) d.left d.draws.0 took
       (below_node (has_items (append_items side more)) ls))
       ≡ way ks).
       subst (λ kids. Goes kids v s) leads
       (given-on p T e v m.w total s (after op) ts goal
-      (behind (all_trees p.program T a side (has_items more) d.left d.draws.0 took
+      (behind (items_trees p.program T a side (has_items more) d.left d.draws.0 took
       (below_node (has_items (append_items side more)) ls)))
       (onward-step sc e a v s (after op) m)
       (law
-      (λ ks. behind (all_trees p.program T a side (has_items more) d.left d.draws.0 took ks))
+      (λ ks. behind (items_trees p.program T a side (has_items more) d.left d.draws.0 took ks))
       (append_items side more) small ls m.w (after op) o
       (side-due way c x y side more v s (after op) d m f took filled fills))) in
       (elim d.draws.1 as (λ o. then
@@ -234,19 +234,19 @@ module _ (p : Checked) (T : Table) (sc : Scope) (e : ℕ) (a : Valuation) (total
         | inl w ↦ λ k2 l2. by c.op x (sides-row sc e a v s c c.op _ g w.0) small_x
             (all-first (ItemFits p.program sc) (all_items x) (all_items y) fit) w.1 g.filled k2 k.left
             k.first
-            (ap (λ ls. behind (all_trees p.program T a x (has_items more) d.left d.draws.0 w.1
+            (ap (λ ls. behind (items_trees p.program T a x (has_items more) d.left d.draws.0 w.1
             (below_node known ls))) sides.0
-            ∙ ap (λ b. behind (all_trees p.program T a x (has_items more) d.left d.draws.0 w.1
-            (below_node b (first_side b ks)))) (has-both false x more)
+            ∙ ap (λ b. behind (items_trees p.program T a x (has_items more) d.left d.draws.0 w.1
+            (below_node b (first_kids b ks)))) (has-both false x more)
             ∙ l2)
         | inr w ↦ λ k2 l2. by (opposite c.op) y
             (sides-row sc e a v s c (opposite c.op) _ g (unless-relates c.op _ _ w.0)) small_y
             (all-second (ItemFits p.program sc) (all_items x) (all_items y) fit) w.1 g.filled k2
             k.right k.second
-            (ap (λ ls. behind (all_trees p.program T a y (has_items more) d.left d.draws.0 w.1
+            (ap (λ ls. behind (items_trees p.program T a y (has_items more) d.left d.draws.0 w.1
             (below_node (has_items (append_items y more)) ls))) sides.1
-            ∙ (λ i. behind (all_trees p.program T a y (has_items more) d.left d.draws.0 w.1
-            (below_node (has-both false y more i) (second_side (has-both false x more i) ks))))
+            ∙ (λ i. behind (items_trees p.program T a y (has_items more) d.left d.draws.0 w.1
+            (below_node (has-both false y more i) (second_kids (has-both false x more i) ks))))
             ∙ l2)
       ]) d.fills (d.leads ks)
 
@@ -303,7 +303,7 @@ pub given-along : (p : Checked) → GivenAlongLaw p
 given-along p T sc e n a held h r items ts trees v s hd at firm means fit draws backed ne =
     all-given p T sc e a (both p.program held h)
     (fill_items p.program T a items h r draws (filled_at e v s)) ne n ts (items_size items)
-    (λ ks. all_trees p.program T a items false h r draws ks) items (omega arith) trees v s hd (record {
+    (λ ks. items_trees p.program T a items false h r draws ks) items (omega arith) trees v s hd (record {
       held = held;
       left = h;
       rest = r;

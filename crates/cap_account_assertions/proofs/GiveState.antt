@@ -19,7 +19,7 @@ use Rattle.cap_account_states.proofs.Backed.{IsFirm, Knows, GoesOn, OtherEnvs}
 use Rattle.cap_account_states.proofs.KnowsLater.{IsKept, old-steady, knows-on}
 use Rattle.cap_account_assertions.proofs.Asserted.{DrawsAll}
 use Rattle.cap_account_assertions.proofs.Filling.{fill_item, fill_items}
-use Rattle.cap_account_assertions.proofs.GivenTrees.{has_items, item_trees, all_trees}
+use Rattle.cap_account_assertions.proofs.GivenTrees.{has_items, item_trees, items_trees}
 
 -- ---- states that go on
 
@@ -136,7 +136,7 @@ module _ (p : PlainProgram) (T : Table) (sc : Scope) (e : ℕ) (a : Valuation) w
       pub fit : AreFit p sc items
       pub draws : DrawsAll p T a items left rest
       pub fills : fill_items p T a items left rest draws (filled_at e v s) ≡ goal
-      pub leads : (ks : PlainTrees) → all_trees p T a items false left rest draws ks ≡ way ks
+      pub leads : (ks : PlainTrees) → items_trees p T a items false left rest draws ks ≡ way ks
       pub room : Inside p (both p held left) total
 
     pub record ItemGiven (more : Items) (v : Valuation) (s : PlainState)
@@ -192,7 +192,7 @@ module _ (p : PlainProgram) (T : Table) (sc : Scope) (e : ℕ) (a : Valuation) w
           draws = d.draws.2;
           fills = ap (fill_items p T a more d.draws.0 d.rest d.draws.2) filled ∙ d.fills;
           leads = λ ks.
-              ap (all_trees p T a more false d.draws.0 d.rest d.draws.2) (sym (still ks))
+              ap (items_trees p T a more false d.draws.0 d.rest d.draws.2) (sym (still ks))
               ∙ d.leads ks;
           room = room;
         };

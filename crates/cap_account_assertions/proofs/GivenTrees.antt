@@ -6,7 +6,7 @@ use Rattle.cap_prog.specs.Program.{PlainItem, compare, choose, fact, atom, cell,
 use Rattle.cap_goal_spec.specs.Choices.{node, PlainTrees, no_trees, tree}
 use Rattle.cap_account_resources.specs.Parts.{Table}
 use Rattle.cap_account_resources.proofs.Stocks.{Stock, Inside, inside-same}
-use Rattle.cap_account_states.proofs.Checked.{first_side, second_side}
+use Rattle.cap_account_states.proofs.Checked.{first_kids, second_kids}
 use Rattle.cap_account_assertions.proofs.Asserted.{Draws, DrawsAll, draws-more, draws-all-more, draws-join}
 
 abbrev pub has_items : Items → Bool
@@ -37,26 +37,26 @@ module _ (p : PlainProgram) (T : Table) (a : Valuation) where
         (i : PlainItem) (behind : Bool) (q r : Stock) → Draws p T a i q r → PlainTrees → PlainTrees
     item_trees (compare c) behind q r d ks = ks
     item_trees (choose c x y) behind q r (inl m) ks =
-        all_trees x behind q r m.1
-        (below_node (behind || has_items x) (first_side (behind || has_items x) ks))
+        items_trees x behind q r m.1
+        (below_node (behind || has_items x) (first_kids (behind || has_items x) ks))
     item_trees (choose c x y) behind q r (inr m) ks =
-        all_trees y behind q r m.1
-        (below_node (behind || has_items y) (second_side (behind || has_items x) ks))
+        items_trees y behind q r m.1
+        (below_node (behind || has_items y) (second_kids (behind || has_items x) ks))
     item_trees (fact place n k args x) behind q r d ks = ks
     item_trees (atom place n k i asked) behind q r d ks = ks
     item_trees (cell place x y) behind q r d ks = ks
 
-    pub all_trees :
+    pub items_trees :
         (xs : Items) (behind : Bool) (q r : Stock) → DrawsAll p T a xs q r → PlainTrees →
         PlainTrees
-    all_trees none behind q r d ks = ks
-    all_trees (item i more) behind q r d ks =
-        all_trees more behind d.0 r d.2 (item_trees i (behind || has_items more) q d.0 d.1 ks)
+    items_trees none behind q r d ks = ks
+    items_trees (item i more) behind q r d ks =
+        items_trees more behind d.0 r d.2 (item_trees i (behind || has_items more) q d.0 d.1 ks)
 
   -- from the trees of the goal at which the items are to be given
   abbrev pub given_trees :
       (xs : Items) (q r : Stock) → DrawsAll p T a xs q r → PlainTrees → PlainTrees
-  given_trees xs q r d ks = all_trees xs false q r d (below_node (has_items xs) ks)
+  given_trees xs q r d ks = items_trees xs false q r d (below_node (has_items xs) ks)
 
   -- drawn out of more, they lead to the same trees
   mutual
@@ -76,21 +76,21 @@ module _ (p : PlainProgram) (T : Table) (a : Valuation) where
     trees-more :
         (xs : Items) (b : Bool) (q q' r r' : Stock) (le : Inside p q q') (less : Inside p r' r)
         (d : DrawsAll p T a xs q r) (ks : PlainTrees) →
-        all_trees xs b q' r' (draws-all-more p T a xs q q' r r' le less d) ks
-        ≡ all_trees xs b q r d ks
+        items_trees xs b q' r' (draws-all-more p T a xs q q' r r' le less d) ks
+        ≡ items_trees xs b q r d ks
     trees-more none b q q' r r' le less d ks = refl
     trees-more (item i more) b q q' r r' le less d ks =
         trees-more more b d.0 d.0 r r' (inside-same p d.0) less d.2 _
-        ∙ ap (all_trees more b d.0 r d.2) (item-more i (b || has_items more) q q' d.0 le d.1 ks)
+        ∙ ap (items_trees more b d.0 r d.2) (item-more i (b || has_items more) q q' d.0 le d.1 ks)
 
   -- items one after the other
   pub trees-join :
       (xs ys : Items) (b : Bool) (q m r : Stock) (d : DrawsAll p T a xs q m)
       (k : DrawsAll p T a ys m r) (ks : PlainTrees) →
-      all_trees (append_items xs ys) b q r (draws-join p T a xs ys q m r d k) ks
-      ≡ all_trees ys b m r k (all_trees xs (b || has_items ys) q m d ks)
+      items_trees (append_items xs ys) b q r (draws-join p T a xs ys q m r d k) ks
+      ≡ items_trees ys b m r k (items_trees xs (b || has_items ys) q m d ks)
   trees-join none ys b q m r d k ks = trees-more ys b m q r r d (inside-same p r) k ks
   trees-join (item i xs) ys b q m r d k ks =
       trees-join xs ys b d.0 m r d.2 k _
-      ∙ ap (λ t. all_trees ys b m r k (all_trees xs (b || has_items ys) d.0 m d.2
+      ∙ ap (λ t. items_trees ys b m r k (items_trees xs (b || has_items ys) d.0 m d.2
       (item_trees i t q d.0 d.1 ks))) (has-both b xs ys)

@@ -24,7 +24,7 @@ use Rattle.cap_account_states.proofs.Attempts.{after-prove, after-row, after-wit
 use Rattle.cap_account_states.proofs.Alike.{Alike, alike-same, row-alike}
 use Rattle.cap_account_states.proofs.Brought.{brought-none}
 use Rattle.cap_account_states.proofs.Meets.{Usable, usable-old, Old, meets-row, same-row, proved-holds}
-use Rattle.cap_account_states.proofs.Checked.{Checked, first_side, second_side, Sides, goals-alike, sides-are}
+use Rattle.cap_account_states.proofs.Checked.{Checked, first_kids, second_kids, SideGoals, goals-alike, sides-are}
 use Rattle.cap_account_states.proofs.Naming.{Means, CompBound, comp-over, comp-means, comp-bound}
 use Rattle.cap_account_states.proofs.Items.{AreFit, fits-append, fits-more, fits-sides}
 use Rattle.cap_account_states.proofs.Backed.{Backed}
@@ -76,15 +76,15 @@ module _ (p : Checked) (ks : List ℕ) (T : Table) (j : Job) (v : Valuation) (s 
     pub side :
         (Relates x.op (value_by_sort x.sort v (term_in env x.left))
         (value_by_sort x.sort v (term_in env x.right))
-        × (turned.children ≡ first_side (has_items (append_items y more)) trees))
+        × (turned.children ≡ first_kids (has_items (append_items y more)) trees))
         ⊎ (Relates (opposite x.op) (value_by_sort x.sort v (term_in env x.left))
         (value_by_sort x.sort v (term_in env x.right))
-        × (turned.children ≡ second_side (has_items (append_items y more)) trees))
+        × (turned.children ≡ second_kids (has_items (append_items y more)) trees))
 
   -- the first side is sure to have left a goal where it has items
   sides-left :
       (xs ys : Items) (t u : PlainState) → length t.facts ≡ length u.facts →
-      Sides (has_items xs) (goal_of t (tasks_of (with_items j xs)))
+      SideGoals (has_items xs) (goal_of t (tasks_of (with_items j xs)))
       (goal_of u (tasks_of (with_items j ys)))
   sides-left (item i more) ys t u q = tt
   sides-left none none t u q = goals-alike t u j.tasks q
@@ -92,7 +92,7 @@ module _ (p : Checked) (ks : List ℕ) (T : Table) (j : Job) (v : Valuation) (s 
     where
       by :
           (g : Option PlainGoal) →
-          Sides false g (goal_of u (tasks_of (with_items j (item i more))))
+          SideGoals false g (goal_of u (tasks_of (with_items j (item i more))))
       by None = tt
       by (Some g) = tt
 

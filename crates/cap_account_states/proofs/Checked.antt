@@ -87,43 +87,43 @@ one-child N ks s ts h = let d = lone-child N ks s ts h in (d.0, d.1)
 
 -- where each side has left a goal there are two trees; and where there is one it is the first side's,
 -- where that one is sure to have left a goal, and else the other's
-abbrev pub first_side : Bool → PlainTrees → PlainTrees
-first_side b no_trees = no_trees
-first_side b (tree t (tree u us)) = tree t no_trees
-first_side true (tree t no_trees) = tree t no_trees
-first_side false (tree t no_trees) = no_trees
+abbrev pub first_kids : Bool → PlainTrees → PlainTrees
+first_kids b no_trees = no_trees
+first_kids b (tree t (tree u us)) = tree t no_trees
+first_kids true (tree t no_trees) = tree t no_trees
+first_kids false (tree t no_trees) = no_trees
 
-abbrev pub second_side : Bool → PlainTrees → PlainTrees
-second_side b no_trees = no_trees
-second_side b (tree t (tree u us)) = tree u us
-second_side true (tree t no_trees) = no_trees
-second_side false (tree t no_trees) = tree t no_trees
+abbrev pub second_kids : Bool → PlainTrees → PlainTrees
+second_kids b no_trees = no_trees
+second_kids b (tree t (tree u us)) = tree u us
+second_kids true (tree t no_trees) = no_trees
+second_kids false (tree t no_trees) = tree t no_trees
 
 -- the first side is sure to have a goal, or it has none unless the other has one
-abbrev pub Sides : Bool → Option PlainGoal → Option PlainGoal → Type 0
-Sides true None h = ⊥
-Sides true (Some g) h = Unit {0}
-Sides false None h = Unit {0}
-Sides false (Some g) None = ⊥
-Sides false (Some g) (Some h) = Unit {0}
+abbrev pub SideGoals : Bool → Option PlainGoal → Option PlainGoal → Type 0
+SideGoals true None h = ⊥
+SideGoals true (Some g) h = Unit {0}
+SideGoals false None h = Unit {0}
+SideGoals false (Some g) None = ⊥
+SideGoals false (Some g) (Some h) = Unit {0}
 
 -- tasks that leave a goal at a state leave one at another with as many facts
 pub goals-alike :
     (s t : PlainState) (ts : List PlainTask) → length s.facts ≡ length t.facts →
-    Sides false (goal_of s ts) (goal_of t ts)
+    SideGoals false (goal_of s ts) (goal_of t ts)
 goals-alike s t [] e = tt
 goals-alike s t (to_give none e n ∷ ts) q = goals-alike s t ts q
 goals-alike s t (to_give (item i more) e n ∷ ts) q = tt
 goals-alike s t (to_take none e left n ∷ ts) q = goals-alike s t ts q
 goals-alike s t (to_take (item i more) e left n ∷ ts) q = tt
 goals-alike s t (to_rest j n ∷ ts) q =
-    subst (λ m. Sides false (goal_of s (to_rest j n ∷ ts))
+    subst (λ m. SideGoals false (goal_of s (to_rest j n ∷ ts))
     (if j == m then goal_of t ts else Some (goal t (to_rest j n ∷ ts)))) q
     (by (goals-alike s t ts q) (j == length s.facts))
   where
     by :
-        Sides false (goal_of s ts) (goal_of t ts) → (b : Bool) →
-        Sides false (if b then goal_of s ts else Some (goal s (to_rest j n ∷ ts)))
+        SideGoals false (goal_of s ts) (goal_of t ts) → (b : Bool) →
+        SideGoals false (if b then goal_of s ts else Some (goal s (to_rest j n ∷ ts)))
         (if b then goal_of t ts else Some (goal t (to_rest j n ∷ ts)))
     by h true = h
     by h false = tt
@@ -134,10 +134,10 @@ goals-alike s t (to_close b n ∷ ts) e = tt
 goals-alike s t (to_shift o c m i n ∷ ts) e = tt
 
 pub sides-are :
-    (N : NodePredicate) (ks : PlainTrees) (b : Bool) (g h : Option PlainGoal) → Sides b g h →
+    (N : NodePredicate) (ks : PlainTrees) (b : Bool) (g h : Option PlainGoal) → SideGoals b g h →
     Children N ks (option_to_list g ++ option_to_list h) →
-    (first_trees (length (option_to_list g)) ks ≡ first_side b ks)
-    × (later_trees (length (option_to_list g)) ks ≡ second_side b ks)
+    (first_trees (length (option_to_list g)) ks ≡ first_kids b ks)
+    × (later_trees (length (option_to_list g)) ks ≡ second_kids b ks)
 sides-are N no_trees b None h k c = (refl, refl)
 sides-are N no_trees b (Some g) h k c = absurd c
 sides-are N (tree t no_trees) true None h k c = absurd k

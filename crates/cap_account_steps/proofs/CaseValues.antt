@@ -219,10 +219,10 @@ module _ (v a : Valuation) (n m : ℕ) (sc : Scope) where
     };
   }
 
-  abbrev All : ℕ → Type 0
-  All x = Unit {0}
+  abbrev Every : ℕ → Type 0
+  Every x = Unit {0}
 
-  plain-alike : v.fraction.under ≡ a.fraction.under → Alike All case_values plain_values
+  plain-alike : v.fraction.under ≡ a.fraction.under → Alike Every case_values plain_values
   plain-alike e = record { whole = λ x h. refl; share = λ x h. by x (nat_lt x n) }
     where
       by :
@@ -231,11 +231,11 @@ module _ (v a : Valuation) (n m : ℕ) (sc : Scope) where
           else (normal sc a).fraction.numerator (m + (x - n))) *ℤ denominator case_values.fraction
           ≡ (if b then old_part.fraction.numerator x
           else new_part.fraction.numerator (m + (x - n))) *ℤ denominator v.fraction
-      by x true = sym ((scaled-alike All a.fraction.under v).share x tt)
+      by x true = sym ((scaled-alike Every a.fraction.under v).share x tt)
       by x false =
           let y = m + (x - n) in
           sym (ap (λ u. new_part.fraction.numerator y *ℤ pos (u + 1)) e
-          ∙ (scaled-alike All v.fraction.under (normal sc a)).share y tt
+          ∙ (scaled-alike Every v.fraction.under (normal sc a)).share y tt
           ∙ ap (λ u. (normal sc a).fraction.numerator y *ℤ pos (u + 1)) (sym under-same))
 
   plain-means :
@@ -247,11 +247,11 @@ module _ (v a : Valuation) (n m : ℕ) (sc : Scope) where
       record {
         under = sym e;
         whole = λ x i t q.
-            value-alike All case_values plain_values l t (all-vars t.parts) ∙ h.whole x i t q;
+            value-alike Every case_values plain_values l t (all-vars t.parts) ∙ h.whole x i t q;
         share = λ x i t q.
             cancel (amount plain_values.fraction t) (a.fraction.numerator x)
             (denominator case_values.fraction) (above-zero case_values)
-            (amount-alike All case_values plain_values l t (all-vars t.parts)
+            (amount-alike Every case_values plain_values l t (all-vars t.parts)
             ∙ ap (λ z. z *ℤ d) (h.share x i t q)
             ∙ grouped (a.fraction.numerator x) d d
             ∙ ap (λ u. a.fraction.numerator x *ℤ (d *ℤ pos (u + 1))) e
@@ -275,9 +275,9 @@ module _ (v a : Valuation) (n m : ℕ) (sc : Scope) where
     where
       by :
           (b : Bool) → same_under ≡ b →
-          Alike All case_values (if b then plain_values else case_values)
+          Alike Every case_values (if b then plain_values else case_values)
       by true e = plain-alike (grind (arith, nat_tests, e))
-      by false e = alike-same All case_values
+      by false e = alike-same Every case_values
 
   pub entered-means :
       (env : PlainEnv) → Means sc case_values env names_values →
