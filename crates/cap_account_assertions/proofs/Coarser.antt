@@ -1,6 +1,6 @@
 -- What holds at values holds at alike ones, also where their denominator is coarser. So what taking
 -- leads to holds at all values that are alike before and of which the same is brought.
-use Rattle.std.proofs.Common.{ℕ, ℤ, List, [], length, refl}
+use Rattle.std.proofs.Common.{ℕ, ℤ, List, [], length, refl, inl, inr}
 use Rattle.cap_lin.specs.Values.{Valuation}
 use Rattle.cap_prog.specs.Program.{PlainItem, Items, PlainProgram}
 use Rattle.cap_prog.specs.Scopes.{Scope}
@@ -10,11 +10,11 @@ use Rattle.cap_account_resources.specs.Parts.{Table}
 use Rattle.cap_account_resources.proofs.Stocks.{Stock}
 use Rattle.cap_account_states.proofs.Meets.{usable-old, Old, same-state}
 use Rattle.cap_account_states.proofs.Alike.{Alike, agree-alike, alike-same, alike-back, alike-trans, meets-alike}
-use Rattle.cap_account_states.proofs.Brought.{Bring, Brings, Brought, brought-named, HasHalves, bring_values, bring-agrees, bring-brings}
+use Rattle.cap_account_states.proofs.Brought.{Bring, Brings, Brought, brought-named, HasHalves, bring_values, bring-agrees, bring-brings, halves-or}
 use Rattle.cap_account_states.proofs.Checked.{Checked}
 use Rattle.cap_account_states.proofs.Backed.{Backed, Grounded}
 use Rattle.cap_account_states.proofs.KnowsLater.{backed-at}
-use Rattle.cap_account_assertions.proofs.Laws.{StateAt, Taken}
+use Rattle.cap_account_assertions.proofs.Laws.{StateAt, Taken, TakenOnce}
 use Rattle.cap_account_assertions.proofs.Follows.{Follows}
 use Rattle.cap_account_assertions.proofs.TakeSteps.{Job, Took, Head}
 use Rattle.cap_account_assertions.proofs.TakeHeads.{ready-kept, ItemTaken, ItemsTurned}
@@ -218,3 +218,16 @@ abbrev pub taken-here :
 taken-here p ks T sc e most v held s items ts t k =
     taken-named p ks T sc e most v held s items ts t (values_here s v t.brings k)
     (here-alike s v t.brings k) (here-brings s v t.brings k t.w t.brought.are)
+
+-- what is taken is taken over one denominator, as long as there are halves
+abbrev pub taken-once :
+    (p : Checked) (ks : List ℕ) (T : Table) (sc : Scope) (e most : ℕ) (v : Valuation)
+    (held : Stock) (s : PlainState) (items : Items) (ts : List PlainTask) →
+    Taken p ks T sc e most v held s items ts → TakenOnce p ks T sc e most v held s items ts
+taken-once p ks T sc e most v held s items ts t = elim (halves-or v (length s.sorts) t.brings) [
+  | inl k ↦ record {
+    taken = taken-here p ks T sc e most v held s items ts t k;
+    once = λ h. bring-agrees v (length s.sorts) t.brings k;
+  }
+  | inr none ↦ record { taken = t; once = λ h. absurd (none h) }
+]

@@ -21,6 +21,7 @@ use Rattle.cap_prog.specs.WellFormed.{AskedFits, AtomFits, FactFits}
 use Rattle.cap_machine_accounts.specs.Assertions.{SlotIs, SlotsAre}
 use Rattle.cap_machine_accounts.specs.Parts.{algebra_of, kind_algebra}
 use Rattle.cap_goal_spec.specs.States.{PlainFact, PlainState}
+use Rattle.cap_goal_spec.specs.Choices.{PlainTrees}
 use Rattle.cap_goal_spec.specs.Environments.{one_value}
 use Rattle.cap_rules.specs.Making.{fact_of, with_fact}
 use Rattle.cap_rules.specs.Giving.{give_term, give_slot, give_slots, give_form, give_sides, give_item}
@@ -129,12 +130,12 @@ IsPlain (choose c x y) = ⊥
 IsPlain i = Unit {0}
 
 module _ (p : PlainProgram) (T : Table) (sc : Scope) (e : ℕ) (a : Valuation) (total : Stock)
-    (goal : Filled) where
+    (goal : Filled) (way : PlainTrees → PlainTrees) where
   abbrev IsDue : PlainItem → Items → Valuation → PlainState → Type 0
-  IsDue one more v s = Due p T sc e a total goal (item one more) v s
+  IsDue one more v s = Due p T sc e a total goal way (item one more) v s
 
   abbrev IsGiven : Items → Valuation → PlainState → (PlainState → Type 0) → Type 0
-  IsGiven more v s P = ItemGiven p T sc e a total goal more v s P
+  IsGiven more v s P = ItemGiven p T sc e a total goal way more v s P
 
   -- ---- comparisons
 
@@ -149,8 +150,9 @@ module _ (p : PlainProgram) (T : Table) (sc : Scope) (e : ℕ) (a : Valuation) (
       let m = sides-row sc e a v s c c.op _ g d.draws.1.0 in
       let t = row_added g.after (row_of g.left c.op g.right c.sort) in
       let now = underway-step p T sc e a v s t d.held d.underway m in
-      goes p T sc e a total goal i more v s P d t t m d.held g.filled m.ready.meets now.knows now.firm
-      (drawn-beside p T sc e a total goal i more v s P d d.draws.0 d.draws.1.1)
+      goes p T sc e a total goal way i more v s P d t t m d.held g.filled m.ready.meets
+      now.knows (λ ks. refl) now.firm
+      (drawn-beside p T sc e a total goal way i more v s P d d.draws.0 d.draws.1.1)
       (comes-comparison g.after g.left c.op g.right c.sort P g.comes)
 
   -- ---- cells
@@ -181,13 +183,14 @@ module _ (p : PlainProgram) (T : Table) (sc : Scope) (e : ℕ) (a : Valuation) (
       let same : cell_stock (value a.whole x) took.0 ≡ q =
       λ j. cell_stock (sym at j) (sym k.number_is j) in
       let room =
-      drawn-held p T sc e a total goal i more v s P d q
+      drawn-held p T sc e a total goal way i more v s P d q
       (subst (λ r. Inside p (both p r d.draws.0) d.left) same took.3) in
       let comes =
       comes-comparison (cell_added k.after g.term k.term) g.term AtLeast one_value Int P
       (after-cell k.after g.term k.term _ P k.comes) in
-      goes p T sc e a total goal i more v s P d k.after (cell_known k.after g.term k.term) m
-      (both p d.held q) (k.filled ∙ ap (fill_slot a y took.0) g.filled) known.meets known.knows now.firm room comes
+      goes p T sc e a total goal way i more v s P d k.after (cell_known k.after g.term k.term) m
+      (both p d.held q) (k.filled ∙ ap (fill_slot a y took.0) g.filled) known.meets known.knows
+      (λ ks. refl) now.firm room comes
 
   -- ---- facts
 
@@ -274,10 +277,10 @@ module _ (p : PlainProgram) (T : Table) (sc : Scope) (e : ℕ) (a : Valuation) (
       let known =
       fact-known p [] w T g.after f d.held now.ready.meets now.knows now.firm g.tight holds
       g.over in
-      goes p T sc e a total goal i more v s P d g.after (fact_added g.after f) g.step d.held g.filled
+      goes p T sc e a total goal way i more v s P d g.after (fact_added g.after f) g.step d.held g.filled
       known.meets
-      known.knows known.firm
-      (drawn-beside p T sc e a total goal i more v s P d d.draws.0 d.draws.1.1)
+      known.knows (λ ks. refl) known.firm
+      (drawn-beside p T sc e a total goal way i more v s P d d.draws.0 d.draws.1.1)
       (comes-fact g.after f P (no-other-type w T f g.after.facts holds now.knows.facts.holds)
       g.comes)
 
@@ -312,7 +315,7 @@ module _ (p : PlainProgram) (T : Table) (sc : Scope) (e : ℕ) (a : Valuation) (
       let same : guard_stock (a.whole n) d.draws.1.0 ≡ q =
       λ j. guard_stock (at j) (wants.is_mark j) in
       let room =
-      drawn-held p T sc e a total goal i more v s P d q
+      drawn-held p T sc e a total goal way i more v s P d q
       (subst (λ z. Inside p (both p z d.draws.0) d.left) same d.draws.1.2) in
       let held = both p d.held q in
       let inside =
@@ -322,9 +325,9 @@ module _ (p : PlainProgram) (T : Table) (sc : Scope) (e : ℕ) (a : Valuation) (
       (fit.0, shaped-takes sc b asked f.made fit.1 f.is.1)
       (over-later g.after f.after Int g.term f.step.same g.over, f.is.2) f.is.0
       (composes-inside p held total inside ne) in
-      goes p T sc e a total goal i more v s P d f.after (piece_added p f.after r) m held
+      goes p T sc e a total goal way i more v s P d f.after (piece_added p f.after r) m held
       (f.filled ∙ ap (fill_form a asked y wants.wanted) g.filled) known.meets
-      known.knows now.firm room (comes-piece p f.after r P f.comes).2
+      known.knows (λ ks. refl) now.firm room (comes-piece p f.after r P f.comes).2
 
   -- ---- any item but a conditional one
 

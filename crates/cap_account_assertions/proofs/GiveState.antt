@@ -1,11 +1,12 @@
 -- What giving keeps of a state: its names have the values that are given, and all that it has is
 -- held, within what is held in all.
-use Rattle.std.proofs.Common.{◌≡◌, ℕ, [], refl, sym, ap, ◌∙◌, subst, arith}
+use Rattle.std.proofs.Common.{◌≡◌, ℕ, false, [], refl, sym, ap, ◌∙◌, subst, arith}
 use Rattle.std.specs.List.{AllByRecursion}
 use Rattle.cap_lin.specs.Values.{Valuation}
 use Rattle.cap_prog.specs.Program.{PlainItem, Items, item, PlainProgram}
 use Rattle.cap_prog.specs.Scopes.{Scope}
 use Rattle.cap_goal_spec.specs.States.{PlainState}
+use Rattle.cap_goal_spec.specs.Choices.{PlainTrees}
 use Rattle.cap_account_resources.specs.Parts.{Table}
 use Rattle.cap_account_resources.proofs.Stocks.{Stock, both, stock-laws, Inside, inside-trans, inside-both, inside-same}
 use Rattle.cap_account_states.proofs.Terms.{Agree, agree-same, agree-trans, agree-less}
@@ -18,6 +19,7 @@ use Rattle.cap_account_states.proofs.Backed.{IsFirm, Knows, GoesOn, OtherEnvs}
 use Rattle.cap_account_states.proofs.KnowsLater.{IsKept, old-steady, knows-on}
 use Rattle.cap_account_assertions.proofs.Asserted.{DrawsAll}
 use Rattle.cap_account_assertions.proofs.Filling.{fill_item, fill_items}
+use Rattle.cap_account_assertions.proofs.GivenTrees.{has_items, item_trees, items_trees}
 
 -- ---- states that go on
 
@@ -123,9 +125,9 @@ module _ (p : PlainProgram) (T : Table) (sc : Scope) (e : ℕ) (a : Valuation) w
     firm = subst (AllByRecursion IsFirm) (sym m.same.facts) u.firm;
   }
 
-  module _ (total : Stock) (goal : Filled) where
+  module _ (total : Stock) (goal : Filled) (way : PlainTrees → PlainTrees) where
     -- these items are still to be given, out of what is left beside what is held; then the
-    -- environment, the number of variables and the values are these
+    -- environment, the number of variables and the values are these, and it leads to these trees
     pub record Due (items : Items) (v : Valuation) (s : PlainState) : Type 0 where
       pub held : Stock
       pub left : Stock
@@ -134,6 +136,7 @@ module _ (p : PlainProgram) (T : Table) (sc : Scope) (e : ℕ) (a : Valuation) w
       pub fit : AreFit p sc items
       pub draws : DrawsAll p T a items left rest
       pub fills : fill_items p T a items left rest draws (filled_at e v s) ≡ goal
+      pub leads : (ks : PlainTrees) → items_trees p T a items false left rest draws ks ≡ way ks
       pub room : Inside p (both p held left) total
 
     pub record ItemGiven (more : Items) (v : Valuation) (s : PlainState)
@@ -164,9 +167,11 @@ module _ (p : PlainProgram) (T : Table) (sc : Scope) (e : ℕ) (a : Valuation) w
           (t u : PlainState) (m : Step sc e a v s t) (q : Stock) →
           filled_at e m.w t ≡ fill_item p T a one d.left d.draws.0 d.draws.1 (filled_at e v s) →
           Meets [] m.w (with_lists t u) → Knows p [] m.w T (with_lists t u) q →
+          ((ks : PlainTrees) →
+          item_trees p T a one (has_items more) d.left d.draws.0 d.draws.1 ks ≡ ks) →
           AllByRecursion IsFirm u.facts → Inside p (both p q d.draws.0) total →
           P (with_lists t u) → ItemGiven more v s P
-      goes t u m q filled meets knows firm room c = record {
+      goes t u m q filled meets knows still firm room c = record {
         after = with_lists t u;
         w = m.w;
         due = record {
@@ -186,6 +191,9 @@ module _ (p : PlainProgram) (T : Table) (sc : Scope) (e : ℕ) (a : Valuation) w
           fit = fits-more p sc one more d.fit;
           draws = d.draws.2;
           fills = ap (fill_items p T a more d.draws.0 d.rest d.draws.2) filled ∙ d.fills;
+          leads = λ ks.
+              ap (items_trees p T a more false d.draws.0 d.rest d.draws.2) (sym (still ks))
+              ∙ d.leads ks;
           room = room;
         };
         onward = onward-lists sc e a v s t u m;

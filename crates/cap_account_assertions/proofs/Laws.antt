@@ -18,7 +18,7 @@ use Rattle.cap_account_resources.proofs.Owners.{Owner, owned, numbers_of}
 use Rattle.cap_account_states.specs.Nodes.{Open}
 use Rattle.cap_account_states.proofs.Terms.{Agree}
 use Rattle.cap_account_states.proofs.Alike.{Alike}
-use Rattle.cap_account_states.proofs.Brought.{Bring, Brought}
+use Rattle.cap_account_states.proofs.Brought.{Bring, Brought, HasHalves}
 use Rattle.cap_account_states.proofs.Meets.{Usable, Old}
 use Rattle.cap_account_states.proofs.Facts.{Facts}
 use Rattle.cap_account_states.proofs.Items.{AreFit}
@@ -27,9 +27,10 @@ use Rattle.cap_account_states.proofs.Filled.{Filled, filled_at}
 use Rattle.cap_account_states.proofs.Naming.{Placed, Means, Stays}
 use Rattle.cap_account_states.proofs.Matching.{Outside}
 use Rattle.cap_account_states.proofs.Backed.{IsFirm, IsOpened, Backed, Grounded, GoesOn, OtherEnvs}
-use Rattle.cap_account_assertions.proofs.Named.{rest_values, rest_counts}
+use Rattle.cap_account_assertions.proofs.Named.{rest_values, rest_counts, rest_children}
 use Rattle.cap_account_assertions.proofs.Asserted.{DrawsAll, OwnsRegion}
 use Rattle.cap_account_assertions.proofs.Filling.{fill_items}
+use Rattle.cap_account_assertions.proofs.GivenTrees.{given_trees}
 
 -- ---- states and tables
 
@@ -84,6 +85,24 @@ GivenLaw p =
     Given p T e v (both p.program held h) s ts
     (fill_items p.program T a items h r d (filled_at e v s))
 
+-- and these are the trees to which the sides that are drawn lead
+pub record GivenAlong (p : Checked) (T : Table) (e : ℕ) (v : Valuation) (total : Stock)
+    (s : PlainState) (ts : List PlainTask) (goal : Filled) (kids : PlainTrees) : Type 0 where
+  pub given : Given p T e v total s ts goal
+  pub along : given.children ≡ kids
+
+abbrev pub GivenAlongLaw : Checked → Type 0
+GivenAlongLaw p =
+    (T : Table) (sc : Scope) (e n : ℕ) (a : Valuation) (held h r : Stock) (items : Items)
+    (ts : List PlainTask) (trees : PlainTrees) (v : Valuation) (s : PlainState) →
+    Open p.N trees s (to_give items e n ∷ ts) → StateAt p.program [] T sc e v s →
+    AllByRecursion IsFirm s.facts → Means sc v (env_at s e) a → AreFit p.program sc items →
+    (d : DrawsAll p.program T a items h r) → Backed p.program v s held →
+    Composes (both p.program held h) →
+    GivenAlong p T e v (both p.program held h) s ts
+    (fill_items p.program T a items h r d (filled_at e v s))
+    (given_trees p.program T a items h r d trees)
+
 -- ---- taking
 
 -- new variables have the values that are brought; so many regions may be created (`most`); what is given has the items at all values alike to the
@@ -129,6 +148,24 @@ TakenLaw p =
     Backed p.program v s held → FitsRoom p.program T held → AreListed bound T →
     Taken p ks T sc e most v held s items ts
 
+-- where each share that is halved has a half over the denominator that there is, the values are over
+-- this one
+pub record TakenOnce (p : Checked) (ks : List ℕ) (T : Table) (sc : Scope) (e most : ℕ)
+    (v : Valuation) (held : Stock) (s : PlainState) (items : Items) (ts : List PlainTask) : Type 0
+  where
+    pub taken : Taken p ks T sc e most v held s items ts
+    pub once : HasHalves v (length s.sorts) taken.brings → Agree (Old s) v taken.w
+
+-- taking, over one denominator as long as there are halves
+abbrev pub TakenOnceLaw : Checked → Type 0
+TakenOnceLaw p =
+    (ks : List ℕ) (T : Table) (sc : Scope) (e most n : ℕ) (items : Items) (ts : List PlainTask)
+    (trees : PlainTrees) (v : Valuation) (s : PlainState) (held : Stock) (bound : List ℤ) →
+    Open p.N trees s (to_take items e most n ∷ ts) → StateAt p.program ks T sc e v s →
+    AllByRecursion (λ k. k < length s.sorts) ks → AreFit p.program sc items →
+    Backed p.program v s held → FitsRoom p.program T held → AreListed bound T →
+    TakenOnce p ks T sc e most v held s items ts
+
 -- ---- what stays true
 
 -- a full table whose room has the part, and another one that others can lead to
@@ -146,6 +183,7 @@ pub record Rested (p : Checked) (U : Table) (v : Valuation) (part : Stock) (s : 
   pub after : PlainState
   pub count : length after.sorts ≡ rest_counts s.facts trees (length s.sorts)
   pub children : PlainTrees
+  pub leads : children ≡ rest_children s.facts trees
   pub goes : Open p.N children after ts
   pub grounded : Grounded p.program [] w after
   pub facts : Facts [] w U after

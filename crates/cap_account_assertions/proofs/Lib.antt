@@ -1,6 +1,7 @@
 pub mod Asserted
 pub mod Named
 pub mod Filling
+pub mod GivenTrees
 pub mod GiveTerms
 pub mod Laws
 pub mod NewRegions

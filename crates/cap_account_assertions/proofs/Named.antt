@@ -60,3 +60,8 @@ rest_values U fs trees n v = v
 abbrev pub rest_counts : List PlainFact → PlainTrees → ℕ → ℕ
 rest_counts (f ∷ fs) (tree (node c kids) no_trees) n = rest_counts fs kids (rest_next c n)
 rest_counts fs trees n = n
+
+-- and these are the trees then
+abbrev pub rest_children : List PlainFact → PlainTrees → PlainTrees
+rest_children (f ∷ fs) (tree (node c kids) no_trees) = rest_children fs kids
+rest_children fs trees = trees

@@ -22,7 +22,9 @@ use Rattle.cap_account_assertions.proofs.TreeSizes.{trees_size}
 use Rattle.cap_account_assertions.proofs.NewRegions.{below-or, made-guards}
 use Rattle.cap_account_assertions.proofs.TakeSteps.{Job, MadeFrom}
 use Rattle.cap_account_assertions.proofs.TakeAll.{ConvertLaw, took}
-use Rattle.cap_account_assertions.proofs.Laws.{StateAt, Made, Taken, TakenLaw}
+use Rattle.cap_account_assertions.proofs.Laws.{StateAt, Made, Taken, TakenLaw, TakenOnce, TakenOnceLaw}
+use Rattle.cap_account_assertions.proofs.Coarser.{taken-here, taken-once}
+use Rattle.cap_account_states.proofs.Brought.{halves-or, bring-agrees}
 
 -- ---- numbers above all
 
@@ -152,3 +154,41 @@ taken-law p regions convert ks T sc e most n items ts trees v s held bound goes 
     none m l None q = q
     none m l (Some k) q =
         absurd (let h = (above-listed bound).1 m (listed m k q) in omega (arith, ints, h, l))
+
+-- ---- over one denominator, as long as there are halves
+
+pub once-law : (p : Checked) → TakenLaw p → TakenOnceLaw p
+once-law p law ks T sc e most n items ts trees v s held bound goes at low fits backed inside listed =
+    taken-once p ks T sc e most v held s items ts
+    (law ks T sc e most n items ts trees v s held bound goes at low fits backed inside listed)
+
+-- with regions numbered from a number on
+pub record OnceFrom (p : Checked) (ks : List ℕ) (T : Table) (sc : Scope) (e most : ℕ)
+    (v : Valuation) (held : Stock) (s : PlainState) (items : Items) (ts : List PlainTask)
+    (next : ℤ) : Type 0 where
+  pub once : TakenOnce p ks T sc e most v held s items ts
+  pub later : ℤ
+  pub numbered : Numbered next once.taken.new later
+
+pub once-from :
+    (p : Checked) (ks : List ℕ) (T : Table) (sc : Scope) (e most : ℕ) (v : Valuation)
+    (held : Stock) (s : PlainState) (items : Items) (ts : List PlainTask) (next : ℤ) →
+    TakenFrom p ks T sc e most v held s items ts next →
+    OnceFrom p ks T sc e most v held s items ts next
+once-from p ks T sc e most v held s items ts next f =
+    let t = f.taken in
+    elim (halves-or v (length s.sorts) t.brings) [
+      | inl k ↦ record {
+        once = record {
+          taken = taken-here p ks T sc e most v held s items ts t k;
+          once = λ h. bring-agrees v (length s.sorts) t.brings k;
+        };
+        later = f.later;
+        numbered = f.numbered;
+      }
+      | inr none ↦ record {
+        once = record { taken = t; once = λ h. absurd (none h) };
+        later = f.later;
+        numbered = f.numbered;
+      }
+    ]

@@ -1,8 +1,9 @@
 -- Sizes of trees, and the trees of two lists of goals.
-use Rattle.std.proofs.Common.{◌≡◌, ℕ, suc, ◌+◌, List, [], ◌∷◌, ◌++◌, arith}
+use Rattle.std.proofs.Common.{◌≡◌, ℕ, zero, suc, ◌+◌, List, ◌++◌, length, arith, refl}
 use Rattle.cap_goal_spec.specs.States.{PlainGoal}
 use Rattle.cap_goal_spec.specs.Choices.{PlainTree, node, PlainTrees, no_trees, tree}
 use Rattle.cap_account_states.specs.Nodes.{NodePredicate, Children}
+use Rattle.cap_account_states.proofs.Checked.{first_trees, later_trees, children-first, children-later}
 
 abbrev mutual
   pub tree_size : PlainTree → ℕ
@@ -21,19 +22,20 @@ pub record TreesApart (N : NodePredicate) (trees : PlainTrees)
   pub of_second : Children N behind hs
   pub sizes : trees_size before + trees_size behind ≡ trees_size trees
 
-pub trees-apart :
+pub trees-sizes :
+    (n : ℕ) (ks : PlainTrees) →
+    trees_size (first_trees n ks) + trees_size (later_trees n ks) ≡ trees_size ks
+trees-sizes zero ks = omega arith
+trees-sizes (suc n) no_trees = refl
+trees-sizes (suc n) (tree d more) = let e = trees-sizes n more in omega (arith, e)
+
+abbrev pub trees-apart :
     (N : NodePredicate) (trees : PlainTrees) (gs hs : List PlainGoal) →
     Children N trees (gs ++ hs) → TreesApart N trees gs hs
-trees-apart N trees [] hs h =
-    record { before = no_trees; behind = trees; of_first = tt; of_second = h; sizes = omega arith }
-trees-apart N no_trees (g ∷ gs) hs h = absurd h
-trees-apart N (tree d more) (g ∷ gs) hs h =
-    let rest = trees-apart N more gs hs h.1 in
-    let sum = rest.sizes in
-    record {
-      before = tree d rest.before;
-      behind = rest.behind;
-      of_first = (h.0, rest.of_first);
-      of_second = rest.of_second;
-      sizes = omega (arith, sum);
-    }
+trees-apart N trees gs hs h = record {
+  before = first_trees (length gs) trees;
+  behind = later_trees (length gs) trees;
+  of_first = children-first N trees gs hs h;
+  of_second = children-later N trees gs hs h;
+  sizes = trees-sizes (length gs) trees;
+}

@@ -110,6 +110,18 @@ agree-alike P v w a = record {
       ∙ ap (λ n. v.fraction.numerator x *ℤ pos (n + 1)) (sym a.under);
 }
 
+-- over one denominator these are the same
+pub alike-agree :
+    (P : ℕ → Type 0) (v w : Valuation) → w.fraction.under ≡ v.fraction.under → Alike P v w →
+    Agree P v w
+alike-agree P v w e a = record {
+  under = e;
+  whole = a.whole;
+  share = λ x h.
+      cancel (w.fraction.numerator x) (v.fraction.numerator x) (denominator v.fraction)
+      (above-zero v) (a.share x h ∙ ap (λ n. v.fraction.numerator x *ℤ pos (n + 1)) e);
+}
+
 pub scaled-alike : (P : ℕ → Type 0) (m : ℕ) (v : Valuation) → Alike P v (scaled m v)
 scaled-alike P m v = record {
   whole = λ x h. refl;

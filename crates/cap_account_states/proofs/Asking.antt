@@ -274,18 +274,18 @@ module _ (p : PlainProgram) (X : Valuation) (sc : Scope)
       record { v = w; agree = agree-same (Low W.next) w; ok = ok; more = omega arith; slot = tt }
   asked-all (g ∷ gs) w W o asks fine ok =
       let a = asked-one w W g.1 asks.2.element asks.2.is_asked fine.0 ok in
-      let W1 = ask W g.1 in
-      let b = asked-all gs a.v W1 asks.1 asks.3 fine.1 a.ok in
+      let asked = ask W g.1 in
+      let b = asked-all gs a.v asked asks.1 asks.3 fine.1 a.ok in
       let le1 = a.more in
       let le2 = b.more in
       record {
         v = b.v;
         agree = agree-trans (Low W.next) w a.v b.v a.agree
-            (agree-less (Low W.next) (Low W1.next) a.v b.v (λ x l. omega (arith, l, le1)) b.agree);
+            (agree-less (Low W.next) (Low asked.next) a.v b.v (λ x l. omega (arith, l, le1)) b.agree);
         ok = b.ok;
         more = omega (arith, le1, le2);
         slot = (
-          slot-later a.v b.v W1.next W g.1 asks.2.element b.agree (omega arith) a.slot,
+          slot-later a.v b.v asked.next W g.1 asks.2.element b.agree (omega arith) a.slot,
           b.slot,
         );
       }

@@ -1,7 +1,8 @@
 -- What taking brings: the values of new variables, as the rules choose them. Half of a share may be
 -- over a finer denominator than the share; at a coarser one all holds where it has the half.
-use Rattle.std.proofs.Common.{◌≡◌, ℕ, ◌+◌, ◌<◌, ℤ, pos, ◌*ℤ◌, Bool, true, List, [], ◌∷◌, ◌++◌, length, Option, Some, arith, sym, ap, ◌∙◌, subst, inl, inr}
+use Rattle.std.proofs.Common.{◌≡◌, ◌⊎◌, ℕ, zero, suc, ◌+◌, ◌<◌, ℤ, pos, negsuc, ◌-ℤ◌, ◌*ℤ◌, Bool, true, false, nat_eq, if◌then◌else◌, List, [], ◌∷◌, ◌++◌, length, Option, Some, arith, refl, sym, ap, ◌∙◌, subst, inl, inr}
 use Rattle.std.proofs.lemmas.Bool.{cases_eq}
+use Rattle.std.proofs.lemmas.Bool.Decides.{nat_tests}
 use Rattle.std.proofs.lemmas.Int.{ints}
 use Rattle.cap_lin.specs.Linear.{Linear}
 use Rattle.cap_lin.specs.Values.{Valuation, denominator, amount}
@@ -13,7 +14,7 @@ use Rattle.cap_goal_spec.specs.States.{PlainState}
 use Rattle.cap_account_resources.proofs.Order.{cancel, swapped}
 use Rattle.cap_account_states.proofs.Scopes.{length-join}
 use Rattle.cap_account_states.proofs.Terms.{Over, vars-more, Agree, agree-same, agree-trans, agree-less, amount-agree}
-use Rattle.cap_account_states.proofs.Alike.{Alike, agree-alike, alike-less, whole-alike, amount-alike, above-zero}
+use Rattle.cap_account_states.proofs.Alike.{Alike, agree-alike, alike-agree, alike-back, alike-trans, alike-less, whole-alike, amount-alike, above-zero}
 use Rattle.cap_account_states.proofs.Meets.{Old, with_value, new-whole, new-share, with-agrees}
 
 -- ---- definitions
@@ -265,3 +266,92 @@ bring-brings w v n (a_half t ∷ bs) h k =
       h.2,
       bring-brings w now (n + 1) bs h.3 k.2,
     )
+
+-- values that agree on those before have the same halves
+with-agree :
+    (n : ℕ) (z : ℤ) (x y : ℤ) (u v : Valuation) → y ≡ x → Agree (λ i. i < n) u v →
+    Agree (λ i. i < n + 1) (with_value u n z x) (with_value v n z y)
+with-agree n z x y u v e a = record {
+  under = a.under;
+  whole = λ i l. elim (cases_eq i n) [
+    | inl q ↦ subst (λ j. (with_value v n z y).whole j ≡ (with_value u n z x).whole j) (sym q)
+        (new-whole v n z y ∙ sym (new-whole u n z x))
+    | inr ne ↦ ap (λ w. if nat_eq i n then z else w) (a.whole i (omega (arith, l, ne)))
+  ];
+  share = λ i l. elim (cases_eq i n) [
+    | inl q ↦ subst
+        (λ j. (with_value v n z y).fraction.numerator j
+        ≡ (with_value u n z x).fraction.numerator j) (sym q)
+        (new-share v n z y ∙ e ∙ sym (new-share u n z x))
+    | inr ne ↦ apart i (omega (arith, l, ne)) ne
+  ];
+}
+  where
+    apart :
+        (i : ℕ) → i < n → (i ≡ n → ⊥) →
+        (with_value v n z y).fraction.numerator i ≡ (with_value u n z x).fraction.numerator i
+    apart i l ne =
+        let t : nat_eq i n ≡ false = grind (arith, nat_tests) in
+        rw t (a.share i l)
+
+pub halves-agree :
+    (w u v : Valuation) (n : ℕ) (bs : List Bring) → Brings w n bs → Agree (λ x. x < n) u v →
+    HasHalves u n bs → HasHalves v n bs
+halves-agree w u v n [] h a k = tt
+halves-agree w u v n (a_whole z ∷ bs) h a k =
+    let x = z *ℤ denominator u.fraction in
+    let y = z *ℤ denominator v.fraction in
+    halves-agree w (with_value u n z x) (with_value v n z y) (n + 1) bs h.2
+    (with-agree n z x y u v (ap (λ i. z *ℤ pos (i + 1)) a.under) a) k
+halves-agree w u v n (a_half t ∷ bs) h a k = (
+  k.0,
+  k.1 ∙ sym (amount-agree (λ x. x < n) u v a t h.2),
+  halves-agree w (with_value u n (pos 0) k.0) (with_value v n (pos 0) k.0) (n + 1) bs h.3
+      (with-agree n (pos 0) k.0 k.0 u v refl a) k.2,
+)
+
+-- and there values of which the same is brought are these
+pub here-agrees :
+    (w u : Valuation) (n : ℕ) (bs : List Bring) → Brings w n bs → Agree (λ x. x < n) u w →
+    (k : HasHalves u n bs) → Agree (λ x. x < n + length bs) (bring_values u n bs k) w
+here-agrees w u n bs h a k =
+    let P = λ (x : ℕ). x < n in
+    let here = bring_values u n bs k in
+    let b = bring-agrees u n bs k in
+    let back = alike-back P u here (agree-alike P u here b) in
+    alike-agree (λ x. x < n + length bs) here w (a.under ∙ sym b.under)
+    (brings-named n bs here w (alike-trans P here u w back (agree-alike P u w a))
+    (bring-brings w u n bs h k) h)
+
+-- ---- whether each has one
+
+parity : (n : ℕ) → ((m : ℕ) × (m + m ≡ n)) ⊎ ((m : ℕ) × (m + m + 1 ≡ n))
+parity zero = inl (zero, refl)
+parity (suc n) = elim (parity n) [
+  | inl h ↦ let e = h.1 in inr (h.0, omega (arith, e))
+  | inr h ↦ let e = h.1 in inl (suc h.0, omega (arith, e))
+]
+
+half-or : (a : ℤ) → ((h : ℤ) × (h *ℤ pos 2 ≡ a)) ⊎ ((h : ℤ) → h *ℤ pos 2 ≡ a → ⊥)
+half-or (pos n) = elim (parity n) [
+  | inl h ↦ let e = h.1 in inl (pos h.0, omega (arith, ints, e))
+  | inr h ↦ let e = h.1 in inr (λ z q. omega (arith, ints, e, q))
+]
+half-or (negsuc n) = elim (parity (suc n)) [
+  | inl h ↦ let e = h.1 in inl (pos 0 -ℤ pos h.0, omega (arith, ints, e))
+  | inr h ↦ let e = h.1 in inr (λ z q. omega (arith, ints, e, q))
+]
+
+pub halves-or :
+    (v : Valuation) (n : ℕ) (bs : List Bring) → HasHalves v n bs ⊎ (HasHalves v n bs → ⊥)
+halves-or v n [] = inl tt
+halves-or v n (a_whole z ∷ bs) =
+    halves-or (with_value v n z (z *ℤ denominator v.fraction)) (n + 1) bs
+halves-or v n (a_half t ∷ bs) = elim (half-or (amount v.fraction t)) [
+  | inr none ↦ inr (λ k. none k.0 k.1)
+  | inl h ↦ elim (halves-or (with_value v n (pos 0) h.0) (n + 1) bs) [
+    | inl k ↦ inl (h.0, h.1, k)
+    | inr none ↦ inr (λ k. none (subst (λ z. HasHalves (with_value v n (pos 0) z) (n + 1) bs)
+        (cancel k.0 h.0 (pos 2) (omega (arith, ints)) (k.1 ∙ sym h.1)) k.2))
+  ]
+]

@@ -1,6 +1,6 @@
 -- A predicate of nodes that passes from each node to those below it; valid derivations are such.
 use Rattle.cap_account_resources.proofs.Lists.{all-unmap}
-use Rattle.std.proofs.Common.{◌≡◌, inl, inr, ℕ, suc, ℤ, List, [], ◌∷◌, ◌++◌, Option, Some, None, refl, sym, ap, subst}
+use Rattle.std.proofs.Common.{◌≡◌, inl, inr, ℕ, zero, suc, ℤ, Bool, true, false, ◌==◌, if◌then◌else◌, List, [], ◌∷◌, ◌++◌, length, option_to_list, Option, Some, None, refl, sym, ap, subst}
 use Rattle.std.specs.Prelude.{IsSomeAnd}
 use Rattle.std.specs.List.{AllByRecursion}
 use Rattle.cap_lin.specs.Rows.{negations}
@@ -12,8 +12,8 @@ use Rattle.cap_lin.proofs.Proves.{negations-prove}
 use Rattle.cap_farkas.specs.declared.cert.Cert.{Cert}
 use Rattle.cap_farkas.specs.Refutes.{Refutes}
 use Rattle.cap_farkas.proofs.Sound.{refuted-excludes, excluded-infeasible}
-use Rattle.cap_prog.specs.Program.{PlainProgram}
-use Rattle.cap_goal_spec.specs.States.{PlainState, PlainTask, PlainGoal, goal}
+use Rattle.cap_prog.specs.Program.{none, item, PlainProgram}
+use Rattle.cap_goal_spec.specs.States.{PlainState, PlainTask, to_run, to_turn, to_give, to_take, to_make, to_close, to_shift, to_rest, PlainGoal, goal, goal_of}
 use Rattle.cap_goal_spec.specs.Choices.{PlainTree, node, PlainTrees, no_trees, tree}
 use Rattle.cap_rules.specs.Attempts.{Claim, refuted, proved, IsTrueClaim, owed, Event, makes, claims, Attempt}
 use Rattle.cap_rules.specs.Answers.{Answer, applies, inapplicable, too_wide, Ending, passed, refused, stopped, Refuting, Within, Ends, answer_at, Answers, Subgoals}
@@ -26,6 +26,33 @@ pub record Checked : Type 1 where
   pub step :
       {d : PlainTree} {s : PlainState} {ts : List PlainTask} → N d s ts → IsNode program N d s ts
 
+-- ---- trees by their place among a node's children
+
+-- the first so many trees, and those behind them
+abbrev pub first_trees : ℕ → PlainTrees → PlainTrees
+first_trees zero ks = no_trees
+first_trees (suc n) no_trees = no_trees
+first_trees (suc n) (tree t ts) = tree t (first_trees n ts)
+
+abbrev pub later_trees : ℕ → PlainTrees → PlainTrees
+later_trees zero ks = ks
+later_trees (suc n) no_trees = no_trees
+later_trees (suc n) (tree t ts) = later_trees n ts
+
+pub children-first :
+    (N : NodePredicate) (ks : PlainTrees) (gs hs : List PlainGoal) → Children N ks (gs ++ hs) →
+    Children N (first_trees (length gs) ks) gs
+children-first N ks [] hs h = tt
+children-first N no_trees (g ∷ gs) hs h = absurd h
+children-first N (tree t ts) (g ∷ gs) hs h = (h.0, children-first N ts gs hs h.1)
+
+pub children-later :
+    (N : NodePredicate) (ks : PlainTrees) (gs hs : List PlainGoal) → Children N ks (gs ++ hs) →
+    Children N (later_trees (length gs) ks) hs
+children-later N ks [] hs h = h
+children-later N no_trees (g ∷ gs) hs h = absurd h
+children-later N (tree t ts) (g ∷ gs) hs h = children-later N ts gs hs h.1
+
 -- the trees of two lists of goals
 pub record Split (N : NodePredicate) (gs hs : List PlainGoal) : Type 0 where
   pub left : PlainTrees
@@ -33,21 +60,95 @@ pub record Split (N : NodePredicate) (gs hs : List PlainGoal) : Type 0 where
   pub first : Children N left gs
   pub second : Children N right hs
 
-pub children-split :
+abbrev pub children-split :
     (N : NodePredicate) (ks : PlainTrees) (gs hs : List PlainGoal) → Children N ks (gs ++ hs) →
     Split N gs hs
-children-split N ks [] hs h = record { left = no_trees; right = ks; first = tt; second = h }
-children-split N no_trees (g ∷ gs) hs h = absurd h
-children-split N (tree t ts) (g ∷ gs) hs h =
-    let m = children-split N ts gs hs h.1 in
-    record { left = tree t m.left; right = m.right; first = (h.0, m.first); second = m.second }
+children-split N ks gs hs h = record {
+  left = first_trees (length gs) ks;
+  right = later_trees (length gs) ks;
+  first = children-first N ks gs hs h;
+  second = children-later N ks gs hs h;
+}
+
+-- the tree of the only goal
+pub lone-child :
+    (N : NodePredicate) (ks : PlainTrees) (s : PlainState) (ts : List PlainTask) →
+    Children N ks (goal s ts ∷ []) → (d : PlainTree) × N d s ts × (ks ≡ tree d no_trees)
+lone-child N no_trees s ts h = absurd h
+lone-child N (tree t no_trees) s ts h = (t, h.0, refl)
+lone-child N (tree t (tree u us)) s ts h = absurd h.1
 
 pub one-child :
     (N : NodePredicate) (ks : PlainTrees) (s : PlainState) (ts : List PlainTask) →
     Children N ks (goal s ts ∷ []) → (d : PlainTree) × N d s ts
-one-child N no_trees s ts h = absurd h
-one-child N (tree t no_trees) s ts h = (t, h.0)
-one-child N (tree t (tree u us)) s ts h = absurd h.1
+one-child N ks s ts h = let d = lone-child N ks s ts h in (d.0, d.1)
+
+-- ---- the two sides of a conditional
+
+-- where each side has left a goal there are two trees; and where there is one it is the first side's,
+-- where that one is sure to have left a goal, and else the other's
+abbrev pub first_kids : Bool → PlainTrees → PlainTrees
+first_kids b no_trees = no_trees
+first_kids b (tree t (tree u us)) = tree t no_trees
+first_kids true (tree t no_trees) = tree t no_trees
+first_kids false (tree t no_trees) = no_trees
+
+abbrev pub second_kids : Bool → PlainTrees → PlainTrees
+second_kids b no_trees = no_trees
+second_kids b (tree t (tree u us)) = tree u us
+second_kids true (tree t no_trees) = no_trees
+second_kids false (tree t no_trees) = tree t no_trees
+
+-- the first side is sure to have a goal, or it has none unless the other has one
+abbrev pub SideGoals : Bool → Option PlainGoal → Option PlainGoal → Type 0
+SideGoals true None h = ⊥
+SideGoals true (Some g) h = Unit {0}
+SideGoals false None h = Unit {0}
+SideGoals false (Some g) None = ⊥
+SideGoals false (Some g) (Some h) = Unit {0}
+
+-- tasks that leave a goal at a state leave one at another with as many facts
+pub goals-alike :
+    (s t : PlainState) (ts : List PlainTask) → length s.facts ≡ length t.facts →
+    SideGoals false (goal_of s ts) (goal_of t ts)
+goals-alike s t [] e = tt
+goals-alike s t (to_give none e n ∷ ts) q = goals-alike s t ts q
+goals-alike s t (to_give (item i more) e n ∷ ts) q = tt
+goals-alike s t (to_take none e left n ∷ ts) q = goals-alike s t ts q
+goals-alike s t (to_take (item i more) e left n ∷ ts) q = tt
+goals-alike s t (to_rest j n ∷ ts) q =
+    subst (λ m. SideGoals false (goal_of s (to_rest j n ∷ ts))
+    (if j == m then goal_of t ts else Some (goal t (to_rest j n ∷ ts)))) q
+    (by (goals-alike s t ts q) (j == length s.facts))
+  where
+    by :
+        SideGoals false (goal_of s ts) (goal_of t ts) → (b : Bool) →
+        SideGoals false (if b then goal_of s ts else Some (goal s (to_rest j n ∷ ts)))
+        (if b then goal_of t ts else Some (goal t (to_rest j n ∷ ts)))
+    by h true = h
+    by h false = tt
+goals-alike s t (to_run h b ∷ ts) e = tt
+goals-alike s t (to_turn h b ∷ ts) e = tt
+goals-alike s t (to_make k c i x n ∷ ts) e = tt
+goals-alike s t (to_close b n ∷ ts) e = tt
+goals-alike s t (to_shift o c m i n ∷ ts) e = tt
+
+pub sides-are :
+    (N : NodePredicate) (ks : PlainTrees) (b : Bool) (g h : Option PlainGoal) → SideGoals b g h →
+    Children N ks (option_to_list g ++ option_to_list h) →
+    (first_trees (length (option_to_list g)) ks ≡ first_kids b ks)
+    × (later_trees (length (option_to_list g)) ks ≡ second_kids b ks)
+sides-are N no_trees b None h k c = (refl, refl)
+sides-are N no_trees b (Some g) h k c = absurd c
+sides-are N (tree t no_trees) true None h k c = absurd k
+sides-are N (tree t no_trees) true (Some g) h k c = (refl, refl)
+sides-are N (tree t no_trees) false None h k c = (refl, refl)
+sides-are N (tree t no_trees) false (Some g) None k c = absurd k
+sides-are N (tree t no_trees) false (Some g) (Some h) k c = absurd c.1
+sides-are N (tree t (tree u us)) b None None k c = absurd c
+sides-are N (tree t (tree u us)) b None (Some h) k c = absurd c.1
+sides-are N (tree t (tree u us)) b (Some g) None k c = absurd c.1
+sides-are N (tree t (tree u us)) b (Some g) (Some h) k c = (refl, refl)
 
 -- ---- what certificates prove
 

@@ -22,14 +22,14 @@ use Rattle.cap_goal_spec.specs.Environments.{term_in, bound, is_determined}
 use Rattle.cap_rules.specs.Closing.{case_names}
 use Rattle.cap_machine_accounts.specs.Assertions.{CompHolds, AreWhole}
 use Rattle.cap_account_states.proofs.Terms.{Over, RowOver, row-over, vars-more}
-use Rattle.cap_account_states.proofs.Alike.{Alike, scaled-alike, value-alike, whole-alike, positive-alike, rows-alike, comp-fits-alike, InScope}
+use Rattle.cap_account_states.proofs.Alike.{Alike, alike-trans, alike-less, meets-alike, scaled-alike, value-alike, whole-alike, positive-alike, rows-alike, comp-fits-alike, InScope}
 use Rattle.cap_account_states.proofs.Attempts.{AreDetermined}
 use Rattle.cap_account_states.proofs.Meets.{is-of, int-usable, Usable, usable-old, usable-on, CellOver, cell-more, row-more, Meets, Old}
 use Rattle.cap_account_states.proofs.Naming.{Placed, Means, term-over, term-number, comp-over, comp-holds, comp-bound, bound-of}
 use Rattle.cap_account_states.proofs.Scopes.{rep-length, length-join, variables-length}
 use Rattle.cap_account_steps.proofs.Worlds.{AllOver}
 use Rattle.cap_account_steps.proofs.CaseStates.{case_rows, case_state, comp_rows}
-use Rattle.cap_account_steps.proofs.CaseValues.{NameOf, the_region, an_argument, a_name, name-of, case_values, names_values, case-alike, case-is-whole, case-means}
+use Rattle.cap_account_steps.proofs.CaseValues.{NameOf, the_region, an_argument, a_name, name-of, case_values, names_values, entered_values, entered_names, entered-alike, entered-means, case-alike, case-is-whole, case-means}
 
 -- a fact of a region that is in this case, as the values say
 pub record IsInCase (p : PlainProgram) (v : Valuation) (s : PlainState) (f : PlainFact)
@@ -205,3 +205,23 @@ module _ (p : PlainProgram) (v : Valuation) (s : PlainState) (f : PlainFact) (k 
     store_over = all-more (Over (Usable [] s.sorts Int)) (Over (Usable [] t.sorts Int)) int-over
         s.store meets.store_over;
   }
+
+  -- ---- over one denominator, where the region's is that of the state
+
+  abbrev pub start : Valuation
+  start = entered_values v a (length s.sorts) k.params (region_scope k c.names)
+
+  start-near : (P : ℕ → Type 0) → Alike P w start
+  start-near P =
+      alike-less P (λ x. Unit {0}) w start (λ x i. tt)
+      (entered-alike v a (length s.sorts) k.params sc)
+
+  pub start-alike : Alike (Old s) v start
+  start-alike = alike-trans (Old s) v w start alike (start-near (Old s))
+
+  pub start-means :
+      Means sc start env (entered_names v a (length s.sorts) k.params (region_scope k c.names))
+  start-means = entered-means v a (length s.sorts) k.params sc env means
+
+  pub start-meets : Meets [] start t
+  start-meets = meets-alike [] w start t (start-near (Old t)) meets-case

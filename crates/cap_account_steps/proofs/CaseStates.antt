@@ -1,5 +1,5 @@
 -- The state in which an opened region is in a case: what makes it, and values at which it holds.
-use Rattle.std.proofs.Common.{◌≡◌, ℕ, zero, suc, List, [], ◌∷◌, ◌++◌, length, map, sym, subst, Option, Some, None, true}
+use Rattle.std.proofs.Common.{◌≡◌, ℕ, zero, suc, List, [], ◌∷◌, ◌++◌, length, map, arith, refl, sym, subst, Option, Some, None, true}
 use Rattle.std.specs.Prelude.{slice_get, IsSomeAnd}
 use Rattle.std.specs.List.{AllByRecursion}
 use Rattle.cap_lin.specs.Linear.{Linear}
@@ -9,7 +9,7 @@ use Rattle.cap_lin.specs.declared.row.Sort.{Sort}
 use Rattle.cap_lin.specs.declared.row.Sort.TheVariants.{Int}
 use Rattle.cap_lin.specs.declared.row.Op.TheVariants.{Eq as Equal}
 use Rattle.cap_prog.specs.declared.assertion.Comp.{Comp}
-use Rattle.cap_prog.specs.Program.{PlainCase}
+use Rattle.cap_prog.specs.Program.{Items, PlainCase}
 use Rattle.cap_goal_spec.specs.States.{PlainFact, PlainEnv, PlainState, PlainTask, to_give, PlainGoal, goals_of}
 use Rattle.cap_goal_spec.specs.Environments.{term_in, is_determined}
 use Rattle.cap_rules.specs.Attempts.{Attempt, unit, ◌>>=◌}
@@ -18,6 +18,7 @@ use Rattle.cap_rules.specs.Closing.{case_names, in_case, case_goals}
 use Rattle.cap_account_resources.proofs.Lists.{some-same, none-some, join-nil, join-assoc}
 use Rattle.cap_account_states.specs.Nodes.{Comes}
 use Rattle.cap_account_states.proofs.Attempts.{comes-bind, after-determined, after-row, after-sort, after-comparison, AreDetermined, comp_row}
+use Rattle.cap_account_states.proofs.Scopes.{length-join}
 use Rattle.cap_account_states.proofs.Adding.{comes-rows}
 use Rattle.cap_account_steps.proofs.Callees.{comes-env}
 
@@ -105,11 +106,17 @@ comes-value {A} o P h = by o.value h.1
     by None k = absurd k
     by (Some x) k = (x, k)
 
--- the goals of a case, between those of others
-pub record CaseGoal (s : PlainState) (f : PlainFact) (n : ℕ) (ts : List PlainTask) (c : PlainCase)
-    (P : List PlainGoal → Type 0) : Type 0 where
+-- whatever is given first, these tasks leave a goal
+abbrev pub LeavesOne : ℕ → ℕ → List PlainTask → Type 0
+LeavesOne e n ts =
+    (t : PlainState) (xs : Items) → length (goals_of t (to_give xs e n ∷ ts)) ≡ 1
+
+-- the goals of case number i, between those of others
+pub record CaseGoal (s : PlainState) (f : PlainFact) (n : ℕ) (ts : List PlainTask) (i : ℕ)
+    (c : PlainCase) (P : List PlainGoal → Type 0) : Type 0 where
   pub before : List PlainGoal
   pub behind : List PlainGoal
+  pub count : LeavesOne (length s.envs) n ts → length before ≡ i
   pub goes :
       InCase s f c
       (λ s'. P (before ++ (goals_of s' (to_give c.items (length s.envs) n ∷ ts) ++ behind)))
@@ -127,7 +134,7 @@ in-case-more s f c P Q g h = record {
 pub case-goal :
     (s : PlainState) (f : PlainFact) (n : ℕ) (ts : List PlainTask) (cs : List PlainCase) (i : ℕ)
     (c : PlainCase) (P : List PlainGoal → Type 0) → Comes (case_goals s f n ts cs) P →
-    slice_get cs i ≡ Some c → CaseGoal s f n ts c P
+    slice_get cs i ≡ Some c → CaseGoal s f n ts i c P
 case-goal s f n ts [] i c P h e = absurd (none-some e)
 case-goal s f n ts (x ∷ cs) i c P h e =
     let tasks = to_give x.items (length s.envs) n ∷ ts in
@@ -140,18 +147,19 @@ case-goal s f n ts (x ∷ cs) i c P h e =
     (comes-value (case_goals s f n ts cs) (λ more. Comes (unit (own ++ more)) P) m) e
   where
     by :
-        ((j : ℕ) → slice_get cs j ≡ Some c → CaseGoal s f n ts c (λ more. Comes (unit
+        ((j : ℕ) → slice_get cs j ≡ Some c → CaseGoal s f n ts j c (λ more. Comes (unit
         (goals_of (case_state s f x) (to_give x.items (length s.envs) n ∷ ts) ++ more)) P)) →
         (i : ℕ) →
         InCase s f x (λ s'. Comes (case_goals s f n ts cs >>= λ more. unit
         (goals_of s' (to_give x.items (length s.envs) n ∷ ts) ++ more)) P) →
         (more : List PlainGoal) × Comes (unit
         (goals_of (case_state s f x) (to_give x.items (length s.envs) n ∷ ts) ++ more)) P →
-        slice_get (x ∷ cs) i ≡ Some c → CaseGoal s f n ts c P
+        slice_get (x ∷ cs) i ≡ Some c → CaseGoal s f n ts i c P
     by again zero k v e =
-        subst (λ c. CaseGoal s f n ts c P) (some-same x c e) (record {
+        subst (λ c. CaseGoal s f n ts zero c P) (some-same x c e) (record {
           before = [];
           behind = v.0;
+          count = λ one. refl;
           goes = in-case-more s f x
               (λ s'. Comes (case_goals s f n ts cs >>= λ more. unit
               (goals_of s' (to_give x.items (length s.envs) n ∷ ts) ++ more)) P)
@@ -165,6 +173,11 @@ case-goal s f n ts (x ∷ cs) i c P h e =
         record {
           before = own ++ r.before;
           behind = r.behind;
+          count = λ one.
+              let all = length-join own r.before in
+              let first = one (case_state s f x) x.items in
+              let rest = r.count one in
+              omega (arith, all, first, rest);
           goes = in-case-more s f c
               (λ s'. Comes (unit (own ++ (r.before ++ (goals s' ++ r.behind)))) P)
               (λ s'. P ((own ++ r.before) ++ (goals s' ++ r.behind)))

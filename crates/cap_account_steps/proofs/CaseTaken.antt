@@ -16,7 +16,8 @@ use Rattle.cap_account_resources.specs.Parts.{known_as, Table}
 use Rattle.cap_account_resources.proofs.Lists.{map-length, push-length, get-or-push, all-at, all-more}
 use Rattle.cap_account_resources.proofs.Stocks.{Stock, no_stock, both, inside-first}
 use Rattle.cap_account_resources.proofs.Tables.{TableFits, AreListed, fits-less}
-use Rattle.cap_account_states.proofs.Brought.{Bring, Brings}
+use Rattle.cap_account_states.proofs.Terms.{Agree}
+use Rattle.cap_account_states.proofs.Brought.{Bring, Brings, HasHalves}
 use Rattle.cap_account_states.proofs.Alike.{Alike, alike-same, alike-less}
 use Rattle.cap_account_states.proofs.Attempts.{env_added}
 use Rattle.cap_account_states.proofs.Meets.{Usable, Old, meets-env, solves}
@@ -26,7 +27,8 @@ use Rattle.cap_account_states.proofs.Naming.{Placed, Means}
 use Rattle.cap_account_states.proofs.Backed.{IsOpened}
 use Rattle.cap_account_states.proofs.KnowsLater.{Steady}
 use Rattle.cap_account_assertions.proofs.Asserted.{Owns, owns-all}
-use Rattle.cap_account_assertions.proofs.Laws.{StateAt, Taken, TakenLaw}
+use Rattle.cap_account_assertions.proofs.Laws.{StateAt, Taken, TakenOnce, TakenLaw}
+use Rattle.cap_account_assertions.proofs.TakenLaws.{once-law}
 use Rattle.cap_account_assertions.proofs.MadeTables.{made-extends, made-room}
 use Rattle.cap_account_steps.proofs.Worlds.{IsStillOpen, Closing, SettlesBy}
 use Rattle.cap_account_steps.proofs.Actions.{means-earlier, region-whole}
@@ -53,6 +55,7 @@ pub record CaseTaken (p : Checked) (V W : Table) (part : Stock) (ks : List ℕ) 
   pub brings : List Bring
   pub count : length t.sorts ≡ length s.sorts + length brings
   pub brought : Brings w (length s.sorts) brings
+  pub once : HasHalves v (length s.sorts) brings → Agree (Old s) v w
   pub later : LaterState ks ks v w s t
   pub movable : Movable p.program ks t f k
   pub same_region : value w.whole f.region ≡ value v.whole f.region
@@ -133,15 +136,19 @@ module _ (p : Checked) (program : IsWellFormed p.program) (taken : TakenLaw p) (
         all-at (CaseFits p.program pk.k) pk.k.cases number pk.x pk.movable.fits.cases pk.is_case
 
     abbrev TakenHere : Type 0
-    TakenHere = Taken p ks W sc e 1 v held s1 pk.x.items (to_shift o number move e n ∷ ts)
+    TakenHere =
+        TakenOnce p ks W sc e 1 v held s1 pk.x.items (to_shift o number move e n ∷ ts)
 
     take-case : TakenHere
     take-case =
-        taken ks W sc e 1 n pk.x.items (to_shift o number move e n ∷ ts) kids v s1 held bound
+        once-law p taken ks W sc e 1 n pk.x.items (to_shift o number move e n ∷ ts) kids v s1 held bound
         pk.goes start c.old case-fits.items.items
         (record { cells = c.backed.cells; guards = c.backed.guards }) c.room listed
 
-    module _ (tk : TakenHere) where
+    module _ (here : TakenHere) where
+      abbrev tk : Taken p ks W sc e 1 v held s1 pk.x.items (to_shift o number move e n ∷ ts)
+      tk = here.taken
+
       later : LaterState ks ks v tk.w s tk.after
       later = record {
         alike = alike-less (Steady ks s) (Old s1) v tk.w (λ x h. h.0) tk.alike;
@@ -195,6 +202,7 @@ module _ (p : Checked) (program : IsWellFormed p.program) (taken : TakenLaw p) (
             brings = tk.brings;
             count = tk.brought.count;
             brought = tk.brought.are;
+            once = here.once;
             later = later;
             movable =
                 movable-on p.program ks ks s tk.after pk.f pk.k

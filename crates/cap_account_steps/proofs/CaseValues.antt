@@ -1,9 +1,9 @@
 -- Values at which an opened region is in a case: its names have what the region's values say, over
 -- the product of both denominators.
-use Rattle.cap_account_resources.proofs.Order.{grouped}
+use Rattle.cap_account_resources.proofs.Order.{cancel, grouped}
 use Rattle.cap_account_resources.proofs.Lists.{map-at, some-same, none-some, within, get-join, get-map, map-length, all-at}
-use Rattle.std.proofs.Common.{◌≡◌, ℕ, zero, suc, ◌+◌, ◌-◌, ◌<◌, ◌≤◌, pos, ◌*ℤ◌, List, ◌∷◌, ◌++◌, length, map, arith, refl, sym, ap, ◌∙◌, Option, Some, None, true, false, inl, inr}
-use Rattle.std.specs.Prelude.{slice_get, nat_lt, unwrap_or, if◌then◌else◌}
+use Rattle.std.proofs.Common.{◌≡◌, ℕ, zero, suc, ◌+◌, ◌-◌, ◌<◌, ◌≤◌, pos, ◌*ℤ◌, List, ◌∷◌, ◌++◌, length, map, arith, refl, sym, ap, ◌∙◌, Option, Some, None, Bool, true, false, inl, inr}
+use Rattle.std.specs.Prelude.{slice_get, nat_eq, nat_lt, unwrap_or, if◌then◌else◌}
 use Rattle.std.specs.List.{AllByRecursion}
 use Rattle.std.proofs.lemmas.Bool.Decides.{nat_tests}
 use Rattle.cap_lin.specs.Linear.{Linear, variable}
@@ -14,11 +14,12 @@ use Rattle.cap_lin.specs.declared.row.Sort.TheVariants.{Int, Perm}
 use Rattle.cap_prog.specs.Program.{PlainRegionType}
 use Rattle.cap_prog.specs.Scopes.{Scope, HasSort, region_scope, whole_numbers, known}
 use Rattle.cap_goal_spec.specs.Terms.{variables_from}
-use Rattle.cap_goal_spec.specs.States.{PlainFact}
+use Rattle.cap_goal_spec.specs.States.{PlainFact, PlainEnv}
 use Rattle.cap_goal_spec.specs.Environments.{term_of, bound, region_env}
 use Rattle.cap_machine_accounts.specs.Assertions.{AreWhole}
 use Rattle.cap_account_states.proofs.Terms.{Over, Agree}
-use Rattle.cap_account_states.proofs.Alike.{Alike, scaled-agree-alike, value-alike}
+use Rattle.cap_account_states.proofs.Environments.{all-vars}
+use Rattle.cap_account_states.proofs.Alike.{Alike, above-zero, alike-same, scaled-alike, scaled-agree-alike, value-alike, amount-alike}
 use Rattle.cap_account_states.proofs.Meets.{variable-value, variable-amount}
 use Rattle.cap_account_states.proofs.Naming.{Means}
 use Rattle.cap_account_states.proofs.Scopes.{variables-length, variables-at, rep-length}
@@ -204,3 +205,87 @@ module _ (v a : Valuation) (n m : ℕ) (sc : Scope) where
           ∙ case-share j
           ∙ ap new_part.fraction.numerator at
           ∙ ap (λ z. z *ℤ pos (v.fraction.under + 1)) (normal-perm sc a x i)
+
+  -- ---- over one denominator, where both have the same
+
+  abbrev pub plain_values : Valuation
+  plain_values = record {
+    whole = λ x. if nat_lt x n then v.whole x else a.whole (m + (x - n));
+    fraction = record {
+      numerator =
+          λ x. if nat_lt x n then v.fraction.numerator x
+          else (normal sc a).fraction.numerator (m + (x - n));
+      under = v.fraction.under;
+    };
+  }
+
+  abbrev Every : ℕ → Type 0
+  Every x = Unit {0}
+
+  plain-alike : v.fraction.under ≡ a.fraction.under → Alike Every case_values plain_values
+  plain-alike e = record { whole = λ x h. refl; share = λ x h. by x (nat_lt x n) }
+    where
+      by :
+          (x : ℕ) (b : Bool) →
+          (if b then v.fraction.numerator x
+          else (normal sc a).fraction.numerator (m + (x - n))) *ℤ denominator case_values.fraction
+          ≡ (if b then old_part.fraction.numerator x
+          else new_part.fraction.numerator (m + (x - n))) *ℤ denominator v.fraction
+      by x true = sym ((scaled-alike Every a.fraction.under v).share x tt)
+      by x false =
+          let y = m + (x - n) in
+          sym (ap (λ u. new_part.fraction.numerator y *ℤ pos (u + 1)) e
+          ∙ (scaled-alike Every v.fraction.under (normal sc a)).share y tt
+          ∙ ap (λ u. (normal sc a).fraction.numerator y *ℤ pos (u + 1)) (sym under-same))
+
+  plain-means :
+      v.fraction.under ≡ a.fraction.under → (env : PlainEnv) →
+      Means sc case_values env names_values → Means sc plain_values env a
+  plain-means e env h =
+      let l = plain-alike e in
+      let d = denominator v.fraction in
+      record {
+        under = sym e;
+        whole = λ x i t q.
+            value-alike Every case_values plain_values l t (all-vars t.parts) ∙ h.whole x i t q;
+        share = λ x i t q.
+            cancel (amount plain_values.fraction t) (a.fraction.numerator x)
+            (denominator case_values.fraction) (above-zero case_values)
+            (amount-alike Every case_values plain_values l t (all-vars t.parts)
+            ∙ ap (λ z. z *ℤ d) (h.share x i t q)
+            ∙ grouped (a.fraction.numerator x) d d
+            ∙ ap (λ u. a.fraction.numerator x *ℤ (d *ℤ pos (u + 1))) e
+            ∙ ap (λ z. a.fraction.numerator x *ℤ z)
+            (sym (scaled-denominator a.fraction.under v)));
+      }
+
+  abbrev same_under : Bool
+  same_under = nat_eq v.fraction.under a.fraction.under
+
+  -- these where the denominators are the same, and else over the product
+  abbrev pub entered_values : Valuation
+  entered_values =
+      if nat_eq v.fraction.under a.fraction.under then plain_values else case_values
+
+  abbrev pub entered_names : Valuation
+  entered_names = if nat_eq v.fraction.under a.fraction.under then a else names_values
+
+  pub entered-alike : Alike (λ x. Unit {0}) case_values entered_values
+  entered-alike = by same_under refl
+    where
+      by :
+          (b : Bool) → same_under ≡ b →
+          Alike Every case_values (if b then plain_values else case_values)
+      by true e = plain-alike (grind (arith, nat_tests, e))
+      by false e = alike-same Every case_values
+
+  pub entered-means :
+      (env : PlainEnv) → Means sc case_values env names_values →
+      Means sc entered_values env entered_names
+  entered-means env h = by same_under refl
+    where
+      by :
+          (b : Bool) → same_under ≡ b →
+          Means sc (if b then plain_values else case_values) env (if b then a else names_values)
+      by true e = plain-means (grind (arith, nat_tests, e)) env h
+      by false e = h

@@ -15,9 +15,10 @@ use Rattle.cap_account_resources.proofs.Stocks.{Stock, some-inside}
 use Rattle.cap_account_resources.proofs.Tables.{TableFits, AreListed, new_guards}
 use Rattle.cap_account_resources.proofs.Owners.{numbers_of}
 use Rattle.cap_account_states.proofs.Checked.{Checked, one-child}
-use Rattle.cap_account_states.proofs.Meets.{Usable}
+use Rattle.cap_account_states.proofs.Terms.{Agree, agree-same}
+use Rattle.cap_account_states.proofs.Meets.{Usable, Old}
 use Rattle.cap_account_assertions.proofs.Laws.{TakenLaw}
-use Rattle.cap_account_steps.proofs.Shutting.{shut_values, shut_owner, Leads, keeps-on}
+use Rattle.cap_account_steps.proofs.Shutting.{shut_values, shut_owner, Leads, keeps-on, HaveHalves, TookHere, closed_values, leads-here}
 use Rattle.cap_account_steps.proofs.Worlds.{AllOver, regions_of, IsStillOpen, Closing, SettlesBy, closes, Closed, ClosingLaw}
 use Rattle.cap_account_steps.proofs.SettledTables.{settled-states, settled-fits, settled-listed}
 use Rattle.cap_account_steps.proofs.SettledTwice.{settles-for, settles-again}
@@ -110,9 +111,13 @@ module _ (p : Checked) (V : Table) (part : Stock) (ts : List PlainTask) where
             backed = r.backed;
             shuts = rc.shut ∷ r.shuts;
             named = (
-              rc.took,
-              rc.count,
-              rc.brought,
+              record {
+                alike = rc.took;
+                once = rc.once;
+                count = rc.count;
+                brought = rc.brought;
+                over = rc.over;
+              },
               subst (λ n. Leads n (shut_values rc.shut) r.shuts (length r.after.sorts) r.w)
                   (sym rc.counts)
                   (subst (λ u. Leads (length rc.after.sorts) u r.shuts (length r.after.sorts) r.w)
@@ -180,3 +185,15 @@ module _ (p : Checked) (program : IsWellFormed p.program) (taken : TakenLaw p) w
   pub closing-law : ClosingLaw p
   closing-law V W part held ks v s n ts trees bound goes fits listed c room =
       closed-from (length s.opened) V W part held ks v s n ts trees bound refl goes fits listed c
+
+-- over the denominator that there is, where each share that is halved has a half there: the values in
+-- the end, and those at which the cases' items are taken, are a function of what is brought
+pub closed-here :
+    (p : Checked) (V W : Table) (part : Stock) (ks : List ℕ) (v : Valuation) (s : PlainState)
+    (held : Stock) (ts : List PlainTask) (c : Closed p V W part ks v s held ts)
+    (k : HaveHalves (length s.sorts) v c.shuts) →
+    TookHere (length s.sorts) v c.shuts k
+    × Agree (Old c.after) (closed_values (length s.sorts) v c.shuts k) c.w
+closed-here p V W part ks v s held ts c k =
+    leads-here (length s.sorts) v v c.shuts (length c.after.sorts) c.w (agree-same (Old s) v) c.named
+    k

@@ -2,7 +2,7 @@
 use Rattle.cap_account_states.proofs.Alike.{usable-alike, Alike, InScope, alike-trans, alike-less, agree-alike, scaled-alike}
 use Rattle.cap_account_resources.proofs.Lists.{all-map, some-same, all-more, all-both, all-at, all-remove, map-join, map-length, get-or-push, push-length}
 use Rattle.std.proofs.Common.{◌≡◌, ◌≢◌, ℕ, suc, ◌<◌, ℤ, List, [], ◌∷◌, ◌++◌, length, map, arith, refl, sym, ap, ◌∙◌, subst, Some, Bool, true, false}
-use Rattle.std.specs.Prelude.{slice_get, nat_lt, remove, ◌==◌, if◌then◌else◌}
+use Rattle.std.specs.Prelude.{slice_get, nat_eq, nat_lt, remove, ◌==◌, if◌then◌else◌}
 use Rattle.std.specs.List.{AllByRecursion}
 use Rattle.std.proofs.lemmas.Bool.Decides.{nat_tests}
 use Rattle.cap_lin.specs.Linear.{Linear}
@@ -14,11 +14,11 @@ use Rattle.cap_lin.specs.declared.row.Sort.TheVariants.{Int}
 use Rattle.cap_lin.specs.declared.row.Op.TheVariants.{Ne as Unequal}
 use Rattle.cap_lin.proofs.Rows.{row_of-means}
 use Rattle.cap_gsolve.specs.declared.piece.Piece.{Piece}
-use Rattle.cap_prog.specs.Program.{PlainAct, Block, first, PlainCase, PlainRegionType, Label, PlainFunction, PlainProgram}
+use Rattle.cap_prog.specs.Program.{none, item, PlainAct, Block, first, PlainCase, PlainRegionType, Label, PlainFunction, PlainProgram}
 use Rattle.cap_prog.specs.Scopes.{Scope, region_scope}
 use Rattle.cap_prog.specs.WellFormed.{IsWellFormed, RegionFits, CaseFits}
-use Rattle.cap_goal_spec.specs.States.{PlainFact, PlainState, Home, PlainTask, to_give, goals_of}
-use Rattle.cap_goal_spec.specs.Choices.{PlainTree, PlainTrees}
+use Rattle.cap_goal_spec.specs.States.{PlainFact, PlainState, Home, PlainTask, PlainGoal, to_give, goals_of}
+use Rattle.cap_goal_spec.specs.Choices.{PlainTree, PlainTrees, no_trees, tree}
 use Rattle.cap_rules.specs.Making.{is_empty}
 use Rattle.cap_rules.specs.Closing.{address_of, of_type, prove_other, with_opened, case_names, case_goals}
 use Rattle.cap_rules.specs.Rules.{at_enter}
@@ -33,7 +33,7 @@ use Rattle.cap_account_states.proofs.Terms.{Over, row-over, vars-more, Agree}
 use Rattle.cap_account_states.proofs.Wants.{scaled-finer}
 use Rattle.cap_account_states.proofs.Attempts.{comes-bind, after-found, after-need, after-proved}
 use Rattle.cap_account_states.proofs.Adding.{PieceOver}
-use Rattle.cap_account_states.proofs.Checked.{Checked, children-split, one-child}
+use Rattle.cap_account_states.proofs.Checked.{Checked, first_trees, later_trees, children-first, children-later, lone-child}
 use Rattle.cap_account_states.proofs.Compatible.{pieces-more, covered-alike}
 use Rattle.cap_account_states.proofs.Facts.{StateHolds, StateOver, FactHolds, FactOver, Facts}
 use Rattle.cap_account_states.proofs.Meets.{Usable, usable-old, usable-on, Meets, Old, proved-holds}
@@ -45,15 +45,16 @@ use Rattle.cap_account_states.proofs.Backed.{IsFirm, IsOpened, Backed, Grounded}
 use Rattle.cap_account_assertions.proofs.Asserted.{DrawsAll, OwnsRegion}
 use Rattle.cap_account_assertions.proofs.Finer.{draws-all-finer}
 use Rattle.cap_account_assertions.proofs.Filling.{fill_items}
-use Rattle.cap_account_assertions.proofs.Laws.{StateAt, Given, GivenLaw}
+use Rattle.cap_account_assertions.proofs.GivenTrees.{given_trees}
+use Rattle.cap_account_assertions.proofs.Laws.{StateAt, Given, GivenAlong, GivenAlongLaw}
 use Rattle.cap_account_steps.proofs.Stores.{Store, running, store-alike}
 use Rattle.cap_account_steps.proofs.Exact.{exact-alike, over-more}
 use Rattle.cap_account_steps.proofs.Worlds.{Differ, IsThere, World, Exact, AllOver, regions_of, Earlier, IfAny, Opening}
 use Rattle.cap_account_steps.proofs.FirmStates.{firm-loose, firm-differ, Between, facts-between, grounded-between, backed-between}
-use Rattle.cap_account_steps.proofs.CaseStates.{case_state, CaseGoal, case-goal}
-use Rattle.cap_account_steps.proofs.CaseValues.{case_values, names_values}
+use Rattle.cap_account_steps.proofs.CaseStates.{case_state, LeavesOne, CaseGoal, case-goal}
+use Rattle.cap_account_steps.proofs.CaseValues.{names_values, entered_values, entered_names}
 use Rattle.cap_account_steps.proofs.CaseHolds as holds
-use Rattle.cap_account_steps.proofs.CaseHolds.{IsInCase, meets-case}
+use Rattle.cap_account_steps.proofs.CaseHolds.{IsInCase}
 
 -- ---- firm facts say just what the table does
 
@@ -126,7 +127,7 @@ all-of-more p (m ∷ ns) n share =
 
 -- ---- entering
 
-module _ (p : Checked) (program : IsWellFormed p.program) (give : GivenLaw p) (V : Table)
+module _ (p : Checked) (program : IsWellFormed p.program) (give : GivenAlongLaw p) (V : Table)
     (share : ℤ → Stock) (part : Stock) (heap : Heap) (world : World p.program V share part heap)
     (fn : PlainFunction) (fixed : List NameValue) (size : length fixed ≡ length fn.fixed)
     (f0 : Frame) (h0 : Home) where
@@ -140,9 +141,10 @@ module _ (p : Checked) (program : IsWellFormed p.program) (give : GivenLaw p) (V
     pub are : length s.opened ≡ count
 
   -- fact number i of the first state is opened: the case and its values are what the region's part
-  -- has, and the second state holds at these beside the first one's
-  pub record Enters (v : Valuation) (s : PlainState) (i : ℕ) (w : Valuation)
-      (t : PlainState) : Type 0 where
+  -- has, and the second state holds at these beside the first one's. Its tree is below that of the
+  -- case's number among the node's children, by the sides of conditionals that are drawn
+  pub record Enters (v : Valuation) (s : PlainState) (i : ℕ) (ks : PlainTrees) (w : Valuation)
+      (t : PlainState) (d : PlainTree) : Type 0 where
     pub f : PlainFact
     pub is_fact : slice_get s.facts i ≡ Some f
     pub k : PlainRegionType
@@ -158,19 +160,25 @@ module _ (p : Checked) (program : IsWellFormed p.program) (give : GivenLaw p) (V
         (value v.whole f.state) exact
     pub named :
         Agree (Old (case_state (with_opened s i f) f own.case))
-        (case_values v own.values (length s.sorts) k.params (region_scope k own.case.names)) w
+        (entered_values v own.values (length s.sorts) k.params (region_scope k own.case.names)) w
     pub drawn :
         DrawsAll p.program V
-        (names_values v own.values (length s.sorts) k.params (region_scope k own.case.names))
+        (entered_names v own.values (length s.sorts) k.params (region_scope k own.case.names))
         own.case.items (share (value v.whole f.region)) own.met.0
     pub filled :
         filled_at (length s.envs) w t
         ≡ fill_items p.program V
-        (names_values v own.values (length s.sorts) k.params (region_scope k own.case.names))
+        (entered_names v own.values (length s.sorts) k.params (region_scope k own.case.names))
         own.case.items (share (value v.whole f.region)) own.met.0 drawn
         (filled_at (length s.envs)
-        (case_values v own.values (length s.sorts) k.params (region_scope k own.case.names))
+        (entered_values v own.values (length s.sorts) k.params (region_scope k own.case.names))
         (case_state (with_opened s i f) f own.case))
+    pub child :
+        tree d no_trees
+        ≡ given_trees p.program V
+        (entered_names v own.values (length s.sorts) k.params (region_scope k own.case.names))
+        own.case.items (share (value v.whole f.region)) own.met.0 drawn
+        (first_trees 1 (later_trees own.number ks))
 
   module _ (v : Valuation) (s : PlainState) (o : Opening p.program V share part v s)
       (st : Store v s h0 fn fixed f0) (i : ℕ) (f : PlainFact) (k : PlainRegionType)
@@ -304,7 +312,7 @@ module _ (p : Checked) (program : IsWellFormed p.program) (give : GivenLaw p) (V
           abbrev ts : List PlainTask
           ts = running (first l a b) h0
 
-          goal : CaseGoal s1 f l.number ts own.case (Children p.N ks)
+          goal : CaseGoal s1 f l.number ts own.number own.case (Children p.N ks)
           goal = case-goal s1 f l.number ts k.cases own.number own.case (Children p.N ks) go is-case
 
           abbrev c : PlainCase
@@ -317,28 +325,40 @@ module _ (p : Checked) (program : IsWellFormed p.program) (give : GivenLaw p) (V
           s2 = case_state s1 f own.case
 
           abbrev w : Valuation
-          w = case_values v own.values (length s.sorts) k.params (region_scope k own.case.names)
+          w = entered_values v own.values (length s.sorts) k.params (region_scope k own.case.names)
 
           abbrev names : Valuation
-          names = names_values v own.values (length s.sorts) k.params
+          names = entered_names v own.values (length s.sorts) k.params
               (region_scope k own.case.names)
 
           abbrev held : Stock
           held = both p.program part (all_of p.program (regions_of v s.opened) share)
 
-          trees :
-              (kids : PlainTrees)
-              × Open p.N kids s2 (to_give c.items (length s.envs) l.number ∷ ts)
-          trees =
-              let own_goals = goals_of s2 (to_give c.items (length s.envs) l.number ∷ ts) in
-              let m = children-split p.N ks goal.before (own_goals ++ goal.behind) goal.goes.comes
-              in
-              let q = children-split p.N m.right own_goals goal.behind m.second in
-              (q.left, q.first)
+          abbrev own_goals : List PlainGoal
+          own_goals = goals_of s2 (to_give c.items (length s.envs) l.number ∷ ts)
+
+          abbrev kids : PlainTrees
+          kids = first_trees (length own_goals) (later_trees (length goal.before) ks)
+
+          kids-goals : Open p.N kids s2 (to_give c.items (length s.envs) l.number ∷ ts)
+          kids-goals =
+              children-first p.N (later_trees (length goal.before) ks) own_goals goal.behind
+              (children-later p.N ks goal.before (own_goals ++ goal.behind) goal.goes.comes)
+
+          -- each case leaves one goal, and so has one tree
+          leaves-one : LeavesOne (length s.envs) l.number ts
+          leaves-one t none = refl
+          leaves-one t (item x more) = refl
+
+          kids-are : kids ≡ first_trees 1 (later_trees own.number ks)
+          kids-are =
+              let one = leaves-one s2 c.items in
+              let count = goal.count leaves-one in
+              λ j. first_trees (one j) (later_trees (count j) ks)
 
           alike2 : Alike (Old s) v w
           alike2 =
-              holds.alike p.program v s1 f k c own.values in-case meets1 goal.goes.state_known
+              holds.start-alike p.program v s1 f k c own.values in-case meets1 goal.goes.state_known
               goal.goes.conditions_known
 
           usable2 : (o : Sort) (x : ℕ) → Usable [] s.sorts o x → Usable [] s2.sorts o x
@@ -383,7 +403,7 @@ module _ (p : Checked) (program : IsWellFormed p.program) (give : GivenLaw p) (V
           state2 : StateAt p.program [] V sc (length s.envs) w s2
           state2 = record {
             grounded = grounded-between p.program [] [] (Old s) v w s1 s2 between2
-                (meets-case p.program v s1 f k c own.values in-case meets1 goal.goes.state_known
+                (holds.start-meets p.program v s1 f k c own.values in-case meets1 goal.goes.state_known
                 goal.goes.conditions_known) grounded1;
             facts = facts-between p.program [] [] (Old s) v w s1 s2 between2 V firm1 facts1;
             opened = all-more IsOpen (IsOpened (Usable [] s2.sorts Int) w V) opened2 s2.opened
@@ -429,25 +449,40 @@ module _ (p : Checked) (program : IsWellFormed p.program) (give : GivenLaw p) (V
               (room-some p.program V m))
 
           drawn : DrawsAll p.program V names c.items (share n) own.met.0
-          drawn =
-              draws-all-finer p.program V sc own.values names
-              (scaled-alike (InScope sc) v.fraction.under own.values)
-              (scaled-finer v.fraction.under own.values) c.items (share n) own.met.0
-              case-fits.items.items own.met.1
+          drawn = by (nat_eq v.fraction.under own.values.fraction.under)
+            where
+              by :
+                  (b : Bool) →
+                  DrawsAll p.program V
+                  (if b then own.values
+                  else names_values v own.values (length s.sorts) k.params sc)
+                  c.items (share n) own.met.0
+              by true = own.met.1
+              by false =
+                  draws-all-finer p.program V sc own.values
+                  (names_values v own.values (length s.sorts) k.params sc)
+                  (scaled-alike (InScope sc) v.fraction.under own.values)
+                  (scaled-finer v.fraction.under own.values) c.items (share n) own.met.0
+                  case-fits.items.items own.met.1
 
-          given : Given p V (length s.envs) w (both p.program held (share n)) s2 ts
+          along : GivenAlong p V (length s.envs) w (both p.program held (share n)) s2 ts
               (fill_items p.program V names c.items (share n) own.met.0 drawn
               (filled_at (length s.envs) w s2))
-          given =
-              give V sc (length s.envs) l.number names held (share n) own.met.0 c.items ts trees.0 w
-              s2
-              trees.1 state2 firm1
+              (given_trees p.program V names c.items (share n) own.met.0 drawn kids)
+          along =
+              give V sc (length s.envs) l.number names held (share n) own.met.0 c.items ts kids w s2
+              kids-goals state2 firm1
               (subst (λ env. Means sc w env names) (sym (get-or-push s.envs (case_names s1 f c) []))
-              (holds.means p.program v s1 f k c own.values in-case meets1 goal.goes.state_known
+              (holds.start-means p.program v s1 f k c own.values in-case meets1 goal.goes.state_known
               goal.goes.conditions_known))
               case-fits.items.items drawn
               (backed-between p.program [] [] (Old s) v w s1 s2 between2 held grounded1
               (record { cells = o.backed.cells; guards = o.backed.guards })) composes
+
+          abbrev given : Given p V (length s.envs) w (both p.program held (share n)) s2 ts
+              (fill_items p.program V names c.items (share n) own.met.0 drawn
+              (filled_at (length s.envs) w s2))
+          given = along.given
 
           -- ---- the state then
 
@@ -551,9 +586,11 @@ module _ (p : Checked) (program : IsWellFormed p.program) (give : GivenLaw p) (V
           any-opened (g ∷ os) P h = h
 
           pub region-opened :
-              (tree : PlainTree) × (r : Opened tree ts (suc (length s.opened))) × Enters v s i r.v r.s
+              (d : PlainTree)
+              × (r : Opened d ts (suc (length s.opened)))
+              × Enters v s i ks r.v r.s d
           region-opened =
-              let child = one-child p.N given.children given.after ts given.goes in (
+              let child = lone-child p.N given.children given.after ts given.goes in (
                 child.0,
                 record {
                   s = given.after;
@@ -593,6 +630,11 @@ module _ (p : Checked) (program : IsWellFormed p.program) (give : GivenLaw p) (V
                   named = given.agree;
                   drawn = drawn;
                   filled = given.filled;
+                  child =
+                      sym child.2
+                      ∙ along.along
+                      ∙ ap (given_trees p.program V names c.items (share n) own.met.0 drawn)
+                      kids-are;
                 },
               )
 
@@ -603,9 +645,9 @@ module _ (p : Checked) (program : IsWellFormed p.program) (give : GivenLaw p) (V
       (ks : PlainTrees) →
       Comes (at_enter p.program s i l a (running (first l a b) h0)) (Children p.N ks) →
       (length s.opened < 2)
-      × (tree : PlainTree)
-      × (r : Opened tree (running (first l a b) h0) (suc (length s.opened)))
-      × Enters v s i r.v r.s
+      × (d : PlainTree)
+      × (r : Opened d (running (first l a b) h0) (suc (length s.opened)))
+      × Enters v s i ks r.v r.s d
   entered v s o st i l a b ks go =
       let ts = running (first l a b) h0 in
       let N = Children p.N ks in

@@ -1,5 +1,5 @@
 -- The law of heap statements: up to two regions are opened, and then the statement acts.
-use Rattle.std.proofs.Common.{◌≡◌, ℕ, zero, suc, ◌+◌, ℤ, List, [], length, arith, refl, sym, ap, subst, Some}
+use Rattle.std.proofs.Common.{◌≡◌, ℕ, zero, suc, ◌+◌, ℤ, List, [], length, arith, refl, sym, ap, subst, Option, Some}
 use Rattle.std.specs.List.{AllByRecursion}
 use Rattle.cap_lin.specs.Linear.{Linear}
 use Rattle.cap_lin.specs.Values.{Valuation}
@@ -19,7 +19,7 @@ use Rattle.cap_account_states.proofs.Checked.{Checked}
 use Rattle.cap_account_states.proofs.Meets.{Usable, solves}
 use Rattle.cap_account_states.proofs.Roots.{values-length}
 use Rattle.cap_account_states.proofs.Backed.{Backed}
-use Rattle.cap_account_assertions.proofs.Laws.{GivenLaw}
+use Rattle.cap_account_assertions.proofs.Laws.{GivenAlongLaw}
 use Rattle.cap_account_steps.proofs.Points.{FrameOk}
 use Rattle.cap_account_steps.proofs.Stores.{running}
 use Rattle.cap_account_steps.proofs.Worlds.{Differ, World, Exact, AllOver, regions_of, Earlier, IfAny, Opening, after_act, HeapStep}
@@ -38,7 +38,7 @@ module _ (p : Checked) where
 
 -- ---- the law
 
-module _ (p : Checked) (program : IsWellFormed p.program) (give : GivenLaw p) (acts : ActsLaw p)
+module _ (p : Checked) (program : IsWellFormed p.program) (give : GivenAlongLaw p) (acts : ActsLaw p)
     (clash : ClashLaw p) (V : Table) (share : ℤ → Stock) (part : Stock) (heap : Heap)
     (fn : PlainFunction) (fixed : List NameValue) (f : Frame) (l : Label) (b : Block)
     (world : World p.program V share part heap) (size : length fixed ≡ length fn.fixed)
@@ -51,24 +51,26 @@ module _ (p : Checked) (program : IsWellFormed p.program) (give : GivenLaw p) (a
   abbrev Ready : PlainAct → Type 0
   Ready a = (z : ℤ) → FrameOk p.program fn fixed (after_act a f b z).1
 
-  -- so many regions may still be opened
-  -- some regions are opened, each at values by name, and then the statement acts
+  -- some regions are opened, each at values by name, and then the statement acts: from values, a state
+  -- and its tree on
   pub data ActsBy (a : PlainAct) (x : Linear) (step : HeapStep p V share part heap fixed f a b x) :
-      Valuation → PlainState → Type 0 where
+      Valuation → PlainState → PlainTree → Type 0 where
     acts_now :
-        (v : Valuation) (s : PlainState)
-        (r : Acted p V share part heap fixed f l a b x v s h) → r.step ≡ step →
-        ActsBy a x step v s
+        (v : Valuation) (s : PlainState) (j : ℕ) (cs : List Cert) (ms : List (Option Cert))
+        (ks : PlainTrees) (r : Acted p V share part heap fixed f l a b x v s h) →
+        r.step ≡ step → ActsBy a x step v s (node (by_act j cs ms) ks)
     opens_first :
-        (v : Valuation) (s : PlainState) (i : ℕ) (w : Valuation) (t : PlainState) →
+        (v : Valuation) (s : PlainState) (i : ℕ) (cs : List Cert) (ks : PlainTrees)
+        (w : Valuation) (t : PlainState) (d : PlainTree) →
         Enters p program give V share part heap world fn fixed size (with_rest f (first l a b)) h v
-        s i w t →
-        ActsBy a x step w t → ActsBy a x step v s
+        s i ks w t d →
+        ActsBy a x step w t d → ActsBy a x step v s (node (by_enter i cs) ks)
 
+  -- so many regions may still be opened
   acts-at :
       (fuel n : ℕ) → n + fuel ≡ 2 → (a : PlainAct) (x : Linear) → address_of a ≡ Some x →
       Ready a → (d : PlainTree) → (o : Here a d n) →
-      (step : HeapStep p V share part heap fixed f a b x) × ActsBy a x step o.v o.s
+      (step : HeapStep p V share part heap fixed f a b x) × ActsBy a x step o.v o.s d
   acts-at fuel n e a x is ok (node (by_absurd c) ks) o =
       absurd ((p.step o.valid).0.0 o.v (solves [] o.v o.s o.opening.grounded.meets))
   acts-at fuel n e a x is ok (node (by_clash i j cs) ks) o =
@@ -77,7 +79,7 @@ module _ (p : Checked) (program : IsWellFormed p.program) (give : GivenLaw p) (a
       let few = o.are in
       let r = acts V share part heap fn fixed f l a b x is world ok o.v o.s h o.opening
       (omega (arith, few, e)) o.store size j cs ms ks o.valid in
-      (r.step, acts_now o.v o.s r refl)
+      (r.step, acts_now o.v o.s j cs ms ks r refl)
   acts-at zero n e a x is ok (node (by_enter i cs) ks) o =
       let r = entered p program give V share part heap world fn fixed size
       (with_rest f (first l a b)) h o.v o.s o.opening o.store i l a b ks (p.step o.valid) in
@@ -89,7 +91,7 @@ module _ (p : Checked) (program : IsWellFormed p.program) (give : GivenLaw p) (a
       (with_rest f (first l a b)) h o.v o.s o.opening o.store i l a b ks (p.step o.valid) in
       let few = o.are in
       let q = acts-at fuel (suc (length o.s.opened)) (omega (arith, few, e)) a x is ok r.1 r.2 in
-      (q.0, opens_first o.v o.s i r.2.v r.2.s r.3 q.1)
+      (q.0, opens_first o.v o.s i cs ks r.2.v r.2.s r.1 r.3 q.1)
   acts-at fuel n e (read y t) x is ok d o = absurd (p.step o.valid).1
   acts-at fuel n e (write t u) x is ok d o = absurd (p.step o.valid).1
   acts-at fuel n e (cas y t u w) x is ok d o = absurd (p.step o.valid).1
@@ -103,7 +105,7 @@ module _ (p : Checked) (program : IsWellFormed p.program) (give : GivenLaw p) (a
   acts-at fuel n e (give_back t) x is ok d o = absurd (none-some is)
 
 pub heap-named :
-    (p : Checked) (program : IsWellFormed p.program) (give : GivenLaw p) (acts : ActsLaw p)
+    (p : Checked) (program : IsWellFormed p.program) (give : GivenAlongLaw p) (acts : ActsLaw p)
     (clash : ClashLaw p) (V : Table) (share : ℤ → Stock) (part : Stock) (heap : Heap)
     (fn : PlainFunction) (fixed : List NameValue) (f : Frame) (l : Label) (a : PlainAct) (b : Block)
     (x : Linear) → address_of a ≡ Some x → (world : World p.program V share part heap) →
@@ -112,7 +114,7 @@ pub heap-named :
     (step : HeapStep p V share part heap fixed f a b x)
     × ActsBy p program give acts clash V share part heap fn fixed f l b world
     (values-length fn.fixed fixed k.ok.values) k.sits.at_node.home a x step k.sits.at_node.v
-    k.sits.at_node.state
+    k.sits.at_node.state k.sits.tree
 heap-named p program give acts clash V share part heap fn fixed f l a b x is world ok k =
     let n = k.sits.at_node in
     let s = n.state in
@@ -144,6 +146,6 @@ heap-named p program give acts clash V share part heap fn fixed f l a b x is wor
     })
 
 pub heap-law :
-    (p : Checked) → IsWellFormed p.program → GivenLaw p → ActsLaw p → ClashLaw p → HeapLaw p
+    (p : Checked) → IsWellFormed p.program → GivenAlongLaw p → ActsLaw p → ClashLaw p → HeapLaw p
 heap-law p program give acts clash V share part heap fn fixed f l a b x is world ok k =
     (heap-named p program give acts clash V share part heap fn fixed f l a b x is world ok k).0

@@ -1,5 +1,5 @@
 -- A region is closed: its move is proved, it has what its case says, and its fact joins the others.
-use Rattle.std.proofs.Common.{◌+◌, ◌≡◌, ◌≢◌, inl, inr, ℕ, suc, ℤ, List, [], ◌∷◌, ◌++◌, length, map, Some, None, true, refl, sym, ap, ◌∙◌, arith}
+use Rattle.std.proofs.Common.{◌+◌, ◌≡◌, ◌≢◌, inl, inr, ℕ, suc, ◌<◌, ℤ, List, [], ◌∷◌, ◌++◌, length, map, Some, None, true, refl, sym, ap, ◌∙◌, arith}
 use Rattle.std.specs.Prelude.{slice_get, remove, if◌then◌else◌}
 use Rattle.std.specs.List.{AllByRecursion}
 use Rattle.cap_gsolve.specs.declared.piece.Piece.{Piece}
@@ -17,9 +17,10 @@ use Rattle.cap_account_resources.proofs.Lists.{none-some, map-length, all-at, al
 use Rattle.cap_account_resources.proofs.Stocks.{Stock, both}
 use Rattle.cap_account_resources.proofs.Tables.{TableFits, AreListed}
 use Rattle.cap_account_resources.proofs.Owners.{Owner}
-use Rattle.cap_account_states.proofs.Brought.{Brings}
+use Rattle.cap_account_states.proofs.Terms.{Over, vars-more, Agree}
+use Rattle.cap_account_states.proofs.Brought.{Brings, HasHalves}
 use Rattle.cap_account_states.proofs.Alike.{Alike, alike-less, agree-alike}
-use Rattle.cap_account_states.proofs.Meets.{Free, Usable, Old, solves}
+use Rattle.cap_account_states.proofs.Meets.{Free, Usable, usable-old, Old, solves}
 use Rattle.cap_account_states.proofs.Facts.{FactHolds, FactOver, Facts}
 use Rattle.cap_account_states.proofs.Checked.{Checked}
 use Rattle.cap_account_states.proofs.Naming.{values_in, values-mean}
@@ -59,6 +60,8 @@ pub record RegionClosed (p : Checked) (V W : Table) (part : Stock) (ks : List �
   pub took : Alike (Old s) v shut.took
   pub count : shut.later ≡ length s.sorts + length shut.brings
   pub brought : Brings shut.took (length s.sorts) shut.brings
+  pub once : HasHalves v (length s.sorts) shut.brings → Agree (Old s) v shut.took
+  pub over : Over (λ x. x < shut.later) shut.fact.state
   pub counts : shut.later ≡ length after.sorts
   pub named : w ≡ shut_values shut
   pub is_closed : by.closed ≡ shut_owner shut ∷ []
@@ -309,6 +312,10 @@ module _ (p : Checked) (V W : Table) (part : Stock) (ks : List ℕ) (v : Valuati
         took = ct.alike;
         count = ct.count;
         brought = ct.brought;
+        once = ct.once;
+        over =
+            vars-more (Usable ks ct.t.sorts Int) (Old ct.t) (usable-old ks ct.t.sorts Int)
+            sh.new.parts sh.over;
         counts = refl;
         named = jn.named;
         is_closed = ap (λ rs. rs ++ r ∷ []) ct.none_closed;

@@ -19,7 +19,7 @@ use Rattle.cap_account_states.proofs.Alike.{agree-alike}
 use Rattle.cap_account_states.proofs.Meets.{Free, Usable, Old}
 use Rattle.cap_account_states.proofs.Facts.{FactHolds, FactOver, StateHolds, StateOver, Facts}
 use Rattle.cap_account_states.proofs.Backed.{IsFirm, Backed, Grounded, GoesOn}
-use Rattle.cap_account_assertions.proofs.Named.{set_to, lone, told_state, rest_values, rest_counts}
+use Rattle.cap_account_assertions.proofs.Named.{set_to, lone, told_state, rest_values, rest_counts, rest_children}
 use Rattle.cap_account_assertions.proofs.Laws.{Reached, RestsLaw}
 use Rattle.cap_account_steps.proofs.Worlds.{Exact, AllOver}
 use Rattle.cap_account_steps.proofs.FirmStates.{firm-loose, firm-differ}
@@ -61,6 +61,7 @@ pub record Settled (p : Checked) (ks : List ℕ) (T U : Table) (v : Valuation) (
   pub after : PlainState
   pub count : length after.sorts ≡ rest_counts s.facts trees (length s.sorts)
   pub children : PlainTrees
+  pub leads : children ≡ rest_children s.facts trees
   pub goes : Open p.N children after ts
   pub grounded : Grounded p.program [] w after
   pub facts : Facts [] w U after
@@ -99,6 +100,7 @@ rests-loose p wf ks part T U n ts trees v s reached goes g fs backed =
       after = r.after;
       count = r.count;
       children = r.children;
+      leads = r.leads;
       goes = r.goes;
       grounded = r.grounded;
       facts = exact-facts r.w U r.after r.firm r.exact r.over;
@@ -131,6 +133,7 @@ rests p wf part T U n ts trees v s reached goes g fs firm backed =
       after = r.after;
       count = r.count;
       children = r.children;
+      leads = r.leads;
       goes = r.goes;
       grounded = r.grounded;
       facts = r.facts;

@@ -17,7 +17,7 @@ use Rattle.cap_rules.specs.Attempts.{unit, found, ◌>>=◌}
 use Rattle.cap_rules.specs.Making.{with_rows}
 use Rattle.cap_rules.specs.Resting.{named_candidates, prove_at, prove_stable, with_settled, settle, prove_kept, keep}
 use Rattle.cap_rules.specs.Rules.{leaves}
-use Rattle.cap_account_states.specs.Nodes.{NodePredicate, Comes, Children, Open}
+use Rattle.cap_account_states.specs.Nodes.{Comes, Children, Open}
 use Rattle.cap_account_resources.specs.Parts.{Table}
 use Rattle.cap_account_resources.proofs.Lists.{within, all-at, push-length, none-some, some-same}
 use Rattle.cap_account_resources.proofs.Covering.{Covered}
@@ -25,10 +25,10 @@ use Rattle.cap_account_resources.proofs.Stocks.{Stock}
 use Rattle.cap_account_states.proofs.Terms.{RowOver}
 use Rattle.cap_account_states.proofs.Attempts.{comes-bind, comes-more, after-found, after-sort, after-computed, sort_added}
 use Rattle.cap_account_states.proofs.Adding.{comes-rows}
-use Rattle.cap_account_states.proofs.Checked.{Checked}
+use Rattle.cap_account_states.proofs.Checked.{Checked, lone-child}
 use Rattle.cap_account_states.proofs.Meets.{Free, Usable, solves}
 use Rattle.cap_account_states.proofs.Backed.{IsFirm, Grounded}
-use Rattle.cap_account_assertions.proofs.Named.{set_to, told_state, rest_values, rest_counts}
+use Rattle.cap_account_assertions.proofs.Named.{set_to, told_state, rest_values, rest_counts, rest_children}
 use Rattle.cap_account_steps.proofs.Keeping.{same_row, comes-kept}
 use Rattle.cap_account_steps.proofs.Settling.{IsCandidate, row_at, comes-at, comes-stable}
 use Rattle.cap_account_steps.proofs.Worlds.{Exact, AllOver}
@@ -115,14 +115,6 @@ drop-set [] j x = refl
 drop-set (y ∷ ys) zero x = refl
 drop-set (y ∷ ys) (suc j) x = drop-set ys j x
 
--- the tree of the only child
-lone-child :
-    (N : NodePredicate) (ks : PlainTrees) (s : PlainState) (ts : List PlainTask) →
-    Children N ks (goal s ts ∷ []) → (d : PlainTree) × N d s ts × (ks ≡ tree d no_trees)
-lone-child N no_trees s ts h = absurd h
-lone-child N (tree t no_trees) s ts h = (t, h.0, refl)
-lone-child N (tree t (tree u us)) s ts h = absurd h.1
-
 -- ---- the chain
 
 -- what a chain of Rests leads to: all facts say what the later table does, and are firm
@@ -133,6 +125,7 @@ pub record AtRest (p : Checked) (ks : List ℕ) (U : Table) (v : Valuation) (s :
   pub after : PlainState
   pub count : length after.sorts ≡ rest_counts fs trees (length s.sorts)
   pub children : PlainTrees
+  pub leads : children ≡ rest_children fs trees
   pub goes : Open p.N children after ts
   pub as_before : AsBefore v w s after
   pub old : AllByRecursion (λ k. k < length after.sorts) ks
@@ -163,6 +156,9 @@ module _ (p : Checked) (ks : List ℕ) (part : Stock) (T U : Table)
         (fs : List PlainFact) →
         rest_counts (f ∷ fs) (tree d no_trees) (length s.sorts)
         ≡ rest_counts fs trees (length state.sorts)
+    leads :
+        (fs : List PlainFact) →
+        rest_children (f ∷ fs) (tree d no_trees) ≡ rest_children fs trees
 
   one-on :
       (j n : ℕ) (ts : List PlainTask) (t : PlainState) (trees : PlainTrees) →
@@ -217,6 +213,7 @@ module _ (p : Checked) (ks : List ℕ) (part : Stock) (T U : Table)
             (let q = push-length s.sorts Int in omega (arith, q));
         counts = λ fs.
             ap (rest_counts fs kids) (let q = push-length s.sorts Int in omega (arith, q));
+        leads = λ fs. refl;
       }
   next-turn j n ts v s mid (node (by_keep cs) kids) h =
       let P = Children p.N kids in
@@ -239,6 +236,7 @@ module _ (p : Checked) (ks : List ℕ) (part : Stock) (T U : Table)
         facts = refl;
         named = λ fs. refl;
         counts = λ fs. refl;
+        leads = λ fs. refl;
       }
   next-turn j n ts v s mid d h = absurd (p.step h).1
 
@@ -256,6 +254,7 @@ module _ (p : Checked) (ks : List ℕ) (part : Stock) (T U : Table)
         count = ap (λ fs. rest_counts fs trees (length s.sorts)) (sym nothing);
         after = s;
         children = trees;
+        leads = ap (λ fs. rest_children fs trees) (sym nothing);
         goes =
             subst (λ b. Children p.N trees (option_to_list
             (if b then goal_of s ts else Some (goal s (to_rest j n ∷ ts))))) all goes;
@@ -299,6 +298,14 @@ module _ (p : Checked) (ks : List ℕ) (part : Stock) (T U : Table)
             (sym (drop-one s.facts j turn.f turn.is_fact));
         after = r.after;
         children = r.children;
+        leads =
+            r.leads
+            ∙ ap (λ fs. rest_children fs turn.trees)
+            (ap (drop (suc j)) turn.facts ∙ drop-set s.facts j turn.g)
+            ∙ sym (turn.leads (drop (suc j) s.facts))
+            ∙ ap (λ ds. rest_children (turn.f ∷ drop (suc j) s.facts) ds) (sym one.2)
+            ∙ ap (λ fs. rest_children fs trees)
+            (sym (drop-one s.facts j turn.f turn.is_fact));
         goes = r.goes;
         as_before = before-trans v turn.w r.w s turn.state r.after before r.as_before;
         old = r.old;

@@ -1,7 +1,7 @@
 -- The laws of all statements.
 use Rattle.cap_prog.specs.WellFormed.{IsWellFormed}
 use Rattle.cap_account_states.proofs.Checked.{Checked}
-use Rattle.cap_account_assertions.proofs.GiveLaw.{given-law}
+use Rattle.cap_account_assertions.proofs.GiveLaw.{given-along, given-law}
 use Rattle.cap_account_assertions.proofs.Laws.{GivenLaw, TakenLaw, RestsLaw}
 use Rattle.cap_account_assertions.proofs.TakeConvert.{taken-always}
 use Rattle.cap_account_steps.proofs.Allocating.{alloc-law}
@@ -34,5 +34,5 @@ statements p program roots stable =
       loop_heads = loop-head-law p program take;
       bodies = body-law p program give stable roots;
       turns = turn-law p program give stable roots;
-      heaps = heap-law p program give (acts p program take) (clash-law p);
+      heaps = heap-law p program (given-along p) (acts p program take) (clash-law p);
     }
