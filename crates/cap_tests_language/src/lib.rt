@@ -1,4 +1,4 @@
-//! Tests of tokens, their classes, printed trees and programs. It has no other code.
+//! Tests of tokens, their classes, printed trees, programs and made texts. It has no other code.
 #![tactic(auto)]
 
 #[cfg(test)]
@@ -9,3 +9,5 @@ mod parse_print;
 mod prog;
 #[cfg(test)]
 mod syntax;
+#[cfg(test)]
+mod trial;

@@ -1,0 +1,6 @@
+//! Inputs that are made from a number.
+#![tactic(auto)]
+
+mod trial;
+
+pub use trial::trial_text;
