@@ -8,7 +8,7 @@ ghost use Rattle.cap_goal_spec.specs.Environments.{bound, unbound, zero_value};
 ghost use Rattle.cap_goal.specs.Views.{items_in};
 
 use cap_goal::Items;
-use cap_lin::{Sort, Term};
+use cap_lin::{LinError, Sort, Term};
 use cap_prog::Assertion;
 use std::alloc::{AllocError, Global};
 
@@ -18,7 +18,8 @@ pub fn variable(alloc: Global, number: u32) -> Result<Term, AllocError>
 {
     match Term::var(alloc, number) {
         Ok(term) => Ok(term),
-        Err(_) => Err(AllocError),
+        Err(LinError::OutOfMemory) => Err(AllocError),
+        Err(LinError::Wide(_, _)) => unreachable!(),
     }
 }
 

@@ -1,0 +1,4 @@
+mod Passing
+mod Marking
+mod Acts
+mod Proving

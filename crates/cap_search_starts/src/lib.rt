@@ -1,0 +1,10 @@
+//! A law of starts of a program, the contract of a function that does nothing.
+#![tactic(auto)]
+
+ghost use Rattle.cap_search_starts.specs.Laws.{EmptyStartsAreNone};
+
+/// Where the precondition of `main` is found empty, no start meets it: no arguments, no heap and no
+/// values of its names. The terms of the precondition are in order, as those of a text are.
+pub fn empty_starts_are_none()
+    ensures { EmptyStartsAreNone }
+{}
