@@ -1257,13 +1257,15 @@ fn words_that_are_commands(rt: HostRuntime) -> Result<(), Fail> {
 struct LongFiles;
 
 impl Shelf for LongFiles {
-    ghost use Rattle.std.specs.Prelude.{None};
+    ghost use Rattle.std.specs.Prelude.{None, []};
 
-    ghost holds = { λ _. None };
-
-    ghost faults = { λ _. 0 };
-
-    ghost blamed = { λ _. None };
+    ghost seen = { λ _. record {
+        holds = None;
+        given = [];
+        faults = 0;
+        blamed = None;
+        fetches = None
+    } };
 
     fn fetch(&mut self, _name: &str) -> Result<Vec<u8>, FetchError> {
         Err(FetchError::TooLong(67_108_865))
