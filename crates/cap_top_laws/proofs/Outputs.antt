@@ -1,0 +1,102 @@
+-- Each task has an output over all files.
+use Rattle.std.proofs.Common.{◌≡◌, inl, inr, ℕ, List, [], ◌∷◌, Some, None, refl}
+use Rattle.cap_io.specs.Files.{Files, content}
+use Rattle.cap_parse_tree.specs.Canonical.{canonical_text}
+use Rattle.cap_prog.specs.Program.{PlainProgram}
+use Rattle.cap_top_report.specs.Report.{is_good, report_text}
+use Rattle.cap_top_reading.specs.Refused.{IsTextOf}
+use Rattle.cap_top_commands.specs.Answers.{Fetched, held, unread, long, After, IsVerified, IsDerived, IsShown, IsReplayed, IsJudged, ByTwo}
+use Rattle.cap_top_commands.specs.Output.{Output, usage_output, unreadable_output, long_output, refusal_output, report_output, tree_output}
+use Rattle.cap_top_commands.specs.Task.{verify, derive, check, show, replay}
+use Rattle.cap_top_laws.specs.Given.{given_by, AreGiven}
+use Rattle.cap_top_laws.specs.Laws.{SpellOneOrNone, AreTextOrRefused, BytesAreReadOrRefused, SchedulesAreAnswered, LinesAreAnswered, FoundHaveLines, DerivationsAreAnswered, OutputsExist}
+
+-- ---- after one file
+
+after-one : (IsSaid : List ℕ → Output → Type 0) (name : List ℕ) (x : Fetched)
+    → ((bytes : List ℕ) → x ≡ held bytes → (o : Output) × IsSaid bytes o) → (o : Output) × After name x IsSaid o
+after-one IsSaid name (held bytes) f = f bytes refl
+after-one IsSaid name unread f = (unreadable_output name, refl)
+after-one IsSaid name long f = (long_output, refl)
+
+verified : (budget : ℕ) (bytes : List ℕ) → AreTextOrRefused bytes → (o : Output) × IsVerified budget bytes o
+verified budget bytes (inl h) = (
+  report_output (is_good h.0 budget) (report_text h.0 budget),
+  inr (record { thing = h.0; is_so = h.1; said = refl }),
+)
+verified budget bytes (inr h) = (refusal_output h.0, inl (record { cause = h.0; caused = h.1; whole = refl }))
+
+derived : DerivationsAreAnswered → (budget : ℕ) (bytes : List ℕ) → AreTextOrRefused bytes
+    → ((p : PlainProgram) → IsTextOf bytes p → FoundHaveLines budget p) → (o : Output) × IsDerived budget bytes o
+derived derivations budget bytes (inl h) have =
+    let d = derivations budget h.0 (have h.0 h.1) in (d.0, inr (record { thing = h.0; is_so = h.1; said = d.1 }))
+derived derivations budget bytes (inr h) have =
+    (refusal_output h.0, inl (record { cause = h.0; caused = h.1; whole = refl }))
+
+shown : (bytes : List ℕ) → SpellOneOrNone bytes → (o : Output) × IsShown bytes o
+shown bytes (inl h) = (tree_output (canonical_text h.0), inr (record { thing = h.0; is_so = h.1; said = refl }))
+shown bytes (inr h) = (refusal_output h.0, inl (record { cause = h.0; caused = h.1; whole = refl }))
+
+-- ---- after two files
+
+module _ (files : Files) (first second : List ℕ) (IsSaid : PlainProgram → Fetched → Output → Type 0)
+    (texts : (bytes : List ℕ) → AreTextOrRefused bytes)
+    (says : (p : PlainProgram) (y : Fetched) → (o : Output) × IsSaid p y o) where
+  record HasTwo : Type 0 where
+    pub got : List Fetched
+    pub given : AreGiven files (first ∷ (second ∷ [])) got
+    pub said : Output
+    pub output : ByTwo first IsSaid got said
+
+  after-text : (bytes : List ℕ) → given_by (content files first) ≡ held bytes → AreTextOrRefused bytes → HasTwo
+  after-text bytes e (inl h) =
+      let y = given_by (content files second) in
+      let s = says h.0 y in
+      record {
+        got = held bytes ∷ (y ∷ []);
+        given = (e, (refl, tt));
+        said = s.0;
+        output = record { bytes = bytes; gave = refl; program = h.0; text_of_it = h.1; said = s.1 };
+      }
+  after-text bytes e (inr h) = record {
+    got = held bytes ∷ [];
+    given = (e, tt);
+    said = refusal_output h.0;
+    output = record { cause = h.0; caused = h.1; whole = refl };
+  }
+
+  after-two : (x : Fetched) → given_by (content files first) ≡ x → HasTwo
+  after-two (held bytes) e = after-text bytes e (texts bytes)
+  after-two unread e = record { got = unread ∷ []; given = (e, tt); said = unreadable_output first; output = refl }
+  after-two long e = record { got = long ∷ []; given = (e, tt); said = long_output; output = refl }
+
+-- ---- a task
+
+module _ (texts : BytesAreReadOrRefused) (schedules : SchedulesAreAnswered) (lines : LinesAreAnswered)
+    (derivations : DerivationsAreAnswered) where
+  replayed : (name : List ℕ) (p : PlainProgram) (y : Fetched) → (o : Output) × IsReplayed name p y o
+  replayed name p y = after-one _ name y (λ bytes e. schedules p bytes)
+
+  judged : (name : List ℕ) (p : PlainProgram) (y : Fetched) → (o : Output) × IsJudged name p y o
+  judged name p y = after-one _ name y (λ bytes e. lines p bytes)
+
+  pub output-exists : OutputsExist
+  output-exists None files h = record { got = []; given = tt; said = usage_output; output = refl }
+  output-exists (Some (verify file budget)) files h =
+      let x = given_by (content files file) in
+      let s = after-one (IsVerified budget) file x (λ bytes e. verified budget bytes (texts.programs bytes)) in
+      record { got = x ∷ []; given = (refl, tt); said = s.0; output = s.1 }
+  output-exists (Some (derive file budget)) files h =
+      let x = given_by (content files file) in
+      let s = after-one (IsDerived budget) file x (λ bytes e. derived derivations budget bytes (texts.programs bytes) (λ p t. h bytes p e t)) in
+      record { got = x ∷ []; given = (refl, tt); said = s.0; output = s.1 }
+  output-exists (Some (check file second)) files h =
+      let t = after-two files file second (IsJudged second) texts.programs (judged second) (given_by (content files file)) refl in
+      record { got = t.got; given = t.given; said = t.said; output = t.output }
+  output-exists (Some (show file)) files h =
+      let x = given_by (content files file) in
+      let s = after-one IsShown file x (λ bytes e. shown bytes (texts.trees bytes)) in
+      record { got = x ∷ []; given = (refl, tt); said = s.0; output = s.1 }
+  output-exists (Some (replay file second)) files h =
+      let t = after-two files file second (IsReplayed second) texts.programs (replayed second) (given_by (content files file)) refl in
+      record { got = t.got; given = t.given; said = t.said; output = t.output }
