@@ -20,11 +20,12 @@ use Rattle.cap_top_commands.specs.Answers.{Fetched, held, unread, long, After, S
 use Rattle.cap_top_report.specs.Report.{report_text, is_good}
 use Rattle.cap_top_commands.specs.Task.{Task, verify, derive, check, show, replay, files_of}
 use Rattle.cap_top_commands.specs.Output.{Output, usage_output, unreadable_output, long_output, refusal_output, report_output, derivation_output, long_derivation_output, bad_derivation_output, judged_output, judged_status, tree_output, schedule_output, run_output, report_status, end_status}
-use Rattle.cap_top.specs.Reads.{IsFetched, AreFetched, AreRead, given_by, AreGiven}
+use Rattle.cap_top_laws.specs.Given.{given_by, AreGiven}
+use Rattle.cap_top.specs.Reads.{IsFetched, AreFetched, AreRead}
 use Rattle.cap_top.specs.Run.{IsSaid, IsRun}
 use Rattle.cap_top.specs.Verified.{IsRead, VerifiesFile}
-use Rattle.cap_top.specs.Promise.{AreBothRead, ProvesFile, DerivesFile, ChecksFiles, IsShownAs, ShowsFile, EndsRun, ReplaysFiles, Ends, NoFault, Says, AnswersFiles, HoldsGood, HoldAccepted, HoldsTree, IsTextFor, Refuses, IsOneOf, ReadFails}
-use Rattle.cap_top.proofs.Reading.{held-given, agree-given, first-given, given-held, given-unread}
+use Rattle.cap_top.specs.Promise.{AreBothRead, ProvesFile, DerivesFile, ChecksFiles, IsShownAs, ShowsFile, EndsRun, ReplaysFiles, Ends, NoFault, Says, SaysOutput, AnswersFiles, HoldsGood, HoldAccepted, HoldsTree, IsTextFor, Refuses, IsOneOf, ReadFails}
+use Rattle.cap_top.proofs.Reading.{held-given, were-given, agree-given, first-given, given-held, given-unread}
 
 -- ---- the statuses of outputs
 
@@ -482,8 +483,19 @@ module _ (files : Files) (task : Option Task) (shelf shelf_now : SeenShelf)
   abbrev RunsOver : Type 0
   RunsOver = IsRun task shelf shelf_now sink sink_now status
 
-  answers_told : AnswersFiles task files sink sink_now status
-  answers_told got o g h = by run
+  some_told : SaysOutput task files sink sink_now status ⊎ (status ≡ NoMemory)
+  some_told = by run
+    where
+      by : RunsOver → SaysOutput task files sink sink_now status ⊎ (status ≡ NoMemory)
+      by (inr m) = inr m.0
+      by (inl (p, said, inl put)) =
+          let given = were-given files shelf shelf_now told read (files_of task) said.got said.read.fetched in
+          inl (record { got = said.got; given = given; said = p; output = said.output.said }, put)
+      by (inl (p, said, inr put)) = absurd (wrote put.1)
+
+  each_told : (got : List Fetched) (o : Output) → AreGiven files (files_of task) got → IsOutput task got o
+      → Says sink sink_now status o ⊎ (status ≡ NoMemory)
+  each_told got o g h = by run
     where
       by : RunsOver → Says sink sink_now status o ⊎ (status ≡ NoMemory)
       by (inr m) = inr m.0
@@ -491,6 +503,9 @@ module _ (files : Files) (task : Option Task) (shelf shelf_now : SeenShelf)
           let agree = agree-given files shelf shelf_now told read (files_of task) said.got got said.read.fetched g in
           inl (subst (Says sink sink_now status) (said.output.only got o agree h) put)
       by (inl (p, said, inr put)) = absurd (wrote put.1)
+
+  answers_told : AnswersFiles task files sink sink_now status
+  answers_told = record { some = some_told; each = each_told }
 
   one-file : (name bytes : List ℕ) → content files name ≡ Some bytes → length bytes ≤ longest
       → AreGiven files (name ∷ []) (held bytes ∷ [])
@@ -513,7 +528,7 @@ module _ (files : Files) (task : Option Task) (shelf shelf_now : SeenShelf)
         said = ap (λ b. report_output b (report_text h.good.text.program budget)) (sym h.good.proved);
       }) in
       good_status o refl
-      (answers_told (held h.bytes ∷ []) o
+      (each_told (held h.bytes ∷ []) o
       (subst (λ x. AreGiven files (files_of x) (held h.bytes ∷ [])) (sym t) (one-file name h.bytes h.held (short h.bytes h.good.text.tree h.good.text.spelled)))
       (subst (λ x. IsOutput x (held h.bytes ∷ []) o) (sym t) is))
 
@@ -522,7 +537,7 @@ module _ (files : Files) (task : Option Task) (shelf shelf_now : SeenShelf)
       let o : Output = tree_output (canonical_text h.shown.tree) in
       let is : IsShown h.bytes o = inr (record { thing = h.shown.tree; is_so = h.shown.spelled; said = refl }) in
       good_status o refl
-      (answers_told (held h.bytes ∷ []) o
+      (each_told (held h.bytes ∷ []) o
       (subst (λ x. AreGiven files (files_of x) (held h.bytes ∷ [])) (sym t) (one-file name h.bytes h.held (short h.bytes h.shown.tree h.shown.spelled)))
       (subst (λ x. IsOutput x (held h.bytes ∷ []) o) (sym t) is))
 
@@ -543,7 +558,7 @@ module _ (files : Files) (task : Option Task) (shelf shelf_now : SeenShelf)
         said = h.accepted.checked.said;
       } in
       good_status o refl
-      (answers_told got o
+      (each_told got o
       (subst (λ x. AreGiven files (files_of x) got) (sym t) given)
       (subst (λ x. IsOutput x got o) (sym t) is))
 

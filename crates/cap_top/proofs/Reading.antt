@@ -6,7 +6,8 @@ use Rattle.cap_io.specs.Files.{Files, content, SeenShelf}
 use Rattle.cap_io.specs.Outside.{longest, Rose}
 use Rattle.cap_top_commands.specs.Answers.{Fetched, held, unread, long}
 use Rattle.cap_top_commands.specs.Answers.{Agree}
-use Rattle.cap_top.specs.Reads.{IsFetched, AreFetched, given_by, AreGiven}
+use Rattle.cap_top_laws.specs.Given.{given_by, AreGiven}
+use Rattle.cap_top.specs.Reads.{IsFetched, AreFetched}
 
 short-given : (bytes : List ℕ) → length bytes ≤ longest → given_by (Some bytes) ≡ held bytes
 short-given bytes l =
@@ -42,6 +43,13 @@ module _ (files : Files) (shelf shelf_now : SeenShelf) (told : shelf.holds ≡ S
   one-given name long h =
       some-long (content files name)
       (of-told (λ fs. IsSomeAnd (content fs name) (λ bytes. longest < length bytes)) h)
+
+  -- what was read is given
+  pub were-given : (names : List (List ℕ)) (xs : List Fetched) → AreFetched shelf shelf_now names xs
+      → AreGiven files names xs
+  were-given names [] h = tt
+  were-given [] (x ∷ xs) h = absurd h
+  were-given (name ∷ names) (x ∷ xs) h = (one-given name x h.0, were-given names xs h.1)
 
   -- whatever else is given, what was read is the same
   pub agree-given : (names : List (List ℕ)) (xs ys : List Fetched) → AreFetched shelf shelf_now names xs

@@ -20,7 +20,8 @@ use Rattle.cap_top_commands.specs.Answers.{Fetched, IsPlayedAs, IsOutput, AreAcc
 use Rattle.cap_top_commands.specs.Task.{Task, verify, derive, check, show, replay, files_of}
 use Rattle.cap_top_commands.specs.Output.{Output, end_status}
 use Rattle.cap_top.specs.Verified.{IsRead}
-use Rattle.cap_top.specs.Reads.{AreRead, AreGiven}
+use Rattle.cap_top_laws.specs.Given.{AreGiven, HasOutput}
+use Rattle.cap_top.specs.Reads.{AreRead}
 use Rattle.cap_top.specs.Run.{IsPut, IsNothing}
 
 -- ---- what a good status promises
@@ -123,11 +124,18 @@ NoFault shelf shelf_now sink sink_now =
 abbrev pub Says : SeenSink → SeenSink → Status → Output → Type 0
 Says sink sink_now status o = (status ≡ o.status) × Gains sink.written sink_now.written o.text
 
--- each output over these files is the one that is said, unless memory ran out
-abbrev pub AnswersFiles : Option Task → Files → SeenSink → SeenSink → Status → Type 0
-AnswersFiles task files sink sink_now status =
-    (got : List Fetched) (o : Output) → AreGiven files (files_of task) got → IsOutput task got o
-    → Says sink sink_now status o ⊎ (status ≡ NoMemory)
+-- an output over these files is said
+abbrev pub SaysOutput : Option Task → Files → SeenSink → SeenSink → Status → Type 0
+SaysOutput task files sink sink_now status =
+    (has : HasOutput task files) × Says sink sink_now status has.said
+
+-- Unless memory ran out, an output over these files is said, and each output over them is that one.
+pub record AnswersFiles (task : Option Task) (files : Files) (sink sink_now : SeenSink)
+    (status : Status) : Type 0 where
+  pub some : SaysOutput task files sink sink_now status ⊎ (status ≡ NoMemory)
+  pub each :
+      (got : List Fetched) (o : Output) → AreGiven files (files_of task) got
+      → IsOutput task got o → Says sink sink_now status o ⊎ (status ≡ NoMemory)
 
 -- the file holds the text of a safe program, all of which is proved within the budget
 pub record HoldsGood (budget : ℕ) (name : List ℕ) (files : Files) : Type 0 where

@@ -1,6 +1,6 @@
 -- What a shelf's files gave to a run.
-use Rattle.std.specs.Prelude.{◌≡◌, ℕ, ◌<◌, ◌≤◌, ◌⊎◌, nat_lt, if◌then◌else◌, List, [], ◌∷◌, ◌++◌, length}
-use Rattle.std.specs.Prelude.{Option, Some, None, IfSome, IsSomeAnd}
+use Rattle.std.specs.Prelude.{◌≡◌, ℕ, ◌<◌, ◌≤◌, ◌⊎◌, List, [], ◌∷◌, ◌++◌, length}
+use Rattle.std.specs.Prelude.{Some, None, IfSome, IsSomeAnd}
 use Rattle.cap_io.specs.Files.{Files, content, SeenShelf, HasGiven}
 use Rattle.cap_io.specs.Outside.{longest, counted, Rose}
 use Rattle.cap_top_commands.specs.Answers.{Fetched, held, unread, long}
@@ -52,15 +52,3 @@ pub record AreRead (shelf shelf_now : SeenShelf) (names : List (List ℕ)) (got 
   pub fetched : AreFetched shelf shelf_now names got
   pub given : HasGiven shelf shelf_now (gifts names got)
   pub counted : AreCounted shelf shelf_now got
-
--- what a file of this content gives where no fault comes
-abbrev pub given_by : Option (List ℕ) → Fetched
-given_by None = unread
-given_by (Some bytes) = if nat_lt longest (length bytes) then long else held bytes
-
--- so it is with the files of the first of these names
-abbrev pub AreGiven : Files → List (List ℕ) → List Fetched → Type 0
-AreGiven files names [] = Unit {0}
-AreGiven files [] (x ∷ xs) = ⊥
-AreGiven files (name ∷ names) (x ∷ xs) =
-    (given_by (content files name) ≡ x) × AreGiven files names xs

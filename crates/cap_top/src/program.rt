@@ -165,9 +165,9 @@ pub fn run<S: Shelf, K: Sink>(
     // The shelf holds what it held.
     ensures kept { (S.seen shelf.new).holds ≡ (S.seen shelf.old).holds }
 
-    // Where no fault comes the output is the one that the files give, unless memory runs out: a
-    // program all of which is proved is told so, the text of a tree is shown, and what is no text
-    // is refused.
+    // Where no fault comes the files give an output, the one that is said, and no other, unless
+    // memory runs out: a program all of which is proved is told so, the text of a tree is shown,
+    // and what is no text is refused.
     ensures answers { IfSome (S.seen shelf.old).holds (λ files.
         NoFault (S.seen shelf.old) (S.seen shelf.new) (K.seen sink.old) (K.seen sink.new)
         → AnswersFiles (task_in words.now) files (K.seen sink.old) (K.seen sink.new) result) }
