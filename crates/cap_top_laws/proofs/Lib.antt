@@ -6,3 +6,4 @@ mod Texts
 mod Schedules
 mod Derivations
 mod Outputs
+mod Multipliers

@@ -1,10 +1,14 @@
 -- There is always an answer.
-use Rattle.std.specs.Prelude.{◌≡◌, ◌⊎◌, ℕ, true, List, Option, Some}
+use Rattle.std.specs.Prelude.{◌≡◌, ◌⊎◌, ℕ, ◌<◌, ◌^◌, true, List, length, Option, Some}
 use Rattle.std.specs.List.{AllByRecursion}
 use Rattle.cap_prog.specs.Program.{PlainProgram}
 use Rattle.cap_parse_tree.specs.Tree.{ProgramTree}
 use Rattle.cap_parse_tree.specs.Texts.{Spells}
-use Rattle.cap_deriv_write.specs.Bounds.{IsChoice}
+use Rattle.cap_lin.specs.declared.row.Row.{Row}
+use Rattle.cap_farkas.specs.declared.cert.Cert.{Cert}
+use Rattle.cap_fm_spec.specs.Solving.{RowsAscend}
+use Rattle.cap_offer_spec.specs.Laws.{IsDecided}
+use Rattle.cap_deriv_write.specs.Bounds.{IsCert, IsChoice}
 use Rattle.cap_deriv_write.specs.Preorder.{choices_of_roots}
 use Rattle.cap_io.specs.Files.{Files, content}
 use Rattle.cap_top_reading.specs.declared.refusal.Refusal.{Refusal}
@@ -45,6 +49,12 @@ LinesAreAnswered = (p : PlainProgram) (bytes : List ℕ) → (o : Output) × IsC
 abbrev pub FoundHaveLines : ℕ → PlainProgram → Type 0
 FoundHaveLines budget p =
     is_good p budget ≡ true → AllByRecursion IsChoice (choices_of_roots (found_trees p budget))
+
+-- the certificate that elimination finds of rows, of fewer than 2^32, is one of a line
+abbrev pub DecidedHaveLines : Type 0
+DecidedHaveLines =
+    (rows : List Row) (c : Cert) → RowsAscend rows → length rows < 2 ^ 32 → IsDecided rows c
+    → IsCert c
 
 abbrev pub DerivationsAreAnswered : Type 0
 DerivationsAreAnswered =

@@ -3,7 +3,8 @@
 #![tactic(auto)]
 
 ghost use Rattle.cap_top_laws.specs.Laws.{BytesAreReadOrRefused, SchedulesAreAnswered};
-ghost use Rattle.cap_top_laws.specs.Laws.{LinesAreAnswered, DerivationsAreAnswered, OutputsExist};
+ghost use Rattle.cap_top_laws.specs.Laws.{LinesAreAnswered, DecidedHaveLines};
+ghost use Rattle.cap_top_laws.specs.Laws.{DerivationsAreAnswered, OutputsExist};
 
 use cap_deriv_write::writings_are_lines;
 use cap_parse_laws::texts_go_wrong_at_one_token;
@@ -29,6 +30,12 @@ pub fn lines_are_answered()
 {
     answers_are_one();
 }
+
+/// A certificate that elimination finds of rows, within its limits, has numbers and multipliers as
+/// those of a line.
+pub fn decided_have_lines()
+    ensures { DecidedHaveLines }
+{}
 
 /// Something is said of the derivation of each program, where the choices that are found have
 /// lines.
