@@ -7,4 +7,4 @@ use Rattle.cap_search.proofs.seeking.left_by.Goals as goal
 pub returns-in-Ok : goal.returns-in-Ok
 returns-in-Ok c =
     let a = c.args in
-    answers-left (program_view a.program.now) (goal_view a.goal.now) (choice_view a.choice.now) (goals_view c.in-Ok.goals) c.in-Ok.ensures
+    answers-left (program_view a.program.now) (goal_view a.goal.now) (choice_view a.choice.now) (goals_view c.in-Ok.goals) c.in-Ok.ensures.answered
