@@ -9,23 +9,21 @@ ghost use Rattle.cap_goal.specs.Views.{goal_view, choice_view};
 ghost use Rattle.cap_rules_steps.specs.Goals.{goals_view};
 ghost use Rattle.cap_rules_steps.specs.Judging.{Answered, IsTold, lists_view};
 ghost use Rattle.cap_rules_steps.specs.Walks.{seen};
+ghost use Rattle.cap_kernel.specs.Proven.{DecidesProven};
 
 use cap_goal::{Choice, Goal};
 use cap_lin::Row;
 use cap_open::{open_proofs, open_subgoals};
 use cap_prog::Program;
 use cap_pure::{pure_proofs, pure_subgoals};
+use cap_rules_marks::{proven_have_subgoals, subgoals_are_proven};
 use cap_rules_steps::RuleError;
 use cap_stab::{stab_proofs, stab_subgoals};
 use cap_take::{take_proofs, take_subgoals};
 use std::alloc::Global;
 
-/// The subgoals that a choice leaves of a goal, in the order of the rule. `NotApplicable` comes
-/// where the rule doesn't fit the goal's head, where a number names nothing, where a condition of
-/// the rule fails, where a list of the state is full, and where the choice's certificates, and
-/// after them its marks, don't refute the rule's lists, one each; `Wide` where a result leaves 128
-/// bits before that.
-pub fn subgoals<'a>(
+// The subgoals that a choice leaves, by its rule.
+fn subgoals_by<'a>(
     alloc: Global,
     program: &'a Program,
     goal: &Goal<'a>,
@@ -61,6 +59,33 @@ pub fn subgoals<'a>(
         | Choice::Create(_)
         | Choice::Made(_) => take_subgoals(alloc, program, goal, choice),
     }
+}
+
+/// The subgoals that a choice leaves of a goal, in the order of the rule. `NotApplicable` comes
+/// where the rule doesn't fit the goal's head, where a number names nothing, where a condition of
+/// the rule fails, where a list of the state is full, and where the choice's certificates, and
+/// after them its marks, don't refute the rule's lists, one each; `Wide` where a result leaves 128
+/// bits before that.
+///
+/// There are subgoals exactly where the choice proves what its rule owes: its certificates and
+/// marks are as many as the lists of `proofs`, each certificate and each mark that isn't 0 refutes
+/// its list, and the state has room for a variable for each mark 0.
+pub fn subgoals<'a>(
+    alloc: Global,
+    program: &'a Program,
+    goal: &Goal<'a>,
+    choice: &Choice,
+) -> Result<Vec<Goal<'a>>, RuleError>
+    requires { HasRoom goal.now.state }
+    ensures answered { Answered (seen goals_view result) (rule (program_view program.now)
+        (goal_view goal.now) (choice_view choice.now) (marks_of (choice_view choice.now)))
+        (certs_in (choice_view choice.now)) }
+    ensures proven { DecidesProven result (program_view program.now) (goal_view goal.now)
+        (choice_view choice.now) }
+{
+    subgoals_are_proven();
+    proven_have_subgoals();
+    subgoals_by(alloc, program, goal, choice)
 }
 
 /// The lists of rows that the choice's certificates, and after them its marks, have to refute,

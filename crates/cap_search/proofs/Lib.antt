@@ -1,3 +1,4 @@
+pub mod Applying
 pub mod Blocks
 pub mod Claims
 pub mod Kernel

@@ -1,9 +1,13 @@
 //! Trees by the first choice all of whose goals have trees.
-ghost use Rattle.std.specs.Prelude.{◌≡◌, IfOk, Some, map};
+ghost use Rattle.std.specs.Prelude.{◌≡◌, IfErr, IfOk, Some, map};
 ghost use Rattle.cap_prog.specs.Views.{program_view};
 ghost use Rattle.cap_goal.specs.Trees.{node_view};
 ghost use Rattle.cap_goal.specs.Views.{choice_view, goal_view};
+ghost use Rattle.cap_goal_spec.specs.Fits.{HasRoom};
+ghost use Rattle.cap_offer_spec.specs.Members.{IsOneOf};
 ghost use Rattle.cap_offer_spec.specs.Offering.{offered as offered_at};
+ghost use Rattle.cap_rules_ascending.specs.Ascending.{GoalAscends};
+ghost use Rattle.cap_rules_steps.specs.declared.error.RuleError.TheVariants.{OutOfMemory};
 ghost use Rattle.cap_offer.specs.Views.{offers_view};
 ghost use Rattle.cap_search_spec.specs.Seeking.{left_by as goals_left, all_trees, first_tree, tree_within};
 ghost use Rattle.cap_search_spec.specs.Walks.{choices_walked, goals_walked, walked_within};
@@ -14,7 +18,10 @@ use crate::walk::{Stop, Walk};
 use cap_goal::{Choice, Goal, Node};
 use cap_kernel::subgoals;
 use cap_offer::{Offers, offered};
+use cap_offer_spec::offered_choices_apply;
 use cap_prog::Program;
+use cap_rules_ascending::owed_rows_ascend;
+use cap_rules_steps::RuleError;
 use std::alloc::{AllocError, Global};
 
 // What may be tried at a goal. A state with a list that is too long counts as want of memory.
@@ -29,8 +36,28 @@ fn offers_at(alloc: Global, program: &Program, goal: &Goal<'_>) -> Result<Offers
     offered(alloc, program, goal)
 }
 
-// What an offered choice leaves of a goal. It applies, so there is no other error than want of
-// memory.
+// What an offered choice leaves of a goal. At a goal whose terms are in order it applies, so there
+// is no other error than want of memory.
+fn left_of<'a>(
+    alloc: Global,
+    program: &'a Program,
+    goal: &Goal<'a>,
+    choice: &Choice,
+) -> Result<Vec<Goal<'a>>, RuleError>
+    requires { HasRoom goal.now.state }
+    ensures left { IfOk result (λ v. goals_left (program_view program.now) (goal_view goal.now)
+        (choice_view choice.now) ≡ Some (map goal_view v.items)) }
+    ensures only { GoalAscends (goal_view goal.now)
+        → IsOneOf (offered_at (program_view program.now) (goal_view goal.now)).value
+        (choice_view choice.now)
+        → IfErr result (λ e. e ≡ OutOfMemory) }
+{
+    offered_choices_apply();
+    owed_rows_ascend();
+    subgoals(alloc, program, goal, choice)
+}
+
+// The same; every error is told as want of memory.
 #[inline(never)]
 fn left_by<'a>(
     alloc: Global,
@@ -44,7 +71,7 @@ fn left_by<'a>(
     if !goal.state.has_room() {
         return Err(AllocError);
     }
-    match subgoals(alloc, program, goal, choice) {
+    match left_of(alloc, program, goal, choice) {
         Ok(goals) => Ok(goals),
         Err(_) => Err(AllocError),
     }

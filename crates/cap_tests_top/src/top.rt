@@ -1260,11 +1260,11 @@ impl Shelf for LongFiles {
     ghost use Rattle.std.specs.Prelude.{None, []};
 
     ghost seen = { λ _. record {
-        holds = None;
-        given = [];
-        faults = 0;
-        blamed = None;
-        fetches = None
+      holds = None;
+      given = [];
+      faults = 0;
+      blamed = None;
+      fetches = None;
     } };
 
     fn fetch(&mut self, _name: &str) -> Result<Vec<u8>, FetchError> {

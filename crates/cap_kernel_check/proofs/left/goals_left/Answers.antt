@@ -6,8 +6,8 @@ use Rattle.cap_kernel_check.proofs.left.goals_left.Goals as goal
 
 pub returns-in-Ok-clause-kept : goal.returns-in-Ok-clause-kept
 returns-in-Ok-clause-kept c = λ k.
-    c.subgoals_are_kept.ensures (program_view c.args.program.now) (goal_view c.args.goal.now) (choice_view c.args.choice.now) (goals_view c.in-Ok.goals) c.well_formed-2.ensures k c.in-Ok.ensures
+    c.subgoals_are_kept.ensures (program_view c.args.program.now) (goal_view c.args.goal.now) (choice_view c.args.choice.now) (goals_view c.in-Ok.goals) c.well_formed-2.ensures k c.in-Ok.ensures.answered
 
 pub returns-in-Err-clause-left : goal.returns-in-Err-clause-left
 returns-in-Err-clause-left c =
-    refused-leaves (program_view c.args.program.now) (goal_view c.args.goal.now) (choice_view c.args.choice.now) c.in-Err.error goals_view c.refused.result c.in-Err.ensures c.refused.ensures
+    refused-leaves (program_view c.args.program.now) (goal_view c.args.goal.now) (choice_view c.args.choice.now) c.in-Err.error goals_view c.refused.result c.in-Err.ensures.answered c.refused.ensures
