@@ -1,6 +1,6 @@
 -- Assertions over stocks: what an item draws out of what is held, and what contracts, invariants
 -- and interpretations own.
-use Rattle.std.proofs.Common.{◌≡◌, ◌⊎◌, ℕ, suc, ℤ, pos, ◌<ℤ◌, List, ◌∷◌, length, Option, Some, inl, inr}
+use Rattle.std.proofs.Common.{◌≡◌, ◌⊎◌, ℕ, suc, ℤ, pos, ◌<ℤ◌, List, ◌∷◌, length, Option, Some, refl, inl, inr}
 use Rattle.std.specs.Prelude.{slice_get}
 use Rattle.std.specs.List.{AllByRecursion}
 use Rattle.cap_lin.specs.Values.{Valuation, value}
@@ -17,6 +17,7 @@ use Rattle.cap_account_resources.proofs.Marks.{Mark}
 use Rattle.cap_account_resources.proofs.Covering.{mark}
 use Rattle.cap_account_resources.proofs.Stocks.{Stock, no_stock, cell_stock, guard_stock, both, Inside, none-right, inside-same, inside-trans, inside-is}
 use Rattle.cap_account_resources.proofs.Tables.{KeepsStates}
+use Rattle.cap_account_resources.proofs.Owners.{Owner}
 use Rattle.cap_account_states.proofs.Wants.{Wants}
 
 -- ---- definitions
@@ -78,6 +79,11 @@ pub record OwnsRegion (p : PlainProgram) (T : Table) (n : ℤ) (k : ℕ) (args :
   pub state_is : value values.whole case.state ≡ b
   pub conditions : AllByRecursion (CompHolds values) case.when
   pub met : Owns p T q values case.items
+
+-- the owner has the case of this number, at these values
+abbrev pub OwnsCase : PlainProgram → Table → Owner → ℕ → Valuation → Type 0
+OwnsCase p T r c a =
+    (o : OwnsRegion p T r.number r.kind r.args r.state r.stock) × (o.number ≡ c) × (o.values ≡ a)
 
 -- what is held has a function's `requires`, its `ensures`, an invariant by the store
 pub record OwnsRequires (p : PlainProgram) (T : Table) (q : Stock) (f : PlainFunction)
@@ -184,19 +190,33 @@ module _ (p : PlainProgram) where
     draws-all-kept T U f v (item i more) q r h =
         (h.0, draws-kept T U f v i q h.0 h.1, draws-all-kept T U f v more h.0 r h.2)
 
+  -- a region's part, in its case and at its values
+  pub case-kept :
+      (T U : Table) → KeepsStates T U → (r : Owner) (c : ℕ) (a : Valuation) → OwnsCase p T r c a →
+      OwnsCase p U r c a
+  case-kept T U f r c a k =
+      let h = k.0 in (
+        record {
+          type = h.type;
+          is_type = h.is_type;
+          arity = h.arity;
+          number = h.number;
+          case = h.case;
+          is_case = h.is_case;
+          values = h.values;
+          args_are = h.args_are;
+          state_is = h.state_is;
+          conditions = h.conditions;
+          met = (h.met.0, draws-all-kept T U f h.values h.case.items r.stock h.met.0 h.met.1);
+        },
+        k.1,
+        k.2,
+      )
+
   pub region-kept :
       (T U : Table) → KeepsStates T U → (n : ℤ) (k : ℕ) (args : List ℤ) (b : ℤ) (q : Stock) →
       OwnsRegion p T n k args b q → OwnsRegion p U n k args b q
-  region-kept T U f n k args b q h = record {
-    type = h.type;
-    is_type = h.is_type;
-    arity = h.arity;
-    number = h.number;
-    case = h.case;
-    is_case = h.is_case;
-    values = h.values;
-    args_are = h.args_are;
-    state_is = h.state_is;
-    conditions = h.conditions;
-    met = (h.met.0, draws-all-kept T U f h.values h.case.items q h.met.0 h.met.1);
-  }
+  region-kept T U f n k args b q h =
+      let r : Owner =
+      record { number = n; kind = k; args = args; state = b; stock = q } in
+      (case-kept T U f r h.number h.values (h, refl, refl)).0

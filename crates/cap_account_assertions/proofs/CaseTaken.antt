@@ -17,7 +17,7 @@ use Rattle.cap_account_resources.proofs.Interference.{Holding}
 use Rattle.cap_account_resources.proofs.Room.{all_guards, with_known, part-join}
 use Rattle.cap_account_resources.proofs.Stocks.{Stock, guard_stock, both, inside-first, inside-trans, inside-guards}
 use Rattle.cap_account_resources.proofs.Owners.{owned, guards_of_all, numbers_of, numbered-up, numbered-between, numbered-differ}
-use Rattle.cap_account_states.proofs.Alike.{alike-same, value-alike}
+use Rattle.cap_account_states.proofs.Alike.{value-alike}
 use Rattle.cap_account_states.proofs.Meets.{usable-on, usable-old, Old}
 use Rattle.cap_account_states.proofs.Checked.{Checked}
 use Rattle.cap_account_states.proofs.Naming.{Placed, placed-more}
@@ -97,7 +97,7 @@ module _ (p : Checked) (ks : List ℕ) (T : Table) (next : ℤ) (lim : Holding) 
                 (length s.sorts) at,
             tt,
           );
-          draws = λ b m r. t.draws t.w (alike-same (Old t.after) t.w) b m r;
+          draws = t.draws;
         }
 
     goes-fresh : GoesOn s at_case
@@ -111,7 +111,8 @@ module _ (p : Checked) (ks : List ℕ) (T : Table) (next : ℤ) (lim : Holding) 
     }
 
     module _ (ts : List PlainTask) (Q : List PlainGoal → Type 0)
-        (m : RegionMade p.program ks t.U next t.w t.after t.left t.given k Q ts) where
+        (m : RegionMade p.program ks t.U next t.w t.after t.left t.given k n (length s.envs) Q
+        ts) where
       abbrev pub made_state : PlainState
       made_state = with_new_fact t.after m.fact
 

@@ -1,12 +1,14 @@
 -- What holds at values holds at alike ones, also where their denominator is coarser. So what taking
 -- leads to holds at all values that are alike before and of which the same is brought.
 use Rattle.std.proofs.Common.{ℕ, ℤ, List, [], length, refl, inl, inr}
+use Rattle.std.specs.List.{AllByRecursion}
 use Rattle.cap_lin.specs.Values.{Valuation}
 use Rattle.cap_prog.specs.Program.{PlainItem, Items, PlainProgram}
 use Rattle.cap_prog.specs.Scopes.{Scope}
 use Rattle.cap_goal_spec.specs.States.{PlainState, PlainTask}
 use Rattle.cap_goal_spec.specs.Choices.{PlainTrees}
 use Rattle.cap_account_resources.specs.Parts.{Table}
+use Rattle.cap_account_resources.proofs.Lists.{all-more}
 use Rattle.cap_account_resources.proofs.Stocks.{Stock}
 use Rattle.cap_account_states.proofs.Meets.{usable-old, Old, same-state}
 use Rattle.cap_account_states.proofs.Alike.{Alike, agree-alike, alike-same, alike-back, alike-trans, meets-alike}
@@ -14,7 +16,7 @@ use Rattle.cap_account_states.proofs.Brought.{Bring, Brings, Brought, brought-na
 use Rattle.cap_account_states.proofs.Checked.{Checked}
 use Rattle.cap_account_states.proofs.Backed.{Backed, Grounded}
 use Rattle.cap_account_states.proofs.KnowsLater.{backed-at}
-use Rattle.cap_account_assertions.proofs.Laws.{StateAt, Taken, TakenOnce}
+use Rattle.cap_account_assertions.proofs.Laws.{StateAt, Creation, KeepsCreated, Taken, TakenOnce}
 use Rattle.cap_account_assertions.proofs.Follows.{Follows}
 use Rattle.cap_account_assertions.proofs.TakeSteps.{Job, Took, Head}
 use Rattle.cap_account_assertions.proofs.TakeHeads.{ready-kept, ItemTaken, ItemsTurned}
@@ -113,6 +115,15 @@ turned-named p ks T j v s c trees r =
       goes = r.goes;
     }
 
+-- regions that were created, at values alike to those of which this was said
+pub created-named :
+    (p : PlainProgram) (U : Table) (P : ℕ → Type 0) (w u : Valuation) → Alike P w u →
+    (cs : List Creation) → AllByRecursion (KeepsCreated p U P w) cs →
+    AllByRecursion (KeepsCreated p U P u) cs
+created-named p U P w u l cs h =
+    all-more (KeepsCreated p U P w) (KeepsCreated p U P u)
+    (λ c k x m. k x (alike-trans P w u x l m)) cs h
+
 -- all items that are taken, with regions numbered from a number on
 abbrev pub took-named :
     (p : Checked) (ks : List ℕ) (T : Table) (next : ℤ) (j : Job) (v : Valuation) (s : PlainState)
@@ -135,6 +146,9 @@ took-named p ks T next j v s c most_trees t u l k =
       later = t.later;
       made = t.made;
       none_made = t.none_made;
+      created = t.created;
+      are_created = t.are_created;
+      keeps = created-named p.program t.U (Old t.after) t.w u now t.created t.keeps;
       ready = state-alike p.program ks t.U j.scope j.env t.w u t.after now t.ready;
       left = t.left;
       backed =
@@ -164,6 +178,9 @@ taken-named p ks T sc e most v held s items ts t u l k =
       new = t.new;
       made = t.made;
       none_made = t.none_made;
+      created = t.created;
+      are_created = t.are_created;
+      keeps = created-named p.program t.U (Old t.after) t.w u now t.created t.keeps;
       ready = state-alike p.program ks t.U sc e t.w u t.after now t.ready;
       loose = t.loose;
       goes_on = t.goes_on;

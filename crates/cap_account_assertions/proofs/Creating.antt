@@ -1,6 +1,6 @@
 -- Rule `create`: the case is taken, the region is made, and the fact is taken again.
-use Rattle.std.proofs.Common.{◌≡◌, ℕ, suc, ◌<◌, ◌≤◌, ℤ, pos, ◌+ℤ◌, List, [], ◌∷◌, ◌++◌, arith, refl, sym, ◌∙◌, subst, inl, inr, Some}
-use Rattle.std.specs.Prelude.{length, slice_get, IsSomeAnd}
+use Rattle.std.proofs.Common.{◌≡◌, ℕ, suc, ◌<◌, ◌≤◌, ℤ, pos, ◌+ℤ◌, List, [], ◌∷◌, ◌++◌, arith, refl, sym, ap, ◌∙◌, subst, inl, inr, Some}
+use Rattle.std.specs.Prelude.{length, map, slice_get, IsSomeAnd}
 use Rattle.std.specs.List.{AllByRecursion}
 use Rattle.cap_lin.specs.Values.{Valuation}
 use Rattle.cap_lin.specs.declared.row.Sort.TheVariants.{Int}
@@ -9,28 +9,30 @@ use Rattle.cap_prog.specs.Program.{PlainItem, Items, item, PlainProgram}
 use Rattle.cap_prog.specs.WellFormed.{FactFits, RegionFits}
 use Rattle.cap_goal_spec.specs.States.{PlainState, PlainTask, PlainGoal, goal, to_make}
 use Rattle.cap_goal_spec.specs.Choices.{PlainTree, node, PlainTrees, no_trees, tree, by_absurd, by_made}
-use Rattle.cap_rules.specs.Making.{fresh}
+use Rattle.cap_rules.specs.Making.{fresh, env_at}
 use Rattle.cap_rules.specs.Rules.{at_create}
 use Rattle.cap_account_resources.specs.Parts.{known_as, Table}
-use Rattle.cap_account_resources.proofs.Lists.{all-both, all-more, push-length}
+use Rattle.cap_account_resources.proofs.Lists.{all-both, all-more, map-join, push-length}
 use Rattle.cap_account_resources.proofs.Monoid.{atom, both as plus}
 use Rattle.cap_account_resources.proofs.Interference.{Holding}
 use Rattle.cap_account_resources.proofs.Room.{all_guards, with_known}
 use Rattle.cap_account_resources.proofs.Stocks.{Stock, guard_stock, both, Inside, total_of, reordered, inside-trans, inside-beside}
-use Rattle.cap_account_resources.proofs.Tables.{extends-trans}
-use Rattle.cap_account_resources.proofs.Owners.{Owner, owned, guards_of_all, owned-join, guards-join, numbered-join}
+use Rattle.cap_account_resources.proofs.Tables.{extends-trans, extends-states}
+use Rattle.cap_account_resources.proofs.Owners.{owned, guards_of_all, owned-join, guards-join, numbered-join}
 use Rattle.cap_account_states.specs.Nodes.{NodePredicate, Comes, Children}
 use Rattle.cap_account_states.proofs.Brought.{a_whole, brought-join}
-use Rattle.cap_account_states.proofs.Meets.{solves}
+use Rattle.cap_account_states.proofs.Alike.{Alike, alike-same}
+use Rattle.cap_account_states.proofs.Meets.{Old, solves}
+use Rattle.cap_account_states.proofs.Naming.{values_in}
 use Rattle.cap_account_states.proofs.Checked.{Checked}
-use Rattle.cap_account_assertions.proofs.Asserted.{DrawsAll}
-use Rattle.cap_account_assertions.proofs.Laws.{IsOwner}
+use Rattle.cap_account_assertions.proofs.Asserted.{DrawsAll, case-kept}
+use Rattle.cap_account_assertions.proofs.Laws.{IsOwner, KeepsCreated}
 use Rattle.cap_account_assertions.proofs.TreeSizes.{tree_size, trees_size}
-use Rattle.cap_account_assertions.proofs.Follows.{follows-trans}
+use Rattle.cap_account_assertions.proofs.Follows.{follows-trans, alike-between}
 use Rattle.cap_account_assertions.proofs.NewRegions.{told-here, told-apart, told-extends, owner-extends, none-of-both}
 use Rattle.cap_account_assertions.proofs.TakeSteps.{Job, tasks_of, remaining, TakeStart, Took, TookLaw}
 use Rattle.cap_account_assertions.proofs.FreshRegions.{fresh_values, fresh-brought}
-use Rattle.cap_account_assertions.proofs.MadeRegions.{RegionMade, made-region}
+use Rattle.cap_account_assertions.proofs.MadeRegions.{RegionMade, made-region, creation_of}
 use Rattle.cap_account_assertions.proofs.CaseStarts.{lim_with, case_state, case_job, fact_job, CaseStart, case-start}
 use Rattle.cap_account_assertions.proofs.CaseTaken.{CaseTook, case-pending, made_state, made_known, made-follows, lim_made, start-again}
 
@@ -83,7 +85,7 @@ module _ (p : Checked) (regions : AllByRecursion (RegionFits p.program) p.progra
     -- the region was made, and the fact taken
     took-both :
         (Q : List PlainGoal → Type 0)
-        (m : RegionMade p.program ks t.U next t.w t.after t.left t.given k Q
+        (m : RegionMade p.program ks t.U next t.w t.after t.left t.given k n (length s.envs) Q
         (tasks_of (fact_job j i more left))) (small : ℕ) → small ≤ size →
         Took p ks
         (with_known t.U next (made_known p ks T next lim j v s c k n left i more P a size st some t
@@ -98,13 +100,15 @@ module _ (p : Checked) (regions : AllByRecursion (RegionFits p.program) p.progra
         let absent =
         (case-pending p ks T next lim j v s c k n left i more P a size st some t).absent in
         let on = told-extends t.U next known absent in
-        let owner : Owner = record {
-          number = next;
-          kind = k;
-          args = m.args;
-          state = m.state;
-          stock = t.given;
-        } in
+        let made =
+        made_state p ks T next lim j v s c k n left i more P a size st some t
+        (tasks_of (fact_job j i more left)) Q m in
+        let creation =
+        creation_of next k m.args m.state t.given n (env_at t.after (length s.envs)) in
+        let owner = creation.owner in
+        let between : (x : Valuation) → Alike (Old u.after) u.w x → Alike (Old t.after) t.w x =
+        λ x l. alike-between made u.after t.w u.w x u.follows.goes_on u.follows.alike l in
+        let later = extends-states U u.U u.made.extends in
         let rest = t.new ++ u.new in
         record {
           w = u.w;
@@ -118,8 +122,6 @@ module _ (p : Checked) (regions : AllByRecursion (RegionFits p.program) p.progra
           brings = a_whole next ∷ (t.brings ++ u.brings);
           brought =
               let at_case = case_state s a.rows a.guards a.env in
-              let made = made_state p ks T next lim j v s c k n left i more P a size st some t
-              (tasks_of (fact_job j i more left)) Q m in
               let chosen = fresh_values s v next in
               let first = brought-join s at_case t.after chosen t.w (a_whole next ∷ [])
               t.brings (fresh-brought s at_case v next (push-length s.sorts Int)) t.follows.alike
@@ -146,7 +148,10 @@ module _ (p : Checked) (regions : AllByRecursion (RegionFits p.program) p.progra
                 ∙ (told-apart t.U next x known (λ e. f (inl e)) ∙ t.made.others x g.0);
             owners = (
               owner-extends pp U u.U u.made.extends owner
-                  (record { known = told-here t.U next known; owns = m.owns }),
+                  (record {
+                    known = told-here t.U next known;
+                    owns = (m.keeps t.w (alike-same (Old t.after) t.w)).0;
+                  }),
               all-both (IsOwner pp u.U) t.new u.new
                   (all-more (IsOwner pp t.U) (IsOwner pp u.U)
                   (owner-extends pp t.U u.U (extends-trans t.U U u.U on u.made.extends)) t.new
@@ -154,6 +159,22 @@ module _ (p : Checked) (regions : AllByRecursion (RegionFits p.program) p.progra
             );
           };
           none_made = λ h. absurd (omega (arith, h, most));
+          created = creation ∷ (t.created ++ u.created);
+          are_created =
+              ap (λ rs. owner ∷ rs)
+              (ap (λ rs. rs ++ u.new) t.are_created
+              ∙ ap (λ rs. map (λ c. c.owner) t.created ++ rs) u.are_created
+              ∙ sym (map-join (λ c. c.owner) t.created u.created));
+          keeps = (
+            λ x l. case-kept pp U u.U later owner n (values_in x creation.env)
+                (m.keeps x (between x l)),
+            all-both (KeepsCreated pp u.U (Old u.after) u.w) t.created u.created
+                (all-more (KeepsCreated pp t.U (Old t.after) t.w)
+                (KeepsCreated pp u.U (Old u.after) u.w)
+                (λ d k x l. case-kept pp t.U u.U
+                (extends-states t.U u.U (extends-trans t.U U u.U on u.made.extends)) d.owner
+                d.number (values_in x d.env) (k x (between x l))) t.created t.keeps) u.keeps,
+          );
           ready = u.ready;
           left = u.left;
           backed = u.backed;

@@ -1,12 +1,12 @@
 -- What giving, taking and stability lead to, by tables and stocks.
-use Rattle.std.specs.Prelude.{◌≡◌, ◌≢◌, ℕ, ◌<◌, ℤ, List, [], ◌∷◌, length, true, Some, None}
+use Rattle.std.specs.Prelude.{◌≡◌, ◌≢◌, ℕ, ◌<◌, ℤ, List, [], ◌∷◌, length, map, true, Some, None}
 use Rattle.std.specs.List.{AllByRecursion}
 use Rattle.cap_lin.specs.Values.{Valuation}
 use Rattle.cap_lin.specs.declared.row.Sort.TheVariants.{Int}
 use Rattle.cap_prog.specs.Program.{Items, PlainProgram}
 use Rattle.cap_prog.specs.Scopes.{Scope}
 use Rattle.cap_machine_accounts.specs.Accounts.{EachTwo}
-use Rattle.cap_goal_spec.specs.States.{PlainState, PlainTask, to_give, to_take, to_rest}
+use Rattle.cap_goal_spec.specs.States.{PlainEnv, PlainState, PlainTask, to_give, to_take, to_rest}
 use Rattle.cap_goal_spec.specs.Choices.{PlainTrees}
 use Rattle.cap_rules.specs.Making.{env_at}
 use Rattle.cap_account_resources.specs.Parts.{known_as, Table}
@@ -24,11 +24,11 @@ use Rattle.cap_account_states.proofs.Facts.{Facts}
 use Rattle.cap_account_states.proofs.Items.{AreFit}
 use Rattle.cap_account_states.proofs.Checked.{Checked}
 use Rattle.cap_account_states.proofs.Filled.{Filled, filled_at}
-use Rattle.cap_account_states.proofs.Naming.{Placed, Means, Stays}
+use Rattle.cap_account_states.proofs.Naming.{Placed, Means, Stays, values_in}
 use Rattle.cap_account_states.proofs.Matching.{Outside}
 use Rattle.cap_account_states.proofs.Backed.{IsFirm, IsOpened, Backed, Grounded, GoesOn, OtherEnvs}
 use Rattle.cap_account_assertions.proofs.Named.{rest_values, rest_counts, rest_children}
-use Rattle.cap_account_assertions.proofs.Asserted.{DrawsAll, OwnsRegion}
+use Rattle.cap_account_assertions.proofs.Asserted.{DrawsAll, OwnsRegion, OwnsCase}
 use Rattle.cap_account_assertions.proofs.Filling.{fill_items}
 use Rattle.cap_account_assertions.proofs.GivenTrees.{given_trees}
 
@@ -54,6 +54,19 @@ pub record Made (p : PlainProgram) (T U : Table) (new : List Owner) : Type 0 whe
   pub differ : EachTwo (λ r s. r.number ≢ s.number) new
   pub others : (n : ℤ) → (Among n (numbers_of new) → ⊥) → U n ≡ T n
   pub owners : AllByRecursion (IsOwner p U) new
+
+-- one region that is created: the number of the case whose items it was given, and the environment of
+-- the case's names
+pub record Creation : Type 0 where
+  pub owner : Owner
+  pub number : ℕ
+  pub env : PlainEnv
+
+-- it has its case at what the environment says at all values alike to these
+abbrev pub KeepsCreated :
+    PlainProgram → Table → (ℕ → Type 0) → Valuation → Creation → Type 0
+KeepsCreated p U P w c =
+    (x : Valuation) → Alike P w x → OwnsCase p U c.owner c.number (values_in x c.env)
 
 -- ---- giving
 
@@ -120,6 +133,9 @@ pub record Taken (p : Checked) (ks : List ℕ) (T : Table) (sc : Scope) (e most 
   pub new : List Owner
   pub made : Made p.program T U new
   pub none_made : most ≡ 0 → new ≡ []
+  pub created : List Creation
+  pub are_created : new ≡ map (λ c. c.owner) created
+  pub keeps : AllByRecursion (KeepsCreated p.program U (Old after) w) created
   pub ready : StateAt p.program ks U sc e w after
   pub loose : AllByRecursion (λ f. f.loose ≡ true → Among f s.facts) after.facts
   pub goes_on : GoesOn s after

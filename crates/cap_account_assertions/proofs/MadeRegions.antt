@@ -1,5 +1,5 @@
 -- A region gets into the table, with what its case was taken from.
-use Rattle.std.proofs.Common.{◌≡◌, ℕ, suc, ◌+◌, ◌-◌, ◌<◌, ◌≤◌, ℤ, List, [], ◌∷◌, ◌++◌, length, map, drop, arith, refl, sym, ap, ◌∙◌, subst, Some, None, Bool, true, false}
+use Rattle.std.proofs.Common.{◌≡◌, ℕ, suc, ◌+◌, ◌-◌, ◌<◌, ◌≤◌, ℤ, List, Option, [], ◌∷◌, ◌++◌, length, map, drop, arith, refl, sym, ap, ◌∙◌, subst, Some, None, Bool, true, false}
 use Rattle.std.specs.Prelude.{find, slice_get, unwrap_or}
 use Rattle.std.specs.List.{AllByRecursion}
 use Rattle.cap_lin.specs.Linear.{Linear, same_term}
@@ -8,8 +8,9 @@ use Rattle.cap_lin.specs.Laws.Sameness.{same_term-decides}
 use Rattle.cap_lin.specs.declared.row.Sort.{Sort}
 use Rattle.cap_lin.specs.declared.row.Sort.TheVariants.{Int}
 use Rattle.cap_prog.specs.Program.{PlainCase, PlainRegionType, PlainProgram}
-use Rattle.cap_prog.specs.Scopes.{HasSort, known, whole_numbers, region_scope}
+use Rattle.cap_prog.specs.Scopes.{Scope, HasSort, known, whole_numbers, region_scope}
 use Rattle.cap_prog.specs.WellFormed.{CaseFits, RegionFits}
+use Rattle.cap_machine_accounts.specs.Assertions.{AreWhole}
 use Rattle.cap_goal_spec.specs.States.{PlainFact, PlainEnv, PlainState, PlainTask, PlainGoal, goals_of}
 use Rattle.cap_goal_spec.specs.Environments.{zero_value, term_of, term_in}
 use Rattle.cap_rules.specs.Attempts.{Attempt, ◌>>=◌, found}
@@ -21,14 +22,16 @@ use Rattle.cap_account_resources.proofs.Room.{with_known}
 use Rattle.cap_account_resources.proofs.Stocks.{Stock, no_stock, both}
 use Rattle.cap_account_resources.proofs.Tables.{Extends, extends-states}
 use Rattle.cap_account_states.specs.Nodes.{Comes}
-use Rattle.cap_account_states.proofs.Terms.{Over}
+use Rattle.cap_account_states.proofs.Terms.{Over, vars-more}
 use Rattle.cap_account_states.proofs.Attempts.{comes-bind, comes-more, after-found, after-determined}
-use Rattle.cap_account_states.proofs.Meets.{Usable}
+use Rattle.cap_account_states.proofs.Meets.{Usable, usable-old, Old}
+use Rattle.cap_account_states.proofs.Alike.{Alike, value-alike, meets-alike}
 use Rattle.cap_account_states.proofs.Scopes.{rep-in}
 use Rattle.cap_account_states.proofs.Naming.{Placed, Means, values_in, values-mean, term-over, term-number, bound-of}
 use Rattle.cap_account_states.proofs.Facts.{FactHolds, FactOver, Facts, merging_rows, fact_added, comes-fact, no-other-type, facts-added}
 use Rattle.cap_account_states.proofs.Backed.{IsOpened}
-use Rattle.cap_account_assertions.proofs.Asserted.{DrawsAll, OwnsRegion, draws-all-kept, owns-all}
+use Rattle.cap_account_assertions.proofs.Asserted.{DrawsAll, draws-all-kept, owns-all}
+use Rattle.cap_account_assertions.proofs.Laws.{Creation, KeepsCreated}
 use Rattle.cap_account_assertions.proofs.NewRegions.{told-here, told-extends}
 use Rattle.cap_account_assertions.proofs.RuleSteps.{comparisons-hold, ReadBack, read-back}
 use Rattle.cap_account_assertions.proofs.FreshRegions.{IsKnown}
@@ -90,6 +93,13 @@ known-extends p ks T U v s c x h =
 
 -- ---- the region is made
 
+abbrev pub creation_of : ℤ → ℕ → List ℤ → ℤ → Stock → ℕ → PlainEnv → Creation
+creation_of n k args state given c env = record {
+  owner = record { number = n; kind = k; args = args; state = state; stock = given };
+  number = c;
+  env = env;
+}
+
 -- its case was taken, by a table that lacks it; the first name is the region
 pub record Pending (p : PlainProgram) (ks : List ℕ) (U : Table) (n : ℤ) (w : Valuation)
     (s : PlainState) (left given : Stock) (y : PlainRegionType) (z : PlainCase) (e : ℕ)
@@ -104,11 +114,13 @@ pub record Pending (p : PlainProgram) (ks : List ℕ) (U : Table) (n : ℤ) (w :
   pub number : value w.whole t ≡ n
   pub over : Over (Usable ks s.sorts Int) t
   pub draws :
-      (a : Valuation) → Means (region_scope y z.names) w (env_at s e) a → (r : Stock) →
+      (x : Valuation) → Alike (Old s) w x → (a : Valuation) →
+      Means (region_scope y z.names) x (env_at s e) a → (r : Stock) →
       DrawsAll p U a z.items (both p given r) r
 
+-- it has its case at all alike values
 pub record RegionMade (p : PlainProgram) (ks : List ℕ) (U : Table) (n : ℤ) (w : Valuation)
-    (s : PlainState) (left given : Stock) (k : ℕ) (P : List PlainGoal → Type 0)
+    (s : PlainState) (left given : Stock) (k c e : ℕ) (P : List PlainGoal → Type 0)
     (ts : List PlainTask) : Type 0 where
   pub args : List ℤ
   pub state : ℤ
@@ -116,8 +128,9 @@ pub record RegionMade (p : PlainProgram) (ks : List ℕ) (U : Table) (n : ℤ) (
   pub firm : fact.loose ≡ false
   pub known :
       IsKnown p ks (with_known U n (known_as k args (Some state))) w (with_new_fact s fact) left
-  pub owns :
-      OwnsRegion p (with_known U n (known_as k args (Some state))) n k args state given
+  pub keeps :
+      KeepsCreated p (with_known U n (known_as k args (Some state))) (Old s) w
+      (creation_of n k args state given c (env_at s e))
   pub comes : P (goals_of (with_new_fact s fact) ts)
 
 -- a parameter is a whole number
@@ -154,17 +167,41 @@ args-back ks y names sorts w env Q some room p c =
     behind [] i t e = e
     behind (o ∷ env) i t e = e
 
+-- a name has one whole number at alike values
+name-alike :
+    (ks : List ℕ) (sc : Scope) (s : PlainState) (env : PlainEnv) (w x : Valuation) →
+    Placed ks sc s.sorts env → Alike (Old s) w x → (i : ℕ) → HasSort sc Int i →
+    (values_in x env).whole i ≡ (values_in w env).whole i
+name-alike ks sc s env w x placed l i at = by (term_of env i) refl
+  where
+    by :
+        (o : Option Linear) → term_of env i ≡ o →
+        value x.whole (unwrap_or o zero_value) ≡ value w.whole (unwrap_or o zero_value)
+    by None e = value-alike (Old s) w x l zero_value tt
+    by (Some t) e =
+        value-alike (Old s) w x l t
+        (vars-more (Usable ks s.sorts Int) (Old s) (usable-old ks s.sorts Int) t.parts
+        (placed.over i Int at t e))
+
+-- so many names have the numbers that they have at values with the same
+whole-alike :
+    (a b : Valuation) (x : ℕ) (zs : List ℤ) →
+    ((i : ℕ) → i < x + length zs → b.whole i ≡ a.whole i) → AreWhole a x zs → AreWhole b x zs
+whole-alike a b x [] f h = tt
+whole-alike a b x (z ∷ zs) f h = (
+  f x (omega arith) ∙ h.0,
+  whole-alike a b (suc x) zs (λ i l. f i (omega (arith, l))) h.1,
+)
+
 pub made-region :
     (p : PlainProgram) (ks : List ℕ) (U : Table) (n : ℤ) (w : Valuation) (s : PlainState)
     (left given : Stock) (y : PlainRegionType) (z : PlainCase) (k c e : ℕ) (t : Linear)
     (ts : List PlainTask) (P : List PlainGoal → Type 0) → slice_get p.regions k ≡ Some y →
     slice_get y.cases c ≡ Some z → Pending p ks U n w s left given y z e t →
-    Comes (at_made p s k c e t ts) P → RegionMade p ks U n w s left given k P ts
+    Comes (at_made p s k c e t ts) P → RegionMade p ks U n w s left given k c e P ts
 made-region p ks U n w s left given y z k c e t ts P is_type is_case h comes =
     let sc = region_scope y z.names in
     let env = env_at s e in
-    let a = values_in w env in
-    let mean = values-mean sc w env in
     let R = Usable ks s.sorts Int in
     let sixth : PlainState → Attempt (List PlainGoal) = λ u. leaves u ts in
     let fifth : Linear → List Linear → Attempt (List PlainGoal) =
@@ -181,9 +218,9 @@ made-region p ks U n w s left given y z k c e t ts P is_type is_case h comes =
     let c1 = subst (λ y. Comes (first y) P) (some-same k1.0 y (sym k1.1 ∙ is_type)) k1.2 in
     let k2 = after-found (slice_get y.cases c) (second y) P c1 in
     let c2 = subst (λ z. Comes (second y z) P) (some-same k2.0 z (sym k2.1 ∙ is_case)) k2.2 in
-    let k3 = comparisons-hold ks sc w s env a h.known.grounded.meets h.placed mean z.when
-    h.case_fits.when (λ u. Comes (third y z u) P)
-    (comes-bind (prove_comparisons s.rows env z.when) (third y z) P c2) in
+    let proved = comes-bind (prove_comparisons s.rows env z.when) (third y z) P c2 in
+    let k3 = comparisons-hold ks sc w s env (values_in w env) h.known.grounded.meets h.placed
+    (values-mean sc w env) z.when h.case_fits.when (λ u. Comes (third y z u) P) proved in
     let k4 = after-determined env z.state (fourth y) P k3.1 in
     let bound = bound-of env z.state.parts k4.0 in
     let b = term_in env z.state in
@@ -199,8 +236,11 @@ made-region p ks U n w s left given y z k c e t ts P is_type is_case h comes =
     let same = added-last w U s f (ap U h.number ∙ h.absent) h.known.facts.holds in
     let holds : FactHolds w V f =
     (Some (value w.whole b), ap V h.number ∙ told-here U n now, refl) in
-    let over : FactOver R f =
-    (h.over, args.over, term-over ks sc s.sorts env Int z.state h.placed h.case_fits.state bound) in
+    let state_over = term-over ks sc s.sorts env Int z.state h.placed h.case_fits.state bound in
+    let over : FactOver R f = (h.over, args.over, state_over) in
+    let alike : (x : Valuation) → Alike (Old s) w x → (i : ℕ) → i < y.params →
+    (values_in x env).whole i ≡ (values_in w env).whole i =
+    λ x l i m. name-alike ks sc s env w x h.placed l i (param-sort y z.names i m) in
     record {
       args = zs;
       state = value w.whole b;
@@ -223,27 +263,44 @@ made-region p ks U n w s left given y z k c e t ts P is_type is_case h comes =
         opened = g.opened;
         backed = record { cells = g.backed.cells; guards = g.backed.guards };
       };
-      owns = record {
-        type = y;
-        is_type = is_type;
-        arity =
-            (let l = args.size in
-            let m = map-length (value w.whole) args.terms in omega (arith, l, m, itself));
-        number = c;
-        case = z;
-        is_case = is_case;
-        values = a;
-        args_are = (
-          ap (λ o. value w.whole (unwrap_or o zero_value)) h.first ∙ h.number,
-          args.values,
-        );
-        state_is = sym (term-number sc w env a Int z.state mean h.case_fits.state bound);
-        conditions = k3.0;
-        met =
-            owns-all p V a z.items given
-            (draws-all-kept p U V (extends-states U V more) a z.items (both p given no_stock)
-            no_stock (h.draws a mean no_stock));
-      };
+      keeps = λ x l. (
+        record {
+          type = y;
+          is_type = is_type;
+          arity =
+              (let l = args.size in
+              let m = map-length (value w.whole) args.terms in omega (arith, l, m, itself));
+          number = c;
+          case = z;
+          is_case = is_case;
+          values = values_in x env;
+          args_are = (
+            alike x l 0 itself ∙ ap (λ o. value w.whole (unwrap_or o zero_value)) h.first
+                ∙ h.number,
+            whole-alike (values_in w env) (values_in x env) 1 zs
+                (λ i m. alike x l i
+                (let q = args.size in
+                let r = map-length (value w.whole) args.terms in omega (arith, m, q, r, itself)))
+                args.values,
+          );
+          state_is =
+              sym (term-number sc x env (values_in x env) Int z.state (values-mean sc x env)
+              h.case_fits.state bound)
+              ∙ value-alike (Old s) w x l b
+              (vars-more R (Old s) (usable-old ks s.sorts Int) b.parts state_over);
+          conditions =
+              (comparisons-hold ks sc x s env (values_in x env)
+              (meets-alike ks w x s l h.known.grounded.meets) h.placed (values-mean sc x env) z.when
+              h.case_fits.when (λ u. Comes (third y z u) P) proved).0;
+          met =
+              owns-all p V (values_in x env) z.items given
+              (draws-all-kept p U V (extends-states U V more) (values_in x env) z.items
+              (both p given no_stock) no_stock
+              (h.draws x l (values_in x env) (values-mean sc x env) no_stock));
+        },
+        refl,
+        refl,
+      );
       comes =
           subst (λ u. P (goals_of u ts)) same
           (comes-fact s f (λ u. P (goals_of u ts))

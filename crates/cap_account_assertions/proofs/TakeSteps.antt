@@ -1,5 +1,5 @@
 -- What taking an assertion starts from and leads to, and how one step of it is put before the rest.
-use Rattle.std.proofs.Common.{◌≡◌, ◌≢◌, ℕ, ◌<◌, ◌≤◌, ℤ, ◌≤ℤ◌, List, [], ◌∷◌, ◌++◌, length, arith, refl, sym, subst, Some, None}
+use Rattle.std.proofs.Common.{◌≡◌, ◌≢◌, ℕ, ◌<◌, ◌≤◌, ℤ, ◌≤ℤ◌, List, [], ◌∷◌, ◌++◌, length, map, arith, refl, sym, subst, Some, None}
 use Rattle.std.specs.List.{AllByRecursion}
 use Rattle.cap_lin.specs.Values.{Valuation}
 use Rattle.cap_prog.specs.Program.{PlainItem, Items, none, item, PlainProgram}
@@ -28,7 +28,7 @@ use Rattle.cap_account_states.proofs.Backed.{Backed}
 use Rattle.cap_account_assertions.proofs.Follows.{Follows, follows-none, follows-trans, alike-between, means-before}
 use Rattle.cap_account_assertions.proofs.TreeSizes.{trees_size}
 use Rattle.cap_account_assertions.proofs.Asserted.{Draws, DrawsAll, draws-kept}
-use Rattle.cap_account_assertions.proofs.Laws.{StateAt, IsOwner}
+use Rattle.cap_account_assertions.proofs.Laws.{StateAt, IsOwner, Creation, KeepsCreated}
 
 -- ---- what is to be taken
 
@@ -95,6 +95,9 @@ pub record Took (p : Checked) (ks : List ℕ) (T : Table) (next : ℤ) (j : Job)
   pub later : ℤ
   pub made : MadeFrom p.program T next U new later
   pub none_made : j.most ≡ 0 → new ≡ []
+  pub created : List Creation
+  pub are_created : new ≡ map (λ c. c.owner) created
+  pub keeps : AllByRecursion (KeepsCreated p.program U (Old after) w) created
   pub ready : StateAt p.program ks U j.scope j.env w after
   pub left : Stock
   pub backed : Backed p.program w after left
@@ -210,6 +213,9 @@ module _ (p : Checked) (ks : List ℕ) (T : Table) (next : ℤ) (j : Job) (v : V
     later = t.later;
     made = t.made;
     none_made = t.none_made;
+    created = t.created;
+    are_created = t.are_created;
+    keeps = t.keeps;
     ready = t.ready;
     left = t.left;
     backed = t.backed;
@@ -266,6 +272,9 @@ took-none p ks T next j v s c trees e goes ready backed = record {
     owners = tt;
   };
   none_made = λ h. refl;
+  created = [];
+  are_created = refl;
+  keeps = tt;
   ready = ready;
   left = c;
   backed = backed;

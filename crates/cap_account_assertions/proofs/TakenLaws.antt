@@ -121,6 +121,9 @@ taken-from p regions ks convert T sc e most n items ts trees v s held next goes 
         new = t.new;
         made = made;
         none_made = t.none_made;
+        created = t.created;
+        are_created = t.are_created;
+        keeps = t.keeps;
         ready = t.ready;
         loose = t.follows.loose;
         goes_on = t.follows.goes_on;

@@ -13,7 +13,7 @@ use Rattle.cap_account_states.proofs.Terms.{Over, Agree, agree-trans, value-agre
 use Rattle.cap_account_states.proofs.Brought.{Bring, Brings, HasHalves, bring_values, halves-agree, here-agrees}
 use Rattle.cap_account_states.proofs.Alike.{Alike}
 use Rattle.cap_account_states.proofs.Naming.{values_in}
-use Rattle.cap_account_assertions.proofs.Asserted.{OwnsRegion, draws-all-kept}
+use Rattle.cap_account_assertions.proofs.Asserted.{OwnsCase, case-kept}
 use Rattle.cap_account_assertions.proofs.Named.{set_to, lone, joined_values}
 
 -- one region is closed: values, facts and count of variables once its case's items are taken; its fact,
@@ -60,35 +60,13 @@ Leads n v (c ∷ cs) m w = ShutFrom n v c × Leads c.later (shut_values c) cs m 
 
 -- the region has its case at the values of the case's environment
 abbrev pub KeepsCase : PlainProgram → Table → Shut → Type 0
-KeepsCase p U c =
-    (o : OwnsRegion p U (shut_owner c).number (shut_owner c).kind (shut_owner c).args
-    (shut_owner c).state (shut_owner c).stock)
-    × (o.number ≡ c.number)
-    × (o.values ≡ values_in c.took c.env)
+KeepsCase p U c = OwnsCase p U (shut_owner c) c.number (values_in c.took c.env)
 
 -- also by a table that keeps known states
 pub keeps-on :
     (p : PlainProgram) (T U : Table) → KeepsStates T U → (c : Shut) → KeepsCase p T c →
     KeepsCase p U c
-keeps-on p T U f c k =
-    let h = k.0 in (
-      record {
-        type = h.type;
-        is_type = h.is_type;
-        arity = h.arity;
-        number = h.number;
-        case = h.case;
-        is_case = h.is_case;
-        values = h.values;
-        args_are = h.args_are;
-        state_is = h.state_is;
-        conditions = h.conditions;
-        met =
-            (h.met.0, draws-all-kept p T U f h.values h.case.items c.stock h.met.0 h.met.1);
-      },
-      k.1,
-      k.2,
-    )
+keeps-on p T U f c k = case-kept p T U f (shut_owner c) c.number (values_in c.took c.env) k
 
 -- ---- over one denominator
 
