@@ -8,7 +8,6 @@ use Rattle.cap_prog.specs.Scopes.{Scope}
 use Rattle.cap_goal_spec.specs.States.{PlainState, PlainTask}
 use Rattle.cap_goal_spec.specs.Choices.{PlainTrees}
 use Rattle.cap_account_resources.specs.Parts.{Table}
-use Rattle.cap_account_resources.proofs.Lists.{all-more}
 use Rattle.cap_account_resources.proofs.Stocks.{Stock}
 use Rattle.cap_account_states.proofs.Meets.{usable-old, Old, same-state}
 use Rattle.cap_account_states.proofs.Alike.{Alike, agree-alike, alike-same, alike-back, alike-trans, meets-alike}
@@ -17,6 +16,7 @@ use Rattle.cap_account_states.proofs.Checked.{Checked}
 use Rattle.cap_account_states.proofs.Backed.{Backed, Grounded}
 use Rattle.cap_account_states.proofs.KnowsLater.{backed-at}
 use Rattle.cap_account_assertions.proofs.Laws.{StateAt, Creation, KeepsCreated, Taken, TakenOnce}
+use Rattle.cap_account_assertions.proofs.NewRegions.{created-on}
 use Rattle.cap_account_assertions.proofs.Follows.{Follows}
 use Rattle.cap_account_assertions.proofs.TakeSteps.{Job, Took, Head}
 use Rattle.cap_account_assertions.proofs.TakeHeads.{ready-kept, ItemTaken, ItemsTurned}
@@ -115,14 +115,13 @@ turned-named p ks T j v s c trees r =
       goes = r.goes;
     }
 
--- regions that were created, at values alike to those of which this was said
+-- regions that were created, at values that are alike
 pub created-named :
     (p : PlainProgram) (U : Table) (P : ℕ → Type 0) (w u : Valuation) → Alike P w u →
     (cs : List Creation) → AllByRecursion (KeepsCreated p U P w) cs →
     AllByRecursion (KeepsCreated p U P u) cs
-created-named p U P w u l cs h =
-    all-more (KeepsCreated p U P w) (KeepsCreated p U P u)
-    (λ c k x m. k x (alike-trans P w u x l m)) cs h
+created-named p U P w u l =
+    created-on p U U (λ n k zs z h. h) P P w u (λ x m. alike-trans P w u x l m)
 
 -- all items that are taken, with regions numbered from a number on
 abbrev pub took-named :

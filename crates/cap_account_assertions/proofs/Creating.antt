@@ -29,7 +29,7 @@ use Rattle.cap_account_assertions.proofs.Asserted.{DrawsAll, case-kept}
 use Rattle.cap_account_assertions.proofs.Laws.{IsOwner, KeepsCreated}
 use Rattle.cap_account_assertions.proofs.TreeSizes.{tree_size, trees_size}
 use Rattle.cap_account_assertions.proofs.Follows.{follows-trans, alike-between}
-use Rattle.cap_account_assertions.proofs.NewRegions.{told-here, told-apart, told-extends, owner-extends, none-of-both}
+use Rattle.cap_account_assertions.proofs.NewRegions.{told-here, told-apart, told-extends, owner-extends, created-on, none-of-both}
 use Rattle.cap_account_assertions.proofs.TakeSteps.{Job, tasks_of, remaining, TakeStart, Took, TookLaw}
 use Rattle.cap_account_assertions.proofs.FreshRegions.{fresh_values, fresh-brought}
 use Rattle.cap_account_assertions.proofs.MadeRegions.{RegionMade, made-region, creation_of}
@@ -169,11 +169,9 @@ module _ (p : Checked) (regions : AllByRecursion (RegionFits p.program) p.progra
             λ x l. case-kept pp U u.U later owner n (values_in x creation.env)
                 (m.keeps x (between x l)),
             all-both (KeepsCreated pp u.U (Old u.after) u.w) t.created u.created
-                (all-more (KeepsCreated pp t.U (Old t.after) t.w)
-                (KeepsCreated pp u.U (Old u.after) u.w)
-                (λ d k x l. case-kept pp t.U u.U
-                (extends-states t.U u.U (extends-trans t.U U u.U on u.made.extends)) d.owner
-                d.number (values_in x d.env) (k x (between x l))) t.created t.keeps) u.keeps,
+                (created-on pp t.U u.U
+                (extends-states t.U u.U (extends-trans t.U U u.U on u.made.extends)) (Old t.after)
+                (Old u.after) t.w u.w between t.created t.keeps) u.keeps,
           );
           ready = u.ready;
           left = u.left;

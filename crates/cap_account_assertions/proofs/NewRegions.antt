@@ -6,19 +6,22 @@ use Rattle.std.specs.Prelude.{if◌then◌else◌}
 use Rattle.std.specs.List.{AllByRecursion}
 use Rattle.std.proofs.lemmas.Int.{ints}
 use Rattle.cap_lin.specs.Linear.{same_number}
+use Rattle.cap_lin.specs.Values.{Valuation}
 use Rattle.cap_lin.specs.declared.row.Op.TheVariants.{Lt as Less}
 use Rattle.cap_prog.specs.Program.{PlainProgram}
 use Rattle.cap_machine_accounts.specs.Accounts.{EachTwo}
 use Rattle.cap_account_resources.specs.Parts.{Known, known_as, Table}
-use Rattle.cap_account_resources.proofs.Lists.{none-some, Among}
+use Rattle.cap_account_resources.proofs.Lists.{none-some, all-more, Among}
 use Rattle.cap_account_resources.proofs.Marks.{Mark, free, joins-law}
 use Rattle.cap_account_resources.proofs.Covering.{join_marks, free-right}
 use Rattle.cap_account_resources.proofs.Room.{all_guards, alone-here, alone-away, with_known}
 use Rattle.cap_account_resources.proofs.Stocks.{same-stock}
-use Rattle.cap_account_resources.proofs.Tables.{Extends, extends-states, guards_if_new, new_guards}
+use Rattle.cap_account_resources.proofs.Tables.{KeepsStates, Extends, extends-states, guards_if_new, new_guards}
 use Rattle.cap_account_resources.proofs.Owners.{Owner, guards_of_all, numbers_of, Numbered, numbered-between, no-guards-of, no-cells-in}
-use Rattle.cap_account_assertions.proofs.Asserted.{region-kept}
-use Rattle.cap_account_assertions.proofs.Laws.{IsOwner, Made}
+use Rattle.cap_account_states.proofs.Alike.{Alike}
+use Rattle.cap_account_states.proofs.Naming.{values_in}
+use Rattle.cap_account_assertions.proofs.Asserted.{region-kept, case-kept}
+use Rattle.cap_account_assertions.proofs.Laws.{IsOwner, Made, Creation, KeepsCreated}
 
 -- ---- a table with one region more
 
@@ -46,6 +49,15 @@ owner-extends p T U f r h = record {
   owns =
       region-kept p T U (extends-states T U f) r.number r.kind r.args r.state r.stock h.owns;
 }
+
+-- those that were created are in their cases, at whichever values are alike to those at which they were
+pub created-on :
+    (p : PlainProgram) (T U : Table) → KeepsStates T U → (P Q : ℕ → Type 0) (v w : Valuation) →
+    ((x : Valuation) → Alike Q w x → Alike P v x) → (cs : List Creation) →
+    AllByRecursion (KeepsCreated p T P v) cs → AllByRecursion (KeepsCreated p U Q w) cs
+created-on p T U f P Q v w g cs h =
+    all-more (KeepsCreated p T P v) (KeepsCreated p U Q w)
+    (λ c k x l. case-kept p T U f c.owner c.number (values_in x c.env) (k x (g x l))) cs h
 
 -- ---- a number is one of theirs, or none
 

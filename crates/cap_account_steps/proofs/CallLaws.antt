@@ -1,6 +1,7 @@
 -- The laws of calls and forks.
 use Rattle.std.proofs.Common.{◌++◌, ◌+◌, ◌≡◌, ℕ, ℤ, pos, List, [], ◌∷◌, length, map, arith, refl, ◌∙◌, subst, Option, Some, None}
 use Rattle.std.specs.Prelude.{slice_get, IsSomeAnd}
+use Rattle.std.specs.List.{AllByRecursion}
 use Rattle.cap_lin.specs.Linear.{Linear}
 use Rattle.cap_lin.specs.Values.{Valuation}
 use Rattle.cap_lin.specs.declared.row.Sort.TheVariants.{Int}
@@ -25,7 +26,7 @@ use Rattle.cap_account_states.proofs.Attempts.{after-found}
 use Rattle.cap_account_states.proofs.Meets.{Old}
 use Rattle.cap_account_states.proofs.Checked.{Checked, one-child}
 use Rattle.cap_account_states.proofs.Roots.{values-length}
-use Rattle.cap_account_assertions.proofs.Laws.{GivenLaw, TakenLaw, Rested, RestsLaw}
+use Rattle.cap_account_assertions.proofs.Laws.{Creation, KeepsCreated, GivenLaw, TakenLaw, Rested, RestsLaw}
 use Rattle.cap_account_assertions.proofs.Named.{set_to, rest_values}
 use Rattle.cap_account_steps.proofs.Points.{FrameOk, point-act, point-next, ok-rest}
 use Rattle.cap_account_steps.proofs.Stores.{Store, running}
@@ -57,6 +58,9 @@ module _ (p : Checked) (part : Stock) (T : Table) (fixed : List NameValue) (f : 
     pub count : length after.sorts ≡ length (s.sorts ++ Int ∷ []) + length brings
     pub brought : Brings took (length (s.sorts ++ Int ∷ [])) brings
     pub values_are : calls.meets.values ≡ required took after
+    pub created : List Creation
+    pub are_created : calls.over.new ≡ map (λ c. c.owner) created
+    pub keeps : AllByRecursion (KeepsCreated p.program calls.over.U (Old after) took) created
     pub fixed_are : calls.fixed ≡ fixed_values (required took after) (fixed_start g) g.fixed
     pub waits :
         WaitsLike p calls.kept calls.over.U fixed f x n args calls.fixed
@@ -75,6 +79,9 @@ module _ (p : Checked) (part : Stock) (T : Table) (fixed : List NameValue) (f : 
     pub count : length after.sorts ≡ length (s.sorts ++ Int ∷ []) + length brings
     pub brought : Brings took (length (s.sorts ++ Int ∷ [])) brings
     pub values_are : forks.meets.values ≡ required took after
+    pub created : List Creation
+    pub are_created : forks.over.new ≡ map (λ c. c.owner) created
+    pub keeps : AllByRecursion (KeepsCreated p.program forks.over.U (Old after) took) created
     pub fixed_are : forks.fixed ≡ fixed_values (required took after) (fixed_start g) g.fixed
     pub named :
         (U : Table) (r : Relies p.program forks.kept.guards forks.over.U U) →
@@ -197,6 +204,9 @@ module _ (p : Checked) (program : IsWellFormed p.program) (give : GivenLaw p) (t
           brings = tk.brings;
           count = tk.brought.count;
           brought = tk.brought.are;
+          created = tk.created;
+          are_created = tk.are_created;
+          keeps = tk.keeps;
           values_are = refl;
           fixed_are = refl;
           waits = waits;
@@ -310,6 +320,9 @@ module _ (p : Checked) (program : IsWellFormed p.program) (give : GivenLaw p) (t
           brings = tk.brings;
           count = tk.brought.count;
           brought = tk.brought.are;
+          created = tk.created;
+          are_created = tk.are_created;
+          keeps = tk.keeps;
           values_are = refl;
           fixed_are = refl;
           named = λ U relies. (rested U relies).named;

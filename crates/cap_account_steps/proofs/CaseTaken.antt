@@ -2,6 +2,7 @@
 -- what is held.
 use Rattle.std.proofs.Common.{◌+◌, ◌≡◌, ℕ, ◌<◌, ℤ, List, [], ◌∷◌, length, map, Some, None, true, refl, sym, ◌∙◌, subst, arith}
 use Rattle.std.specs.Prelude.{slice_get}
+use Rattle.std.specs.List.{AllByRecursion}
 use Rattle.cap_lin.specs.Values.{Valuation, value}
 use Rattle.cap_lin.specs.declared.row.Sort.TheVariants.{Int}
 use Rattle.cap_prog.specs.Program.{PlainCase, PlainRegionType}
@@ -27,7 +28,7 @@ use Rattle.cap_account_states.proofs.Naming.{Placed, Means}
 use Rattle.cap_account_states.proofs.Backed.{IsOpened}
 use Rattle.cap_account_states.proofs.KnowsLater.{Steady}
 use Rattle.cap_account_assertions.proofs.Asserted.{Owns, owns-all}
-use Rattle.cap_account_assertions.proofs.Laws.{StateAt, Taken, TakenOnce, TakenLaw}
+use Rattle.cap_account_assertions.proofs.Laws.{StateAt, Creation, KeepsCreated, Taken, TakenOnce, TakenLaw}
 use Rattle.cap_account_assertions.proofs.TakenLaws.{once-law}
 use Rattle.cap_account_assertions.proofs.MadeTables.{made-extends, made-room}
 use Rattle.cap_account_steps.proofs.Worlds.{IsStillOpen, Closing, SettlesBy}
@@ -68,6 +69,9 @@ pub record CaseTaken (p : Checked) (V W : Table) (part : Stock) (ks : List ℕ) 
   pub given : Stock
   pub by : SettlesBy p.program V W part held [] (both p.program left given)
   pub none_closed : by.closed ≡ []
+  pub created : List Creation
+  pub are_made : by.made ≡ map (λ c. c.owner) created
+  pub keeps_new : AllByRecursion (KeepsCreated p.program by.U (Old t) w) created
   pub owns :
       (X : Valuation) → Means (region_scope k x.names) w (env_at t env) X →
       Owns p.program by.U given X x.items
@@ -221,6 +225,9 @@ module _ (p : Checked) (program : IsWellFormed p.program) (taken : TakenLaw p) (
                 makes-by p.program V W tk.U part tk.new tk.made held
                 (both p.program tk.left tk.given) tk.budget;
             none_closed = refl;
+            created = tk.created;
+            are_made = tk.are_created;
+            keeps_new = tk.keeps;
             owns = λ X m.
                 owns-all p.program tk.U X pk.x.items tk.given
                 (tk.draws tk.w (alike-same (Old tk.after) tk.w) X m no_stock);

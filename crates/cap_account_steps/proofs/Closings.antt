@@ -1,5 +1,5 @@
 -- All regions that are open are closed, one after the other.
-use Rattle.std.proofs.Common.{◌≡◌, inl, inr, ℕ, zero, suc, ℤ, List, [], ◌∷◌, ◌++◌, length, true, refl, sym, ap, ◌∙◌, subst, arith}
+use Rattle.std.proofs.Common.{◌≡◌, inl, inr, ℕ, zero, suc, ℤ, List, [], ◌∷◌, ◌++◌, length, map, true, refl, sym, ap, ◌∙◌, subst, arith}
 use Rattle.std.specs.Prelude.{remove}
 use Rattle.cap_lin.specs.Values.{Valuation, value}
 use Rattle.cap_lin.specs.declared.row.Sort.TheVariants.{Int}
@@ -18,7 +18,7 @@ use Rattle.cap_account_states.proofs.Checked.{Checked, one-child}
 use Rattle.cap_account_states.proofs.Terms.{Agree, agree-same}
 use Rattle.cap_account_states.proofs.Meets.{Usable, Old}
 use Rattle.cap_account_assertions.proofs.Laws.{TakenLaw}
-use Rattle.cap_account_steps.proofs.Shutting.{shut_values, shut_owner, Leads, keeps-on, HaveHalves, TookHere, closed_values, leads-here}
+use Rattle.cap_account_steps.proofs.Shutting.{shut_values, shut_owner, Leads, keeps-on, keeps-new-on, HaveHalves, TookHere, closed_values, leads-here}
 use Rattle.cap_account_steps.proofs.Worlds.{AllOver, regions_of, IsStillOpen, Closing, SettlesBy, closes, Closed, ClosingLaw}
 use Rattle.cap_account_steps.proofs.SettledTables.{settled-states, settled-fits, settled-listed}
 use Rattle.cap_account_steps.proofs.SettledTwice.{settles-for, settles-again}
@@ -88,6 +88,8 @@ module _ (p : Checked) (V : Table) (part : Stock) (ts : List PlainTask) where
       closed-first r =
           let l = later-trans ks rc.js r.js v rc.w r.w s rc.after r.after rc.later
           (later-of rc.by.U rc.left rc.js rc.w rc.after r) in
+          let on = settled-states p.program V rc.by.U r.by.U part r.by.opened r.by.closed r.by.made
+          r.by.settles in
           record {
             left = r.left;
             by =
@@ -126,12 +128,12 @@ module _ (p : Checked) (V : Table) (part : Stock) (ts : List PlainTask) where
             are_closed =
                 ap (λ rs. rs ++ r.by.closed) rc.is_closed
                 ∙ ap (λ rs. shut_owner rc.shut ∷ rs) r.are_closed;
-            keeps = (
-              keeps-on p.program rc.by.U r.by.U
-                  (settled-states p.program V rc.by.U r.by.U part r.by.opened r.by.closed r.by.made
-                  r.by.settles) rc.shut rc.keeps,
-              r.keeps,
-            );
+            keeps = (keeps-on p.program rc.by.U r.by.U on rc.shut rc.keeps, r.keeps);
+            are_made =
+                ap (λ rs. rs ++ r.by.made) rc.are_made
+                ∙ ap (λ rs. map (λ d. d.owner) rc.shut.created ++ rs) r.are_made;
+            keeps_new =
+                (keeps-new-on p.program rc.by.U r.by.U on rc.shut rc.keeps_new, r.keeps_new);
           }
 
 module _ (p : Checked) (program : IsWellFormed p.program) (taken : TakenLaw p) where
@@ -166,6 +168,8 @@ module _ (p : Checked) (program : IsWellFormed p.program) (taken : TakenLaw p) w
         named = (refl, refl);
         are_closed = refl;
         keeps = tt;
+        are_made = refl;
+        keeps_new = tt;
       }
   closed-from (suc m) V W part held ks v s n ts trees bound size goes fits listed c =
       let tasks = closes n m ts in

@@ -1,5 +1,5 @@
 -- The invariant of a frame: whatever others do, some node of a derivation holds of it.
-use Rattle.std.specs.Prelude.{◌≡◌, ℕ, ◌<◌, ℤ, List, [], length, slice_get, Option, Some}
+use Rattle.std.specs.Prelude.{◌≡◌, ℕ, ◌<◌, ℤ, List, [], length, map, slice_get, Option, Some}
 use Rattle.std.specs.List.{AllByRecursion}
 use Rattle.cap_lin.specs.Values.{Valuation}
 use Rattle.cap_prog.specs.Program.{PlainAssertion, PlainFunction, PlainProgram}
@@ -21,9 +21,9 @@ use Rattle.cap_account_states.proofs.Filled.{Filled}
 use Rattle.cap_account_states.proofs.Meets.{Old}
 use Rattle.cap_account_states.proofs.Naming.{values_in}
 use Rattle.cap_account_states.proofs.Backed.{IsFirm, Backed, Grounded}
-use Rattle.cap_account_assertions.proofs.Asserted.{DrawsAll, OwnsRequires, OwnsEnsures, OwnsInvariant}
+use Rattle.cap_account_assertions.proofs.Asserted.{DrawsAll, OwnsCase, OwnsRequires, OwnsEnsures, OwnsInvariant}
 use Rattle.cap_account_assertions.proofs.FilledAlike.{FilledLike}
-use Rattle.cap_account_assertions.proofs.Laws.{Made}
+use Rattle.cap_account_assertions.proofs.Laws.{Made, Creation}
 use Rattle.cap_account_assertions.proofs.Passages.{EndsAt}
 use Rattle.cap_account_steps.proofs.Points.{FrameOk}
 use Rattle.cap_account_steps.proofs.Regained.{Regained, given_ensures}
@@ -231,7 +231,7 @@ ComesRound p part T fn fixed f i =
     GivesUp p part T (λ U given. OwnsInvariant p U given fn f.store fixed i)
 
 -- all of a part is given up, at whichever values of which the same is brought, and names have what they
--- stand for
+-- stand for; so have those of the cases of regions that are created
 pub record GivesUpAt (p : PlainProgram) (part : Stock) (T : Table) (M : Table → Stock → Type 0)
     (values : (U : Table) (q : Stock) → M U q → Valuation) (v : Valuation)
     (s : PlainState) : Type 0 where
@@ -245,6 +245,11 @@ pub record GivesUpAt (p : PlainProgram) (part : Stock) (T : Table) (M : Table �
   pub each :
       (x : Valuation) → Alike (Old s) v x → Brings x (length s.sorts) brings →
       (m : M over.U given) × (values over.U given m ≡ values_in x env)
+  pub created : List Creation
+  pub are_created : over.new ≡ map (λ c. c.owner) created
+  pub keeps :
+      (x : Valuation) → Alike (Old s) v x → Brings x (length s.sorts) brings →
+      AllByRecursion (λ c. OwnsCase p over.U c.owner c.number (values_in x c.env)) created
 
 abbrev pub gives_up :
     (p : PlainProgram) (part : Stock) (T : Table) (M : Table → Stock → Type 0)

@@ -13,7 +13,7 @@ use Rattle.cap_goal_spec.specs.Choices.{PlainTree, node, PlainTrees, by_absurd, 
 use Rattle.cap_rules.specs.Making.{is_empty, env_at}
 use Rattle.cap_account_states.specs.Nodes.{Open}
 use Rattle.cap_account_resources.specs.Parts.{Table}
-use Rattle.cap_account_resources.proofs.Lists.{none-some, map-length, all-at, all-remove}
+use Rattle.cap_account_resources.proofs.Lists.{none-some, join-nil, map-length, all-at, all-remove}
 use Rattle.cap_account_resources.proofs.Stocks.{Stock, both}
 use Rattle.cap_account_resources.proofs.Tables.{TableFits, AreListed}
 use Rattle.cap_account_resources.proofs.Owners.{Owner}
@@ -32,7 +32,7 @@ use Rattle.cap_account_steps.proofs.Exact.{all-two}
 use Rattle.cap_account_steps.proofs.Joining.{Joined, fact-joined}
 use Rattle.cap_account_steps.proofs.Moves.{MovesTo, move-says}
 use Rattle.cap_account_steps.proofs.Shifting.{closed_state, none-other, Shifted, shifted}
-use Rattle.cap_account_steps.proofs.Shutting.{Shut, shut_values, shut_owner, KeepsCase, keeps-on}
+use Rattle.cap_account_steps.proofs.Shutting.{Shut, shut_values, shut_owner, KeepsCase, keeps-on, KeepsNew, keeps-new-on}
 use Rattle.cap_account_steps.proofs.Worlds.{Earlier, IfAny, IsStillOpen, Closing, HasMoved, SettlesBy}
 use Rattle.cap_account_steps.proofs.SettledTables.{told_of, open_of, settled-types}
 use Rattle.cap_account_steps.proofs.SettledTwice.{settles-for, settles-again}
@@ -66,6 +66,8 @@ pub record RegionClosed (p : Checked) (V W : Table) (part : Stock) (ks : List �
   pub named : w ≡ shut_values shut
   pub is_closed : by.closed ≡ shut_owner shut ∷ []
   pub keeps : KeepsCase p.program by.U shut
+  pub are_made : by.made ≡ map (λ c. c.owner) shut.created
+  pub keeps_new : KeepsNew p.program by.U shut
 
 -- what is known only while a region is open
 known-open :
@@ -286,6 +288,7 @@ module _ (p : Checked) (V W : Table) (part : Stock) (ks : List ℕ) (v : Valuati
         number = ct.number;
         env = env_at ct.t ct.env;
         stock = ct.given;
+        created = ct.created;
       }
 
       region-closed : RegionClosed p V W part ks v s held ts
@@ -321,6 +324,9 @@ module _ (p : Checked) (V W : Table) (part : Stock) (ks : List ℕ) (v : Valuati
         is_closed = ap (λ rs. rs ++ r ∷ []) ct.none_closed;
         keeps =
             keeps-on p.program T U (closed-states T r is_open) shut_here (owns, refl, refl);
+        are_made = join-nil ct.by.made ∙ ct.are_made;
+        keeps_new =
+            keeps-new-on p.program T U (closed-states T r is_open) shut_here ct.keeps_new;
       }
 
   pub shift-closes :

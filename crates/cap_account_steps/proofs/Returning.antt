@@ -20,7 +20,7 @@ use Rattle.cap_machine.specs.Machine.{Frame, value_in, with_rest}
 use Rattle.cap_machine_accounts.specs.Assertions.{NameValue}
 use Rattle.cap_account_states.proofs.Alike.{usable-alike, alike-same}
 use Rattle.cap_account_resources.specs.Parts.{Table}
-use Rattle.cap_account_resources.proofs.Lists.{some-same, none-some, within, get-map, map-length, all-at}
+use Rattle.cap_account_resources.proofs.Lists.{some-same, none-some, within, get-map, map-length, all-at, all-more}
 use Rattle.cap_account_resources.proofs.Monoid.{none, atom}
 use Rattle.cap_account_resources.proofs.Monoid as monoid
 use Rattle.cap_account_resources.proofs.Stocks.{Stock, no_stock, both, some-inside, inside-trans}
@@ -31,15 +31,15 @@ use Rattle.cap_account_states.proofs.Terms.{Over}
 use Rattle.cap_account_states.proofs.Attempts.{env_added, after-found, after-here, after-env}
 use Rattle.cap_account_states.proofs.Meets.{Usable, Old, meets-env}
 use Rattle.cap_account_states.proofs.Items.{AreFit}
-use Rattle.cap_account_states.proofs.Naming.{Placed}
+use Rattle.cap_account_states.proofs.Naming.{Placed, values_in}
 use Rattle.cap_account_states.proofs.Checked.{Checked}
 use Rattle.cap_account_states.proofs.Scopes.{ensures-at, invariant-at, param-requires, fixed-requires, requires-ensures, result-ensures, store-invariant, fixed-invariant, own-param, own-local, own-fixed, own-result, rep-length, unbound-none, less_or}
 use Rattle.cap_account_states.proofs.Values.{whole-of}
 use Rattle.cap_account_states.proofs.Roots.{values-length, function-fits, flat-bound}
 use Rattle.cap_account_states.proofs.Backed.{IsOpened}
-use Rattle.cap_account_assertions.proofs.Asserted.{OwnsEnsures, OwnsInvariant, owns-all}
+use Rattle.cap_account_assertions.proofs.Asserted.{OwnsCase, OwnsEnsures, OwnsInvariant, owns-all}
 use Rattle.cap_account_assertions.proofs.Coarser.{taken-named}
-use Rattle.cap_account_assertions.proofs.Laws.{StateAt, Taken, TakenLaw}
+use Rattle.cap_account_assertions.proofs.Laws.{StateAt, KeepsCreated, Taken, TakenLaw}
 use Rattle.cap_account_steps.proofs.Points.{FrameOk, point-act}
 use Rattle.cap_account_steps.proofs.Stores.{running, here, here-value, here-over}
 use Rattle.cap_account_steps.proofs.OwnNames.{take-get, get-take, get-drop, drop-length, take-length, canon, canon-means, at-new, there-new, own-placed, own-fixed-alike, store-term-alike}
@@ -244,6 +244,14 @@ module _ (p : Checked) (program : IsWellFormed p.program) (law : TakenLaw p) (pa
               },
               refl,
             );
+        created = tk.created;
+        are_created = tk.are_created;
+        keeps = λ x near brought.
+            let named = taken-named p [] T sc (length s.envs) 3 v part (env_added s env) items []
+            tk x near brought in
+            all-more (KeepsCreated p.program tk.U (Old tk.after) x)
+            (λ c. OwnsCase p.program tk.U c.owner c.number (values_in x c.env))
+            (λ c k. k x (alike-same (Old tk.after) x)) tk.created named.keeps;
       }
   return-at f l t b d ok n = absurd (p.step n.valid).1
 
@@ -350,6 +358,14 @@ module _ (p : Checked) (program : IsWellFormed p.program) (law : TakenLaw p) (pa
               },
               refl,
             );
+        created = tk.created;
+        are_created = tk.are_created;
+        keeps = λ x near brought.
+            let named = taken-named p [] T sc (length s.envs) 3 v part (env_added s env) inv.items []
+            tk x near brought in
+            all-more (KeepsCreated p.program tk.U (Old tk.after) x)
+            (λ c. OwnsCase p.program tk.U c.owner c.number (values_in x c.env))
+            (λ c k. k x (alike-same (Old tk.after) x)) tk.created named.keeps;
       }
   head-at f l c inv body b d ok n = absurd (p.step n.valid).1
 

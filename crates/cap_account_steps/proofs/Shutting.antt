@@ -1,6 +1,7 @@
 -- Values by name where opened regions are closed: what the case's items are taken at, and what the join
 -- makes of these; the region keeps its case at what the case's environment says then.
-use Rattle.std.proofs.Common.{length, ◌+◌, ◌≡◌, ℕ, ◌<◌, ℤ, pos, ◌*ℤ◌, List, [], ◌∷◌, map, find, nat_eq, if◌then◌else◌, Bool, true, false, Option, Some, None, sym, subst}
+use Rattle.std.proofs.Common.{length, ◌+◌, ◌≡◌, ℕ, ◌<◌, ℤ, pos, ◌*ℤ◌, List, [], ◌∷◌, ◌++◌, map, find, nat_eq, if◌then◌else◌, Bool, true, false, Option, Some, None, sym, subst}
+use Rattle.std.specs.List.{AllByRecursion}
 use Rattle.cap_lin.specs.Values.{Valuation, value}
 use Rattle.cap_prog.specs.Program.{PlainProgram}
 use Rattle.cap_goal_spec.specs.States.{PlainFact, PlainEnv}
@@ -14,10 +15,13 @@ use Rattle.cap_account_states.proofs.Brought.{Bring, Brings, HasHalves, bring_va
 use Rattle.cap_account_states.proofs.Alike.{Alike}
 use Rattle.cap_account_states.proofs.Naming.{values_in}
 use Rattle.cap_account_assertions.proofs.Asserted.{OwnsCase, case-kept}
+use Rattle.cap_account_assertions.proofs.Laws.{Creation, KeepsCreated}
+use Rattle.cap_account_assertions.proofs.NewRegions.{created-on}
 use Rattle.cap_account_assertions.proofs.Named.{set_to, lone, joined_values}
 
 -- one region is closed: values, facts and count of variables once its case's items are taken; its fact,
--- its case, the environment of the case's names, and what it gets
+-- its case, the environment of the case's names, and what it gets; and the regions that taking them
+-- created
 pub record Shut : Type 0 where
   pub took : Valuation
   pub brings : List Bring
@@ -27,6 +31,7 @@ pub record Shut : Type 0 where
   pub number : ℕ
   pub env : PlainEnv
   pub stock : Stock
+  pub created : List Creation
 
 -- what the join makes of values once the case's items are taken
 abbrev pub shut_from : Shut → Valuation → Valuation
@@ -67,6 +72,21 @@ pub keeps-on :
     (p : PlainProgram) (T U : Table) → KeepsStates T U → (c : Shut) → KeepsCase p T c →
     KeepsCase p U c
 keeps-on p T U f c k = case-kept p T U f (shut_owner c) c.number (values_in c.took c.env) k
+
+-- those that were created have theirs, at all values alike to those once the items are taken
+abbrev pub KeepsNew : PlainProgram → Table → Shut → Type 0
+KeepsNew p U c = AllByRecursion (KeepsCreated p U (λ x. x < c.later) c.took) c.created
+
+pub keeps-new-on :
+    (p : PlainProgram) (T U : Table) → KeepsStates T U → (c : Shut) → KeepsNew p T c →
+    KeepsNew p U c
+keeps-new-on p T U f c k =
+    let P = λ (x : ℕ). x < c.later in created-on p T U f P P c.took c.took (λ x l. l) c.created k
+
+-- all that were created
+abbrev pub new_owners : List Shut → List Owner
+new_owners [] = []
+new_owners (c ∷ cs) = map (λ d. d.owner) c.created ++ new_owners cs
 
 -- ---- over one denominator
 

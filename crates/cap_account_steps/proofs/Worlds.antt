@@ -31,7 +31,7 @@ use Rattle.cap_account_states.proofs.Facts.{Facts}
 use Rattle.cap_account_states.proofs.Backed.{IsFirm, Backed, Grounded}
 use Rattle.cap_account_assertions.proofs.Asserted.{OwnsRegion}
 use Rattle.cap_account_assertions.proofs.Laws.{IsOwner}
-use Rattle.cap_account_steps.proofs.Shutting.{Shut, shut_owner, Leads, KeepsCase}
+use Rattle.cap_account_steps.proofs.Shutting.{Shut, shut_owner, Leads, KeepsCase, KeepsNew, new_owners}
 use Rattle.cap_account_steps.proofs.Frames.{Stands}
 
 -- ---- a table, and what each of its regions has
@@ -194,6 +194,8 @@ pub record Closed (p : Checked) (V W : Table) (part : Stock) (ks : List ℕ) (v 
   pub named : Leads (length s.sorts) v shuts (length after.sorts) w
   pub are_closed : by.closed ≡ map shut_owner shuts
   pub keeps : AllByRecursion (KeepsCase p.program by.U) shuts
+  pub are_made : by.made ≡ new_owners shuts
+  pub keeps_new : AllByRecursion (KeepsNew p.program by.U) shuts
 
 -- closing them all, where the table's regions are listed
 abbrev pub ClosingLaw : Checked → Type 0
