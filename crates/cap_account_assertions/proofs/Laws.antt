@@ -55,8 +55,8 @@ pub record Made (p : PlainProgram) (T U : Table) (new : List Owner) : Type 0 whe
   pub others : (n : ℤ) → (Among n (numbers_of new) → ⊥) → U n ≡ T n
   pub owners : AllByRecursion (IsOwner p U) new
 
--- one region that is created: the number of the case whose items it was given, and the environment of
--- the case's names
+-- one region that is created: the number of the case whose items it was given, and the environment
+-- of the case's names
 pub record Creation : Type 0 where
   pub owner : Owner
   pub number : ℕ
@@ -118,7 +118,8 @@ GivenAlongLaw p =
 
 -- ---- taking
 
--- new variables have the values that are brought; so many regions may be created (`most`); what is given has the items at all values alike to the
+-- new variables have the values that are brought; so many regions may be created (`most`). What is
+-- given has the items, and each region that is created has its case, at all values alike to the
 -- present ones
 pub record Taken (p : Checked) (ks : List ℕ) (T : Table) (sc : Scope) (e most : ℕ) (v : Valuation)
     (held : Stock) (s : PlainState) (items : Items) (ts : List PlainTask) : Type 0 where

@@ -50,7 +50,8 @@ owner-extends p T U f r h = record {
       region-kept p T U (extends-states T U f) r.number r.kind r.args r.state r.stock h.owns;
 }
 
--- those that were created are in their cases, at whichever values are alike to those at which they were
+-- those that were created have their cases, by a table that keeps known states, at values whose alike
+-- ones are alike to those before
 pub created-on :
     (p : PlainProgram) (T U : Table) → KeepsStates T U → (P Q : ℕ → Type 0) (v w : Valuation) →
     ((x : Valuation) → Alike Q w x → Alike P v x) → (cs : List Creation) →

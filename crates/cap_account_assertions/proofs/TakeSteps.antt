@@ -79,7 +79,8 @@ pub record MadeFrom (p : PlainProgram) (T : Table) (next : ℤ) (U : Table) (new
   pub others : (n : ℤ) → (Among n (numbers_of new) → ⊥) → U n ≡ T n
   pub owners : AllByRecursion (IsOwner p U) new
 
--- all items were drawn out of what is given, at all values alike to those in the end
+-- all items were drawn out of what is given, and each region that was created has its case, at all
+-- values alike to those in the end
 pub record Took (p : Checked) (ks : List ℕ) (T : Table) (next : ℤ) (j : Job) (v : Valuation)
     (s : PlainState) (c : Stock) (most_trees : ℕ) : Type 0 where
   pub w : Valuation

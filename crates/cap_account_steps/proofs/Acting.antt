@@ -53,6 +53,7 @@ pub record Finished (p : Checked) (V W : Table) (part held : Stock) (ns : List �
   pub by : SettlesBy p.program V W part held ns kept
   pub table : by.U ≡ closed.by.U
   pub owners : by.closed ≡ closed.by.closed
+  pub made : by.made ≡ closed.by.made
   pub stands : StandsAt p kept by.U fixed f (last_values by.U closed)
 
 abbrev pub FinishingLaw : Checked → Type 0
@@ -87,6 +88,7 @@ pub record Acted (p : Checked) (V : Table) (share : ℤ → Stock) (part : Stock
       (to_rest 0 l.number ∷ running (after_act a f b step.content).1.rest h)
   pub table : step.by.U ≡ closed.by.U
   pub owners : step.by.closed ≡ closed.by.closed
+  pub made : step.by.made ≡ closed.by.made
   pub named :
       (U : Table) (r : Relies p.program step.kept.guards step.by.U U) →
       (step.stands.all U r).at_node.v ≡ last_values step.by.U closed U
@@ -155,5 +157,6 @@ acts-law p finish V share part heap fn fixed f l a b x is-address world ok v s h
       closed = finished.closed;
       table = finished.table;
       owners = finished.owners;
+      made = finished.made;
       named = finished.stands.named;
     }

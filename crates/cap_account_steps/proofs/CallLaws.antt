@@ -42,7 +42,8 @@ use Rattle.cap_account_steps.proofs.Calling.{store-received, back_start, after_c
 
 -- ---- by name
 
--- what a callee's `requires` is taken at, and the values that its names have then
+-- what a callee's `requires` is taken at, and the values that its names have then; and the regions
+-- that are created, which have their cases at all alike values
 module _ (p : Checked) (part : Stock) (T : Table) (fixed : List NameValue) (f : Frame)
     (g : PlainFunction) (args : List ℤ) (v : Valuation) (s : PlainState) where
   abbrev pub required : Valuation → PlainState → Valuation

@@ -191,6 +191,7 @@ finishing-law p program closing V part held ns ks v s n h fn fixed f trees bound
       closed = cl;
       table = refl;
       owners = refl;
+      made = refl;
       kept = cl.left;
       by = settles-for q V W part held cl.left ns (regions_of v s.opened)
           (λ m a. subst (Among m) (sym are) a) (ap length are) b;

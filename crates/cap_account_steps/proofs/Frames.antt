@@ -230,8 +230,8 @@ abbrev pub ComesRound :
 ComesRound p part T fn fixed f i =
     GivesUp p part T (λ U given. OwnsInvariant p U given fn f.store fixed i)
 
--- all of a part is given up, at whichever values of which the same is brought, and names have what they
--- stand for; so have those of the cases of regions that are created
+-- all of a part is given up, at whichever values of which the same is brought, and names have what
+-- they stand for; so have those of the cases that created regions have
 pub record GivesUpAt (p : PlainProgram) (part : Stock) (T : Table) (M : Table → Stock → Type 0)
     (values : (U : Table) (q : Stock) → M U q → Valuation) (v : Valuation)
     (s : PlainState) : Type 0 where

@@ -1,6 +1,7 @@
 -- A callee's fixed names may be given any values that they have: the same fractions, written otherwise.
-use Rattle.std.proofs.Common.{◌≡◌, ℕ, suc, ◌+◌, ℤ, pos, ◌*ℤ◌, List, [], ◌∷◌, length, Option, Some, refl, sym, ap, ◌∙◌, subst, arith}
+use Rattle.std.proofs.Common.{◌≡◌, ℕ, suc, ◌+◌, ℤ, pos, ◌*ℤ◌, List, [], ◌∷◌, length, map, Option, Some, refl, sym, ap, ◌∙◌, subst, arith}
 use Rattle.std.specs.Prelude.{slice_get, ◌<ℤ◌}
+use Rattle.std.specs.List.{AllByRecursion}
 use Rattle.std.proofs.lemmas.Int.{ints}
 use Rattle.cap_lin.specs.Values.{Valuation, denominator}
 use Rattle.cap_lin.specs.declared.row.Sort.{Sort}
@@ -17,7 +18,9 @@ use Rattle.cap_account_resources.proofs.Interference.{Relies}
 use Rattle.cap_account_resources.proofs.Order.{cancel, swapped}
 use Rattle.cap_account_resources.proofs.Stocks.{Stock, both}
 use Rattle.cap_account_states.proofs.Checked.{Checked}
+use Rattle.cap_account_states.proofs.Meets.{Old}
 use Rattle.cap_account_assertions.proofs.Asserted.{OwnsEnsures}
+use Rattle.cap_account_assertions.proofs.Laws.{Creation, KeepsCreated}
 use Rattle.cap_account_assertions.proofs.Named.{set_to, rest_values}
 use Rattle.cap_account_steps.proofs.Callees.{value_for, fixed_values}
 use Rattle.cap_account_steps.proofs.Frames.{Roomy, Calls, Forks, StandsAgain, GivenBack, WaitsLike, waits_so}
@@ -96,6 +99,9 @@ module _ (p : Checked) (part : Stock) (T : Table) (fixed : List NameValue) (f : 
       (children : PlainTrees) : Type 0 where
     pub calls : Calls p part T fixed f x n g args
     pub fixed_are : calls.fixed ≡ given
+    pub created : List Creation
+    pub are_created : calls.over.new ≡ map (λ c. c.owner) created
+    pub keeps : AllByRecursion (KeepsCreated p.program calls.over.U (Old after) took) created
     pub waits :
         WaitsLike p calls.kept calls.over.U fixed f x n args calls.fixed
         (back_start s took after children)
@@ -186,6 +192,9 @@ module _ (p : Checked) (part : Stock) (T : Table) (fixed : List NameValue) (f : 
           goes_on = waits_so p h.kept h.over.U fixed f x n args given start waits;
         };
         fixed_are = refl;
+        created = c.created;
+        are_created = c.are_created;
+        keeps = c.keeps;
         waits = waits;
         are_those = refl;
       }
@@ -194,6 +203,9 @@ module _ (p : Checked) (part : Stock) (T : Table) (fixed : List NameValue) (f : 
       (children : PlainTrees) : Type 0 where
     pub forks : Forks p part T fixed f g args
     pub fixed_are : forks.fixed ≡ given
+    pub created : List Creation
+    pub are_created : forks.over.new ≡ map (λ c. c.owner) created
+    pub keeps : AllByRecursion (KeepsCreated p.program forks.over.U (Old after) took) created
     pub named :
         (U : Table) (r : Relies p.program forks.kept.guards forks.over.U U) →
         (forks.goes_on.all U r).at_node.v
@@ -222,5 +234,8 @@ module _ (p : Checked) (part : Stock) (T : Table) (fixed : List NameValue) (f : 
           goes_on = h.goes_on;
         };
         fixed_are = refl;
+        created = c.created;
+        are_created = c.are_created;
+        keeps = c.keeps;
         named = c.named;
       }
