@@ -93,6 +93,7 @@ known-extends p ks T U v s c x h =
 
 -- ---- the region is made
 
+-- the region by its number, type, arguments, state and part; its case and this one's environment
 abbrev pub creation_of : ℤ → ℕ → List ℤ → ℤ → Stock → ℕ → PlainEnv → Creation
 creation_of n k args state given c env = record {
   owner = record { number = n; kind = k; args = args; state = state; stock = given };
@@ -184,13 +185,13 @@ name-alike ks sc s env w x placed l i at = by (term_of env i) refl
         (placed.over i Int at t e))
 
 -- so many names have the numbers that they have at values with the same
-whole-alike :
+whole-same :
     (a b : Valuation) (x : ℕ) (zs : List ℤ) →
     ((i : ℕ) → i < x + length zs → b.whole i ≡ a.whole i) → AreWhole a x zs → AreWhole b x zs
-whole-alike a b x [] f h = tt
-whole-alike a b x (z ∷ zs) f h = (
+whole-same a b x [] f h = tt
+whole-same a b x (z ∷ zs) f h = (
   f x (omega arith) ∙ h.0,
-  whole-alike a b (suc x) zs (λ i l. f i (omega (arith, l))) h.1,
+  whole-same a b (suc x) zs (λ i l. f i (omega (arith, l))) h.1,
 )
 
 pub made-region :
@@ -277,7 +278,7 @@ made-region p ks U n w s left given y z k c e t ts P is_type is_case h comes =
           args_are = (
             alike x l 0 itself ∙ ap (λ o. value w.whole (unwrap_or o zero_value)) h.first
                 ∙ h.number,
-            whole-alike (values_in w env) (values_in x env) 1 zs
+            whole-same (values_in w env) (values_in x env) 1 zs
                 (λ i m. alike x l i
                 (let q = args.size in
                 let r = map-length (value w.whole) args.terms in omega (arith, m, q, r, itself)))
