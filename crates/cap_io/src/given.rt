@@ -24,7 +24,7 @@ impl Given {
         Given {}
     }
 
-    /// The file of this name gave these bytes too.
+    /// Then the file of this name gave these bytes.
     #[inline(always)]
     pub(crate) fn and(&self, _name: &String, _bytes: &Vec<u8>) -> Given
         ensures { result.files

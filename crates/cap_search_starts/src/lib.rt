@@ -4,7 +4,7 @@
 ghost use Rattle.cap_search_starts.specs.Laws.{EmptyStartsAreNone};
 
 /// Where the precondition of `main` is found empty, no start meets it: no arguments, no heap and no
-/// values of its names. The terms of the precondition are in order, as those of a text are.
+/// values of its names. That is said of preconditions whose terms are in order.
 pub fn empty_starts_are_none()
     ensures { EmptyStartsAreNone }
 {}

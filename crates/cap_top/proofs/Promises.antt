@@ -15,7 +15,7 @@ use Rattle.cap_replay.specs.declared.playing.End.TheVariants as ends
 use Rattle.cap_kernel_check.specs.declared.error.CheckError.{CheckError}
 use Rattle.cap_deriv_write.specs.Written.{derivation_text}
 use Rattle.cap_top_report.specs.Found.{found_trees}
-use Rattle.cap_top_commands.specs.Derivations.{IsDerivation, IsChecked}
+use Rattle.cap_top_commands.specs.Derivations.{SaysLines, IsDerivation, IsChecked}
 use Rattle.cap_top_commands.specs.Answers.{Fetched, held, unread, long, After, SaysCause, SaysRefusal, IsVerified, IsDerived, IsShown, IsPlayed, IsOutput, GoodAnswersAreSafe, AcceptedAreSafe, DerivedAreAccepted}
 use Rattle.cap_top_report.specs.Report.{report_text, is_good}
 use Rattle.cap_top_commands.specs.Task.{Task, verify, derive, check, show, replay, files_of}
@@ -203,42 +203,30 @@ module _ (shelf shelf_now : SeenShelf) (name : List ℕ) (o : Output) where
       let f : Refused ≡ Good = sym (same_status o (refusal_output k.cause) k.whole) ∙ e in absurd cc
   derived_bytes accepts budget sink sink_now bytes c (inr s) e g = by s.said
     where
-      lines_proved : IsDerivation budget s.thing o → is_good s.thing budget ≡ true
-      lines_proved (inl k) =
+      lines_said : IsDerivation budget s.thing o → SaysLines budget s.thing o
+      lines_said (inl k) =
           absurd (bad_good (is_good s.thing budget) k.bad
           (sym (same_status o (report_output (is_good s.thing budget) (report_text s.thing budget)) k.report) ∙ e))
-      lines_proved (inr (inl k)) = k.good
-      lines_proved (inr (inr k)) = k.good
-
-      lines_whole : IsDerivation budget s.thing o → o.text ≡ derivation_text (found_trees s.thing budget)
-      lines_whole (inl k) =
-          absurd (bad_good (is_good s.thing budget) k.bad
-          (sym (same_status o (report_output (is_good s.thing budget) (report_text s.thing budget)) k.report) ∙ e))
-      lines_whole (inr (inl k)) = let f : Bad ≡ Good = sym (same_status o long_derivation_output k.whole) ∙ e in absurd cc
-      lines_whole (inr (inr k)) = same_text o (derivation_output (derivation_text (found_trees s.thing budget))) k.whole
-
-      lines_short : IsDerivation budget s.thing o → length o.text ≤ longest
-      lines_short (inl k) =
-          absurd (bad_good (is_good s.thing budget) k.bad
-          (sym (same_status o (report_output (is_good s.thing budget) (report_text s.thing budget)) k.report) ∙ e))
-      lines_short (inr (inl k)) = let f : Bad ≡ Good = sym (same_status o long_derivation_output k.whole) ∙ e in absurd cc
-      lines_short (inr (inr k)) =
-          subst (λ t. length t ≤ longest)
-          (sym (same_text o (derivation_output (derivation_text (found_trees s.thing budget))) k.whole)) k.short.bytes
+      lines_said (inr (inl k)) = let f : Bad ≡ Good = sym (same_status o long_derivation_output k.whole) ∙ e in absurd cc
+      lines_said (inr (inr k)) = k
 
       by : IsDerivation budget s.thing o → DerivesFile shelf shelf_now budget name sink sink_now
-      by d = record {
-        bytes = bytes;
-        read = c;
-        program = s.thing;
-        text_of_it = s.is_so;
-        proved = lines_proved d;
-        lines = o.text;
-        whole = lines_whole d;
-        short = lines_short d;
-        accepted = accepts budget bytes s.thing o s.is_so d e;
-        gains = g;
-      }
+      by d =
+          let k : SaysLines budget s.thing o = lines_said d in
+          let text = derivation_text (found_trees s.thing budget) in
+          let same : o.text ≡ text = same_text o (derivation_output text) k.whole in
+          record {
+            bytes = bytes;
+            read = c;
+            program = s.thing;
+            text_of_it = s.is_so;
+            proved = k.good;
+            lines = o.text;
+            whole = same;
+            short = subst (λ t. length t ≤ longest) (sym same) k.short.bytes;
+            accepted = accepts budget bytes s.thing o s.is_so d e;
+            gains = g;
+          }
 
   derived_by : DerivedAreAccepted → (budget : ℕ) (sink sink_now : SeenSink) (got : List Fetched)
       → AreRead shelf shelf_now (name ∷ []) got
@@ -374,7 +362,7 @@ module _ (task : Option Task) (shelf shelf_now : SeenShelf) (sink sink_now : See
       let f : ProvesFile shelf shelf_now budget name = found_run safe name budget t e in
       record {
         bytes = f.bytes;
-        read = record { given = f.read.given; held = f.read.held };
+        read = f.read;
         safe = f.good.text;
       }
 

@@ -26,8 +26,8 @@ use Rattle.cap_top.specs.Run.{IsPut, IsNothing}
 
 -- ---- what a good status promises
 
--- In this call these two files were read, one after the other, and no other file; they gave these
--- bytes, which are those that they hold where the shelf tells its files.
+-- In this call these two files gave these bytes, one after the other, and no other file gave any; they
+-- are those that the files hold where the shelf tells its files.
 pub record AreBothRead (shelf shelf_now : SeenShelf) (name bytes second more : List ℕ)
     : Type 0 where
   pub given : HasGiven shelf shelf_now ((name, bytes) ∷ ((second, more) ∷ []))
@@ -106,7 +106,8 @@ pub record ReplaysFiles (shelf shelf_now : SeenShelf) (file schedule : List ℕ)
 -- ---- whatever faults come
 
 -- The ways to end: an output by what the files that were read gave, whole or, where the put failed,
--- the first of it; or no memory, with nothing. No file is read but those.
+-- the first of it; or no memory, with nothing. No other file gives anything, and none is read over a
+-- shelf that counts its fetches.
 abbrev pub Ends : Option Task → SeenShelf → SeenShelf → SeenSink → SeenSink → Status → Type 0
 Ends task shelf shelf_now sink sink_now status =
     ((got : List Fetched) × AreRead shelf shelf_now (files_of task) got

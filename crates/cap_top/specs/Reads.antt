@@ -46,7 +46,8 @@ abbrev pub AreCounted : SeenShelf → SeenShelf → List Fetched → Type 0
 AreCounted shelf shelf_now got =
     IfSome shelf.fetches (λ n. shelf_now.fetches ≡ Some (counted_by got n))
 
--- These were read, and nothing else, of the files of the first of these names.
+-- The files of the first of these names gave this, as many as were read. No other file gave bytes, and
+-- none was read over a shelf that counts its fetches.
 pub record AreRead (shelf shelf_now : SeenShelf) (names : List (List ℕ)) (got : List Fetched)
     : Type 0 where
   pub fetched : AreFetched shelf shelf_now names got

@@ -158,7 +158,7 @@ pub fn run<S: Shelf, K: Sink>(
         (K.seen sink.old) (K.seen sink.new) result }
 
     // Whatever faults come, what is said is what follows from what the files gave that were read. A
-    // second file is read only where the first gave a program's text.
+    // second file gives bytes only where the first gave a program's text.
     ensures ends { Ends (task_in words.now)
         (S.seen shelf.old) (S.seen shelf.new) (K.seen sink.old) (K.seen sink.new) result }
 
