@@ -12,7 +12,8 @@ use std::alloc::{AllocError, AllocFailed, Global};
 use std::marker::Model;
 use thiserror::Error;
 
-const MOST_NODES: u64 = 1_000_000;
+/// The most nodes that a derivation may have, those of all its trees together.
+pub const MOST_NODES: u64 = 1_000_000;
 
 /// Why bytes are no derivation: the number of the first line, counted from 1, that is not of its
 /// form in its place; no last line; more than 1,000,000 nodes, which is found at the node that

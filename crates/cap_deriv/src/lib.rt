@@ -9,5 +9,5 @@ mod first;
 mod found;
 mod values;
 
-pub use cursor::{Cursor, DerivError};
+pub use cursor::{Cursor, DerivError, MOST_NODES};
 pub use entire::{Lines, read};

@@ -18,8 +18,11 @@ use std::marker::Model;
 /// How many rows one elimination may have.
 const LIMIT: usize = 4096;
 
+// The low 64 bits of a number.
 const LOW_WORD: u128 = 0xFFFF_FFFF_FFFF_FFFF;
 
+// An odd number near 2^64 over the golden ratio, by which a digest is spread before the next word
+// (multiplicative hashing).
 const MULTIPLIER: u64 = 0x9E37_79B9_7F4A_7C15;
 
 // An input row lends its term, and a combination has its own.

@@ -1,6 +1,9 @@
 //! Choices of rules, trees of choices, and the units that they prove.
 use cap_farkas::Cert;
 
+/// No node of a tree stands deeper, its root being at depth 1.
+pub const DEEPEST: u32 = 1000;
+
 /// Which rule is taken at a goal, and how. Cells, facts, pieces, opened regions, cases, sums and
 /// candidates are named by number, from 0; a move is 0 for none, or the number of an action, from
 /// 1.

@@ -12,7 +12,7 @@ mod shared;
 mod state;
 mod task;
 
-pub use choice::{Bundle, Choice, Node, Unit};
+pub use choice::{Bundle, Choice, DEEPEST, Node, Unit};
 pub use fact::{Env, Fact, copy_terms};
 pub use goal::Goal;
 pub use state::{LONGEST_LIST, State};

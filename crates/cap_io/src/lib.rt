@@ -9,5 +9,5 @@ mod shelf;
 mod system;
 
 pub use memory::{MemoryShelf, MemorySink};
-pub use shelf::{FetchError, PutFailed, Shelf, Sink, answers_are_exact};
+pub use shelf::{FetchError, LONGEST_FILE, PutFailed, Shelf, Sink, answers_are_exact};
 pub use system::{FileShelf, StdSink};

@@ -10,7 +10,7 @@ ghost use Rattle.cap_io.specs.Memory.{files_of, failed_fetches, fails_next, fetc
 ghost use Rattle.cap_io.specs.Memory.{after_fetch, TakesWhole, taken, fails_after};
 
 use crate::given::Given;
-use crate::shelf::LONGEST;
+use crate::shelf::LONGEST_FILE;
 use crate::{FetchError, PutFailed, Shelf, Sink};
 use std::alloc::{AllocError, Global};
 use std::marker::Model;
@@ -120,7 +120,7 @@ fn copied(alloc: Global, file: Option<&Vec<u8>>) -> Result<Vec<u8>, FetchError>
 {
     match file {
         None => Err(FetchError::Absent),
-        Some(bytes) if bytes.len() > LONGEST => Err(FetchError::TooLong(bytes.len() as u64)),
+        Some(bytes) if bytes.len() > LONGEST_FILE => Err(FetchError::TooLong(bytes.len() as u64)),
         Some(bytes) => Ok(Vec::from_slice(alloc, bytes.as_slice())?),
     }
 }

@@ -9,7 +9,7 @@ use std::alloc::{AllocError, AllocFailed};
 use thiserror::Error;
 
 /// The most bytes that a file may have.
-pub(crate) const LONGEST: usize = 67_108_864;
+pub const LONGEST_FILE: usize = 67_108_864;
 
 /// Why a fetch has no bytes.
 #[derive(Clone, Copy, Debug, PartialEq, Eq, Error)]

@@ -9,7 +9,7 @@ ghost use Rattle.cap_io.specs.Outside.{longest, Gains, GainsPrefix};
 ghost use Rattle.cap_io.specs.Reading.{IsReadError};
 
 use crate::given::Given;
-use crate::shelf::LONGEST;
+use crate::shelf::LONGEST_FILE;
 use crate::{FetchError, PutFailed, Shelf, Sink};
 use std::alloc::Global;
 use std::fs::File;
@@ -84,8 +84,8 @@ fn count_on<F: Read>(file: &mut F, mut seen: usize) -> FetchError
     ensures { IsReadError seen (F.remaining file.old) result }
 {
     let mut chunk = [0u8; CHUNK];
-    while seen <= LONGEST {
-        let room = CHUNK.min(LONGEST + 1 - seen);
+    while seen <= LONGEST_FILE {
+        let room = CHUNK.min(LONGEST_FILE + 1 - seen);
         match read_some(file, &mut chunk[..room]) {
             Ok(0) => return FetchError::OutOfMemory,
             Ok(count) => seen += count,
@@ -105,8 +105,8 @@ fn read_to_end<F: Read>(alloc: Global, file: &mut F) -> Result<Vec<u8>, FetchErr
 {
     let mut bytes = Vec::new(alloc);
     let mut chunk = [0u8; CHUNK];
-    while bytes.len() <= LONGEST {
-        let room = CHUNK.min(LONGEST + 1 - bytes.len());
+    while bytes.len() <= LONGEST_FILE {
+        let room = CHUNK.min(LONGEST_FILE + 1 - bytes.len());
         match read_some(file, &mut chunk[..room]) {
             Ok(0) => return Ok(bytes),
             Ok(count) => {

@@ -17,12 +17,9 @@ use crate::laws::{faulty_are_invalid, walks_tell};
 use crate::start::Start;
 use crate::tree::visit;
 use crate::walk::Walk;
-use cap_goal::{Bundle, Goal, Node};
+use cap_goal::{Bundle, DEEPEST, Goal, Node};
 use cap_prog::Program;
 use std::alloc::Global;
-
-/// No node of a tree stands deeper, its root being at depth 1.
-const DEEPEST: usize = 1000;
 
 // A root without tasks has no tree.
 fn visit_nothing(program: &Program, tree: &Option<Node>, walk: &mut Walk) -> Result<(), CheckError>
@@ -52,7 +49,7 @@ fn visit_goal<'a>(
             walk.lack();
             Ok(())
         }
-        Some(node) => visit(alloc, program, goal, node, DEEPEST, walk),
+        Some(node) => visit(alloc, program, goal, node, DEEPEST as usize, walk),
     }
 }
 

@@ -13,12 +13,9 @@ use crate::error::CheckError;
 use crate::left::goals_left;
 use crate::preorder::Preorder;
 use crate::start::Start;
-use cap_goal::{Goal, Node};
+use cap_goal::{DEEPEST, Goal, Node};
 use cap_prog::Program;
 use std::alloc::Global;
-
-/// A node at which a choice is made has fewer nodes above it in its tree.
-const DEEPEST: u32 = 1000;
 
 // The tree of a goal that has so many nodes above it.
 #[cycle(growth)]

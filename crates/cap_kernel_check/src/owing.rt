@@ -16,12 +16,9 @@ ghost use Rattle.cap_kernel_check.specs.Views.{start_view, starts_view};
 use crate::debt::Debt;
 use crate::left::goals_left;
 use crate::start::Start;
-use cap_goal::{Choice, Goal};
+use cap_goal::{Choice, DEEPEST, Goal};
 use cap_prog::Program;
 use std::alloc::{AllocError, Global};
-
-/// A node at which a choice is made has fewer nodes above it in its tree.
-const DEEPEST: u32 = 1000;
 
 // Appends what is owed at a root, the goal there or none.
 fn push_root<'a>(debts: &mut Vec<Debt<'a>>, goal: Option<Goal<'a>>) -> Result<(), AllocError>

@@ -3,4 +3,3 @@ pub mod Parts
 pub mod Scopes
 pub mod WellFormed
 pub mod Views
-pub mod Empty

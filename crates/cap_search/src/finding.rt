@@ -14,15 +14,12 @@ use crate::places::obligation_of;
 use crate::seeking::prove;
 use crate::verdict::Verdict;
 use crate::walk::{Stop, Walk};
-use cap_goal::{Goal, Node, Unit};
+use cap_goal::{DEEPEST, Goal, Node, Unit};
 use cap_goal_roots::roots;
 use cap_lin::LinError;
 use cap_prog::Program;
 use cap_search_spec::walks_tell_verdicts;
 use std::alloc::{AllocError, Global};
-
-/// No node of a tree stands deeper, its root being at depth 1.
-const DEEPEST: usize = 1000;
 
 // The tree of a root; one without tasks has none, which is found at once.
 fn prove_root<'a>(
@@ -37,7 +34,7 @@ fn prove_root<'a>(
 {
     match root {
         None => Ok(Some(None)),
-        Some(goal) => match prove(alloc, program, goal, DEEPEST, walk)? {
+        Some(goal) => match prove(alloc, program, goal, DEEPEST as usize, walk)? {
             Some(node) => Ok(Some(Some(node))),
             None => Ok(None),
         },

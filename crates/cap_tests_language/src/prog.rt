@@ -4,7 +4,7 @@ ghost use Rattle.std.specs.Prelude.{◌≡◌, [], IfOk};
 ghost use Rattle.cap_prog.specs.Program.{none, PlainProgram};
 ghost use Rattle.cap_prog.specs.Views.{assertion_view, statement_view, function_view, region_view};
 ghost use Rattle.cap_prog.specs.WellFormed.{FunctionFits, RegionFits};
-ghost use Rattle.cap_prog.specs.Empty.{closing};
+ghost use Rattle.cap_tests_language.specs.Empty.{closing};
 
 use cap_galg::Algebra;
 use cap_lin::Term;

@@ -1,5 +1,6 @@
 -- What is said of a program's derivation: the lines that are written for it, and how lines are judged.
 use Rattle.std.specs.Prelude.{◌≡◌, ◌⊎◌, ℕ, ◌≤◌, ◌<◌, ◌^◌, true, false, List, length, Option, Result}
+use Rattle.cap_io.specs.Outside.{longest}
 use Rattle.cap_prog.specs.Program.{PlainProgram}
 use Rattle.cap_goal_spec.specs.Choices.{PlainChoice, PlainTree}
 use Rattle.cap_deriv.specs.Told.{told_by_bytes, opening_told, choices_told, all_told, bad_told, unended_told, too_many_told, most_nodes}
@@ -18,16 +19,12 @@ use Rattle.cap_top_commands.specs.Report.{IsReport}
 
 -- ---- the lines that are written
 
--- the most bytes that they may have: as many as a file that is read
-abbrev pub longest_derivation : ℕ
-longest_derivation = 67108864
-
--- The trees have a text: the number of trees has 32 bits, and there are no more nodes and bytes than a
--- derivation may have.
+-- The trees have a text: the number of trees has 32 bits, and there are no more nodes than a derivation
+-- may have and no more bytes than a file that is read.
 pub record HaveText (trees : List (Option PlainTree)) : Type 0 where
   pub roots : length trees < 2 ^ 32
   pub nodes : length (choices_of_roots trees) ≤ most_nodes
-  pub bytes : length (derivation_text trees) ≤ longest_derivation
+  pub bytes : length (derivation_text trees) ≤ longest
 
 -- not all of the program is proved, and its report is said
 pub record SaysReport (budget : ℕ) (p : PlainProgram) (o : Output) : Type 0 where

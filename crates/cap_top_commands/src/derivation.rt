@@ -10,29 +10,25 @@ ghost use Rattle.cap_top_commands.specs.Views.{output_view};
 
 use crate::answer::refuse;
 use crate::output::Output;
+use cap_deriv::MOST_NODES;
 use cap_deriv_laws::valid_trees_have_no_zeros;
 use cap_deriv_write::{node_count, write};
 use cap_goal::Bundle;
+use cap_io::LONGEST_FILE;
 use cap_prog::Program;
 use cap_top_reading::read_program;
 use cap_top_report::{Conclusion, derive_on, found_trees_are_valid};
 use std::alloc::{AllocError, Global};
 
-/// The most nodes that a derivation may have.
-const MOST_NODES: usize = 1_000_000;
-
-/// The most bytes that its text may have.
-const LONGEST: usize = 67_108_864;
-
 /// The lines of a bundle's trees, unless they are too many or too long.
 fn text_of(alloc: Global, bundle: &Bundle) -> Result<Option<Vec<u8>>, AllocError>
     ensures { IfOk result (FindsText (bundle_view bundle.now)) }
 {
-    if bundle.trees.len() > u32::MAX as usize || node_count(alloc, bundle)? > MOST_NODES {
+    if bundle.trees.len() > u32::MAX as usize || node_count(alloc, bundle)? > MOST_NODES as usize {
         return Ok(None);
     }
     let text = write(alloc, bundle)?;
-    if text.len() > LONGEST {
+    if text.len() > LONGEST_FILE {
         return Ok(None);
     }
     Ok(Some(text))

@@ -8,7 +8,8 @@ use Rattle.cap_deriv_write.specs.Spelled.{AreBundle, DerivationLines, HaveNoSpac
 use Rattle.cap_deriv_write.specs.Written.{derivation_text}
 use Rattle.cap_top_report.specs.Found.{found_trees}
 use Rattle.cap_top_report.specs.Report.{is_good, report_text}
-use Rattle.cap_top_commands.specs.Derivations.{longest_derivation, HaveText, IsDerivation}
+use Rattle.cap_io.specs.Outside.{longest}
+use Rattle.cap_top_commands.specs.Derivations.{HaveText, IsDerivation}
 use Rattle.cap_top_commands.specs.Output.{Output, report_output, derivation_output, long_derivation_output}
 use Rattle.cap_top_laws.specs.Laws.{FoundHaveLines, DerivationsAreAnswered}
 use Rattle.cap_top_laws.proofs.Certificates.{EitherWay, as-well, both, less, at-most}
@@ -22,7 +23,7 @@ have-text-or-not : (trees : List (Option PlainTree)) → EitherWay (HaveText tre
 have-text-or-not trees =
     as-well (λ h. record { roots = h.0.0; nodes = h.0.1; bytes = h.1 }) (λ (h : HaveText trees). ((h.roots, h.nodes), h.bytes))
     (both (both (less (length trees) (2 ^ 32)) (at-most (length (choices_of_roots trees)) most_nodes))
-    (at-most (length (derivation_text trees)) longest_derivation))
+    (at-most (length (derivation_text trees)) longest))
 
 few : (n : ℕ) → n ≤ most_nodes → n < 2 ^ 64
 few n h = omega arith

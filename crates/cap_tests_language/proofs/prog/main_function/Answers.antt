@@ -1,5 +1,5 @@
 use Rattle.std.proofs.Common.{refl, arith}
-use Rattle.cap_prog.proofs.EmptyLemmas.{nothing-fits, nothing-ensured, closing-fits}
+use Rattle.cap_tests_language.proofs.EmptyLemmas.{nothing-fits, nothing-ensured, closing-fits}
 use Rattle.cap_tests_language.proofs.prog.main_function.Goals as goal
 
 pub returns : goal.returns

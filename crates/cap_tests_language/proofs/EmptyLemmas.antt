@@ -1,7 +1,7 @@
 -- Assertions without items.
 use Rattle.std.proofs.Common.{◌≡◌, refl, sym, subst, ◌+◌, ◌≤◌, [], length, arith}
 use Rattle.cap_prog.specs.Program.{none, PlainAssertion, first, done, PlainStatement, PlainFunction, PlainProgram}
-use Rattle.cap_prog.specs.Empty.{closing}
+use Rattle.cap_tests_language.specs.Empty.{closing}
 use Rattle.cap_syntax.specs.declared.place.Place.{Place}
 use Rattle.cap_prog.specs.Scopes.{Scope, fixed_start, ensures_scope}
 use Rattle.cap_prog.specs.WellFormed.{most_variables, ItemsFit, AssertionFits, BodyFits}
