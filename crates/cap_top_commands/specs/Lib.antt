@@ -1,4 +1,4 @@
-pub mod Task
+pub mod Commands
 pub mod Status
 pub mod Output
 pub mod Report

@@ -1,5 +1,6 @@
 //! Laws: a good answer means a safe program, and `check` accepts what `derive` writes.
-ghost use Rattle.cap_top_commands.specs.Answers.{AcceptedAreSafe, DerivedAreAccepted, GoodAnswersAreSafe};
+ghost use Rattle.cap_top_commands.specs.Answers.{AcceptedAreSafe, DerivedAreAccepted};
+ghost use Rattle.cap_top_commands.specs.Answers.{GoodAnswersAreSafe, GoodTrialsAreSafe};
 
 use cap_account::derivations_are_sound;
 use cap_deriv_write::readings_are_lines;
@@ -10,6 +11,15 @@ use cap_top_report::found_trees_are_valid;
 /// A law: what `verify` says with a good status is said of the text of a program that is safe.
 pub fn good_answers_are_safe()
     ensures { GoodAnswersAreSafe }
+{
+    derivations_are_sound();
+    found_trees_are_valid();
+    programs_of_texts_are_well_formed();
+}
+
+/// A law: what a trial says with a good status is said of the text of a program that is safe.
+pub fn good_trials_are_safe()
+    ensures { GoodTrialsAreSafe }
 {
     derivations_are_sound();
     found_trees_are_valid();
