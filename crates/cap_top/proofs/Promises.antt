@@ -16,7 +16,8 @@ use Rattle.cap_kernel_check.specs.declared.error.CheckError.{CheckError}
 use Rattle.cap_deriv_write.specs.Written.{derivation_text}
 use Rattle.cap_top_report.specs.Found.{found_trees}
 use Rattle.cap_top_commands.specs.Derivations.{SaysLines, IsDerivation, IsChecked}
-use Rattle.cap_top_commands.specs.Answers.{Fetched, held, unread, long, After, SaysCause, SaysRefusal, IsVerified, IsTrial, IsDerived, IsShown, IsPlayed, IsOutput, IsOnlyOutput, Agree, GoodAnswersAreSafe, GoodTrialsAreSafe, AcceptedAreSafe, DerivedAreAccepted}
+use Rattle.cap_top_commands.specs.Startless.{SaysEmpty, IsStartlessText}
+use Rattle.cap_top_commands.specs.Answers.{Fetched, held, unread, long, After, ByOne, SaysCause, SaysRefusal, IsVerified, IsTrial, IsDerived, IsShown, IsPlayed, IsOutput, IsOnlyOutput, Agree, GoodAnswersAreSafe, GoodTrialsAreSafe, AcceptedAreSafe, DerivedAreAccepted, EmptyAnswersHaveNoStart}
 use Rattle.cap_gen.specs.Trial.{trial_text}
 use Rattle.cap_goal_spec.specs.Roots.{units}
 use Rattle.cap_top_report.specs.Report.{proved_count, report_text, all_proved, is_good}
@@ -28,7 +29,7 @@ use Rattle.cap_top_laws.specs.Given.{given_by, AreGiven}
 use Rattle.cap_top.specs.Reads.{IsFetched, AreFetched, AreRead}
 use Rattle.cap_top.specs.Run.{IsSaid, IsRun}
 use Rattle.cap_top.specs.Verified.{IsRead, VerifiesFile}
-use Rattle.cap_top.specs.Promise.{AreBothRead, ProvesFile, DerivesFile, ChecksFiles, IsShownAs, ShowsFile, EndsRun, ReplaysFiles, Ends, NoFault, Says, SaysOutput, AnswersFiles, HoldsGood, HoldAccepted, HoldsTree, IsTextFor, Refuses, IsOneOf, ReadFails}
+use Rattle.cap_top.specs.Promise.{AreBothRead, ProvesFile, FailsFile, DerivesFile, ChecksFiles, IsShownAs, ShowsFile, EndsRun, ReplaysFiles, Ends, NoFault, Says, SaysOutput, AnswersFiles, HoldsGood, HoldAccepted, HoldsTree, IsTextFor, Refuses, IsOneOf, ReadFails}
 use Rattle.cap_top.proofs.Reading.{held-given, were-given, agree-given, first-given, given-held, given-unread}
 
 -- ---- the statuses of outputs
@@ -207,6 +208,27 @@ module _ (shelf shelf_now : SeenShelf) (name : List ℕ) (o : Output) where
   good_by safe budget (long ∷ []) f h e = let g : Refused ≡ Good = sym (same_status o long_output h) ∙ e in absurd cc
   good_by safe budget [] f h e = absurd h
   good_by safe budget (x ∷ (y ∷ ys)) f h e = absurd h
+
+  failed_by : (IsAnswer : List ℕ → Output → Type 0)
+      → ((bytes : List ℕ) → IsAnswer bytes o → SaysEmpty o → IsStartlessText bytes)
+      → (sink sink_now : SeenSink) (got : List Fetched) → AreRead shelf shelf_now (name ∷ []) got
+      → ByOne name IsAnswer got o → o.status ≡ Bad
+      → Gains sink.written sink_now.written o.text → FailsFile IsAnswer shelf shelf_now name sink sink_now
+  failed_by IsAnswer law sink sink_now (held bytes ∷ []) f h e g = record {
+    bytes = bytes;
+    read = read-one bytes f;
+    output = o;
+    answer = h;
+    bad = e;
+    gains = g;
+    startless = law bytes h;
+  }
+  failed_by IsAnswer law sink sink_now (unread ∷ []) f h e g =
+      let k : ReadFault ≡ Bad = sym (same_status o (unreadable_output name) h) ∙ e in absurd cc
+  failed_by IsAnswer law sink sink_now (long ∷ []) f h e g =
+      let k : Refused ≡ Bad = sym (same_status o long_output h) ∙ e in absurd cc
+  failed_by IsAnswer law sink sink_now [] f h e g = absurd h
+  failed_by IsAnswer law sink sink_now (x ∷ (y ∷ ys)) f h e g = absurd h
 
   derived_bytes : DerivedAreAccepted → (budget : ℕ) (sink sink_now : SeenSink) (bytes : List ℕ)
       → IsRead shelf shelf_now name bytes → IsDerived budget bytes o → o.status ≡ Good
@@ -422,6 +444,30 @@ module _ (command : Option PlainCommand) (shelf shelf_now : SeenShelf) (sink sin
           let k = said-so said.got o (subst (λ x. IsOnlyOutput (IsOutput x) said.got o) t (record { said = said.output.said; only = said.output.only })) in
           inl (put.0 ∙ (same_status o q k ∙ good))
       by (inl (o, said, inr put)) = absurd (wrote put.1)
+
+  -- an answer with status 1 was put whole
+  ended_badly : {A : Type 0} → status ≡ Bad
+      → ((o : Output) → IsSaid shelf shelf_now command o → o.status ≡ Bad → Gains sink.written sink_now.written o.text → A) → A
+  ended_badly {A} e f = by run
+    where
+      by : Runs → A
+      by (inr m) = let g : NoMemory ≡ Bad = sym m.0 ∙ e in absurd cc
+      by (inl (o, said, inl p)) = f o said (sym p.0 ∙ e) p.1
+      by (inl (o, said, inr p)) = let g : WriteFault ≡ Bad = sym p.0 ∙ e in absurd cc
+
+  pub empty_run : EmptyAnswersHaveNoStart IsVerified → (name : List ℕ) (budget : ℕ) → command ≡ Some (verify name budget) → status ≡ Bad
+      → FailsFile (IsVerified budget) shelf shelf_now name sink sink_now
+  empty_run law name budget t e = ended_badly e (λ o said b g.
+      failed_by shelf shelf_now name o (IsVerified budget) (λ bytes. law budget bytes o) sink sink_now said.got
+      (subst (λ x. AreRead shelf shelf_now (files_of x) said.got) t said.read)
+      (subst (λ x. IsOutput x said.got o) t said.output.said) b g)
+
+  pub derive_empty_run : EmptyAnswersHaveNoStart IsDerived → (name : List ℕ) (budget : ℕ) → command ≡ Some (derive name budget) → status ≡ Bad
+      → FailsFile (IsDerived budget) shelf shelf_now name sink sink_now
+  derive_empty_run law name budget t e = ended_badly e (λ o said b g.
+      failed_by shelf shelf_now name o (IsDerived budget) (λ bytes. law budget bytes o) sink sink_now said.got
+      (subst (λ x. AreRead shelf shelf_now (files_of x) said.got) t said.read)
+      (subst (λ x. IsOutput x said.got o) t said.output.said) b g)
 
   pub derived_run : DerivedAreAccepted → (name : List ℕ) (budget : ℕ) → command ≡ Some (derive name budget) → status ≡ Good
       → DerivesFile shelf shelf_now budget name sink sink_now

@@ -16,6 +16,7 @@ use Rattle.cap_top_report.specs.Report.{is_good}
 use Rattle.cap_top_report.specs.Found.{found_trees}
 use Rattle.cap_deriv_write.specs.Written.{derivation_text}
 use Rattle.cap_top_commands.specs.Good.{IsGood, IsAccepted}
+use Rattle.cap_top_commands.specs.Startless.{SaysEmpty, IsStartlessText}
 use Rattle.cap_top_commands.specs.Answers.{Fetched, IsPlayedAs, IsOutput, AreAccepted}
 use Rattle.cap_top_words.specs.Meaning.{PlainCommand, verify, derive, check, show, replay, trial}
 use Rattle.cap_top_commands.specs.Commands.{files_of}
@@ -56,6 +57,19 @@ pub record DerivesFile (shelf shelf_now : SeenShelf) (budget : ℕ) (name : List
   pub short : length lines ≤ longest
   pub accepted : AreAccepted program lines
   pub gains : Gains sink.written sink_now.written lines
+
+-- The bytes that the file gave are answered so with status 1, and the sink has gained the answer's text.
+-- Where it says that the precondition of `main` is empty, they are the text of a program that has no
+-- start.
+pub record FailsFile (IsAnswer : List ℕ → Output → Type 0) (shelf shelf_now : SeenShelf)
+    (name : List ℕ) (sink sink_now : SeenSink) : Type 0 where
+  pub bytes : List ℕ
+  pub read : IsRead shelf shelf_now name bytes
+  pub output : Output
+  pub answer : IsAnswer bytes output
+  pub bad : output.status ≡ Bad
+  pub gains : Gains sink.written sink_now.written output.text
+  pub startless : SaysEmpty output → IsStartlessText bytes
 
 -- The bytes that the first file gave are the text of a safe program, those of the second the lines of
 -- a valid derivation of it.

@@ -3,13 +3,16 @@ ghost use Rattle.std.specs.Prelude.{◌≡◌, ◌⊎◌, ℕ, List, IfOk, IfSom
 ghost use Rattle.cap_io.specs.Outside.{Rose};
 ghost use Rattle.cap_top_words.specs.Meaning.{verify, derive, check, show, replay, trial, default_budget};
 ghost use Rattle.cap_gen.specs.Trial.{trial_text};
+ghost use Rattle.cap_top_commands.specs.Answers.{IsVerified, IsDerived};
 ghost use Rattle.cap_top_commands.specs.Commands.{meant_by};
 ghost use Rattle.cap_top_commands.specs.Good.{IsProvedText};
 ghost use Rattle.cap_top_commands.specs.Views.{output_view};
-ghost use Rattle.cap_top_commands.specs.declared.status.Status.TheVariants.{Good, Usage, ReadFault};
+ghost use Rattle.cap_top_commands.specs.declared.status.Status.TheVariants.{Good, Bad, Usage};
+ghost use Rattle.cap_top_commands.specs.declared.status.Status.TheVariants.{ReadFault};
 ghost use Rattle.cap_top_commands.specs.declared.status.Status.TheVariants.{WriteFault, NoMemory};
 ghost use Rattle.cap_top.specs.Verified.{VerifiesFile};
-ghost use Rattle.cap_top.specs.Promise.{ProvesFile, DerivesFile, ChecksFiles, ShowsFile};
+ghost use Rattle.cap_top.specs.Promise.{ProvesFile, FailsFile};
+ghost use Rattle.cap_top.specs.Promise.{DerivesFile, ChecksFiles, ShowsFile};
 ghost use Rattle.cap_top.specs.Promise.{EndsRun, ReplaysFiles, Ends, NoFault, AnswersFiles};
 ghost use Rattle.cap_top.specs.Promise.{HoldsGood, HoldAccepted, HoldsTree, Refuses, ReadFails};
 ghost use Rattle.cap_top.specs.Run.{IsSaid, IsRun};
@@ -19,8 +22,8 @@ use crate::fetching::{
 };
 use cap_io::{Shelf, Sink};
 use cap_top_commands::{
-    Begun, Output, Status, accepted_are_safe, derived_are_accepted, good_answers_are_safe,
-    good_trials_are_safe, trial,
+    Begun, Output, Status, accepted_are_safe, derived_are_accepted, empty_answers_have_no_start,
+    good_answers_are_safe, good_trials_are_safe, trial,
 };
 use cap_top_words::{Command, read_command};
 use std::alloc::{AllocError, Global};
@@ -146,6 +149,16 @@ pub fn run<S: Shelf, K: Sink>(
     ensures tried { (n : ℕ) → meant_by words.now ≡ Some (trial n) → result ≡ Good
         → IsProvedText default_budget (trial_text n) }
 
+    // Where `verify` or `derive` says that the precondition of `main` is empty, the bytes that the
+    // file gave are the text of a program that has no start.
+    ensures empty { (name : List ℕ) (budget : ℕ) → meant_by words.now ≡ Some (verify name budget)
+        → result ≡ Bad → FailsFile (IsVerified budget) (S.seen shelf.old) (S.seen shelf.new) name
+        (K.seen sink.old) (K.seen sink.new) }
+    ensures derive_empty { (name : List ℕ) (budget : ℕ)
+        → meant_by words.now ≡ Some (derive name budget)
+        → result ≡ Bad → FailsFile (IsDerived budget) (S.seen shelf.old) (S.seen shelf.new) name
+        (K.seen sink.old) (K.seen sink.new) }
+
     // Where `derive` ends well, the sink has gained a derivation of the program whose text the file
     // gave, which `check` accepts.
     ensures derived { (name : List ℕ) (budget : ℕ) → meant_by words.now ≡ Some (derive name budget)
@@ -215,5 +228,6 @@ pub fn run<S: Shelf, K: Sink>(
     good_trials_are_safe();
     derived_are_accepted();
     accepted_are_safe();
+    empty_answers_have_no_start();
     perform(alloc, words, shelf, sink)
 }

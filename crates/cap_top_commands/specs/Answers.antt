@@ -19,6 +19,7 @@ use Rattle.cap_top_reading.specs.Refused.{SpellNone, IsRefused, IsTextOf}
 use Rattle.cap_top_report.specs.Report.{proved_count}
 use Rattle.cap_top_commands.specs.declared.status.Status.TheVariants.{Good}
 use Rattle.cap_top_commands.specs.Good.{IsGood, IsProvedText, IsAccepted}
+use Rattle.cap_top_commands.specs.Startless.{SaysEmpty, IsStartlessText}
 use Rattle.cap_top_words.specs.Meaning.{PlainCommand, verify, derive, check, show, replay, trial, default_budget}
 use Rattle.cap_top_commands.specs.Report.{IsReport}
 use Rattle.cap_top_commands.specs.Derivations.{IsDerivation, IsChecked}
@@ -224,3 +225,11 @@ GoodAnswersAreSafe =
 abbrev pub GoodTrialsAreSafe : Type 0
 GoodTrialsAreSafe =
     (n : ℕ) (o : Output) → IsTrial n o → o.status ≡ Good → IsProvedText default_budget (trial_text n)
+
+-- ---- what it means that the precondition of `main` is empty
+
+-- where the answer says so, the bytes are the text of a program that has no start
+abbrev pub EmptyAnswersHaveNoStart : (ℕ → List ℕ → Output → Type 0) → Type 0
+EmptyAnswersHaveNoStart IsAnswered =
+    (budget : ℕ) (bytes : List ℕ) (o : Output) →
+    IsAnswered budget bytes o → SaysEmpty o → IsStartlessText bytes
