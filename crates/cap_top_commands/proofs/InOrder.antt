@@ -1,10 +1,9 @@
 -- The parts of the terms of a text's program are in order.
-use Rattle.std.proofs.Common.{◌≡◌, ℕ, ℤ, pos, negsuc, List, [], ◌∷◌, map, Option, Some, None, sym, subst}
+use Rattle.std.proofs.Common.{◌≡◌, ℕ, ℤ, negsuc, List, [], ◌∷◌, map, Option, Some, None, sym, subst}
 use Rattle.std.specs.Prelude.{slice_get}
 use Rattle.std.specs.List.{AllByRecursion}
 use Rattle.cap_syntax.specs.declared.place.Place.{Place}
-use Rattle.cap_lin.specs.Linear.{Linear, number}
-use Rattle.cap_lin.specs.Linear.{times as multiple}
+use Rattle.cap_lin.specs.Linear.{Linear}
 use Rattle.cap_prog.specs.Program.{Items, none, item, append_items, PlainFunction, PlainProgram}
 use Rattle.cap_prog.specs.Program as plain
 use Rattle.cap_parse_tree.specs.declared.word.Word.{Word}

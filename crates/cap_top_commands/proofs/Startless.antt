@@ -64,5 +64,5 @@ pub startless_result : (IsAnswered : ℕ → List ℕ → Output → Type 0) →
     → (budget : ℕ) (bytes : List ℕ) (r : Result code.Output AllocError)
     → IfOk r (λ o. IsOnly (IsAnswered budget bytes) (output_view o))
     → IfOk r (λ o. SaysEmpty (output_view o) → IsStartlessText bytes)
-startless_result IsAnswered no budget bytes (Ok o) h = no budget bytes (output_view o) h.said
-startless_result IsAnswered no budget bytes (Err e) h = tt
+startless_result IsAnswered law budget bytes (Ok o) h = law budget bytes (output_view o) h.said
+startless_result IsAnswered law budget bytes (Err e) h = tt
