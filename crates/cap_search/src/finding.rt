@@ -7,10 +7,12 @@ ghost use Rattle.cap_goal_roots.specs.Views.{root_view, roots_view};
 ghost use Rattle.cap_search_spec.specs.Seeking.{root_tree, unit_trees};
 ghost use Rattle.cap_search_spec.specs.Verdicts.{found, verdict, verdict_of, unproved as unproved_by};
 ghost use Rattle.cap_search_spec.specs.Walks.{root_walked, unit_walked};
+ghost use Rattle.cap_search.specs.Searchable.{RootIsSearchable, RootsAreSearchable};
 ghost use Rattle.cap_search.specs.Searching.{Searched};
 ghost use Rattle.cap_search.specs.Views.{tree_seen, trees_seen, verdict_view, walk_view};
 
 use crate::places::obligation_of;
+use crate::program::{program_ascends, well_formed};
 use crate::seeking::prove;
 use crate::verdict::Verdict;
 use crate::walk::{Stop, Walk};
@@ -18,6 +20,8 @@ use cap_goal::{DEEPEST, Goal, Node, Unit};
 use cap_goal_roots::roots;
 use cap_lin::LinError;
 use cap_prog::Program;
+use cap_rules_ascending::roots_ascend;
+use cap_rules_fits::roots_are_kept;
 use cap_search_spec::walks_tell_verdicts;
 use std::alloc::{AllocError, Global};
 
@@ -28,6 +32,7 @@ fn prove_root<'a>(
     root: &Option<Goal<'a>>,
     walk: &mut Walk,
 ) -> Result<Option<Option<Node>>, Stop>
+    requires { RootIsSearchable (program_view program.now) (root_view root.now) }
     ensures { Searched tree_seen walk.new result
         (root_tree (program_view program.now) (root_view root.now))
         (root_walked (program_view program.now) (walk_view walk.old) (root_view root.now)) }
@@ -49,6 +54,7 @@ fn prove_roots<'a>(
     roots: &[Option<Goal<'a>>],
     walk: &mut Walk,
 ) -> Result<Option<Vec<Option<Node>>>, Stop>
+    requires { RootsAreSearchable (program_view program.now) (roots_view roots.now) }
     ensures { Searched trees_seen walk.new result
         (unit_trees (program_view program.now) (roots_view roots.now))
         (unit_walked (program_view program.now) 0 (walk_view walk.old) (roots_view roots.now)) }
@@ -102,6 +108,7 @@ fn judge<'a>(
     roots: &[Option<Goal<'a>>],
     budget: u64,
 ) -> Result<Verdict, AllocError>
+    requires { RootsAreSearchable (program_view program.now) (roots_view roots.now) }
     ensures { IfOk result (λ v. verdict_view v
         ≡ verdict_of (program_view program.now) (unit_view unit)
         (found (program_view program.now) budget (roots_view roots.now))) }
@@ -131,6 +138,10 @@ pub fn search(
     ensures { IfOk result (λ v. verdict_view v
         ≡ verdict (program_view program.now) (unit_view unit) budget) }
 {
+    well_formed(program);
+    program_ascends(program);
+    roots_are_kept();
+    roots_ascend();
     match roots(alloc, program, unit) {
         Ok(roots) => judge(alloc, program, unit, &roots, budget),
         Err(LinError::Wide(a, b)) => Ok(Verdict::Wide(a, b)),
