@@ -1,5 +1,5 @@
 -- Roots are searchable, and so is what an offered choice leaves of a goal that is.
-use Rattle.std.proofs.Common.{◌≡◌, ◌<◌, ℕ, zero, suc, ◌+◌, inl, inr, List, [], ◌∷◌, ◌++◌, length, map, flat_map, Option, Some, None, refl, sym, subst, arith}
+use Rattle.std.proofs.Common.{◌≡◌, ◌<◌, ℕ, zero, suc, ◌+◌, inl, inr, List, [], ◌∷◌, ◌++◌, length, get_or, map, flat_map, Option, Some, None, refl, sym, subst, arith}
 use Rattle.std.specs.Prelude.{Result, Ok, Err, IfOk}
 use Rattle.std.specs.List.{AllByRecursion, range_with_len}
 use Rattle.std.proofs.lemmas.Grind.{flat_map-append}
@@ -29,6 +29,11 @@ left-searchable kept ascend view p g c (Ok x) w s a =
     each-two (IsKept p) GoalAscends (IsSearchable p) (view x) (kept p g c (view x) w s.kept a) (ascend p g c (view x) s.ascends a)
     (λ h k i. record { kept = k; ascends = i })
 left-searchable kept ascend view p g c (Err e) w s a = tt
+
+pub each-at : {X Y : Type 0} (P : Y → Type 0) (f : X → Y) (xs : List X) (i : ℕ) (x : X) → AllByRecursion P (map f xs) → i < length xs → x ≡ get_or xs i x → P (f x)
+each-at P f [] i x all low e = absurd (omega (arith, low))
+each-at P f (y ∷ ys) zero x all low e = subst (λ z. P (f z)) (sym e) all.0
+each-at P f (y ∷ ys) (suc i) x all low e = each-at P f ys i x all.1 (omega (arith, low)) e
 
 -- ---- choices
 

@@ -5,7 +5,7 @@ use Rattle.cap_goal.specs.Trees.{node_view}
 use Rattle.cap_goal.specs.Views.{choice_view, goal_view}
 use Rattle.cap_search_spec.specs.Seeking.{tree_within, first_tree, all_trees}
 use Rattle.cap_search_spec.specs.Walks.{walked_within, choices_walked, goals_walked}
-use Rattle.cap_search.specs.Searchable.{AreSearchable, AreOffered}
+use Rattle.cap_search.specs.Searchable.{AreOffered}
 use Rattle.cap_search.specs.Searching.{behind}
 use Rattle.cap_search.specs.Views.{walk_view}
 use Rattle.cap_search.proofs.seeking.+walk.Given as goal
@@ -35,8 +35,7 @@ invariant-prove_all-loop-goal l =
     let p = program_view l.program in
     let whole = map goal_view l.goals in
     let rest = map goal_view (drop l.goal-index l.goals) in
-    AreSearchable p rest
-    × (all_trees (tree_within p l.room) whole
+    (all_trees (tree_within p l.room) whole
     ≡ behind (map node_view l.children.items) (all_trees (tree_within p l.room) rest))
     × (goals_walked (tree_within p l.room) (walked_within p l.room) (walk_view l.fn.walk) whole
     ≡ goals_walked (tree_within p l.room) (walked_within p l.room) (walk_view l.walk) rest)

@@ -14,7 +14,7 @@ returns-clause-left c =
 pub returns-clause-searchable : goal.returns-clause-searchable
 returns-clause-searchable c =
     let a = c.args in
-    left-searchable c.subgoals_are_kept.ensures c.subgoals_ascend.ensures goals_view (program_view a.program.now) (goal_view a.goal.now) (choice_view a.choice.now) c.subgoals.result c.well_formed.ensures c.requires.searchable c.subgoals.ensures.answered
+    left-searchable c.subgoals_are_kept.ensures c.subgoals_ascend.ensures goals_view (program_view a.program.now) (goal_view a.goal.now) (choice_view a.choice.now) c.subgoals.result c.well_formed-2.ensures c.requires.searchable c.subgoals.ensures.answered
 
 pub returns-clause-only : goal.returns-clause-only
 returns-clause-only c =
