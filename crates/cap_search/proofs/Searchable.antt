@@ -4,11 +4,13 @@ use Rattle.std.specs.Prelude.{Result, Ok, Err, IfOk}
 use Rattle.std.specs.List.{AllByRecursion, range_with_len}
 use Rattle.std.proofs.lemmas.Grind.{flat_map-append}
 use Rattle.cap_fm_spec.proofs.Lists.{each-left, each-right, each-map, each-two}
+use Rattle.cap_lin.specs.Exact.{IsExactBy}
+use Rattle.cap_lin.specs.declared.error.LinError.{LinError}
 use Rattle.cap_prog.specs.Program.{PlainProgram}
 use Rattle.cap_prog.specs.WellFormed.{IsWellFormed}
 use Rattle.cap_goal_spec.specs.States.{PlainGoal}
 use Rattle.cap_goal_spec.specs.Choices.{PlainChoice, certs_of}
-use Rattle.cap_goal_spec.specs.Roots.{PlainUnit, region_unit, function_unit, roots, all_roots}
+use Rattle.cap_goal_spec.specs.Roots.{PlainUnit, region_unit, function_unit, roots, roots_steps}
 use Rattle.cap_rules.specs.Answers.{marks_of}
 use Rattle.cap_rules.specs.Rules.{rule}
 use Rattle.cap_rules_ascending.specs.Ascending.{GoalAscends, ProgramAscends}
@@ -76,8 +78,9 @@ root-searchable : (p : PlainProgram) (r : Option PlainGoal) → RootIsKept p r �
 root-searchable p None h k = tt
 root-searchable p (Some g) h k = record { kept = h; ascends = k }
 
-pub roots-searchable : RootsAreKept → RootsAscend → (p : PlainProgram) (u : PlainUnit) (rs : List (Option PlainGoal)) → IsWellFormed p → ProgramAscends p → HasUnit p u → rs ≡ roots p u → RootsAreSearchable p rs
-roots-searchable kept ascend p u rs w s has e =
-    subst (RootsAreSearchable p) (sym e)
+pub roots-searchable : RootsAreKept → RootsAscend → {T : Type 0} (view : T → List (Option PlainGoal)) (p : PlainProgram) (u : PlainUnit) (r : Result T LinError) → IsWellFormed p → ProgramAscends p → HasUnit p u → IsExactBy r view (roots_steps p u) (roots p u) → IfOk r (λ v. RootsAreSearchable p (view v))
+roots-searchable kept ascend view p u (Ok x) w s has e =
+    subst (RootsAreSearchable p) (sym e.1)
     (each-two (RootIsKept p) RootAscends (RootIsSearchable p) (roots p u) (kept p w u)
     (unit-each RootAscends (roots p) p u has (ascend p s)) (root-searchable p))
+roots-searchable kept ascend view p u (Err x) w s has e = tt

@@ -1,6 +1,8 @@
 //! The verdict on a unit.
 ghost use Rattle.std.specs.Prelude.{◌≡◌, IfOk};
+ghost use Rattle.cap_lin.specs.Exact.{IsExactBy};
 ghost use Rattle.cap_prog.specs.Views.{program_view};
+ghost use Rattle.cap_goal_spec.specs.Roots.{roots as roots_of_unit, roots_steps};
 ghost use Rattle.cap_goal.specs.Views.{unit_view};
 ghost use Rattle.cap_goal_roots.specs.Units.{HasUnit};
 ghost use Rattle.cap_goal_roots.specs.Views.{root_view, roots_view};
@@ -24,6 +26,26 @@ use cap_rules_ascending::roots_ascend;
 use cap_rules_fits::roots_are_kept;
 use cap_search_spec::walks_tell_verdicts;
 use std::alloc::{AllocError, Global};
+
+// The roots of a unit. Each has room, and its terms are in order.
+fn roots_of<'a>(
+    alloc: Global,
+    program: &'a Program,
+    unit: Unit,
+) -> Result<Vec<Option<Goal<'a>>>, LinError>
+    requires { HasUnit (program_view program.now) (unit_view unit) }
+    ensures exact { IsExactBy result (λ v. roots_view v.items)
+        (roots_steps (program_view program.now) (unit_view unit))
+        (roots_of_unit (program_view program.now) (unit_view unit)) }
+    ensures searchable { IfOk result
+        (λ v. RootsAreSearchable (program_view program.now) (roots_view v.items)) }
+{
+    well_formed(program);
+    program_ascends(program);
+    roots_are_kept();
+    roots_ascend();
+    roots(alloc, program, unit)
+}
 
 // The tree of a root; one without tasks has none, which is found at once.
 fn prove_root<'a>(
@@ -138,11 +160,7 @@ pub fn search(
     ensures { IfOk result (λ v. verdict_view v
         ≡ verdict (program_view program.now) (unit_view unit) budget) }
 {
-    well_formed(program);
-    program_ascends(program);
-    roots_are_kept();
-    roots_ascend();
-    match roots(alloc, program, unit) {
+    match roots_of(alloc, program, unit) {
         Ok(roots) => judge(alloc, program, unit, &roots, budget),
         Err(LinError::Wide(a, b)) => Ok(Verdict::Wide(a, b)),
         Err(LinError::OutOfMemory) => Err(AllocError),
