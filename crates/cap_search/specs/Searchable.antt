@@ -1,4 +1,4 @@
--- Goals from which a search goes on without an error but want of memory.
+-- Goals from which a search goes on, with no error but want of memory.
 use Rattle.std.specs.Prelude.{List, Option, Some, None}
 use Rattle.std.specs.List.{AllByRecursion}
 use Rattle.cap_prog.specs.Program.{PlainProgram}
@@ -8,7 +8,7 @@ use Rattle.cap_rules_ascending.specs.Ascending.{GoalAscends}
 use Rattle.cap_rules_fits.specs.Kept.{IsKept}
 use Rattle.cap_search_spec.specs.Guided.{IsOffered}
 
--- it fits the program, and its terms are in order
+-- it is kept, so that its state has room, and its terms are in order, so that offered choices apply
 pub record IsSearchable (p : PlainProgram) (g : PlainGoal) : Type 0 where
   pub kept : IsKept p g
   pub ascends : GoalAscends g

@@ -23,8 +23,8 @@ use cap_rules_fits::subgoals_are_kept;
 use cap_rules_steps::RuleError;
 use std::alloc::{AllocError, Global};
 
-// What an offered choice leaves of a goal. It applies, so there is no other error than want of
-// memory.
+// What an offered choice leaves of a goal, from which the search goes on. It applies, so there is
+// no other error than want of memory.
 fn left_of<'a>(
     alloc: Global,
     program: &'a Program,
