@@ -3,4 +3,5 @@ pub mod Blocks
 pub mod Claims
 pub mod Kernel
 pub mod Printing
+pub mod Searchable
 pub mod Visiting

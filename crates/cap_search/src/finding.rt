@@ -1,16 +1,20 @@
 //! The verdict on a unit.
 ghost use Rattle.std.specs.Prelude.{◌≡◌, IfOk};
+ghost use Rattle.cap_lin.specs.Exact.{IsExactBy};
 ghost use Rattle.cap_prog.specs.Views.{program_view};
+ghost use Rattle.cap_goal_spec.specs.Roots.{roots as roots_of_unit, roots_steps};
 ghost use Rattle.cap_goal.specs.Views.{unit_view};
 ghost use Rattle.cap_goal_roots.specs.Units.{HasUnit};
 ghost use Rattle.cap_goal_roots.specs.Views.{root_view, roots_view};
 ghost use Rattle.cap_search_spec.specs.Seeking.{root_tree, unit_trees};
 ghost use Rattle.cap_search_spec.specs.Verdicts.{found, verdict, verdict_of, unproved as unproved_by};
 ghost use Rattle.cap_search_spec.specs.Walks.{root_walked, unit_walked};
+ghost use Rattle.cap_search.specs.Searchable.{RootIsSearchable, RootsAreSearchable};
 ghost use Rattle.cap_search.specs.Searching.{Searched};
 ghost use Rattle.cap_search.specs.Views.{tree_seen, trees_seen, verdict_view, walk_view};
 
 use crate::places::obligation_of;
+use crate::program::{program_ascends, well_formed};
 use crate::seeking::prove;
 use crate::verdict::Verdict;
 use crate::walk::{Stop, Walk};
@@ -18,8 +22,30 @@ use cap_goal::{DEEPEST, Goal, Node, Unit};
 use cap_goal_roots::roots;
 use cap_lin::LinError;
 use cap_prog::Program;
+use cap_rules_ascending::roots_ascend;
+use cap_rules_fits::roots_are_kept;
 use cap_search_spec::walks_tell_verdicts;
 use std::alloc::{AllocError, Global};
+
+// The roots of a unit. Each has room, and its terms are in order.
+fn roots_of<'a>(
+    alloc: Global,
+    program: &'a Program,
+    unit: Unit,
+) -> Result<Vec<Option<Goal<'a>>>, LinError>
+    requires { HasUnit (program_view program.now) (unit_view unit) }
+    ensures exact { IsExactBy result (λ v. roots_view v.items)
+        (roots_steps (program_view program.now) (unit_view unit))
+        (roots_of_unit (program_view program.now) (unit_view unit)) }
+    ensures searchable { IfOk result
+        (λ v. RootsAreSearchable (program_view program.now) (roots_view v.items)) }
+{
+    well_formed(program);
+    program_ascends(program);
+    roots_are_kept();
+    roots_ascend();
+    roots(alloc, program, unit)
+}
 
 // The tree of a root; one without tasks has none, which is found at once.
 fn prove_root<'a>(
@@ -28,6 +54,7 @@ fn prove_root<'a>(
     root: &Option<Goal<'a>>,
     walk: &mut Walk,
 ) -> Result<Option<Option<Node>>, Stop>
+    requires { RootIsSearchable (program_view program.now) (root_view root.now) }
     ensures { Searched tree_seen walk.new result
         (root_tree (program_view program.now) (root_view root.now))
         (root_walked (program_view program.now) (walk_view walk.old) (root_view root.now)) }
@@ -49,6 +76,7 @@ fn prove_roots<'a>(
     roots: &[Option<Goal<'a>>],
     walk: &mut Walk,
 ) -> Result<Option<Vec<Option<Node>>>, Stop>
+    requires { RootsAreSearchable (program_view program.now) (roots_view roots.now) }
     ensures { Searched trees_seen walk.new result
         (unit_trees (program_view program.now) (roots_view roots.now))
         (unit_walked (program_view program.now) 0 (walk_view walk.old) (roots_view roots.now)) }
@@ -102,6 +130,7 @@ fn judge<'a>(
     roots: &[Option<Goal<'a>>],
     budget: u64,
 ) -> Result<Verdict, AllocError>
+    requires { RootsAreSearchable (program_view program.now) (roots_view roots.now) }
     ensures { IfOk result (λ v. verdict_view v
         ≡ verdict_of (program_view program.now) (unit_view unit)
         (found (program_view program.now) budget (roots_view roots.now))) }
@@ -131,7 +160,7 @@ pub fn search(
     ensures { IfOk result (λ v. verdict_view v
         ≡ verdict (program_view program.now) (unit_view unit) budget) }
 {
-    match roots(alloc, program, unit) {
+    match roots_of(alloc, program, unit) {
         Ok(roots) => judge(alloc, program, unit, &roots, budget),
         Err(LinError::Wide(a, b)) => Ok(Verdict::Wide(a, b)),
         Err(LinError::OutOfMemory) => Err(AllocError),

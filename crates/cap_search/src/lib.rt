@@ -6,6 +6,7 @@ mod finding;
 mod leaf;
 mod obligation;
 mod places;
+mod program;
 mod seeking;
 mod start;
 mod verdict;

@@ -3,6 +3,7 @@ use Rattle.cap_prog.specs.Views.{program_view}
 use Rattle.cap_goal_roots.specs.Views.{roots_view}
 use Rattle.cap_search_spec.specs.Seeking.{unit_trees}
 use Rattle.cap_search_spec.specs.Walks.{unit_walked}
+use Rattle.cap_search.specs.Searchable.{RootsAreSearchable}
 use Rattle.cap_search.specs.Searching.{behind}
 use Rattle.cap_search.specs.Views.{trees_seen, walk_view}
 use Rattle.cap_search.proofs.finding.prove_roots.Given as goal
@@ -12,5 +13,6 @@ invariant-loop-number l =
     let p = program_view l.program in
     let whole = roots_view l.roots in
     let rest = roots_view (drop l.number l.roots) in
-    (unit_trees p whole ≡ behind (trees_seen l.trees) (unit_trees p rest))
+    RootsAreSearchable p rest
+    × (unit_trees p whole ≡ behind (trees_seen l.trees) (unit_trees p rest))
     × (unit_walked p 0 (walk_view l.fn.walk) whole ≡ unit_walked p l.number (walk_view l.walk) rest)

@@ -5,6 +5,7 @@ use Rattle.cap_goal.specs.Trees.{node_view}
 use Rattle.cap_goal.specs.Views.{choice_view, goal_view}
 use Rattle.cap_search_spec.specs.Seeking.{tree_within, first_tree, all_trees}
 use Rattle.cap_search_spec.specs.Walks.{walked_within, choices_walked, goals_walked}
+use Rattle.cap_search.specs.Searchable.{AreOffered}
 use Rattle.cap_search.specs.Searching.{behind}
 use Rattle.cap_search.specs.Views.{walk_view}
 use Rattle.cap_search.proofs.seeking.+walk.Given as goal
@@ -24,7 +25,8 @@ invariant-by_choices-loop-choice l =
     let g = goal_view l.goal in
     let whole = map choice_view l.fn.choices.items in
     let rest = map choice_view (into_iter_items l.choice-iterator) in
-    (first_tree p (tree_within p l.room) g whole ≡ first_tree p (tree_within p l.room) g rest)
+    AreOffered p g rest
+    × (first_tree p (tree_within p l.room) g whole ≡ first_tree p (tree_within p l.room) g rest)
     × (choices_walked p (tree_within p l.room) (walked_within p l.room) g (walk_view l.fn.walk) whole
     ≡ choices_walked p (tree_within p l.room) (walked_within p l.room) g (walk_view l.walk) rest)
 
