@@ -2,7 +2,6 @@
 ghost use Rattle.std.specs.Prelude.{◌≡◌};
 ghost use Rattle.cap_resolve.specs.declared.error.ResolveError.TheVariants.{OutOfMemory};
 
-use cap_resolve_functions::BuildError;
 use cap_resolve_terms::Limit;
 use cap_syntax::{Place, Text};
 use std::alloc::AllocError;
@@ -47,15 +46,6 @@ impl From<AllocError> for ResolveError {
     ghost from_gives = { λ _ e. e ≡ OutOfMemory };
 
     fn from(_: AllocError) -> ResolveError {
-        ResolveError::OutOfMemory
-    }
-}
-
-/// A tree that is not refused is built, unless memory runs out.
-impl From<BuildError> for ResolveError {
-    ghost from_gives = { λ _ e. e ≡ OutOfMemory };
-
-    fn from(_: BuildError) -> ResolveError {
         ResolveError::OutOfMemory
     }
 }

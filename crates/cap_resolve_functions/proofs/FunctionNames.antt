@@ -45,11 +45,11 @@ module _ (rs : List RegionTree) (f : FunctionTree) where
       ap (λ b. cond b (known_as o.sort o.word) None ∷ map (known_entry (whole_numbers (destinations f))) os) (whole_among (destinations f) (name_of o))
       ∙ ap (λ ks. name_in_body f o ∷ ks) (entries_same os)
 
-abbrev named_of : List Word → List Word → List Occurrence → NameScope → Named
+abbrev pub named_of : List Word → List Word → List Occurrence → NameScope → Named
 named_of ps ls os ds = record { parameters = ps; locals = ls; fixed = os; destinations = ds }
 
 module _ (rs : List RegionTree) (fs : List FunctionTree) (f : FunctionTree) where
-  abbrev the_names : Named
+  abbrev pub the_names : Named
   the_names = named_of (parameters f) (locals rs f) (fixed_names rs f) (whole_numbers (destinations f))
 
   abbrev body_as : NameScope → Context
@@ -64,8 +64,11 @@ module _ (rs : List RegionTree) (fs : List FunctionTree) (f : FunctionTree) wher
     counted = [];
   }
 
-  context_same : context_built rs fs (requires_types rs f) the_names ≡ with_rest (context_of rs fs f) [] [] []
+  pub context_same : context_built rs fs (requires_types rs f) the_names ≡ with_rest (context_of rs fs f) [] [] []
   context_same = ap body_as (entries_same rs f (fixed_names rs f))
+
+  pub names_same : named_by (parameters f) (fixed_names rs f) (statements f) ≡ the_names
+  names_same = ap (λ ls. named_of (parameters f) ls (fixed_names rs f) (whole_numbers (destinations f))) (locals_same rs f)
 
   body_as_is : function_in (with_rest (context_of rs fs f) [] [] []) the_names f ≡ function_program rs fs f
   body_as_is = ap (λ b. record (function_program rs fs f) { body = b }) (body-same (context_of rs fs f) [] [] [] f.body)

@@ -4,3 +4,7 @@ pub mod ItemLists
 pub mod Contexts
 pub mod Blocks
 pub mod FunctionNames
+pub mod Members
+mod KnownForms
+pub mod NarrowItems
+mod NarrowBodies

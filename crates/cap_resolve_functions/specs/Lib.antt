@@ -1,5 +1,5 @@
-pub mod Errors
 pub mod Views
 pub mod Bodies
 pub mod Functions
 pub mod Names
+pub mod Narrow

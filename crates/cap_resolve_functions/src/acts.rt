@@ -1,5 +1,5 @@
 //! The statements of a body.
-ghost use Rattle.std.specs.Prelude.{◌≡◌, ◌+◌, IfOk, OnOk, length, option_map};
+ghost use Rattle.std.specs.Prelude.{◌≡◌, ◌+◌, ◌<◌, ◌^◌, IfOk, OnOk, length, option_map};
 ghost use Rattle.cap_prog.specs.Program as plain;
 ghost use Rattle.cap_prog.specs.Program.{append, first, done};
 ghost use Rattle.cap_prog.specs.Views.{act_view, block_view as block_seen};
@@ -14,11 +14,13 @@ ghost use Rattle.cap_resolve_spec.specs.Program.{label, body_program, comparison
 ghost use Rattle.cap_resolve_spec.specs.Program.{new_assertion, function_number};
 ghost use Rattle.cap_resolve_tables.specs.Tables.{functions_of};
 ghost use Rattle.cap_resolve_functions.specs.Bodies.{context_seen};
+ghost use Rattle.cap_resolve_functions.specs.Narrow.{IsNarrow, AreNarrow, IsNarrowComparison};
+ghost use Rattle.cap_resolve_functions.specs.Narrow.{IsNarrowValue, IsNarrowReturn, IsNarrowNew};
+ghost use Rattle.cap_resolve_functions.specs.Narrow.{IsNarrowStatement, IsNarrowBlock};
 
 use crate::assertions::{build_new, clause_of};
 use crate::bodies::Body;
 use crate::comparisons::build_comparison;
-use crate::error::BuildError;
 use crate::terms::{build_term, build_terms};
 use cap_lin::Term as Linear;
 use cap_parse_tree::{
@@ -27,17 +29,7 @@ use cap_parse_tree::{
 use cap_prog::{Act, Statement};
 use cap_resolve_terms::Scope;
 use cap_syntax::Place;
-use std::alloc::Global;
-
-/// A number of cells past 32 bits is refused.
-fn build_alloc(variable: u32, cells: u64) -> Result<Act, BuildError>
-    ensures { IfOk result (λ a. act_view a ≡ plain.alloc variable cells) }
-{
-    if cells > u32::MAX as u64 {
-        return Err(BuildError::Refused);
-    }
-    Ok(Act::Alloc(variable, cells as u32))
-}
+use std::alloc::{AllocError, Global};
 
 fn build_cas(
     alloc: Global,
@@ -46,7 +38,10 @@ fn build_cas(
     address: &Term,
     old: &Term,
     new: &Term,
-) -> Result<Act, BuildError>
+) -> Result<Act, AllocError>
+    requires address { IsNarrow scope.now (term_view address.now) }
+    requires old { IsNarrow scope.now (term_view old.now) }
+    requires new { IsNarrow scope.now (term_view new.now) }
     ensures { IfOk result (λ a. act_view a ≡ plain.cas variable
         (term_form scope.now (term_view address.now)) (term_form scope.now (term_view old.now))
         (term_form scope.now (term_view new.now))) }
@@ -62,7 +57,8 @@ fn build_assign(
     body: &Body<'_, '_, '_>,
     variable: u32,
     value: &Value,
-) -> Result<Act, BuildError>
+) -> Result<Act, AllocError>
+    requires { IsNarrowValue body.now.scope.now (value_view value.now) }
     ensures { IfOk result
         (λ a. act_view a ≡ assign_program (context_seen body.now) variable (value_view value.now)) }
 {
@@ -71,7 +67,7 @@ fn build_assign(
         Value::Load(_, address, _) => {
             Ok(Act::Read(variable, build_term(alloc, body.scope, address)?))
         }
-        Value::Alloc(_, _, cells, _) => build_alloc(variable, cells.value),
+        Value::Alloc(_, _, cells, _) => Ok(Act::Alloc(variable, cells.value as u32)),
         Value::Cas(_, _, address, _, old, _, new, _) => {
             build_cas(alloc, body.scope, variable, address, old, new)
         }
@@ -84,7 +80,9 @@ fn build_write(
     scope: &Scope<'_>,
     address: &Term,
     value: &Term,
-) -> Result<Act, BuildError>
+) -> Result<Act, AllocError>
+    requires address { IsNarrow scope.now (term_view address.now) }
+    requires value { IsNarrow scope.now (term_view value.now) }
     ensures { IfOk result (λ a. act_view a ≡ plain.write
         (term_form scope.now (term_view address.now)) (term_form scope.now (term_view value.now))) }
 {
@@ -98,7 +96,8 @@ fn build_returned(
     alloc: Global,
     body: &Body<'_, '_, '_>,
     term: &Option<Term>,
-) -> Result<Linear, BuildError>
+) -> Result<Linear, AllocError>
+    requires { IsNarrowReturn body.now.scope.now (option_map term_view term.now) }
     ensures { IfOk result
         (λ t. t ≡ returned_form (context_seen body.now) (option_map term_view term.now)) }
 {
@@ -124,7 +123,7 @@ fn statement_place(statement: &StatementTree) -> Place
 }
 
 /// Counts one statement more.
-fn advance(next: &mut u32) -> Result<(), BuildError>
+fn advance(next: &mut u32) -> Result<(), AllocError>
     ensures { OnOk result (next.new ≡ next.old + 1) }
 {
     match next.checked_add(1) {
@@ -132,12 +131,12 @@ fn advance(next: &mut u32) -> Result<(), BuildError>
             *next = number;
             Ok(())
         }
-        None => Err(BuildError::OutOfMemory),
+        None => Err(AllocError),
     }
 }
 
 #[tactic(auto, using(crate::proofs::Blocks::joined, cap_prog::specs::declared::function::Act::TheFolds::the_lemmas))]
-fn push(list: &mut Vec<Statement>, number: u32, place: Place, act: Act) -> Result<(), BuildError>
+fn push(list: &mut Vec<Statement>, number: u32, place: Place, act: Act) -> Result<(), AllocError>
     ensures { OnOk result (block_seen list.new.items ≡ append (block_seen list.old.items)
         (first (label number place) (act_view act) done)) }
 {
@@ -151,7 +150,8 @@ fn build_if(
     comparison: &Comparison,
     first: Vec<Statement>,
     second: Vec<Statement>,
-) -> Result<Act, BuildError>
+) -> Result<Act, AllocError>
+    requires { IsNarrowComparison scope.now (comparison_view comparison.now) }
     ensures { IfOk result (λ a. act_view a
         ≡ plain.branch (comparison_program scope.now (comparison_view comparison.now))
         (block_seen first.items) (block_seen second.items)) }
@@ -166,7 +166,10 @@ fn build_while<'a>(
     comparison: &Comparison,
     invariant: &'a Option<Clause>,
     block: Vec<Statement>,
-) -> Result<Act, BuildError>
+) -> Result<Act, AllocError>
+    requires comparison { IsNarrowComparison body.now.scope.now (comparison_view comparison.now) }
+    requires invariant { IsNarrowNew (context_seen body.now) body.now.kept.now
+        (option_map clause_view invariant.now) }
     ensures { IfOk result (λ a. act_view a
         ≡ plain.loop (comparison_program body.now.scope.now (comparison_view comparison.now))
         (new_assertion (context_seen body.now) body.now.kept.now
@@ -183,7 +186,8 @@ fn build_call(
     variable: Option<u32>,
     name: &Word,
     list: &Listed<Term>,
-) -> Result<Act, BuildError>
+) -> Result<Act, AllocError>
+    requires { AreNarrow body.now.scope.now (listed_parts (listed_view term_view list.now)) }
     ensures { IfOk result (λ a. act_view a ≡ plain.call variable
         (function_number (functions_of body.now.functions.now) name.now.text)
         (body_terms (context_seen body.now) (listed_parts (listed_view term_view list.now)))) }
@@ -198,7 +202,8 @@ fn build_fork(
     body: &Body<'_, '_, '_>,
     name: &Word,
     list: &Listed<Term>,
-) -> Result<Act, BuildError>
+) -> Result<Act, AllocError>
+    requires { AreNarrow body.now.scope.now (listed_parts (listed_view term_view list.now)) }
     ensures { IfOk result (λ a. act_view a ≡ plain.fork
         (function_number (functions_of body.now.functions.now) name.now.text)
         (body_terms (context_seen body.now) (listed_parts (listed_view term_view list.now)))) }
@@ -215,7 +220,8 @@ fn build_act<'a>(
     statement: &'a StatementTree,
     body: &Body<'_, '_, 'a>,
     next: &mut u32,
-) -> Result<Act, BuildError>
+) -> Result<Act, AllocError>
+    requires { IsNarrowStatement (context_seen body.now) (statement_view statement.now) }
     ensures built { IfOk result (λ a. act_view a
         ≡ act_program (context_seen body.now) next.old (statement_view statement.now)) }
     ensures counted { OnOk result (next.new
@@ -260,7 +266,8 @@ fn push_statement<'a>(
     body: &Body<'_, '_, 'a>,
     next: &mut u32,
     list: &mut Vec<Statement>,
-) -> Result<(), BuildError>
+) -> Result<(), AllocError>
+    requires { IsNarrowStatement (context_seen body.now) (statement_view statement.now) }
     ensures built { OnOk result (block_seen list.new.items ≡ append (block_seen list.old.items)
         (first (label next.old (place_of (statement_view statement.now)))
         (act_program (context_seen body.now) next.old (statement_view statement.now)) done)) }
@@ -279,7 +286,8 @@ fn build_block<'a>(
     block: &'a Block,
     body: &Body<'_, '_, 'a>,
     next: &mut u32,
-) -> Result<Vec<Statement>, BuildError>
+) -> Result<Vec<Statement>, AllocError>
+    requires { IsNarrowBlock (context_seen body.now) (block_view block.now) }
     ensures built { IfOk result (λ made. block_seen made.items
         ≡ block_program (context_seen body.now) next.old (block_view block.now)) }
     ensures counted { OnOk result (next.new
@@ -297,7 +305,8 @@ pub(crate) fn build_body<'a>(
     alloc: Global,
     block: &'a Block,
     body: &Body<'_, '_, 'a>,
-) -> Result<Vec<Statement>, BuildError>
+) -> Result<Vec<Statement>, AllocError>
+    requires { IsNarrowBlock (context_seen body.now) (block_view block.now) }
     ensures { IfOk result (λ made. block_seen made.items
         ≡ body_program (context_seen body.now) (block_view block.now)) }
 {

@@ -9,9 +9,9 @@ ghost use Rattle.cap_resolve_spec.specs.Items.{types_told as types_in};
 ghost use Rattle.cap_resolve_tables.specs.Tables.{regions_of, types_of, typed_names};
 ghost use Rattle.cap_resolve_functions.specs.Views.{items_seen};
 ghost use Rattle.cap_resolve_functions.specs.Bodies.{context_seen};
+ghost use Rattle.cap_resolve_functions.specs.Narrow.{IsNarrowClause, IsNarrowNew};
 
 use crate::bodies::Body;
-use crate::error::BuildError;
 use crate::items::push_items;
 use crate::lists::build_sorts;
 use crate::reading::Reading;
@@ -22,7 +22,7 @@ use cap_resolve_parts::{Placed, items_of_clause};
 use cap_resolve_scopes::{new_in, scope_with};
 use cap_resolve_tables::{TypedNames, Types, bound_names, types_told};
 use cap_resolve_terms::Scope;
-use std::alloc::Global;
+use std::alloc::{AllocError, Global};
 
 /// A clause that may be absent.
 pub(crate) fn clause_of(clause: &Option<Clause>) -> Option<&Clause>
@@ -38,7 +38,8 @@ fn items_of(
     alloc: Global,
     reading: &Reading<'_, '_, '_>,
     clause: Option<&Clause>,
-) -> Result<Vec<Item>, BuildError>
+) -> Result<Vec<Item>, AllocError>
+    requires { IsNarrowClause reading.now.scope.now (clause_seen clause) }
     ensures { IfOk result (λ items. items_seen items.items
         ≡ clause_program (regions_of reading.now.regions.now) (types_of reading.now.types)
         reading.now.scope.now (clause_seen clause.entry)) }
@@ -59,7 +60,8 @@ pub(crate) fn build_assertion(
     reading: &Reading<'_, '_, '_>,
     names: Vec<Sort>,
     clause: Option<&Clause>,
-) -> Result<Assertion, BuildError>
+) -> Result<Assertion, AllocError>
+    requires { IsNarrowClause reading.now.scope.now (clause_seen clause) }
     ensures { IfOk result (λ a. assertion_view a ≡ record {
       names = names.items;
       items = clause_program (regions_of reading.now.regions.now) (types_of reading.now.types)
@@ -76,7 +78,8 @@ pub(crate) fn build_new<'a>(
     body: &Body<'_, '_, 'a>,
     known: &Scope<'a>,
     clause: Option<&'a Clause>,
-) -> Result<Assertion, BuildError>
+) -> Result<Assertion, AllocError>
+    requires { IsNarrowNew (context_seen body.now) known.now (clause_seen clause) }
     ensures { IfOk result (λ a. assertion_view a
         ≡ new_assertion (context_seen body.now) known.now (clause_seen clause.entry)) }
 {

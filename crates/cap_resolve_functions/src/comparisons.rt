@@ -1,18 +1,19 @@
 //! Comparisons, with their places.
 ghost use Rattle.std.specs.Prelude.{◌≡◌, IfOk, map, option_map};
+ghost use Rattle.std.specs.List.{AllByRecursion};
 ghost use Rattle.cap_parse_tree.specs.Tree.{parts_of};
 ghost use Rattle.cap_parse_tree.specs.Views.{comparison_view, several_view, when_view};
 ghost use Rattle.cap_resolve_spec.specs.Parts.{when_comparisons};
 ghost use Rattle.cap_resolve_spec.specs.Program.{relation_op, sort_or_int, comparison_program};
+ghost use Rattle.cap_resolve_functions.specs.Narrow.{IsNarrowComparison};
 
-use crate::error::BuildError;
 use crate::terms::build_term;
 use cap_lin::{Op, Sort};
 use cap_parse_tree::{Comparison, Relation, Separated, When};
 use cap_prog::Comp;
 use cap_resolve_parts::term_place;
 use cap_resolve_terms::{Scope, term_sort};
-use std::alloc::Global;
+use std::alloc::{AllocError, Global};
 
 fn op(relation: Relation) -> Op
     ensures { result ≡ relation_op relation }
@@ -41,7 +42,8 @@ pub(crate) fn build_comparison(
     alloc: Global,
     scope: &Scope<'_>,
     comparison: &Comparison,
-) -> Result<Comp, BuildError>
+) -> Result<Comp, AllocError>
+    requires { IsNarrowComparison scope.now (comparison_view comparison.now) }
     ensures { IfOk result
         (λ c. c ≡ comparison_program scope.now (comparison_view comparison.now)) }
 {
@@ -60,7 +62,9 @@ fn comparisons_in(
     alloc: Global,
     scope: &Scope<'_>,
     list: &Separated<Comparison>,
-) -> Result<Vec<Comp>, BuildError>
+) -> Result<Vec<Comp>, AllocError>
+    requires { AllByRecursion (IsNarrowComparison scope.now)
+        (parts_of (several_view comparison_view list.now)) }
     ensures { IfOk result (λ made. made.items
         ≡ map (comparison_program scope.now) (parts_of (several_view comparison_view list.now))) }
 {
@@ -77,7 +81,9 @@ pub fn build_comparisons(
     alloc: Global,
     scope: &Scope<'_>,
     when: &Option<When>,
-) -> Result<Vec<Comp>, BuildError>
+) -> Result<Vec<Comp>, AllocError>
+    requires { AllByRecursion (IsNarrowComparison scope.now)
+        (when_comparisons (option_map when_view when.now)) }
     ensures { IfOk result (λ made. made.items ≡ map (comparison_program scope.now)
         (when_comparisons (option_map when_view when.now))) }
 {

@@ -2,16 +2,17 @@
 ghost use Rattle.std.specs.Prelude.{◌≡◌, IfOk};
 ghost use Rattle.cap_parse_tree.specs.Views.{guard_view};
 ghost use Rattle.cap_resolve_spec.specs.Program.{asked_program};
+ghost use Rattle.cap_resolve_functions.specs.Narrow.{IsNarrowGuard};
 
-use crate::error::BuildError;
 use crate::slots::build_slot;
 use cap_parse_tree::{Counted, GuardAtom};
 use cap_prog::Asked;
 use cap_resolve_terms::Scope;
-use std::alloc::Global;
+use std::alloc::{AllocError, Global};
 
 /// What is asked of a guard.
-pub fn build_asked(alloc: Global, scope: &Scope<'_>, guard: &GuardAtom) -> Result<Asked, BuildError>
+pub fn build_asked(alloc: Global, scope: &Scope<'_>, guard: &GuardAtom) -> Result<Asked, AllocError>
+    requires { IsNarrowGuard scope.now (guard_view guard.now) }
     ensures { IfOk result (λ a. a ≡ asked_program scope.now (guard_view guard.now)) }
 {
     match guard {

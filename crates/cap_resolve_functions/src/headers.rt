@@ -12,11 +12,12 @@ ghost use Rattle.cap_resolve_tables.specs.Tables.{regions_of, functions_of, type
 ghost use Rattle.cap_resolve_functions.specs.Bodies.{context_seen};
 ghost use Rattle.cap_resolve_functions.specs.Functions.{variables_of, function_in, function_built};
 ghost use Rattle.cap_resolve_functions.specs.Names.{named_seen};
+ghost use Rattle.cap_resolve_functions.specs.Narrow.{IsNarrowClause, IsNarrowNew, IsNarrowBlock};
+ghost use Rattle.cap_resolve_functions.specs.Narrow.{IsNarrowFunction, IsNarrowBuilt};
 
 use crate::acts::build_body;
 use crate::assertions::{build_assertion, build_new, clause_of};
 use crate::bodies::Body;
-use crate::error::BuildError;
 use crate::functions::variable_names;
 use crate::lists::build_sorts;
 use crate::reading::Reading;
@@ -27,7 +28,7 @@ use cap_resolve_scopes::{body_scope, loop_scope, requires_scope, result_scope};
 use cap_resolve_tables::{FunctionTable, Occurrence, RegionTable, TypedNames, Types};
 use cap_resolve_terms::Scope;
 use cap_syntax::Place;
-use std::alloc::Global;
+use std::alloc::{AllocError, Global};
 
 /// The names of a function, and a scope that knows its destinations.
 #[derive(Clone, Copy)]
@@ -38,11 +39,11 @@ pub(crate) struct Named<'s, 'a> {
     pub(crate) destinations: &'s Scope<'a>,
 }
 
-fn count(length: usize) -> Result<u32, BuildError>
+fn count(length: usize) -> Result<u32, AllocError>
     ensures { IfOk result (λ n. n ≡ length) }
 {
     if length > u32::MAX as usize {
-        return Err(BuildError::OutOfMemory);
+        return Err(AllocError);
     }
     Ok(length as u32)
 }
@@ -62,7 +63,7 @@ fn build_header(
     alloc: Global,
     names: &Named<'_, '_>,
     function: &FunctionTree,
-) -> Result<Header, BuildError>
+) -> Result<Header, AllocError>
     ensures name { IfOk result (λ h. h.name ≡ (function_view function.now).name.text) }
     ensures params { IfOk result (λ h. h.params ≡ length (named_seen names.now).parameters) }
     ensures locals { IfOk result (λ h. h.locals ≡ length (named_seen names.now).locals) }
@@ -94,7 +95,10 @@ fn build_requires(
     types: &TypedNames<'_, '_>,
     names: &Named<'_, '_>,
     clause: Option<&Clause>,
-) -> Result<Assertion, BuildError>
+) -> Result<Assertion, AllocError>
+    requires { IsNarrowClause (whole_numbers (named_seen names.now).parameters
+        ++ (hidden (named_seen names.now).locals ++ scope_of (named_seen names.now).fixed))
+        (clause_seen clause) }
     ensures { IfOk result (λ a. items_view a ≡ clause_program (regions_of regions.now)
         (typed_names types.now) (whole_numbers (named_seen names.now).parameters
         ++ (hidden (named_seen names.now).locals ++ scope_of (named_seen names.now).fixed))
@@ -117,7 +121,11 @@ fn build_ensures<'a>(
     body: &Body<'_, '_, 'a>,
     names: &Named<'_, 'a>,
     clause: Option<&'a Clause>,
-) -> Result<Assertion, BuildError>
+) -> Result<Assertion, AllocError>
+    requires { IsNarrowNew (context_seen body.now)
+        (whole_numbers (named_seen names.now).parameters ++ (hidden (named_seen names.now).locals
+        ++ (scope_of (named_seen names.now).fixed ++ result_entry ∷ [])))
+        (clause_seen clause) }
     ensures { IfOk result (λ a. assertion_view a ≡ new_assertion (context_seen body.now)
         (whole_numbers (named_seen names.now).parameters ++ (hidden (named_seen names.now).locals
         ++ (scope_of (named_seen names.now).fixed ++ result_entry ∷ [])))
@@ -165,7 +173,8 @@ fn with_ensures<'a>(
     header: Header,
     requires_: Assertion,
     ensures_: Assertion,
-) -> Result<Function, BuildError>
+) -> Result<Function, AllocError>
+    requires { IsNarrowBlock (context_seen body.now) (function_view function.now).body }
     ensures { IfOk result (λ f. seen f ≡ record {
       name = header.name;
       params = header.params;
@@ -189,7 +198,12 @@ fn with_requires<'a>(
     function: &'a FunctionTree,
     header: Header,
     requires_: Assertion,
-) -> Result<Function, BuildError>
+) -> Result<Function, AllocError>
+    requires ensures_ { IsNarrowNew (context_seen body.now)
+        (whole_numbers (named_seen names.now).parameters ++ (hidden (named_seen names.now).locals
+        ++ (scope_of (named_seen names.now).fixed ++ result_entry ∷ [])))
+        (function_view function.now).postcondition }
+    requires body { IsNarrowBlock (context_seen body.now) (function_view function.now).body }
     ensures { IfOk result (λ f. seen f ≡ record {
       name = header.name;
       params = header.params;
@@ -215,7 +229,9 @@ fn with_body<'a>(
     body: &Body<'_, '_, 'a>,
     names: &Named<'_, 'a>,
     function: &'a FunctionTree,
-) -> Result<Function, BuildError>
+) -> Result<Function, AllocError>
+    requires { IsNarrowFunction (context_seen body.now) (named_seen names.now)
+        (function_view function.now) }
     ensures { IfOk result (λ f. seen f ≡ function_in (context_seen body.now)
         (named_seen names.now) (function_view function.now)) }
 {
@@ -233,7 +249,9 @@ pub(crate) fn build_named<'a>(
     types: &TypedNames<'_, 'a>,
     names: &Named<'_, 'a>,
     function: &'a FunctionTree,
-) -> Result<Function, BuildError>
+) -> Result<Function, AllocError>
+    requires { IsNarrowBuilt (regions_of regions.now) (functions_of functions.now)
+        (typed_names types.now) (named_seen names.now) (function_view function.now) }
     ensures { IfOk result (λ f. seen f ≡ function_built (regions_of regions.now)
         (functions_of functions.now) (typed_names types.now) (named_seen names.now)
         (function_view function.now)) }

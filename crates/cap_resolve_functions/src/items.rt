@@ -1,5 +1,6 @@
 //! The items of an assertion.
 ghost use Rattle.std.specs.Prelude.{◌≡◌, ◌∷◌, ◌++◌, [], IfOk, OnOk, map};
+ghost use Rattle.std.specs.List.{AllByRecursion};
 ghost use Rattle.cap_prog.specs.Program.{append_items};
 ghost use Rattle.cap_prog.specs.Program as plain;
 ghost use Rattle.cap_prog.specs.Views.{item_view as seen, items_view as items_of_side};
@@ -16,9 +17,11 @@ ghost use Rattle.cap_resolve_spec.specs.Program.{guard_number, asked_program, fa
 ghost use Rattle.cap_resolve_spec.specs.Program.{comparison_program};
 ghost use Rattle.cap_resolve_tables.specs.Tables.{regions_of, types_of, numbered_view};
 ghost use Rattle.cap_resolve_functions.specs.Views.{items_seen, item_read, assertion_read, side_read, atom_built};
+ghost use Rattle.cap_resolve_functions.specs.Narrow.{IsNarrow, IsNarrowComparison, IsNarrowSlot};
+ghost use Rattle.cap_resolve_functions.specs.Narrow.{IsNarrowPart, IsNarrowGuard, IsNarrowItem};
+ghost use Rattle.cap_resolve_functions.specs.Narrow.{IsNarrowAssertion, IsNarrowSide};
 
 use crate::comparisons::build_comparison;
-use crate::error::BuildError;
 use crate::guards::build_asked;
 use crate::reading::Reading;
 use crate::slots::{build_slot, build_slots};
@@ -33,10 +36,10 @@ use cap_resolve_parts::{atom_word, term_place};
 use cap_resolve_tables::Numbered;
 use cap_resolve_terms::Scope;
 use cap_syntax::Place;
-use std::alloc::Global;
+use std::alloc::{AllocError, Global};
 
 #[tactic(auto, using(crate::proofs::ItemLists::pushed))]
-fn push(items: &mut Vec<Item>, item: Item) -> Result<(), BuildError>
+fn push(items: &mut Vec<Item>, item: Item) -> Result<(), AllocError>
     ensures { OnOk result
         (items_seen items.new.items ≡ append_items (items_seen items.old.items) (lone (seen item))) }
 {
@@ -64,7 +67,10 @@ fn build_fact(
     region: &Word,
     arguments: &[(Place, Slot)],
     state: &Slot,
-) -> Result<Item, BuildError>
+) -> Result<Item, AllocError>
+    requires arguments { AllByRecursion (IsNarrowPart reading.now.scope.now)
+        (map (behind_view slot_view) arguments.now) }
+    requires state { IsNarrowSlot reading.now.scope.now (slot_view state.now) }
     ensures { IfOk result (λ i. seen i ≡ plain.fact key.now.place
         (variable_of reading.now.scope.now region.now.text)
         (type_number (regions_of reading.now.regions.now) key.now.text)
@@ -83,7 +89,9 @@ fn build_cell(
     scope: &Scope<'_>,
     address: &Term,
     slot: &Slot,
-) -> Result<Item, BuildError>
+) -> Result<Item, AllocError>
+    requires address { IsNarrow scope.now (term_view address.now) }
+    requires slot { IsNarrowSlot scope.now (slot_view slot.now) }
     ensures { IfOk result (λ i. seen i ≡ plain.cell (place_of (term_view address.now))
         (term_form scope.now (term_view address.now)) (slot_program scope.now (slot_view slot.now))) }
 {
@@ -99,7 +107,8 @@ fn build_atom(
     region: &Word,
     type_: Numbered<'_, '_>,
     guard: &GuardAtom,
-) -> Result<Item, BuildError>
+) -> Result<Item, AllocError>
+    requires { IsNarrowGuard scope.now (guard_view guard.now) }
     ensures { IfOk result (λ i. seen i
         ≡ atom_built (numbered_view type_.entry) scope.now region.now (guard_view guard.now)) }
 {
@@ -116,7 +125,8 @@ fn push_atom(
     region: &Word,
     type_: Numbered<'_, '_>,
     guard: &GuardAtom,
-) -> Result<(), BuildError>
+) -> Result<(), AllocError>
+    requires { IsNarrowGuard scope.now (guard_view guard.now) }
     ensures { OnOk result (map seen items.new.items ≡ map seen items.old.items
         ++ (atom_built (numbered_view type_.entry) scope.now region.now (guard_view guard.now)
         ∷ [])) }
@@ -133,7 +143,9 @@ fn push_atoms(
     region: &Word,
     type_: Numbered<'_, '_>,
     guards: &Separated<GuardAtom>,
-) -> Result<(), BuildError>
+) -> Result<(), AllocError>
+    requires { AllByRecursion (IsNarrowGuard scope.now)
+        (parts_of (several_view guard_view guards.now)) }
     ensures { OnOk result (map seen items.new.items ≡ map seen items.old.items
         ++ map (atom_built (numbered_view type_.entry) scope.now region.now)
         (parts_of (several_view guard_view guards.now))) }
@@ -153,7 +165,9 @@ fn push_guards(
     items: &mut Vec<Item>,
     region: &Word,
     guards: &Guards,
-) -> Result<(), BuildError>
+) -> Result<(), AllocError>
+    requires { AllByRecursion (IsNarrowGuard reading.now.scope.now)
+        (held_atoms (held_view guards.now)) }
     ensures { OnOk result (items_seen items.new.items ≡ append_items (items_seen items.old.items)
         (atoms_program (type_of (types_of reading.now.types) region.now.text) reading.now.scope.now
         region.now (held_atoms (held_view guards.now)))) }
@@ -174,7 +188,8 @@ fn build_choose(
     comparison: &Comparison,
     first: Assertion,
     second: Assertion,
-) -> Result<Item, BuildError>
+) -> Result<Item, AllocError>
+    requires { IsNarrowComparison scope.now (comparison_view comparison.now) }
     ensures { IfOk result
         (λ i. seen i ≡ plain.choose (comparison_program scope.now (comparison_view comparison.now))
         (items_of_side first) (items_of_side second)) }
@@ -188,7 +203,8 @@ fn build_side(
     alloc: Global,
     side: &Side,
     reading: &Reading<'_, '_, '_>,
-) -> Result<Assertion, BuildError>
+) -> Result<Assertion, AllocError>
+    requires { IsNarrowSide reading.now.scope.now (side_view side.now) }
     ensures { IfOk result (λ a. items_of_side a ≡ side_read reading.now (side_view side.now)) }
 {
     let mut items = Vec::new(alloc);
@@ -205,7 +221,8 @@ fn push_item(
     item: &ItemTree,
     reading: &Reading<'_, '_, '_>,
     items: &mut Vec<Item>,
-) -> Result<(), BuildError>
+) -> Result<(), AllocError>
+    requires { IsNarrowItem reading.now.scope.now (item_view item.now) }
     ensures { OnOk result (items_seen items.new.items ≡ append_items (items_seen items.old.items)
         (item_read reading.now (item_view item.now))) }
 {
@@ -241,7 +258,8 @@ pub fn push_items(
     assertion: &AssertionTree,
     reading: &Reading<'_, '_, '_>,
     items: &mut Vec<Item>,
-) -> Result<(), BuildError>
+) -> Result<(), AllocError>
+    requires { IsNarrowAssertion reading.now.scope.now (assertion_view assertion.now) }
     ensures { OnOk result (items_seen items.new.items ≡ append_items (items_seen items.old.items)
         (assertion_read reading.now (assertion_view assertion.now))) }
 {

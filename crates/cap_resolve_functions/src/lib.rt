@@ -6,7 +6,6 @@ mod algebras;
 mod assertions;
 mod bodies;
 mod comparisons;
-mod error;
 mod functions;
 mod guards;
 mod headers;
@@ -19,7 +18,6 @@ mod whole;
 
 pub use algebras::build_algebra;
 pub use comparisons::build_comparisons;
-pub use error::BuildError;
 pub use guards::build_asked;
 pub use items::push_items;
 pub use lists::{build_guard_names, build_sorts};

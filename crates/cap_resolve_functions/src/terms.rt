@@ -3,26 +3,32 @@ ghost use Rattle.std.specs.Prelude.{◌≡◌, IfOk, map};
 ghost use Rattle.cap_parse_tree.specs.Tree.{parts_of, listed_parts};
 ghost use Rattle.cap_parse_tree.specs.Views.{term_view, several_view, listed_view};
 ghost use Rattle.cap_resolve_spec.specs.Linear.{term_form};
+ghost use Rattle.cap_resolve_functions.specs.Narrow.{IsNarrow, AreNarrow};
 
-use crate::error::BuildError;
-use cap_lin::Term as Linear;
+use cap_lin::{LinError, Term as Linear};
 use cap_parse_tree::{Listed, Separated, Term};
 use cap_resolve_forms::linear;
 use cap_resolve_terms::Scope;
-use std::alloc::Global;
+use std::alloc::{AllocError, Global};
 
-/// The linear form of a term.
-pub fn build_term(alloc: Global, scope: &Scope<'_>, term: &Term) -> Result<Linear, BuildError>
+/// The linear form of a term, on the way to which no result leaves 128 bits.
+pub fn build_term(alloc: Global, scope: &Scope<'_>, term: &Term) -> Result<Linear, AllocError>
+    requires { IsNarrow scope.now (term_view term.now) }
     ensures { IfOk result (λ form. form ≡ term_form scope.now (term_view term.now)) }
 {
-    Ok(linear(alloc, scope, term)?)
+    match linear(alloc, scope, term) {
+        Ok(form) => Ok(form),
+        Err(LinError::OutOfMemory) => Err(AllocError),
+        Err(LinError::Wide(_, _)) => unreachable!(),
+    }
 }
 
 fn terms_in(
     alloc: Global,
     scope: &Scope<'_>,
     list: &Separated<Term>,
-) -> Result<Vec<Linear>, BuildError>
+) -> Result<Vec<Linear>, AllocError>
+    requires { AreNarrow scope.now (parts_of (several_view term_view list.now)) }
     ensures { IfOk result (λ forms. forms.items
         ≡ map (term_form scope.now) (parts_of (several_view term_view list.now))) }
 {
@@ -39,7 +45,8 @@ pub(crate) fn build_terms(
     alloc: Global,
     scope: &Scope<'_>,
     list: &Listed<Term>,
-) -> Result<Vec<Linear>, BuildError>
+) -> Result<Vec<Linear>, AllocError>
+    requires { AreNarrow scope.now (listed_parts (listed_view term_view list.now)) }
     ensures { IfOk result (λ forms. forms.items
         ≡ map (term_form scope.now) (listed_parts (listed_view term_view list.now))) }
 {

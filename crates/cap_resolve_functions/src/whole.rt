@@ -1,22 +1,23 @@
 //! A whole function.
-ghost use Rattle.std.specs.Prelude.{◌≡◌, IfOk};
+ghost use Rattle.std.specs.Prelude.{◌≡◌, IfOk, []};
 ghost use Rattle.cap_prog.specs.Views.{function_view as seen};
 ghost use Rattle.cap_parse_tree.specs.Views.{function_view};
+ghost use Rattle.cap_resolve_spec.specs.Functions.{function_findings};
 ghost use Rattle.cap_resolve_spec.specs.Program.{function_program};
 ghost use Rattle.cap_resolve_parts.specs.Views.{words_view, statements_view, parts_view};
 ghost use Rattle.cap_resolve_tables.specs.Tables.{regions_of, functions_of, typed_names};
 ghost use Rattle.cap_resolve_tables.specs.Views.{occurrences_view};
 ghost use Rattle.cap_resolve_functions.specs.Functions.{function_built, named_by, function_by};
+ghost use Rattle.cap_resolve_functions.specs.Narrow.{IsNarrowBuilt, IsNarrowBy};
 
 use crate::assertions::clause_of;
-use crate::error::BuildError;
 use crate::functions::{destinations_in, find_locals, fixed_in};
 use crate::headers::{Named, build_named};
 use cap_parse_tree::{Function as FunctionTree, Statement, Word};
 use cap_prog::Function;
 use cap_resolve_parts::{Placed, items_of_clause, listed_words, push_block};
 use cap_resolve_tables::{FunctionTable, Occurrence, RegionTable, TypedNames, Types, types_told};
-use std::alloc::Global;
+use std::alloc::{AllocError, Global};
 
 /// The function of a tree, with these parameters, types, fixed names and statements.
 fn build_stated<'a>(
@@ -28,7 +29,10 @@ fn build_stated<'a>(
     fixed: &[Occurrence<'a>],
     statements: &[&'a Statement],
     function: &'a FunctionTree,
-) -> Result<Function, BuildError>
+) -> Result<Function, AllocError>
+    requires { IsNarrowBuilt (regions_of regions.now) (functions_of functions.now)
+        (typed_names types.now) (named_by (words_view parameters.now) (occurrences_view fixed.now)
+        (statements_view statements.now)) (function_view function.now) }
     ensures { IfOk result (λ f. seen f ≡ function_built (regions_of regions.now)
         (functions_of functions.now) (typed_names types.now)
         (named_by (words_view parameters.now) (occurrences_view fixed.now)
@@ -54,7 +58,9 @@ fn build_required<'a>(
     parameters: &[&'a Word],
     parts: &[Placed<'a>],
     function: &'a FunctionTree,
-) -> Result<Function, BuildError>
+) -> Result<Function, AllocError>
+    requires { IsNarrowBy (regions_of regions.now) (functions_of functions.now)
+        (words_view parameters.now) (parts_view parts.now) (function_view function.now) }
     ensures { IfOk result (λ f. seen f ≡ function_by (regions_of regions.now)
         (functions_of functions.now) (words_view parameters.now) (parts_view parts.now)
         (function_view function.now)) }
@@ -74,13 +80,15 @@ fn build_required<'a>(
     )
 }
 
-/// The function of a tree.
+/// The function of a tree, in which nothing is found.
 pub fn build_function<'a>(
     alloc: Global,
     regions: &RegionTable<'a>,
     functions: &FunctionTable<'a>,
     function: &'a FunctionTree,
-) -> Result<Function, BuildError>
+) -> Result<Function, AllocError>
+    requires { function_findings (regions_of regions.now) (functions_of functions.now)
+        (function_view function.now) ≡ [] }
     ensures { IfOk result (λ f. seen f ≡ function_program (regions_of regions.now)
         (functions_of functions.now) (function_view function.now)) }
 {

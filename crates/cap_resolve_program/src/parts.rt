@@ -1,30 +1,34 @@
 //! All region types and all functions of a tree.
-ghost use Rattle.std.specs.Prelude.{◌≡◌, ◌+◌, IfOk, map};
+ghost use Rattle.std.specs.Prelude.{◌≡◌, ◌+◌, IfOk, map, flat_map, []};
 ghost use Rattle.cap_prog.specs.Views.{region_view as region_seen, function_view as function_seen};
 ghost use Rattle.cap_resolve_spec.specs.Items.{numbered_regions};
+ghost use Rattle.cap_resolve_spec.specs.Regions.{region_type_findings};
+ghost use Rattle.cap_resolve_spec.specs.Functions.{function_findings};
 ghost use Rattle.cap_resolve_spec.specs.Program.{region_program, function_program};
 ghost use Rattle.cap_resolve_tables.specs.Tables.{regions_of, functions_of};
 
 use cap_prog::{Function, RegionType};
-use cap_resolve_functions::{BuildError, build_function};
+use cap_resolve_functions::build_function;
 use cap_resolve_regions::build_region;
 use cap_resolve_tables::{FunctionTable, Numbered, RegionTable};
-use std::alloc::Global;
+use std::alloc::{AllocError, Global};
 
-fn next(number: u32) -> Result<u32, BuildError>
+fn next(number: u32) -> Result<u32, AllocError>
     ensures { IfOk result (λ n. n ≡ number + 1) }
 {
     match number.checked_add(1) {
         Some(next) => Ok(next),
-        None => Err(BuildError::OutOfMemory),
+        None => Err(AllocError),
     }
 }
 
-/// The region types of a tree, in the order of the table.
+/// The region types of a tree, in the order of the table. Nothing is found in them.
 pub(crate) fn build_regions(
     alloc: Global,
     regions: &RegionTable<'_>,
-) -> Result<Vec<RegionType>, BuildError>
+) -> Result<Vec<RegionType>, AllocError>
+    requires { flat_map (region_type_findings (regions_of regions.now))
+        (numbered_regions (regions_of regions.now)) ≡ [] }
     ensures { IfOk result (λ built. map region_seen built.items
         ≡ map (region_program (regions_of regions.now))
         (numbered_regions (regions_of regions.now))) }
@@ -39,12 +43,14 @@ pub(crate) fn build_regions(
     Ok(built)
 }
 
-/// The functions of a tree, in the order of the table.
+/// The functions of a tree, in the order of the table. Nothing is found in them.
 pub(crate) fn build_functions(
     alloc: Global,
     regions: &RegionTable<'_>,
     functions: &FunctionTable<'_>,
-) -> Result<Vec<Function>, BuildError>
+) -> Result<Vec<Function>, AllocError>
+    requires { flat_map (function_findings (regions_of regions.now) (functions_of functions.now))
+        (functions_of functions.now) ≡ [] }
     ensures { IfOk result (λ built. map function_seen built.items
         ≡ map (function_program (regions_of regions.now) (functions_of functions.now))
         (functions_of functions.now)) }

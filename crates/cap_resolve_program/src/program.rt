@@ -13,10 +13,9 @@ use crate::parts::{build_functions, build_regions};
 use crate::tables::{functions_of_tree, regions_of_tree};
 use cap_parse_tree::Tree;
 use cap_prog::{Function, Program, RegionType};
-use cap_resolve_functions::BuildError;
 use cap_resolve_spec::programs_are_well_formed;
 use cap_resolve_tables::{FunctionTable, RegionTable};
-use std::alloc::Global;
+use std::alloc::{AllocError, Global};
 
 /// The program of these parts, which are those of the tree's program.
 fn put_together(
@@ -43,7 +42,7 @@ fn build_with(
     regions: &RegionTable<'_>,
     functions: &FunctionTable<'_>,
     types: Vec<RegionType>,
-) -> Result<Program, BuildError>
+) -> Result<Program, AllocError>
     requires small { length (spelling (tree_view tree.now)) ≤ most_members }
     requires right { refusal (tree_view tree.now) ≡ None }
     requires regions { regions_of regions.now ≡ regions_in (tree_view tree.now) }
@@ -62,7 +61,7 @@ fn build_by(
     tree: &Tree,
     regions: &RegionTable<'_>,
     functions: &FunctionTable<'_>,
-) -> Result<Program, BuildError>
+) -> Result<Program, AllocError>
     requires small { length (spelling (tree_view tree.now)) ≤ most_members }
     requires right { refusal (tree_view tree.now) ≡ None }
     requires regions { regions_of regions.now ≡ regions_in (tree_view tree.now) }
@@ -75,9 +74,8 @@ fn build_by(
 
 /// The program of a tree that is not refused and of at most 2^20 tokens: its region types and its
 /// functions, each numbered from 0 in the order of the text, and the number of `main`. There is an
-/// error where memory runs out. `Refused` is for trees that are refused; the contract does not say
-/// that it never comes here.
-pub fn build_program(alloc: Global, tree: &Tree) -> Result<Program, BuildError>
+/// error where memory runs out.
+pub fn build_program(alloc: Global, tree: &Tree) -> Result<Program, AllocError>
     requires small { length (spelling (tree_view tree.now)) ≤ most_members }
     requires right { refusal (tree_view tree.now) ≡ None }
     ensures { IfOk result (λ p. program_view p ≡ program_of (tree_view tree.now)) }

@@ -1,1 +1,2 @@
 pub mod KnownNames
+mod NarrowParts

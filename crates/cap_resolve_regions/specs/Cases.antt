@@ -1,5 +1,7 @@
--- The names that cases and actions know, by their types and items.
+-- The names that cases and actions know, by their types and items, and cases and actions that are
+-- narrow.
 use Rattle.std.specs.Prelude.{List, ◌++◌, map, filter, flat_map}
+use Rattle.std.specs.List.{AllByRecursion}
 use Rattle.cap_prog.specs.Program.{PlainCase, PlainAction}
 use Rattle.cap_parse_tree.specs.Tree.{parts_of, CaseTree, ActionTree, RegionTree}
 use Rattle.cap_resolve_spec.specs.Parts.{PlacedItem, term_words, comparison_words, when_comparisons, whole_name, term_place, atom_place}
@@ -9,6 +11,7 @@ use Rattle.cap_resolve_spec.specs.Regions.{action_atoms, action_occurrences}
 use Rattle.cap_resolve_spec.specs.Linear.{term_form}
 use Rattle.cap_resolve_spec.specs.Program.{occurrence_sorts, comparison_program, assertion_program, action_guard}
 use Rattle.cap_resolve_scopes.specs.Lists.{bound_entries, is_known_with, is_whole_with}
+use Rattle.cap_resolve_functions.specs.Narrow.{IsNarrow, IsNarrowComparison, IsNarrowGuard, IsNarrowAssertion}
 
 abbrev pub known_by_case : NameScope → List TypedName → List PlacedItem → CaseTree → List Occurrence
 known_by_case scope types parts c =
@@ -43,3 +46,15 @@ action_built k scope known a = record {
   when = map (comparison_program scope) (when_comparisons a.when);
   place = atom_place a.guards.first;
 }
+
+-- a case and an action whose terms are narrow
+pub record IsNarrowCase (scope : NameScope) (c : CaseTree) : Type 0 where
+  pub state : IsNarrow scope c.state
+  pub when : AllByRecursion (IsNarrowComparison scope) (when_comparisons c.when)
+  pub items : IsNarrowAssertion scope c.assertion
+
+pub record IsNarrowAction (scope : NameScope) (a : ActionTree) : Type 0 where
+  pub guards : AllByRecursion (IsNarrowGuard scope) (parts_of a.guards)
+  pub source : IsNarrow scope a.source
+  pub target : IsNarrow scope a.target
+  pub when : AllByRecursion (IsNarrowComparison scope) (when_comparisons a.when)

@@ -1,5 +1,6 @@
 //! Cases and actions, from the names that they know.
 ghost use Rattle.std.specs.Prelude.{◌≡◌, ◌++◌, IfOk, map, option_map};
+ghost use Rattle.std.specs.List.{AllByRecursion};
 ghost use Rattle.cap_prog.specs.Views.{case_view as case_seen, action_view as action_seen};
 ghost use Rattle.cap_prog.specs.Views.{items_view};
 ghost use Rattle.cap_parse_tree.specs.Tree.{parts_of};
@@ -11,26 +12,29 @@ ghost use Rattle.cap_resolve_spec.specs.Parts.{when_comparisons};
 ghost use Rattle.cap_resolve_spec.specs.Program.{occurrence_sorts, comparison_program, action_guard};
 ghost use Rattle.cap_resolve_tables.specs.Tables.{numbered_view, regions_of, types_of};
 ghost use Rattle.cap_resolve_regions.specs.Cases.{case_built, action_built};
+ghost use Rattle.cap_resolve_regions.specs.Cases.{IsNarrowCase, IsNarrowAction};
 ghost use Rattle.cap_resolve_tables.specs.Views.{occurrences_view};
 ghost use Rattle.cap_resolve_functions.specs.Views.{assertion_read};
+ghost use Rattle.cap_resolve_functions.specs.Narrow.{IsNarrowGuard, IsNarrowAssertion};
 
 use cap_parse_tree::{
     Action as ActionTree, Assertion as AssertionTree, Case as CaseTree, GuardAtom, Separated,
 };
 use cap_prog::{Action, Asked, Assertion, Case};
 use cap_resolve_functions::{
-    BuildError, Reading, build_asked, build_comparisons, build_sorts, build_term, push_items,
+    Reading, build_asked, build_comparisons, build_sorts, build_term, push_items,
 };
 use cap_resolve_parts::{atom_place, atom_word, term_place};
 use cap_resolve_tables::{Numbered, Occurrence};
 use cap_resolve_terms::Scope;
-use std::alloc::Global;
+use std::alloc::{AllocError, Global};
 
 fn case_items(
     alloc: Global,
     reading: &Reading<'_, '_, '_>,
     assertion: &AssertionTree,
-) -> Result<Assertion, BuildError>
+) -> Result<Assertion, AllocError>
+    requires { IsNarrowAssertion reading.now.scope.now (assertion_view assertion.now) }
     ensures { IfOk result
         (λ a. items_view a ≡ assertion_read reading.now (assertion_view assertion.now)) }
 {
@@ -48,7 +52,8 @@ pub(crate) fn build_case(
     reading: &Reading<'_, '_, '_>,
     known: &[Occurrence<'_>],
     case: &CaseTree,
-) -> Result<Case, BuildError>
+) -> Result<Case, AllocError>
+    requires { IsNarrowCase reading.now.scope.now (case_view case.now) }
     ensures { IfOk result (λ c. case_seen c ≡ case_built (regions_of reading.now.regions.now)
         (types_of reading.now.types) reading.now.scope.now (occurrences_view known.now)
         (case_view case.now)) }
@@ -71,7 +76,8 @@ fn build_guard(
     scope: &Scope<'_>,
     region: Numbered<'_, '_>,
     guard: &GuardAtom,
-) -> Result<(u32, Asked), BuildError>
+) -> Result<(u32, Asked), AllocError>
+    requires { IsNarrowGuard scope.now (guard_view guard.now) }
     ensures { IfOk result
         (λ g. g ≡ action_guard (numbered_view region.entry) scope.now (guard_view guard.now)) }
 {
@@ -85,7 +91,9 @@ fn build_guards(
     scope: &Scope<'_>,
     region: Numbered<'_, '_>,
     guards: &Separated<GuardAtom>,
-) -> Result<Vec<(u32, Asked)>, BuildError>
+) -> Result<Vec<(u32, Asked)>, AllocError>
+    requires { AllByRecursion (IsNarrowGuard scope.now)
+        (parts_of (several_view guard_view guards.now)) }
     ensures { IfOk result (λ made. made.items
         ≡ map (action_guard (numbered_view region.entry) scope.now)
         (parts_of (several_view guard_view guards.now))) }
@@ -105,7 +113,8 @@ pub(crate) fn build_action(
     region: Numbered<'_, '_>,
     known: &[Occurrence<'_>],
     action: &ActionTree,
-) -> Result<Action, BuildError>
+) -> Result<Action, AllocError>
+    requires { IsNarrowAction scope.now (action_view action.now) }
     ensures { IfOk result (λ a. action_seen a ≡ action_built (numbered_view region.entry)
         scope.now (occurrences_view known.now) (action_view action.now)) }
 {

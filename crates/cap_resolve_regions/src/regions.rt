@@ -1,8 +1,8 @@
 //! A case and an action of a region type.
-ghost use Rattle.std.specs.Prelude.{◌≡◌, IfOk, Some};
+ghost use Rattle.std.specs.Prelude.{◌≡◌, IfOk, Some, []};
 ghost use Rattle.cap_prog.specs.Views.{case_view as case_seen, action_view as action_seen};
 ghost use Rattle.cap_parse_tree.specs.Views.{case_view, action_view};
-ghost use Rattle.cap_resolve_spec.specs.Regions.{parameters_scope};
+ghost use Rattle.cap_resolve_spec.specs.Regions.{parameters_scope, case_findings, action_findings};
 ghost use Rattle.cap_resolve_spec.specs.Program.{case_program, action_program};
 ghost use Rattle.cap_resolve_tables.specs.Tables.{regions_of, numbered_view};
 
@@ -10,21 +10,22 @@ use crate::cases::{build_action, build_case};
 use crate::known::{names_of_action, names_of_case};
 use cap_parse_tree::{Action as ActionTree, Case as CaseTree};
 use cap_prog::{Action, Case};
-use cap_resolve_functions::{BuildError, Reading};
+use cap_resolve_functions::Reading;
 use cap_resolve_parts::placed_items;
 use cap_resolve_scopes::scope_with;
 use cap_resolve_tables::{Numbered, RegionTable, Typed, Types, types_told};
 use cap_resolve_terms::Scope;
-use std::alloc::Global;
+use std::alloc::{AllocError, Global};
 
-/// The action of a region type, of whose parameters this is the scope.
+/// The action of a region type, of whose parameters this is the scope. Nothing is found in it.
 pub(crate) fn action_of<'a>(
     alloc: Global,
     region: Numbered<'_, 'a>,
     parameters: &Scope<'a>,
     action: &'a ActionTree,
-) -> Result<Action, BuildError>
-    requires { parameters.now ≡ parameters_scope (numbered_view region) }
+) -> Result<Action, AllocError>
+    requires parameters { parameters.now ≡ parameters_scope (numbered_view region) }
+    requires nothing { action_findings (numbered_view region) (action_view action.now) ≡ [] }
     ensures { IfOk result
         (λ a. action_seen a ≡ action_program (numbered_view region.entry) (action_view action.now)) }
 {
@@ -34,15 +35,17 @@ pub(crate) fn action_of<'a>(
     build_action(alloc, &scope, region, known, action)
 }
 
-/// The case of a region type, of whose parameters this is the scope.
+/// The case of a region type, of whose parameters this is the scope. Nothing is found in it.
 pub(crate) fn case_of<'a>(
     alloc: Global,
     regions: &RegionTable<'a>,
     region: Numbered<'_, 'a>,
     parameters: &Scope<'a>,
     case: &'a CaseTree,
-) -> Result<Case, BuildError>
-    requires { parameters.now ≡ parameters_scope (numbered_view region) }
+) -> Result<Case, AllocError>
+    requires parameters { parameters.now ≡ parameters_scope (numbered_view region) }
+    requires nothing { case_findings (regions_of regions.now) (numbered_view region)
+        (case_view case.now) ≡ [] }
     ensures { IfOk result (λ c. case_seen c
         ≡ case_program (regions_of regions.now) (numbered_view region.entry) (case_view case.now)) }
 {

@@ -1,28 +1,28 @@
 //! A whole region type.
-ghost use Rattle.std.specs.Prelude.{◌≡◌, IfOk, map, length};
+ghost use Rattle.std.specs.Prelude.{◌≡◌, IfOk, map, length, []};
 ghost use Rattle.cap_galg.specs.Views.{algebra_view as algebra_seen};
 ghost use Rattle.cap_prog.specs.Views.{case_view as case_seen, action_view as action_seen};
 ghost use Rattle.cap_prog.specs.Views.{region_view as seen};
 ghost use Rattle.cap_parse_tree.specs.Tree.{parts_of};
 ghost use Rattle.cap_parse_tree.specs.Views.{region_view, several_view, word_view};
 ghost use Rattle.cap_resolve_spec.specs.Names.{word_text};
-ghost use Rattle.cap_resolve_spec.specs.Regions.{guard_names};
+ghost use Rattle.cap_resolve_spec.specs.Regions.{guard_names, region_type_findings};
 ghost use Rattle.cap_resolve_spec.specs.Program.{algebra_program, region_program};
 ghost use Rattle.cap_resolve_tables.specs.Tables.{regions_of, numbered_view};
 
 use crate::types::{actions_of, cases_of};
 use cap_parse_tree::Region;
 use cap_prog::{Action, Case, RegionType};
-use cap_resolve_functions::{BuildError, build_algebra, build_guard_names};
+use cap_resolve_functions::{build_algebra, build_guard_names};
 use cap_resolve_parts::{word_count, words_of};
 use cap_resolve_tables::{Numbered, RegionTable, scope_of_words};
-use std::alloc::Global;
+use std::alloc::{AllocError, Global};
 
-fn count(length: usize) -> Result<u32, BuildError>
+fn count(length: usize) -> Result<u32, AllocError>
     ensures { IfOk result (λ n. n ≡ length) }
 {
     if length > u32::MAX as usize {
-        return Err(BuildError::OutOfMemory);
+        return Err(AllocError);
     }
     Ok(length as u32)
 }
@@ -32,7 +32,7 @@ fn build_type(
     tree: &Region,
     cases: Vec<Case>,
     actions: Vec<Action>,
-) -> Result<RegionType, BuildError>
+) -> Result<RegionType, AllocError>
     ensures { IfOk result (λ r. seen r ≡ record {
       name = (region_view tree.now).name.text;
       params = length (parts_of (region_view tree.now).parameters);
@@ -58,12 +58,13 @@ fn build_type(
     })
 }
 
-/// The region type of a tree.
+/// The region type of a tree, in which nothing is found.
 pub fn build_region<'a>(
     alloc: Global,
     regions: &RegionTable<'a>,
     region: Numbered<'_, 'a>,
-) -> Result<RegionType, BuildError>
+) -> Result<RegionType, AllocError>
+    requires { region_type_findings (regions_of regions.now) (numbered_view region) ≡ [] }
     ensures { IfOk result (λ r. seen r
         ≡ region_program (regions_of regions.now) (numbered_view region.entry)) }
 {

@@ -1,11 +1,16 @@
-use Rattle.std.proofs.Common.{◌≡◌, ◌∙◌, ◌+◌, drop, length, ap, sym, arith}
+use Rattle.std.proofs.Common.{◌≡◌, ◌∙◌, ◌+◌, drop, length, ap, sym, arith, rules}
+use Rattle.std.proofs.lemmas.Grind.{common_steps, elements}
+use borrow.Author.Rules.{get_or_read}
+use borrow.Author.Tests.{tests}
 use Rattle.cap_prog.specs.Program.{append}
 use Rattle.cap_prog.specs.Views as seen
+use Rattle.cap_parse_tree.specs.declared.statement.Statement.TheFolds.{the_lemmas}
 use Rattle.cap_parse_tree.specs.Views.{statement_view, block_view}
 use Rattle.cap_resolve_spec.specs.Parts.{statement_parts, statements_parts, block_parts}
 use Rattle.cap_resolve_spec.specs.Program.{statements_program, block_program, act_program, label, statement_place}
 use Rattle.cap_resolve_functions.specs.Bodies.{context_seen}
 use Rattle.cap_resolve_functions.proofs.Rests.{statements_view}
+use Rattle.cap_resolve_functions.proofs.Members.{statement_of}
 use Rattle.cap_resolve_functions.proofs.Trees.{view-Block, statements-rest, statements-done}
 use Rattle.cap_resolve_functions.proofs.Blocks.{statement_stays, done_stays, counted_on}
 use Rattle.cap_resolve_functions.proofs.acts.+acts.Goals as goal
@@ -47,3 +52,15 @@ build_block-returns-clause-counted t c =
     let e : length (statements_parts (statements_view (drop c.loop-statement.statement-index c.deref-statement-items.result.now))) ≡ 0 = ap (λ ss. length (statements_parts ss)) (statements-done c.deref-statement-items.result.now c.loop-statement.statement-index c.loop-statement-test.false) in
     let i : c.loop-statement.next + length (statements_parts (statements_view (drop c.loop-statement.statement-index c.deref-statement-items.result.now))) ≡ c.args.next.now + length (block_parts (block_view c.args.block.now)) = c.loop-statement.invariant.counted in
     omega arith
+
+-- the statement is less deep than the block, and it is narrow
+pub build_block-push_statement-requires : goal.build_block-push_statement-requires
+build_block-push_statement-requires t c = (
+  first_of (
+    search (rules, the_lemmas, get_or_read),
+    grind (the_lemmas, arith, common_steps) steps 2000000,
+    grind (the_lemmas, arith, elements) steps 2000000,
+    search (tests, rules, the_lemmas, get_or_read, common_steps),
+  ),
+  statement_of (context_seen c.args.body.now) c.args.block.now c.deref-statement-items.result.now c.loop-statement.statement-index c.statement-item.result c.statement-item.is c.loop-statement-test.true c.deref-statement-items.ensures.value c.requires,
+)

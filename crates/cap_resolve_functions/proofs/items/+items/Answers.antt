@@ -1,5 +1,8 @@
-use Rattle.std.proofs.Common.{◌≡◌, ◌∙◌, ◌+◌, drop, map, ap, sym, rules}
+use Rattle.std.proofs.Common.{◌≡◌, ◌∙◌, ◌+◌, drop, map, ap, sym, arith, rules}
+use Rattle.std.proofs.lemmas.Grind.{common_steps, elements}
 use Rattle.std.proofs.lemmas.Result.{on_ok_weaker}
+use borrow.Author.Rules.{get_or_read}
+use borrow.Author.Tests.{tests}
 use Rattle.cap_prog.specs.Program as plain
 use Rattle.cap_prog.specs.Program.{append_items}
 use Rattle.cap_prog.specs.Views as seen
@@ -14,6 +17,7 @@ use Rattle.cap_resolve_tables.specs.Tables.{regions_of}
 use Rattle.cap_resolve_functions.specs.Views.{items_seen, item_read, items_read, assertion_read}
 use Rattle.cap_resolve_functions.proofs.Rests.{ands_view}
 use Rattle.cap_resolve_functions.proofs.ItemLists.{append_none, more_stays, none_stays}
+use Rattle.cap_resolve_functions.proofs.Members.{item_of}
 use Rattle.cap_resolve_functions.proofs.Trees.{view-True, view-Assertion, ands-rest, ands-done}
 use Rattle.cap_resolve_functions.proofs.items.+items.Goals as goal
 
@@ -47,3 +51,15 @@ push_items-returns t c =
     none_stays (items_seen c.loop-and.items.items) (items_read c.args.reading.now (ands_view (drop c.loop-and.and-index c.deref-and-items.result.now))) _
     (ap (items_read c.args.reading.now) (ands-done c.deref-and-items.result.now c.loop-and.and-index c.loop-and-test.false))
     c.loop-and.invariant
+
+-- the item is less deep than the assertion, and it is narrow
+pub push_items-push_item-requires-in-loop-and : goal.push_items-push_item-requires-in-loop-and
+push_items-push_item-requires-in-loop-and t c = (
+  first_of (
+    search (rules, the_lemmas, get_or_read),
+    grind (the_lemmas, arith, common_steps) steps 2000000,
+    grind (the_lemmas, arith, elements) steps 2000000,
+    search (tests, rules, the_lemmas, get_or_read, common_steps),
+  ),
+  item_of c.args.reading.now.scope.now c.args.assertion.now c.deref-and-items.result.now c.loop-and.and-index c.and-item.result c.and-item.is c.loop-and-test.true c.deref-and-items.ensures.value c.requires,
+)

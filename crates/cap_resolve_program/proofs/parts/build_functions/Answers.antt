@@ -1,0 +1,15 @@
+use Rattle.std.proofs.Common.{◌≡◌, []}
+use Rattle.std.specs.Borrow.{Bor}
+use Rattle.cap_parse_tree.specs.declared.tree.Function.{Function}
+use Rattle.cap_parse_tree.specs.Views.{function_view}
+use Rattle.cap_resolve_spec.specs.Functions.{function_findings}
+use Rattle.cap_resolve_spec.proofs.Nothing.{nothing_flat}
+use Rattle.cap_resolve_tables.specs.Tables.{regions_of, functions_of}
+use Rattle.cap_resolve_functions.proofs.Members.{member_in}
+use Rattle.cap_resolve_program.proofs.parts.build_functions.Goals as goal
+
+pub build_function-requires : goal.build_function-requires
+build_function-requires c =
+    member_in (λ f. function_findings (regions_of c.args.regions.now) (functions_of c.args.functions.now) f ≡ []) (λ (x : Bor Function). function_view x.now)
+    c.args.functions.now.functions.items c.deref-function-items.result.now c.loop-function.function-index c.function-item.result c.deref-function-items.ensures.value c.loop-function-test.true c.function-item.is
+    (nothing_flat (function_findings (regions_of c.args.regions.now) (functions_of c.args.functions.now)) (functions_of c.args.functions.now) c.requires)
