@@ -1,4 +1,4 @@
-//! Tests of terms, rows, certificates, elimination and guards. It has no other code.
+//! Tests of terms, rows, certificates, elimination, sets of indices and guards. It has no other code.
 #![tactic(auto)]
 
 #[cfg(test)]
@@ -9,6 +9,8 @@ mod fm;
 mod galg;
 #[cfg(test)]
 mod gsolve;
+#[cfg(test)]
+mod indices;
 #[cfg(test)]
 mod lin;
 #[cfg(test)]

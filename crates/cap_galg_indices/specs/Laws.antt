@@ -1,0 +1,4 @@
+pub mod Members
+pub mod Unions
+pub mod Tests
+pub mod Composition
