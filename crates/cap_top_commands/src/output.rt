@@ -92,7 +92,7 @@ fn schedule_text(alloc: Global, error: ScheduleError) -> Result<Vec<u8>, AllocEr
 }
 
 /// The line for the trial of a number, so many units of which are proved.
-fn trial_text(alloc: Global, number: u32, counts: Counts) -> Result<Vec<u8>, AllocError>
+fn counts_text(alloc: Global, number: u32, counts: Counts) -> Result<Vec<u8>, AllocError>
     ensures { IfOk result (λ text. text.items ≡ trial_line number counts.proved counts.all) }
 {
     let Counts { proved, all } = counts;
@@ -147,7 +147,7 @@ impl<'a> Output<'a> {
             Output::Shown(text) => Ok(text),
             Output::BadSchedule(error) => schedule_text(alloc, error),
             Output::Played(played) => Ok(played.text),
-            Output::Tried { number, counts } => trial_text(alloc, number, counts),
+            Output::Tried { number, counts } => counts_text(alloc, number, counts),
         }
     }
 }

@@ -1,5 +1,6 @@
 //! What is answered to `trial`.
-ghost use Rattle.std.specs.Prelude.{IfOk};
+ghost use Rattle.std.specs.Prelude.{◌≡◌, IfOk};
+ghost use Rattle.cap_gen.specs.Trial.{trial_text as text_of};
 ghost use Rattle.cap_top_commands.specs.Answers.{IsTrial, IsOnly};
 ghost use Rattle.cap_top_commands.specs.Views.{output_view};
 
@@ -11,17 +12,25 @@ use cap_top_report::count_on;
 use cap_top_words::DEFAULT_BUDGET;
 use std::alloc::{AllocError, Global};
 
+/// What is said of the text of a number's trial.
+fn try_text<'a>(alloc: Global, number: u32, bytes: &[u8]) -> Result<Output<'a>, AllocError>
+    requires { bytes.now ≡ text_of number }
+    ensures { IfOk result (λ o. IsOnly (IsTrial number) (output_view o)) }
+{
+    match read_program(alloc, bytes) {
+        Ok(program) => Ok(Output::Tried {
+            number,
+            counts: count_on(alloc, &program, DEFAULT_BUDGET)?,
+        }),
+        Err(refusal) => refuse(refusal),
+    }
+}
+
 /// What `trial` answers to a number: how many units of the program of its text are proved, each
 /// searched within the usual budget of visits. The only error is want of memory.
 pub fn trial<'a>(alloc: Global, number: u32) -> Result<Output<'a>, AllocError>
     ensures { IfOk result (λ o. IsOnly (IsTrial number) (output_view o)) }
 {
     let text = trial_text(alloc, number)?;
-    match read_program(alloc, text.as_slice()) {
-        Ok(program) => {
-            let counts = count_on(alloc, &program, DEFAULT_BUDGET)?;
-            Ok(Output::Tried { number, counts })
-        }
-        Err(refusal) => refuse(refusal),
-    }
+    try_text(alloc, number, text.as_slice())
 }

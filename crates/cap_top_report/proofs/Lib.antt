@@ -1,2 +1,2 @@
 mod Numbered
-mod Good
+pub mod Good
