@@ -1,0 +1,482 @@
+//! Files that cannot be read, are not there or are too long, and sinks that fail.
+
+use crate::rows::Piece::{Once, Times};
+use crate::rows::{Run, Text, ends, meets, meets_despite, shelf, sink};
+use cap_io::{FetchError, Shelf};
+use cap_top::Status;
+use cap_top::Status::{Good, ReadFault, Refused, Usage, WriteFault};
+use std::test::Fail;
+
+const USAGE: &[u8] =
+    b"usage: caper verify FILE [--budget N] | derive FILE [--budget N] | check FILE DERIVATION | replay FILE SCHEDULE | show FILE | trial N\n";
+
+const EMPTY: &[u8] = b"function main() { }\n";
+
+const PROVED: &[u8] = b"function main: proved\nproved 1 of 1\n";
+
+const NO_STEPS: &[u8] = b"start\nend\n";
+
+// Which fetches fail, the words, and the text of `f`; `s` is a schedule.
+const READS: &[(&str, &[u64], &str, &[u8], Status, &[u8])] = &[
+    // The first fetch fails.
+    (
+        "verify, 1",
+        &[1],
+        "verify f",
+        EMPTY,
+        ReadFault,
+        b"cannot read f\n",
+    ),
+    (
+        "derive, 1",
+        &[1],
+        "derive f",
+        EMPTY,
+        ReadFault,
+        b"cannot read f\n",
+    ),
+    (
+        "show, 1",
+        &[1],
+        "show f",
+        EMPTY,
+        ReadFault,
+        b"cannot read f\n",
+    ),
+    (
+        "check, 1",
+        &[1],
+        "check f s",
+        EMPTY,
+        ReadFault,
+        b"cannot read f\n",
+    ),
+    (
+        "replay, 1",
+        &[1],
+        "replay f s",
+        EMPTY,
+        ReadFault,
+        b"cannot read f\n",
+    ),
+    ("usage, 1", &[1], "verify f s", EMPTY, Usage, USAGE),
+    // The second fetch fails.
+    ("verify, 2", &[2], "verify f", EMPTY, Good, PROVED),
+    (
+        "check, 2",
+        &[2],
+        "check f s",
+        EMPTY,
+        ReadFault,
+        b"cannot read s\n",
+    ),
+    (
+        "replay, 2",
+        &[2],
+        "replay f s",
+        EMPTY,
+        ReadFault,
+        b"cannot read s\n",
+    ),
+    (
+        "check of no program, 2",
+        &[2],
+        "check f s",
+        b"",
+        Refused,
+        b"refused 1:1: no main\n",
+    ),
+    (
+        "check, 1 and 2",
+        &[2, 1],
+        "check f s",
+        EMPTY,
+        ReadFault,
+        b"cannot read f\n",
+    ),
+    // The third is never made.
+    ("replay, 3", &[3], "replay f s", EMPTY, Good, b"ended 0\n"),
+    (
+        "check, 3",
+        &[3],
+        "check f s",
+        EMPTY,
+        Refused,
+        b"refused derivation line 1\n",
+    ),
+    // Files that the shelf lacks.
+    (
+        "verify, no first",
+        &[],
+        "verify g",
+        EMPTY,
+        ReadFault,
+        b"cannot read g\n",
+    ),
+    (
+        "derive, no first",
+        &[],
+        "derive g",
+        EMPTY,
+        ReadFault,
+        b"cannot read g\n",
+    ),
+    (
+        "show, no first",
+        &[],
+        "show g",
+        EMPTY,
+        ReadFault,
+        b"cannot read g\n",
+    ),
+    (
+        "check, no first",
+        &[],
+        "check g s",
+        EMPTY,
+        ReadFault,
+        b"cannot read g\n",
+    ),
+    (
+        "replay, no first",
+        &[],
+        "replay g s",
+        EMPTY,
+        ReadFault,
+        b"cannot read g\n",
+    ),
+    (
+        "check, no second",
+        &[],
+        "check f h",
+        EMPTY,
+        ReadFault,
+        b"cannot read h\n",
+    ),
+    (
+        "replay, no second",
+        &[],
+        "replay f h",
+        EMPTY,
+        ReadFault,
+        b"cannot read h\n",
+    ),
+    (
+        "check, neither",
+        &[],
+        "check g h",
+        EMPTY,
+        ReadFault,
+        b"cannot read g\n",
+    ),
+    (
+        "replay, neither",
+        &[],
+        "replay g h",
+        EMPTY,
+        ReadFault,
+        b"cannot read g\n",
+    ),
+    (
+        "verify, no first and 1",
+        &[1],
+        "verify g",
+        EMPTY,
+        ReadFault,
+        b"cannot read g\n",
+    ),
+    // The text of the first file is refused before the second file is read.
+    (
+        "check of no program",
+        &[],
+        "check f h",
+        b"",
+        Refused,
+        b"refused 1:1: no main\n",
+    ),
+    (
+        "replay of no program",
+        &[],
+        "replay f h",
+        b"",
+        Refused,
+        b"refused 1:1: no main\n",
+    ),
+];
+
+#[test]
+fn reads(rt: HostRuntime) -> Result<(), Fail> {
+    for (name, failing, words, text, status, written) in READS {
+        let run = Run {
+            name,
+            words,
+            text: &[Once(text)],
+            other: &[Once(NO_STEPS)],
+            status: *status,
+            written: &[Once(written)],
+        };
+        meets_despite(&rt, rt.alloc(), &run, failing)?;
+    }
+    Ok(())
+}
+
+// Blanks that fill the longest file.
+const BLANKS: Text = &[Times(
+    1_048_576,
+    b"                                                                ",
+)];
+
+const MORE_BLANKS: Text = &[
+    Times(
+        1_048_576,
+        b"                                                                ",
+    ),
+    Once(b" "),
+];
+
+const PROGRAM: Text = &[Once(EMPTY)];
+
+const TOO_LONG: &[u8] = b"refused: file too long\n";
+
+// Files of 67,108,864 bytes, and with one more.
+const LONGEST: &[(&str, &str, Text, Text, &[u8])] = &[
+    (
+        "text, edge",
+        "verify f",
+        BLANKS,
+        &[],
+        b"refused 1:1: text too long\n",
+    ),
+    ("text, past", "verify f", MORE_BLANKS, &[], TOO_LONG),
+    (
+        "lines, edge",
+        "check f s",
+        PROGRAM,
+        BLANKS,
+        b"refused derivation line 1\n",
+    ),
+    ("lines, past", "check f s", PROGRAM, MORE_BLANKS, TOO_LONG),
+    (
+        "schedule, edge",
+        "replay f s",
+        PROGRAM,
+        BLANKS,
+        b"refused schedule line 1\n",
+    ),
+    (
+        "schedule, past",
+        "replay f s",
+        PROGRAM,
+        MORE_BLANKS,
+        TOO_LONG,
+    ),
+];
+
+#[test]
+fn longest_files(rt: HostRuntime) -> Result<(), Fail> {
+    for (name, words, text, other, written) in LONGEST {
+        let run = Run {
+            name,
+            words,
+            text,
+            other,
+            status: Refused,
+            written: &[Once(written)],
+        };
+        meets(&rt, rt.alloc(), &run)?;
+    }
+    Ok(())
+}
+
+// A shelf whose every file has one byte too many.
+#[derive(Drop)]
+struct LongFiles;
+
+impl Shelf for LongFiles {
+    ghost use Rattle.std.specs.Prelude.{None, []};
+
+    ghost seen = { λ _. record {
+      holds = None;
+      given = [];
+      faults = 0;
+      blamed = None;
+      fetches = None;
+    } };
+
+    fn fetch(&mut self, _name: &str) -> Result<Vec<u8>, FetchError> {
+        Err(FetchError::TooLong(67_108_865))
+    }
+}
+
+#[test]
+fn long_files_of_each_command(rt: HostRuntime) -> Result<(), Fail> {
+    let alloc = rt.alloc();
+    for words in ["verify f", "derive f", "check f s", "show f", "replay f s"] {
+        let sink = sink(alloc, &[], 1000)?;
+        ends(
+            &rt,
+            alloc,
+            (words, words),
+            &mut LongFiles,
+            sink,
+            (Refused, TOO_LONG),
+        )?;
+    }
+    Ok(())
+}
+
+// The put fails after each number of bytes.
+#[test]
+fn puts_that_break_off(rt: HostRuntime) -> Result<(), Fail> {
+    let alloc = rt.alloc();
+    let text = b"function main() requires true; { }\n";
+    for count in 0..=PROVED.len() {
+        let mut shelf = shelf(alloc, Vec::from_slice(alloc, text)?, Vec::new(alloc), &[])?;
+        let sink = sink(alloc, &[(1, count as u64)], 1000)?;
+        let name = format!(in alloc; "after {count} bytes")?;
+        let answer = (WriteFault, &PROVED[..count]);
+        ends(
+            &rt,
+            alloc,
+            (name.as_str(), "verify f"),
+            &mut shelf,
+            sink,
+            answer,
+        )?;
+    }
+    Ok(())
+}
+
+// Which puts fail, the room, the words and the text, where `s` is a schedule: whatever else would be
+// said, a put that fails is what the run ends with.
+const PUTS: &[(&str, &[(u64, u64)], usize, &str, &[u8], Status, &[u8])] = &[
+    (
+        "usage",
+        &[(1, 5)],
+        1000,
+        "verify",
+        EMPTY,
+        WriteFault,
+        b"usage",
+    ),
+    (
+        "no file",
+        &[(1, 5)],
+        1000,
+        "verify g",
+        EMPTY,
+        WriteFault,
+        b"canno",
+    ),
+    (
+        "refused",
+        &[(1, 5)],
+        1000,
+        "verify f",
+        b"",
+        WriteFault,
+        b"refus",
+    ),
+    (
+        "not proved",
+        &[(1, 5)],
+        1000,
+        "verify f",
+        b"function main() { assert 0 = 1; }",
+        WriteFault,
+        b"funct",
+    ),
+    (
+        "derived",
+        &[(1, 5)],
+        1000,
+        "derive f",
+        EMPTY,
+        WriteFault,
+        b"[\"cap",
+    ),
+    (
+        "shown",
+        &[(1, 5)],
+        1000,
+        "show f",
+        EMPTY,
+        WriteFault,
+        b"funct",
+    ),
+    (
+        "replayed",
+        &[(1, 5)],
+        1000,
+        "replay f s",
+        EMPTY,
+        WriteFault,
+        b"ended",
+    ),
+    (
+        "nothing to show",
+        &[(1, 5)],
+        1000,
+        "show f",
+        b"",
+        WriteFault,
+        b"",
+    ),
+    (
+        "the second put",
+        &[(2, 5)],
+        1000,
+        "verify f",
+        EMPTY,
+        Good,
+        PROVED,
+    ),
+    (
+        "after all bytes and more",
+        &[(1, 1000)],
+        1000,
+        "verify f",
+        EMPTY,
+        WriteFault,
+        PROVED,
+    ),
+    ("just enough room", &[], 36, "verify f", EMPTY, Good, PROVED),
+    (
+        "a byte too little",
+        &[],
+        35,
+        "verify f",
+        EMPTY,
+        WriteFault,
+        b"function main: proved\nproved 1 of 1",
+    ),
+    ("no room", &[], 0, "verify f", EMPTY, WriteFault, b""),
+    (
+        "no room, and nothing to show",
+        &[],
+        0,
+        "show f",
+        b"",
+        Good,
+        b"",
+    ),
+];
+
+#[test]
+fn puts(rt: HostRuntime) -> Result<(), Fail> {
+    let alloc = rt.alloc();
+    for (name, failing, room, words, text, status, written) in PUTS {
+        let schedule = Vec::from_slice(alloc, NO_STEPS)?;
+        let mut shelf = shelf(alloc, Vec::from_slice(alloc, text)?, schedule, &[])?;
+        let sink = sink(alloc, failing, *room)?;
+        ends(
+            &rt,
+            alloc,
+            (name, words),
+            &mut shelf,
+            sink,
+            (*status, written),
+        )?;
+    }
+    Ok(())
+}
