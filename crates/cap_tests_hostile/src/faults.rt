@@ -14,77 +14,38 @@ const EMPTY: &[u8] = b"function main() { }\n";
 
 const PROVED: &[u8] = b"function main: proved\nproved 1 of 1\n";
 
+const NO_F: &[u8] = b"cannot read f\n";
+
+const NO_G: &[u8] = b"cannot read g\n";
+
+const NO_H: &[u8] = b"cannot read h\n";
+
+const NO_S: &[u8] = b"cannot read s\n";
+
+const NO_MAIN: &[u8] = b"refused 1:1: no main\n";
+
 const NO_STEPS: &[u8] = b"start\nend\n";
 
 // Which fetches fail, the words, and the text of `f`; `s` is a schedule.
 const READS: &[(&str, &[u64], &str, &[u8], Status, &[u8])] = &[
     // The first fetch fails.
-    (
-        "verify, 1",
-        &[1],
-        "verify f",
-        EMPTY,
-        ReadFault,
-        b"cannot read f\n",
-    ),
-    (
-        "derive, 1",
-        &[1],
-        "derive f",
-        EMPTY,
-        ReadFault,
-        b"cannot read f\n",
-    ),
-    (
-        "show, 1",
-        &[1],
-        "show f",
-        EMPTY,
-        ReadFault,
-        b"cannot read f\n",
-    ),
-    (
-        "check, 1",
-        &[1],
-        "check f s",
-        EMPTY,
-        ReadFault,
-        b"cannot read f\n",
-    ),
-    (
-        "replay, 1",
-        &[1],
-        "replay f s",
-        EMPTY,
-        ReadFault,
-        b"cannot read f\n",
-    ),
+    ("verify, 1", &[1], "verify f", EMPTY, ReadFault, NO_F),
+    ("derive, 1", &[1], "derive f", EMPTY, ReadFault, NO_F),
+    ("show, 1", &[1], "show f", EMPTY, ReadFault, NO_F),
+    ("check, 1", &[1], "check f s", EMPTY, ReadFault, NO_F),
+    ("replay, 1", &[1], "replay f s", EMPTY, ReadFault, NO_F),
     ("usage, 1", &[1], "verify f s", EMPTY, Usage, USAGE),
     // The second fetch fails.
     ("verify, 2", &[2], "verify f", EMPTY, Good, PROVED),
-    (
-        "check, 2",
-        &[2],
-        "check f s",
-        EMPTY,
-        ReadFault,
-        b"cannot read s\n",
-    ),
-    (
-        "replay, 2",
-        &[2],
-        "replay f s",
-        EMPTY,
-        ReadFault,
-        b"cannot read s\n",
-    ),
+    ("check, 2", &[2], "check f s", EMPTY, ReadFault, NO_S),
+    ("replay, 2", &[2], "replay f s", EMPTY, ReadFault, NO_S),
     (
         "check of no program, 2",
         &[2],
         "check f s",
         b"",
         Refused,
-        b"refused 1:1: no main\n",
+        NO_MAIN,
     ),
     (
         "check, 1 and 2",
@@ -92,7 +53,7 @@ const READS: &[(&str, &[u64], &str, &[u8], Status, &[u8])] = &[
         "check f s",
         EMPTY,
         ReadFault,
-        b"cannot read f\n",
+        NO_F,
     ),
     // The third is never made.
     ("replay, 3", &[3], "replay f s", EMPTY, Good, b"ended 0\n"),
@@ -105,85 +66,36 @@ const READS: &[(&str, &[u64], &str, &[u8], Status, &[u8])] = &[
         b"refused derivation line 1\n",
     ),
     // Files that the shelf lacks.
-    (
-        "verify, no first",
-        &[],
-        "verify g",
-        EMPTY,
-        ReadFault,
-        b"cannot read g\n",
-    ),
-    (
-        "derive, no first",
-        &[],
-        "derive g",
-        EMPTY,
-        ReadFault,
-        b"cannot read g\n",
-    ),
-    (
-        "show, no first",
-        &[],
-        "show g",
-        EMPTY,
-        ReadFault,
-        b"cannot read g\n",
-    ),
-    (
-        "check, no first",
-        &[],
-        "check g s",
-        EMPTY,
-        ReadFault,
-        b"cannot read g\n",
-    ),
+    ("verify, no first", &[], "verify g", EMPTY, ReadFault, NO_G),
+    ("derive, no first", &[], "derive g", EMPTY, ReadFault, NO_G),
+    ("show, no first", &[], "show g", EMPTY, ReadFault, NO_G),
+    ("check, no first", &[], "check g s", EMPTY, ReadFault, NO_G),
     (
         "replay, no first",
         &[],
         "replay g s",
         EMPTY,
         ReadFault,
-        b"cannot read g\n",
+        NO_G,
     ),
-    (
-        "check, no second",
-        &[],
-        "check f h",
-        EMPTY,
-        ReadFault,
-        b"cannot read h\n",
-    ),
+    ("check, no second", &[], "check f h", EMPTY, ReadFault, NO_H),
     (
         "replay, no second",
         &[],
         "replay f h",
         EMPTY,
         ReadFault,
-        b"cannot read h\n",
+        NO_H,
     ),
-    (
-        "check, neither",
-        &[],
-        "check g h",
-        EMPTY,
-        ReadFault,
-        b"cannot read g\n",
-    ),
-    (
-        "replay, neither",
-        &[],
-        "replay g h",
-        EMPTY,
-        ReadFault,
-        b"cannot read g\n",
-    ),
+    ("check, neither", &[], "check g h", EMPTY, ReadFault, NO_G),
+    ("replay, neither", &[], "replay g h", EMPTY, ReadFault, NO_G),
     (
         "verify, no first and 1",
         &[1],
         "verify g",
         EMPTY,
         ReadFault,
-        b"cannot read g\n",
+        NO_G,
     ),
     // The text of the first file is refused before the second file is read.
     (
@@ -192,7 +104,7 @@ const READS: &[(&str, &[u64], &str, &[u8], Status, &[u8])] = &[
         "check f h",
         b"",
         Refused,
-        b"refused 1:1: no main\n",
+        NO_MAIN,
     ),
     (
         "replay of no program",
@@ -200,7 +112,7 @@ const READS: &[(&str, &[u64], &str, &[u8], Status, &[u8])] = &[
         "replay f h",
         b"",
         Refused,
-        b"refused 1:1: no main\n",
+        NO_MAIN,
     ),
 ];
 

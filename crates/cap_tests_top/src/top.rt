@@ -619,15 +619,7 @@ fn derivations_with_region_types(rt: HostRuntime) -> Result<(), Fail> {
     // The lock has 17 roots, and its first tree begins with what its case gives.
     let lines = "[\"caper\",1,17]\n[\"return\"]\n[\"end\",1]\n";
     let written = "rejected node 1\n";
-    says(
-        &rt,
-        alloc,
-        "check f s",
-        LOCK,
-        lines,
-        Status::Bad,
-        written,
-    )
+    says(&rt, alloc, "check f s", LOCK, lines, Status::Bad, written)
 }
 
 const REGION: &str =
