@@ -35,6 +35,14 @@ const READS: &[(&str, &[u64], &str, &[u8], Status, &[u8])] = &[
     ("check, 1", &[1], "check f s", EMPTY, ReadFault, NO_F),
     ("replay, 1", &[1], "replay f s", EMPTY, ReadFault, NO_F),
     ("usage, 1", &[1], "verify f s", EMPTY, Usage, USAGE),
+    (
+        "trial, 1",
+        &[1],
+        "trial 1",
+        EMPTY,
+        Good,
+        b"trial 1: 7 units, 7 proved\n",
+    ),
     // The second fetch fails.
     ("verify, 2", &[2], "verify f", EMPTY, Good, PROVED),
     ("check, 2", &[2], "check f s", EMPTY, ReadFault, NO_S),
@@ -324,6 +332,15 @@ const PUTS: &[(&str, &[(u64, u64)], usize, &str, &[u8], Status, &[u8])] = &[
         EMPTY,
         WriteFault,
         b"ended",
+    ),
+    (
+        "tried",
+        &[(1, 5)],
+        1000,
+        "trial 1",
+        EMPTY,
+        WriteFault,
+        b"trial",
     ),
     (
         "nothing to show",

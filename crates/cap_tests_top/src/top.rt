@@ -693,8 +693,11 @@ fn words_that_are_no_command(rt: HostRuntime) -> Result<(), Fail> {
         "derive f s",
         "check f",
         "check f s --budget 1",
-        // This command is to come.
-        "trial 1",
+        "trial",
+        "trial 0",
+        "trial 01",
+        "trial 51",
+        "trial 2 --budget 1",
     ] {
         says(
             &rt,
@@ -746,4 +749,18 @@ fn exit_codes(rt: HostRuntime) {
     ] {
         assert_eq!(rt; status.code(), code, "of {status:?}");
     }
+}
+
+#[test]
+fn trials(rt: HostRuntime) -> Result<(), Fail> {
+    let alloc = rt.alloc();
+    for (line, written) in [
+        ("trial 1", "trial 1: 7 units, 7 proved\n"),
+        ("trial 2", "trial 2: 13 units, 13 proved\n"),
+        ("trial -- 2", "trial 2: 13 units, 13 proved\n"),
+        ("trial 10", "trial 10: 61 units, 61 proved\n"),
+    ] {
+        says(&rt, alloc, line, "", "", Status::Good, written)?;
+    }
+    Ok(())
 }

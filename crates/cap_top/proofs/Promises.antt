@@ -16,15 +16,20 @@ use Rattle.cap_kernel_check.specs.declared.error.CheckError.{CheckError}
 use Rattle.cap_deriv_write.specs.Written.{derivation_text}
 use Rattle.cap_top_report.specs.Found.{found_trees}
 use Rattle.cap_top_commands.specs.Derivations.{SaysLines, IsDerivation, IsChecked}
-use Rattle.cap_top_commands.specs.Answers.{Fetched, held, unread, long, After, SaysCause, SaysRefusal, IsVerified, IsDerived, IsShown, IsPlayed, IsOutput, GoodAnswersAreSafe, AcceptedAreSafe, DerivedAreAccepted}
-use Rattle.cap_top_report.specs.Report.{report_text, is_good}
-use Rattle.cap_top_commands.specs.Task.{Task, verify, derive, check, show, replay, files_of}
-use Rattle.cap_top_commands.specs.Output.{Output, usage_output, unreadable_output, long_output, refusal_output, report_output, derivation_output, long_derivation_output, bad_derivation_output, judged_output, judged_status, tree_output, schedule_output, run_output, report_status, end_status}
+use Rattle.cap_top_commands.specs.Startless.{SaysEmpty, IsStartlessText}
+use Rattle.cap_top_commands.specs.Answers.{Fetched, held, unread, long, After, ByOne, SaysCause, SaysRefusal, IsVerified, IsTrial, IsDerived, IsShown, IsPlayed, IsOutput, IsOnlyOutput, Agree, GoodAnswersAreSafe, GoodTrialsAreSafe, AcceptedAreSafe, DerivedAreAccepted, EmptyAnswersHaveNoStart}
+use Rattle.cap_gen.specs.Trial.{trial_text}
+use Rattle.cap_goal_spec.specs.Roots.{units}
+use Rattle.cap_top_report.specs.Report.{proved_count, report_text, all_proved, is_good}
+use Rattle.cap_top_words.specs.Meaning.{PlainCommand, verify, derive, check, show, replay, trial, default_budget}
+use Rattle.cap_top_commands.specs.Commands.{files_of}
+use Rattle.cap_top_commands.specs.Output.{Output, usage_output, unreadable_output, long_output, refusal_output, report_output, derivation_output, long_derivation_output, bad_derivation_output, judged_output, judged_status, tree_output, schedule_output, run_output, trial_output, report_status, end_status}
+use Rattle.cap_top_commands.specs.Good.{IsProvedText}
 use Rattle.cap_top_laws.specs.Given.{given_by, AreGiven}
 use Rattle.cap_top.specs.Reads.{IsFetched, AreFetched, AreRead}
 use Rattle.cap_top.specs.Run.{IsSaid, IsRun}
 use Rattle.cap_top.specs.Verified.{IsRead, VerifiesFile}
-use Rattle.cap_top.specs.Promise.{AreBothRead, ProvesFile, DerivesFile, ChecksFiles, IsShownAs, ShowsFile, EndsRun, ReplaysFiles, Ends, NoFault, Says, SaysOutput, AnswersFiles, HoldsGood, HoldAccepted, HoldsTree, IsTextFor, Refuses, IsOneOf, ReadFails}
+use Rattle.cap_top.specs.Promise.{AreBothRead, ProvesFile, FailsFile, DerivesFile, ChecksFiles, IsShownAs, ShowsFile, EndsRun, ReplaysFiles, Ends, NoFault, Says, SaysOutput, AnswersFiles, HoldsGood, HoldAccepted, HoldsTree, IsTextFor, Refuses, IsOneOf, ReadFails}
 use Rattle.cap_top.proofs.Reading.{held-given, were-given, agree-given, first-given, given-held, given-unread}
 
 -- ---- the statuses of outputs
@@ -68,6 +73,12 @@ verified_answers budget bytes o (inl c) = cause_answers (IsRefused bytes) o c
 verified_answers budget bytes o (inr s) =
     answer_as o (report_output (is_good s.thing budget) (report_text s.thing budget)) s.said (report_answers (is_good s.thing budget))
 
+trial_answers : (n : ℕ) (o : Output) → IsTrial n o → IsAnswer o.status
+trial_answers n o (inl c) = cause_answers (IsRefused (trial_text n)) o c
+trial_answers n o (inr s) =
+    answer_as o (trial_output n (proved_count s.thing default_budget) (length (units s.thing))) s.said
+    (report_answers (all_proved s.thing default_budget))
+
 derivation_answers : (budget : ℕ) (p : PlainProgram) (o : Output) → IsDerivation budget p o → IsAnswer o.status
 derivation_answers budget p o (inl s) =
     answer_as o (report_output (is_good p budget) (report_text p budget)) s.report (report_answers (is_good p budget))
@@ -106,16 +117,16 @@ after_ended IsSaid f name long o h = inl (answer_as o long_output h tt)
 
 module _ (shelf shelf_now : SeenShelf) where
   -- an answer, or a fault of reading
-  abbrev IsSettled : Option Task → Status → Type 0
-  IsSettled task s = IsAnswer s ⊎ ((s ≡ ReadFault) × ReadFails task shelf shelf_now)
+  abbrev IsSettled : Option PlainCommand → Status → Type 0
+  IsSettled command s = IsAnswer s ⊎ ((s ≡ ReadFault) × ReadFails command shelf shelf_now)
 
-  settled_by : (task : Option Task) (name : List ℕ) (x : Fetched) (s : Status) → IsOneOf name (files_of task)
-      → IsFetched shelf shelf_now name x → IsEnded x s → IsSettled task s
-  settled_by task name x s i f (inl a) = inl a
-  settled_by task name x s i f (inr r) =
+  settled_by : (command : Option PlainCommand) (name : List ℕ) (x : Fetched) (s : Status) → IsOneOf name (files_of command)
+      → IsFetched shelf shelf_now name x → IsEnded x s → IsSettled command s
+  settled_by command name x s i f (inl a) = inl a
+  settled_by command name x s i f (inr r) =
       inr (r.0, (name, i, subst (IsFetched shelf shelf_now name) r.1 f))
 
-  settled : (t : Task) (got : List Fetched) (o : Output) → AreFetched shelf shelf_now (files_of (Some t)) got
+  settled : (t : PlainCommand) (got : List Fetched) (o : Output) → AreFetched shelf shelf_now (files_of (Some t)) got
       → IsOutput (Some t) got o → IsSettled (Some t) o.status
   settled (verify name budget) (x ∷ []) o f h =
       settled_by (Some (verify name budget)) name x o.status (inl refl) f.0 (after_ended (IsVerified budget) (verified_answers budget) name x o h)
@@ -143,35 +154,37 @@ module _ (shelf shelf_now : SeenShelf) where
       settled_by (Some (replay name s)) s y o.status (inr (inl refl)) f.1.0
       (after_ended (IsPlayed h.program) (played_answers h.program) s y o h.said)
   settled (replay name s) [] o f h = absurd h
+  settled (trial n) [] o f h = inl (trial_answers n o h)
+  settled (trial n) (x ∷ xs) o f h = absurd h
   settled (replay name s) (x ∷ (y ∷ (z ∷ zs))) o f h = absurd h
 
   -- of words too, where usage is an answer
-  abbrev IsFinal : Option Task → Status → Type 0
+  abbrev IsFinal : Option PlainCommand → Status → Type 0
   IsFinal None s = s ≡ Usage
   IsFinal (Some t) s = IsSettled (Some t) s
 
-  final : (task : Option Task) (got : List Fetched) (o : Output) → AreFetched shelf shelf_now (files_of task) got
-      → IsOutput task got o → IsFinal task o.status
+  final : (command : Option PlainCommand) (got : List Fetched) (o : Output) → AreFetched shelf shelf_now (files_of command) got
+      → IsOutput command got o → IsFinal command o.status
   final None [] o f h = same_status o usage_output h
   final None (x ∷ xs) o f h = absurd h
   final (Some t) got o f h = settled t got o f h
 
-  final_usage : (task : Option Task) (s : Status) → IsFinal task s → s ≡ Usage → task ≡ None
+  final_usage : (command : Option PlainCommand) (s : Status) → IsFinal command s → s ≡ Usage → command ≡ None
   final_usage None s h e = refl
   final_usage (Some t) s (inl a) e = absurd (subst IsAnswer e a)
   final_usage (Some t) s (inr r) e = let g : ReadFault ≡ Usage = sym r.0 ∙ e in absurd cc
 
-  final_read : (task : Option Task) (s : Status) → IsFinal task s → s ≡ ReadFault → ReadFails task shelf shelf_now
+  final_read : (command : Option PlainCommand) (s : Status) → IsFinal command s → s ≡ ReadFault → ReadFails command shelf shelf_now
   final_read None s h e = let g : Usage ≡ ReadFault = sym h ∙ e in absurd cc
   final_read (Some t) s (inl a) e = absurd (subst IsAnswer e a)
   final_read (Some t) s (inr r) e = r.1
 
-  final_writes : (task : Option Task) (s : Status) → IsFinal task s → s ≢ WriteFault
+  final_writes : (command : Option PlainCommand) (s : Status) → IsFinal command s → s ≢ WriteFault
   final_writes None s h e = let g : Usage ≡ WriteFault = sym h ∙ e in cc
   final_writes (Some t) s (inl a) e = subst IsAnswer e a
   final_writes (Some t) s (inr r) e = let g : ReadFault ≡ WriteFault = sym r.0 ∙ e in cc
 
-  final_memory : (task : Option Task) (s : Status) → IsFinal task s → s ≢ NoMemory
+  final_memory : (command : Option PlainCommand) (s : Status) → IsFinal command s → s ≢ NoMemory
   final_memory None s h e = let g : Usage ≡ NoMemory = sym h ∙ e in cc
   final_memory (Some t) s (inl a) e = subst IsAnswer e a
   final_memory (Some t) s (inr r) e = let g : ReadFault ≡ NoMemory = sym r.0 ∙ e in cc
@@ -195,6 +208,27 @@ module _ (shelf shelf_now : SeenShelf) (name : List ℕ) (o : Output) where
   good_by safe budget (long ∷ []) f h e = let g : Refused ≡ Good = sym (same_status o long_output h) ∙ e in absurd cc
   good_by safe budget [] f h e = absurd h
   good_by safe budget (x ∷ (y ∷ ys)) f h e = absurd h
+
+  failed_by : (IsAnswer : List ℕ → Output → Type 0)
+      → ((bytes : List ℕ) → IsAnswer bytes o → SaysEmpty o → IsStartlessText bytes)
+      → (sink sink_now : SeenSink) (got : List Fetched) → AreRead shelf shelf_now (name ∷ []) got
+      → ByOne name IsAnswer got o → o.status ≡ Bad
+      → Gains sink.written sink_now.written o.text → FailsFile IsAnswer shelf shelf_now name sink sink_now
+  failed_by IsAnswer law sink sink_now (held bytes ∷ []) f h e g = record {
+    bytes = bytes;
+    read = read-one bytes f;
+    output = o;
+    answer = h;
+    bad = e;
+    gains = g;
+    startless = law bytes h;
+  }
+  failed_by IsAnswer law sink sink_now (unread ∷ []) f h e g =
+      let k : ReadFault ≡ Bad = sym (same_status o (unreadable_output name) h) ∙ e in absurd cc
+  failed_by IsAnswer law sink sink_now (long ∷ []) f h e g =
+      let k : Refused ≡ Bad = sym (same_status o long_output h) ∙ e in absurd cc
+  failed_by IsAnswer law sink sink_now [] f h e g = absurd h
+  failed_by IsAnswer law sink sink_now (x ∷ (y ∷ ys)) f h e g = absurd h
 
   derived_bytes : DerivedAreAccepted → (budget : ℕ) (sink sink_now : SeenSink) (bytes : List ℕ)
       → IsRead shelf shelf_now name bytes → IsDerived budget bytes o → o.status ≡ Good
@@ -337,15 +371,15 @@ module _ (shelf shelf_now : SeenShelf) (sink sink_now : SeenSink) (file schedule
 
 -- ---- the whole run
 
-module _ (task : Option Task) (shelf shelf_now : SeenShelf) (sink sink_now : SeenSink) (status : Status)
-    (run : IsRun task shelf shelf_now sink sink_now status) where
+module _ (command : Option PlainCommand) (shelf shelf_now : SeenShelf) (sink sink_now : SeenSink) (status : Status)
+    (run : IsRun command shelf shelf_now sink sink_now status) where
   abbrev Runs : Type 0
-  Runs = IsRun task shelf shelf_now sink sink_now status
+  Runs = IsRun command shelf shelf_now sink sink_now status
 
-  ended_as : (o : Output) → IsSaid shelf shelf_now task o → IsFinal shelf shelf_now task o.status
-  ended_as o said = final shelf shelf_now task said.got o said.read.fetched said.output.said
+  ended_as : (o : Output) → IsSaid shelf shelf_now command o → IsFinal shelf shelf_now command o.status
+  ended_as o said = final shelf shelf_now command said.got o said.read.fetched said.output.said
 
-  pub found_run : GoodAnswersAreSafe → (name : List ℕ) (budget : ℕ) → task ≡ Some (verify name budget) → status ≡ Good → ProvesFile shelf shelf_now budget name
+  pub found_run : GoodAnswersAreSafe → (name : List ℕ) (budget : ℕ) → command ≡ Some (verify name budget) → status ≡ Good → ProvesFile shelf shelf_now budget name
   found_run safe name budget t e = by run
     where
       by : Runs → ProvesFile shelf shelf_now budget name
@@ -356,7 +390,7 @@ module _ (task : Option Task) (shelf shelf_now : SeenShelf) (sink sink_now : See
           (subst (λ x. IsOutput x said.got o) t said.output.said) (sym p.0 ∙ e)
       by (inl (o, said, inr p)) = let f : WriteFault ≡ Good = sym p.0 ∙ e in absurd cc
 
-  pub good_run : GoodAnswersAreSafe → (name : List ℕ) (budget : ℕ) → task ≡ Some (verify name budget) → status ≡ Good
+  pub good_run : GoodAnswersAreSafe → (name : List ℕ) (budget : ℕ) → command ≡ Some (verify name budget) → status ≡ Good
       → VerifiesFile shelf shelf_now name
   good_run safe name budget t e =
       let f : ProvesFile shelf shelf_now budget name = found_run safe name budget t e in
@@ -366,7 +400,76 @@ module _ (task : Option Task) (shelf shelf_now : SeenShelf) (sink sink_now : See
         safe = f.good.text;
       }
 
-  pub derived_run : DerivedAreAccepted → (name : List ℕ) (budget : ℕ) → task ≡ Some (derive name budget) → status ≡ Good
+  pub tried_run : GoodTrialsAreSafe → (n : ℕ) → command ≡ Some (trial n) → status ≡ Good
+      → IsProvedText default_budget (trial_text n)
+  tried_run safe n t e = by run
+    where
+      none-read : (got : List Fetched) (o : Output) → IsOutput (Some (trial n)) got o → IsTrial n o
+      none-read [] o h = h
+      none-read (x ∷ xs) o h = absurd h
+
+      by : Runs → IsProvedText default_budget (trial_text n)
+      by (inr m) = let f : NoMemory ≡ Good = sym m.0 ∙ e in absurd cc
+      by (inl (o, said, inl p)) =
+          safe n o (none-read said.got o (subst (λ x. IsOutput x said.got o) t said.output.said)) (sym p.0 ∙ e)
+      by (inl (o, said, inr p)) = let f : WriteFault ≡ Good = sym p.0 ∙ e in absurd cc
+
+  pub tries_run : ¬ Rose sink.faults sink_now.faults → (n : ℕ) → command ≡ Some (trial n)
+      → IsProvedText default_budget (trial_text n) → (status ≡ Good) ⊎ (status ≡ NoMemory)
+  tries_run wrote n t h = by run
+    where
+      p : PlainProgram
+      p = h.text.program
+
+      q : Output
+      q = trial_output n (proved_count p default_budget) (length (units p))
+
+      is : IsTrial n q
+      is = inr (record {
+        thing = p;
+        is_so = record { tree = h.text.tree; spelled = h.text.spelled; stands = h.text.stands };
+        said = refl;
+      })
+
+      good : q.status ≡ Good
+      good = ap report_status h.proved
+
+      said-so : (got : List Fetched) (o : Output) → IsOnlyOutput (IsOutput (Some (trial n))) got o → o ≡ q
+      said-so [] o k = k.only [] q tt is
+      said-so (x ∷ xs) o k = absurd k.said
+
+      by : Runs → (status ≡ Good) ⊎ (status ≡ NoMemory)
+      by (inr m) = inr m.0
+      by (inl (o, said, inl put)) =
+          let k = said-so said.got o (subst (λ x. IsOnlyOutput (IsOutput x) said.got o) t (record { said = said.output.said; only = said.output.only })) in
+          inl (put.0 ∙ (same_status o q k ∙ good))
+      by (inl (o, said, inr put)) = absurd (wrote put.1)
+
+  -- an answer with status 1 was put whole
+  ended_badly : {A : Type 0} → status ≡ Bad
+      → ((o : Output) → IsSaid shelf shelf_now command o → o.status ≡ Bad → Gains sink.written sink_now.written o.text → A) → A
+  ended_badly {A} e f = by run
+    where
+      by : Runs → A
+      by (inr m) = let g : NoMemory ≡ Bad = sym m.0 ∙ e in absurd cc
+      by (inl (o, said, inl p)) = f o said (sym p.0 ∙ e) p.1
+      by (inl (o, said, inr p)) = let g : WriteFault ≡ Bad = sym p.0 ∙ e in absurd cc
+
+  pub empty_run : EmptyAnswersHaveNoStart IsVerified → (name : List ℕ) (budget : ℕ) → command ≡ Some (verify name budget) → status ≡ Bad
+      → FailsFile (IsVerified budget) shelf shelf_now name sink sink_now
+  empty_run law name budget t e = ended_badly e (λ o said b g.
+      failed_by shelf shelf_now name o (IsVerified budget) (λ bytes. law budget bytes o) sink sink_now said.got
+      (subst (λ x. AreRead shelf shelf_now (files_of x) said.got) t said.read)
+      (subst (λ x. IsOutput x said.got o) t said.output.said) b g)
+
+  pub derive_empty_run : EmptyAnswersHaveNoStart IsDerived → (name : List ℕ) (budget : ℕ) → command ≡ Some (derive name budget) → status ≡ Bad
+      → FailsFile (IsDerived budget) shelf shelf_now name sink sink_now
+  derive_empty_run law name budget t e = ended_badly e (λ o said b g.
+      failed_by shelf shelf_now name o (IsDerived budget) (λ bytes. law budget bytes o) sink sink_now said.got
+      (subst (λ x. AreRead shelf shelf_now (files_of x) said.got) t said.read)
+      (subst (λ x. IsOutput x said.got o) t said.output.said) b g)
+
+  pub derived_run : DerivedAreAccepted → (name : List ℕ) (budget : ℕ) → command ≡ Some (derive name budget) → status ≡ Good
       → DerivesFile shelf shelf_now budget name sink sink_now
   derived_run accepts name budget t e = by run
     where
@@ -378,7 +481,7 @@ module _ (task : Option Task) (shelf shelf_now : SeenShelf) (sink sink_now : See
           (subst (λ x. IsOutput x said.got o) t said.output.said) (sym p.0 ∙ e) p.1
       by (inl (o, said, inr p)) = let f : WriteFault ≡ Good = sym p.0 ∙ e in absurd cc
 
-  pub accepted_run : AcceptedAreSafe → (file derivation : List ℕ) → task ≡ Some (check file derivation) → status ≡ Good
+  pub accepted_run : AcceptedAreSafe → (file derivation : List ℕ) → command ≡ Some (check file derivation) → status ≡ Good
       → ChecksFiles shelf shelf_now file derivation
   accepted_run safe file derivation t e = by run
     where
@@ -390,7 +493,7 @@ module _ (task : Option Task) (shelf shelf_now : SeenShelf) (sink sink_now : See
           (subst (λ x. IsOutput x said.got o) t said.output.said) (sym p.0 ∙ e)
       by (inl (o, said, inr p)) = let f : WriteFault ≡ Good = sym p.0 ∙ e in absurd cc
 
-  pub shown_run : (name : List ℕ) → task ≡ Some (show name) → status ≡ Good → ShowsFile shelf shelf_now name sink sink_now
+  pub shown_run : (name : List ℕ) → command ≡ Some (show name) → status ≡ Good → ShowsFile shelf shelf_now name sink sink_now
   shown_run name t e = by run
     where
       by : Runs → ShowsFile shelf shelf_now name sink sink_now
@@ -401,7 +504,7 @@ module _ (task : Option Task) (shelf shelf_now : SeenShelf) (sink sink_now : See
           (subst (λ x. IsOutput x said.got o) t said.output.said) (sym p.0 ∙ e) p.1
       by (inl (o, said, inr p)) = let f : WriteFault ≡ Good = sym p.0 ∙ e in absurd cc
 
-  pub replayed_run : (file schedule : List ℕ) → task ≡ Some (replay file schedule) → EndsRun status
+  pub replayed_run : (file schedule : List ℕ) → command ≡ Some (replay file schedule) → EndsRun status
       → ReplaysFiles shelf shelf_now file schedule sink sink_now status
   replayed_run file schedule t r = by run
     where
@@ -414,22 +517,22 @@ module _ (task : Option Task) (shelf shelf_now : SeenShelf) (sink sink_now : See
           (subst (λ x. IsOutput x said.got o) t said.output.said) (subst EndsRun p.0 r) p.1)
       by (inl (o, said, inr p)) = absurd (subst EndsRun p.0 r)
 
-  pub ends_run : Ends task shelf shelf_now sink sink_now status
+  pub ends_run : Ends command shelf shelf_now sink sink_now status
   ends_run = by run
     where
-      by : Runs → Ends task shelf shelf_now sink sink_now status
+      by : Runs → Ends command shelf shelf_now sink sink_now status
       by (inr m) = inr m
       by (inl (o, said, p)) = inl (said.got, said.read, (o, said.output.said, p))
 
-  pub usage_run : status ≡ Usage → task ≡ None
+  pub usage_run : status ≡ Usage → command ≡ None
   usage_run e = by run
     where
-      by : Runs → task ≡ None
+      by : Runs → command ≡ None
       by (inr m) = let f : NoMemory ≡ Usage = sym m.0 ∙ e in absurd cc
-      by (inl (o, said, inl p)) = final_usage shelf shelf_now task o.status (ended_as o said) (sym p.0 ∙ e)
+      by (inl (o, said, inl p)) = final_usage shelf shelf_now command o.status (ended_as o said) (sym p.0 ∙ e)
       by (inl (o, said, inr p)) = let f : WriteFault ≡ Usage = sym p.0 ∙ e in absurd cc
 
-  pub command_run : task ≡ None → (status ≡ Usage) ⊎ ((status ≡ WriteFault) ⊎ (status ≡ NoMemory))
+  pub command_run : command ≡ None → (status ≡ Usage) ⊎ ((status ≡ WriteFault) ⊎ (status ≡ NoMemory))
   command_run t = by run
     where
       by : Runs → (status ≡ Usage) ⊎ ((status ≡ WriteFault) ⊎ (status ≡ NoMemory))
@@ -438,12 +541,12 @@ module _ (task : Option Task) (shelf shelf_now : SeenShelf) (sink sink_now : See
           inl (p.0 ∙ subst (λ x. IsFinal shelf shelf_now x o.status) t (ended_as o said))
       by (inl (o, said, inr p)) = inr (inl p.0)
 
-  pub read_run : status ≡ ReadFault → ReadFails task shelf shelf_now
+  pub read_run : status ≡ ReadFault → ReadFails command shelf shelf_now
   read_run e = by run
     where
-      by : Runs → ReadFails task shelf shelf_now
+      by : Runs → ReadFails command shelf shelf_now
       by (inr m) = let f : NoMemory ≡ ReadFault = sym m.0 ∙ e in absurd cc
-      by (inl (o, said, inl p)) = final_read shelf shelf_now task o.status (ended_as o said) (sym p.0 ∙ e)
+      by (inl (o, said, inl p)) = final_read shelf shelf_now command o.status (ended_as o said) (sym p.0 ∙ e)
       by (inl (o, said, inr p)) = let f : WriteFault ≡ ReadFault = sym p.0 ∙ e in absurd cc
 
   pub write_run : status ≡ WriteFault → Rose sink.faults sink_now.faults
@@ -451,7 +554,7 @@ module _ (task : Option Task) (shelf shelf_now : SeenShelf) (sink sink_now : See
     where
       by : Runs → Rose sink.faults sink_now.faults
       by (inr m) = let f : NoMemory ≡ WriteFault = sym m.0 ∙ e in absurd cc
-      by (inl (o, said, inl p)) = absurd (final_writes shelf shelf_now task o.status (ended_as o said) (sym p.0 ∙ e))
+      by (inl (o, said, inl p)) = absurd (final_writes shelf shelf_now command o.status (ended_as o said) (sym p.0 ∙ e))
       by (inl (o, said, inr p)) = p.1
 
   pub memory_run : status ≡ NoMemory → sink_now.written ≡ sink.written
@@ -459,40 +562,40 @@ module _ (task : Option Task) (shelf shelf_now : SeenShelf) (sink sink_now : See
     where
       by : Runs → sink_now.written ≡ sink.written
       by (inr m) = m.1
-      by (inl (o, said, inl p)) = absurd (final_memory shelf shelf_now task o.status (ended_as o said) (sym p.0 ∙ e))
+      by (inl (o, said, inl p)) = absurd (final_memory shelf shelf_now command o.status (ended_as o said) (sym p.0 ∙ e))
       by (inl (o, said, inr p)) = let f : WriteFault ≡ NoMemory = sym p.0 ∙ e in absurd cc
 
 -- ---- over files that are told, where no fault comes
 
-module _ (files : Files) (task : Option Task) (shelf shelf_now : SeenShelf)
+module _ (files : Files) (command : Option PlainCommand) (shelf shelf_now : SeenShelf)
     (told : shelf.holds ≡ Some files) (sink sink_now : SeenSink) (status : Status)
-    (run : IsRun task shelf shelf_now sink sink_now status)
+    (run : IsRun command shelf shelf_now sink sink_now status)
     (read : ¬ Rose shelf.faults shelf_now.faults) (wrote : ¬ Rose sink.faults sink_now.faults) where
   abbrev RunsOver : Type 0
-  RunsOver = IsRun task shelf shelf_now sink sink_now status
+  RunsOver = IsRun command shelf shelf_now sink sink_now status
 
-  some_told : SaysOutput task files sink sink_now status ⊎ (status ≡ NoMemory)
+  some_told : SaysOutput command files sink sink_now status ⊎ (status ≡ NoMemory)
   some_told = by run
     where
-      by : RunsOver → SaysOutput task files sink sink_now status ⊎ (status ≡ NoMemory)
+      by : RunsOver → SaysOutput command files sink sink_now status ⊎ (status ≡ NoMemory)
       by (inr m) = inr m.0
       by (inl (p, said, inl put)) =
-          let given = were-given files shelf shelf_now told read (files_of task) said.got said.read.fetched in
+          let given = were-given files shelf shelf_now told read (files_of command) said.got said.read.fetched in
           inl (record { got = said.got; given = given; said = p; output = said.output.said }, put)
       by (inl (p, said, inr put)) = absurd (wrote put.1)
 
-  each_told : (got : List Fetched) (o : Output) → AreGiven files (files_of task) got → IsOutput task got o
+  each_told : (got : List Fetched) (o : Output) → AreGiven files (files_of command) got → IsOutput command got o
       → Says sink sink_now status o ⊎ (status ≡ NoMemory)
   each_told got o g h = by run
     where
       by : RunsOver → Says sink sink_now status o ⊎ (status ≡ NoMemory)
       by (inr m) = inr m.0
       by (inl (p, said, inl put)) =
-          let agree = agree-given files shelf shelf_now told read (files_of task) said.got got said.read.fetched g in
+          let agree = agree-given files shelf shelf_now told read (files_of command) said.got got said.read.fetched g in
           inl (subst (Says sink sink_now status) (said.output.only got o agree h) put)
       by (inl (p, said, inr put)) = absurd (wrote put.1)
 
-  answers_told : AnswersFiles task files sink sink_now status
+  answers_told : AnswersFiles command files sink sink_now status
   answers_told = record { some = some_told; each = each_told }
 
   one-file : (name bytes : List ℕ) → content files name ≡ Some bytes → length bytes ≤ longest
@@ -507,7 +610,7 @@ module _ (files : Files) (task : Option Task) (shelf shelf_now : SeenShelf)
   good_status o e (inl s) = inl (s.0 ∙ e)
   good_status o e (inr m) = inr m
 
-  proved_told : (name : List ℕ) (budget : ℕ) → task ≡ Some (verify name budget) → HoldsGood budget name files → (status ≡ Good) ⊎ (status ≡ NoMemory)
+  proved_told : (name : List ℕ) (budget : ℕ) → command ≡ Some (verify name budget) → HoldsGood budget name files → (status ≡ Good) ⊎ (status ≡ NoMemory)
   proved_told name budget t h =
       let o : Output = report_output true (report_text h.good.text.program budget) in
       let is : IsVerified budget h.bytes o = inr (record {
@@ -520,7 +623,7 @@ module _ (files : Files) (task : Option Task) (shelf shelf_now : SeenShelf)
       (subst (λ x. AreGiven files (files_of x) (held h.bytes ∷ [])) (sym t) (one-file name h.bytes h.held (short h.bytes h.good.text.tree h.good.text.spelled)))
       (subst (λ x. IsOutput x (held h.bytes ∷ []) o) (sym t) is))
 
-  shows_told : (name text : List ℕ) → task ≡ Some (show name) → HoldsTree name text files → (status ≡ Good) ⊎ (status ≡ NoMemory)
+  shows_told : (name text : List ℕ) → command ≡ Some (show name) → HoldsTree name text files → (status ≡ Good) ⊎ (status ≡ NoMemory)
   shows_told name text t h =
       let o : Output = tree_output (canonical_text h.shown.tree) in
       let is : IsShown h.bytes o = inr (record { thing = h.shown.tree; is_so = h.shown.spelled; said = refl }) in
@@ -529,7 +632,7 @@ module _ (files : Files) (task : Option Task) (shelf shelf_now : SeenShelf)
       (subst (λ x. AreGiven files (files_of x) (held h.bytes ∷ [])) (sym t) (one-file name h.bytes h.held (short h.bytes h.shown.tree h.shown.spelled)))
       (subst (λ x. IsOutput x (held h.bytes ∷ []) o) (sym t) is))
 
-  accepts_told : (file derivation : List ℕ) → task ≡ Some (check file derivation) → HoldAccepted file derivation files
+  accepts_told : (file derivation : List ℕ) → command ≡ Some (check file derivation) → HoldAccepted file derivation files
       → (status ≡ Good) ⊎ (status ≡ NoMemory)
   accepts_told file derivation t h =
       let o : Output = judged_output (Ok h.accepted.nodes) in
@@ -550,7 +653,7 @@ module _ (files : Files) (task : Option Task) (shelf shelf_now : SeenShelf)
       (subst (λ x. AreGiven files (files_of x) got) (sym t) given)
       (subst (λ x. IsOutput x got o) (sym t) is))
 
-  -- ---- what is said of bytes that are no text for the task
+  -- ---- what is said of bytes that are no text for the command
 
   -- what is said of a file that gives such bytes, or more than a file may have
   refused_after : (IsSaid : List ℕ → Output → Type 0) (name bytes : List ℕ) (x : Fetched) (o : Output)
@@ -585,7 +688,7 @@ module _ (files : Files) (task : Option Task) (shelf shelf_now : SeenShelf)
       let same : a ≡ b = cc in
       sym (ap given_by c) ∙ (ap (λ n. given_by (content files n)) (sym same) ∙ first-given files shelf shelf_now told read a ns x xs f)
 
-  refused_output : (t : Task) (name : List ℕ) (names : List (List ℕ)) (bytes : List ℕ) (got : List Fetched) (o : Output)
+  refused_output : (t : PlainCommand) (name : List ℕ) (names : List (List ℕ)) (bytes : List ℕ) (got : List Fetched) (o : Output)
       → files_of (Some t) ≡ name ∷ names → content files name ≡ Some bytes → (IsTextFor t bytes → ⊥)
       → AreFetched shelf shelf_now (files_of (Some t)) got
       → IsOutput (Some t) got o → o.status ≡ Refused
@@ -619,6 +722,7 @@ module _ (files : Files) (task : Option Task) (shelf shelf_now : SeenShelf)
       let g : given_by (Some bytes) ≡ held h.bytes = first_gives file name (s ∷ []) names x (y ∷ []) e bytes c f ∙ h.gave in
       let same : bytes ≡ h.bytes = given-held bytes h.bytes g in
       absurd (n (h.program, subst (λ b. IsTextOf b h.program) (sym same) h.text_of_it))
+  refused_output (trial k) name names bytes got o e c n f h = let none : [] ≡ name ∷ names = e in absurd cc
   refused_output (verify file budget) name names bytes [] o e c n f h = absurd h
   refused_output (verify file budget) name names bytes (x ∷ (y ∷ ys)) o e c n f h = absurd h
   refused_output (show file) name names bytes [] o e c n f h = absurd h
@@ -626,7 +730,7 @@ module _ (files : Files) (task : Option Task) (shelf shelf_now : SeenShelf)
   refused_output (replay file s) name names bytes [] o e c n f h = absurd h
   refused_output (replay file s) name names bytes (x ∷ (y ∷ (z ∷ zs))) o e c n f h = absurd h
 
-  refuses_told : Refuses task files status
+  refuses_told : Refuses command files status
   refuses_told t name names bytes e f c n = by run
     where
       by : RunsOver → (status ≡ Refused) ⊎ (status ≡ NoMemory)
@@ -643,8 +747,8 @@ told-some : (o : Option Files) (Q : Files → Type 0) → ((files : Files) → o
 told-some None Q f = tt
 told-some (Some files) Q f = f files refl
 
-module _ (task : Option Task) (shelf shelf_now : SeenShelf) (sink sink_now : SeenSink) (status : Status)
-    (run : IsRun task shelf shelf_now sink sink_now status) where
+module _ (command : Option PlainCommand) (shelf shelf_now : SeenShelf) (sink sink_now : SeenSink) (status : Status)
+    (run : IsRun command shelf shelf_now sink sink_now status) where
   -- what is said where the shelf tells its files, and no fault comes
   abbrev Over : (Files → Type 0) → Type 0
   Over P = IfSome shelf.holds (λ files. NoFault shelf shelf_now sink sink_now → P files)
@@ -653,28 +757,28 @@ module _ (task : Option Task) (shelf shelf_now : SeenShelf) (sink sink_now : See
       → ((files : Files) → shelf.holds ≡ Some files → NoFault shelf shelf_now sink sink_now → P files) → Over P
   over P f = told-some shelf.holds (λ files. NoFault shelf shelf_now sink sink_now → P files) f
 
-  pub answers_run : Over (λ files. AnswersFiles task files sink sink_now status)
-  answers_run = over (λ files. AnswersFiles task files sink sink_now status)
-      (λ files e n. answers_told files task shelf shelf_now e sink sink_now status run n.0 n.1)
+  pub answers_run : Over (λ files. AnswersFiles command files sink sink_now status)
+  answers_run = over (λ files. AnswersFiles command files sink sink_now status)
+      (λ files e n. answers_told files command shelf shelf_now e sink sink_now status run n.0 n.1)
 
-  pub proved_run : Over (λ files. (name : List ℕ) (budget : ℕ) → task ≡ Some (verify name budget)
+  pub proved_run : Over (λ files. (name : List ℕ) (budget : ℕ) → command ≡ Some (verify name budget)
       → HoldsGood budget name files → (status ≡ Good) ⊎ (status ≡ NoMemory))
-  proved_run = over (λ files. (name : List ℕ) (budget : ℕ) → task ≡ Some (verify name budget)
+  proved_run = over (λ files. (name : List ℕ) (budget : ℕ) → command ≡ Some (verify name budget)
       → HoldsGood budget name files → (status ≡ Good) ⊎ (status ≡ NoMemory))
-      (λ files e n. proved_told files task shelf shelf_now e sink sink_now status run n.0 n.1)
+      (λ files e n. proved_told files command shelf shelf_now e sink sink_now status run n.0 n.1)
 
-  pub accepts_run : Over (λ files. (file derivation : List ℕ) → task ≡ Some (check file derivation)
+  pub accepts_run : Over (λ files. (file derivation : List ℕ) → command ≡ Some (check file derivation)
       → HoldAccepted file derivation files → (status ≡ Good) ⊎ (status ≡ NoMemory))
-  accepts_run = over (λ files. (file derivation : List ℕ) → task ≡ Some (check file derivation)
+  accepts_run = over (λ files. (file derivation : List ℕ) → command ≡ Some (check file derivation)
       → HoldAccepted file derivation files → (status ≡ Good) ⊎ (status ≡ NoMemory))
-      (λ files e n. accepts_told files task shelf shelf_now e sink sink_now status run n.0 n.1)
+      (λ files e n. accepts_told files command shelf shelf_now e sink sink_now status run n.0 n.1)
 
-  pub shows_run : Over (λ files. (name text : List ℕ) → task ≡ Some (show name)
+  pub shows_run : Over (λ files. (name text : List ℕ) → command ≡ Some (show name)
       → HoldsTree name text files → (status ≡ Good) ⊎ (status ≡ NoMemory))
-  shows_run = over (λ files. (name text : List ℕ) → task ≡ Some (show name)
+  shows_run = over (λ files. (name text : List ℕ) → command ≡ Some (show name)
       → HoldsTree name text files → (status ≡ Good) ⊎ (status ≡ NoMemory))
-      (λ files e n. shows_told files task shelf shelf_now e sink sink_now status run n.0 n.1)
+      (λ files e n. shows_told files command shelf shelf_now e sink sink_now status run n.0 n.1)
 
-  pub refuses_run : Over (λ files. Refuses task files status)
-  refuses_run = over (λ files. Refuses task files status)
-      (λ files e n. refuses_told files task shelf shelf_now e sink sink_now status run n.0 n.1)
+  pub refuses_run : Over (λ files. Refuses command files status)
+  refuses_run = over (λ files. Refuses command files status)
+      (λ files e n. refuses_told files command shelf shelf_now e sink sink_now status run n.0 n.1)

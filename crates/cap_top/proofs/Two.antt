@@ -9,7 +9,8 @@ use Rattle.cap_top_commands.specs.declared.output.Output as code
 use Rattle.cap_top_commands.specs.Answers.{Fetched, held, unread, long, After, SaysRefusal, IsPlayed, IsReplayed, IsJudged, ByTwo, IsOutput, IsOnly, IsOnlyOutput, IsOnlyTextOf, Agree}
 use Rattle.cap_top_commands.specs.Derivations.{IsChecked}
 use Rattle.cap_top_commands.specs.Output.{Output, unreadable_output, long_output}
-use Rattle.cap_top_commands.specs.Task.{Task, check, replay, files_of}
+use Rattle.cap_top_words.specs.Meaning.{PlainCommand, check, replay}
+use Rattle.cap_top_commands.specs.Commands.{files_of}
 use Rattle.cap_top_commands.specs.Views.{output_view}
 use Rattle.cap_top_commands.specs.declared.beginning.Begun.{Begun}
 use Rattle.cap_top_commands.specs.declared.beginning.Begun.TheVariants as begun
@@ -97,8 +98,8 @@ two_read shelf middle shelf_now kept l file second bytes y f1 g1 n1 f2 g2 n2 = r
 
 -- ---- what is said
 
--- how a task of two files is answered: early by the first alone, or late by both
-pub record Answering (t : Task) (file second : List ℕ) (IsLate : PlainProgram → List ℕ → Output → Type 0) : Type 0 where
+-- how a command of two files is answered: early by the first alone, or late by both
+pub record Answering (t : PlainCommand) (file second : List ℕ) (IsLate : PlainProgram → List ℕ → Output → Type 0) : Type 0 where
   pub files : files_of (Some t) ≡ file ∷ (second ∷ [])
   pub early : (x : Fetched) (o : Output) → IsSaidEarly file x o → IsOnlyOutput (IsOutput (Some t)) (x ∷ []) o
   pub late : (bytes : List ℕ) (y : Fetched) (p : PlainProgram) (o : Output) → IsOnlyTextOf bytes p
@@ -122,7 +123,7 @@ checking file derivation = record {
       record { said = k.said; only = k.only };
 }
 
-module _ (t : Task) (file second : List ℕ) (IsLate : PlainProgram → List ℕ → Output → Type 0)
+module _ (t : PlainCommand) (file second : List ℕ) (IsLate : PlainProgram → List ℕ → Output → Type 0)
     (a : Answering t file second IsLate) (shelf shelf_now : SeenShelf) where
   -- without a program
   pub early_said : (x : Fetched) (o : Output) → IsFetched shelf shelf_now file x

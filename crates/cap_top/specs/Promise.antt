@@ -16,8 +16,10 @@ use Rattle.cap_top_report.specs.Report.{is_good}
 use Rattle.cap_top_report.specs.Found.{found_trees}
 use Rattle.cap_deriv_write.specs.Written.{derivation_text}
 use Rattle.cap_top_commands.specs.Good.{IsGood, IsAccepted}
+use Rattle.cap_top_commands.specs.Startless.{SaysEmpty, IsStartlessText}
 use Rattle.cap_top_commands.specs.Answers.{Fetched, IsPlayedAs, IsOutput, AreAccepted}
-use Rattle.cap_top_commands.specs.Task.{Task, verify, derive, check, show, replay, files_of}
+use Rattle.cap_top_words.specs.Meaning.{PlainCommand, verify, derive, check, show, replay, trial}
+use Rattle.cap_top_commands.specs.Commands.{files_of}
 use Rattle.cap_top_commands.specs.Output.{Output, end_status}
 use Rattle.cap_top.specs.Verified.{IsRead}
 use Rattle.cap_top_laws.specs.Given.{AreGiven, HasOutput}
@@ -55,6 +57,19 @@ pub record DerivesFile (shelf shelf_now : SeenShelf) (budget : ℕ) (name : List
   pub short : length lines ≤ longest
   pub accepted : AreAccepted program lines
   pub gains : Gains sink.written sink_now.written lines
+
+-- The bytes that the file gave are answered so with status 1, and the sink has gained the answer's text.
+-- Where it says that the precondition of `main` is empty, they are the text of a program that has no
+-- start.
+pub record FailsFile (IsAnswer : List ℕ → Output → Type 0) (shelf shelf_now : SeenShelf)
+    (name : List ℕ) (sink sink_now : SeenSink) : Type 0 where
+  pub bytes : List ℕ
+  pub read : IsRead shelf shelf_now name bytes
+  pub output : Output
+  pub answer : IsAnswer bytes output
+  pub bad : output.status ≡ Bad
+  pub gains : Gains sink.written sink_now.written output.text
+  pub startless : SaysEmpty output → IsStartlessText bytes
 
 -- The bytes that the first file gave are the text of a safe program, those of the second the lines of
 -- a valid derivation of it.
@@ -108,10 +123,10 @@ pub record ReplaysFiles (shelf shelf_now : SeenShelf) (file schedule : List ℕ)
 -- The ways to end: an output by what the files that were read gave, whole or, where the put failed,
 -- the first of it; or no memory, with nothing. No other file gives anything, and none is read over a
 -- shelf that counts its fetches.
-abbrev pub Ends : Option Task → SeenShelf → SeenShelf → SeenSink → SeenSink → Status → Type 0
-Ends task shelf shelf_now sink sink_now status =
-    ((got : List Fetched) × AreRead shelf shelf_now (files_of task) got
-    × ((o : Output) × IsOutput task got o × IsPut sink sink_now status o))
+abbrev pub Ends : Option PlainCommand → SeenShelf → SeenShelf → SeenSink → SeenSink → Status → Type 0
+Ends command shelf shelf_now sink sink_now status =
+    ((got : List Fetched) × AreRead shelf shelf_now (files_of command) got
+    × ((o : Output) × IsOutput command got o × IsPut sink sink_now status o))
     ⊎ IsNothing sink sink_now status
 
 -- ---- where no fault comes
@@ -126,17 +141,17 @@ abbrev pub Says : SeenSink → SeenSink → Status → Output → Type 0
 Says sink sink_now status o = (status ≡ o.status) × Gains sink.written sink_now.written o.text
 
 -- an output over these files is said
-abbrev pub SaysOutput : Option Task → Files → SeenSink → SeenSink → Status → Type 0
-SaysOutput task files sink sink_now status =
-    (has : HasOutput task files) × Says sink sink_now status has.said
+abbrev pub SaysOutput : Option PlainCommand → Files → SeenSink → SeenSink → Status → Type 0
+SaysOutput command files sink sink_now status =
+    (has : HasOutput command files) × Says sink sink_now status has.said
 
 -- Unless memory ran out, an output over these files is said, and each output over them is that one.
-pub record AnswersFiles (task : Option Task) (files : Files) (sink sink_now : SeenSink)
+pub record AnswersFiles (command : Option PlainCommand) (files : Files) (sink sink_now : SeenSink)
     (status : Status) : Type 0 where
-  pub some : SaysOutput task files sink sink_now status ⊎ (status ≡ NoMemory)
+  pub some : SaysOutput command files sink sink_now status ⊎ (status ≡ NoMemory)
   pub each :
-      (got : List Fetched) (o : Output) → AreGiven files (files_of task) got
-      → IsOutput task got o → Says sink sink_now status o ⊎ (status ≡ NoMemory)
+      (got : List Fetched) (o : Output) → AreGiven files (files_of command) got
+      → IsOutput command got o → Says sink sink_now status o ⊎ (status ≡ NoMemory)
 
 -- the file holds the text of a safe program, all of which is proved within the budget
 pub record HoldsGood (budget : ℕ) (name : List ℕ) (files : Files) : Type 0 where
@@ -161,19 +176,20 @@ pub record HoldsTree (name text : List ℕ) (files : Files) : Type 0 where
   pub held : content files name ≡ Some bytes
   pub shown : IsShownAs bytes text
 
--- the bytes are a text that the task can take
-abbrev pub IsTextFor : Task → List ℕ → Type 0
+-- the bytes are a text that the command can take; a trial reads none
+abbrev pub IsTextFor : PlainCommand → List ℕ → Type 0
 IsTextFor (verify name budget) bytes = (p : PlainProgram) × IsTextOf bytes p
 IsTextFor (derive name budget) bytes = (p : PlainProgram) × IsTextOf bytes p
 IsTextFor (check name derivation) bytes = (p : PlainProgram) × IsTextOf bytes p
 IsTextFor (show name) bytes = (t : ProgramTree) × Spells bytes t
 IsTextFor (replay name schedule) bytes = (p : PlainProgram) × IsTextOf bytes p
+IsTextFor (trial n) bytes = Unit {0}
 
--- a first file that is no text for the task is refused, unless memory ran out
-abbrev pub Refuses : Option Task → Files → Status → Type 0
-Refuses task files status =
-    (t : Task) (name : List ℕ) (names : List (List ℕ)) (bytes : List ℕ)
-    → task ≡ Some t → files_of task ≡ name ∷ names → content files name ≡ Some bytes
+-- a first file that is no text for the command is refused, unless memory ran out
+abbrev pub Refuses : Option PlainCommand → Files → Status → Type 0
+Refuses command files status =
+    (t : PlainCommand) (name : List ℕ) (names : List (List ℕ)) (bytes : List ℕ)
+    → command ≡ Some t → files_of command ≡ name ∷ names → content files name ≡ Some bytes
     → (IsTextFor t bytes → ⊥) → (status ≡ Refused) ⊎ (status ≡ NoMemory)
 
 -- ---- causes
@@ -182,9 +198,9 @@ abbrev pub IsOneOf : List ℕ → List (List ℕ) → Type 0
 IsOneOf name [] = ⊥
 IsOneOf name (n ∷ ns) = (name ≡ n) ⊎ IsOneOf name ns
 
--- a fault came in the read of a file of the task, which is then blamed, or the told files lack it
-abbrev pub ReadFails : Option Task → SeenShelf → SeenShelf → Type 0
-ReadFails task shelf shelf_now =
-    (name : List ℕ) × IsOneOf name (files_of task)
+-- a fault came in the read of a file of the command, which is then blamed, or the told files lack it
+abbrev pub ReadFails : Option PlainCommand → SeenShelf → SeenShelf → Type 0
+ReadFails command shelf shelf_now =
+    (name : List ℕ) × IsOneOf name (files_of command)
     × ((Rose shelf.faults shelf_now.faults × (shelf_now.blamed ≡ Some name))
     ⊎ IsSomeAnd shelf.holds (λ files. content files name ≡ None))

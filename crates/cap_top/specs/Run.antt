@@ -5,15 +5,16 @@ use Rattle.cap_io.specs.Outside.{SeenSink, Rose, Gains, GainsPrefix}
 use Rattle.cap_top_commands.specs.declared.status.Status.{Status}
 use Rattle.cap_top_commands.specs.declared.status.Status.TheVariants.{WriteFault, NoMemory}
 use Rattle.cap_top_commands.specs.Answers.{Fetched, IsOutput, IsOnlyOutput}
-use Rattle.cap_top_commands.specs.Task.{Task, files_of}
+use Rattle.cap_top_words.specs.Meaning.{PlainCommand}
+use Rattle.cap_top_commands.specs.Commands.{files_of}
 use Rattle.cap_top_commands.specs.Output.{Output}
 use Rattle.cap_top.specs.Reads.{AreRead}
 
--- what is said of the task, by what the files that were read gave, and nothing else
-pub record IsSaid (shelf shelf_now : SeenShelf) (task : Option Task) (o : Output) : Type 0 where
+-- what is said of the command, by what the files that were read gave, and nothing else
+pub record IsSaid (shelf shelf_now : SeenShelf) (command : Option PlainCommand) (o : Output) : Type 0 where
   pub got : List Fetched
-  pub read : AreRead shelf shelf_now (files_of task) got
-  pub output : IsOnlyOutput (IsOutput task) got o
+  pub read : AreRead shelf shelf_now (files_of command) got
+  pub output : IsOnlyOutput (IsOutput command) got o
 
 -- all of the output's text was put, or the put failed after the first of it
 abbrev pub IsPut : SeenSink → SeenSink → Status → Output → Type 0
@@ -26,7 +27,7 @@ IsPut sink sink_now status o =
 abbrev pub IsNothing : SeenSink → SeenSink → Status → Type 0
 IsNothing sink sink_now status = (status ≡ NoMemory) × (sink_now.written ≡ sink.written)
 
-abbrev pub IsRun : Option Task → SeenShelf → SeenShelf → SeenSink → SeenSink → Status → Type 0
-IsRun task shelf shelf_now sink sink_now status =
-    ((o : Output) × IsSaid shelf shelf_now task o × IsPut sink sink_now status o)
+abbrev pub IsRun : Option PlainCommand → SeenShelf → SeenShelf → SeenSink → SeenSink → Status → Type 0
+IsRun command shelf shelf_now sink sink_now status =
+    ((o : Output) × IsSaid shelf shelf_now command o × IsPut sink sink_now status o)
     ⊎ IsNothing sink sink_now status

@@ -1,4 +1,4 @@
-//! A task's files, read in the order of its words, and what is then answered.
+//! A command's files, read in the order of its words, and what is then answered.
 ghost use Rattle.std.specs.Prelude.{◌≡◌, ◌≤◌, IfOk};
 ghost use Rattle.cap_prog.specs.Views.{program_view};
 ghost use Rattle.cap_top_commands.specs.Answers.{After, IsVerified, IsDerived, IsShown};

@@ -1,12 +1,18 @@
 //! The top call: from the words to the text that is put out, and the status.
 ghost use Rattle.std.specs.Prelude.{◌≡◌, ◌⊎◌, ℕ, List, IfOk, IfSome, Some, None};
 ghost use Rattle.cap_io.specs.Outside.{Rose};
-ghost use Rattle.cap_top_commands.specs.Task.{task_in, verify, derive, check, show, replay};
+ghost use Rattle.cap_top_words.specs.Meaning.{verify, derive, check, show, replay, trial, default_budget};
+ghost use Rattle.cap_gen.specs.Trial.{trial_text};
+ghost use Rattle.cap_top_commands.specs.Answers.{IsVerified, IsDerived};
+ghost use Rattle.cap_top_commands.specs.Commands.{meant_by};
+ghost use Rattle.cap_top_commands.specs.Good.{IsProvedText};
 ghost use Rattle.cap_top_commands.specs.Views.{output_view};
-ghost use Rattle.cap_top_commands.specs.declared.status.Status.TheVariants.{Good, Usage, ReadFault};
+ghost use Rattle.cap_top_commands.specs.declared.status.Status.TheVariants.{Good, Bad, Usage};
+ghost use Rattle.cap_top_commands.specs.declared.status.Status.TheVariants.{ReadFault};
 ghost use Rattle.cap_top_commands.specs.declared.status.Status.TheVariants.{WriteFault, NoMemory};
 ghost use Rattle.cap_top.specs.Verified.{VerifiesFile};
-ghost use Rattle.cap_top.specs.Promise.{ProvesFile, DerivesFile, ChecksFiles, ShowsFile};
+ghost use Rattle.cap_top.specs.Promise.{ProvesFile, FailsFile};
+ghost use Rattle.cap_top.specs.Promise.{DerivesFile, ChecksFiles, ShowsFile};
 ghost use Rattle.cap_top.specs.Promise.{EndsRun, ReplaysFiles, Ends, NoFault, AnswersFiles};
 ghost use Rattle.cap_top.specs.Promise.{HoldsGood, HoldAccepted, HoldsTree, Refuses, ReadFails};
 ghost use Rattle.cap_top.specs.Run.{IsSaid, IsRun};
@@ -16,8 +22,10 @@ use crate::fetching::{
 };
 use cap_io::{Shelf, Sink};
 use cap_top_commands::{
-    Begun, Output, Status, Task, accepted_are_safe, derived_are_accepted, good_answers_are_safe,
+    Begun, Output, Status, accepted_are_safe, derived_are_accepted, empty_answers_have_no_start,
+    good_answers_are_safe, good_trials_are_safe, trial,
 };
+use cap_top_words::{Command, read_command};
 use std::alloc::{AllocError, Global};
 
 /// What is said of a replay: the program is read first, and its schedule only where that is one.
@@ -71,23 +79,24 @@ fn respond<'a, S: Shelf>(
 ) -> Result<Output<'a>, AllocError>
     ensures kept { (S.seen shelf.new).holds ≡ (S.seen shelf.old).holds }
     ensures said { IfOk result (λ o. IsSaid (S.seen shelf.old) (S.seen shelf.new)
-        (task_in words.entry.now) (output_view o)) }
+        (meant_by words.entry.now) (output_view o)) }
 {
-    match Task::from_words(alloc, words)? {
-        Some(Task::Verify { file, budget }) => {
+    match read_command(alloc, words)? {
+        Some(Command::Verify { file, budget }) => {
             let fetched = fetch(shelf, file)?;
             verify_file(alloc, file, fetched, budget)
         }
-        Some(Task::Derive { file, budget }) => {
+        Some(Command::Derive { file, budget }) => {
             let fetched = fetch(shelf, file)?;
             derive_file(alloc, file, fetched, budget)
         }
-        Some(Task::Check { file, derivation }) => check_files(alloc, shelf, file, derivation),
-        Some(Task::Show { file }) => {
+        Some(Command::Check { file, derivation }) => check_files(alloc, shelf, file, derivation),
+        Some(Command::Show { file }) => {
             let fetched = fetch(shelf, file)?;
             show_file(alloc, file, fetched)
         }
-        Some(Task::Replay { file, schedule }) => replay_files(alloc, shelf, file, schedule),
+        Some(Command::Replay { file, schedule }) => replay_files(alloc, shelf, file, schedule),
+        Some(Command::Trial { number }) => trial(alloc, number),
         None => Ok(Output::Usage),
     }
 }
@@ -100,7 +109,7 @@ fn perform<S: Shelf, K: Sink>(
     sink: &mut K,
 ) -> Status
     ensures kept { (S.seen shelf.new).holds ≡ (S.seen shelf.old).holds }
-    ensures whole { IsRun (task_in words.now)
+    ensures whole { IsRun (meant_by words.now)
         (S.seen shelf.old) (S.seen shelf.new) (K.seen sink.old) (K.seen sink.new) result }
 {
     let Ok(output) = respond(alloc, words, shelf) else {
@@ -129,37 +138,51 @@ pub fn run<S: Shelf, K: Sink>(
     sink: &mut K,
 ) -> Status
     // Where `verify` ends well, the bytes that the file gave are the text of a safe program.
-    ensures good { (name : List ℕ) (budget : ℕ) → task_in words.now ≡ Some (verify name budget)
+    ensures good { (name : List ℕ) (budget : ℕ) → meant_by words.now ≡ Some (verify name budget)
         → result ≡ Good → VerifiesFile (S.seen shelf.old) (S.seen shelf.new) name }
 
     // All of that program is proved.
-    ensures found { (name : List ℕ) (budget : ℕ) → task_in words.now ≡ Some (verify name budget)
+    ensures found { (name : List ℕ) (budget : ℕ) → meant_by words.now ≡ Some (verify name budget)
         → result ≡ Good → ProvesFile (S.seen shelf.old) (S.seen shelf.new) budget name }
+
+    // Where a trial ends well, its text is that of a safe program, each unit of which is proved.
+    ensures tried { (n : ℕ) → meant_by words.now ≡ Some (trial n) → result ≡ Good
+        → IsProvedText default_budget (trial_text n) }
+
+    // Where `verify` or `derive` says that the precondition of `main` is empty, the bytes that the
+    // file gave are the text of a program that has no start.
+    ensures empty { (name : List ℕ) (budget : ℕ) → meant_by words.now ≡ Some (verify name budget)
+        → result ≡ Bad → FailsFile (IsVerified budget) (S.seen shelf.old) (S.seen shelf.new) name
+        (K.seen sink.old) (K.seen sink.new) }
+    ensures derive_empty { (name : List ℕ) (budget : ℕ)
+        → meant_by words.now ≡ Some (derive name budget)
+        → result ≡ Bad → FailsFile (IsDerived budget) (S.seen shelf.old) (S.seen shelf.new) name
+        (K.seen sink.old) (K.seen sink.new) }
 
     // Where `derive` ends well, the sink has gained a derivation of the program whose text the file
     // gave, which `check` accepts.
-    ensures derived { (name : List ℕ) (budget : ℕ) → task_in words.now ≡ Some (derive name budget)
+    ensures derived { (name : List ℕ) (budget : ℕ) → meant_by words.now ≡ Some (derive name budget)
         → result ≡ Good → DerivesFile (S.seen shelf.old) (S.seen shelf.new) budget name
         (K.seen sink.old) (K.seen sink.new) }
 
     // Where `check` ends well, the derivation that was given is valid, and its program safe.
     ensures accepted { (file derivation : List ℕ)
-        → task_in words.now ≡ Some (check file derivation) → result ≡ Good
+        → meant_by words.now ≡ Some (check file derivation) → result ≡ Good
         → ChecksFiles (S.seen shelf.old) (S.seen shelf.new) file derivation }
 
     // Where `show` ends well, the text that was given is shown: the canonical one of its tree.
-    ensures shown { (name : List ℕ) → task_in words.now ≡ Some (show name) → result ≡ Good
+    ensures shown { (name : List ℕ) → meant_by words.now ≡ Some (show name) → result ≡ Good
         → ShowsFile (S.seen shelf.old) (S.seen shelf.new) name
         (K.seen sink.old) (K.seen sink.new) }
 
     // Where a replay ends so, the sink has gained what the program's run along the schedule writes.
-    ensures replayed { (file schedule : List ℕ) → task_in words.now ≡ Some (replay file schedule)
+    ensures replayed { (file schedule : List ℕ) → meant_by words.now ≡ Some (replay file schedule)
         → EndsRun result → ReplaysFiles (S.seen shelf.old) (S.seen shelf.new) file schedule
         (K.seen sink.old) (K.seen sink.new) result }
 
     // Whatever faults come, what is said is what follows from what the files gave that were read. A
     // second file gives bytes only where the first gave a program's text.
-    ensures ends { Ends (task_in words.now)
+    ensures ends { Ends (meant_by words.now)
         (S.seen shelf.old) (S.seen shelf.new) (K.seen sink.old) (K.seen sink.new) result }
 
     // The shelf holds what it held.
@@ -170,36 +193,41 @@ pub fn run<S: Shelf, K: Sink>(
     // and what is no text is refused.
     ensures answers { IfSome (S.seen shelf.old).holds (λ files.
         NoFault (S.seen shelf.old) (S.seen shelf.new) (K.seen sink.old) (K.seen sink.new)
-        → AnswersFiles (task_in words.now) files (K.seen sink.old) (K.seen sink.new) result) }
+        → AnswersFiles (meant_by words.now) files (K.seen sink.old) (K.seen sink.new) result) }
     ensures proved { IfSome (S.seen shelf.old).holds (λ files.
         NoFault (S.seen shelf.old) (S.seen shelf.new) (K.seen sink.old) (K.seen sink.new)
-        → (name : List ℕ) (budget : ℕ) → task_in words.now ≡ Some (verify name budget)
+        → (name : List ℕ) (budget : ℕ) → meant_by words.now ≡ Some (verify name budget)
         → HoldsGood budget name files → (result ≡ Good) ⊎ (result ≡ NoMemory)) }
+    ensures tries { ¬ Rose (K.seen sink.old).faults (K.seen sink.new).faults
+        → (n : ℕ) → meant_by words.now ≡ Some (trial n)
+        → IsProvedText default_budget (trial_text n) → (result ≡ Good) ⊎ (result ≡ NoMemory) }
     ensures shows { IfSome (S.seen shelf.old).holds (λ files.
         NoFault (S.seen shelf.old) (S.seen shelf.new) (K.seen sink.old) (K.seen sink.new)
-        → (name text : List ℕ) → task_in words.now ≡ Some (show name)
+        → (name text : List ℕ) → meant_by words.now ≡ Some (show name)
         → HoldsTree name text files → (result ≡ Good) ⊎ (result ≡ NoMemory)) }
     ensures accepts { IfSome (S.seen shelf.old).holds (λ files.
         NoFault (S.seen shelf.old) (S.seen shelf.new) (K.seen sink.old) (K.seen sink.new)
-        → (file derivation : List ℕ) → task_in words.now ≡ Some (check file derivation)
+        → (file derivation : List ℕ) → meant_by words.now ≡ Some (check file derivation)
         → HoldAccepted file derivation files → (result ≡ Good) ⊎ (result ≡ NoMemory)) }
     ensures refuses { IfSome (S.seen shelf.old).holds (λ files.
         NoFault (S.seen shelf.old) (S.seen shelf.new) (K.seen sink.old) (K.seen sink.new)
-        → Refuses (task_in words.now) files result) }
+        → Refuses (meant_by words.now) files result) }
 
     // Each answer has its cause, and nothing is lost.
-    ensures usage { result ≡ Usage → task_in words.now ≡ None }
-    ensures command { task_in words.now ≡ None
+    ensures usage { result ≡ Usage → meant_by words.now ≡ None }
+    ensures command { meant_by words.now ≡ None
         → (result ≡ Usage) ⊎ ((result ≡ WriteFault) ⊎ (result ≡ NoMemory)) }
     ensures read_fault { result ≡ ReadFault
-        → ReadFails (task_in words.now) (S.seen shelf.old) (S.seen shelf.new) }
+        → ReadFails (meant_by words.now) (S.seen shelf.old) (S.seen shelf.new) }
     ensures write_fault { result ≡ WriteFault
         → Rose (K.seen sink.old).faults (K.seen sink.new).faults }
     ensures no_memory { result ≡ NoMemory
         → (K.seen sink.new).written ≡ (K.seen sink.old).written }
 {
     good_answers_are_safe();
+    good_trials_are_safe();
     derived_are_accepted();
     accepted_are_safe();
+    empty_answers_have_no_start();
     perform(alloc, words, shelf, sink)
 }

@@ -15,6 +15,7 @@ use Rattle.cap_top_reading.specs.Refused.{IsTextOf}
 use Rattle.cap_top_report.specs.Report.{is_good}
 use Rattle.cap_top_report.specs.Found.{found_trees}
 use Rattle.cap_top_report.specs.Laws.{FoundAreValid}
+use Rattle.cap_top_report.proofs.Good.{good-all}
 use Rattle.cap_top_commands.specs.declared.status.Status.TheVariants.{Good, Bad, Refused}
 use Rattle.cap_top_commands.specs.Answers.{IsOnly, AcceptedAreSafe, DerivedAreAccepted}
 use Rattle.cap_top_commands.specs.Good.{IsAccepted}
@@ -92,7 +93,7 @@ derived_accepted valid judged one read budget bytes p o t (inr (inr s)) e =
     let text = derivation_text trees in
     let lines : AreLines (length trees) cs text = subst (λ ds. AreLines (length trees) ds text) (same-preorder trees) s.lines in
     let few : length cs ≤ most_nodes = subst (λ ds. length ds ≤ most_nodes) (same-preorder trees) s.short.nodes in
-    let has : HasTrees p (length trees) cs = (trees, valid p budget (text-ascends bytes p t) s.good, refl, refl) in
+    let has : HasTrees p (length trees) cs = (trees, valid p budget (text-ascends bytes p t) (good-all p budget s.good), refl, refl) in
     let k = judged_only p text one (length trees) cs (Ok (length cs)) (read (length trees) cs text lines few) (judged.complete p (length trees) cs has) in
     record {
       nodes = length cs;

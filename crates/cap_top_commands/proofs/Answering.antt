@@ -1,5 +1,5 @@
 -- What is answered to bytes, and nothing else.
-use Rattle.std.proofs.Common.{◌≡◌, ℕ, ◌⊎◌, inl, inr, List, Result, Ok, Err, IfOk, MatchResult, refl, sym, ap, ◌∙◌, subst}
+use Rattle.std.proofs.Common.{◌≡◌, ℕ, ◌⊎◌, inl, inr, List, length, Result, Ok, Err, IfOk, MatchResult, refl, sym, ap, ◌∙◌, subst}
 use Rattle.std.specs.declared.alloc.AllocError.{AllocError}
 use Rattle.cap_prog.specs.declared.program.Program.{Program}
 use Rattle.cap_prog.specs.Views.{program_view}
@@ -10,11 +10,15 @@ use Rattle.cap_top_reading.specs.declared.refusal.Refusal.TheVariants.{BadByte, 
 use Rattle.cap_top_reading.specs.Reading.{UnlessMemory, IsFound, FindsTree, FindsProgram}
 use Rattle.cap_top_reading.specs.Refused.{SpellNone, IsRefused, IsTextOf}
 use Rattle.cap_top_report.specs.declared.report.Report.{Report}
-use Rattle.cap_top_report.specs.Report.{report_text, is_good}
-use Rattle.cap_top_report.specs.Views.{IsReportOf}
+use Rattle.cap_gen.specs.Trial.{trial_text}
+use Rattle.cap_goal_spec.specs.Roots.{units}
+use Rattle.cap_top_report.specs.declared.counts.Counts.{Counts}
+use Rattle.cap_top_report.specs.Report.{proved_count, report_text, is_good}
+use Rattle.cap_top_report.specs.Views.{IsCountOf, IsReportOf}
 use Rattle.cap_top_commands.specs.declared.output.Output as code
-use Rattle.cap_top_commands.specs.Output.{Output, refusal_output, report_output}
-use Rattle.cap_top_commands.specs.Answers.{SaysCause, SaysOf, IsVerified, IsCanonical, IsShown, IsOnly}
+use Rattle.cap_top_commands.specs.Output.{Output, refusal_output, report_output, trial_output}
+use Rattle.cap_top_commands.specs.Answers.{SaysCause, SaysOf, IsVerified, IsTried, IsTrial, IsCanonical, IsShown, IsOnly}
+use Rattle.cap_top_words.specs.Meaning.{default_budget}
 use Rattle.cap_top_commands.specs.Report.{IsReport}
 use Rattle.cap_top_commands.specs.Views.{output_view, IsCause}
 
@@ -100,6 +104,27 @@ verify_answers budget bytes e (Ok o) f h =
     let said = refused_says program_view (IsTextOf bytes) (IsRefused bytes) (IsReport budget) e (Ok o) f h in
     record { said = said.said; only = said.only }
 verify_answers budget bytes e (Err a) f h = tt
+
+-- ---- trial
+
+pub trial_counts : (n : ℕ) (program : Program) (c : Counts) → FindsProgram (trial_text n) (Ok program)
+    → IsCountOf (program_view program) default_budget c → IsOnly (IsTrial n) (trial_output n c.proved c.all)
+trial_counts n program c f h =
+    let p = program_view program in
+    let said = found_says program_view (IsTextOf (trial_text n)) (IsRefused (trial_text n)) (IsTried n) program
+    (trial_output n c.proved c.all) f
+    (one_only (IsTried n p) (trial_output n c.proved c.all) (trial_output n (proved_count p default_budget) (length (units p)))
+    (λ q e. e) refl
+    (ap (λ k. trial_output n k c.all) h.proved ∙ ap (trial_output n (proved_count p default_budget)) h.all)) in
+    record { said = said.said; only = said.only }
+
+pub trial_answers : (n : ℕ) (e : Refusal) (r : Result code.Output AllocError)
+    → FindsProgram (trial_text n) (Err e) → AnswersRefusal e r
+    → IfOk r (λ o. IsOnly (IsTrial n) (output_view o))
+trial_answers n e (Ok o) f h =
+    let said = refused_says program_view (IsTextOf (trial_text n)) (IsRefused (trial_text n)) (IsTried n) e (Ok o) f h in
+    record { said = said.said; only = said.only }
+trial_answers n e (Err a) f h = tt
 
 -- ---- show
 

@@ -18,6 +18,7 @@ use Rattle.cap_top_report.specs.Report.{is_good}
 use Rattle.cap_rules_ascending.specs.Ascending.{ProgramAscends}
 use Rattle.cap_top_report.specs.Found.{found_trees}
 use Rattle.cap_top_report.specs.Laws.{FoundAreValid}
+use Rattle.cap_top_report.proofs.Good.{good-all}
 use Rattle.cap_top_report.specs.Views.{IsLeftBy, IsWhollyProvedBy}
 use Rattle.cap_top_commands.specs.declared.output.Output as code
 use Rattle.cap_top_commands.specs.Answers.{IsOnly, IsDerived}
@@ -59,7 +60,7 @@ module _ (budget : ℕ) (p : PlainProgram) where
         → IsOnly (IsDerivation budget p) (derivation_output text)
     says_lines valid ordered zeros text t =
         let lines : DerivationLines (bundle_view b) (derivation_text (bundle_view b)) =
-        t.lines (subst HaveNoZeros (sym h.trees) (zeros p (found_trees p budget) (valid p budget ordered h.good))) in
+        t.lines (subst HaveNoZeros (sym h.trees) (zeros p (found_trees p budget) (valid p budget ordered (good-all p budget h.good)))) in
         record {
           said = inr (inr (record {
             good = h.good;

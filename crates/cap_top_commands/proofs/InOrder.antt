@@ -1,22 +1,27 @@
 -- The parts of the terms of a text's program are in order.
-use Rattle.std.proofs.Common.{◌≡◌, ℕ, ℤ, pos, negsuc, List, [], ◌∷◌, map, Option, Some, None, sym, subst}
+use Rattle.std.proofs.Common.{◌≡◌, ℕ, ℤ, negsuc, List, [], ◌∷◌, map, Option, Some, None, sym, subst}
+use Rattle.std.specs.Prelude.{slice_get}
 use Rattle.std.specs.List.{AllByRecursion}
 use Rattle.cap_syntax.specs.declared.place.Place.{Place}
-use Rattle.cap_lin.specs.Linear.{Linear, number}
-use Rattle.cap_lin.specs.Linear.{times as multiple}
-use Rattle.cap_prog.specs.Program.{PlainProgram}
+use Rattle.cap_lin.specs.Linear.{Linear}
+use Rattle.cap_prog.specs.Program.{Items, none, item, append_items, PlainFunction, PlainProgram}
+use Rattle.cap_prog.specs.Program as plain
+use Rattle.cap_parse_tree.specs.declared.word.Word.{Word}
 use Rattle.cap_parse_tree.specs.declared.term.Sign.{Sign}
 use Rattle.cap_parse_tree.specs.declared.term.Sign.TheVariants.{Plus, Minus}
-use Rattle.cap_parse_tree.specs.Tree.{FactorTree, literal, whole_share, named, bracketed, ProductTree, product, FactorTrees, no_factor, times, TermTree, term, ProductTrees, no_product, signed, ComparisonTree, CaseTree, RegionTree, ProgramTree}
+use Rattle.cap_parse_tree.specs.Tree.{FactorTree, literal, whole_share, named, bracketed, ProductTree, product, FactorTrees, no_factor, times, TermTree, term, ProductTrees, no_product, signed, ComparisonTree, GuardTree, ItemTree, holds, fails, fact, guards, cell, compare, choose, ItemTrees, no_item, and_item, AssertionTree, assertion, ClauseTree, CaseTree, RegionTree, FunctionTree, ProgramTree}
 use Rattle.cap_resolve_spec.specs.Linear.{product_by_parts, product_of, signed_sum, opened, factor_form, product_form, factors_form, term_form, products_form}
 use Rattle.cap_resolve_spec.specs.Names.{NameScope, variable_of}
-use Rattle.cap_resolve_spec.specs.Items.{NumberedRegion, numbered_regions}
-use Rattle.cap_resolve_spec.specs.Parts.{regions, when_comparisons}
-use Rattle.cap_resolve_spec.specs.Program.{comparison_program, case_program, region_program, program_of}
+use Rattle.cap_resolve_spec.specs.Items.{NumberedRegion, numbered_regions, TypedName, type_of}
+use Rattle.cap_resolve_spec.specs.Parts.{held_atoms, regions, functions, when_comparisons}
+use Rattle.cap_resolve_spec.specs.Program.{comparison_program, atoms_program, item_program, items_program, assertion_program, clause_program, case_program, region_program, function_program, program_of}
 use Rattle.cap_resolve_spec.specs.Regions.{case_scope}
+use Rattle.cap_resolve_spec.specs.Functions.{requires_types, requires_scope}
 use Rattle.cap_top_reading.specs.Refused.{IsTextOf}
 use Rattle.cap_rules_ascending.specs.Ascending.{TermAscends, CompAscends, CaseAscends, TypeAscends, ProgramAscends}
+use Rattle.cap_rules_ascending.proofs.Lists.{IfSome, all-get}
 use Rattle.cap_rules_ascending.proofs.Terms.{variable-ascends, plus-ascends, times-ascends, minus-ascends}
+use Rattle.cap_search_starts.specs.Laws.{ItemsAscend}
 
 -- ---- terms
 
@@ -86,3 +91,55 @@ tree-ascends t = each-of TypeAscends (region_program (regions t)) (numbered_regi
 
 pub text-ascends : (bytes : List ℕ) (p : PlainProgram) → IsTextOf bytes p → ProgramAscends p
 text-ascends bytes p t = subst ProgramAscends (sym t.stands.same) (tree-ascends t.tree)
+
+-- ---- preconditions
+
+append-ascends : (a b : Items) → ItemsAscend a → ItemsAscend b → ItemsAscend (append_items a b)
+append-ascends none b h k = k
+append-ascends (item (plain.compare c) a) b h k = (h.0, append-ascends a b h.1 k)
+append-ascends (item (plain.cell place x s) a) b h k = (h.0, append-ascends a b h.1 k)
+append-ascends (item (plain.choose c x y) a) b h k = append-ascends a b h k
+append-ascends (item (plain.fact place n t args s) a) b h k = append-ascends a b h k
+append-ascends (item (plain.atom place n t i asked) a) b h k = append-ascends a b h k
+
+atoms-ascend : (k : Option NumberedRegion) (scope : NameScope) (r : Word) (gs : List GuardTree) → ItemsAscend (atoms_program k scope r gs)
+atoms-ascend None scope r gs = tt
+atoms-ascend (Some k) scope r [] = tt
+atoms-ascend (Some k) scope r (g ∷ gs) = atoms-ascend (Some k) scope r gs
+
+module _ (rs : List RegionTree) (types : List TypedName) (scope : NameScope) where
+  item-ascends : (i : ItemTree) → ItemsAscend (item_program rs types scope i)
+  item-ascends (holds p) = tt
+  item-ascends (fails p) = (record { left = tt; right = tt }, tt)
+  item-ascends (fact k p r args q s e) = tt
+  item-ascends (guards r p g) = atoms-ascend (type_of types r.text) scope r (held_atoms g)
+  item-ascends (cell t p s) = (form-ascends scope t, tt)
+  item-ascends (compare c) = (comparison-ascends scope c, tt)
+  item-ascends (choose c p a q b) = tt
+
+  items-ascend : (is : ItemTrees) → ItemsAscend (items_program rs types scope is)
+  items-ascend no_item = tt
+  items-ascend (and_item p i more) =
+      append-ascends (item_program rs types scope i) (items_program rs types scope more) (item-ascends i) (items-ascend more)
+
+  assertion-ascends : (a : AssertionTree) → ItemsAscend (assertion_program rs types scope a)
+  assertion-ascends (assertion i more) =
+      append-ascends (item_program rs types scope i) (items_program rs types scope more) (item-ascends i) (items-ascend more)
+
+  clause-ascends : (c : Option ClauseTree) → ItemsAscend (clause_program rs types scope c)
+  clause-ascends None = tt
+  clause-ascends (Some c) = assertion-ascends c.assertion
+
+abbrev RequiresAscend : PlainFunction → Type 0
+RequiresAscend f = ItemsAscend f.requires
+
+function-ascends : (rs : List RegionTree) (fs : List FunctionTree) (f : FunctionTree) → RequiresAscend (function_program rs fs f)
+function-ascends rs fs f = clause-ascends rs (requires_types rs f) (requires_scope rs f) f.precondition
+
+functions-ascend : (t : ProgramTree) → AllByRecursion RequiresAscend (program_of t).functions
+functions-ascend t = each-of RequiresAscend (function_program (regions t) (functions t)) (functions t) (function-ascends (regions t) (functions t))
+
+pub requires-ascend : (bytes : List ℕ) (p : PlainProgram) → IsTextOf bytes p → (n : ℕ) (f : PlainFunction) → slice_get p.functions n ≡ Some f → ItemsAscend f.requires
+requires-ascend bytes p t n f e =
+    let all = subst (λ q. AllByRecursion RequiresAscend q.functions) (sym t.stands.same) (functions-ascend t.tree) in
+    subst (IfSome RequiresAscend) e (all-get RequiresAscend p.functions n all)

@@ -2,6 +2,8 @@ mod Answering
 mod Replays
 mod InOrder
 mod Good
+mod LastLines
+mod Startless
 mod Following
 mod Deriving
 mod Accepting

@@ -1,8 +1,10 @@
--- What is answered to a task, by what its files gave.
+-- What is answered to a command, by what its files gave.
 use Rattle.std.specs.Prelude.{◌≡◌, ℕ, List, [], ◌∷◌, Option, Some, None}
 use Rattle.std.specs.Prelude.{◌⊎◌, length, slice_get, IsSomeAnd, Ok, Err}
 use Rattle.std.specs.FinMap.{from_entries}
 use Rattle.cap_prog.specs.Program.{PlainProgram}
+use Rattle.cap_gen.specs.Trial.{trial_text}
+use Rattle.cap_goal_spec.specs.Roots.{units}
 use Rattle.cap_parse_tree.specs.Tree.{ProgramTree}
 use Rattle.cap_parse_tree.specs.Canonical.{canonical_text}
 use Rattle.cap_parse_tree.specs.Texts.{Spells}
@@ -14,12 +16,14 @@ use Rattle.cap_replay.specs.Reading.{Progress, read}
 use Rattle.cap_replay.specs.RunText.{RunText, run_from}
 use Rattle.cap_top_reading.specs.declared.refusal.Refusal.{Refusal}
 use Rattle.cap_top_reading.specs.Refused.{SpellNone, IsRefused, IsTextOf}
+use Rattle.cap_top_report.specs.Report.{proved_count}
 use Rattle.cap_top_commands.specs.declared.status.Status.TheVariants.{Good}
-use Rattle.cap_top_commands.specs.Good.{IsGood, IsAccepted}
-use Rattle.cap_top_commands.specs.Task.{Task, verify, derive, check, show, replay}
+use Rattle.cap_top_commands.specs.Good.{IsGood, IsProvedText, IsAccepted}
+use Rattle.cap_top_commands.specs.Startless.{SaysEmpty, IsStartlessText}
+use Rattle.cap_top_words.specs.Meaning.{PlainCommand, verify, derive, check, show, replay, trial, default_budget}
 use Rattle.cap_top_commands.specs.Report.{IsReport}
 use Rattle.cap_top_commands.specs.Derivations.{IsDerivation, IsChecked}
-use Rattle.cap_top_commands.specs.Output.{Output, usage_output, unreadable_output, long_output, refusal_output, tree_output, schedule_output, run_output, judged_output}
+use Rattle.cap_top_commands.specs.Output.{Output, usage_output, unreadable_output, long_output, refusal_output, tree_output, schedule_output, run_output, judged_output, trial_output}
 
 -- ---- by the bytes of a text
 
@@ -46,6 +50,14 @@ OfProgram bytes IsSaid o = SaysRefusal bytes o ⊎ SaysOf (IsTextOf bytes) IsSai
 
 abbrev pub IsVerified : ℕ → List ℕ → Output → Type 0
 IsVerified budget bytes o = OfProgram bytes (IsReport budget) o
+
+-- of the trial's program it is said how many units are proved, of how many
+abbrev pub IsTried : ℕ → PlainProgram → Output → Type 0
+IsTried n p o = o ≡ trial_output n (proved_count p default_budget) (length (units p))
+
+-- the trial of this number
+abbrev pub IsTrial : ℕ → Output → Type 0
+IsTrial n o = OfProgram (trial_text n) (IsTried n) o
 
 abbrev pub IsDerived : ℕ → List ℕ → Output → Type 0
 IsDerived budget bytes o = OfProgram bytes (IsDerivation budget) o
@@ -142,18 +154,23 @@ IsReplayed name p x o = After name x (IsPlayed p) o
 abbrev pub IsJudged : List ℕ → PlainProgram → Fetched → Output → Type 0
 IsJudged name p x o = After name x (IsChecked p) o
 
-abbrev pub IsUsage : List Fetched → Output → Type 0
-IsUsage [] o = o ≡ usage_output
-IsUsage (x ∷ xs) o = ⊥
+-- no file is read
+abbrev pub ByNone : (Output → Type 0) → List Fetched → Output → Type 0
+ByNone IsSaid [] o = IsSaid o
+ByNone IsSaid (x ∷ xs) o = ⊥
 
--- the output, where the files of the task that were read gave these, in the order of the words
-abbrev pub IsOutput : Option Task → List Fetched → Output → Type 0
-IsOutput None = IsUsage
+abbrev pub IsUsage : Output → Type 0
+IsUsage o = o ≡ usage_output
+
+-- the output, where the files of the command that were read gave these, in the order of the words
+abbrev pub IsOutput : Option PlainCommand → List Fetched → Output → Type 0
+IsOutput None = ByNone IsUsage
 IsOutput (Some (verify file budget)) = ByOne file (IsVerified budget)
 IsOutput (Some (derive file budget)) = ByOne file (IsDerived budget)
 IsOutput (Some (check file derivation)) = ByTwo file (IsJudged derivation)
 IsOutput (Some (show file)) = ByOne file IsShown
 IsOutput (Some (replay file schedule)) = ByTwo file (IsReplayed schedule)
+IsOutput (Some (trial n)) = ByNone (IsTrial n)
 
 -- it is so of this output, and of no other
 pub record IsOnly (IsSaid : Output → Type 0) (o : Output) : Type 0 where
@@ -166,7 +183,7 @@ Agree [] ys = Unit {0}
 Agree (x ∷ xs) [] = Unit {0}
 Agree (x ∷ xs) (y ∷ ys) = (x ≡ y) × Agree xs ys
 
--- The output by what these files gave. There is no other, whether more of the task's files are read
+-- The output by what these files gave. There is no other, whether more of the command's files are read
 -- or fewer.
 pub record IsOnlyOutput (IsSaid : List Fetched → Output → Type 0) (got : List Fetched) (o : Output)
     : Type 0 where
@@ -203,3 +220,16 @@ abbrev pub GoodAnswersAreSafe : Type 0
 GoodAnswersAreSafe =
     (budget : ℕ) (bytes : List ℕ) (o : Output) →
     IsVerified budget bytes o → o.status ≡ Good → IsGood budget bytes
+
+-- what a trial says with a good status is said of the text of a safe program
+abbrev pub GoodTrialsAreSafe : Type 0
+GoodTrialsAreSafe =
+    (n : ℕ) (o : Output) → IsTrial n o → o.status ≡ Good → IsProvedText default_budget (trial_text n)
+
+-- ---- what it means that the precondition of `main` is empty
+
+-- where the answer says so, the bytes are the text of a program that has no start
+abbrev pub EmptyAnswersHaveNoStart : (ℕ → List ℕ → Output → Type 0) → Type 0
+EmptyAnswersHaveNoStart IsAnswered =
+    (budget : ℕ) (bytes : List ℕ) (o : Output) →
+    IsAnswered budget bytes o → SaysEmpty o → IsStartlessText bytes

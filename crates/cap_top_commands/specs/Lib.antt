@@ -1,4 +1,4 @@
-pub mod Task
+pub mod Commands
 pub mod Status
 pub mod Output
 pub mod Report
@@ -6,6 +6,7 @@ pub mod Derivations
 pub mod Deriving
 pub mod SafeText
 pub mod Good
+pub mod Startless
 pub mod Answers
 pub mod Views
 pub mod Beginning

@@ -1,5 +1,5 @@
 -- What the tool says, and with which status.
-use Rattle.std.specs.Prelude.{ℕ, Bool, if◌then◌else◌, List, [], ◌++◌, codes, Result, Ok, Err}
+use Rattle.std.specs.Prelude.{ℕ, ◌==◌, Bool, if◌then◌else◌, List, [], ◌++◌, codes, Result, Ok, Err}
 use Rattle.std.specs.Fmt.{decimal}
 use Rattle.cap_replay.specs.declared.playing.End.{End}
 use Rattle.cap_replay.specs.declared.playing.End.TheVariants.{Ended, Stopped, NotEnabled, Wide}
@@ -48,6 +48,16 @@ report_status good = if good then Good else Bad
 
 abbrev pub report_output : Bool → List ℕ → Output
 report_output good text = record { status = report_status good; text = text }
+
+-- of a trial's number, how many units of its program are proved, of how many
+abbrev pub trial_line : ℕ → ℕ → ℕ → List ℕ
+trial_line n proved all =
+    codes "trial " ++ (decimal n ++ (codes ": "
+    ++ (decimal all ++ (codes " units, " ++ (decimal proved ++ codes " proved\n")))))
+
+abbrev pub trial_output : ℕ → ℕ → ℕ → Output
+trial_output n proved all =
+    record { status = report_status (proved == all); text = trial_line n proved all }
 
 abbrev pub tree_output : List ℕ → Output
 tree_output text = record { status = Good; text = text }

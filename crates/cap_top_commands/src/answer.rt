@@ -4,10 +4,11 @@ ghost use Rattle.cap_top_reading.specs.declared.refusal.Refusal.TheVariants.{Out
 ghost use Rattle.cap_top_commands.specs.Answers.{IsVerified, IsShown, IsOnly};
 ghost use Rattle.cap_top_commands.specs.Good.{IsGood};
 ghost use Rattle.cap_top_commands.specs.Output.{refusal_output};
+ghost use Rattle.cap_top_commands.specs.Startless.{SaysEmpty, IsStartlessText};
 ghost use Rattle.cap_top_commands.specs.Views.{output_view, IsCause};
 ghost use Rattle.cap_top_commands.specs.declared.status.Status.TheVariants.{Good};
 
-use crate::laws::good_answers_are_safe;
+use crate::laws::{empty_answers_have_no_start, good_answers_are_safe};
 use crate::output::Output;
 use cap_parse_print::print;
 use cap_top_reading::{Refusal, read_program, read_tree};
@@ -43,7 +44,11 @@ pub fn verify<'a>(alloc: Global, bytes: &[u8], budget: u64) -> Result<Output<'a>
 
     // The headline, of the bytes: where the status is good, they are the text of a safe program.
     ensures good { IfOk result (λ o. (output_view o).status ≡ Good → IsGood budget bytes.now) }
+
+    // Where it says that the precondition of `main` is empty, no start of the program meets it.
+    ensures empty { IfOk result (λ o. SaysEmpty (output_view o) → IsStartlessText bytes.now) }
 {
+    empty_answers_have_no_start();
     good_answers_are_safe();
     judge_text(alloc, bytes, budget)
 }

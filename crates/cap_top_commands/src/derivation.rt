@@ -6,9 +6,11 @@ ghost use Rattle.cap_goal.specs.Trees.{bundle_view};
 ghost use Rattle.cap_top_commands.specs.Answers.{IsDerived, IsOnly};
 ghost use Rattle.cap_top_commands.specs.Derivations.{IsDerivation};
 ghost use Rattle.cap_top_commands.specs.Deriving.{FindsText};
+ghost use Rattle.cap_top_commands.specs.Startless.{SaysEmpty, IsStartlessText};
 ghost use Rattle.cap_top_commands.specs.Views.{output_view};
 
 use crate::answer::refuse;
+use crate::laws::empty_answers_have_no_start;
 use crate::output::Output;
 use cap_deriv::MOST_NODES;
 use cap_deriv_laws::valid_trees_have_no_zeros;
@@ -56,13 +58,24 @@ fn derivation_of<'a>(
     }
 }
 
-/// What `derive` answers to a file of these bytes: the lines of the derivation where `verify` would
-/// end well, and otherwise what `verify` says. The only error is want of memory.
-pub fn derive<'a>(alloc: Global, bytes: &[u8], budget: u64) -> Result<Output<'a>, AllocError>
+/// What `derive` says of a program's text.
+fn derive_text<'a>(alloc: Global, bytes: &[u8], budget: u64) -> Result<Output<'a>, AllocError>
     ensures { IfOk result (λ o. IsOnly (IsDerived budget bytes.now) (output_view o)) }
 {
     match read_program(alloc, bytes) {
         Ok(program) => derivation_of(alloc, &program, budget),
         Err(refusal) => refuse(refusal),
     }
+}
+
+/// What `derive` answers to a file of these bytes: the lines of the derivation where `verify` would
+/// end well, and otherwise what `verify` says. The only error is want of memory.
+pub fn derive<'a>(alloc: Global, bytes: &[u8], budget: u64) -> Result<Output<'a>, AllocError>
+    ensures answers { IfOk result (λ o. IsOnly (IsDerived budget bytes.now) (output_view o)) }
+
+    // Where it says that the precondition of `main` is empty, no start of the program meets it.
+    ensures empty { IfOk result (λ o. SaysEmpty (output_view o) → IsStartlessText bytes.now) }
+{
+    empty_answers_have_no_start();
+    derive_text(alloc, bytes, budget)
 }

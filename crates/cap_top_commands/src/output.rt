@@ -1,7 +1,7 @@
 //! What was found, as a status and a text.
 ghost use Rattle.std.specs.Prelude.{◌≡◌, IfOk};
 ghost use Rattle.cap_top_commands.specs.Output.{end_status, schedule_line};
-ghost use Rattle.cap_top_commands.specs.Output.{derivation_line, judged_line};
+ghost use Rattle.cap_top_commands.specs.Output.{derivation_line, judged_line, trial_line};
 ghost use Rattle.cap_top_commands.specs.Views.{output_view};
 
 use crate::status::Status;
@@ -9,7 +9,7 @@ use cap_deriv::DerivError;
 use cap_kernel_check::CheckError;
 use cap_replay::{End, Played, ScheduleError};
 use cap_top_reading::{Refusal, refusal_text};
-use cap_top_report::Report;
+use cap_top_report::{Counts, Report};
 use std::alloc::{AllocError, Global};
 
 /// What is said. A file that cannot be read is named, and a text that is shown is canonical. A
@@ -29,6 +29,8 @@ pub enum Output<'a> {
     Shown(Vec<u8>),
     BadSchedule(ScheduleError),
     Played(Played),
+    /// The number of a trial, and how many units of its program are proved.
+    Tried { number: u32, counts: Counts },
 }
 
 /// The command line, for words that are none.
@@ -89,6 +91,15 @@ fn schedule_text(alloc: Global, error: ScheduleError) -> Result<Vec<u8>, AllocEr
     Ok(text.into_bytes())
 }
 
+/// The line for the trial of a number, so many units of which are proved.
+fn trial_text(alloc: Global, number: u32, counts: Counts) -> Result<Vec<u8>, AllocError>
+    ensures { IfOk result (λ text. text.items ≡ trial_line number counts.proved counts.all) }
+{
+    let Counts { proved, all } = counts;
+    let text = format!(in alloc; "trial {number}: {all} units, {proved} proved\n")?;
+    Ok(text.into_bytes())
+}
+
 impl<'a> Output<'a> {
     /// The status with which it is said.
     pub fn status(&self) -> Status
@@ -108,6 +119,8 @@ impl<'a> Output<'a> {
             Output::Shown(_) => Status::Good,
             Output::BadSchedule(_) => Status::Refused,
             Output::Played(played) => end_status(played.end),
+            Output::Tried { counts, .. } if counts.proved == counts.all => Status::Good,
+            Output::Tried { .. } => Status::Bad,
         }
     }
 
@@ -134,6 +147,7 @@ impl<'a> Output<'a> {
             Output::Shown(text) => Ok(text),
             Output::BadSchedule(error) => schedule_text(alloc, error),
             Output::Played(played) => Ok(played.text),
+            Output::Tried { number, counts } => trial_text(alloc, number, counts),
         }
     }
 }

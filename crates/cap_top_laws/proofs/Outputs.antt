@@ -1,13 +1,15 @@
--- Each task has an output over all files.
-use Rattle.std.proofs.Common.{◌≡◌, inl, inr, ℕ, List, [], ◌∷◌, Some, None, refl}
+-- Each command has an output over all files.
+use Rattle.std.proofs.Common.{◌≡◌, inl, inr, ℕ, List, [], ◌∷◌, length, Some, None, refl}
 use Rattle.cap_io.specs.Files.{Files, content}
 use Rattle.cap_parse_tree.specs.Canonical.{canonical_text}
 use Rattle.cap_prog.specs.Program.{PlainProgram}
-use Rattle.cap_top_report.specs.Report.{is_good, report_text}
+use Rattle.cap_gen.specs.Trial.{trial_text}
+use Rattle.cap_goal_spec.specs.Roots.{units}
+use Rattle.cap_top_report.specs.Report.{proved_count, is_good, report_text}
 use Rattle.cap_top_reading.specs.Refused.{IsTextOf}
-use Rattle.cap_top_commands.specs.Answers.{Fetched, held, unread, long, After, IsVerified, IsDerived, IsShown, IsReplayed, IsJudged, ByTwo}
-use Rattle.cap_top_commands.specs.Output.{Output, usage_output, unreadable_output, long_output, refusal_output, report_output, tree_output}
-use Rattle.cap_top_commands.specs.Task.{verify, derive, check, show, replay}
+use Rattle.cap_top_commands.specs.Answers.{Fetched, held, unread, long, After, IsVerified, IsTrial, IsDerived, IsShown, IsReplayed, IsJudged, ByTwo}
+use Rattle.cap_top_commands.specs.Output.{Output, usage_output, unreadable_output, long_output, refusal_output, report_output, tree_output, trial_output}
+use Rattle.cap_top_words.specs.Meaning.{verify, derive, check, show, replay, trial, default_budget}
 use Rattle.cap_top_laws.specs.Given.{given_by, AreGiven}
 use Rattle.cap_top_laws.specs.Laws.{SpellOneOrNone, AreTextOrRefused, BytesAreReadOrRefused, SchedulesAreAnswered, LinesAreAnswered, FoundHaveLines, DerivationsAreAnswered, OutputsExist}
 
@@ -25,6 +27,13 @@ verified budget bytes (inl h) = (
   inr (record { thing = h.0; is_so = h.1; said = refl }),
 )
 verified budget bytes (inr h) = (refusal_output h.0, inl (record { cause = h.0; caused = h.1; whole = refl }))
+
+tried : (n : ℕ) → AreTextOrRefused (trial_text n) → (o : Output) × IsTrial n o
+tried n (inl h) = (
+  trial_output n (proved_count h.0 default_budget) (length (units h.0)),
+  inr (record { thing = h.0; is_so = h.1; said = refl }),
+)
+tried n (inr h) = (refusal_output h.0, inl (record { cause = h.0; caused = h.1; whole = refl }))
 
 derived : DerivationsAreAnswered → (budget : ℕ) (bytes : List ℕ) → AreTextOrRefused bytes
     → ((p : PlainProgram) → IsTextOf bytes p → FoundHaveLines budget p) → (o : Output) × IsDerived budget bytes o
@@ -70,7 +79,7 @@ module _ (files : Files) (first second : List ℕ) (IsSaid : PlainProgram → Fe
   after-two unread e = record { got = unread ∷ []; given = (e, tt); said = unreadable_output first; output = refl }
   after-two long e = record { got = long ∷ []; given = (e, tt); said = long_output; output = refl }
 
--- ---- a task
+-- ---- a command
 
 module _ (texts : BytesAreReadOrRefused) (schedules : SchedulesAreAnswered) (lines : LinesAreAnswered)
     (derivations : DerivationsAreAnswered) where
@@ -82,6 +91,9 @@ module _ (texts : BytesAreReadOrRefused) (schedules : SchedulesAreAnswered) (lin
 
   pub output-exists : OutputsExist
   output-exists None files h = record { got = []; given = tt; said = usage_output; output = refl }
+  output-exists (Some (trial n)) files h =
+      let s = tried n (texts.programs (trial_text n)) in
+      record { got = []; given = tt; said = s.0; output = s.1 }
   output-exists (Some (verify file budget)) files h =
       let x = given_by (content files file) in
       let s = after-one (IsVerified budget) file x (λ bytes e. verified budget bytes (texts.programs bytes)) in

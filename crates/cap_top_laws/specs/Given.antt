@@ -4,7 +4,8 @@ use Rattle.cap_io.specs.Files.{Files, content}
 use Rattle.cap_io.specs.Outside.{longest}
 use Rattle.cap_top_commands.specs.Answers.{Fetched, held, unread, long, IsOutput}
 use Rattle.cap_top_commands.specs.Output.{Output}
-use Rattle.cap_top_commands.specs.Task.{Task, files_of}
+use Rattle.cap_top_words.specs.Meaning.{PlainCommand}
+use Rattle.cap_top_commands.specs.Commands.{files_of}
 
 -- what a file of this content gives
 abbrev pub given_by : Option (List ℕ) → Fetched
@@ -18,9 +19,9 @@ AreGiven files [] (x ∷ xs) = ⊥
 AreGiven files (name ∷ names) (x ∷ xs) =
     (given_by (content files name) ≡ x) × AreGiven files names xs
 
--- the task has an output over these files: by what as many of them give as are read
-pub record HasOutput (task : Option Task) (files : Files) : Type 0 where
+-- the command has an output over these files: by what as many of them give as are read
+pub record HasOutput (command : Option PlainCommand) (files : Files) : Type 0 where
   pub got : List Fetched
-  pub given : AreGiven files (files_of task) got
+  pub given : AreGiven files (files_of command) got
   pub said : Output
-  pub output : IsOutput task got said
+  pub output : IsOutput command got said

@@ -18,7 +18,7 @@ use Rattle.cap_top_report.specs.Found.{found_trees}
 use Rattle.cap_top_commands.specs.Answers.{held, IsPlayed}
 use Rattle.cap_top_commands.specs.Derivations.{IsDerivation, IsChecked}
 use Rattle.cap_top_commands.specs.Output.{Output}
-use Rattle.cap_top_commands.specs.Task.{Task, derive}
+use Rattle.cap_top_words.specs.Meaning.{PlainCommand, derive}
 use Rattle.cap_top_laws.specs.Given.{given_by, HasOutput}
 
 -- ---- of bytes
@@ -60,14 +60,14 @@ abbrev pub DerivationsAreAnswered : Type 0
 DerivationsAreAnswered =
     (budget : ℕ) (p : PlainProgram) → FoundHaveLines budget p → (o : Output) × IsDerivation budget p o
 
--- ---- of a task
+-- ---- of a command
 
 -- asked of `derive` alone, and of nothing but the program of its file
-abbrev pub FindsLines : Option Task → Files → Type 0
+abbrev pub FindsLines : Option PlainCommand → Files → Type 0
 FindsLines (Some (derive file budget)) files =
     (bytes : List ℕ) (p : PlainProgram) → given_by (content files file) ≡ held bytes
     → IsTextOf bytes p → FoundHaveLines budget p
 FindsLines _ files = Unit {0}
 
 abbrev pub OutputsExist : Type 0
-OutputsExist = (task : Option Task) (files : Files) → FindsLines task files → HasOutput task files
+OutputsExist = (command : Option PlainCommand) (files : Files) → FindsLines command files → HasOutput command files

@@ -45,7 +45,7 @@ pub fn derivations_are_answered()
     writings_are_lines();
 }
 
-/// Over all files there is an output of each task; of `derive`, where the choices that are found
+/// Over all files there is an output of each command; of `derive`, where the choices that are found
 /// have lines.
 pub fn outputs_exist()
     ensures { OutputsExist }

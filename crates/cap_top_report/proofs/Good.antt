@@ -1,4 +1,4 @@
--- Where a report is good, each unit is proved, so that the trees of all are valid.
+-- Where all units are proved, so is each, and the trees of all are valid.
 use Rattle.std.proofs.Common.{◌≡◌, ◌≤◌, ℕ, ◌==◌, ◌&&◌, Bool, true, false, not, List, [], ◌∷◌, length, Option, refl, ap, sym, ◌∙◌, arith}
 use Rattle.std.proofs.lemmas.Bool.Decides.{nat_tests}
 use Rattle.std.specs.List.{AllByRecursion}
@@ -10,7 +10,7 @@ use Rattle.cap_search_spec.specs.Starts.{empty_start}
 use Rattle.cap_search_spec.specs.Verdicts.{PlainVerdict, is_proved, is_spent, is_deep, is_wide, is_rows, is_stuck, verdict}
 use Rattle.cap_top_report.specs.Found.{proof_trees, found_of}
 use Rattle.cap_top_report.specs.Laws.{FoundAreValid}
-use Rattle.cap_top_report.specs.Report.{once_proved, count_proved, proved_count, is_good}
+use Rattle.cap_top_report.specs.Report.{once_proved, count_proved, proved_count, all_proved, is_good}
 
 -- ---- each unit is proved
 
@@ -47,9 +47,12 @@ first-true false b h = absurd cc
 counted : (a b : ℕ) → (a == b) ≡ true → a ≡ b
 counted a b h = grind (arith, nat_tests)
 
-all-count : (p : PlainProgram) (n : ℕ) → is_good p n ≡ true → AllByRecursion (Counts p n) (units p)
-all-count p n good =
-    each-counts p n (units p) (counted (proved_count p n) (length (units p)) (first-true (proved_count p n == length (units p)) (not (empty_start p)) good))
+-- a good report is one of a program each unit of which is proved
+pub good-all : (p : PlainProgram) (n : ℕ) → is_good p n ≡ true → all_proved p n ≡ true
+good-all p n good = first-true (all_proved p n) (not (empty_start p)) good
+
+all-count : (p : PlainProgram) (n : ℕ) → all_proved p n ≡ true → AllByRecursion (Counts p n) (units p)
+all-count p n all = each-counts p n (units p) (counted (proved_count p n) (length (units p)) all)
 
 -- ---- by its trees
 
@@ -73,5 +76,5 @@ all-proved p n (u ∷ us) h = (counts-is-proved p n u h.0, all-proved p n us h.1
 -- ---- so the trees are valid
 
 pub found-valid : ProvedAreValid → FoundAreValid
-found-valid valid p n ordered good =
-    valid p n (found_of p n) ordered (all-proved p n (units p) (all-count p n good))
+found-valid valid p n ordered all =
+    valid p n (found_of p n) ordered (all-proved p n (units p) (all-count p n all))

@@ -39,6 +39,10 @@ report_text p budget =
     flat_map (unit_line p budget) (units p)
     ++ (start_line (empty_start p) ++ count_line (proved_count p budget) (length (units p)))
 
+-- each unit is proved
+abbrev pub all_proved : PlainProgram → ℕ → Bool
+all_proved p budget = proved_count p budget == length (units p)
+
 -- each unit is proved, and the precondition of `main` is not found empty
 abbrev pub is_good : PlainProgram → ℕ → Bool
-is_good p budget = (proved_count p budget == length (units p)) && not (empty_start p)
+is_good p budget = all_proved p budget && not (empty_start p)

@@ -9,4 +9,4 @@ mod reading;
 
 pub use command::Command;
 pub use laws::commands_are_written;
-pub use reading::read_command;
+pub use reading::{DEFAULT_BUDGET, read_command};

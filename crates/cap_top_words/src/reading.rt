@@ -12,8 +12,8 @@ use clap::ArgMatches;
 use clap::error::ErrorKind;
 use std::alloc::{AllocError, Global};
 
-// The budget where the words give none.
-const DEFAULT_BUDGET: u64 = 200_000;
+/// The budget where the words give none.
+pub const DEFAULT_BUDGET: u64 = 200_000;
 
 const MAX_BUDGET: u64 = 1_000_000_000;
 

@@ -11,4 +11,4 @@ returns-in-Held c =
     (sym (ap fetched_view c.in-Held.is))
     (said_held c.args.name.now c.in-Held.bytes.items (IsDerived c.args.budget) c.derive.result
     (subst (λ bytes. IfOk c.derive.result (λ o. IsOnly (IsDerived c.args.budget bytes) (output_view o)))
-    c.as_slice.ensures.value c.derive.ensures))
+    c.as_slice.ensures.value c.derive.ensures.answers))

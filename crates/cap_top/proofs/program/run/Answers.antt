@@ -1,4 +1,4 @@
-use Rattle.cap_top.proofs.Promises.{good_run, found_run, derived_run, accepted_run, shown_run, replayed_run, ends_run, answers_run, proved_run, accepts_run, shows_run, refuses_run, usage_run, command_run, read_run, write_run, memory_run}
+use Rattle.cap_top.proofs.Promises.{good_run, found_run, tried_run, tries_run, empty_run, derive_empty_run, derived_run, accepted_run, shown_run, replayed_run, ends_run, answers_run, proved_run, accepts_run, shows_run, refuses_run, usage_run, command_run, read_run, write_run, memory_run}
 use Rattle.cap_top.proofs.program.run.Goals as goal
 
 pub returns-clause-good : goal.returns-clause-good
@@ -6,6 +6,18 @@ returns-clause-good g c = good_run _ _ _ _ _ _ c.perform.ensures.whole c.good_an
 
 pub returns-clause-found : goal.returns-clause-found
 returns-clause-found g c = found_run _ _ _ _ _ _ c.perform.ensures.whole c.good_answers_are_safe.ensures
+
+pub returns-clause-tried : goal.returns-clause-tried
+returns-clause-tried g c = tried_run _ _ _ _ _ _ c.perform.ensures.whole c.good_trials_are_safe.ensures
+
+pub returns-clause-tries : goal.returns-clause-tries
+returns-clause-tries g c = tries_run _ _ _ _ _ _ c.perform.ensures.whole
+
+pub returns-clause-empty : goal.returns-clause-empty
+returns-clause-empty g c = empty_run _ _ _ _ _ _ c.perform.ensures.whole c.empty_answers_have_no_start.ensures.verified
+
+pub returns-clause-derive_empty : goal.returns-clause-derive_empty
+returns-clause-derive_empty g c = derive_empty_run _ _ _ _ _ _ c.perform.ensures.whole c.empty_answers_have_no_start.ensures.derived
 
 pub returns-clause-derived : goal.returns-clause-derived
 returns-clause-derived g c = derived_run _ _ _ _ _ _ c.perform.ensures.whole c.derived_are_accepted.ensures
