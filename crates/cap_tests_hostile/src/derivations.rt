@@ -4,6 +4,8 @@ use crate::rows::Piece::{Once, Times};
 use crate::rows::{Run, Text, meets};
 use cap_top::Status;
 use cap_top::Status::{Bad, Good, Refused};
+use std::alloc::Global;
+use std::process::Abort;
 use std::test::Fail;
 
 const EMPTY: Text = &[Once(b"function main() { }")];
@@ -20,7 +22,25 @@ const SETS_1000: Text = &[
     Once(b"}"),
 ];
 
-const LONGEST: &[(&str, Text, Text, Status, &[u8])] = &[
+type Row = (&'static str, Text, Text, Status, &'static [u8]);
+
+fn checks(rt: &impl Abort, alloc: Global, rows: &[Row]) -> Result<(), Fail> {
+    for (name, text, other, status, written) in rows {
+        let run = Run {
+            name,
+            words: "check f s",
+            text,
+            other,
+            status: *status,
+            written: &[Once(written)],
+        };
+        meets(rt, alloc, &run)?;
+    }
+    Ok(())
+}
+
+// Derivations of 1,000,000 nodes, and with one more.
+const MOST_NODES: &[Row] = &[
     (
         "nodes, edge",
         EMPTY,
@@ -54,6 +74,15 @@ const LONGEST: &[(&str, Text, Text, Status, &[u8])] = &[
         Refused,
         b"refused derivation line 1000002\n",
     ),
+];
+
+#[test]
+fn most_nodes(rt: HostRuntime) -> Result<(), Fail> {
+    checks(&rt, rt.alloc(), MOST_NODES)
+}
+
+// As deep as a tree may be, and lines that are long.
+const LONGEST: &[Row] = &[
     (
         "depth, edge",
         SETS_999,
@@ -125,11 +154,11 @@ const LONGEST: &[(&str, Text, Text, Status, &[u8])] = &[
         b"accepted 1\n",
     ),
     (
-        "pairs, a million in a leaf",
+        "pairs, 100,000 in a leaf",
         EMPTY,
         &[
             Once(b"[\"caper\",1,3]\n[\"absurd\",[\"leaf\",[[0,\"1\"]"),
-            Times(1_000_000, b",[0,\"1\"]"),
+            Times(100_000, b",[0,\"1\"]"),
             Once(b"]]]\n[\"end\",1]\n"),
         ],
         Bad,
@@ -168,18 +197,7 @@ const LONGEST: &[(&str, Text, Text, Status, &[u8])] = &[
 
 #[test]
 fn longest_derivations(rt: HostRuntime) -> Result<(), Fail> {
-    for (name, text, other, status, written) in LONGEST {
-        let run = Run {
-            name,
-            words: "check f s",
-            text,
-            other,
-            status: *status,
-            written: &[Once(written)],
-        };
-        meets(&rt, rt.alloc(), &run)?;
-    }
-    Ok(())
+    checks(&rt, rt.alloc(), LONGEST)
 }
 
 // Lines of none of the forms, where a node or the end is to come.

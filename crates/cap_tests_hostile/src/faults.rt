@@ -168,21 +168,7 @@ const LONGEST: &[(&str, &str, Text, Text, &[u8])] = &[
         b"refused 1:1: text too long\n",
     ),
     ("text, past", "verify f", MORE_BLANKS, &[], TOO_LONG),
-    (
-        "lines, edge",
-        "check f s",
-        PROGRAM,
-        BLANKS,
-        b"refused derivation line 1\n",
-    ),
     ("lines, past", "check f s", PROGRAM, MORE_BLANKS, TOO_LONG),
-    (
-        "schedule, edge",
-        "replay f s",
-        PROGRAM,
-        BLANKS,
-        b"refused schedule line 1\n",
-    ),
     (
         "schedule, past",
         "replay f s",

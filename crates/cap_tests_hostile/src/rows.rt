@@ -49,12 +49,17 @@ fn push_numbered(
     Ok(())
 }
 
+fn push_times(text: &mut Vec<u8>, count: usize, bytes: &[u8]) -> Result<(), AllocError> {
+    for _ in 0..count {
+        text.extend_from_slice(bytes)?;
+    }
+    Ok(())
+}
+
 fn push_piece(alloc: Global, text: &mut Vec<u8>, piece: &Piece) -> Result<(), AllocError> {
     match piece {
         Piece::Once(bytes) => text.extend_from_slice(bytes),
-        Piece::Times(count, bytes) => {
-            text.extend_from_slice(bytes.repeat(alloc, *count)?.as_slice())
-        }
+        Piece::Times(count, bytes) => push_times(text, *count, bytes),
         Piece::Numbered(first, last, before, after) => {
             push_numbered(alloc, text, (*first, *last), (before, after))
         }

@@ -4,6 +4,8 @@ use crate::rows::Piece::{Numbered, Once, Times};
 use crate::rows::{Run, Text, meets};
 use cap_top::Status;
 use cap_top::Status::{Good, Refused};
+use std::alloc::Global;
+use std::process::Abort;
 use std::test::Fail;
 
 const PROVED: Text = &[Once(b"function main: proved\nproved 1 of 1\n")];
@@ -12,9 +14,25 @@ const BOTH_PROVED: Text = &[Once(b"function f: proved\nfunction main: proved\npr
 
 const REGION_PROVED: Text = &[Once(b"region R: proved\nfunction main: proved\nproved 2 of 2\n")];
 
-// What is said of texts in `verify`.
-const VERIFIED: &[(&str, Text, Status, Text)] = &[
-    // The length: 1,048,576 bytes, and one more.
+type Row = (&'static str, Text, Status, Text);
+
+fn verifies(rt: &impl Abort, alloc: Global, rows: &[Row]) -> Result<(), Fail> {
+    for (name, text, status, written) in rows {
+        let run = Run {
+            name,
+            words: "verify f",
+            text,
+            other: &[],
+            status: *status,
+            written,
+        };
+        meets(rt, alloc, &run)?;
+    }
+    Ok(())
+}
+
+// The length: 1,048,576 bytes, and one more.
+const LENGTHS: &[Row] = &[
     (
         "length, blanks behind, edge",
         &[Once(b"function main() { }"), Times(1_048_557, b" ")],
@@ -79,6 +97,14 @@ const VERIFIED: &[(&str, Text, Status, Text)] = &[
         Good,
         PROVED,
     ),
+];
+
+#[test]
+fn longest_texts(rt: HostRuntime) -> Result<(), Fail> {
+    verifies(&rt, rt.alloc(), LENGTHS)
+}
+
+const LIMITS: &[Row] = &[
     // Bytes that begin no token, and those of a comment.
     (
         "bytes, past ASCII",
@@ -427,18 +453,7 @@ const VERIFIED: &[(&str, Text, Status, Text)] = &[
 
 #[test]
 fn texts_at_the_limits(rt: HostRuntime) -> Result<(), Fail> {
-    for (name, text, status, written) in VERIFIED {
-        let run = Run {
-            name,
-            words: "verify f",
-            text,
-            other: &[],
-            status: *status,
-            written,
-        };
-        meets(&rt, rt.alloc(), &run)?;
-    }
-    Ok(())
+    verifies(&rt, rt.alloc(), LIMITS)
 }
 
 // Names that are new in an assertion, whatever is proved of it: so many stand, in a replay without
