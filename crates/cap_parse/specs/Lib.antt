@@ -2,3 +2,4 @@ pub mod Parsing
 pub mod Reads
 pub mod Reading
 pub mod Heads
+pub mod Parts

@@ -6,20 +6,41 @@ ghost use Rattle.cap_parse_tree.specs.Views.{term_view, comparison_view, slot_vi
 ghost use Rattle.cap_parse_tree.specs.Views.{held_view, several_view, behind_view, item_view, and_view};
 ghost use Rattle.cap_parse_tree.specs.Views.{assertion_view, side_view, clause_view};
 ghost use Rattle.cap_parse_laws.specs.Grammar.{read_slot, read_amount, read_counted, read_guard};
-ghost use Rattle.cap_parse_laws.specs.Grammar.{read_guards, read_held, read_choice, read_item_from};
+ghost use Rattle.cap_parse_laws.specs.Grammar.{read_guards, read_held, choice_by, read_choice};
+ghost use Rattle.cap_parse_laws.specs.Grammar.{read_item_from};
 ghost use Rattle.cap_parse_laws.specs.Grammar.{read_fact, read_named_item, read_item, read_assertion};
 ghost use Rattle.cap_parse_laws.specs.Grammar.{read_assertion_with, read_side, side_at, read_clause};
 ghost use Rattle.cap_parse_laws.specs.Readers.{read_more};
 ghost use Rattle.cap_parse_laws.specs.declared.class.Class.TheVariants.{Star, Comma, And as Joins};
+ghost use Rattle.cap_parse_laws.specs.declared.class.Class.TheVariants.{Question};
+ghost use Rattle.cap_parse.specs.Parts.{fact_front_view, read_fact_front, sides_view, read_sides};
 ghost use Rattle.cap_parse.specs.Reads.{IsRead};
 
 use crate::cursor::{Cursor, Stop};
+use crate::term::SlotInBrackets;
 use cap_parse_laws::Class;
 use cap_parse_tree::{
     And, Assertion, Clause, Comparison, Counted, GuardAtom, Guards, Item, Separated, Side, Slot,
     Term, Word,
 };
 use cap_syntax::Place;
+
+/// The front of the parts of a fact: the region, its arguments and a semicolon.
+#[derive(Drop)]
+pub(crate) struct FactFront {
+    region: Word,
+    arguments: Vec<(Place, Slot)>,
+    semicolon: Place,
+}
+
+/// `?`, and two sides with a colon between them.
+#[derive(Drop)]
+pub(crate) struct Sides {
+    question: Place,
+    holds: Side,
+    colon: Place,
+    fails: Side,
+}
 
 impl<'a> Cursor<'a> {
     /// A guard's name, behind which an amount may come.
@@ -38,15 +59,14 @@ impl<'a> Cursor<'a> {
     }
 
     /// `src` or `tok`, which comes next, a guard's name and a count.
+    #[tactic(auto, using(crate::proofs::Parts::counted_parts))]
     fn counted(&mut self, room: u32, counted: Counted) -> Result<GuardAtom, Stop>
         ensures { IsRead guard_view result self.new.rest.now
             (read_counted room counted self.old.rest.now) }
     {
         let key = self.next_place()?;
         let name = self.name()?;
-        let (inner, open) = self.opening(room, Class::OpenBracket)?;
-        let slot = self.slot(inner)?;
-        let close = self.expect(Class::CloseBracket)?;
+        let SlotInBrackets { open, slot, close } = self.slot_in_brackets(room)?;
         Ok(GuardAtom::Count(counted, key, name, open, slot, close))
     }
 
@@ -113,17 +133,69 @@ impl<'a> Cursor<'a> {
         Ok(arguments)
     }
 
+    fn fact_front(&mut self, room: u32) -> Result<FactFront, Stop>
+        ensures { IsRead fact_front_view result self.new.rest.now
+            (read_fact_front room self.old.rest.now) }
+    {
+        let region = self.name()?;
+        let arguments = self.arguments(room)?;
+        let semicolon = self.expect(Class::Semicolon)?;
+        Ok(FactFront {
+            region,
+            arguments,
+            semicolon,
+        })
+    }
+
     /// What follows a region type's name in a fact.
+    #[tactic(auto, using(crate::proofs::Parts::fact_parts))]
     fn fact(&mut self, room: u32, name: Word) -> Result<Item, Stop>
         ensures { IsRead item_view result self.new.rest.now (read_fact room name self.old.rest.now) }
     {
         let (inner, open) = self.opening(room, Class::Open)?;
-        let region = self.name()?;
-        let arguments = self.arguments(inner)?;
-        let semicolon = self.expect(Class::Semicolon)?;
+        let front = self.fact_front(inner)?;
         let state = self.slot(inner)?;
         let close = self.expect(Class::Close)?;
+        let FactFront {
+            region,
+            arguments,
+            semicolon,
+        } = front;
         Ok(Item::Fact(name, open, region, arguments, semicolon, state, close))
+    }
+
+    /// What `?`, which comes next, begins.
+    #[cycle(items)]
+    fn sides(&mut self, room: u32) -> Result<Sides, Stop>
+        ensures { IsRead sides_view result self.new.rest.now
+            (read_sides (side_at room) self.old.rest.now) }
+    {
+        let question = self.next_place()?;
+        let holds = self.side(room)?;
+        let colon = self.expect(Class::Colon)?;
+        let fails = self.side(room)?;
+        Ok(Sides {
+            question,
+            holds,
+            colon,
+            fails,
+        })
+    }
+
+    /// A comparison, behind which `?`, which comes next, and two sides come.
+    #[cycle(items)]
+    #[tactic(auto, using(crate::proofs::Parts::choose_parts))]
+    fn choose(&mut self, room: u32, comparison: Comparison) -> Result<Item, Stop>
+        ensures { IsRead item_view result self.new.rest.now
+            (choice_by (side_at room) (comparison_view comparison) Question self.old.rest.now) }
+    {
+        let Sides {
+            question,
+            holds,
+            colon,
+            fails,
+        } = self.sides(room)?;
+        Ok(Item::Choose(comparison, question, holds, colon, fails))
     }
 
     /// A comparison, behind which two sides may come.
@@ -133,13 +205,7 @@ impl<'a> Cursor<'a> {
             (read_choice (side_at room) (comparison_view comparison) self.old.rest.now) }
     {
         match self.ahead() {
-            Class::Question => {
-                let question = self.next_place()?;
-                let holds = self.side(room)?;
-                let colon = self.expect(Class::Colon)?;
-                let fails = self.side(room)?;
-                Ok(Item::Choose(comparison, question, holds, colon, fails))
-            }
+            Class::Question => self.choose(room, comparison),
             _ => Ok(Item::Compare(comparison)),
         }
     }

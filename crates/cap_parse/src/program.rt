@@ -10,8 +10,8 @@ ghost use Rattle.cap_parse_laws.specs.Readers.{read_name, read_several, read_opt
 ghost use Rattle.cap_parse_laws.specs.Readers.{read_listed};
 ghost use Rattle.cap_parse_laws.specs.declared.class.Class.TheVariants.{Comma, Close, End};
 ghost use Rattle.cap_parse.specs.Heads.{function_head_view, read_whole_clause, read_whole_block};
-ghost use Rattle.cap_parse.specs.Heads.{read_function_head, read_function_body, read_postcondition};
-ghost use Rattle.cap_parse.specs.Heads.{read_function_from};
+ghost use Rattle.cap_parse.specs.Heads.{read_function_head, contract_view, read_contract};
+ghost use Rattle.cap_parse.specs.Heads.{function_tree};
 ghost use Rattle.cap_parse.specs.Reads.{IsRead};
 
 use crate::cursor::{Cursor, Stop};
@@ -25,6 +25,37 @@ pub(crate) struct FunctionHead {
     key: Place,
     name: Word,
     parameters: Listed<Word>,
+}
+
+/// What a function requires and ensures.
+#[derive(Drop)]
+pub(crate) struct Contract {
+    precondition: Option<Clause>,
+    postcondition: Option<Clause>,
+}
+
+/// The function of a head, a contract and a body.
+fn function_of(head: FunctionHead, contract: Contract, body: Block) -> Function
+    ensures { function_view result
+        ≡ function_tree (function_head_view head) (contract_view contract) (block_view body) }
+{
+    let FunctionHead {
+        key,
+        name,
+        parameters,
+    } = head;
+    let Contract {
+        precondition,
+        postcondition,
+    } = contract;
+    Function {
+        key,
+        name,
+        parameters,
+        precondition,
+        postcondition,
+        body,
+    }
 }
 
 impl<'a> Cursor<'a> {
@@ -82,66 +113,28 @@ impl<'a> Cursor<'a> {
         self.block(room)
     }
 
-    /// The body, behind a function's head and its contract.
-    fn function_body(
-        &mut self,
-        room: u32,
-        head: FunctionHead,
-        precondition: Option<Clause>,
-        postcondition: Option<Clause>,
-    ) -> Result<Function, Stop>
-        ensures { IsRead function_view result self.new.rest.now
-            (read_function_body room (function_head_view head) (option_map clause_view precondition)
-            (option_map clause_view postcondition) self.old.rest.now) }
+    fn contract(&mut self, room: u32) -> Result<Contract, Stop>
+        ensures { IsRead contract_view result self.new.rest.now
+            (read_contract room self.old.rest.now) }
     {
-        let body = self.whole_block(room)?;
-        let FunctionHead {
-            key,
-            name,
-            parameters,
-        } = head;
-        Ok(Function {
-            key,
-            name,
-            parameters,
+        let precondition = self.whole_clause(room, Class::Requires)?;
+        let postcondition = self.whole_clause(room, Class::Ensures)?;
+        Ok(Contract {
             precondition,
             postcondition,
-            body,
         })
     }
 
-    /// What stands behind a function's head and its precondition.
-    fn postcondition(
-        &mut self,
-        room: u32,
-        head: FunctionHead,
-        precondition: Option<Clause>,
-    ) -> Result<Function, Stop>
-        ensures { IsRead function_view result self.new.rest.now
-            (read_postcondition room (function_head_view head) (option_map clause_view precondition)
-            self.old.rest.now) }
-    {
-        let postcondition = self.whole_clause(room, Class::Ensures)?;
-        self.function_body(room, head, precondition, postcondition)
-    }
-
-    /// What stands behind a function's head.
-    fn function_from(&mut self, room: u32, head: FunctionHead) -> Result<Function, Stop>
-        ensures { IsRead function_view result self.new.rest.now
-            (read_function_from room (function_head_view head) self.old.rest.now) }
-    {
-        let precondition = self.whole_clause(room, Class::Requires)?;
-        self.postcondition(room, head, precondition)
-    }
-
     /// What `function`, which comes next, begins.
-    #[tactic(auto, using(crate::proofs::Functions::function_parts))]
+    #[tactic(auto, using(crate::proofs::Parts::function_parts))]
     fn function(&mut self, room: u32) -> Result<Function, Stop>
         ensures { IsRead function_view result self.new.rest.now
             (read_function room self.old.rest.now) }
     {
         let head = self.function_head(room)?;
-        self.function_from(room, head)
+        let contract = self.contract(room)?;
+        let body = self.whole_block(room)?;
+        Ok(function_of(head, contract, body))
     }
 
     fn declaration(&mut self, room: u32) -> Result<Declaration, Stop>

@@ -10,20 +10,25 @@ ghost use Rattle.cap_parse_laws.specs.Classes.{are_same};
 ghost use Rattle.cap_parse_laws.specs.Grammar.{read_comparison, read_declared, read_joint};
 ghost use Rattle.cap_parse_laws.specs.Grammar.{read_grouped, grouped_at, read_algebra, read_when};
 ghost use Rattle.cap_parse_laws.specs.Grammar.{read_optional_when, read_case, read_action, read_head};
-ghost use Rattle.cap_parse_laws.specs.Grammar.{read_region_body, read_region};
+ghost use Rattle.cap_parse_laws.specs.Grammar.{read_region};
 ghost use Rattle.cap_parse_laws.specs.Readers.{read_name, read_more, read_several, read_optional};
 ghost use Rattle.cap_parse_laws.specs.Readers.{read_until, read_group};
 ghost use Rattle.cap_parse_laws.specs.declared.class.Class.TheVariants.{Comma, Star, Plus};
 ghost use Rattle.cap_parse_laws.specs.declared.class.Class.TheVariants.{When as Under, CloseBrace};
 ghost use Rattle.cap_parse_laws.specs.declared.class.Class.TheVariants.{Interpretation, Actions};
 ghost use Rattle.cap_parse.specs.Reads.{IsRead};
-ghost use Rattle.cap_parse.specs.Heads.{head_view};
+ghost use Rattle.cap_parse.specs.Heads.{head_view, guarded_view, read_guarded, region_tree};
+ghost use Rattle.cap_parse.specs.Heads.{region_body_view, read_region_parts};
+ghost use Rattle.cap_parse.specs.Parts.{read_divisible, read_counting, case_head_view};
+ghost use Rattle.cap_parse.specs.Parts.{read_case_head};
+ghost use Rattle.cap_parse.specs.Parts.{action_guards_view, read_action_guards, transition_view};
+ghost use Rattle.cap_parse.specs.Parts.{read_transition, action_end_view, read_action_end};
 
 use crate::cursor::{Cursor, Stop};
 use cap_parse_laws::Class;
 use cap_parse_tree::{
-    Action, Algebra, Both, Case, Comparison, Declared, Either, Group, Joint, Region, Separated,
-    When, Word,
+    Action, Algebra, Both, Case, Comparison, Declared, Either, Group, GuardAtom, Joint, Region,
+    Separated, Term, When, Word,
 };
 use cap_syntax::Place;
 
@@ -36,7 +41,99 @@ pub(crate) struct Head {
     close: Place,
 }
 
+/// A state, perhaps conditions, and a colon.
+#[derive(Drop)]
+pub(crate) struct CaseHead {
+    state: Term,
+    when: Option<When>,
+    colon: Place,
+}
+
+/// The states before and behind an action, with the arrow between them.
+#[derive(Drop)]
+pub(crate) struct Transition {
+    source: Term,
+    arrow: Place,
+    target: Term,
+}
+
+/// `guards`, an algebra and a semicolon.
+#[derive(Drop)]
+pub(crate) struct Guarded {
+    guards: Place,
+    algebra: Algebra,
+    semicolon: Place,
+}
+
+/// What stands in the braces of a region type, and the closing one.
+#[derive(Drop)]
+pub(crate) struct RegionBody {
+    guarded: Guarded,
+    cases: Group<Case>,
+    actions: Group<Action>,
+    end: Place,
+}
+
+/// The region type of a keyword, a head, an opening brace and what stands behind it.
+fn region_of(key: Place, head: Head, brace: Place, body: RegionBody) -> Region
+    ensures { region_view result
+        ≡ region_tree key (head_view head) brace (region_body_view body) }
+{
+    let Head {
+        name,
+        open,
+        parameters,
+        close,
+    } = head;
+    let RegionBody {
+        guarded,
+        cases,
+        actions,
+        end,
+    } = body;
+    let Guarded {
+        guards,
+        algebra,
+        semicolon,
+    } = guarded;
+    Region {
+        key,
+        name,
+        open,
+        parameters,
+        close,
+        brace,
+        guards,
+        algebra,
+        semicolon,
+        cases,
+        actions,
+        end,
+    }
+}
+
 impl<'a> Cursor<'a> {
+    /// What `%`, which comes next, begins.
+    fn divisible(&mut self) -> Result<Declared, Stop>
+        ensures { IsRead declared_view result self.new.rest.now
+            (read_divisible self.old.rest.now) }
+    {
+        let percent = self.next_place()?;
+        let name = self.name()?;
+        Ok(Declared::Divisible(percent, name))
+    }
+
+    /// What `|`, which comes next, begins.
+    fn counting(&mut self) -> Result<Declared, Stop>
+        ensures { IsRead declared_view result self.new.rest.now
+            (read_counting self.old.rest.now) }
+    {
+        let open = self.next_place()?;
+        let name = self.name()?;
+        let close = self.expect(Class::Bar)?;
+        Ok(Declared::Counting(open, name, close))
+    }
+
     #[cycle(algebras)]
     fn declared(&mut self, room: u32) -> Result<Declared, Stop>
         ensures { IsRead declared_view result self.new.rest.now
@@ -44,16 +141,8 @@ impl<'a> Cursor<'a> {
     {
         match self.ahead() {
             Class::Name => Ok(Declared::Unique(self.next_word()?)),
-            Class::Percent => {
-                let percent = self.next_place()?;
-                Ok(Declared::Divisible(percent, self.name()?))
-            }
-            Class::Bar => {
-                let open = self.next_place()?;
-                let name = self.name()?;
-                let close = self.expect(Class::Bar)?;
-                Ok(Declared::Counting(open, name, close))
-            }
+            Class::Percent => self.divisible(),
+            Class::Bar => self.counting(),
             _ => self.grouped(room),
         }
     }
@@ -172,14 +261,24 @@ impl<'a> Cursor<'a> {
         }
     }
 
-    fn case(&mut self, room: u32) -> Result<Case, Stop>
-        ensures { IsRead case_view result self.new.rest.now (read_case room self.old.rest.now) }
+    fn case_head(&mut self, room: u32) -> Result<CaseHead, Stop>
+        ensures { IsRead case_head_view result self.new.rest.now
+            (read_case_head room self.old.rest.now) }
     {
         let state = self.term(room)?;
         let when = self.optional_when(room)?;
         let colon = self.expect(Class::Colon)?;
+        Ok(CaseHead { state, when, colon })
+    }
+
+    #[tactic(auto, using(crate::proofs::Parts::case_parts))]
+    fn case(&mut self, room: u32) -> Result<Case, Stop>
+        ensures { IsRead case_view result self.new.rest.now (read_case room self.old.rest.now) }
+    {
+        let head = self.case_head(room)?;
         let assertion = self.assertion(room)?;
         let semicolon = self.expect(Class::Semicolon)?;
+        let CaseHead { state, when, colon } = head;
         Ok(Case {
             state,
             when,
@@ -189,16 +288,52 @@ impl<'a> Cursor<'a> {
         })
     }
 
-    fn action(&mut self, room: u32) -> Result<Action, Stop>
-        ensures { IsRead action_view result self.new.rest.now (read_action room self.old.rest.now) }
+    /// The guards of an action, and a colon.
+    fn action_guards(&mut self, room: u32) -> Result<(Separated<GuardAtom>, Place), Stop>
+        ensures { IsRead action_guards_view result self.new.rest.now
+            (read_action_guards room self.old.rest.now) }
     {
         let guards = self.guards(room)?;
         let colon = self.expect(Class::Colon)?;
+        Ok((guards, colon))
+    }
+
+    fn transition(&mut self, room: u32) -> Result<Transition, Stop>
+        ensures { IsRead transition_view result self.new.rest.now
+            (read_transition room self.old.rest.now) }
+    {
         let source = self.term(room)?;
         let arrow = self.expect(Class::LeadsTo)?;
         let target = self.term(room)?;
+        Ok(Transition {
+            source,
+            arrow,
+            target,
+        })
+    }
+
+    /// Perhaps conditions, and the semicolon of an action.
+    fn action_end(&mut self, room: u32) -> Result<(Option<When>, Place), Stop>
+        ensures { IsRead action_end_view result self.new.rest.now
+            (read_action_end room self.old.rest.now) }
+    {
         let when = self.optional_when(room)?;
         let semicolon = self.expect(Class::Semicolon)?;
+        Ok((when, semicolon))
+    }
+
+    #[tactic(auto, using(crate::proofs::Parts::action_parts))]
+    fn action(&mut self, room: u32) -> Result<Action, Stop>
+        ensures { IsRead action_view result self.new.rest.now (read_action room self.old.rest.now) }
+    {
+        let (guards, colon) = self.action_guards(room)?;
+        let transition = self.transition(room)?;
+        let (when, semicolon) = self.action_end(room)?;
+        let Transition {
+            source,
+            arrow,
+            target,
+        } = transition;
         Ok(Action {
             guards,
             colon,
@@ -303,39 +438,30 @@ impl<'a> Cursor<'a> {
         })
     }
 
-    /// What stands behind the opening brace of a region type.
-    fn region_body(
-        &mut self,
-        room: u32,
-        key: Place,
-        head: Head,
-        brace: Place,
-    ) -> Result<Region, Stop>
-        ensures { IsRead region_view result self.new.rest.now
-            (read_region_body room key (head_view head) brace self.old.rest.now) }
+    fn guarded(&mut self, room: u32) -> Result<Guarded, Stop>
+        ensures { IsRead guarded_view result self.new.rest.now
+            (read_guarded room self.old.rest.now) }
     {
         let guards = self.expect(Class::Guards)?;
         let algebra = self.algebra(room)?;
         let semicolon = self.expect(Class::Semicolon)?;
-        let cases = self.interpretation(room)?;
-        let actions = self.action_group(room)?;
-        let end = self.expect(Class::CloseBrace)?;
-        let Head {
-            name,
-            open,
-            parameters,
-            close,
-        } = head;
-        Ok(Region {
-            key,
-            name,
-            open,
-            parameters,
-            close,
-            brace,
+        Ok(Guarded {
             guards,
             algebra,
             semicolon,
+        })
+    }
+
+    fn region_body(&mut self, room: u32) -> Result<RegionBody, Stop>
+        ensures { IsRead region_body_view result self.new.rest.now
+            (read_region_parts room self.old.rest.now) }
+    {
+        let guarded = self.guarded(room)?;
+        let cases = self.interpretation(room)?;
+        let actions = self.action_group(room)?;
+        let end = self.expect(Class::CloseBrace)?;
+        Ok(RegionBody {
+            guarded,
             cases,
             actions,
             end,
@@ -343,12 +469,14 @@ impl<'a> Cursor<'a> {
     }
 
     /// What `region`, which comes next, begins.
+    #[tactic(auto, using(crate::proofs::Parts::region_parts))]
     pub(crate) fn region(&mut self, room: u32) -> Result<Region, Stop>
         ensures { IsRead region_view result self.new.rest.now (read_region room self.old.rest.now) }
     {
         let key = self.next_place()?;
         let head = self.head(room)?;
         let (inner, brace) = self.opening(room, Class::OpenBrace)?;
-        self.region_body(inner, key, head, brace)
+        let body = self.region_body(inner)?;
+        Ok(region_of(key, head, brace, body))
     }
 }

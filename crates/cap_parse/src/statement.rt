@@ -7,20 +7,45 @@ ghost use Rattle.cap_parse_tree.specs.Views.{behind_view, clause_view, value_vie
 ghost use Rattle.cap_parse_tree.specs.Views.{block_view, else_view};
 ghost use Rattle.cap_parse_laws.specs.Classes.{are_same};
 ghost use Rattle.cap_parse_laws.specs.Grammar.{read_term, read_terms, read_load, read_alloc, read_cas};
-ghost use Rattle.cap_parse_laws.specs.Grammar.{read_named_value, read_value, read_named_statement};
+ghost use Rattle.cap_parse_laws.specs.Grammar.{read_named_value, read_value, named_statement_by};
+ghost use Rattle.cap_parse_laws.specs.Grammar.{read_named_statement};
 ghost use Rattle.cap_parse_laws.specs.Grammar.{read_store, read_fork, read_else, read_branch};
 ghost use Rattle.cap_parse_laws.specs.Grammar.{read_loop, read_check, read_give_back, read_statement};
 ghost use Rattle.cap_parse_laws.specs.Grammar.{read_block_with, block_at, read_clause};
 ghost use Rattle.cap_parse_laws.specs.Readers.{read_more, read_several, read_optional, read_until};
-ghost use Rattle.cap_parse_laws.specs.declared.class.Class.TheVariants.{Comma, Close, Semicolon};
+ghost use Rattle.cap_parse_laws.specs.declared.class.Class.TheVariants.{Comma, Open, Close, Semicolon};
 ghost use Rattle.cap_parse_laws.specs.declared.class.Class.TheVariants.{Invariant, Else as Otherwise};
-ghost use Rattle.cap_parse_laws.specs.declared.class.Class.TheVariants.{CloseBrace};
+ghost use Rattle.cap_parse_laws.specs.declared.class.Class.TheVariants.{CloseBrace, Becomes};
+ghost use Rattle.cap_parse.specs.Parts.{operand_view, read_operand, operands_view, read_operands};
+ghost use Rattle.cap_parse.specs.Parts.{condition_view, read_condition};
 ghost use Rattle.cap_parse.specs.Reads.{IsRead};
 
 use crate::cursor::{Cursor, Stop};
+use crate::term::TermInBrackets;
 use cap_parse_laws::Class;
-use cap_parse_tree::{Block, Clause, Else, Listed, Separated, Statement, Term, Value, Word};
+use cap_parse_tree::{
+    Block, Clause, Comparison, Else, Listed, Separated, Statement, Term, Value, Word,
+};
 use cap_syntax::Place;
+
+/// The three terms of `CAS`, with their commas.
+#[derive(Drop)]
+pub(crate) struct Operands {
+    address: Term,
+    first: Place,
+    expected: Term,
+    second: Place,
+    new: Term,
+}
+
+/// A keyword, and a comparison in parentheses.
+#[derive(Drop)]
+pub(crate) struct Condition {
+    key: Place,
+    open: Place,
+    comparison: Comparison,
+    close: Place,
+}
 
 impl<'a> Cursor<'a> {
     fn more_terms(&mut self, room: u32) -> Result<Vec<(Place, Term)>, Stop>
@@ -68,13 +93,12 @@ impl<'a> Cursor<'a> {
         Ok(Listed { open, parts, close })
     }
 
+    #[tactic(auto, using(crate::proofs::Parts::load_parts))]
     fn load(&mut self, room: u32) -> Result<Value, Stop>
         ensures { IsRead value_view result self.new.rest.now (read_load room self.old.rest.now) }
     {
-        let (inner, open) = self.opening(room, Class::OpenBracket)?;
-        let address = self.term(inner)?;
-        let close = self.expect(Class::CloseBracket)?;
-        Ok(Value::Load(open, address, close))
+        let TermInBrackets { open, term, close } = self.term_in_brackets(room)?;
+        Ok(Value::Load(open, term, close))
     }
 
     /// What `alloc`, which comes next, begins.
@@ -88,18 +112,49 @@ impl<'a> Cursor<'a> {
         Ok(Value::Alloc(key, open, cells, close))
     }
 
+    /// A term, and a comma behind it.
+    fn operand(&mut self, room: u32) -> Result<(Term, Place), Stop>
+        ensures { IsRead operand_view result self.new.rest.now
+            (read_operand room self.old.rest.now) }
+    {
+        let term = self.term(room)?;
+        let comma = self.expect(Class::Comma)?;
+        Ok((term, comma))
+    }
+
+    #[tactic(auto, using(crate::proofs::Parts::operands_parts))]
+    fn operands(&mut self, room: u32) -> Result<Operands, Stop>
+        ensures { IsRead operands_view result self.new.rest.now
+            (read_operands room self.old.rest.now) }
+    {
+        let (address, first) = self.operand(room)?;
+        let (expected, second) = self.operand(room)?;
+        let new = self.term(room)?;
+        Ok(Operands {
+            address,
+            first,
+            expected,
+            second,
+            new,
+        })
+    }
+
     /// What `CAS`, which comes next, begins.
+    #[tactic(auto, using(crate::proofs::Parts::cas_parts))]
     fn cas(&mut self, room: u32) -> Result<Value, Stop>
         ensures { IsRead value_view result self.new.rest.now (read_cas room self.old.rest.now) }
     {
         let key = self.next_place()?;
         let (inner, open) = self.opening(room, Class::Open)?;
-        let address = self.term(inner)?;
-        let first = self.expect(Class::Comma)?;
-        let expected = self.term(inner)?;
-        let second = self.expect(Class::Comma)?;
-        let new = self.term(inner)?;
+        let operands = self.operands(inner)?;
         let close = self.expect(Class::Close)?;
+        let Operands {
+            address,
+            first,
+            expected,
+            second,
+            new,
+        } = operands;
         Ok(Value::Cas(key, open, address, first, expected, second, new, close))
     }
 
@@ -132,38 +187,50 @@ impl<'a> Cursor<'a> {
         }
     }
 
+    /// A name, behind which `:=`, which comes next, and a value come.
+    fn assignment(&mut self, room: u32, name: Word) -> Result<Statement, Stop>
+        ensures { IsRead statement_view result self.new.rest.now
+            (named_statement_by room name Becomes self.old.rest.now) }
+    {
+        let becomes = self.next_place()?;
+        let value = self.value(room)?;
+        let semicolon = self.expect(Class::Semicolon)?;
+        Ok(Statement::Assign(name, becomes, value, semicolon))
+    }
+
+    /// A name, behind which the arguments of a call come.
+    fn call_statement(&mut self, room: u32, name: Word) -> Result<Statement, Stop>
+        ensures { IsRead statement_view result self.new.rest.now
+            (named_statement_by room name Open self.old.rest.now) }
+    {
+        let arguments = self.terms(room)?;
+        let semicolon = self.expect(Class::Semicolon)?;
+        Ok(Statement::Call(name, arguments, semicolon))
+    }
+
     /// A name, behind which a value or the arguments of a call come.
     fn named_statement(&mut self, room: u32, name: Word) -> Result<Statement, Stop>
         ensures { IsRead statement_view result self.new.rest.now
             (read_named_statement room name self.old.rest.now) }
     {
         match self.ahead() {
-            Class::Becomes => {
-                let becomes = self.next_place()?;
-                let value = self.value(room)?;
-                let semicolon = self.expect(Class::Semicolon)?;
-                Ok(Statement::Assign(name, becomes, value, semicolon))
-            }
-            Class::Open => {
-                let arguments = self.terms(room)?;
-                let semicolon = self.expect(Class::Semicolon)?;
-                Ok(Statement::Call(name, arguments, semicolon))
-            }
+            Class::Becomes => self.assignment(room, name),
+            Class::Open => self.call_statement(room, name),
             _ => Err(Stop::Unexpected),
         }
     }
 
+    #[tactic(auto, using(crate::proofs::Parts::store_parts))]
     fn store(&mut self, room: u32) -> Result<Statement, Stop>
         ensures { IsRead statement_view result self.new.rest.now
             (read_store room self.old.rest.now) }
     {
-        let (inner, open) = self.opening(room, Class::OpenBracket)?;
-        let address = self.term(inner)?;
-        let close = self.expect(Class::CloseBracket)?;
+        let address = self.term_in_brackets(room)?;
         let becomes = self.expect(Class::Becomes)?;
         let value = self.term(room)?;
         let semicolon = self.expect(Class::Semicolon)?;
-        Ok(Statement::Store(open, address, close, becomes, value, semicolon))
+        let TermInBrackets { open, term, close } = address;
+        Ok(Statement::Store(open, term, close, becomes, value, semicolon))
     }
 
     /// What `fork`, which comes next, begins.
@@ -250,33 +317,58 @@ impl<'a> Cursor<'a> {
         }
     }
 
-    /// What `if`, which comes next, begins.
-    #[cycle(statements)]
-    fn branch(&mut self, room: u32) -> Result<Statement, Stop>
-        ensures { IsRead statement_view result self.new.rest.now
-            (read_branch (block_at room) room self.old.rest.now) }
+    /// A keyword, which comes next, and a condition.
+    fn condition(&mut self, room: u32) -> Result<Condition, Stop>
+        ensures { IsRead condition_view result self.new.rest.now
+            (read_condition room self.old.rest.now) }
     {
         let key = self.next_place()?;
         let (inner, open) = self.opening(room, Class::Open)?;
         let comparison = self.comparison(inner)?;
         let close = self.expect(Class::Close)?;
+        Ok(Condition {
+            key,
+            open,
+            comparison,
+            close,
+        })
+    }
+
+    /// What `if`, which comes next, begins.
+    #[cycle(statements)]
+    #[tactic(auto, using(crate::proofs::Parts::branch_parts))]
+    fn branch(&mut self, room: u32) -> Result<Statement, Stop>
+        ensures { IsRead statement_view result self.new.rest.now
+            (read_branch (block_at room) room self.old.rest.now) }
+    {
+        let condition = self.condition(room)?;
         let block = self.block(room)?;
         let otherwise = self.optional_else(room)?;
+        let Condition {
+            key,
+            open,
+            comparison,
+            close,
+        } = condition;
         Ok(Statement::If(key, open, comparison, close, block, otherwise))
     }
 
     /// What `while`, which comes next, begins.
     #[cycle(statements)]
+    #[tactic(auto, using(crate::proofs::Parts::loop_parts))]
     fn repetition(&mut self, room: u32) -> Result<Statement, Stop>
         ensures { IsRead statement_view result self.new.rest.now
             (read_loop (block_at room) room self.old.rest.now) }
     {
-        let key = self.next_place()?;
-        let (inner, open) = self.opening(room, Class::Open)?;
-        let comparison = self.comparison(inner)?;
-        let close = self.expect(Class::Close)?;
+        let condition = self.condition(room)?;
         let invariant = self.optional_clause(room, Class::Invariant)?;
         let block = self.block(room)?;
+        let Condition {
+            key,
+            open,
+            comparison,
+            close,
+        } = condition;
         Ok(Statement::While(key, open, comparison, close, invariant, block))
     }
 

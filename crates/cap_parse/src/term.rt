@@ -14,6 +14,8 @@ ghost use Rattle.cap_parse_laws.specs.Classes.{are_same};
 ghost use Rattle.cap_parse_laws.specs.Readers.{ahead, next_place, read_more, read_optional};
 ghost use Rattle.cap_parse_laws.specs.Readers.{read_while, read_behind};
 ghost use Rattle.cap_parse_laws.specs.declared.class.Class.TheVariants.{Star, Minus};
+ghost use Rattle.cap_parse.specs.Parts.{term_in_brackets_view, read_term_in_brackets};
+ghost use Rattle.cap_parse.specs.Parts.{slot_in_brackets_view, read_slot_in_brackets};
 ghost use Rattle.cap_parse.specs.Reads.{IsRead};
 
 use crate::cursor::{Cursor, Stop};
@@ -22,6 +24,22 @@ use cap_parse_tree::{
     Addend, Comparison, Factor, Product, Relation, Sign, Slot, Term, Times, Word,
 };
 use cap_syntax::Place;
+
+/// A term in square brackets.
+#[derive(Drop)]
+pub(crate) struct TermInBrackets {
+    pub(crate) open: Place,
+    pub(crate) term: Term,
+    pub(crate) close: Place,
+}
+
+/// A slot in square brackets.
+#[derive(Drop)]
+pub(crate) struct SlotInBrackets {
+    pub(crate) open: Place,
+    pub(crate) slot: Slot,
+    pub(crate) close: Place,
+}
 
 impl<'a> Cursor<'a> {
     #[cycle(terms)]
@@ -217,5 +235,25 @@ impl<'a> Cursor<'a> {
             Class::Wildcard => Ok(Slot::Any(self.next_place()?)),
             _ => Ok(Slot::Is(self.term(room)?)),
         }
+    }
+
+    pub(crate) fn term_in_brackets(&mut self, room: u32) -> Result<TermInBrackets, Stop>
+        ensures { IsRead term_in_brackets_view result self.new.rest.now
+            (read_term_in_brackets room self.old.rest.now) }
+    {
+        let (inner, open) = self.opening(room, Class::OpenBracket)?;
+        let term = self.term(inner)?;
+        let close = self.expect(Class::CloseBracket)?;
+        Ok(TermInBrackets { open, term, close })
+    }
+
+    pub(crate) fn slot_in_brackets(&mut self, room: u32) -> Result<SlotInBrackets, Stop>
+        ensures { IsRead slot_in_brackets_view result self.new.rest.now
+            (read_slot_in_brackets room self.old.rest.now) }
+    {
+        let (inner, open) = self.opening(room, Class::OpenBracket)?;
+        let slot = self.slot(inner)?;
+        let close = self.expect(Class::CloseBracket)?;
+        Ok(SlotInBrackets { open, slot, close })
     }
 }
