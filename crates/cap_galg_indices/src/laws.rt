@@ -1,5 +1,6 @@
 //! Laws of sets of indices, each the contract of a function that does nothing.
-ghost use Rattle.std.specs.Prelude.{◌≡◌, ◌↔◌, ◌≤◌, ◌==◌, ◌&&◌, ℕ, List, [], true, false, nat_le};
+ghost use Rattle.std.specs.Prelude.{◌≡◌, ◌↔◌, ◌≤◌, ◌==◌, ◌&&◌, nat_le};
+ghost use Rattle.std.specs.Prelude.{ℕ, List, [], true, false};
 ghost use Rattle.std.specs.Prelude.{nat_lt, Some, option_and_then};
 ghost use Rattle.cap_galg_indices.specs.Sets.{AreBounds, has, all_indices, one_index, indices_from};
 ghost use Rattle.cap_galg_indices.specs.Sets.{index_range, is_empty, is_full, are_disjoint};
