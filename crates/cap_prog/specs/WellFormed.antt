@@ -8,7 +8,7 @@ use Rattle.cap_galg.specs.Algebras.{PlainAlgebra, unique, divisible, counting, a
 use Rattle.cap_prog.specs.declared.assertion.Slot.{Slot}
 use Rattle.cap_prog.specs.declared.assertion.Asked.{Asked}
 use Rattle.cap_prog.specs.declared.assertion.Asked.TheVariants.{One, Share, Src, Tok}
-use Rattle.cap_prog.specs.Program.{PlainItem, compare, choose, fact, atom, cell, Items, PlainAssertion, PlainCase, PlainAction, PlainRegionType, PlainAct, set, read, write, cas, alloc, call, fork, branch, loop, check, give_back, Block, done, first, PlainFunction, PlainProgram}
+use Rattle.cap_prog.specs.Program.{PlainItem, compare, choose, fact, atom, cell, Items, PlainAssertion, PlainCase, PlainAction, PlainRegionType, PlainAct, set, read, write, cas, faa, dispose, alloc, call, fork, branch, loop, check, give_back, Block, done, first, PlainFunction, PlainProgram}
 use Rattle.cap_prog.specs.Parts.{all_items, sides, items_length, all_statements, blocks, block_length}
 use Rattle.cap_prog.specs.Scopes.{Scope, fixed_start, body_scope, requires_scope, ensures_scope, invariant_scope, region_scope, HasSort, TermFits, SlotFits, CompFits}
 
@@ -124,6 +124,8 @@ ActFits p f (set x t) = IsLocal f x × IsValue f t
 ActFits p f (read x a) = IsLocal f x × IsValue f a
 ActFits p f (write a t) = IsValue f a × IsValue f t
 ActFits p f (cas x a old new) = IsLocal f x × IsValue f a × IsValue f old × IsValue f new
+ActFits p f (faa x a t) = IsLocal f x × IsValue f a × IsValue f t
+ActFits p f (dispose a) = IsValue f a
 ActFits p f (alloc x n) = IsLocal f x × (0 < n) × (n ≤ most_cells)
 ActFits p f (call x g args) = GivesLocal f x × CallFits p f g args
 ActFits p f (fork g args) = CallFits p f g args
