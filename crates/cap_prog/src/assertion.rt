@@ -20,8 +20,8 @@ pub enum Slot {
 }
 
 /// What is asked of a guard: the whole of a unique one; an amount of a divisible one; of a counting
-/// one the source with a count of tokens out, or a count of tokens; of an indexed one an index, or all
-/// indices from one on.
+/// one the source with a count of tokens out, or a count of tokens; of an indexed one an index, or
+/// all indices from one on.
 #[derive(Debug, Drop)]
 pub enum Asked {
     One,
