@@ -8,7 +8,7 @@ use Rattle.cap_goal_spec.specs.States.{PlainFact, PlainEnv, PlainState}
 use Rattle.cap_goal_spec.specs.Environments.{asked_slot, unbound, region_env}
 use Rattle.cap_rules.specs.Attempts.{Attempt, unit, ◌>>=◌}
 use Rattle.cap_rules.specs.Answers.{Answer, applies}
-use Rattle.cap_rules.specs.Making.{determined, determined_slot, prove_comparisons, env_at}
+use Rattle.cap_rules.specs.Making.{determined, determined_slot, prove_comparisons}
 use Rattle.cap_rules.specs.Closing.{match_ready, match_all, parts_of, indexed_of, with_closed}
 
 -- what is known when the indexed atoms' turn comes

@@ -16,10 +16,10 @@ use Rattle.cap_prog.specs.Program.{PlainCase, PlainAction, PlainRegionType}
 use Rattle.cap_goal_spec.specs.Terms.{lone_variable, variables_from}
 use Rattle.cap_goal_spec.specs.States.{PlainFact, PlainEnv, PlainState, PlainTask, to_give, goals_of, with_state}
 use Rattle.cap_goal_spec.specs.Environments.{zero_value, one_value, Reading, settled, open_to, stuck, reading, bind_open, asked_slot, bound, unbound, region_env}
-use Rattle.cap_rules.specs.Attempts.{unit, ◌>>=◌, found, need, not_applicable,  comparison_row, prove_that}
+use Rattle.cap_rules.specs.Attempts.{unit, ◌>>=◌, found, need, not_applicable, comparison_row, prove_that}
 use Rattle.cap_rules.specs.Making.{is_empty, sum, determined_slot, prove_equal, value_here, value_by, determined, rows_by, prove_comparisons, prove_differ, fresh, with_sort, with_sorts, with_rows, with_comparison, with_local, with_env, with_fact}
 use Rattle.cap_rules_ascending.specs.Ascending.{TermAscends, FormAscends, PieceAscends, FactAscends, CellAscends, NameAscends, EnvAscends, StateAscends, TaskAscends, GoalAscends}
-use Rattle.cap_rules_ascending.proofs.Lists.{IfSome, all-get, all-join, all-last, all-set, all-remove, all-find, all-map, all-flat, all-any}
+use Rattle.cap_rules_ascending.proofs.Lists.{all-join, all-last, all-set, all-remove, all-find, all-map, all-flat, all-any}
 use Rattle.cap_rules_ascending.proofs.Terms.{bind-ascends, bound-ascends, unbound-ascends, variables-ascend, region-ascends}
 use Rattle.cap_rules_ascending.proofs.Safe.{IsAny, Safe, chain, of-some, of-none, of-found, found-any, of-get, need-safe, if-safe, comparison-safe, prove-that-safe}
 use Rattle.cap_rules_ascending.proofs.Makings.{sum-safe, here-safe, by-safe, slot-safe, determined-safe, rows-by-safe, comparisons-safe, equal-safe, differ-safe, reading-safe, fresh-ascends, with-sort-safe, with-sorts-safe, with-rows-safe, with-comparison-safe, local-ascends, cells-ascend, with-env-safe, facts-ascend, state-ascends, with-fact-safe}
@@ -195,12 +195,12 @@ all-match : (s : PlainState) (f : PlainFact) (new : Linear) (a : PlainAction) (e
 all-match s f new a env [] h k g e = of-some EnvAscends env e
 all-match s f new a env (x ∷ xs) h k g e = chain (match_part s f new a env x) (λ v. match_all s f new a v xs) (part-match s f new a env x h k g e) (λ v i. all-match s f new a v xs h k g i)
 
-before-safe : (s : PlainState) (o : Option Linear) (i : Linear) → StateAscends s → NameAscends o → TermAscends i → Safe IsAny (prove_below s o i)
-before-safe s None i h k g = of-some IsAny tt tt
-before-safe s (Some e) i h k g = chain (sum i one_value) (λ next. prove_that s.rows next AtMost e Int) (sum-safe i one_value g tt) (λ next j. prove-that-safe s.rows next AtMost e Int h.rows j k)
+below-safe : (s : PlainState) (o : Option Linear) (i : Linear) → StateAscends s → NameAscends o → TermAscends i → Safe IsAny (prove_below s o i)
+below-safe s None i h k g = of-some IsAny tt tt
+below-safe s (Some e) i h k g = chain (sum i one_value) (λ next. prove_that s.rows next AtMost e Int) (sum-safe i one_value g tt) (λ next j. prove-that-safe s.rows next AtMost e Int h.rows j k)
 
 within-safe : (s : PlainState) (x : Asked) (f : Form) (i : Linear) → StateAscends s → FormAscends f → TermAscends i → Safe IsAny (prove_within s x f i)
-within-safe s (At x) (form.Span a o) i h k g = chain (prove_that s.rows a AtMost i Int) (λ u. prove_below s o i) (prove-that-safe s.rows a AtMost i Int h.rows k.0 g) (λ u j. before-safe s o i h k.1 g)
+within-safe s (At x) (form.Span a o) i h k g = chain (prove_that s.rows a AtMost i Int) (λ u. prove_below s o i) (prove-that-safe s.rows a AtMost i Int h.rows k.0 g) (λ u j. below-safe s o i h k.1 g)
 within-safe s (From x) (form.Span a None) i h k g = prove-that-safe s.rows a AtMost i Int h.rows k.0 g
 within-safe s x f i h k g = of-none IsAny
 

@@ -24,13 +24,13 @@ use Rattle.cap_goal_spec.specs.States.{PlainFact, PlainState, with_state}
 use Rattle.cap_goal_spec.specs.Environments.{zero_value, one_value, region_env}
 use Rattle.cap_rules.specs.Attempts.{unit, ◌>>=◌, computed, found, need, comparison_row, prove, prove_that}
 use Rattle.cap_rules.specs.Making.{sum, with_sort, with_rows}
-use Rattle.cap_rules_ascending.specs.Ascending.{TermAscends, NameAscends, RowAscends, FormAscends, PieceAscends, FactAscends, StateAscends}
+use Rattle.cap_rules_ascending.specs.Ascending.{TermAscends, RowAscends, FormAscends, PieceAscends, FactAscends, StateAscends}
 use Rattle.cap_rules_ascending.proofs.Lists.{IfSome, all-join, all-cons, all-get-or, all-set, all-flat, all-any}
 use Rattle.cap_rules_ascending.proofs.Terms.{variable-ascends, plus-ascends, minus-ascends, over-ascends, replaced-ascends, row-ascends, in-ascends, variables-ascend, region-ascends}
 use Rattle.cap_rules_ascending.proofs.Safe.{IsAny, Safe, chain, of-some, of-computed, of-get, need-safe, comparison-safe, prove-safe, prove-that-safe}
 use Rattle.cap_rules_ascending.proofs.Makings.{sum-safe, rows-if, beside-ascend, with-sort-safe, with-rows-safe, facts-ascend, state-ascends}
 use Rattle.std.specs.Prelude.{◌&&◌}
-use Rattle.cap_gsolve.specs.Merge.{zero_term, one_term, there, beside, added_rows}
+use Rattle.cap_gsolve.specs.Merge.{zero_term, one_term, there, beside}
 use Rattle.cap_gsolve.specs.Compat.{wanted_alone, off_rows, wanted_beside, share_there, fits_rows, one_rows, wanted_rows, clashes_some, compat, compat_steps}
 use Rattle.cap_goal_spec.specs.Candidates.{form_bounds, piece_bounds, MadeRow, bounds_by, action_bounds, all_candidates, without_repeats, is_made, repeats, later_state, candidates, is_over_params}
 use Rattle.cap_rules.specs.Resting.{Names, names_below, ask_slot, ask, ask_all, first_names, action_names, value_over, rows_over, want_slot, want_form, want_all, joined_rows, system, named_candidates, prove_at, prove_closed, prove_stable, with_settled, settle, prove_same, prove_kept, keep}

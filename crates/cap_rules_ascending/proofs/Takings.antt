@@ -10,7 +10,7 @@ use Rattle.cap_galg.specs.Algebras.{PlainAlgebra, unique, divisible, counting, i
 use Rattle.cap_gsolve.specs.declared.piece.Form.{Form}
 use Rattle.cap_gsolve.specs.declared.piece.Form.TheVariants as form
 use Rattle.cap_gsolve.specs.declared.piece.Piece.{Piece}
-use Rattle.cap_gsolve.specs.Pieces.{piece, same_part, full_forms, full_pieces}
+use Rattle.cap_gsolve.specs.Pieces.{piece, full_forms, full_pieces}
 use Rattle.cap_prog.specs.declared.assertion.Asked.{Asked}
 use Rattle.cap_prog.specs.declared.assertion.Asked.TheVariants.{One, Share, Src, Tok, At, From}
 use Rattle.cap_prog.specs.Program.{PlainCase, PlainRegionType, PlainProgram}
