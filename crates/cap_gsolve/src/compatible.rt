@@ -67,9 +67,8 @@ fn are_endless(there: &Form, wanted: &Form) -> bool
 fn is_endless_there(pieces: &[Piece], region: &Term, kind: u32, atom: u32, wanted: &Form) -> bool
     ensures { result ≡ meets_endless pieces.now (made_piece region.now kind atom wanted.now) }
 {
-    pieces
-        .iter()
-        .any(|piece| piece.is_of_atom(region, kind, atom) && are_endless(&piece.form, wanted))
+    pieces.iter().any(|piece| piece.is_of_atom(region, kind, atom)
+        && are_endless(&piece.form, wanted))
 }
 
 // Whether a wanted form never composes with the pieces.
@@ -248,12 +247,14 @@ fn push_all(
 }
 
 /// Rows that hold where wanted forms, each of an atom, compose with the pieces of a region: that a
-/// wanted share is above 0 and, with the share of its atom that is there, at most 1; and that a
-/// wanted count is at least 0 and tokens are at most as many as their source has out. Nothing comes
-/// where some wanted form never composes: the source or the unique guard where it is there, or
-/// surely some part where a piece on another side of a sum is surely some part. Wide comes where a
-/// sum or a row's number leaves 128 bits, with the first such number's operands. Where the wanted
-/// forms' elements compose with the pieces', rows come, and they hold.
+/// wanted share is above 0 and, with the share of its atom that is there, at most 1; that a wanted
+/// count is at least 0 and tokens are at most as many as their source has out; and that a wanted
+/// span starts at 0 or later and, where it is one index, differs from each span of one index of its
+/// atom, and comes before one without an end. Nothing comes where some wanted form never composes:
+/// the source, the unique guard or a span without an end where there is one, or surely some part
+/// where a piece on another side of a sum is surely some part. Wide comes where a sum or a row's
+/// number leaves 128 bits, with the first such number's operands. Where the wanted forms' elements
+/// compose with the pieces', rows come, and they hold.
 pub fn compat(
     alloc: Global,
     algebra: &Algebra,

@@ -8,9 +8,9 @@ ghost use Rattle.cap_gsolve.specs.Pieces.{is_single, is_surely_some};
 use cap_lin::Term;
 use std::alloc::{AllocError, Global};
 
-/// How much of one guard, by terms: all of a unique one, a fraction of a divisible one; of a counting
-/// one, the source with some tokens out, or some tokens; of an indexed one, the indices from a start
-/// on that are below an end, or all where there is none.
+/// How much of one guard, by terms: all of a unique one, a fraction of a divisible one; of a
+/// counting one, the source with some tokens out, or some tokens; of an indexed one, the indices
+/// from a start on that are below an end, or all where there is none.
 #[derive(Debug, Drop)]
 pub enum Form {
     One,
@@ -158,7 +158,8 @@ pub fn has_one(start: &Term, end: &Option<Term>) -> bool
 {
     match end {
         None => false,
-        Some(end) => same_but_constant(start, end) && follows(start.constant_part(), end.constant_part()),
+        Some(end) => same_but_constant(start, end)
+            && follows(start.constant_part(), end.constant_part()),
     }
 }
 

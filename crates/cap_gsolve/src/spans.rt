@@ -11,12 +11,7 @@ use cap_lin::{LinError, Op, Row, Sort, Term};
 use std::alloc::Global;
 
 // What holds of a new span and one of its atom that is there.
-fn push_parted(
-    alloc: Global,
-    rows: &mut Vec<Row>,
-    there: &Form,
-    new: &Form,
-) -> Result<(), LinError>
+fn push_parted(alloc: Global, rows: &mut Vec<Row>, there: &Form, new: &Form) -> Result<(), LinError>
     ensures { IsMade result (parted_steps there.now new.now)
         (λ _. Pushes rows.old rows.new (parted_rows there.now new.now)) }
 {
