@@ -1,6 +1,6 @@
 -- What an action asks for, as forms over variables: each `_` gets a variable of its value.
 use Rattle.cap_account_resources.proofs.Order.{grouped}
-use Rattle.std.proofs.Common.{◌≡◌, ℕ, ◌+◌, ◌≤◌, ◌<◌, ℤ, pos, ◌+ℤ◌, ◌*ℤ◌, List, [], ◌∷◌, length, Option, Some, None, sym, ap, ◌∙◌, arith}
+use Rattle.std.proofs.Common.{◌≡◌, ℕ, ◌+◌, ◌≤◌, ◌<◌, ℤ, pos, ◌+ℤ◌, ◌*ℤ◌, List, [], ◌∷◌, length, Option, Some, None, refl, sym, ap, ◌∙◌, arith}
 use Rattle.cap_lin.specs.Linear.{Linear, variable, plus}
 use Rattle.cap_lin.specs.Steps.{plus_steps}
 use Rattle.cap_lin.specs.Values.{Valuation, denominator, value, amount}

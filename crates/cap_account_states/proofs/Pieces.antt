@@ -96,7 +96,7 @@ split-at a k v n (r ∷ ps) (suc j) q (x ∷ xs) u e h c =
       joined = s3.outer;
       whole =
           swapped s2.middle m.own (Some u) (sound-composed x m.others s2.middle sx sw s2.inner) so
-              s2.outer;
+          s2.outer;
     }
 
 -- other pieces in its place
