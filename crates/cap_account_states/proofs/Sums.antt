@@ -224,6 +224,7 @@ sum-within :
 sum-within unique w i h n x e = absurd (none-some e)
 sum-within divisible w i h n x e = absurd (none-some e)
 sum-within counting w i h n x e = absurd (none-some e)
+sum-within indexed w i h n x e = absurd (none-some e)
 sum-within (product a b) w i h n x e =
     let j = i + atoms a in
     let m = n - sum_count a in
