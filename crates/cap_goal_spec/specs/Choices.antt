@@ -3,7 +3,8 @@ use Rattle.std.specs.Prelude.{ℕ, List, [], ◌∷◌, ◌++◌, Option, Some, 
 use Rattle.cap_farkas.specs.declared.cert.Cert.{Cert}
 
 -- numbers are of cells, facts, pieces, opened regions, cases, sums and candidates from 0, and of
--- moves: 0 for none, else an action from 1; a shift names a piece for each indexed atom of its action
+-- moves: 0 for none, else an action from 1; a shift names a piece for each indexed atom of its
+-- action
 pub data PlainChoice : Type 0 where
   by_absurd : Cert → PlainChoice
   by_clash : ℕ → ℕ → List Cert → PlainChoice

@@ -52,7 +52,8 @@ abbrev pub spans_by :
 spans_by s o f x env a [] = done (Some [])
 spans_by s o f x env a (g ∷ gs) = do
   cs ← certified_by
-      (with_lists (owed_lists (up_to_spans s f x env a).events) (proofs_of (but_spans s o f x env a)))
+      (with_lists (owed_lists (up_to_spans s f x env a).events)
+      (proofs_of (but_spans s o f x env a)))
   spans_at s f (g ∷ gs) (up_to_spans s f x env a).value cs
 
 abbrev pub spans_of :

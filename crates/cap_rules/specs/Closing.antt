@@ -300,7 +300,8 @@ match_spans s f env (g ∷ gs) (j ∷ js) = do
   _ ← prove_within s g.1 q.form i
   match_spans s f env gs js
 
--- the parts that don't wait, then those that did, then the indexed atoms, and the action's comparisons
+-- the parts that don't wait, then those that did, then the indexed atoms, and the action's
+-- comparisons
 abbrev pub prove_action :
     PlainState → PlainFact → Linear → PlainAction → List ℕ → Attempt (Unit {0})
 prove_action s f new a spans = do

@@ -22,9 +22,9 @@ pub fn successes_are_subgoals()
     ensures { SuccessesAreSubgoals }
 {}
 
-/// The derivations of an empty program, of one that asserts `0 <= 1`, of one that adds to a cell and
-/// disposes of it, and of the body of a function that makes a region are valid, and a move applies
-/// that takes an index out of a span.
+/// The derivations of an empty program, of one that asserts `0 <= 1`, of one that adds to a cell
+/// and disposes of it, and of the body of a function that makes a region are valid, and a move
+/// applies that takes an index out of a span.
 pub fn examples_are_valid()
     ensures { ValidExamples }
 {}
