@@ -151,8 +151,8 @@ onwards-taken = record {
 not-held : (rest : Option Guard) → ¬ LeavesOf (at_number (pos 4)) (one_index 3) rest
 not-held rest t =
     false-true
-    (taken-within (at_number (pos 4)) flag_values (at_number (pos 4)) (one_index 4) (one_index 3) rest t
-    (asked-index flag_values 4 t.element t.is_asked) (one-bounded 4))
+    (taken-within (at_number (pos 4)) flag_values (at_number (pos 4)) (one_index 4) (one_index 3)
+    rest t (asked-index flag_values 4 t.element t.is_asked) (one-bounded 4))
 
 below-nothing : (rest : Option Guard) → ¬ LeavesOf (at_number (negsuc 0)) all_indices rest
 below-nothing rest t =
@@ -173,8 +173,8 @@ index-kept t =
 onwards-not-held : (rest : Option Guard) → ¬ LeavesOf (from_number (pos 0)) (indices_from 1) rest
 onwards-not-held rest t =
     false-true
-    (taken-within (from_number (pos 0)) flag_values (from_number (pos 0)) (indices_from 0) (indices_from 1) rest t
-    (asked-first flag_values 0 t.element t.is_asked) (first-bounded 0))
+    (taken-within (from_number (pos 0)) flag_values (from_number (pos 0)) (indices_from 0)
+    (indices_from 1) rest t (asked-first flag_values 0 t.element t.is_asked) (first-bounded 0))
 
 pub holding : HoldingConditions
 holding = record {

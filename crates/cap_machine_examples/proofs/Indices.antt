@@ -1,9 +1,9 @@
 -- What is asked of an indexed guard, and what is taken of its indices.
-use Rattle.std.proofs.Common.{◌≡◌, ℕ, ℤ, pos, Bool, true, false, List, [], ◌∷◌, Option, Some, None, refl, sym, ap, subst, ◌∙◌, arith}
+use Rattle.std.proofs.Common.{◌≡◌, ℕ, pos, Bool, true, false, List, [], Option, Some, None, refl, sym, ap, subst, ◌∙◌, arith}
 use Rattle.std.specs.Prelude.{◌==◌, if◌then◌else◌, nat_abs}
 use Rattle.cap_lin.specs.Linear.{number}
 use Rattle.cap_lin.specs.Values.{Valuation}
-use Rattle.cap_galg_indices.specs.Sets.{AreBounds, one_index, indices_from, is_empty, is_within}
+use Rattle.cap_galg_indices.specs.Sets.{one_index, indices_from, is_within}
 use Rattle.cap_galg.specs.Elements.{Element, nothing, indices, is_unit, compose, at_most}
 use Rattle.cap_galg.specs.Algebras.{indexed, IsElement}
 use Rattle.cap_galg.specs.Laws.Algebras.{at_most-self, at_most-composed, sound-of}
