@@ -319,7 +319,8 @@ module _ (p : PlainProgram) (ks : List ℕ) (v : Valuation) (s : PlainState) (me
       (λ g h. asked-over sc (atom_algebra k.algebra g.0) g.1 h.form) (indexed_of a) indexed-fit)
       (λ u. Comes (last n.later u) P)
       (comes-bind (match_spans s f n.later (indexed_of a) spans) (last n.later) P n.comes) in
-      let w = comparisons-hold ks sc v s n.later X me n.placed means a.when fits.when P spanned.1 in (
+      let w = comparisons-hold ks sc v s n.later X me n.placed means a.when fits.when P
+      spanned.1 in (
         record {
           values = X;
           args =
