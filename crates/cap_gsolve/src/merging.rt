@@ -12,6 +12,7 @@ use crate::clash::clashes;
 use crate::combine::combine;
 use crate::piece::{Form, Piece, place_of_atom};
 use crate::rows::{push_added, push_false, push_lone};
+use crate::spans::push_all_parted;
 use cap_galg::Algebra;
 use cap_lin::{LinError, Row};
 use std::alloc::{AllocError, Global};
@@ -98,7 +99,8 @@ fn met(
     ensures rows { let found = there pieces.now piece.now in
         OnOk result (Pushes rows.old rows.new (met_rows found piece.now.form)) }
 {
-    match place_of_atom(pieces, &piece.region, piece.kind, piece.atom) {
+    let joins = piece.form.is_joined();
+    match place_of_atom(pieces, &piece.region, piece.kind, piece.atom, joins) {
         Some(place) => joined(alloc, rows, pieces, place, piece),
         None => appended(alloc, rows, pieces, piece),
     }
@@ -139,6 +141,7 @@ fn composed_in(
     let mut rows = Vec::new(alloc);
     push_added(alloc, &mut rows, &piece.form)?;
     let merged = met(alloc, &mut rows, pieces, piece)?;
+    push_all_parted(alloc, &mut rows, pieces, piece)?;
     push_clash(alloc, &mut rows, clash)?;
     Ok((merged, rows))
 }
