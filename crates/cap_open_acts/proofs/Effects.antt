@@ -5,7 +5,7 @@ use Rattle.cap_rules_steps.specs.Walks.{Makes}
 use Rattle.cap_rules_steps.specs.declared.error.RuleError.{RuleError}
 use Rattle.std.proofs.lemmas.List.{append-nil}
 use Rattle.cap_lin.specs.Linear.{Linear}
-use Rattle.cap_prog.specs.Program.{PlainAct, set, read, write, cas, alloc, call, fork, branch, loop, check, give_back}
+use Rattle.cap_prog.specs.Program.{PlainAct, set, read, write, cas, faa, dispose, alloc, call, fork, branch, loop, check, give_back}
 use Rattle.cap_goal_spec.specs.States.{PlainState}
 use Rattle.cap_rules.specs.Attempts.{Event, Attempt}
 use Rattle.cap_rules.specs.Closing.{acted}
@@ -17,11 +17,17 @@ outcome es x = record { events = es; value = Some x }
 ended : {A : Type 0} (es : List Event) (x : A) → outcome ((es ++ []) ++ []) x ≡ outcome (es ++ []) x
 ended es x = ap (λ l. outcome l x) (append-nil (es ++ []))
 
+-- nothing comes behind these events
+no-more : {A : Type 0} (es : List Event) (x : A) → outcome (es ++ []) x ≡ outcome es x
+no-more es x = ap (λ l. outcome l x) (append-nil es)
+
 pub by-kind : (s : PlainState) (j : ℕ) (c : Linear × Linear) (a : PlainAct) → heap_acted_if s j c (heap_act_of a) ≡ acted s j c a
 by-kind s j c (set x t) = refl
 by-kind s j c (read x a) = refl
 by-kind s j c (write a t) = ended _ _
 by-kind s j c (cas x a old new) = refl
+by-kind s j c (faa x a t) = no-more _ _
+by-kind s j c (dispose a) = refl
 by-kind s j c (alloc x n) = refl
 by-kind s j c (call x n args) = refl
 by-kind s j c (fork n args) = refl

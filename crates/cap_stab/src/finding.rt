@@ -161,8 +161,8 @@ pub fn candidates_of(
 /// state, for which the state's next fresh variable stands. First come the state as it is, and then
 /// bounds, from below and from above: by the state as it is, by the states of cases, and by each
 /// action's source and target, as far as they have no name but the region's parameters, and by the
-/// first index of each span of the region's guards. A row that equals an earlier one in term and kind is left out. `Past` comes exactly where the row leaves
-/// 128 bits.
+/// first index of each span of the region's guards. A row that equals an earlier one in term and
+/// kind is left out. `Past` comes exactly where the row leaves 128 bits.
 pub fn candidates(
     alloc: Global,
     program: &Program,

@@ -53,7 +53,8 @@ fn want_index(alloc: Global, names: &[Term], wildcard: u32, slot: &Slot) -> Resu
     ensures { Makes result (form_wanted names.now wildcard (asked_as.At slot.now)) }
 {
     let index = want_slot(alloc, names, wildcard, slot)?;
-    let next = index.add(alloc, &Term::constant(alloc, 1))?;
+    let one = Term::constant(alloc, 1);
+    let next = index.add(alloc, &one)?;
     Ok(Form::Span(index, Some(next)))
 }
 

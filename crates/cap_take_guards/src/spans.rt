@@ -54,14 +54,14 @@ fn prove_end(
 }
 
 // The rule applies only where one piece more has room.
+#[tactic(auto, using(cap_rules_steps::proofs::Walking::making))]
 fn has_room(state: &State) -> Result<(), RuleError>
     ensures { Makes (giving result tt) (room state.now) }
 {
-    if state.guards().len() < LONGEST_LIST {
-        Ok(())
-    } else {
-        Err(RuleError::NotApplicable)
+    if state.guards().len() >= LONGEST_LIST {
+        return Err(RuleError::NotApplicable);
     }
+    Ok(())
 }
 
 // ---- one index
