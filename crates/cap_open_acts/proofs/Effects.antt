@@ -1,6 +1,6 @@
 -- What a statement does to a cell, by its kind.
-use Rattle.std.proofs.Common.{◌≡◌, ℕ, List, [], ◌++◌, Some, refl, ap, subst}
-use Rattle.std.specs.Prelude.{Result}
+use Rattle.std.proofs.Common.{◌≡◌, ℕ, zero, suc, ◌≤◌, arith, List, [], ◌∷◌, ◌++◌, length, Some, refl, ap, subst}
+use Rattle.std.specs.Prelude.{Result, remove}
 use Rattle.cap_rules_steps.specs.Walks.{Makes}
 use Rattle.cap_rules_steps.specs.declared.error.RuleError.{RuleError}
 use Rattle.std.proofs.lemmas.List.{append-nil}
@@ -10,6 +10,7 @@ use Rattle.cap_goal_spec.specs.States.{PlainState}
 use Rattle.cap_rules.specs.Attempts.{Event, Attempt}
 use Rattle.cap_rules.specs.Closing.{acted}
 use Rattle.cap_open_acts.specs.Acts.{heap_act_of, heap_acted_if}
+use Rattle.cap_open_acts.specs.Steps.{disposed}
 
 abbrev outcome : {A : Type 0} → List Event → A → Attempt A
 outcome es x = record { events = es; value = Some x }
@@ -39,3 +40,13 @@ by-kind s j c (give_back t) = refl
 -- an attempt that is the same answers the same
 pub turned : {A : Type 0} (r : Result A RuleError) (o q : Attempt A) → o ≡ q → Makes r o → Makes r q
 turned r o q e h = subst (Makes r) e h
+
+-- where there is no such cell none goes
+none-gone : {A : Type 0} (xs : List A) (i : ℕ) → length xs ≤ i → remove xs i ≡ xs
+none-gone [] zero h = refl
+none-gone [] (suc i) h = refl
+none-gone (x ∷ xs) zero h = absurd (omega arith)
+none-gone (x ∷ xs) (suc i) h = ap (λ ys. x ∷ ys) (none-gone xs i (omega arith))
+
+pub stays : (s : PlainState) (j : ℕ) → length s.cells ≤ j → disposed s j ≡ s
+stays s j h = ap (λ cells. record s { cells = cells }) (none-gone s.cells j h)

@@ -201,9 +201,10 @@ fn dispose(state: &State, number: u32) -> Result<State, AllocError>
     ensures { IfOk result (λ s. s ≡ disposed state.now number) }
 {
     let mut next = state.copy()?;
-    if (number as usize) < next.cells().len() {
-        next.cut_cells(number)?;
+    if number as usize >= next.cells().len() {
+        return Ok(next);
     }
+    next.cut_cells(number)?;
     Ok(next)
 }
 

@@ -42,10 +42,12 @@ guard_part g = guard g.0 g.1
 abbrev pub parts_plain : List (ℕ × Asked) → List MovePart
 parts_plain gs = map (λ g. guard g.0 g.1) (filter (λ g. not (is_indexed g)) gs)
 
--- one indexed atom, out of the piece of this number
-abbrev pub one_span : PlainState → PlainFact → PlainEnv → ℕ × Asked → ℕ → Attempt (Unit {0})
-one_span s f env g j = do
+-- one indexed atom, out of the piece whose number stands at this place
+abbrev pub one_span :
+    PlainState → PlainFact → PlainEnv → ℕ × Asked → List ℕ → ℕ → Attempt (Unit {0})
+one_span s f env g js n = do
   i ← determined_slot env (asked_slot g.1)
+  j ← found (slice_get js n)
   q ← found (slice_get s.before j)
   _ ← need (of_atom f.region f.kind g.0 q)
   prove_within s g.1 q.form i

@@ -1,5 +1,5 @@
 //! Indexed atoms of an action, out of the pieces that a move names.
-ghost use Rattle.std.specs.Prelude.{◌≡◌, filter, slice_get};
+ghost use Rattle.std.specs.Prelude.{◌≡◌, ◌<◌, OnOk, filter, length, slice_get};
 ghost use Rattle.cap_goal_spec.specs.Environments.{asked_slot};
 ghost use Rattle.cap_prog.specs.declared.assertion.Asked.TheVariants.{At, From};
 ghost use Rattle.cap_rules.specs.Attempts.{found, need};
@@ -153,7 +153,18 @@ fn needed(holds: bool) -> Result<(), RuleError>
     }
 }
 
-// An indexed atom of the fact's region, out of the piece of a number.
+// The number at a place, where there is one.
+fn number_at(numbers: &[u32], place: usize) -> Result<u32, RuleError>
+    ensures makes { Makes result (found (slice_get numbers.now place)) }
+    ensures there { OnOk result (place < length numbers.now) }
+{
+    if place >= numbers.len() {
+        return Err(RuleError::NotApplicable);
+    }
+    Ok(numbers[place])
+}
+
+// An indexed atom of the fact's region, out of the piece whose number stands at a place.
 fn match_span(
     alloc: Global,
     ledger: &mut Ledger,
@@ -161,12 +172,15 @@ fn match_span(
     fact: &Fact,
     env: &Env,
     guard: &(u32, Asked),
-    number: u32,
+    spans: &[u32],
+    place: usize,
 ) -> Result<(), RuleError>
-    ensures { Claims (giving result tt) ledger.old ledger.new
-        (one_span state.now fact.now env.now guard.now number) }
+    ensures claims { Claims (giving result tt) ledger.old ledger.new
+        (one_span state.now fact.now env.now guard.now spans.now place) }
+    ensures there { OnOk result (place < length spans.now) }
 {
     let index = index_of(alloc, env, &guard.1)?;
+    let number = number_at(spans, place)?;
     let piece = piece_before(state, number)?;
     needed(piece.is_of_atom(&fact.region, fact.kind, guard.0))?;
     prove_within(alloc, ledger, state, &guard.1, &piece.form, &index)
@@ -189,11 +203,7 @@ pub(crate) fn match_spans(
     let mut named = 0;
     for guard in guards {
         if asks_indices(&guard.1) {
-            if named == spans.len() {
-                index_of(alloc, env, &guard.1)?;
-                return Err(RuleError::NotApplicable);
-            }
-            match_span(alloc, ledger, state, fact, env, guard, spans[named])?;
+            match_span(alloc, ledger, state, fact, env, guard, spans, named)?;
             named += 1;
         }
     }

@@ -5,7 +5,7 @@ ghost use Rattle.cap_lin.specs.Linear.{variable};
 ghost use Rattle.cap_prog.specs.Views.{case_view, action_view, region_view, program_view};
 ghost use Rattle.cap_goal_spec.specs.States.{longest_list};
 ghost use Rattle.cap_goal_spec.specs.Candidates.{candidate_of, later_state as later_of};
-ghost use Rattle.cap_goal_spec.specs.Candidates.{piece_bounds};
+ghost use Rattle.cap_goal_spec.specs.Candidates.{form_bounds, piece_bounds};
 ghost use Rattle.cap_goal_spec.specs.Fits.{StateFits};
 ghost use Rattle.cap_stab.specs.Finding.{added, bounds_among, action_bounds_among};
 ghost use Rattle.cap_stab.specs.Finding.{candidates_seen, candidates_at};
@@ -82,6 +82,26 @@ fn add_action_bounds(
     Ok(())
 }
 
+// Adds bounds by the first index of a span.
+fn add_form_bounds(
+    alloc: Global,
+    all: &mut Vec<Candidate>,
+    later: &Term,
+    form: &Form,
+) -> Result<(), AllocError>
+    ensures { OnOk result (candidates_view all.new.items
+        ≡ fold added (candidates_view all.old.items)
+        (map candidate_of (form_bounds later.now form.now))) }
+{
+    match form {
+        Form::Span(start, _) => add_bounds(alloc, all, later, start),
+        Form::One => Ok(()),
+        Form::Share(_) => Ok(()),
+        Form::Src(_) => Ok(()),
+        Form::Tok(_) => Ok(()),
+    }
+}
+
 // Adds bounds by the first index of a span of the guards of the fact's region.
 fn add_piece_bounds(
     alloc: Global,
@@ -94,12 +114,10 @@ fn add_piece_bounds(
         ≡ fold added (candidates_view all.old.items)
         (map candidate_of (piece_bounds fact.now later.now piece.now))) }
 {
-    if !piece.is_of(&fact.region, fact.kind) {
-        return Ok(());
-    }
-    match &piece.form {
-        Form::Span(start, _) => add_bounds(alloc, all, later, start),
-        Form::One | Form::Share(_) | Form::Src(_) | Form::Tok(_) => Ok(()),
+    if piece.is_of(&fact.region, fact.kind) {
+        add_form_bounds(alloc, all, later, &piece.form)
+    } else {
+        Ok(())
     }
 }
 
