@@ -189,9 +189,9 @@ fn add(
     ensures { Makes result (added state.now number cell.now local term.now) }
 {
     let more = value_here(alloc, state, term)?;
-    let content = cell.1.add(alloc, &more)?;
+    let sum = cell.1.add(alloc, &more)?;
     let mut next = state.copy()?;
-    with_content(alloc, &mut next, number, cell, content)?;
+    with_content(alloc, &mut next, number, cell, sum)?;
     with_local(&mut next, local, cell.1.copy(alloc)?)?;
     Ok(next)
 }

@@ -149,8 +149,8 @@ fn give_index(alloc: Global, state: &mut State, env: u32, slot: &Slot) -> Result
     ensures { Makes (gives result state.new) (form_given state.old env (asked_as.At slot.now)) }
 {
     let index = give_slot(alloc, state, env, Sort::Int, slot)?;
-    let one = Term::constant(alloc, 1);
-    let next = index.add(alloc, &one)?;
+    let step = Term::constant(alloc, 1);
+    let next = index.add(alloc, &step)?;
     Ok(Form::Span(index, Some(next)))
 }
 

@@ -1,5 +1,5 @@
 -- What stands in the place of a piece.
-use Rattle.std.proofs.Common.{◌≡◌, ◌<◌, ℕ, zero, suc, List, [], ◌∷◌, ◌++◌, take, drop, length, add-one, Some, None, refl, ap, ◌∙◌, arith}
+use Rattle.std.proofs.Common.{◌≡◌, ◌<◌, ◌≤◌, ◌⊎◌, inl, inr, subst, ℕ, zero, suc, List, [], ◌∷◌, ◌++◌, take, drop, length, add-one, Some, None, refl, ap, ◌∙◌, arith}
 use Rattle.std.specs.Prelude.{slice_get, slice_set, insert, if◌then◌else◌, IfOk, Result, Ok, Err}
 use Rattle.std.specs.Result.{is_ok}
 use Rattle.cap_gsolve.specs.declared.piece.Form.{Form}
@@ -8,6 +8,9 @@ use Rattle.cap_goal_spec.specs.States.{PlainState}
 use Rattle.cap_rules.specs.Attempts.{found}
 use Rattle.cap_rules.specs.Taking.{with_form}
 use Rattle.cap_rules_steps.specs.Walks.{Makes}
+use Rattle.cap_take_guards.specs.declared.cuts.Left.{Left}
+use Rattle.cap_take_guards.specs.declared.cuts.Left.TheVariants.{Both}
+use Rattle.cap_take_guards.specs.Views.{left_view}
 use Rattle.cap_take_guards.specs.Cuts.{with_left}
 
 set-at : {X : Type 0} (xs : List X) (i : ℕ) (y : X) → i < length xs → slice_set xs i y ≡ take i xs ++ (y ∷ drop (suc i) xs)
@@ -61,3 +64,7 @@ insert-left (Ok x) s t u j p p' q f g h k l m e =
     ∙ (ap (λ y. record s { guards = insert (slice_set s.guards j y) (j + 1) p' }) k
     ∙ (ap (λ y. record s { guards = insert (slice_set s.guards j (with_form q f)) (j + 1) y }) l ∙ two-left s j q f g h)))
 insert-left (Err v) s t u j p p' q f g h k l m e = tt
+
+-- where two forms stay, not at most one does
+pub room-for-two : {B : Type 0} (f g : Form) (l : Left) → l ≡ Both f g → (length (left_view l) ≤ 1) ⊎ B → B
+room-for-two {B} f g l e h = elim (subst (λ (m : Left). (length (left_view m) ≤ 1) ⊎ B) e h) as (λ _. B) [ inl n ↦ absurd (omega (arith, n)) | inr b ↦ b ]

@@ -17,8 +17,12 @@ fn has_end(form: &Form) -> bool
     ensures { result ≡ ends form.now }
 {
     match form {
-        Form::Span(_, end) => end.is_some(),
-        Form::One | Form::Share(_) | Form::Src(_) | Form::Tok(_) => false,
+        Form::Span(_, Some(_)) => true,
+        Form::Span(_, None) => false,
+        Form::One => false,
+        Form::Share(_) => false,
+        Form::Src(_) => false,
+        Form::Tok(_) => false,
     }
 }
 
@@ -56,8 +60,8 @@ fn prove_full(
             prove_that(alloc, ledger, rows, count, Op::Eq, &zero, Sort::Int)
         }
         Form::Span(start, None) => {
-            let zero = Term::constant(alloc, 0);
-            prove_that(alloc, ledger, rows, start, Op::Eq, &zero, Sort::Int)
+            let first = Term::constant(alloc, 0);
+            prove_that(alloc, ledger, rows, start, Op::Eq, &first, Sort::Int)
         }
         Form::Span(_, Some(_)) => Err(RuleError::NotApplicable),
         Form::Tok(_) => Err(RuleError::NotApplicable),

@@ -1,5 +1,5 @@
 //! Guards that are given up.
-ghost use Rattle.std.specs.Prelude.{◌≡◌, ◌<◌, ◌≤◌, ◌⊎◌, IfOk, length, slice_get};
+ghost use Rattle.std.specs.Prelude.{◌≡◌, ◌<◌, ◌≤◌, ◌⊎◌, [], ◌∷◌, IfOk, length, slice_get};
 ghost use Rattle.cap_goal_spec.specs.Environments.{term_of as term_in_env};
 ghost use Rattle.cap_goal_spec.specs.States.{longest_list};
 ghost use Rattle.cap_rules.specs.Attempts.{found, need};
@@ -74,6 +74,27 @@ fn with_form(alloc: Global, piece: &Piece, form: Form) -> Result<Piece, AllocErr
     })
 }
 
+// Two forms stay of the piece of a number.
+fn put_both(
+    alloc: Global,
+    state: &mut State,
+    number: u32,
+    piece: &Piece,
+    front: Form,
+    behind: Form,
+) -> Result<(), AllocError>
+    requires there { number < length state.old.guards }
+    requires room { length state.old.guards < longest_list }
+    ensures { IfOk result (λ _. state.new
+        ≡ left_there state.old number piece.now (front ∷ (behind ∷ []))) }
+{
+    let first = with_form(alloc, piece, front)?;
+    let second = with_form(alloc, piece, behind)?;
+    state.put_guards(number, first)?;
+    let next = number + 1;
+    state.insert_guards(next, second)
+}
+
 // This stays of the piece of a number.
 fn with_left(
     alloc: Global,
@@ -90,10 +111,7 @@ fn with_left(
     match left {
         Left::Nothing => state.cut_guards(number),
         Left::One(form) => state.put_guards(number, with_form(alloc, piece, form)?),
-        Left::Both(front, behind) => {
-            state.put_guards(number, with_form(alloc, piece, front)?)?;
-            state.insert_guards(number + 1, with_form(alloc, piece, behind)?)
-        }
+        Left::Both(front, behind) => put_both(alloc, state, number, piece, front, behind),
     }
 }
 

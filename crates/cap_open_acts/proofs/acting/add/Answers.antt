@@ -8,10 +8,10 @@ returns-in_err-more c =
     let p = err_from_is_err_and c.from_residual.result c.from_residual.ensures.1 in
     rw (p.1, p.2) (wide _ _ _ c.in_err-more.ensures)
 
-pub returns-in_err-content : goal.returns-in_err-content
-returns-in_err-content c =
-    let p = err_from_is_err_and c.from_residual-in_err-content.result c.from_residual-in_err-content.ensures.1 in
-    let m = rw c.in_ok-more.ensures.1 at c.in_err-content.ensures.exact in
+pub returns-in_err-sum : goal.returns-in_err-sum
+returns-in_err-sum c =
+    let p = err_from_is_err_and c.from_residual-in_err-sum.result c.from_residual-in_err-sum.ensures.1 in
+    let m = rw c.in_ok-more.ensures.1 at c.in_err-sum.ensures.exact in
     rw (p.1, p.2) (then_narrow _ _ _ c.in_ok-more.ensures.0 (wide _ _ _ m))
 
 pub returns-in_err-next : goal.returns-in_err-next
@@ -36,6 +36,6 @@ returns-in_err-with_local c =
 
 pub returns : goal.returns
 returns c =
-    let k = rw c.in_ok-more.ensures.1 at c.in_ok-content.ensures.exact in
+    let k = rw c.in_ok-more.ensures.1 at c.in_ok-sum.ensures.exact in
     let e = rw (c.in_ok-with_content.ensures, c.in_ok-next.ensures, k.1, c.in_ok-copy.ensures) at c.in_ok-with_local.ensures in
     then_narrow _ _ _ c.in_ok-more.ensures.0 (then_narrow _ _ _ k.0 (done_as _ _ e))
