@@ -208,9 +208,9 @@ fn dispose(state: &State, number: u32) -> Result<State, AllocError>
     Ok(next)
 }
 
-/// What a statement does to the cell at its address: it reads it into a local, writes a term, swaps a
-/// new term in for an old one and tells a local so, reads it into a local and adds a term, or disposes
-/// of it.
+/// What a statement does to the cell at its address: it reads it into a local, writes a term, swaps
+/// a new term in for an old one and tells a local so, reads it into a local and adds a term, or
+/// disposes of it.
 #[derive(Clone, Copy)]
 pub(crate) enum HeapAct<'a> {
     Read(u32),
