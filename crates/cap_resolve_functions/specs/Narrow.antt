@@ -75,6 +75,7 @@ IsNarrowValue scope (value t) = IsNarrow scope t
 IsNarrowValue scope (load p t q) = IsNarrow scope t
 IsNarrowValue scope (alloc p q n r) = n.value < 2 ^ 32
 IsNarrowValue scope (cas p q a c e d f r) = IsNarrow scope a × (IsNarrow scope e × IsNarrow scope f)
+IsNarrowValue scope (faa p q a c e r) = IsNarrow scope a × IsNarrow scope e
 IsNarrowValue scope (result_of w l) = AreNarrow scope (listed_parts l)
 
 abbrev pub IsNarrowReturn : NameScope → Option TermTree → Type 0
@@ -93,6 +94,7 @@ abbrev mutual
       IsNarrowComparison g.body c × (IsNarrowNew g g.loop i × IsNarrowBlock g b)
   IsNarrowStatement g (check p c e) = IsNarrowComparison g.body c
   IsNarrowStatement g (give_back p t e) = IsNarrowReturn g.body t
+  IsNarrowStatement g (dispose p q t r e) = IsNarrow g.body t
 
   pub IsNarrowElse : Context → ElseTree → Type 0
   IsNarrowElse g no_else = Unit {0}

@@ -238,6 +238,7 @@ value_terms (value t) = t ∷ []
 value_terms (load p t q) = t ∷ []
 value_terms (alloc p q n r) = []
 value_terms (cas p q a c e d f r) = a ∷ e ∷ f ∷ []
+value_terms (faa p q a c e r) = a ∷ e ∷ []
 value_terms (result_of w l) = listed_parts l
 
 -- a statement's own terms, without its comparison, its invariant and its blocks
@@ -247,6 +248,7 @@ statement_terms (store p a q r t e) = a ∷ t ∷ []
 statement_terms (call w l e) = listed_parts l
 statement_terms (fork p w l e) = listed_parts l
 statement_terms (give_back p t e) = option_to_list t
+statement_terms (dispose p q t r e) = t ∷ []
 statement_terms _ = []
 
 abbrev pub statement_comparison : StatementTree → Option ComparisonTree

@@ -41,7 +41,7 @@ fn amount_sort(kind: Option<Atom>, atom: &GuardAtom) -> Sort
             GuardAtom::Amount(_, _, _, _) => Sort::Perm,
             GuardAtom::Alone(_) | GuardAtom::Count(_, _, _, _, _, _) => Sort::Int,
         },
-        Some(Atom::Unique) | Some(Atom::Counting) | None => Sort::Int,
+        Some(Atom::Unique) | Some(Atom::Counting) | Some(Atom::Indexed) | None => Sort::Int,
     }
 }
 
