@@ -28,6 +28,8 @@ pub use error::GuardError;
 pub use fraction::Fraction;
 pub use guard::Guard;
 pub use indexed::Indexed;
-pub use laws::{fulls_of_both_sides, parts_are_associative, portions_compose};
+pub use laws::{
+    fulls_of_both_sides, parts_are_associative, portions_compose, sets_of_indices_are_narrow,
+};
 pub use pair::Pair;
 pub use unique::Unique;

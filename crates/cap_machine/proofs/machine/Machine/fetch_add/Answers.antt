@@ -1,5 +1,5 @@
 use Rattle.std.proofs.Common.{rules, ◌∙◌, ap, sym}
-use Rattle.std.specs.Prelude.{◌≡◌, ◌+ℤ◌, Some, false, true}
+use Rattle.std.specs.Prelude.{◌+ℤ◌, false, true}
 use Rattle.std.proofs.lemmas.Result.{err_from_is_err_and}
 use mir.Val.{SFits}
 use mir.Syntax.{w128}
