@@ -6,7 +6,6 @@ ghost use Rattle.cap_parse_tree.specs.Views.{guard_view, held_view, item_view};
 ghost use Rattle.cap_resolve_spec.specs.Finding.{note};
 ghost use Rattle.cap_resolve_spec.specs.Parts.{atom_word as word_of, held_atoms};
 ghost use Rattle.cap_resolve_spec.specs.Items.{has_form as form_is, guard_findings, atom_findings};
-ghost use Rattle.cap_resolve_spec.specs.Items.{counts_indices as indices_counted};
 ghost use Rattle.cap_resolve_spec.specs.Items.{atoms_twice, held_findings, arity_findings};
 ghost use Rattle.cap_resolve_spec.specs.Items.{region_findings, is_other_type as differs, is_own as owns};
 ghost use Rattle.cap_resolve_spec.specs.Items.{item_findings, type_of};
@@ -19,8 +18,8 @@ ghost use Rattle.cap_resolve_findings.specs.Facts.{fact_findings};
 use crate::names::note_repeated;
 use cap_galg::Atom;
 use cap_lin::Sort;
-use cap_parse_tree::{Counted, GuardAtom, Guards, Item, Word};
-use cap_resolve_parts::{Placed, atom_place, atom_word, atoms_held, word_count};
+use cap_parse_tree::{GuardAtom, Guards, Item, Word};
+use cap_resolve_parts::{Placed, atom_place, atom_word, atoms_held, counts_indices, word_count};
 use cap_resolve_tables::{Numbered, RegionTable, Types};
 use cap_resolve_terms::{Cause, Noted, Scope};
 use std::alloc::{AllocError, Global};
@@ -31,16 +30,6 @@ pub struct Reading<'s, 't, 'k, 'a> {
     pub regions: &'t RegionTable<'a>,
     pub types: Types<'s, 't, 'a>,
     pub scope: &'k Scope<'a>,
-}
-
-// Whether what is counted are indices, which stand behind `at` and `from`.
-fn counts_indices(counted: Counted) -> bool
-    ensures { result ≡ indices_counted counted }
-{
-    match counted {
-        Counted::At | Counted::From => true,
-        Counted::Source | Counted::Tokens => false,
-    }
 }
 
 fn has_form(kind: Atom, atom: &GuardAtom) -> bool

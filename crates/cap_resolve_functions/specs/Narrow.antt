@@ -5,7 +5,7 @@ use Rattle.std.specs.List.{AllByRecursion}
 use Rattle.cap_lin.specs.Steps.{first_wide}
 use Rattle.cap_syntax.specs.declared.place.Place.{Place}
 use Rattle.cap_parse_tree.specs.declared.word.Word.{Word}
-use Rattle.cap_parse_tree.specs.Tree.{listed_parts, TermTree, ComparisonTree, SlotTree, any, is, GuardTree, alone, amount, count, ItemTree, holds, fails, fact, guards, cell, compare, choose, ItemTrees, no_item, and_item, AssertionTree, assertion, SideTree, side, ClauseTree, ValueTree, value, load, alloc, cas, result_of, StatementTree, assign, store, call, fork, branch, loop, check, give_back, ElseTree, no_else, else_block, StatementTrees, no_statement, then_statement, BlockTree, block, RegionTree, FunctionTree}
+use Rattle.cap_parse_tree.specs.Tree.{listed_parts, TermTree, ComparisonTree, SlotTree, any, is, GuardTree, alone, amount, count, ItemTree, holds, fails, fact, guards, cell, compare, choose, ItemTrees, no_item, and_item, AssertionTree, assertion, SideTree, side, ClauseTree, ValueTree, value, load, alloc, cas, faa, result_of, StatementTree, assign, store, call, fork, branch, loop, check, give_back, dispose, ElseTree, no_else, else_block, StatementTrees, no_statement, then_statement, BlockTree, block, RegionTree, FunctionTree}
 use Rattle.cap_resolve_spec.specs.Parts.{PlacedItem, held_atoms, block_parts}
 use Rattle.cap_resolve_spec.specs.Names.{NameScope, whole_numbers, hidden}
 use Rattle.cap_resolve_spec.specs.Linear.{term_steps}

@@ -175,6 +175,10 @@ counts_indices At = true
 counts_indices From = true
 counts_indices _ = false
 
+abbrev pub has_index : GuardTree → Bool
+has_index (count c k w p s q) = counts_indices c
+has_index _ = false
+
 -- the form of an atom is that of its declaration
 abbrev pub has_form : PlainAlgebra → GuardTree → Bool
 has_form algebra.unique (alone w) = true

@@ -45,7 +45,9 @@ fn amount_sort(kind: Option<Atom>, atom: &GuardAtom) -> Sort
     }
 }
 
-fn push_atom<'a>(
+/// Puts the names of an atom behind the occurrences, where its guard is one of the region type, if
+/// there is one.
+pub fn push_atom<'a>(
     alloc: Global,
     list: &mut Vec<Occurrence<'a>>,
     inside: bool,
