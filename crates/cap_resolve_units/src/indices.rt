@@ -7,8 +7,8 @@ ghost use Rattle.cap_resolve_spec.specs.Regions.{is_lost as lost, index_findings
 ghost use Rattle.cap_resolve_terms.specs.Views.{noted_view};
 ghost use Rattle.cap_resolve_parts.specs.Views.{guards_view, words_view, word_seen};
 
-use cap_parse_tree::{GuardAtom, Slot, Word};
-use cap_resolve_parts::{counts_indices, push_term_words};
+use cap_parse_tree::{Counted, GuardAtom, Slot, Word};
+use cap_resolve_parts::push_term_words;
 use cap_resolve_terms::{Cause, Noted, Scope};
 use std::alloc::{AllocError, Global};
 
@@ -87,10 +87,10 @@ fn note_atom<'a>(
 {
     match atom {
         GuardAtom::Alone(_) | GuardAtom::Amount(_, _, _, _) => Ok(()),
-        GuardAtom::Count(counted, _, guard, _, slot, _) => {
-            if !counts_indices(*counted) {
-                return Ok(());
-            }
+        GuardAtom::Count(Counted::Source, _, _, _, _, _)
+        | GuardAtom::Count(Counted::Tokens, _, _, _, _, _) => Ok(()),
+        GuardAtom::Count(Counted::At, _, guard, _, slot, _)
+        | GuardAtom::Count(Counted::From, _, guard, _, slot, _) => {
             note_index(noted, alloc, scope, source, target, guard, slot)
         }
     }
