@@ -8,7 +8,7 @@ use Rattle.cap_lin.specs.declared.row.Sort.TheVariants.{Int, Perm}
 use Rattle.cap_galg.specs.Algebras.{PlainAlgebra}
 use Rattle.cap_galg.specs.Algebras as algebra
 use Rattle.cap_parse_tree.specs.declared.assertion.Counted.{Counted}
-use Rattle.cap_parse_tree.specs.declared.assertion.Counted.TheVariants.{Source, Tokens, At, From}
+use Rattle.cap_parse_tree.specs.declared.assertion.Counted.TheVariants.{At, From}
 use Rattle.cap_parse_tree.specs.declared.word.Word.{Word}
 use Rattle.cap_parse_tree.specs.Tree.{SlotTree, any, is, GuardTree, alone, amount, count, ItemTree, fact, guards, cell, compare, choose, DeclaredTree, unique, divisible, counting, indexed, grouped, RegionTree}
 use Rattle.cap_resolve_spec.specs.Finding.{Finding, found_if, unknown_word, twice_word, wrong_arity, wrong_sort, self_fact}
