@@ -7,7 +7,7 @@ use Rattle.cap_syntax.specs.declared.place.Place.{Place}
 use Rattle.cap_prog.specs.WellFormed.{most_cells}
 use Rattle.cap_parse_tree.specs.declared.word.Word.{Word}
 use Rattle.cap_parse_tree.specs.declared.word.Literal.{Literal}
-use Rattle.cap_parse_tree.specs.Tree.{TermTree, value, load, alloc, cas, result_of, StatementTree, assign, store, call, fork, branch, loop, check, give_back, ElseTree, no_else, else_block, StatementTrees, no_statement, then_statement, BlockTree, block, RegionTree, FunctionTree}
+use Rattle.cap_parse_tree.specs.Tree.{TermTree, value, load, alloc, cas, faa, result_of, StatementTree, assign, store, call, fork, branch, loop, check, give_back, dispose, ElseTree, no_else, else_block, StatementTrees, no_statement, then_statement, BlockTree, block, RegionTree, FunctionTree}
 use Rattle.cap_resolve_spec.specs.Finding.{unknown_word, twice_word, limit, cell_count}
 use Rattle.cap_resolve_spec.specs.Parts.{PlacedItem, term_words, comparison_words, clause_parts, statement_parts, else_parts, statements_parts, block_parts, statement_terms, statement_comparison, statement_names, destination, invariant, cells, parameters}
 use Rattle.cap_resolve_spec.specs.Names.{NameScope, knows, parameters_findings}
@@ -83,6 +83,7 @@ module _ (g : Context) where
       statement_narrow (assign w q (load b t d) e) a = (values (assign w q (load b t d) e) a.0).0
       statement_narrow (assign w q (alloc b c m d) e) a = cells_in m [] (nothing_front (flat_map cells_findings (m ∷ [])) _ (after-callee g (assign w q (alloc b c m d) e) a.0))
       statement_narrow (assign w q (cas b c t d u k v m) e) a = let vs = values (assign w q (cas b c t d u k v m) e) a.0 in (vs.0, (vs.1.0, vs.1.1.0))
+      statement_narrow (assign w q (faa b c t d u m) e) a = let vs = values (assign w q (faa b c t d u m) e) a.0 in (vs.0, vs.1.0)
       statement_narrow (assign w q (result_of v l) e) a = values (assign w q (result_of v l) e) a.0
       statement_narrow (store b t c d u e) a = let vs = values (store b t c d u e) a.0 in (vs.0, vs.1.0)
       statement_narrow (call v l e) a = values (call v l e) a.0
@@ -98,6 +99,7 @@ module _ (g : Context) where
       statement_narrow (check b c e) a = (comparisons (check b c e) a.0).0
       statement_narrow (give_back b None e) a = tt
       statement_narrow (give_back b (Some t) e) a = (values (give_back b (Some t) e) a.0).0
+      statement_narrow (dispose b c t d e) a = (values (dispose b c t d e) a.0).0
 
       else_narrow : (e : ElseTree) → AllByRecursion NothingIn (else_parts e) → IsNarrowElse (with_rest g r given counted) e
       else_narrow no_else a = tt

@@ -5,7 +5,7 @@ use Rattle.std.specs.List.{AllByRecursion}
 use Rattle.cap_lin.specs.Steps.{first_wide}
 use Rattle.cap_syntax.specs.declared.place.Place.{Place}
 use Rattle.cap_parse_tree.specs.declared.word.Word.{Word}
-use Rattle.cap_parse_tree.specs.Tree.{listed_parts, TermTree, ComparisonTree, SlotTree, any, is, GuardTree, alone, amount, count, ItemTree, holds, fails, fact, guards, cell, compare, choose, ItemTrees, no_item, and_item, AssertionTree, assertion, SideTree, side, ClauseTree, ValueTree, value, load, alloc, cas, result_of, StatementTree, assign, store, call, fork, branch, loop, check, give_back, ElseTree, no_else, else_block, StatementTrees, no_statement, then_statement, BlockTree, block, RegionTree, FunctionTree}
+use Rattle.cap_parse_tree.specs.Tree.{listed_parts, TermTree, ComparisonTree, SlotTree, any, is, GuardTree, alone, amount, count, ItemTree, holds, fails, fact, guards, cell, compare, choose, ItemTrees, no_item, and_item, AssertionTree, assertion, SideTree, side, ClauseTree, ValueTree, value, load, alloc, cas, faa, result_of, StatementTree, assign, store, call, fork, branch, loop, check, give_back, dispose, ElseTree, no_else, else_block, StatementTrees, no_statement, then_statement, BlockTree, block, RegionTree, FunctionTree}
 use Rattle.cap_resolve_spec.specs.Parts.{PlacedItem, held_atoms, block_parts}
 use Rattle.cap_resolve_spec.specs.Names.{NameScope, whole_numbers, hidden}
 use Rattle.cap_resolve_spec.specs.Linear.{term_steps}
@@ -75,6 +75,7 @@ IsNarrowValue scope (value t) = IsNarrow scope t
 IsNarrowValue scope (load p t q) = IsNarrow scope t
 IsNarrowValue scope (alloc p q n r) = n.value < 2 ^ 32
 IsNarrowValue scope (cas p q a c e d f r) = IsNarrow scope a × (IsNarrow scope e × IsNarrow scope f)
+IsNarrowValue scope (faa p q a c e r) = IsNarrow scope a × IsNarrow scope e
 IsNarrowValue scope (result_of w l) = AreNarrow scope (listed_parts l)
 
 abbrev pub IsNarrowReturn : NameScope → Option TermTree → Type 0
@@ -93,6 +94,7 @@ abbrev mutual
       IsNarrowComparison g.body c × (IsNarrowNew g g.loop i × IsNarrowBlock g b)
   IsNarrowStatement g (check p c e) = IsNarrowComparison g.body c
   IsNarrowStatement g (give_back p t e) = IsNarrowReturn g.body t
+  IsNarrowStatement g (dispose p q t r e) = IsNarrow g.body t
 
   pub IsNarrowElse : Context → ElseTree → Type 0
   IsNarrowElse g no_else = Unit {0}

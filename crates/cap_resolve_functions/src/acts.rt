@@ -52,6 +52,23 @@ fn build_cas(
     Ok(Act::Cas(variable, address, old, new))
 }
 
+fn build_faa(
+    alloc: Global,
+    scope: &Scope<'_>,
+    variable: u32,
+    address: &Term,
+    more: &Term,
+) -> Result<Act, AllocError>
+    requires address { IsNarrow scope.now (term_view address.now) }
+    requires more { IsNarrow scope.now (term_view more.now) }
+    ensures { IfOk result (λ a. act_view a ≡ plain.faa variable
+        (term_form scope.now (term_view address.now)) (term_form scope.now (term_view more.now))) }
+{
+    let address = build_term(alloc, scope, address)?;
+    let more = build_term(alloc, scope, more)?;
+    Ok(Act::Faa(variable, address, more))
+}
+
 fn build_assign(
     alloc: Global,
     body: &Body<'_, '_, '_>,
@@ -70,6 +87,9 @@ fn build_assign(
         Value::Alloc(_, _, cells, _) => Ok(Act::Alloc(variable, cells.value as u32)),
         Value::Cas(_, _, address, _, old, _, new, _) => {
             build_cas(alloc, body.scope, variable, address, old, new)
+        }
+        Value::Faa(_, _, address, _, more, _) => {
+            build_faa(alloc, body.scope, variable, address, more)
         }
         Value::Call(name, list) => build_call(alloc, body, Some(variable), name, list),
     }
@@ -119,6 +139,7 @@ fn statement_place(statement: &StatementTree) -> Place
         StatementTree::While(place, _, _, _, _, _) => *place,
         StatementTree::Assert(place, _, _) => *place,
         StatementTree::Return(place, _, _) => *place,
+        StatementTree::Dispose(place, _, _, _, _) => *place,
     }
 }
 
@@ -256,6 +277,9 @@ fn build_act<'a>(
             Ok(Act::Assert(build_comparison(alloc, body.scope, comparison)?))
         }
         StatementTree::Return(_, term, _) => Ok(Act::Return(build_returned(alloc, body, term)?)),
+        StatementTree::Dispose(_, _, term, _, _) => {
+            Ok(Act::Dispose(build_term(alloc, body.scope, term)?))
+        }
     }
 }
 

@@ -22,7 +22,10 @@ fn guard_known(declared: &Declared) -> Option<Known<'_>>
     ensures { entry_view result ≡ guard_entry (declared_view declared.now) }
 {
     match declared {
-        Declared::Unique(word) | Declared::Divisible(_, word) | Declared::Counting(_, word, _) => {
+        Declared::Unique(word)
+        | Declared::Divisible(_, word)
+        | Declared::Counting(_, word, _)
+        | Declared::Indexed(_, word, _) => {
             Some(Known {
                 name: word.text.as_bytes(),
                 sort: Sort::Int,
@@ -38,6 +41,7 @@ fn guard_atom(declared: &Declared) -> Atom
     match declared {
         Declared::Divisible(_, _) => Atom::Divisible,
         Declared::Counting(_, _, _) => Atom::Counting,
+        Declared::Indexed(_, _, _) => Atom::Indexed,
         Declared::Unique(_) | Declared::Bracketed(_, _, _) => Atom::Unique,
     }
 }
