@@ -61,12 +61,7 @@ fn shift(alloc: Global, all: &[Cert], spans: &[u32]) -> Result<Value, AllocError
 {
     match spans {
         [] => proved(alloc, "shift", all),
-        [_, ..] => headed_two(
-            alloc,
-            "shift",
-            certs(alloc, all)?,
-            numbers(alloc, spans)?,
-        ),
+        [_, ..] => headed_two(alloc, "shift", certs(alloc, all)?, numbers(alloc, spans)?),
     }
 }
 
