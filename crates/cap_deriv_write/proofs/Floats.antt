@@ -29,9 +29,12 @@ mark_whole (Some c) = cert_whole c
 last_certs : (cs : List Cert) → (items_have_float (items_of (map cert_form cs)) || false) ≡ false
 last_certs cs = neither _ _ (none_of cert_form cert_whole cs) refl
 
+last_numbers : (ns : List ℕ) → (items_have_float (items_of (map number_form ns)) || false) ≡ false
+last_numbers ns = neither _ _ (none_of number_form (λ n. refl) ns) refl
+
 spans_whole : (ns : List ℕ) → items_have_float (items_of (spans_form ns)) ≡ false
 spans_whole [] = refl
-spans_whole (n ∷ ns) = neither _ _ (none_of number_form (λ n. refl) (n ∷ ns)) refl
+spans_whole (n ∷ ns) = last_numbers (n ∷ ns)
 
 pub choice_whole : (c : PlainChoice) → has_float (choice_form c) ≡ false
 choice_whole (by_absurd c) = neither _ _ (cert_whole c) refl

@@ -11,7 +11,7 @@ use Rattle.cap_farkas.specs.declared.cert.Cert.TheVariants.{Leaf, Split}
 use Rattle.cap_goal_spec.specs.Choices.{PlainChoice, by_absurd, by_clash, by_set, by_alloc, by_assert, by_if, by_loop, by_turn, by_call, by_fork, by_return, by_enter, by_act, by_pick, by_shift, by_settle, by_keep, by_give, by_fact, by_cases, by_cell, by_region, by_guard, by_convert, by_create, by_made}
 use Rattle.cap_deriv.specs.Told.{ended_lines}
 use Rattle.cap_deriv_write.specs.Bounds.{IsNumber, IsPair, ArePairs, IsCert, AreCerts, IsMark, IsChoice}
-use Rattle.cap_deriv_write.specs.Forms.{number_form, pair_form, pairs_form, cert_form, certs_form, mark_form, spans_form, choice_form, opening_form, closing_form}
+use Rattle.cap_deriv_write.specs.Forms.{number_form, numbers_form, pair_form, pairs_form, cert_form, certs_form, mark_form, spans_form, choice_form, opening_form, closing_form}
 use Rattle.cap_deriv_write.specs.Spelled.{AreTexts, later_forms, all_forms, HaveForms, AreVisible}
 use Rattle.cap_deriv_write.specs.Written.{line_text, choice_lines, text_of_choices}
 use Rattle.cap_deriv_write.proofs.Visible.{IsSimple, AreSimple, visible_from, visible_signed, visible_text, line_cut, simple_text}
@@ -64,9 +64,15 @@ simple_spans : (ns : List ℕ) → AllByRecursion IsNumber ns → AreSimple (ite
 simple_spans [] h = tt
 simple_spans (n ∷ ns) h = (all_simple number_form IsNumber simple_number (n ∷ ns) h, tt)
 
+depth_numbers : (ns : List ℕ) → depth (numbers_form ns) ≤ 1
+depth_numbers ns = omega (arith, all_depth number_form 0 (λ n. omega arith) ns)
+
+depth_alone : (d : Data) → depth d ≤ 1 → items_depth (items_of (d ∷ [])) ≤ 1
+depth_alone d h = omega arith
+
 depth_spans : (ns : List ℕ) → items_depth (items_of (spans_form ns)) ≤ 1
 depth_spans [] = omega arith
-depth_spans (n ∷ ns) = omega (arith, all_depth number_form 0 (λ n. omega arith) (n ∷ ns))
+depth_spans (n ∷ ns) = depth_alone (numbers_form (n ∷ ns)) (depth_numbers (n ∷ ns))
 
 simple_choice : (c : PlainChoice) → IsChoice c → IsSimple (choice_form c)
 simple_choice (by_absurd c) h = (visible_from (codes "absurd") refl, (simple_cert c h, tt))
