@@ -83,21 +83,21 @@ abbrev words_of_three : List (List ℕ)
 words_of_three = codes "clash" ∷ codes "act" ∷ codes "pick" ∷ codes "guard" ∷ codes "convert" ∷ []
 
 choice_none : (w : List ℕ) → bytes_eq w (codes "shift") ≡ false → Absent w (words_of_none ++ (words_of_one ++ (words_of_two ++ words_of_three))) → (xs : List Data) → choice_of_items w xs ≡ None
-choice_none w no h [] = row_none w choices_of_none (absent_front w words_of_none (words_of_one ++ (words_of_two ++ words_of_three)) h)
-choice_none w no h (a ∷ []) =
+choice_none w unlike h [] = row_none w choices_of_none (absent_front w words_of_none (words_of_one ++ (words_of_two ++ words_of_three)) h)
+choice_none w unlike h (a ∷ []) =
     let one = absent_back w words_of_none (words_of_one ++ (words_of_two ++ words_of_three)) h in
     let all = absent_front w words_of_one (words_of_two ++ words_of_three) one in
-    row_none w (choices_of_one a) (all.0, (all.1.0, (no, all.1.1)))
-choice_none w no h (a ∷ b ∷ []) =
+    row_none w (choices_of_one a) (all.0, (all.1.0, (unlike, all.1.1)))
+choice_none w unlike h (a ∷ b ∷ []) =
     let one = absent_back w words_of_none (words_of_one ++ (words_of_two ++ words_of_three)) h in
     let two = absent_back w words_of_one (words_of_two ++ words_of_three) one in
     let all = absent_front w words_of_two words_of_three two in
-    row_none w (choices_of_two a b) (all.0, (no, all.1))
-choice_none w no h (a ∷ b ∷ c ∷ []) =
+    row_none w (choices_of_two a b) (all.0, (unlike, all.1))
+choice_none w unlike h (a ∷ b ∷ c ∷ []) =
     let one = absent_back w words_of_none (words_of_one ++ (words_of_two ++ words_of_three)) h in
     let two = absent_back w words_of_one (words_of_two ++ words_of_three) one in
     row_none w (choices_of_three a b c) (absent_back w words_of_two words_of_three two)
-choice_none w no h (a ∷ b ∷ c ∷ d ∷ ds) = refl
+choice_none w unlike h (a ∷ b ∷ c ∷ d ∷ ds) = refl
 
 -- ---- a row
 
@@ -233,7 +233,7 @@ module _ (d : ℕ) where
 
   closed_read : (w : List ℕ) → bytes_eq w (codes "shift") ≡ false → ReadsItems (choice_of_items w) deep (take_closed w)
   unfolding take_by_word take_by_one take_by_two take_by_three
-  closed_read w no = rows_read deep choice_rows all_rows w (λ xs absent. choice_none w no absent xs)
+  closed_read w unlike = rows_read deep choice_rows all_rows w (λ xs absent. choice_none w unlike absent xs)
 
   pub choice_read : (w : List ℕ) → ReadsItems (choice_of_items w) deep (take_choice w)
   choice_read w n ts le = at (bytes_eq w (codes "shift")) refl
