@@ -29,6 +29,8 @@ fn address_of(act: &Act) -> Option<&Term>
         Act::Read(_, address) => Some(address),
         Act::Write(address, _) => Some(address),
         Act::Cas(_, address, _, _) => Some(address),
+        Act::Faa(_, address, _) => Some(address),
+        Act::Dispose(address) => Some(address),
         Act::Set(_, _)
         | Act::Alloc(_, _)
         | Act::Call(_, _, _)

@@ -6,6 +6,8 @@ mod matching;
 mod moving;
 mod picking;
 mod shifting;
+mod spans;
 
+pub use moving::Move;
 pub use picking::pick;
 pub use shifting::shift;

@@ -1,5 +1,6 @@
 pub mod Keeping
 pub mod Ways
+pub mod Indices
 pub mod Places
 pub mod Walks
 pub mod Full

@@ -1,7 +1,7 @@
 -- Past all sums of an algebra there is none, and a sum has two sides.
 use Rattle.std.proofs.Common.{◌≡◌, ℕ, zero, suc, ◌+◌, ◌-◌, ◌≤◌, arith, refl, ap, ◌∙◌, None}
 use Rattle.std.specs.Prelude.{nat_lt, if◌then◌else◌}
-use Rattle.cap_galg.specs.Algebras.{PlainAlgebra, unique, divisible, counting, product, sum as either, atoms}
+use Rattle.cap_galg.specs.Algebras.{PlainAlgebra, unique, divisible, counting, indexed, product, sum as either, atoms}
 use Rattle.cap_galg.specs.Laws.Atoms.{lt-false}
 use Rattle.cap_rules.specs.Taking.{Sides, sum_count, sum_in, given_side}
 use Rattle.cap_take_guards.specs.Sums.{IsWalked}
@@ -15,6 +15,7 @@ no-sum : (a : PlainAlgebra) (i n : ℕ) → sum_count a ≤ n → sum_in a i n �
 no-sum unique i n h = refl
 no-sum divisible i n h = refl
 no-sum counting i n h = refl
+no-sum indexed i n h = refl
 no-sum (product a b) i n h =
     let m : sum_count a ≤ n = omega (arith, h) in
     let l : sum_count b ≤ n - sum_count a = omega (arith, h) in

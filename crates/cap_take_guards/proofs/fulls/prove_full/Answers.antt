@@ -16,3 +16,11 @@ returns-in-Src c =
 
 pub returns-in-Tok : goal.returns-in-Tok
 returns-in-Tok c = rw c.in-Tok.is (weaker _ _ _ inapplicable)
+
+pub returns-in-Span-None : goal.returns-in-Span-None
+returns-in-Span-None c =
+    let h = rw c.constant-first.ensures at c.prove_that-in-Span-None.ensures in
+    rw c.in-Span-None.is h
+
+pub returns-in-Span-Some : goal.returns-in-Span-Some
+returns-in-Span-Some c = rw c.in-Span-Some.is (weaker _ _ _ inapplicable)
