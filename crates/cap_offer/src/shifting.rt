@@ -61,8 +61,10 @@ fn first_span(
     ensures { IfOk result (λ j. Adds notes.old notes.new j
         (span_of state.now fact.now env.now guard.now 0 state.now.before)) }
 {
-    for number in 0..count(state.before().len())? {
-        if is_within(alloc, state, fact, env, guard, number, notes)? {
+    let pieces = count(state.before().len())?;
+    for number in 0..pieces {
+        let found = is_within(alloc, state, fact, env, guard, number, notes)?;
+        if found {
             return Ok(Some(number));
         }
     }
