@@ -1,6 +1,6 @@
 -- The pieces that are named for the indexed atoms of an action.
-use Rattle.std.proofs.Common.{◌≡◌, ℤ, ℕ, zero, suc, ◌+◌, ◌<◌, ◌≤◌, Bool, true, false, List, [], ◌∷◌, ◌++◌, length, drop, get_or, filter, add-one, append-nil, Option, Some, None, refl, sym, ap, subst, ◌∙◌, arith}
-use Rattle.std.specs.Prelude.{option_map, if◌then◌else◌, Result, Ok, Err}
+use Rattle.std.proofs.Common.{◌≡◌, ℤ, ℕ, zero, suc, ◌+◌, ◌<◌, ◌≤◌, Bool, true, false, List, [], ◌∷◌, ◌++◌, map, length, drop, get_or, filter, add-one, append-nil, Option, Some, None, refl, sym, ap, subst, ◌∙◌, arith}
+use Rattle.std.specs.Prelude.{◌-◌, option_map, slice_get, if◌then◌else◌, Result, Ok, Err}
 use Rattle.std.specs.List.{list_any}
 use Rattle.std.proofs.lemmas.List.{append_assoc, drop_all}
 use Rattle.cap_lin.specs.Steps.{first_wide}
@@ -8,7 +8,7 @@ use Rattle.cap_lin.specs.declared.row.Row.{Row}
 use Rattle.cap_farkas.specs.declared.cert.Cert.{Cert}
 use Rattle.cap_gsolve.specs.declared.piece.Piece.{Piece}
 use Rattle.cap_prog.specs.declared.assertion.Asked.{Asked}
-use Rattle.cap_prog.specs.Program.{PlainCase, PlainAction}
+use Rattle.cap_prog.specs.Program.{PlainCase, PlainAction, PlainRegionType}
 use Rattle.cap_goal_spec.specs.States.{PlainFact, PlainEnv, PlainState}
 use Rattle.cap_rules.specs.Answers.{Answer, applies, inapplicable, too_wide, answer_unless, lists_if, owed_lists, steps_of, proofs_of}
 use Rattle.cap_rules.specs.Attempts.{Attempt, go_on}
@@ -20,7 +20,7 @@ use Rattle.cap_rules_steps.specs.declared.error.RuleError.TheVariants.{NotApplic
 use Rattle.cap_rules_steps.proofs.Judges.{told-ok}
 use Rattle.cap_rules_steps.proofs.Walking.{split-at}
 use Rattle.cap_offer_spec.specs.Deciding.{PlainNotes, Outcome, Noted, done, ◌>>=◌, certified_by, succeeds}
-use Rattle.cap_offer_spec.specs.Shifting.{first_or, first_span, and_spans, spans_found, spans_at, spans_by}
+use Rattle.cap_offer_spec.specs.Shifting.{first_or, first_span, and_spans, spans_found, spans_at, spans_by, action_of}
 use Rattle.cap_offer_spec.specs.Turning.{Turn, up_to_spans, but_spans, with_lists}
 use Rattle.cap_closure_decide.specs.Noting.{Adds}
 use Rattle.cap_offer.specs.Turns.{turned_spans}
@@ -175,3 +175,21 @@ with-indexed s o f x env a h = sym (of-some s o f x env a (indexed_of a) (some-k
 
 pub without-indexed : (s : PlainState) (o : ℕ) (f : PlainFact) (x : PlainCase) (env : PlainEnv) (a : PlainAction) → list_any is_indexed a.guards ≡ false → spans_by s o f x env a (indexed_of a) ≡ done (Some [])
 without-indexed s o f x env a h = ap (spans_by s o f x env a) (none-kept a.guards h)
+
+-- ---- cases and actions by their numbers
+
+pub seen-there : {X Y : Type 0} (f : X → Y) (xs : List X) (i : ℕ) (x : X) → i < length xs → x ≡ get_or xs i x → Some (f x) ≡ slice_get (map f xs) i
+seen-there f [] i x h e = absurd (omega arith)
+seen-there f (y ∷ ys) zero x h e = ap (λ z. Some (f z)) e
+seen-there f (y ∷ ys) (suc i) x h e = seen-there f ys i x (omega arith) e
+
+pub seen-past : {X Y : Type 0} (f : X → Y) (xs : List X) (i : ℕ) → length xs ≤ i → None ≡ slice_get (map f xs) i
+seen-past f [] i h = refl
+seen-past f (y ∷ ys) zero h = absurd (omega arith)
+seen-past f (y ∷ ys) (suc i) h = seen-past f ys i (omega arith)
+
+pub action-numbered : (k : PlainRegionType) (m : ℕ) → 0 < m → slice_get k.actions (m - 1) ≡ action_of k m
+action-numbered k zero h = absurd (omega arith)
+action-numbered k (suc i) h =
+    let e : suc i - 1 ≡ i = omega arith in
+    ap (slice_get k.actions) e
