@@ -1,6 +1,6 @@
 -- The pieces that are named for the indexed atoms of an action.
 use Rattle.std.proofs.Common.{◌≡◌, ℤ, ℕ, zero, suc, ◌+◌, ◌<◌, ◌≤◌, Bool, true, false, List, [], ◌∷◌, ◌++◌, map, length, drop, get_or, filter, add-one, append-nil, Option, Some, None, refl, sym, ap, subst, ◌∙◌, arith}
-use Rattle.std.specs.Prelude.{◌-◌, option_map, slice_get, if◌then◌else◌, Result, Ok, Err}
+use Rattle.std.specs.Prelude.{◌-◌, ◌||◌, option_map, slice_get, if◌then◌else◌, Result, Ok, Err}
 use Rattle.std.specs.List.{list_any}
 use Rattle.std.proofs.lemmas.List.{append_assoc, drop_all}
 use Rattle.cap_lin.specs.Steps.{first_wide}
@@ -154,7 +154,7 @@ some-kept : (gs : Guards) → list_any is_indexed gs ≡ true → filter is_inde
 some-kept [] h e = absurd cc
 some-kept (g ∷ gs) h e = by-first (is_indexed g) (some-kept gs) h e
   where
-    by-first : (b : Bool) → (list_any is_indexed gs ≡ true → filter is_indexed gs ≡ [] → ⊥) → (if b then true else list_any is_indexed gs) ≡ true → (if b then g ∷ filter is_indexed gs else filter is_indexed gs) ≡ [] → ⊥
+    by-first : (b : Bool) → (list_any is_indexed gs ≡ true → filter is_indexed gs ≡ [] → ⊥) → (b || list_any is_indexed gs) ≡ true → (if b then g ∷ filter is_indexed gs else filter is_indexed gs) ≡ [] → ⊥
     by-first true k h e = cc
     by-first false k h e = k h e
 
@@ -162,7 +162,7 @@ none-kept : (gs : Guards) → list_any is_indexed gs ≡ false → filter is_ind
 none-kept [] h = refl
 none-kept (g ∷ gs) h = by-first (is_indexed g) (none-kept gs) h
   where
-    by-first : (b : Bool) → (list_any is_indexed gs ≡ false → filter is_indexed gs ≡ []) → (if b then true else list_any is_indexed gs) ≡ false → (if b then g ∷ filter is_indexed gs else filter is_indexed gs) ≡ []
+    by-first : (b : Bool) → (list_any is_indexed gs ≡ false → filter is_indexed gs ≡ []) → (b || list_any is_indexed gs) ≡ false → (if b then g ∷ filter is_indexed gs else filter is_indexed gs) ≡ []
     by-first true k h = absurd cc
     by-first false k h = k h
 

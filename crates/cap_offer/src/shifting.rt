@@ -265,9 +265,7 @@ fn spans_for(
     let fact = &facts[opened as usize];
     match type_at(program, fact.kind) {
         None => Ok(None),
-        Some(region) => spans_in(
-            alloc, region, state, opened, case, by, env, fact, notes,
-        ),
+        Some(region) => spans_in(alloc, region, state, opened, case, by, env, fact, notes),
     }
 }
 

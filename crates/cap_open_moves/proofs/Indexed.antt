@@ -81,9 +81,9 @@ numbered-turn : (s : PlainState) (f : PlainFact) (g : ℕ × Asked) (i : Linear)
 numbered-turn s f g i j rest =
     in-turn [] (slice_get s.before j) (λ q. need (of_atom f.region f.kind g.0 q) >>= λ u. prove_within s g.1 q.form i) rest
     ∙ on-value [] (slice_get s.before j)
-        (λ q. go_on (need (of_atom f.region f.kind g.0 q) >>= λ u. prove_within s g.1 q.form i).events (need (of_atom f.region f.kind g.0 q) >>= λ u. prove_within s g.1 q.form i).value rest)
-        (λ q. need (of_atom f.region f.kind g.0 q) >>= λ u. prove_within s g.1 q.form i >>= rest)
-        (λ q. in-turn (need (of_atom f.region f.kind g.0 q)).events (need (of_atom f.region f.kind g.0 q)).value (λ u. prove_within s g.1 q.form i) rest)
+    (λ q. go_on (need (of_atom f.region f.kind g.0 q) >>= λ u. prove_within s g.1 q.form i).events (need (of_atom f.region f.kind g.0 q) >>= λ u. prove_within s g.1 q.form i).value rest)
+    (λ q. need (of_atom f.region f.kind g.0 q) >>= λ u. prove_within s g.1 q.form i >>= rest)
+    (λ q. in-turn (need (of_atom f.region f.kind g.0 q)).events (need (of_atom f.region f.kind g.0 q)).value (λ u. prove_within s g.1 q.form i) rest)
 
 -- no number is left, or this one
 none-left : (d : Attempt Linear) (k : Linear → ℕ → Attempt (Unit {0})) (rest : Unit {0} → Attempt (Unit {0})) → (d >>= λ i. not_applicable) ≡ go_on (d >>= λ i. found None >>= k i).events (d >>= λ i. found None >>= k i).value rest
@@ -93,9 +93,9 @@ one-left : (s : PlainState) (f : PlainFact) (g : ℕ × Asked) (d : Attempt Line
 one-left s f g d j rest =
     sym (in-turn d.events d.value (λ i. found (Some j) >>= numbered s f g i) rest
     ∙ on-value d.events d.value
-        (λ i. go_on (numbered s f g i j).events (numbered s f g i j).value rest)
-        (λ i. found (slice_get s.before j) >>= λ q. need (of_atom f.region f.kind g.0 q) >>= λ u. prove_within s g.1 q.form i >>= rest)
-        (λ i. numbered-turn s f g i j rest))
+    (λ i. go_on (numbered s f g i j).events (numbered s f g i j).value rest)
+    (λ i. found (slice_get s.before j) >>= λ q. need (of_atom f.region f.kind g.0 q) >>= λ u. prove_within s g.1 q.form i >>= rest)
+    (λ i. numbered-turn s f g i j rest))
 
 -- the first guard, with the numbers from a place on
 first-span : (s : PlainState) (f : PlainFact) (env : PlainEnv) (g : ℕ × Asked) (gs : Guards) (js : List ℕ) (n : ℕ) → match_spans s f env (g ∷ gs) (drop n js) ≡ go_on (one_span s f env g js n).events (one_span s f env g js n).value (λ u. match_spans s f env gs (drop (suc n) js))
@@ -144,10 +144,10 @@ spans-end s f env gs i js n before middle whole r h k m l =
 pub span-alone : (s : PlainState) (f : PlainFact) (env : PlainEnv) (g : ℕ × Asked) (j : ℕ) (r : Result (Unit {0}) RuleError) (before after : List (List Row)) → Claims (giving r tt) before after (one_span s f env g (j ∷ []) 0) → Claims (giving r tt) before after (match_spans s f env (g ∷ []) (j ∷ []))
 span-alone s f env g j (Ok u) before after m =
     subst (Claims (Ok tt) before after) (sym (first-span s f env g [] (j ∷ []) 0))
-        (claims_then (Ok tt) (one_span s f env g (j ∷ []) 0) (λ v. match_spans s f env [] []) tt before after after m (weaker _ _ after (done tt)))
+    (claims_then (Ok tt) (one_span s f env g (j ∷ []) 0) (λ v. match_spans s f env [] []) tt before after after m (weaker _ _ after (done tt)))
 span-alone s f env g j (Err e) before after m =
     subst (Claims (Err e) before after) (sym (first-span s f env g [] (j ∷ []) 0))
-        (claims_fail e (one_span s f env g (j ∷ []) 0) (λ v. match_spans s f env [] []) before after m)
+    (claims_fail e (one_span s f env g (j ∷ []) 0) (λ v. match_spans s f env [] []) before after m)
 
 -- ---- whether their indices are known
 

@@ -45,7 +45,10 @@ fn push_guards<'a>(
 }
 
 /// The guards of an action that aren't indexed, its source and its target.
-pub(crate) fn parts_of<'a>(alloc: Global, action: &'a Action) -> Result<Vec<MovePart<'a>>, AllocError>
+pub(crate) fn parts_of<'a>(
+    alloc: Global,
+    action: &'a Action,
+) -> Result<Vec<MovePart<'a>>, AllocError>
     ensures { IfOk result (λ v. parts_view v.items ≡ parts_in (action_view action.now)) }
 {
     let mut parts = Vec::new(alloc);

@@ -45,7 +45,9 @@ pub fn up_to_spans(
     let mut names = start_env(alloc, fact, action)?;
     let parts = parts_of(alloc, action)?;
     let waiting = match_ready(alloc, ledger, state, fact, &new, action, &mut names, &parts)?;
-    match_all(alloc, ledger, state, fact, &new, action, &mut names, &waiting)?;
+    match_all(
+        alloc, ledger, state, fact, &new, action, &mut names, &waiting,
+    )?;
     Ok(Turn {
         state: new,
         env: names,
