@@ -74,8 +74,8 @@ fn has_address(
     }
 }
 
-// The environment of a number, or none of its names past the end.
-fn env_at<'a>(state: &'a State, number: u32, none: &'a Env) -> &'a Env
+/// The environment of a number, or none of its names past the end.
+pub(crate) fn env_at<'a>(state: &'a State, number: u32, none: &'a Env) -> &'a Env
     requires { none.now ≡ [] }
     ensures { result.now ≡ env_of state.now number }
 {

@@ -12,10 +12,11 @@ use Rattle.cap_goal_spec.specs.Environments.{asked_slot}
 use Rattle.cap_rules.specs.Attempts.{Attempt, Event, unit, ◌>>=◌, go_on, behind, found, need, not_applicable}
 use Rattle.cap_rules.specs.Making.{determined_slot}
 use Rattle.cap_rules.specs.Closing.{is_indexed, prove_within, match_spans, MovePart, guard}
-use Rattle.cap_rules_steps.specs.Walks.{Makes, Claims}
+use Rattle.cap_rules_steps.specs.Walks.{Makes, Claims, giving}
 use Rattle.cap_rules_steps.specs.declared.error.RuleError.{RuleError}
 use Rattle.cap_rules_steps.proofs.Listing.{LeadsClaims}
-use Rattle.cap_rules_steps.proofs.Walking.{split-at, claims_then, claims_fail, weaker}
+use Rattle.cap_rules_steps.proofs.Walking.{Leads, split-at, then_made, unmade, claims_then, claims_fail, weaker, done}
+use Rattle.cap_offer_spec.specs.Turning.{indices_known}
 use Rattle.cap_open_moves.specs.Moves.{one_span, parts_plain}
 
 abbrev Lists : Type 0
@@ -80,9 +81,9 @@ numbered-turn : (s : PlainState) (f : PlainFact) (g : ℕ × Asked) (i : Linear)
 numbered-turn s f g i j rest =
     in-turn [] (slice_get s.before j) (λ q. need (of_atom f.region f.kind g.0 q) >>= λ u. prove_within s g.1 q.form i) rest
     ∙ on-value [] (slice_get s.before j)
-        (λ q. go_on (need (of_atom f.region f.kind g.0 q) >>= λ u. prove_within s g.1 q.form i).events (need (of_atom f.region f.kind g.0 q) >>= λ u. prove_within s g.1 q.form i).value rest)
-        (λ q. need (of_atom f.region f.kind g.0 q) >>= λ u. prove_within s g.1 q.form i >>= rest)
-        (λ q. in-turn (need (of_atom f.region f.kind g.0 q)).events (need (of_atom f.region f.kind g.0 q)).value (λ u. prove_within s g.1 q.form i) rest)
+    (λ q. go_on (need (of_atom f.region f.kind g.0 q) >>= λ u. prove_within s g.1 q.form i).events (need (of_atom f.region f.kind g.0 q) >>= λ u. prove_within s g.1 q.form i).value rest)
+    (λ q. need (of_atom f.region f.kind g.0 q) >>= λ u. prove_within s g.1 q.form i >>= rest)
+    (λ q. in-turn (need (of_atom f.region f.kind g.0 q)).events (need (of_atom f.region f.kind g.0 q)).value (λ u. prove_within s g.1 q.form i) rest)
 
 -- no number is left, or this one
 none-left : (d : Attempt Linear) (k : Linear → ℕ → Attempt (Unit {0})) (rest : Unit {0} → Attempt (Unit {0})) → (d >>= λ i. not_applicable) ≡ go_on (d >>= λ i. found None >>= k i).events (d >>= λ i. found None >>= k i).value rest
@@ -92,9 +93,9 @@ one-left : (s : PlainState) (f : PlainFact) (g : ℕ × Asked) (d : Attempt Line
 one-left s f g d j rest =
     sym (in-turn d.events d.value (λ i. found (Some j) >>= numbered s f g i) rest
     ∙ on-value d.events d.value
-        (λ i. go_on (numbered s f g i j).events (numbered s f g i j).value rest)
-        (λ i. found (slice_get s.before j) >>= λ q. need (of_atom f.region f.kind g.0 q) >>= λ u. prove_within s g.1 q.form i >>= rest)
-        (λ i. numbered-turn s f g i j rest))
+    (λ i. go_on (numbered s f g i j).events (numbered s f g i j).value rest)
+    (λ i. found (slice_get s.before j) >>= λ q. need (of_atom f.region f.kind g.0 q) >>= λ u. prove_within s g.1 q.form i >>= rest)
+    (λ i. numbered-turn s f g i j rest))
 
 -- the first guard, with the numbers from a place on
 first-span : (s : PlainState) (f : PlainFact) (env : PlainEnv) (g : ℕ × Asked) (gs : Guards) (js : List ℕ) (n : ℕ) → match_spans s f env (g ∷ gs) (drop n js) ≡ go_on (one_span s f env g js n).events (one_span s f env g js n).value (λ u. match_spans s f env gs (drop (suc n) js))
@@ -137,3 +138,35 @@ all-named s f env (j ∷ js) (suc n) h = all-named s f env js n (omega arith)
 pub spans-end : (s : PlainState) (f : PlainFact) (env : PlainEnv) (gs : List (ℕ × Asked)) (i : ℕ) (js : List ℕ) (n : ℕ) (before middle : List (List Row)) (whole : Attempt (Unit {0})) (r : Result (Unit {0}) RuleError) → length gs ≤ i → n ≤ length js → Makes r (need (nat_eq n (length js))) → LeadsClaims before middle (spans_of s f env (drop i gs) (drop n js)) whole → Claims r before middle whole
 spans-end s f env gs i js n before middle whole r h k m l =
     l.leads r middle (subst (λ (all : Guards). Claims r middle middle (spans_of s f env all (drop n js))) (sym (drop_all i gs h)) (weaker _ _ middle (subst (Makes r) (sym (all-named s f env js n k)) m)))
+
+-- ---- one of them alone, out of one piece
+
+pub span-alone : (s : PlainState) (f : PlainFact) (env : PlainEnv) (g : ℕ × Asked) (j : ℕ) (r : Result (Unit {0}) RuleError) (before after : List (List Row)) → Claims (giving r tt) before after (one_span s f env g (j ∷ []) 0) → Claims (giving r tt) before after (match_spans s f env (g ∷ []) (j ∷ []))
+span-alone s f env g j (Ok u) before after m =
+    subst (Claims (Ok tt) before after) (sym (first-span s f env g [] (j ∷ []) 0))
+    (claims_then (Ok tt) (one_span s f env g (j ∷ []) 0) (λ v. match_spans s f env [] []) tt before after after m (weaker _ _ after (done tt)))
+span-alone s f env g j (Err e) before after m =
+    subst (Claims (Err e) before after) (sym (first-span s f env g [] (j ∷ []) 0))
+    (claims_fail e (one_span s f env g (j ∷ []) 0) (λ v. match_spans s f env [] []) before after m)
+
+-- ---- whether their indices are known
+
+abbrev pub indices_of : PlainEnv → List (ℕ × Asked) → Attempt (Unit {0})
+indices_of env gs = indices_known env (filter is_indexed gs)
+
+-- a guard that isn't indexed is passed over
+pub index-skips : (env : PlainEnv) (gs : List (ℕ × Asked)) (i : ℕ) (g : ℕ × Asked) (whole : Attempt (Unit {0})) → i < length gs → g ≡ get_or gs i g → is_indexed g ≡ false → Leads (indices_of env (drop i gs)) whole → Leads (indices_of env (drop (i + 1) gs)) whole
+index-skips env gs i g whole h e t l =
+    rw add-one (subst (λ (all : Guards). Leads (indices_known env all) whole) (indexed-split gs i g false h e t) l)
+
+pub index-next : (env : PlainEnv) (gs : List (ℕ × Asked)) (i : ℕ) (g : ℕ × Asked) (x : Linear) (whole : Attempt (Unit {0})) → i < length gs → g ≡ get_or gs i g → is_indexed g ≡ true → Makes (Ok x) (determined_slot env (asked_slot g.1)) → Leads (indices_of env (drop i gs)) whole → Leads (indices_of env (drop (i + 1) gs)) whole
+index-next env gs i g x whole h e t m l =
+    rw add-one (record { leads = λ r k. l.leads r (subst (λ (all : Guards). Makes r (indices_known env all)) (sym (indexed-split gs i g true h e t)) (then_made r (determined_slot env (asked_slot g.1)) (λ y. indices_of env (drop (suc i) gs)) x m k)) })
+
+pub index-fails : (env : PlainEnv) (gs : List (ℕ × Asked)) (i : ℕ) (g : ℕ × Asked) (whole : Attempt (Unit {0})) (u : RuleError) → i < length gs → g ≡ get_or gs i g → is_indexed g ≡ true → Makes (Err u) (determined_slot env (asked_slot g.1)) → Leads (indices_of env (drop i gs)) whole → Makes (Err u) whole
+index-fails env gs i g whole u h e t m l =
+    l.leads (Err u) (subst (λ (all : Guards). Makes (Err u) (indices_known env all)) (sym (indexed-split gs i g true h e t)) (unmade u (determined_slot env (asked_slot g.1)) (λ y. indices_of env (drop (suc i) gs)) m))
+
+pub index-end : (env : PlainEnv) (gs : List (ℕ × Asked)) (i : ℕ) (whole : Attempt (Unit {0})) → length gs ≤ i → Leads (indices_of env (drop i gs)) whole → Makes (Ok tt) whole
+index-end env gs i whole h l =
+    l.leads (Ok tt) (subst (λ (all : Guards). Makes (Ok tt) (indices_of env all)) (sym (drop_all i gs h)) (done tt))

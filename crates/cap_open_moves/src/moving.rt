@@ -44,8 +44,11 @@ fn push_guards<'a>(
     Ok(())
 }
 
-// The guards of an action that aren't indexed, its source and its target.
-fn parts_of<'a>(alloc: Global, action: &'a Action) -> Result<Vec<MovePart<'a>>, AllocError>
+/// The guards of an action that aren't indexed, its source and its target.
+pub(crate) fn parts_of<'a>(
+    alloc: Global,
+    action: &'a Action,
+) -> Result<Vec<MovePart<'a>>, AllocError>
     ensures { IfOk result (λ v. parts_view v.items ≡ parts_in (action_view action.now)) }
 {
     let mut parts = Vec::new(alloc);
@@ -55,8 +58,8 @@ fn parts_of<'a>(alloc: Global, action: &'a Action) -> Result<Vec<MovePart<'a>>, 
     Ok(parts)
 }
 
-// Matches the parts that need no other one, and gives those that wait.
-fn match_ready<'a>(
+/// Matches the parts that need no other one, and gives those that wait.
+pub(crate) fn match_ready<'a>(
     alloc: Global,
     ledger: &mut Ledger,
     state: &State,
@@ -81,8 +84,8 @@ fn match_ready<'a>(
     Ok(waiting)
 }
 
-// Matches parts, one after the other.
-fn match_all(
+/// Matches parts, one after the other.
+pub(crate) fn match_all(
     alloc: Global,
     ledger: &mut Ledger,
     state: &State,
@@ -114,8 +117,8 @@ fn unbound_names(alloc: Global, count: usize) -> Result<Vec<Option<Term>>, Alloc
     Ok(names)
 }
 
-// The environment of an action, none of whose names is bound.
-fn start_env(alloc: Global, fact: &Fact, action: &Action) -> Result<Env, AllocError>
+/// The environment of an action, none of whose names is bound.
+pub(crate) fn start_env(alloc: Global, fact: &Fact, action: &Action) -> Result<Env, AllocError>
     ensures { IfOk result (λ e. e
         ≡ env_of_region fact.now (unbound (length (action_view action.now).names))) }
 {
@@ -123,8 +126,8 @@ fn start_env(alloc: Global, fact: &Fact, action: &Action) -> Result<Env, AllocEr
     region_env(alloc, fact, names)
 }
 
-// Claims that the comparisons of an action hold, by its environment.
-fn prove_when(
+/// Claims that the comparisons of an action hold, by its environment.
+pub(crate) fn prove_when(
     alloc: Global,
     ledger: &mut Ledger,
     state: &State,

@@ -42,8 +42,8 @@ fn end_step(state: &mut State) -> Result<(), AllocError>
     Ok(())
 }
 
-// The state in which an opened region is closed in a new state.
-fn with_closed(
+/// The state in which an opened region is closed in a new state.
+pub(crate) fn with_closed(
     alloc: Global,
     state: &State,
     opened: u32,

@@ -20,7 +20,7 @@ use cap_rules_steps::{Ledger, RuleError, determined_slot, prove_that};
 use std::alloc::Global;
 
 /// Whether indices are asked of a guard.
-pub(crate) fn asks_indices(asked: &Asked) -> bool
+pub fn asks_indices(asked: &Asked) -> bool
     ensures { result ≡ indices_asked asked.now }
 {
     match asked {
@@ -29,8 +29,8 @@ pub(crate) fn asks_indices(asked: &Asked) -> bool
     }
 }
 
-// What the slot of what is asked stands for.
-fn index_of(alloc: Global, env: &Env, asked: &Asked) -> Result<Term, RuleError>
+/// What the slot of what is asked stands for.
+pub(crate) fn index_of(alloc: Global, env: &Env, asked: &Asked) -> Result<Term, RuleError>
     ensures { Makes result (slot_determined env.now (asked_slot asked.now)) }
 {
     match asked {
@@ -164,8 +164,8 @@ fn number_at(numbers: &[u32], place: usize) -> Result<u32, RuleError>
     Ok(numbers[place])
 }
 
-// An indexed atom of the fact's region, out of the piece whose number stands at a place.
-fn match_span(
+/// An indexed atom of the fact's region, out of the piece whose number stands at a place.
+pub(crate) fn match_span(
     alloc: Global,
     ledger: &mut Ledger,
     state: &State,

@@ -332,19 +332,28 @@ fn a_copy_takes_no_memory(rt: HostRuntime) -> Result<(), Fail> {
     Ok(())
 }
 
+// Each list of the other state has more members.
+fn have_more(rt: &impl Abort, one: &State, other: &State) {
+    for part in PARTS {
+        let more = count(other, part) > count(one, part);
+        assert!(rt; more, "no further member in {part:?}");
+    }
+}
+
+// Changes each list of a copy.
+fn change_copy(rt: &impl Abort, alloc: Global, state: &State) -> Result<(), LinError> {
+    let mut copy = state.copy()?;
+    add_to_all(alloc, &mut copy)?;
+    have_more(rt, state, &copy);
+    Ok(())
+}
+
 // A change of each list of a copy leaves the state, also where memory runs out on the way.
 #[test]
 fn changes_after_a_copy(rt: HostRuntime) -> Result<(), Fail> {
-    let alloc = rt.alloc();
-    let state = full_state(alloc)?;
-    let before = full_state(alloc)?;
-    let mut copy = state.copy()?;
-    let changed = add_to_all(alloc, &mut copy);
+    let state = full_state(rt.alloc())?;
+    let changed = change_copy(&rt, rt.alloc(), &state);
+    let before = full_state(rt.alloc())?;
     are_full_and_same(&rt, &state, &before);
-    changed?;
-    for part in PARTS {
-        let more = count(&copy, part) > count(&state, part);
-        assert!(rt; more, "no further member in {part:?}");
-    }
-    Ok(())
+    Ok(changed?)
 }

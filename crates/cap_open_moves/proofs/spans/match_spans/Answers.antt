@@ -15,13 +15,13 @@ loop-guard-preserved c =
     let a = c.args in
     elim c.if-asks_indices.branch [
       | then-asks_indices+in_ok-match_span w ↦ rw (w.ledger-is, w.named-is) (record {
-          leads = span-next a.state.now a.fact.now a.env.now a.guards.now c.loop-guard.guard-index c.guard-item.result a.spans.now c.loop-guard.named _ _ _ _ (omega arith) c.guard-item.is (sym c.asks_indices.ensures ∙ w.if-asks_indices.true) w.in_ok-match_span.ensures.claims c.loop-guard.invariant.leads;
-          within = omega (arith, w.in_ok-match_span.ensures.there);
-        })
+        leads = span-next a.state.now a.fact.now a.env.now a.guards.now c.loop-guard.guard-index c.guard-item.result a.spans.now c.loop-guard.named _ _ _ _ (omega arith) c.guard-item.is (sym c.asks_indices.ensures ∙ w.if-asks_indices.true) w.in_ok-match_span.ensures.claims c.loop-guard.invariant.leads;
+        within = omega (arith, w.in_ok-match_span.ensures.there);
+      })
       | else-asks_indices w ↦ rw (w.ledger-is, w.named-is) (record {
-          leads = span-skips a.state.now a.fact.now a.env.now a.guards.now c.loop-guard.guard-index c.guard-item.result _ _ _ _ (omega arith) c.guard-item.is (sym c.asks_indices.ensures ∙ w.if-asks_indices.false) c.loop-guard.invariant.leads;
-          within = c.loop-guard.invariant.within;
-        })
+        leads = span-skips a.state.now a.fact.now a.env.now a.guards.now c.loop-guard.guard-index c.guard-item.result _ _ _ _ (omega arith) c.guard-item.is (sym c.asks_indices.ensures ∙ w.if-asks_indices.false) c.loop-guard.invariant.leads;
+        within = c.loop-guard.invariant.within;
+      })
     ]
 
 pub returns : goal.returns
