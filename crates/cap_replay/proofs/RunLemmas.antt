@@ -26,7 +26,7 @@ use Rattle.cap_replay.specs.Advancing.{is_fault, Advances}
 
 -- ---- the events of steps, and those of faults
 
-abbrev Tells : Outcome → Type 0
+abbrev pub Tells : Outcome → Type 0
 Tells (next c event) = is_fault event ≡ false
 Tells (fault event) = is_fault event ≡ true
 Tells disabled = Unit {0}
@@ -72,7 +72,7 @@ does-tells p s l (loop c i a) b base = choice-tells (holds s.frame.store c) _ _ 
 does-tells p s l (check c) b base = choice-tells (holds s.frame.store c) _ (fault (Failed l.place)) refl refl
 does-tells p s l (give_back t) b base = returns-tells s (value_in s.frame.store t) s.below
 
-step-tells : (p : PlainProgram) (c : Configuration) (e : Entry) → Tells (step p c e)
+pub step-tells : (p : PlainProgram) (c : Configuration) (e : Entry) → Tells (step p c e)
 step-tells p c e = go (slice_get c.threads e.thread)
   where
     block : (s : Spot) (b : Block) → Tells (statement_step p s e.base b)

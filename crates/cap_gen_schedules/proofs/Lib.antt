@@ -1,0 +1,6 @@
+pub mod Draws
+pub mod Addresses
+pub mod Alive
+pub mod Turns
+pub mod Schedules
+pub mod Lines
