@@ -8,7 +8,7 @@ use Rattle.cap_resolve_spec.specs.Finding.{guard_count, unknown_word, twice_word
 use Rattle.cap_resolve_spec.specs.Parts.{PlacedItem, term_words, comparison_words, when_comparisons, placed_items}
 use Rattle.cap_resolve_spec.specs.Names.{word_place, repeated, past_variables, past, parameters_findings}
 use Rattle.cap_resolve_spec.specs.Terms.{wanted_as, term_findings, terms_findings, comparison_wanted}
-use Rattle.cap_resolve_spec.specs.Items.{NumberedRegion, Occurrence, unbound, scope_of, atom_occurrences, occurrence_word, occurrence_words, ret_findings, item_wanted, atom_wanted, atom_findings, atoms_twice}
+use Rattle.cap_resolve_spec.specs.Items.{NumberedRegion, Occurrence, unbound, scope_of, occurrence_word, occurrence_words, ret_findings, item_wanted, atom_wanted, atom_findings, atoms_twice}
 use Rattle.cap_resolve_spec.specs.Regions.{own_parameters, own_name, parameters_scope, case_types, case_occurrences, case_new, is_known_in, case_known, case_unknown, case_scope, case_wanted, case_items_findings, case_findings, action_atoms, action_occurrences, action_new, is_whole_in, action_known, action_unknown, action_scope, action_wanted, action_findings, guard_names, region_type_findings}
 use Rattle.cap_resolve_spec.proofs.Every.{each_front, each_behind}
 use Rattle.cap_resolve_spec.proofs.Nothing.{nothing_front, nothing_behind, nothing_mapped, nothing_kept}
