@@ -3,7 +3,7 @@ use Rattle.std.proofs.Common.{◌≡◌, ℕ, ◌+◌, List, length, Option, Som
 use Rattle.cap_syntax.specs.declared.place.Place.{Place}
 use Rattle.cap_parse_tree.specs.declared.word.Word.{Word}
 use Rattle.cap_parse_tree.specs.Tree.{TermTree, ValueTree, value, load, alloc, cas, result_of, StatementTree, assign, store, call, fork, branch, loop, check, give_back, ElseTree, no_else, else_block, StatementTrees, no_statement, then_statement, BlockTree, block}
-use Rattle.cap_prog.specs.Program.{PlainAct, Block, first, append}
+use Rattle.cap_prog.specs.Program.{first, append}
 use Rattle.cap_prog.specs.Program as plain
 use Rattle.cap_resolve_spec.specs.Parts.{statement_parts, block_parts}
 use Rattle.cap_resolve_spec.specs.Names.{NameScope}
