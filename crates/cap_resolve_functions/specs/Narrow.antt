@@ -1,6 +1,7 @@
 -- Parts of a tree whose numbers stay within the widths of a program: the results on the way to each
--- linear form within 128 bits, and the number of cells of each allocation within 32.
-use Rattle.std.specs.Prelude.{◌≡◌, ◌<◌, ◌^◌, List, ◌∷◌, ◌++◌, [], Option, Some, None}
+-- linear form within 128 bits; the number of cells of each allocation, and the numbers of parameters,
+-- locals and statements of a function, within 32.
+use Rattle.std.specs.Prelude.{◌≡◌, ◌+◌, ◌<◌, ◌^◌, length, List, ◌∷◌, ◌++◌, [], Option, Some, None}
 use Rattle.std.specs.List.{AllByRecursion}
 use Rattle.cap_lin.specs.Steps.{first_wide}
 use Rattle.cap_syntax.specs.declared.place.Place.{Place}
@@ -115,6 +116,8 @@ pub record IsNarrowFunction (g : Context) (n : Named) (f : FunctionTree) : Type 
       (whole_numbers n.parameters
       ++ (hidden n.locals ++ (scope_of n.fixed ++ result_entry ∷ []))) f.postcondition
   pub body : IsNarrowBlock g f.body
+  pub names : length n.parameters + length n.locals < 2 ^ 32
+  pub counted : length (block_parts f.body) + 1 < 2 ^ 32
 
 abbrev pub IsNarrowBuilt :
     List RegionTree → List FunctionTree → List TypedName → Named → FunctionTree → Type 0

@@ -123,16 +123,11 @@ fn statement_place(statement: &StatementTree) -> Place
 }
 
 /// Counts one statement more.
-fn advance(next: &mut u32) -> Result<(), AllocError>
-    ensures { OnOk result (next.new ≡ next.old + 1) }
+fn advance(next: &mut u32)
+    requires { next.now + 1 < 2 ^ 32 }
+    ensures { next.new ≡ next.old + 1 }
 {
-    match next.checked_add(1) {
-        Some(number) => {
-            *next = number;
-            Ok(())
-        }
-        None => Err(AllocError),
-    }
+    *next += 1;
 }
 
 #[tactic(auto, using(crate::proofs::Blocks::joined, cap_prog::specs::declared::function::Act::TheFolds::the_lemmas))]
@@ -221,13 +216,15 @@ fn build_act<'a>(
     body: &Body<'_, '_, 'a>,
     next: &mut u32,
 ) -> Result<Act, AllocError>
-    requires { IsNarrowStatement (context_seen body.now) (statement_view statement.now) }
+    requires narrow { IsNarrowStatement (context_seen body.now) (statement_view statement.now) }
+    requires counted { next.now + length (statement_parts (statement_view statement.now))
+        < 2 ^ 32 }
     ensures built { IfOk result (λ a. act_view a
         ≡ act_program (context_seen body.now) next.old (statement_view statement.now)) }
     ensures counted { OnOk result (next.new
         ≡ next.old + length (statement_parts (statement_view statement.now))) }
 {
-    advance(next)?;
+    advance(next);
     match statement {
         StatementTree::Assign(word, _, value, _) => {
             let variable = body.scope.number(word.text.as_bytes());
@@ -267,7 +264,9 @@ fn push_statement<'a>(
     next: &mut u32,
     list: &mut Vec<Statement>,
 ) -> Result<(), AllocError>
-    requires { IsNarrowStatement (context_seen body.now) (statement_view statement.now) }
+    requires narrow { IsNarrowStatement (context_seen body.now) (statement_view statement.now) }
+    requires counted { next.now + length (statement_parts (statement_view statement.now))
+        < 2 ^ 32 }
     ensures built { OnOk result (block_seen list.new.items ≡ append (block_seen list.old.items)
         (first (label next.old (place_of (statement_view statement.now)))
         (act_program (context_seen body.now) next.old (statement_view statement.now)) done)) }
@@ -287,7 +286,8 @@ fn build_block<'a>(
     body: &Body<'_, '_, 'a>,
     next: &mut u32,
 ) -> Result<Vec<Statement>, AllocError>
-    requires { IsNarrowBlock (context_seen body.now) (block_view block.now) }
+    requires narrow { IsNarrowBlock (context_seen body.now) (block_view block.now) }
+    requires counted { next.now + length (block_parts (block_view block.now)) < 2 ^ 32 }
     ensures built { IfOk result (λ made. block_seen made.items
         ≡ block_program (context_seen body.now) next.old (block_view block.now)) }
     ensures counted { OnOk result (next.new
@@ -306,7 +306,8 @@ pub(crate) fn build_body<'a>(
     block: &'a Block,
     body: &Body<'_, '_, 'a>,
 ) -> Result<Vec<Statement>, AllocError>
-    requires { IsNarrowBlock (context_seen body.now) (block_view block.now) }
+    requires narrow { IsNarrowBlock (context_seen body.now) (block_view block.now) }
+    requires counted { length (block_parts (block_view block.now)) + 1 < 2 ^ 32 }
     ensures { IfOk result (λ made. block_seen made.items
         ≡ body_program (context_seen body.now) (block_view block.now)) }
 {

@@ -1,6 +1,7 @@
 -- Nothing is found in the region types and functions of a tree that is not refused.
-use Rattle.std.proofs.Common.{◌≡◌, ℕ, zero, suc, ◌+◌, ◌<◌, List, [], ◌∷◌, ◌++◌, get_or, length, map, flat_map, None, option_to_list, sym, subst, arith}
+use Rattle.std.proofs.Common.{◌≡◌, ℕ, zero, suc, ◌+◌, ◌<◌, ◌≤◌, List, [], ◌∷◌, ◌++◌, get_or, length, map, flat_map, None, option_to_list, sym, subst, arith}
 use Rattle.std.specs.List.{enumerate_from}
+use Rattle.std.proofs.lemmas.List.{length-map}
 use Rattle.cap_prog.specs.WellFormed.{most_functions, most_regions}
 use Rattle.cap_parse_tree.specs.Tree.{RegionTree, ProgramTree}
 use Rattle.cap_resolve_spec.specs.Finding.{twice_word, region_count, function_count}
@@ -11,7 +12,7 @@ use Rattle.cap_resolve_spec.specs.Regions.{region_type_findings}
 use Rattle.cap_resolve_spec.specs.Functions.{function_findings, main_findings}
 use Rattle.cap_resolve_spec.specs.Refusal.{IsRight}
 use Rattle.cap_resolve_spec.specs.Stands.{region_word, function_word, main_of, refusal}
-use Rattle.cap_resolve_spec.proofs.Nothing.{nothing_front, nothing_behind}
+use Rattle.cap_resolve_spec.proofs.Nothing.{nothing_front, nothing_behind, not_past}
 use Rattle.cap_resolve_spec.proofs.First.{unrefused-right}
 use Rattle.cap_resolve_tables.specs.declared.tables.RegionType.{RegionType}
 use Rattle.cap_resolve_tables.specs.Tables.{type_view}
@@ -30,6 +31,14 @@ pub in_functions : (t : ProgramTree) → refusal t ≡ None → flat_map (functi
 in_functions t e =
     nothing_front (flat_map (function_findings (regions t) (functions t)) (functions t)) _
     (nothing_behind (flat_map (region_type_findings (regions t)) (numbered_regions (regions t))) _ (declared t e))
+
+pub few_regions : (t : ProgramTree) → refusal t ≡ None → length (regions t) ≤ most_regions
+few_regions t e =
+    let r : IsRight t = unrefused-right t e in
+    subst (λ n. n ≤ most_regions) (length-map (regions t) region_word)
+    (not_past most_regions region_count (map region_word (regions t))
+    (nothing_front (past most_regions region_count (map region_word (regions t))) _
+    (nothing_behind (map twice_word (repeated (map region_word (regions t)) ++ repeated (map function_word (functions t)))) _ r.nothing)))
 
 -- ---- the region types of a table, numbered from a number on
 
