@@ -1,12 +1,10 @@
 -- What a choice that applies leaves.
-use Rattle.std.proofs.Common.{◌≡◌, List, [], ◌∷◌, Option, Some, None, refl, ap, sym, ◌∙◌}
+use Rattle.std.proofs.Common.{◌≡◌, List, [], ◌∷◌, Option, Some, None, refl, ap}
 use Rattle.std.specs.Prelude.{Result, Ok, Err, IfOk}
-use Rattle.cap_farkas.specs.declared.cert.Cert.{Cert}
 use Rattle.cap_prog.specs.Program.{PlainProgram}
 use Rattle.cap_goal_spec.specs.States.{PlainGoal}
-use Rattle.cap_goal_spec.specs.Choices.{PlainChoice, certs_of, PlainTree, PlainTrees, no_trees, tree}
-use Rattle.cap_rules.specs.Attempts.{Attempt}
-use Rattle.cap_rules.specs.Answers.{Answer, applies, inapplicable, too_wide, answer_or, answer_at, Ending, passed, refused, stopped, Answers, marks_of}
+use Rattle.cap_goal_spec.specs.Choices.{PlainChoice, certs_of, PlainTree, tree}
+use Rattle.cap_rules.specs.Answers.{applies, inapplicable, too_wide, answer_or, answer_at, Ending, passed, refused, stopped, Answers, marks_of}
 use Rattle.cap_rules.specs.Rules.{rule}
 use Rattle.cap_rules_steps.specs.declared.error.RuleError.{RuleError}
 use Rattle.cap_rules_steps.specs.Judging.{Answered}

@@ -1,5 +1,5 @@
 -- A goal below which there is room is visited, and then its offered choices are tried.
-use Rattle.std.proofs.Common.{◌≡◌, ℕ, zero, suc, ◌-◌, false, List, Option, Some, None, option_map, refl, ap, sym, subst, ◌∙◌, arith}
+use Rattle.std.proofs.Common.{◌≡◌, ℕ, suc, ◌-◌, false, List, Some, option_map, ap, sym, ◌∙◌, arith}
 use Rattle.cap_prog.specs.Program.{PlainProgram}
 use Rattle.cap_goal_spec.specs.States.{PlainGoal}
 use Rattle.cap_goal_spec.specs.Choices.{PlainChoice}

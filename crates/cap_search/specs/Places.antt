@@ -2,7 +2,7 @@
 use Rattle.std.specs.Prelude.{ℕ, ◌==◌, List, [], ◌∷◌, ◌++◌, find, option_map, Option}
 use Rattle.cap_syntax.specs.declared.place.Place.{Place}
 use Rattle.cap_prog.specs.Program.{PlainAct, set, read, write, cas, alloc, call, fork, branch, loop, check, give_back, Block, done, first, PlainStatement, PlainFunction}
-use Rattle.cap_prog.specs.Parts.{all_statements, block_statements}
+use Rattle.cap_prog.specs.Parts.{block_statements}
 use Rattle.cap_search_spec.specs.Leaves.{first_place}
 
 -- of each loop two, in the order of the text

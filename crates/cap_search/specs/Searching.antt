@@ -1,5 +1,5 @@
 -- What a search answers: a tree or none, with the record after it, or why it ends early.
-use Rattle.std.specs.Prelude.{◌≡◌, ℕ, zero, suc, List, ◌++◌, Option, Some, None, option_map, Result, Ok, Err}
+use Rattle.std.specs.Prelude.{◌≡◌, List, ◌++◌, Option, Some, None, option_map, Result, Ok, Err}
 use Rattle.cap_search_spec.specs.Walks.{PlainWalk, counted}
 use Rattle.cap_search.specs.declared.walk.Walk.{Walk}
 use Rattle.cap_search.specs.declared.walk.Stop.{Stop}

@@ -1,5 +1,5 @@
 -- What contracts see of obligations, leaves, the record of a search and verdicts.
-use Rattle.std.specs.Prelude.{ℕ, List, map, option_map, Option}
+use Rattle.std.specs.Prelude.{List, map, option_map, Option}
 use Rattle.std.specs.Global.{Vec}
 use Rattle.cap_goal_spec.specs.Choices.{PlainTree}
 use Rattle.cap_goal.specs.declared.choice.Node.{Node}

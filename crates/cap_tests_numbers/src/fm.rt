@@ -12,7 +12,7 @@ use std::alloc::{AllocError, Global};
 use std::test::Fail;
 
 // A constant, multiples of the variables 0 and 1, and what the sum is to 0.
-type Line = (i128, i128, i128, Kind);
+pub(crate) type Line = (i128, i128, i128, Kind);
 
 fn row(alloc: Global, line: Line, sort: Sort) -> Result<Row, LinError> {
     let term = sum(alloc, line.0, &[(0, line.1), (1, line.2)])?;
@@ -20,7 +20,7 @@ fn row(alloc: Global, line: Line, sort: Sort) -> Result<Row, LinError> {
     Ok(Row { term, kind, sort })
 }
 
-fn push_rows(
+pub(crate) fn push_rows(
     alloc: Global,
     rows: &mut Vec<Row>,
     lines: &[Line],

@@ -1,6 +1,8 @@
-//! Tests of terms, rows, certificates, elimination, sets of indices and guards. It has no other code.
+//! Tests of terms, rows, certificates, elimination, cores, sets of indices and guards. It has no other code.
 #![tactic(auto)]
 
+#[cfg(test)]
+mod cores;
 #[cfg(test)]
 mod farkas;
 #[cfg(test)]

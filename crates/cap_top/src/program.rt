@@ -149,8 +149,9 @@ pub fn run<S: Shelf, K: Sink>(
     ensures tried { (n : ℕ) → meant_by words.now ≡ Some (trial n) → result ≡ Good
         → IsProvedText default_budget (trial_text n) }
 
-    // Where `verify` or `derive` says that the precondition of `main` is empty, the bytes that the
-    // file gave are the text of a program that has no start.
+    // Where `verify` or `derive` ends with status 1, that answers the bytes that the file gave; and
+    // where it says that the precondition of `main` is empty, they are the text of a program that
+    // has no start.
     ensures empty { (name : List ℕ) (budget : ℕ) → meant_by words.now ≡ Some (verify name budget)
         → result ≡ Bad → FailsFile (IsVerified budget) (S.seen shelf.old) (S.seen shelf.new) name
         (K.seen sink.old) (K.seen sink.new) }

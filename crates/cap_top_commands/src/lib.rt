@@ -1,4 +1,4 @@
-//! What the tool answers to words and to the bytes of files.
+//! What each command answers to the bytes of its files, and what the answers promise.
 #![tactic(auto)]
 
 mod answer;

@@ -1,0 +1,8 @@
+//! The rows of a proof that it cannot do without.
+#![tactic(auto)]
+
+mod laws;
+mod leaving;
+
+pub use laws::cores_are_irreducible;
+pub use leaving::core;
