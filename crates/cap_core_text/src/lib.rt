@@ -1,0 +1,8 @@
+//! Which rows the proofs of a unit need, as lines.
+#![tactic(auto)]
+
+mod laws;
+mod lines;
+
+pub use laws::proofs_have_cores;
+pub use lines::push_core_lines;

@@ -1,0 +1,8 @@
+//! The nodes of derivations, each with its goal, in preorder.
+#![tactic(auto)]
+
+mod laws;
+mod walk;
+
+pub use laws::nodes_are_proven;
+pub use walk::{GoalNode, NodeWalk};
