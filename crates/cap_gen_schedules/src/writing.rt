@@ -2,7 +2,7 @@
 ghost use Rattle.std.specs.Prelude.{◌≡◌, ◌++◌, IfOk, OnOk, string_bytes, flat_map, codes};
 ghost use Rattle.std.specs.Fmt.{signed_decimal};
 ghost use Rattle.cap_replay.specs.Writing.{numbers_text, cell_text, entry_text};
-ghost use Rattle.cap_replay.specs.Writing.{schedule_text as text_of};
+ghost use Rattle.cap_replay.specs.Writing.{schedule_text as text_of, schedule_view};
 
 use cap_machine::Entry;
 use cap_replay::Schedule;
@@ -102,7 +102,7 @@ fn push_entries(alloc: Global, text: &mut Vec<u8>, entries: &[Entry]) -> Result<
 /// there are at most 100,000 entries, it is read as this schedule
 /// (`cap_replay::written_schedules_are_read_back`). The only error is want of memory.
 pub fn schedule_text(alloc: Global, schedule: &Schedule) -> Result<Vec<u8>, AllocError>
-    ensures { IfOk result (λ text. text.items ≡ text_of schedule.now) }
+    ensures { IfOk result (λ text. text.items ≡ text_of (schedule_view schedule.now)) }
 {
     let mut text = Vec::from_slice(alloc, b"start")?;
     push_numbers(alloc, &mut text, &schedule.args)?;

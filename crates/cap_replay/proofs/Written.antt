@@ -9,15 +9,14 @@ use Rattle.std.proofs.lemmas.Bool.Decides.{nat_tests}
 use Rattle.cap_lin.specs.Steps.{fits}
 use Rattle.cap_machine.specs.declared.event.Entry.{Entry}
 use Rattle.cap_machine.specs.Cells.{AscendsFrom}
-use Rattle.cap_replay.specs.declared.entries.Schedule.{Schedule}
 use Rattle.cap_replay.specs.declared.reading.ScheduleError.{ScheduleError}
 use Rattle.cap_replay.specs.declared.reading.ScheduleError.TheVariants.{TooMany}
 use Rattle.cap_replay.specs.declared.reading.Stage.{Stage}
 use Rattle.cap_replay.specs.declared.reading.Stage.TheVariants.{Start, Cells, Steps, End}
 use Rattle.cap_replay.specs.Pieces.{grow, put, pieces}
 use Rattle.cap_replay.specs.Numbers.{is_digit, more_digits, zero_alone, natural, below_zero, number}
-use Rattle.cap_replay.specs.Reading.{put_number, numbers_of, address_of, cell_with, entry_with, entry_of, base_of, Progress, begins, bad_unless, takes_args, takes_cell, takes_entry, of_words, take_line, lines_of, then_read, read_from, read, IsReadAs}
-use Rattle.cap_replay.specs.Writing.{numbers_text, cell_text, base_text, entry_text, schedule_lines, schedule_text, IsNarrowCell, IsNarrowEntry, IsWithinLimits}
+use Rattle.cap_replay.specs.Reading.{put_number, numbers_of, address_of, cell_with, entry_with, entry_of, base_of, Progress, begins, bad_unless, takes_args, takes_cell, takes_entry, of_words, take_line, lines_of, then_read, read_from, read}
+use Rattle.cap_replay.specs.Writing.{numbers_text, cell_text, base_text, entry_text, schedule_lines, schedule_text, IsNarrowCell, IsNarrowEntry, PlainSchedule, IsWithinLimits, IsReadWhole}
 use Rattle.cap_replay.proofs.PieceLemmas.{join, first_whole}
 use Rattle.cap_replay.proofs.ReadLemmas.{one_piece}
 
@@ -286,7 +285,7 @@ entries-read P rest last args heap (e ∷ es) n s done o l h f =
 
 -- ---- the whole
 
-ends-back : (s : Schedule) (m : ℕ) (last : ℤ) (t : Stage) → IsOpen t → IsReadAs (Ok s) (read_from m (progress t last s.args.items s.heap.items s.entries.items) (codes "end" ∷ []))
+ends-back : (s : PlainSchedule) (m : ℕ) (last : ℤ) (t : Stage) → IsOpen t → IsReadWhole s (read_from m (progress t last s.args s.heap s.entries) (codes "end" ∷ []))
 ends-back s m last Start o = absurd o
 ends-back s m last Cells o = (refl, refl, refl)
 ends-back s m last Steps o = (refl, refl, refl)
@@ -316,20 +315,20 @@ clear-each : {A : Type 0} (f : A → List ℕ) (Q : A → Type 0) → ((x : A) �
 clear-each f Q g [] ls h k = k
 clear-each f Q g (x ∷ xs) ls h k = (g x h.0, clear-each f Q g xs ls h.1 k)
 
-clear-lines : (s : Schedule) → IsWithinLimits s → AllByRecursion (Clear 10) (schedule_lines s)
+clear-lines : (s : PlainSchedule) → IsWithinLimits s → AllByRecursion (Clear 10) (schedule_lines s)
 clear-lines s h = (
-  clear-append 10 (codes "start") (numbers_text s.args.items) (clear-of 10 (codes "start") (refl, (refl, (refl, (refl, (refl, tt)))))) (clear-numbers s.args.items h.args),
-  clear-each cell_text IsNarrowCell clear-cell s.heap.items (map entry_text s.entries.items ++ codes "end" ∷ []) h.cells
-      (clear-each entry_text IsNarrowEntry clear-entry s.entries.items (codes "end" ∷ []) h.entries
+  clear-append 10 (codes "start") (numbers_text s.args) (clear-of 10 (codes "start") (refl, (refl, (refl, (refl, (refl, tt)))))) (clear-numbers s.args h.args),
+  clear-each cell_text IsNarrowCell clear-cell s.heap (map entry_text s.entries ++ codes "end" ∷ []) h.cells
+      (clear-each entry_text IsNarrowEntry clear-entry s.entries (codes "end" ∷ []) h.entries
       (clear-of 10 (codes "end") (refl, (refl, (refl, tt))), tt)),
 )
 
-pub schedule-back : (s : Schedule) → IsWithinLimits s → IsReadAs (Ok s) (read (schedule_text s))
+pub schedule-back : (s : PlainSchedule) → IsWithinLimits s → IsReadWhole s (read (schedule_text s))
 schedule-back s h =
-    let few : length s.entries.items ≤ 100000 = h.few in
-    let behind : List (List ℕ) = map entry_text s.entries.items ++ codes "end" ∷ [] in
-    subst (λ ls. IsReadAs (Ok s) (read_from 1 begins ls)) (sym (lines-back (schedule_lines s) (clear-lines s h)))
-    (subst (IsReadAs (Ok s)) (sym (ap (λ r. then_read r (λ q. read_from 2 q (map cell_text s.heap.items ++ behind))) (start-taken s.args.items h.args)))
-    (cells-read (IsReadAs (Ok s)) behind s.args.items s.heap.items 2 0 [] h.addresses h.cells
-    (λ m last. entries-read (IsReadAs (Ok s)) (codes "end" ∷ []) last s.args.items s.heap.items s.entries.items m Cells [] tt (omega arith) h.entries
+    let few : length s.entries ≤ 100000 = h.few in
+    let behind : List (List ℕ) = map entry_text s.entries ++ codes "end" ∷ [] in
+    subst (λ ls. IsReadWhole s (read_from 1 begins ls)) (sym (lines-back (schedule_lines s) (clear-lines s h)))
+    (subst (IsReadWhole s) (sym (ap (λ r. then_read r (λ q. read_from 2 q (map cell_text s.heap ++ behind))) (start-taken s.args h.args)))
+    (cells-read (IsReadWhole s) behind s.args s.heap 2 0 [] h.addresses h.cells
+    (λ m last. entries-read (IsReadWhole s) (codes "end" ∷ []) last s.args s.heap s.entries m Cells [] tt (omega arith) h.entries
     (λ k t o. ends-back s k last t o))))

@@ -1,12 +1,23 @@
 -- The canonical text of a schedule, which is read as that schedule.
-use Rattle.std.specs.Prelude.{◌≡◌, ◌≤◌, ◌<◌, ◌^◌, ℤ, pos, true, List, [], ◌∷◌, ◌++◌, map, flat_map, length, codes, ℕ, Option, Some, None, IfSome, Ok}
+use Rattle.std.specs.Prelude.{◌≡◌, ◌≤◌, ◌<◌, ◌^◌, ℤ, pos, true, List, [], ◌∷◌, ◌++◌, map, flat_map, length, codes, ℕ, Option, Some, None, IfSome, Result, Ok, Err}
 use Rattle.std.specs.List.{AllByRecursion}
 use Rattle.std.specs.Fmt.{decimal, signed_decimal}
 use Rattle.cap_lin.specs.Steps.{fits}
 use Rattle.cap_machine.specs.declared.event.Entry.{Entry}
 use Rattle.cap_machine.specs.Cells.{AscendsFrom}
 use Rattle.cap_replay.specs.declared.entries.Schedule.{Schedule}
-use Rattle.cap_replay.specs.Reading.{most_entries, read, IsReadAs}
+use Rattle.cap_replay.specs.declared.reading.ScheduleError.{ScheduleError}
+use Rattle.cap_replay.specs.Reading.{Progress, most_entries, read}
+
+-- a schedule as plain data
+pub record PlainSchedule : Type 0 where
+  pub args : List ℤ
+  pub heap : List (ℤ × ℤ)
+  pub entries : List Entry
+
+abbrev pub schedule_view : Schedule → PlainSchedule
+schedule_view s =
+    record { args = s.args.items; heap = s.heap.items; entries = s.entries.items }
 
 -- numbers, each behind a space
 abbrev pub numbers_text : List ℤ → List ℕ
@@ -23,13 +34,13 @@ base_text (Some b) = codes " " ++ signed_decimal b
 abbrev pub entry_text : Entry → List ℕ
 entry_text e = codes "step " ++ (decimal e.thread ++ base_text e.base)
 
-abbrev pub schedule_lines : Schedule → List (List ℕ)
+abbrev pub schedule_lines : PlainSchedule → List (List ℕ)
 schedule_lines s =
-    (codes "start" ++ numbers_text s.args.items)
-    ∷ (map cell_text s.heap.items ++ (map entry_text s.entries.items ++ codes "end" ∷ []))
+    (codes "start" ++ numbers_text s.args)
+    ∷ (map cell_text s.heap ++ (map entry_text s.entries ++ codes "end" ∷ []))
 
 -- a line feed behind each line
-abbrev pub schedule_text : Schedule → List ℕ
+abbrev pub schedule_text : PlainSchedule → List ℕ
 schedule_text s = flat_map (λ l. l ++ codes "\n") (schedule_lines s)
 
 abbrev pub IsNarrowCell : ℤ × ℤ → Type 0
@@ -40,13 +51,18 @@ IsNarrowEntry e = (e.thread < 2 ^ 32) × IfSome e.base (λ b. fits b ≡ true)
 
 -- the numbers are within their bits, the addresses ascend, and there are no more entries than a
 -- schedule may have
-pub record IsWithinLimits (s : Schedule) : Type 0 where
-  pub args : AllByRecursion (λ v. fits v ≡ true) s.args.items
-  pub cells : AllByRecursion IsNarrowCell s.heap.items
-  pub addresses : AscendsFrom (pos 0) s.heap.items
-  pub entries : AllByRecursion IsNarrowEntry s.entries.items
-  pub few : length s.entries.items ≤ most_entries
+pub record IsWithinLimits (s : PlainSchedule) : Type 0 where
+  pub args : AllByRecursion (λ v. fits v ≡ true) s.args
+  pub cells : AllByRecursion IsNarrowCell s.heap
+  pub addresses : AscendsFrom (pos 0) s.heap
+  pub entries : AllByRecursion IsNarrowEntry s.entries
+  pub few : length s.entries ≤ most_entries
+
+-- it is read whole
+abbrev pub IsReadWhole : PlainSchedule → Result Progress ScheduleError → Type 0
+IsReadWhole s (Ok p) = (s.args ≡ p.args) × (s.heap ≡ p.heap) × (s.entries ≡ p.entries)
+IsReadWhole s (Err e) = ⊥
 
 -- what is written of a schedule is read as that schedule
 abbrev pub SchedulesAreReadBack : Type 0
-SchedulesAreReadBack = (s : Schedule) → IsWithinLimits s → IsReadAs (Ok s) (read (schedule_text s))
+SchedulesAreReadBack = (s : PlainSchedule) → IsWithinLimits s → IsReadWhole s (read (schedule_text s))

@@ -1,12 +1,12 @@
 use Rattle.std.proofs.Common.{◌∙◌, ap, ◌++◌, flat_map}
 use Rattle.std.specs.Prelude.{codes}
-use Rattle.cap_replay.specs.Writing.{numbers_text, cell_text, entry_text}
+use Rattle.cap_replay.specs.Writing.{numbers_text, cell_text, entry_text, schedule_view}
 use Rattle.cap_gen_schedules.proofs.Lines.{written}
 use Rattle.cap_gen_schedules.proofs.writing.schedule_text.Goals as goal
 
 pub returns : goal.returns
 returns c =
-    written c.args.schedule.now c.in_ok-text.text.items c.push_numbers.new.text.items
+    written (schedule_view c.args.schedule.now) c.in_ok-text.text.items c.push_numbers.new.text.items
     c.extend_from_slice.new.self.items c.push_cells.new.text.items c.push_entries.new.text.items
     c.extend_from_slice-2.new.self.items c.in_ok-text.ensures.items
     (c.in_ok-push_numbers.ensures
