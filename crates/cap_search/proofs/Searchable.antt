@@ -56,7 +56,7 @@ numbered-each P f unit low (suc count) zero n h few e =
 numbered-each P f unit low (suc count) (suc k) n h few e =
     numbered-each P f unit (low + 1) count k n (each-right P (f (unit low)) (flat_map f (map unit (range_with_len (low + 1) count))) h) (omega (arith, few)) (omega (arith, e))
 
-unit-each : {X : Type 0} (P : X → Type 0) (f : PlainUnit → List X) (p : PlainProgram) (u : PlainUnit) → HasUnit p u → AllByRecursion P (flat_map f (map region_unit (range_with_len 0 (length p.regions)) ++ map function_unit (range_with_len 0 (length p.functions)))) → AllByRecursion P (f u)
+pub unit-each : {X : Type 0} (P : X → Type 0) (f : PlainUnit → List X) (p : PlainProgram) (u : PlainUnit) → HasUnit p u → AllByRecursion P (flat_map f (map region_unit (range_with_len 0 (length p.regions)) ++ map function_unit (range_with_len 0 (length p.functions)))) → AllByRecursion P (f u)
 unit-each P f p u has h = by u has
   where
     regions : List PlainUnit

@@ -179,7 +179,7 @@ root-derives p None (Some g) h = absurd h
 root-derives p (Some t) None h = absurd h
 root-derives p (Some t) (Some g) h = guided-derives p 1 t g (first-is-guided p 1 t g h)
 
-roots-derive : (p : PlainProgram) (ts : List (Option PlainTree)) (rs : List (Option PlainGoal)) → AllZip (IsRootTree (IsFirst p)) ts rs → AllZip (RootDerives p) ts rs
+pub roots-derive : (p : PlainProgram) (ts : List (Option PlainTree)) (rs : List (Option PlainGoal)) → AllZip (IsRootTree (IsFirst p)) ts rs → AllZip (RootDerives p) ts rs
 roots-derive p [] [] h = tt
 roots-derive p [] (r ∷ rs) h = absurd h
 roots-derive p (t ∷ ts) [] h = absurd h
@@ -203,15 +203,16 @@ found-proved p u (too_wide a b) ts h = absurd cc
 found-proved p u too_many ts h = absurd cc
 found-proved p u (stuck i l) ts h = absurd cc
 
-record OfVerdict (p : PlainProgram) (n : ℕ) (u : PlainUnit) (ts : List (Option PlainTree)) : Type 0 where
-  narrow : first_wide (roots_steps p u) ≡ None
-  found : found p n (roots p u) ≡ proved ts
+-- what it means that a unit is proved by these trees
+pub record OfVerdict (p : PlainProgram) (n : ℕ) (u : PlainUnit) (ts : List (Option PlainTree)) : Type 0 where
+  pub narrow : first_wide (roots_steps p u) ≡ None
+  pub found : found p n (roots p u) ≡ proved ts
 
 narrow-proved : (p : PlainProgram) (n : ℕ) (u : PlainUnit) (ts : List (Option PlainTree)) (o : Option (ℤ × ℤ)) → first_wide (roots_steps p u) ≡ o → unless_wide o (verdict_of p u (found p n (roots p u))) ≡ is_proved ts → OfVerdict p n u ts
 narrow-proved p n u ts (Some w) e h = absurd cc
 narrow-proved p n u ts None e h = record { narrow = e; found = found-proved p u (found p n (roots p u)) ts h }
 
-of-verdict : (p : PlainProgram) (n : ℕ) (u : PlainUnit) (ts : List (Option PlainTree)) → IsProved p n u ts → OfVerdict p n u ts
+pub of-verdict : (p : PlainProgram) (n : ℕ) (u : PlainUnit) (ts : List (Option PlainTree)) → IsProved p n u ts → OfVerdict p n u ts
 unfolding verdict
 of-verdict p n u ts h = narrow-proved p n u ts (first_wide (roots_steps p u)) refl h
 

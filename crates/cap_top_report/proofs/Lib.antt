@@ -1,2 +1,3 @@
 mod Numbered
 pub mod Good
+mod Deriving

@@ -9,11 +9,17 @@ use Rattle.cap_top_report.specs.declared.derive.Conclusion.{Conclusion}
 use Rattle.cap_top_report.specs.declared.derive.Conclusion.TheVariants.{Proved, Reported}
 use Rattle.cap_top_report.specs.declared.report.Report.{Report}
 use Rattle.cap_top_report.specs.Found.{found_trees}
+use Rattle.cap_top_report.specs.Cores.{cores_text}
 use Rattle.cap_top_report.specs.Report.{proved_count, report_text, is_good}
 
 -- the report is that of the program, within a budget
 pub record IsReportOf (p : PlainProgram) (budget : ℕ) (r : Report) : Type 0 where
   pub text : r.text.items ≡ report_text p budget
+  pub good : r.good ≡ is_good p budget
+
+-- the report says too which rows each proof needs
+pub record IsCoresOf (p : PlainProgram) (budget : ℕ) (r : Report) : Type 0 where
+  pub text : r.text.items ≡ cores_text p budget
   pub good : r.good ≡ is_good p budget
 
 -- so many of the program's units are proved within a budget, of so many
