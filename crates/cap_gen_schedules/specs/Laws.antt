@@ -8,6 +8,7 @@ use Rattle.cap_machine.specs.Machine.{start}
 use Rattle.cap_machine_accounts.specs.Safety.{Safe}
 use Rattle.cap_replay.specs.declared.playing.End.TheVariants.{Stopped}
 use Rattle.cap_replay.specs.RunText.{run_from}
+use Rattle.cap_replay.specs.Writing.{PlainSchedule, IsWithinLimits}
 use Rattle.cap_gen_schedules.specs.Drawn.{first_fault}
 
 -- main has no parameters
@@ -18,6 +19,10 @@ TakesNothing p = IsSomeAnd (slice_get p.functions p.main) (λ f. 0 ≡ f.params)
 abbrev pub AsksForNothing : PlainProgram → Type 0
 AsksForNothing p =
     IsSomeAnd (slice_get p.functions p.main) (λ f. (0 ≡ f.params) × (f.requires ≡ none))
+
+-- the schedule of these entries, without arguments and cells
+abbrev pub drawn_schedule : List Entry → PlainSchedule
+drawn_schedule es = record { args = []; heap = []; entries = es }
 
 -- the run along a schedule that is found stops at its last entry
 abbrev pub FoundSchedulesFault : Type 0
@@ -31,3 +36,9 @@ abbrev pub SafeProgramsHaveNone : Type 0
 SafeProgramsHaveNone =
     (p : PlainProgram) (count : ℕ) (g : Lcg) → AsksForNothing p → Safe p →
     first_fault p count g ≡ None
+
+-- a schedule that is found is within the limits, so that its text is read as this schedule
+abbrev pub FoundSchedulesFit : Type 0
+FoundSchedulesFit =
+    (p : PlainProgram) (count : ℕ) (g : Lcg) (es : List Entry) →
+    first_fault p count g ≡ Some es → IsWithinLimits (drawn_schedule es)

@@ -7,3 +7,5 @@ mod Startless
 mod Following
 mod Deriving
 mod Accepting
+mod Coring
+pub mod Straying

@@ -8,22 +8,28 @@ use Rattle.cap_goal_spec.specs.Roots.{units}
 use Rattle.cap_parse_tree.specs.Tree.{ProgramTree}
 use Rattle.cap_parse_tree.specs.Canonical.{canonical_text}
 use Rattle.cap_parse_tree.specs.Texts.{Spells}
+use Rattle.cap_machine.specs.declared.event.Entry.{Entry}
 use Rattle.cap_machine.specs.Machine.{start}
 use Rattle.cap_replay.specs.declared.playing.End.{End}
 use Rattle.cap_replay.specs.declared.reading.ScheduleError.{ScheduleError}
 use Rattle.cap_replay.specs.declared.reading.ScheduleError.TheVariants.{BadLine}
+use Rattle.cap_replay.specs.declared.playing.End.TheVariants.{Stopped}
 use Rattle.cap_replay.specs.Reading.{Progress, read}
 use Rattle.cap_replay.specs.RunText.{RunText, run_from}
+use Rattle.cap_replay.specs.Writing.{schedule_text}
+use Rattle.cap_gen_schedules.specs.Drawn.{seeded, first_fault}
+use Rattle.cap_gen_schedules.specs.Laws.{AsksForNothing, drawn_schedule}
 use Rattle.cap_top_reading.specs.declared.refusal.Refusal.{Refusal}
 use Rattle.cap_top_reading.specs.Refused.{SpellNone, IsRefused, IsTextOf}
 use Rattle.cap_top_report.specs.Report.{proved_count}
-use Rattle.cap_top_commands.specs.declared.status.Status.TheVariants.{Good}
+use Rattle.cap_top_commands.specs.declared.status.Status.TheVariants.{Good, Bad}
 use Rattle.cap_top_commands.specs.Good.{IsGood, IsProvedText, IsAccepted}
+use Rattle.cap_top_commands.specs.SafeText.{IsSafeText}
 use Rattle.cap_top_commands.specs.Startless.{SaysEmpty, IsStartlessText}
-use Rattle.cap_top_words.specs.Meaning.{PlainCommand, verify, derive, check, show, replay, trial, default_budget}
-use Rattle.cap_top_commands.specs.Report.{IsReport}
+use Rattle.cap_top_words.specs.Meaning.{PlainCommand, verify, derive, check, show, replay, trial, stray, core, default_budget}
+use Rattle.cap_top_commands.specs.Report.{IsReport, IsCoresReport}
 use Rattle.cap_top_commands.specs.Derivations.{IsDerivation, IsChecked}
-use Rattle.cap_top_commands.specs.Output.{Output, usage_output, unreadable_output, long_output, refusal_output, tree_output, schedule_output, run_output, judged_output, trial_output}
+use Rattle.cap_top_commands.specs.Output.{Output, usage_output, unreadable_output, long_output, refusal_output, tree_output, schedule_output, run_output, judged_output, trial_output, no_start_output, stray_output, no_stray_output}
 
 -- ---- by the bytes of a text
 
@@ -58,6 +64,24 @@ IsTried n p o = o ≡ trial_output n (proved_count p default_budget) (length (un
 -- the trial of this number
 abbrev pub IsTrial : ℕ → Output → Type 0
 IsTrial n o = OfProgram (trial_text n) (IsTried n) o
+
+-- what `verify` says within the usual budget, with the rows that each proof needs
+abbrev pub IsCored : List ℕ → Output → Type 0
+IsCored bytes o = OfProgram bytes (IsCoresReport default_budget) o
+
+-- of the entries of the first schedule that faults, if one of so many does
+abbrev pub drawn_output : ℕ → Option (List Entry) → Output
+drawn_output count None = no_stray_output count
+drawn_output count (Some es) = stray_output (schedule_text (drawn_schedule es))
+
+-- of a program whose `main` asks for nothing so many schedules are drawn from the number
+abbrev pub IsStray : ℕ → ℕ → PlainProgram → Output → Type 0
+IsStray number count p o =
+    ((¬ AsksForNothing p) × (o ≡ no_start_output))
+    ⊎ (AsksForNothing p × (o ≡ drawn_output count (first_fault p count (seeded number))))
+
+abbrev pub IsStrayed : ℕ → ℕ → List ℕ → Output → Type 0
+IsStrayed number count bytes o = OfProgram bytes (IsStray number count) o
 
 abbrev pub IsDerived : ℕ → List ℕ → Output → Type 0
 IsDerived budget bytes o = OfProgram bytes (IsDerivation budget) o
@@ -171,6 +195,8 @@ IsOutput (Some (check file derivation)) = ByTwo file (IsJudged derivation)
 IsOutput (Some (show file)) = ByOne file IsShown
 IsOutput (Some (replay file schedule)) = ByTwo file (IsReplayed schedule)
 IsOutput (Some (trial n)) = ByNone (IsTrial n)
+IsOutput (Some (stray file number count)) = ByOne file (IsStrayed number count)
+IsOutput (Some (core file)) = ByOne file IsCored
 
 -- it is so of this output, and of no other
 pub record IsOnly (IsSaid : Output → Type 0) (o : Output) : Type 0 where
@@ -233,3 +259,27 @@ abbrev pub EmptyAnswersHaveNoStart : (ℕ → List ℕ → Output → Type 0) �
 EmptyAnswersHaveNoStart IsAnswered =
     (budget : ℕ) (bytes : List ℕ) (o : Output) →
     IsAnswered budget bytes o → SaysEmpty o → IsStartlessText bytes
+
+-- ---- what a schedule means that was drawn
+
+-- The bytes are the text of a program, and these lines a schedule, along which its run comes to a
+-- fault at its last entry.
+pub record FaultsAlong (bytes lines : List ℕ) : Type 0 where
+  pub program : PlainProgram
+  pub text_of_it : IsTextOf bytes program
+  pub schedule : Progress
+  pub reads : read lines ≡ Ok schedule
+  pub takes : TakesArguments program schedule
+  pub stops : (run_along program schedule).end ≡ Stopped (length schedule.entries)
+
+-- what is said with status 1 is such a schedule
+abbrev pub StraysFault : Type 0
+StraysFault =
+    (number count : ℕ) (bytes : List ℕ) (o : Output) →
+    IsStrayed number count bytes o → o.status ≡ Bad → FaultsAlong bytes o.text
+
+-- and none is said of the text of a safe program
+abbrev pub SafeTextsHaveNoStray : Type 0
+SafeTextsHaveNoStray =
+    (number count : ℕ) (bytes : List ℕ) (o : Output) →
+    IsOnly (IsStrayed number count bytes) o → IsSafeText bytes → o.status ≡ Bad → ⊥

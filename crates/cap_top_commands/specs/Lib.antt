@@ -8,5 +8,6 @@ pub mod SafeText
 pub mod Good
 pub mod Startless
 pub mod Answers
+pub mod Needed
 pub mod Views
 pub mod Beginning

@@ -23,7 +23,7 @@ pub record Output : Type 0 where
 
 abbrev pub usage_line : List ℕ
 usage_line =
-    codes "usage: caper verify FILE [--budget N] | derive FILE [--budget N] | check FILE DERIVATION | replay FILE SCHEDULE | show FILE | trial N\n"
+    codes "usage: caper verify FILE [--budget N] | derive FILE [--budget N] | check FILE DERIVATION | replay FILE SCHEDULE | show FILE | trial N | stray FILE N M | core FILE\n"
 
 abbrev pub usage_output : Output
 usage_output = record { status = Usage; text = usage_line }
@@ -104,6 +104,22 @@ schedule_line OutOfMemory = []
 
 abbrev pub schedule_output : ScheduleError → Output
 schedule_output e = record { status = Refused; text = schedule_line e }
+
+-- ---- of schedules that are drawn
+
+-- nothing is drawn where `main` asks for something
+abbrev pub no_start_output : Output
+no_start_output = record { status = Refused; text = codes "refused start\n" }
+
+-- the text of the first schedule that ends in a fault, or none of so many does
+abbrev pub stray_output : List ℕ → Output
+stray_output text = record { status = Bad; text = text }
+
+abbrev pub no_stray_output : ℕ → Output
+no_stray_output count =
+    record { status = Good; text = codes "stray: none in " ++ (decimal count ++ codes "\n") }
+
+-- ---- of a run
 
 abbrev pub end_status : End → Status
 end_status (Ended k) = Good

@@ -1,15 +1,20 @@
-//! Laws: a good answer means a safe program, `check` accepts what `derive` writes, and a program
-//! that is said to have an empty precondition has no start.
+//! Laws: a good answer means a safe program, `check` accepts what `derive` writes, a program that is
+//! said to have an empty precondition has no start, a schedule that is drawn ends in a fault, and
+//! the rows that a proof is said to need are needed.
 ghost use Rattle.cap_top_commands.specs.Answers.{AcceptedAreSafe, DerivedAreAccepted};
 ghost use Rattle.cap_top_commands.specs.Answers.{GoodAnswersAreSafe, GoodTrialsAreSafe};
 ghost use Rattle.cap_top_commands.specs.Answers.{EmptyAnswersHaveNoStart, IsVerified, IsDerived};
+ghost use Rattle.cap_top_commands.specs.Answers.{SafeTextsHaveNoStray, StraysFault};
+ghost use Rattle.cap_top_commands.specs.Needed.{CoresAreTold};
 
 use cap_account::derivations_are_sound;
 use cap_deriv_write::readings_are_lines;
+use cap_gen_schedules::{found_schedules_fault, found_schedules_fit, safe_programs_have_none};
 use cap_kernel_check::{judged_are_valid, judgements_are_one};
+use cap_replay::written_schedules_are_read_back;
 use cap_search_starts::empty_starts_are_none;
 use cap_top_reading::programs_of_texts_are_well_formed;
-use cap_top_report::found_trees_are_valid;
+use cap_top_report::{found_trees_are_valid, proved_have_cores};
 
 /// A law: what `verify` says with a good status is said of the text of a program that is safe.
 pub fn good_answers_are_safe()
@@ -58,5 +63,32 @@ pub fn empty_answers_have_no_start()
     ensures derived { EmptyAnswersHaveNoStart IsDerived }
 {
     empty_starts_are_none();
+    programs_of_texts_are_well_formed();
+}
+
+/// A law: what `stray` says with status 1 is a schedule along which the program of the text comes to
+/// a fault at the last entry.
+pub fn strays_fault()
+    ensures { StraysFault }
+{
+    found_schedules_fault();
+    found_schedules_fit();
+    written_schedules_are_read_back();
+}
+
+/// A law: `stray` says no schedule of the text of a safe program.
+pub fn safe_texts_have_no_stray()
+    ensures { SafeTextsHaveNoStray }
+{
+    safe_programs_have_none();
+}
+
+/// A law: what `core` says of the text of a program is its report with the lines of its proofs, each
+/// of which names the rows that this proof can't do without, and that suffice.
+pub fn cores_are_told()
+    ensures { CoresAreTold }
+{
+    good_answers_are_safe();
+    proved_have_cores();
     programs_of_texts_are_well_formed();
 }

@@ -31,11 +31,17 @@ pub enum Output<'a> {
     Played(Played),
     /// The number of a trial, and how many units of its program are proved.
     Tried { number: u32, counts: Counts },
+    /// No schedules are drawn, as `main` asks for something.
+    NoStart,
+    /// The text of a schedule that was drawn and ends in a fault.
+    Stray(Vec<u8>),
+    /// None of so many schedules ends in a fault.
+    NoStray(u64),
 }
 
 /// The command line, for words that are none.
 const USAGE: &str =
-    "usage: caper verify FILE [--budget N] | derive FILE [--budget N] | check FILE DERIVATION | replay FILE SCHEDULE | show FILE | trial N\n";
+    "usage: caper verify FILE [--budget N] | derive FILE [--budget N] | check FILE DERIVATION | replay FILE SCHEDULE | show FILE | trial N | stray FILE N M | core FILE\n";
 
 /// The status of a run that ends so.
 fn end_status(end: End) -> Status
@@ -121,6 +127,9 @@ impl<'a> Output<'a> {
             Output::Played(played) => end_status(played.end),
             Output::Tried { counts, .. } if counts.proved == counts.all => Status::Good,
             Output::Tried { .. } => Status::Bad,
+            Output::NoStart => Status::Refused,
+            Output::Stray(_) => Status::Bad,
+            Output::NoStray(_) => Status::Good,
         }
     }
 
@@ -148,6 +157,11 @@ impl<'a> Output<'a> {
             Output::BadSchedule(error) => schedule_text(alloc, error),
             Output::Played(played) => Ok(played.text),
             Output::Tried { number, counts } => counts_text(alloc, number, counts),
+            Output::NoStart => Ok(String::from_str(alloc, "refused start\n")?.into_bytes()),
+            Output::Stray(text) => Ok(text),
+            Output::NoStray(count) => {
+                Ok(format!(in alloc; "stray: none in {count}\n")?.into_bytes())
+            }
         }
     }
 }

@@ -1,15 +1,19 @@
 -- Each command has an output over all files.
-use Rattle.std.proofs.Common.{◌≡◌, inl, inr, ℕ, List, [], ◌∷◌, length, Some, None, refl}
+use Rattle.std.proofs.Common.{◌≡◌, ◌⊎◌, inl, inr, ℕ, List, [], ◌∷◌, length, Some, None, refl}
 use Rattle.cap_io.specs.Files.{Files, content}
 use Rattle.cap_parse_tree.specs.Canonical.{canonical_text}
 use Rattle.cap_prog.specs.Program.{PlainProgram}
 use Rattle.cap_gen.specs.Trial.{trial_text}
 use Rattle.cap_goal_spec.specs.Roots.{units}
 use Rattle.cap_top_report.specs.Report.{proved_count, is_good, report_text}
+use Rattle.cap_top_report.specs.Cores.{cores_text}
+use Rattle.cap_gen_schedules.specs.Drawn.{seeded, first_fault}
+use Rattle.cap_gen_schedules.specs.Laws.{AsksForNothing}
 use Rattle.cap_top_reading.specs.Refused.{IsTextOf}
-use Rattle.cap_top_commands.specs.Answers.{Fetched, held, unread, long, After, IsVerified, IsTrial, IsDerived, IsShown, IsReplayed, IsJudged, ByTwo}
-use Rattle.cap_top_commands.specs.Output.{Output, usage_output, unreadable_output, long_output, refusal_output, report_output, tree_output, trial_output}
-use Rattle.cap_top_words.specs.Meaning.{verify, derive, check, show, replay, trial, default_budget}
+use Rattle.cap_top_commands.specs.Answers.{Fetched, held, unread, long, After, IsVerified, IsTrial, IsStray, IsStrayed, IsCored, drawn_output, IsDerived, IsShown, IsReplayed, IsJudged, ByTwo}
+use Rattle.cap_top_commands.specs.Output.{Output, usage_output, unreadable_output, long_output, refusal_output, report_output, tree_output, trial_output, no_start_output}
+use Rattle.cap_top_words.specs.Meaning.{verify, derive, check, show, replay, trial, stray, core, default_budget}
+use Rattle.cap_top_commands.proofs.Straying.{asks-or}
 use Rattle.cap_top_laws.specs.Given.{given_by, AreGiven}
 use Rattle.cap_top_laws.specs.Laws.{SpellOneOrNone, AreTextOrRefused, BytesAreReadOrRefused, SchedulesAreAnswered, LinesAreAnswered, FoundHaveLines, DerivationsAreAnswered, OutputsExist}
 
@@ -34,6 +38,24 @@ tried n (inl h) = (
   inr (record { thing = h.0; is_so = h.1; said = refl }),
 )
 tried n (inr h) = (refusal_output h.0, inl (record { cause = h.0; caused = h.1; whole = refl }))
+
+cored : (bytes : List ℕ) → AreTextOrRefused bytes → (o : Output) × IsCored bytes o
+cored bytes (inl h) = (
+  report_output (is_good h.0 default_budget) (cores_text h.0 default_budget),
+  inr (record { thing = h.0; is_so = h.1; said = refl }),
+)
+cored bytes (inr h) = (refusal_output h.0, inl (record { cause = h.0; caused = h.1; whole = refl }))
+
+drawn : (number count : ℕ) (p : PlainProgram) → AsksForNothing p ⊎ (¬ AsksForNothing p) → (o : Output) × IsStray number count p o
+drawn number count p (inl asks) =
+    (drawn_output count (first_fault p count (seeded number)), inr (asks, refl))
+drawn number count p (inr n) = (no_start_output, inl (n, refl))
+
+strayed : (number count : ℕ) (bytes : List ℕ) → AreTextOrRefused bytes → (o : Output) × IsStrayed number count bytes o
+strayed number count bytes (inl h) =
+    let d = drawn number count h.0 (asks-or h.0) in (d.0, inr (record { thing = h.0; is_so = h.1; said = d.1 }))
+strayed number count bytes (inr h) =
+    (refusal_output h.0, inl (record { cause = h.0; caused = h.1; whole = refl }))
 
 derived : DerivationsAreAnswered → (budget : ℕ) (bytes : List ℕ) → AreTextOrRefused bytes
     → ((p : PlainProgram) → IsTextOf bytes p → FoundHaveLines budget p) → (o : Output) × IsDerived budget bytes o
@@ -97,6 +119,14 @@ module _ (texts : BytesAreReadOrRefused) (schedules : SchedulesAreAnswered) (lin
   output-exists (Some (verify file budget)) files h =
       let x = given_by (content files file) in
       let s = after-one (IsVerified budget) file x (λ bytes e. verified budget bytes (texts.programs bytes)) in
+      record { got = x ∷ []; given = (refl, tt); said = s.0; output = s.1 }
+  output-exists (Some (core file)) files h =
+      let x = given_by (content files file) in
+      let s = after-one IsCored file x (λ bytes e. cored bytes (texts.programs bytes)) in
+      record { got = x ∷ []; given = (refl, tt); said = s.0; output = s.1 }
+  output-exists (Some (stray file number count)) files h =
+      let x = given_by (content files file) in
+      let s = after-one (IsStrayed number count) file x (λ bytes e. strayed number count bytes (texts.programs bytes)) in
       record { got = x ∷ []; given = (refl, tt); said = s.0; output = s.1 }
   output-exists (Some (derive file budget)) files h =
       let x = given_by (content files file) in
