@@ -17,19 +17,25 @@ use Rattle.cap_deriv_write.specs.Written.{derivation_text}
 use Rattle.cap_top_report.specs.Found.{found_trees}
 use Rattle.cap_top_commands.specs.Derivations.{SaysLines, IsDerivation, IsChecked}
 use Rattle.cap_top_commands.specs.Startless.{SaysEmpty, IsStartlessText}
-use Rattle.cap_top_commands.specs.Answers.{Fetched, held, unread, long, After, ByOne, SaysCause, SaysRefusal, IsVerified, IsTrial, IsDerived, IsShown, IsPlayed, IsOutput, IsOnlyOutput, Agree, GoodAnswersAreSafe, GoodTrialsAreSafe, AcceptedAreSafe, DerivedAreAccepted, EmptyAnswersHaveNoStart}
+use Rattle.cap_top_commands.specs.Answers.{Fetched, held, unread, long, After, ByOne, SaysCause, SaysRefusal, IsVerified, IsTrial, IsStray, IsStrayed, IsCored, drawn_output, IsOnly, FaultsAlong, StraysFault, SafeTextsHaveNoStray, IsDerived, IsShown, IsPlayed, IsOutput, IsOnlyOutput, Agree, GoodAnswersAreSafe, GoodTrialsAreSafe, AcceptedAreSafe, DerivedAreAccepted, EmptyAnswersHaveNoStart}
 use Rattle.cap_gen.specs.Trial.{trial_text}
+use Rattle.cap_gen_schedules.specs.Drawn.{seeded, first_fault}
+use Rattle.cap_gen_schedules.specs.Laws.{AsksForNothing, SafeProgramsHaveNone}
+use Rattle.cap_machine.specs.declared.event.Entry.{Entry}
 use Rattle.cap_goal_spec.specs.Roots.{units}
 use Rattle.cap_top_report.specs.Report.{proved_count, report_text, all_proved, is_good}
-use Rattle.cap_top_words.specs.Meaning.{PlainCommand, verify, derive, check, show, replay, trial, default_budget}
+use Rattle.cap_top_report.specs.Cores.{cores_text}
+use Rattle.cap_top_words.specs.Meaning.{PlainCommand, verify, derive, check, show, replay, trial, stray, core, default_budget}
 use Rattle.cap_top_commands.specs.Commands.{files_of}
-use Rattle.cap_top_commands.specs.Output.{Output, usage_output, unreadable_output, long_output, refusal_output, report_output, derivation_output, long_derivation_output, bad_derivation_output, judged_output, judged_status, tree_output, schedule_output, run_output, trial_output, report_status, end_status}
+use Rattle.cap_top_commands.specs.Output.{Output, usage_output, unreadable_output, long_output, refusal_output, report_output, derivation_output, long_derivation_output, bad_derivation_output, judged_output, judged_status, tree_output, schedule_output, run_output, trial_output, no_start_output, report_status, end_status}
 use Rattle.cap_top_commands.specs.Good.{IsProvedText}
+use Rattle.cap_top_commands.specs.Needed.{TellsCores, CoresAreTold}
+use Rattle.cap_top_commands.specs.SafeText.{IsSafeText}
 use Rattle.cap_top_laws.specs.Given.{given_by, AreGiven}
 use Rattle.cap_top.specs.Reads.{IsFetched, AreFetched, AreRead}
 use Rattle.cap_top.specs.Run.{IsSaid, IsRun}
 use Rattle.cap_top.specs.Verified.{IsRead, VerifiesFile}
-use Rattle.cap_top.specs.Promise.{AreBothRead, ProvesFile, FailsFile, DerivesFile, ChecksFiles, IsShownAs, ShowsFile, EndsRun, ReplaysFiles, Ends, NoFault, Says, SaysOutput, AnswersFiles, HoldsGood, HoldAccepted, HoldsTree, IsTextFor, Refuses, IsOneOf, ReadFails}
+use Rattle.cap_top.specs.Promise.{AreBothRead, ProvesFile, FailsFile, DerivesFile, ChecksFiles, IsShownAs, ShowsFile, StraysFile, CoresFile, HoldsSafe, EndsRun, ReplaysFiles, Ends, NoFault, Says, SaysOutput, AnswersFiles, HoldsGood, HoldAccepted, HoldsTree, IsTextFor, Refuses, IsOneOf, ReadFails}
 use Rattle.cap_top.proofs.Reading.{held-given, were-given, agree-given, first-given, given-held, given-unread}
 
 -- ---- the statuses of outputs
@@ -78,6 +84,26 @@ trial_answers n o (inl c) = cause_answers (IsRefused (trial_text n)) o c
 trial_answers n o (inr s) =
     answer_as o (trial_output n (proved_count s.thing default_budget) (length (units s.thing))) s.said
     (report_answers (all_proved s.thing default_budget))
+
+drawn_answers : (count : ℕ) (found : Option (List Entry)) → IsAnswer (drawn_output count found).status
+drawn_answers count None = tt
+drawn_answers count (Some es) = tt
+
+strayed_answers : (number count : ℕ) (bytes : List ℕ) (o : Output) → IsStrayed number count bytes o → IsAnswer o.status
+strayed_answers number count bytes o (inl c) = cause_answers (IsRefused bytes) o c
+strayed_answers number count bytes o (inr s) = by s.said
+  where
+    by : IsStray number count s.thing o → IsAnswer o.status
+    by (inl k) = answer_as o no_start_output k.1 tt
+    by (inr k) =
+        let found = first_fault s.thing count (seeded number) in
+        answer_as o (drawn_output count found) k.1 (drawn_answers count found)
+
+cored_answers : (bytes : List ℕ) (o : Output) → IsCored bytes o → IsAnswer o.status
+cored_answers bytes o (inl c) = cause_answers (IsRefused bytes) o c
+cored_answers bytes o (inr s) =
+    answer_as o (report_output (is_good s.thing default_budget) (cores_text s.thing default_budget)) s.said
+    (report_answers (is_good s.thing default_budget))
 
 derivation_answers : (budget : ℕ) (p : PlainProgram) (o : Output) → IsDerivation budget p o → IsAnswer o.status
 derivation_answers budget p o (inl s) =
@@ -154,6 +180,15 @@ module _ (shelf shelf_now : SeenShelf) where
       settled_by (Some (replay name s)) s y o.status (inr (inl refl)) f.1.0
       (after_ended (IsPlayed h.program) (played_answers h.program) s y o h.said)
   settled (replay name s) [] o f h = absurd h
+  settled (stray name number count) (x ∷ []) o f h =
+      settled_by (Some (stray name number count)) name x o.status (inl refl) f.0
+      (after_ended (IsStrayed number count) (strayed_answers number count) name x o h)
+  settled (stray name number count) [] o f h = absurd h
+  settled (stray name number count) (x ∷ (y ∷ ys)) o f h = absurd h
+  settled (core name) (x ∷ []) o f h =
+      settled_by (Some (core name)) name x o.status (inl refl) f.0 (after_ended IsCored cored_answers name x o h)
+  settled (core name) [] o f h = absurd h
+  settled (core name) (x ∷ (y ∷ ys)) o f h = absurd h
   settled (trial n) [] o f h = inl (trial_answers n o h)
   settled (trial n) (x ∷ xs) o f h = absurd h
   settled (replay name s) (x ∷ (y ∷ (z ∷ zs))) o f h = absurd h
@@ -195,7 +230,20 @@ bad_good : (b : Bool) → b ≡ false → report_status b ≡ Good → ⊥
 bad_good false e f = cc
 bad_good true e f = cc
 
+-- the statuses of a report
+abbrev IsVerdict : Status → Type 0
+IsVerdict Good = Unit {0}
+IsVerdict Bad = Unit {0}
+IsVerdict _ = ⊥
+
+verdict-of : (s : Status) → (s ≡ Good) ⊎ (s ≡ Bad) → IsVerdict s
+verdict-of s (inl e) = subst IsVerdict (sym e) tt
+verdict-of s (inr e) = subst IsVerdict (sym e) tt
+
 module _ (shelf shelf_now : SeenShelf) (name : List ℕ) (o : Output) where
+  no-verdict : (s : Status) → o.status ≡ s → (o.status ≡ Good) ⊎ (o.status ≡ Bad) → IsVerdict s
+  no-verdict s e h = subst IsVerdict e (verdict-of o.status h)
+
   -- one file was read
   read-one : (bytes : List ℕ) → AreRead shelf shelf_now (name ∷ []) (held bytes ∷ []) → IsRead shelf shelf_now name bytes
   read-one bytes f = record { given = f.given; held = f.fetched.0.1 }
@@ -290,6 +338,43 @@ module _ (shelf shelf_now : SeenShelf) (name : List ℕ) (o : Output) where
   shown_by sink sink_now (long ∷ []) f h e g = let k : Refused ≡ Good = sym (same_status o long_output h) ∙ e in absurd cc
   shown_by sink sink_now [] f h e g = absurd h
   shown_by sink sink_now (x ∷ (y ∷ ys)) f h e g = absurd h
+
+  strays_by : StraysFault → SafeTextsHaveNoStray → (number count : ℕ) (sink sink_now : SeenSink)
+      → (got : List Fetched) → AreRead shelf shelf_now (name ∷ []) got
+      → IsOnlyOutput (IsOutput (Some (stray name number count))) got o → o.status ≡ Bad
+      → Gains sink.written sink_now.written o.text → StraysFile shelf shelf_now name sink sink_now
+  strays_by fault none number count sink sink_now (held bytes ∷ []) f h e g = record {
+    bytes = bytes;
+    read = read-one bytes f;
+    lines = o.text;
+    faults = fault number count bytes o h.said e;
+    not_safe = λ s.
+        none number count bytes o (record { said = h.said; only = λ q k. h.only (held bytes ∷ []) q (refl, tt) k }) s e;
+    gains = g;
+  }
+  strays_by fault none number count sink sink_now (unread ∷ []) f h e g =
+      let k : ReadFault ≡ Bad = sym (same_status o (unreadable_output name) h.said) ∙ e in absurd cc
+  strays_by fault none number count sink sink_now (long ∷ []) f h e g =
+      let k : Refused ≡ Bad = sym (same_status o long_output h.said) ∙ e in absurd cc
+  strays_by fault none number count sink sink_now [] f h e g = absurd h.said
+  strays_by fault none number count sink sink_now (x ∷ (y ∷ ys)) f h e g = absurd h.said
+
+  cores_by : CoresAreTold → (sink sink_now : SeenSink) (got : List Fetched)
+      → AreRead shelf shelf_now (name ∷ []) got
+      → IsOutput (Some (core name)) got o → (o.status ≡ Good) ⊎ (o.status ≡ Bad)
+      → Gains sink.written sink_now.written o.text → CoresFile shelf shelf_now name sink sink_now o.status
+  cores_by told sink sink_now (held bytes ∷ []) f h e g = record {
+    bytes = bytes;
+    read = read-one bytes f;
+    output = o;
+    told = told bytes o h e;
+    same = refl;
+    gains = g;
+  }
+  cores_by told sink sink_now (unread ∷ []) f h e g = absurd (no-verdict ReadFault (same_status o (unreadable_output name) h) e)
+  cores_by told sink sink_now (long ∷ []) f h e g = absurd (no-verdict Refused (same_status o long_output h) e)
+  cores_by told sink sink_now [] f h e g = absurd h
+  cores_by told sink sink_now (x ∷ (y ∷ ys)) f h e g = absurd h
 
 -- ---- derivations that are judged
 
@@ -469,6 +554,27 @@ module _ (command : Option PlainCommand) (shelf shelf_now : SeenShelf) (sink sin
       (subst (λ x. AreRead shelf shelf_now (files_of x) said.got) t said.read)
       (subst (λ x. IsOutput x said.got o) t said.output.said) b g)
 
+  pub strays_run : StraysFault → SafeTextsHaveNoStray → (name : List ℕ) (number count : ℕ)
+      → command ≡ Some (stray name number count) → status ≡ Bad → StraysFile shelf shelf_now name sink sink_now
+  strays_run fault none name number count t e = ended_badly e (λ o said b g.
+      strays_by shelf shelf_now name o fault none number count sink sink_now said.got
+      (subst (λ x. AreRead shelf shelf_now (files_of x) said.got) t said.read)
+      (subst (λ x. IsOnlyOutput (IsOutput x) said.got o) t (record { said = said.output.said; only = said.output.only })) b g)
+
+  pub cored_run : CoresAreTold → (name : List ℕ) → command ≡ Some (core name) → (status ≡ Good) ⊎ (status ≡ Bad)
+      → CoresFile shelf shelf_now name sink sink_now status
+  cored_run told name t e = by run
+    where
+      by : Runs → CoresFile shelf shelf_now name sink sink_now status
+      by (inr m) = absurd (subst IsVerdict m.0 (verdict-of status e))
+      by (inl (o, said, inl p)) =
+          subst (CoresFile shelf shelf_now name sink sink_now) (sym p.0)
+          (cores_by shelf shelf_now name o told sink sink_now said.got
+          (subst (λ x. AreRead shelf shelf_now (files_of x) said.got) t said.read)
+          (subst (λ x. IsOutput x said.got o) t said.output.said)
+          (subst (λ s. (s ≡ Good) ⊎ (s ≡ Bad)) p.0 e) p.1)
+      by (inl (o, said, inr p)) = absurd (subst IsVerdict p.0 (verdict-of status e))
+
   pub derived_run : DerivedAreAccepted → (name : List ℕ) (budget : ℕ) → command ≡ Some (derive name budget) → status ≡ Good
       → DerivesFile shelf shelf_now budget name sink sink_now
   derived_run accepts name budget t e = by run
@@ -623,6 +729,21 @@ module _ (files : Files) (command : Option PlainCommand) (shelf shelf_now : Seen
       (subst (λ x. AreGiven files (files_of x) (held h.bytes ∷ [])) (sym t) (one-file name h.bytes h.held (short h.bytes h.good.text.tree h.good.text.spelled)))
       (subst (λ x. IsOutput x (held h.bytes ∷ []) o) (sym t) is))
 
+  spares_told : SafeProgramsHaveNone → (name : List ℕ) (number count : ℕ) → command ≡ Some (stray name number count)
+      → HoldsSafe name files → (status ≡ Good) ⊎ (status ≡ NoMemory)
+  spares_told none name number count t h =
+      let p : PlainProgram = h.text.program in
+      let o : Output = drawn_output count (first_fault p count (seeded number)) in
+      let is : IsStrayed number count h.bytes o = inr (record {
+        thing = p;
+        is_so = record { tree = h.text.tree; spelled = h.text.spelled; stands = h.text.stands };
+        said = inr (h.asks, refl);
+      }) in
+      good_status o (ap (λ x. (drawn_output count x).status) (none p count (seeded number) h.asks h.text.safe))
+      (each_told (held h.bytes ∷ []) o
+      (subst (λ x. AreGiven files (files_of x) (held h.bytes ∷ [])) (sym t) (one-file name h.bytes h.held (short h.bytes h.text.tree h.text.spelled)))
+      (subst (λ x. IsOutput x (held h.bytes ∷ []) o) (sym t) is))
+
   shows_told : (name text : List ℕ) → command ≡ Some (show name) → HoldsTree name text files → (status ≡ Good) ⊎ (status ≡ NoMemory)
   shows_told name text t h =
       let o : Output = tree_output (canonical_text h.shown.tree) in
@@ -676,6 +797,16 @@ module _ (files : Files) (command : Option PlainCommand) (shelf shelf_now : Seen
   refused_derived budget bytes o n (inl c) = refused_cause (IsRefused bytes) o c
   refused_derived budget bytes o n (inr s) = absurd (n s.thing s.is_so)
 
+  refused_strayed : (number count : ℕ) (bytes : List ℕ) (o : Output) → ((p : PlainProgram) → IsTextOf bytes p → ⊥)
+      → IsStrayed number count bytes o → o.status ≡ Refused
+  refused_strayed number count bytes o n (inl c) = refused_cause (IsRefused bytes) o c
+  refused_strayed number count bytes o n (inr s) = absurd (n s.thing s.is_so)
+
+  refused_cored : (bytes : List ℕ) (o : Output) → ((p : PlainProgram) → IsTextOf bytes p → ⊥)
+      → IsCored bytes o → o.status ≡ Refused
+  refused_cored bytes o n (inl c) = refused_cause (IsRefused bytes) o c
+  refused_cored bytes o n (inr s) = absurd (n s.thing s.is_so)
+
   refused_tree : (bytes : List ℕ) (o : Output) → ((t : ProgramTree) → Spells bytes t → ⊥)
       → IsShown bytes o → o.status ≡ Refused
   refused_tree bytes o n (inl c) = refused_cause (SpellNone bytes) o c
@@ -722,6 +853,18 @@ module _ (files : Files) (command : Option PlainCommand) (shelf shelf_now : Seen
       let g : given_by (Some bytes) ≡ held h.bytes = first_gives file name (s ∷ []) names x (y ∷ []) e bytes c f ∙ h.gave in
       let same : bytes ≡ h.bytes = given-held bytes h.bytes g in
       absurd (n (h.program, subst (λ b. IsTextOf b h.program) (sym same) h.text_of_it))
+  refused_output (stray file number count) name names bytes (x ∷ []) o e c n f h =
+      refused_after (IsStrayed number count) file bytes x o
+      (refused_strayed number count bytes o (λ p t. n (p, t)))
+      (first_gives file name [] names x [] e bytes c f) h
+  refused_output (stray file number count) name names bytes [] o e c n f h = absurd h
+  refused_output (stray file number count) name names bytes (x ∷ (y ∷ ys)) o e c n f h = absurd h
+  refused_output (core file) name names bytes (x ∷ []) o e c n f h =
+      refused_after IsCored file bytes x o
+      (refused_cored bytes o (λ p t. n (p, t)))
+      (first_gives file name [] names x [] e bytes c f) h
+  refused_output (core file) name names bytes [] o e c n f h = absurd h
+  refused_output (core file) name names bytes (x ∷ (y ∷ ys)) o e c n f h = absurd h
   refused_output (trial k) name names bytes got o e c n f h = let none : [] ≡ name ∷ names = e in absurd cc
   refused_output (verify file budget) name names bytes [] o e c n f h = absurd h
   refused_output (verify file budget) name names bytes (x ∷ (y ∷ ys)) o e c n f h = absurd h
@@ -772,6 +915,12 @@ module _ (command : Option PlainCommand) (shelf shelf_now : SeenShelf) (sink sin
   accepts_run = over (λ files. (file derivation : List ℕ) → command ≡ Some (check file derivation)
       → HoldAccepted file derivation files → (status ≡ Good) ⊎ (status ≡ NoMemory))
       (λ files e n. accepts_told files command shelf shelf_now e sink sink_now status run n.0 n.1)
+
+  pub spares_run : SafeProgramsHaveNone → Over (λ files. (name : List ℕ) (number count : ℕ)
+      → command ≡ Some (stray name number count) → HoldsSafe name files → (status ≡ Good) ⊎ (status ≡ NoMemory))
+  spares_run none = over (λ files. (name : List ℕ) (number count : ℕ)
+      → command ≡ Some (stray name number count) → HoldsSafe name files → (status ≡ Good) ⊎ (status ≡ NoMemory))
+      (λ files e n. spares_told files command shelf shelf_now e sink sink_now status run n.0 n.1 none)
 
   pub shows_run : Over (λ files. (name text : List ℕ) → command ≡ Some (show name)
       → HoldsTree name text files → (status ≡ Good) ⊎ (status ≡ NoMemory))

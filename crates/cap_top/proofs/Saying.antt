@@ -4,9 +4,9 @@ use Rattle.std.specs.declared.alloc.AllocError.{AllocError}
 use Rattle.cap_io.specs.Files.{SeenShelf, HasGiven}
 use Rattle.cap_io.specs.Outside.{IsCounted}
 use Rattle.cap_top_commands.specs.declared.output.Output as code
-use Rattle.cap_top_commands.specs.Answers.{Fetched, held, After, ByOne, IsVerified, IsTrial, IsDerived, IsShown, IsOutput, IsOnly, IsOnlyOutput, Agree}
+use Rattle.cap_top_commands.specs.Answers.{Fetched, held, After, ByOne, IsVerified, IsTrial, IsStrayed, IsCored, IsDerived, IsShown, IsOutput, IsOnly, IsOnlyOutput, Agree}
 use Rattle.cap_top_commands.specs.Output.{Output}
-use Rattle.cap_top_words.specs.Meaning.{PlainCommand, verify, derive, show, trial}
+use Rattle.cap_top_words.specs.Meaning.{PlainCommand, verify, derive, show, trial, stray, core}
 use Rattle.cap_top_commands.specs.Commands.{files_of}
 use Rattle.cap_top_commands.specs.Views.{output_view}
 use Rattle.cap_top.specs.Reads.{IsFetched, gift, AreRead}
@@ -84,6 +84,23 @@ module _ (name : List ℕ) (x : Fetched) where
         let k = one_file IsShown (output_view o) (record { said = h.said; only = h.only }) in
         by_task command (show name) (output_view o) e refl (record { said = k.said; only = k.only })
     show_said command (Err a) e h = tt
+
+    pub stray_said : (number count : ℕ) (command : Option PlainCommand) (r : Result code.Output AllocError)
+        → command ≡ Some (stray name number count)
+        → IfOk r (λ o. IsOnly (After name x (IsStrayed number count)) (output_view o))
+        → IfOk r (λ o. IsSaid shelf shelf_now command (output_view o))
+    stray_said number count command (Ok o) e h =
+        let k = one_file (IsStrayed number count) (output_view o) (record { said = h.said; only = h.only }) in
+        by_task command (stray name number count) (output_view o) e refl (record { said = k.said; only = k.only })
+    stray_said number count command (Err a) e h = tt
+
+    pub core_said : (command : Option PlainCommand) (r : Result code.Output AllocError) → command ≡ Some (core name)
+        → IfOk r (λ o. IsOnly (After name x IsCored) (output_view o))
+        → IfOk r (λ o. IsSaid shelf shelf_now command (output_view o))
+    core_said command (Ok o) e h =
+        let k = one_file IsCored (output_view o) (record { said = h.said; only = h.only }) in
+        by_task command (core name) (output_view o) e refl (record { said = k.said; only = k.only })
+    core_said command (Err a) e h = tt
 
 -- what is said where no file is read
 pub trial_said : (shelf : SeenShelf) (n : ℕ) (command : Option PlainCommand) (r : Result code.Output AllocError)

@@ -16,9 +16,12 @@ use Rattle.cap_top_report.specs.Report.{is_good}
 use Rattle.cap_top_report.specs.Found.{found_trees}
 use Rattle.cap_deriv_write.specs.Written.{derivation_text}
 use Rattle.cap_top_commands.specs.Good.{IsGood, IsAccepted}
+use Rattle.cap_top_commands.specs.Needed.{TellsCores}
+use Rattle.cap_top_commands.specs.SafeText.{IsSafeText}
+use Rattle.cap_gen_schedules.specs.Laws.{AsksForNothing}
 use Rattle.cap_top_commands.specs.Startless.{SaysEmpty, IsStartlessText}
-use Rattle.cap_top_commands.specs.Answers.{Fetched, IsPlayedAs, IsOutput, AreAccepted}
-use Rattle.cap_top_words.specs.Meaning.{PlainCommand, verify, derive, check, show, replay, trial}
+use Rattle.cap_top_commands.specs.Answers.{Fetched, IsPlayedAs, IsOutput, AreAccepted, FaultsAlong}
+use Rattle.cap_top_words.specs.Meaning.{PlainCommand, verify, derive, check, show, replay, trial, stray, core}
 use Rattle.cap_top_commands.specs.Commands.{files_of}
 use Rattle.cap_top_commands.specs.Output.{Output, end_status}
 use Rattle.cap_top.specs.Verified.{IsRead}
@@ -118,6 +121,28 @@ pub record ReplaysFiles (shelf shelf_now : SeenShelf) (file schedule : List ℕ)
   pub ended : status ≡ end_status end
   pub gains : Gains sink.written sink_now.written text
 
+-- The bytes that the file gave are the text of a program that is not safe, and the sink has gained a
+-- schedule along which its run comes to a fault at the last entry.
+pub record StraysFile (shelf shelf_now : SeenShelf) (name : List ℕ) (sink sink_now : SeenSink)
+    : Type 0 where
+  pub bytes : List ℕ
+  pub read : IsRead shelf shelf_now name bytes
+  pub lines : List ℕ
+  pub faults : FaultsAlong bytes lines
+  pub not_safe : ¬ IsSafeText bytes
+  pub gains : Gains sink.written sink_now.written lines
+
+-- The bytes that the file gave are the text of a program, and the sink has gained its report with a
+-- line for each proof of a unit that is proved.
+pub record CoresFile (shelf shelf_now : SeenShelf) (name : List ℕ) (sink sink_now : SeenSink)
+    (status : Status) : Type 0 where
+  pub bytes : List ℕ
+  pub read : IsRead shelf shelf_now name bytes
+  pub output : Output
+  pub told : TellsCores bytes output
+  pub same : status ≡ output.status
+  pub gains : Gains sink.written sink_now.written output.text
+
 -- ---- whatever faults come
 
 -- The ways to end: an output by what the files that were read gave, whole or, where the put failed,
@@ -176,6 +201,13 @@ pub record HoldsTree (name text : List ℕ) (files : Files) : Type 0 where
   pub held : content files name ≡ Some bytes
   pub shown : IsShownAs bytes text
 
+-- the file holds the text of a safe program whose `main` asks for nothing
+pub record HoldsSafe (name : List ℕ) (files : Files) : Type 0 where
+  pub bytes : List ℕ
+  pub held : content files name ≡ Some bytes
+  pub text : IsSafeText bytes
+  pub asks : AsksForNothing text.program
+
 -- the bytes are a text that the command can take; a trial reads none
 abbrev pub IsTextFor : PlainCommand → List ℕ → Type 0
 IsTextFor (verify name budget) bytes = (p : PlainProgram) × IsTextOf bytes p
@@ -184,6 +216,8 @@ IsTextFor (check name derivation) bytes = (p : PlainProgram) × IsTextOf bytes p
 IsTextFor (show name) bytes = (t : ProgramTree) × Spells bytes t
 IsTextFor (replay name schedule) bytes = (p : PlainProgram) × IsTextOf bytes p
 IsTextFor (trial n) bytes = Unit {0}
+IsTextFor (stray name number count) bytes = (p : PlainProgram) × IsTextOf bytes p
+IsTextFor (core name) bytes = (p : PlainProgram) × IsTextOf bytes p
 
 -- a first file that is no text for the command is refused, unless memory ran out
 abbrev pub Refuses : Option PlainCommand → Files → Status → Type 0

@@ -2,7 +2,7 @@
 ghost use Rattle.std.specs.Prelude.{◌≡◌, ◌≤◌, IfOk};
 ghost use Rattle.cap_prog.specs.Views.{program_view};
 ghost use Rattle.cap_top_commands.specs.Answers.{After, IsVerified, IsDerived, IsShown};
-ghost use Rattle.cap_top_commands.specs.Answers.{IsPlayed, IsOnly};
+ghost use Rattle.cap_top_commands.specs.Answers.{IsPlayed, IsStrayed, IsCored, IsOnly};
 ghost use Rattle.cap_top_commands.specs.Derivations.{IsChecked};
 ghost use Rattle.cap_top_commands.specs.Views.{output_view};
 ghost use Rattle.cap_io.specs.Files.{HasGiven};
@@ -12,7 +12,9 @@ ghost use Rattle.cap_top.specs.Views.{fetched_view, BeginsAfter};
 
 use cap_io::{FetchError, Shelf};
 use cap_prog::Program;
-use cap_top_commands::{Begun, Output, begin, check, derive, play, show, verify};
+use cap_top_commands::{
+    Begun, Output, begin, check, core, derive, play, show, stray, verify,
+};
 use std::alloc::{AllocError, Global};
 
 /// What a file gave: its bytes, nothing, or more bytes than a file may have.
@@ -119,6 +121,40 @@ pub(crate) fn show_file<'a>(
 {
     match file {
         Fetched::Held(bytes) => show(alloc, bytes.as_slice()),
+        Fetched::Unread => Ok(Output::Unreadable(name)),
+        Fetched::Long => Ok(Output::TooLong),
+    }
+}
+
+/// What `stray` says of a file that gave this, of so many schedules that are drawn from the number.
+pub(crate) fn stray_file<'a>(
+    alloc: Global,
+    name: &'a str,
+    file: Fetched,
+    number: u64,
+    count: u64,
+) -> Result<Output<'a>, AllocError>
+    ensures { IfOk result (λ o. IsOnly (After name.now (fetched_view file) (IsStrayed number count))
+        (output_view o)) }
+{
+    match file {
+        Fetched::Held(bytes) => stray(alloc, bytes.as_slice(), number, count),
+        Fetched::Unread => Ok(Output::Unreadable(name)),
+        Fetched::Long => Ok(Output::TooLong),
+    }
+}
+
+/// What `core` says of a file that gave this.
+pub(crate) fn core_file<'a>(
+    alloc: Global,
+    name: &'a str,
+    file: Fetched,
+) -> Result<Output<'a>, AllocError>
+    ensures { IfOk result (λ o. IsOnly (After name.now (fetched_view file) IsCored)
+        (output_view o)) }
+{
+    match file {
+        Fetched::Held(bytes) => core(alloc, bytes.as_slice()),
         Fetched::Unread => Ok(Output::Unreadable(name)),
         Fetched::Long => Ok(Output::TooLong),
     }

@@ -1,7 +1,8 @@
 //! The top call: from the words to the text that is put out, and the status.
 ghost use Rattle.std.specs.Prelude.{◌≡◌, ◌⊎◌, ℕ, List, IfOk, IfSome, Some, None};
 ghost use Rattle.cap_io.specs.Outside.{Rose};
-ghost use Rattle.cap_top_words.specs.Meaning.{verify, derive, check, show, replay, trial, default_budget};
+ghost use Rattle.cap_top_words.specs.Meaning.{verify, derive, check, show, replay, trial};
+ghost use Rattle.cap_top_words.specs.Meaning.{stray, core, default_budget};
 ghost use Rattle.cap_gen.specs.Trial.{trial_text};
 ghost use Rattle.cap_top_commands.specs.Answers.{IsVerified, IsDerived};
 ghost use Rattle.cap_top_commands.specs.Commands.{meant_by};
@@ -13,17 +14,21 @@ ghost use Rattle.cap_top_commands.specs.declared.status.Status.TheVariants.{Writ
 ghost use Rattle.cap_top.specs.Verified.{VerifiesFile};
 ghost use Rattle.cap_top.specs.Promise.{ProvesFile, FailsFile};
 ghost use Rattle.cap_top.specs.Promise.{DerivesFile, ChecksFiles, ShowsFile};
+ghost use Rattle.cap_top.specs.Promise.{StraysFile, CoresFile, HoldsSafe};
 ghost use Rattle.cap_top.specs.Promise.{EndsRun, ReplaysFiles, Ends, NoFault, AnswersFiles};
 ghost use Rattle.cap_top.specs.Promise.{HoldsGood, HoldAccepted, HoldsTree, Refuses, ReadFails};
 ghost use Rattle.cap_top.specs.Run.{IsSaid, IsRun};
 
 use crate::fetching::{
-    begin_file, check_file, derive_file, fetch, play_file, show_file, verify_file,
+    begin_file, check_file, core_file, derive_file, fetch, play_file, show_file, stray_file,
+    verify_file,
 };
+use cap_gen_schedules::safe_programs_have_none;
 use cap_io::{Shelf, Sink};
 use cap_top_commands::{
-    Begun, Output, Status, accepted_are_safe, derived_are_accepted, empty_answers_have_no_start,
-    good_answers_are_safe, good_trials_are_safe, trial,
+    Begun, Output, Status, accepted_are_safe, cores_are_told, derived_are_accepted,
+    empty_answers_have_no_start, good_answers_are_safe, good_trials_are_safe,
+    safe_texts_have_no_stray, strays_fault, trial,
 };
 use cap_top_words::{Command, read_command};
 use std::alloc::{AllocError, Global};
@@ -97,6 +102,18 @@ fn respond<'a, S: Shelf>(
         }
         Some(Command::Replay { file, schedule }) => replay_files(alloc, shelf, file, schedule),
         Some(Command::Trial { number }) => trial(alloc, number),
+        Some(Command::Stray {
+            file,
+            number,
+            count,
+        }) => {
+            let fetched = fetch(shelf, file)?;
+            stray_file(alloc, file, fetched, number, count)
+        }
+        Some(Command::Core { file }) => {
+            let fetched = fetch(shelf, file)?;
+            core_file(alloc, file, fetched)
+        }
         None => Ok(Output::Usage),
     }
 }
@@ -181,6 +198,20 @@ pub fn run<S: Shelf, K: Sink>(
         → EndsRun result → ReplaysFiles (S.seen shelf.old) (S.seen shelf.new) file schedule
         (K.seen sink.old) (K.seen sink.new) result }
 
+    // Where `stray` ends with status 1, the sink has gained a schedule along which the program whose
+    // text the file gave comes to a fault, and that program is not safe.
+    ensures strays { (name : List ℕ) (number count : ℕ)
+        → meant_by words.now ≡ Some (stray name number count)
+        → result ≡ Bad → StraysFile (S.seen shelf.old) (S.seen shelf.new) name
+        (K.seen sink.old) (K.seen sink.new) }
+
+    // Where `core` ends with status 0 or 1, the sink has gained the report on the program whose text
+    // the file gave, with a line for each proof; and the rows that a line names are needed.
+    ensures cored { (name : List ℕ) → meant_by words.now ≡ Some (core name)
+        → (result ≡ Good) ⊎ (result ≡ Bad)
+        → CoresFile (S.seen shelf.old) (S.seen shelf.new) name
+        (K.seen sink.old) (K.seen sink.new) result }
+
     // Whatever faults come, what is said is what follows from what the files gave that were read. A
     // second file gives bytes only where the first gave a program's text.
     ensures ends { Ends (meant_by words.now)
@@ -191,7 +222,7 @@ pub fn run<S: Shelf, K: Sink>(
 
     // Where no fault comes the files give an output, the one that is said, and no other, unless
     // memory runs out: a program all of which is proved is told so, the text of a tree is shown,
-    // and what is no text is refused.
+    // no schedule is found of a safe program, and what is no text is refused.
     ensures answers { IfSome (S.seen shelf.old).holds (λ files.
         NoFault (S.seen shelf.old) (S.seen shelf.new) (K.seen sink.old) (K.seen sink.new)
         → AnswersFiles (meant_by words.now) files (K.seen sink.old) (K.seen sink.new) result) }
@@ -210,6 +241,11 @@ pub fn run<S: Shelf, K: Sink>(
         NoFault (S.seen shelf.old) (S.seen shelf.new) (K.seen sink.old) (K.seen sink.new)
         → (file derivation : List ℕ) → meant_by words.now ≡ Some (check file derivation)
         → HoldAccepted file derivation files → (result ≡ Good) ⊎ (result ≡ NoMemory)) }
+    ensures spares { IfSome (S.seen shelf.old).holds (λ files.
+        NoFault (S.seen shelf.old) (S.seen shelf.new) (K.seen sink.old) (K.seen sink.new)
+        → (name : List ℕ) (number count : ℕ)
+        → meant_by words.now ≡ Some (stray name number count)
+        → HoldsSafe name files → (result ≡ Good) ⊎ (result ≡ NoMemory)) }
     ensures refuses { IfSome (S.seen shelf.old).holds (λ files.
         NoFault (S.seen shelf.old) (S.seen shelf.new) (K.seen sink.old) (K.seen sink.new)
         → Refuses (meant_by words.now) files result) }
@@ -230,5 +266,9 @@ pub fn run<S: Shelf, K: Sink>(
     derived_are_accepted();
     accepted_are_safe();
     empty_answers_have_no_start();
+    strays_fault();
+    safe_texts_have_no_stray();
+    safe_programs_have_none();
+    cores_are_told();
     perform(alloc, words, shelf, sink)
 }

@@ -1,4 +1,4 @@
-use Rattle.cap_top.proofs.Promises.{good_run, found_run, tried_run, tries_run, empty_run, derive_empty_run, derived_run, accepted_run, shown_run, replayed_run, ends_run, answers_run, proved_run, accepts_run, shows_run, refuses_run, usage_run, command_run, read_run, write_run, memory_run}
+use Rattle.cap_top.proofs.Promises.{good_run, found_run, tried_run, tries_run, empty_run, derive_empty_run, derived_run, accepted_run, shown_run, replayed_run, strays_run, cored_run, spares_run, ends_run, answers_run, proved_run, accepts_run, shows_run, refuses_run, usage_run, command_run, read_run, write_run, memory_run}
 use Rattle.cap_top.proofs.program.run.Goals as goal
 
 pub returns-clause-good : goal.returns-clause-good
@@ -63,3 +63,13 @@ returns-clause-write_fault g c = write_run _ _ _ _ _ _ c.perform.ensures.whole
 
 pub returns-clause-no_memory : goal.returns-clause-no_memory
 returns-clause-no_memory g c = memory_run _ _ _ _ _ _ c.perform.ensures.whole
+
+pub returns-clause-strays : goal.returns-clause-strays
+returns-clause-strays g c =
+    strays_run _ _ _ _ _ _ c.perform.ensures.whole c.strays_fault.ensures c.safe_texts_have_no_stray.ensures
+
+pub returns-clause-cored : goal.returns-clause-cored
+returns-clause-cored g c = cored_run _ _ _ _ _ _ c.perform.ensures.whole c.cores_are_told.ensures
+
+pub returns-clause-spares : goal.returns-clause-spares
+returns-clause-spares g c = spares_run _ _ _ _ _ _ c.perform.ensures.whole c.safe_programs_have_none.ensures
