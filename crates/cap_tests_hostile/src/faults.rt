@@ -1,16 +1,13 @@
 //! Files that cannot be read, are not there or are too long, and sinks that fail.
 
 use crate::rows::Piece::{Once, Times};
-use crate::rows::{Run, Text, ends, meets, meets_despite, shelf, sink};
+use crate::rows::{Run, Text, USAGE, ends, meets, meets_despite, shelf, sink};
 use cap_io::{FetchError, Shelf};
 use cap_top::Status;
 use cap_top::Status::{Good, ReadFault, Refused, Usage, WriteFault};
 use std::alloc::Global;
 use std::process::Abort;
 use std::test::Fail;
-
-const USAGE: &[u8] =
-    b"usage: caper verify FILE [--budget N] | derive FILE [--budget N] | check FILE DERIVATION | replay FILE SCHEDULE | show FILE | trial N\n";
 
 const EMPTY: &[u8] = b"function main() { }\n";
 

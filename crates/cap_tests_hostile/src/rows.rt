@@ -6,6 +6,10 @@ use std::alloc::{AllocError, Global};
 use std::process::Abort;
 use std::test::Fail;
 
+/// The line for words that are no command.
+pub const USAGE: &[u8] =
+    b"usage: caper verify FILE [--budget N] | derive FILE [--budget N] | check FILE DERIVATION | replay FILE SCHEDULE | show FILE | trial N | stray FILE N M | core FILE\n";
+
 /// Some of a text.
 #[derive(Clone, Copy)]
 pub enum Piece {

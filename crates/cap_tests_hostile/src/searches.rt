@@ -1,7 +1,7 @@
 //! Searches at their limits: the depth of proofs, the rows of an elimination, and budgets.
 
 use crate::rows::Piece::{Numbered, Once, Times};
-use crate::rows::{Run, Text, meets};
+use crate::rows::{Run, Text, USAGE, meets};
 use cap_top::Status;
 use cap_top::Status::{Bad, Good, Usage};
 use std::alloc::Global;
@@ -123,9 +123,6 @@ const VERIFIED: &[Verified] = &[
 fn depths_and_rows(rt: HostRuntime) -> Result<(), Fail> {
     all_verify(&rt, rt.alloc(), VERIFIED)
 }
-
-const USAGE: &[u8] =
-    b"usage: caper verify FILE [--budget N] | derive FILE [--budget N] | check FILE DERIVATION | replay FILE SCHEDULE | show FILE | trial N\n";
 
 const TRIVIAL: &[u8] = b"function main() requires true; { }";
 

@@ -7,7 +7,7 @@ use std::process::Abort;
 use std::test::Fail;
 
 const USAGE: &str =
-    "usage: caper verify FILE [--budget N] | derive FILE [--budget N] | check FILE DERIVATION | replay FILE SCHEDULE | show FILE | trial N\n";
+    "usage: caper verify FILE [--budget N] | derive FILE [--budget N] | check FILE DERIVATION | replay FILE SCHEDULE | show FILE | trial N | stray FILE N M | core FILE\n";
 
 const PROVED: &str = "function main: proved\nproved 1 of 1\n";
 
@@ -698,6 +698,16 @@ fn words_that_are_no_command(rt: HostRuntime) -> Result<(), Fail> {
         "trial 01",
         "trial 51",
         "trial 2 --budget 1",
+        "core",
+        "core f s",
+        "core f --budget 1",
+        "stray f 5",
+        "stray f 5 0",
+        "stray f 5 1001",
+        "stray f 05 1",
+        "stray f 18446744073709551616 1",
+        "stray 5 1 f",
+        "stray f 5 1 s",
     ] {
         says(
             &rt,
@@ -761,6 +771,77 @@ fn trials(rt: HostRuntime) -> Result<(), Fail> {
         ("trial 10", "trial 10: 61 units, 61 proved\n"),
     ] {
         says(&rt, alloc, line, "", "", Status::Good, written)?;
+    }
+    Ok(())
+}
+
+#[test]
+fn cores(rt: HostRuntime) -> Result<(), Fail> {
+    let alloc = rt.alloc();
+    for (text, status, written) in [
+        (
+            "function main() { assert 0 <= 1; }",
+            Status::Good,
+            "function main: proved\nnode 1 proof 1: 0\nproved 1 of 1\n",
+        ),
+        (
+            "function main(a, b) requires a <= b &*& b <= 3; { assert a <= 3; }",
+            Status::Good,
+            "function main: proved\nnode 2 proof 1: 0 2\nnode 3 proof 1: 1 2\nnode 5 proof 1: 0 1 2\nproved 1 of 1\n",
+        ),
+        (
+            "function main() { assert 0 = 1; }",
+            Status::Bad,
+            "function main: open 1:19 needs fact 1:26\nproved 0 of 1\n",
+        ),
+        (
+            "function main() { assert }",
+            Status::Refused,
+            "refused 1:26: unexpected token\n",
+        ),
+    ] {
+        says(&rt, alloc, "core f", text, "", status, written)?;
+    }
+    Ok(())
+}
+
+#[test]
+fn strays(rt: HostRuntime) -> Result<(), Fail> {
+    let alloc = rt.alloc();
+    for (line, text, status, written) in [
+        (
+            "stray f 5 1",
+            "function main() { assert 0 = 1; }",
+            Status::Bad,
+            "start\nstep 0\nend\n",
+        ),
+        ("stray f 5 3", "function main() { }", Status::Good, "stray: none in 3\n"),
+        (
+            "stray f 18446744073709551615 1000",
+            "function main() requires true; { }",
+            Status::Good,
+            "stray: none in 1000\n",
+        ),
+        (
+            "stray f 0 1",
+            "function main(n) { }",
+            Status::Refused,
+            "refused start\n",
+        ),
+        (
+            "stray f 0 1",
+            "function main() requires 0 <= 1; { }",
+            Status::Refused,
+            "refused start\n",
+        ),
+        (
+            "stray f 0 1",
+            "function f() { }",
+            Status::Refused,
+            "refused 1:1: no main\n",
+        ),
+    ] {
+        says(&rt, alloc, line, text, "", status, written)?;
     }
     Ok(())
 }

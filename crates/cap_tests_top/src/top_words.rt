@@ -78,6 +78,23 @@ fn words_that_are_other_commands(rt: HostRuntime) -> Result<(), Fail> {
         ("show show", Command::Show { file: "show" }),
         ("trial 1", Command::Trial { number: 1 }),
         ("trial -- 50", Command::Trial { number: 50 }),
+        (
+            "stray a 0 1",
+            Command::Stray {
+                file: "a",
+                number: 0,
+                count: 1,
+            },
+        ),
+        (
+            "stray -- -a 18446744073709551615 1000",
+            Command::Stray {
+                file: "-a",
+                number: u64::MAX,
+                count: 1000,
+            },
+        ),
+        ("core a", Command::Core { file: "a" }),
     ] {
         let found = is_command(&rt, line, want)?;
         assert!(rt; found, "{line}");
@@ -132,6 +149,14 @@ fn words_that_are_none(rt: HostRuntime) -> Result<(), Fail> {
         "trial 51",
         "trial -1",
         "trial 1 2",
+        "stray a 1",
+        "stray a 1 0",
+        "stray a 1 1001",
+        "stray a 01 1",
+        "stray a 18446744073709551616 1",
+        "stray a 1 1 1",
+        "core",
+        "core a b",
         "--",
         "-- verify a",
         "--budget 1 verify a",
