@@ -3,8 +3,8 @@ use Rattle.std.proofs.Common.{◌≡◌, ◌∙◌, ◌↔◌, ℕ, Bool, cond, 
 use Rattle.std.specs.Prelude.{find, option_and_then, option_map}
 use Rattle.std.specs.Str.{bytes_eq}
 use Rattle.cap_top_words.specs.Number.{number_within}
-use Rattle.cap_top_words.specs.Meaning.{Arguments, Signature, PlainCommand, CommandWord, arguments_of, budget_of, file_and_budget, check, command_of, default_budget, derive, signature_of, signatures, one_operand, replay, show, trial, two_operands, verify}
-use Rattle.cap_top_words.specs.Writing.{HasArguments, IsBudget, IsWritten, budgets_of, operands_of}
+use Rattle.cap_top_words.specs.Meaning.{Arguments, Signature, PlainCommand, CommandWord, arguments_of, budget_of, file_and_budget, check, command_of, default_budget, derive, signature_of, signatures, one_operand, replay, show, trial, two_operands, three_operands, verify, stray, stray_of, core}
+use Rattle.cap_top_words.specs.Writing.{HasArguments, IsBudget, IsNumber, IsWritten, budgets_of, operands_of}
 use Rattle.cap_top_words.proofs.Classes.{same_bytes}
 use Rattle.cap_top_words.proofs.Writings.{number_read, number_written, arguments_read, words_written}
 
@@ -41,6 +41,15 @@ two_written make [] (a ∷ []) command e = cc
 two_written make [] (a ∷ b ∷ []) command e = (a, b, refl, refl, e)
 two_written make [] (a ∷ b ∷ d ∷ operands) command e = cc
 
+three_written : (make : CommandWord → CommandWord → CommandWord → Option PlainCommand) (budgets operands : List CommandWord) (command : PlainCommand) → three_operands make budgets operands ≡ Some command
+    → (a b d : CommandWord) × (operands ≡ a ∷ b ∷ d ∷ []) × (budgets ≡ []) × (make a b d ≡ Some command)
+three_written make (n ∷ budgets) operands command e = cc
+three_written make [] [] command e = cc
+three_written make [] (a ∷ []) command e = cc
+three_written make [] (a ∷ b ∷ []) command e = cc
+three_written make [] (a ∷ b ∷ d ∷ []) command e = (a, b, d, refl, refl, e)
+three_written make [] (a ∷ b ∷ d ∷ f ∷ operands) command e = cc
+
 -- what the form makes is a command of this name
 abbrev IsRow : CommandWord × Signature → Type 0
 IsRow row = (budgets operands : List CommandWord) (command : PlainCommand) → row.1 budgets operands ≡ Some command → HasArguments command row.0 budgets operands
@@ -60,11 +69,13 @@ two_row name make has budgets operands command e =
     let made : make w.0 w.1 ≡ command = cc in
     subst (λ d. HasArguments d name budgets operands) made (has w.0 w.1 budgets operands w.2 w.3)
 
-show_row : IsRow (codes "show", one_operand (λ file. Some (show file)))
-show_row budgets operands command e =
-    let w = one_written (λ file. Some (show file)) budgets operands command e in
-    let made : show w.0 ≡ command = cc in
-    subst (λ d. HasArguments d (codes "show") budgets operands) made (refl, w.1, w.2)
+file_row : (name : CommandWord) (make : CommandWord → PlainCommand)
+    → ((file : CommandWord) (budgets operands : List CommandWord) → operands ≡ file ∷ [] → budgets ≡ [] → HasArguments (make file) name budgets operands)
+    → IsRow (name, one_operand (λ file. Some (make file)))
+file_row name make has budgets operands command e =
+    let w = one_written (λ file. Some (make file)) budgets operands command e in
+    let made : make w.0 ≡ command = cc in
+    subst (λ d. HasArguments d name budgets operands) made (has w.0 budgets operands w.1 w.2)
 
 trial_row : IsRow (codes "trial", one_operand (λ n. option_map trial (number_within 1 50 n)))
 trial_row budgets operands command e =
@@ -77,6 +88,22 @@ trial_row budgets operands command e =
     go word is none (Some n) read h =
         let made : trial n ≡ command = cc in
         subst (λ d. HasArguments d (codes "trial") budgets operands) made (refl, (word, is, number_written 1 50 word n (omega arith) read), none)
+
+stray_row : IsRow (codes "stray", three_operands stray_of)
+stray_row budgets operands command e =
+    let w = three_written stray_of budgets operands command e in
+    go w.0 w.1 w.2 w.3 w.4 (number_within 0 18446744073709551615 w.1) (number_within 1 1000 w.2) refl refl w.5
+  where
+    go : (file number count : CommandWord) → operands ≡ file ∷ number ∷ count ∷ [] → budgets ≡ [] → (o p : Option ℕ)
+        → number_within 0 18446744073709551615 number ≡ o → number_within 1 1000 count ≡ p → option_and_then (λ n. option_map (stray file n) p) o ≡ Some command
+        → HasArguments command (codes "stray") budgets operands
+    go file number count is none None p n_read m_read h = cc
+    go file number count is none (Some n) None n_read m_read h = cc
+    go file number count is none (Some n) (Some m) n_read m_read h =
+        let made : stray file n m ≡ command = cc in
+        let drawn = number_written 0 18446744073709551615 number n (omega arith) n_read in
+        let many = number_written 1 1000 count m (omega arith) m_read in
+        subst (λ d. HasArguments d (codes "stray") budgets operands) made (refl, (number, count, is, drawn, many), none)
 
 abbrev AreRows : List (CommandWord × Signature) → Type 0
 AreRows [] = Unit {0}
@@ -91,7 +118,10 @@ rows = (
       two_row (codes "check") check (λ a b budgets operands is none. (refl, is, none)),
       (
         two_row (codes "replay") replay (λ a b budgets operands is none. (refl, is, none)),
-        (show_row, (trial_row, tt)),
+        (
+          file_row (codes "show") show (λ file budgets operands is none. (refl, is, none)),
+          (trial_row, (stray_row, (file_row (codes "core") core (λ file budgets operands is none. (refl, is, none)), tt))),
+        ),
       ),
     ),
   ),
@@ -136,6 +166,10 @@ budget_read : (budgets : List CommandWord) (n : ℕ) → IsBudget budgets n → 
 budget_read budgets n (inl h) = rw (h.0, h.1) refl
 budget_read budgets n (inr h) = rw h.1 (number_read 1 1000000000 h.0 n (omega arith) h.2)
 
+stray_read : (file number count : CommandWord) (n m : ℕ) → IsNumber 0 18446744073709551615 number n → IsNumber 1 1000 count m → stray_of file number count ≡ Some (stray file n m)
+stray_read file number count n m drawn many =
+    rw (number_read 0 18446744073709551615 number n (omega arith) drawn, number_read 1 1000 count m (omega arith) many) refl
+
 form_read : (command : PlainCommand) (name : CommandWord) (budgets operands : List CommandWord) → HasArguments command name budgets operands
     → option_and_then (λ form. form budgets operands) (signature_of name) ≡ Some command
 form_read (verify file n) name budgets operands h = rw (h.0, h.1) (ap (option_map (verify file)) (budget_read budgets n h.2))
@@ -144,6 +178,8 @@ form_read (check file derivation) name budgets operands h = rw (h.0, h.1, h.2) r
 form_read (replay file schedule) name budgets operands h = rw (h.0, h.1, h.2) refl
 form_read (show file) name budgets operands h = rw (h.0, h.1, h.2) refl
 form_read (trial n) name budgets operands h = rw (h.0, h.1.1, h.2) (ap (option_map trial) (number_read 1 50 h.1.0 n (omega arith) h.1.2))
+form_read (stray file n m) name budgets operands h = rw (h.0, h.1.2, h.2) (stray_read file h.1.0 h.1.1 n m h.1.3 h.1.4)
+form_read (core file) name budgets operands h = rw (h.0, h.1, h.2) refl
 
 written_read : (words : List CommandWord) (command : PlainCommand) → IsWritten words command → command_of words ≡ Some command
 written_read words command w =

@@ -7,8 +7,8 @@ use Rattle.clap.specs.Walk.{Rule, arg_by_long, arg_by_short, nothing_held, walk_
 use Rattle.clap.specs.Simple.{Shape, built, filled_from, new_shape}
 use Rattle.clap.specs.Faults.{defaults_fault}
 use Rattle.cap_top_words.specs.Number.{number_within}
-use Rattle.cap_top_words.specs.Meaning.{Signature, signatures, PlainCommand, CommandWord, arguments_of, file_and_budget, one_operand, two_operands, verify, derive, check, replay, show, trial}
-use Rattle.cap_top_words.specs.Parser.{RowReader, file_and_budget_in, budgeted_rules, caper_app, one_operand_in, operand_rules, row_readers, two_operands_in}
+use Rattle.cap_top_words.specs.Meaning.{Signature, signatures, PlainCommand, CommandWord, arguments_of, file_and_budget, one_operand, two_operands, three_operands, stray_of, verify, derive, check, replay, show, trial, core}
+use Rattle.cap_top_words.specs.Parser.{RowReader, file_and_budget_in, budgeted_rules, caper_app, one_operand_in, operand_rules, row_readers, three_operands_in, two_operands_in}
 use Rattle.cap_top_words.proofs.Classes.{WordClasses, equal_bytes}
 use Rattle.cap_top_words.proofs.Leaf.{HasOption, has, lacks, leaf, run}
 use Rattle.cap_top_words.proofs.Chain.{Chain, Never, Once, made_of, reads_with, reads_without}
@@ -111,6 +111,10 @@ two_more : (make : CommandWord → CommandWord → PlainCommand) (a b d : Comman
 two_more make a b d [] operands = refl
 two_more make a b d (n ∷ budgets) operands = refl
 
+three_more : (make : CommandWord → CommandWord → CommandWord → Option PlainCommand) (a b d e : CommandWord) (budgets operands : List CommandWord) → three_operands make budgets (a ∷ b ∷ d ∷ e ∷ operands) ≡ None
+three_more make a b d e [] operands = refl
+three_more make a b d e (n ∷ budgets) operands = refl
+
 module _ (name id : CommandWord) where
   one_chain : (make : CommandWord → Option PlainCommand)
       → Chain (one_operand_in id make) name (filled_from 1 (operand_rules (id ∷ []))) (Never (one_operand_in id make) name (filled_from 1 (operand_rules (id ∷ [])))) [] 1 (id ∷ []) (one_operand make)
@@ -154,6 +158,38 @@ module _ (name id : CommandWord) where
         → option_and_then (two_operands_in id other make) (run (leaf_of name (operand_rules (id ∷ other ∷ []))) (walk_from nothing_held) words) ≡ made_of (two_operands make) (arguments_of words)
     two_reads make = operands_reads name (id ∷ other ∷ []) (two_operands_in id other make) (two_operands make) (two_chain make)
 
+abbrev stray_ids : List CommandWord
+stray_ids = codes "file" ∷ codes "number" ∷ codes "count" ∷ []
+
+abbrev stray_rows : RowReader
+stray_rows = three_operands_in (codes "file") (codes "number") (codes "count") stray_of
+
+stray_chain : Chain stray_rows (codes "stray") (filled_from 1 (operand_rules stray_ids)) (Never stray_rows (codes "stray") (filled_from 1 (operand_rules stray_ids))) [] 1 stray_ids (three_operands stray_of)
+unfolding defaults_fault
+stray_chain = (
+  record { slot = refl; ends = refl },
+  record { refused = inl refl; none = λ n budgets operands. refl },
+  record { by_id = refl; fresh = refl },
+  λ a. (
+    record { slot = refl; ends = refl },
+    record { refused = inl refl; none = λ n budgets operands. refl },
+    record { by_id = refl; fresh = refl },
+    λ b. (
+      record { slot = refl; ends = refl },
+      record { refused = inl refl; none = λ n budgets operands. refl },
+      record { by_id = refl; fresh = refl },
+      λ d. (
+        record { slot = refl; ends = refl },
+        record { refused = inl refl; none = λ n budgets operands. refl },
+        λ budgets e operands. three_more stray_of a b d e budgets operands,
+      ),
+    ),
+  ),
+)
+
+stray_reads : (words : List CommandWord) → WordClasses words → option_and_then stray_rows (run (leaf_of (codes "stray") (operand_rules stray_ids)) (walk_from nothing_held) words) ≡ made_of (three_operands stray_of) (arguments_of words)
+stray_reads = operands_reads (codes "stray") stray_ids stray_rows (three_operands stray_of) stray_chain
+
 -- ---- the subcommands of the parser
 
 abbrev budgeted_subcommand : (name : CommandWord) → bytes_eq name (codes "--") ≡ false → (CommandWord → ℕ → PlainCommand) → Subcommand
@@ -186,6 +222,16 @@ two_subcommand name not_ends id other differs differs_too make = record {
   reads = two_reads name id other differs differs_too make;
 }
 
+abbrev stray_subcommand : Subcommand
+stray_subcommand = record {
+  name = codes "stray";
+  not_ends = refl;
+  rules = operand_rules stray_ids;
+  reading = stray_rows;
+  form = three_operands stray_of;
+  reads = stray_reads;
+}
+
 pub all : List Subcommand
 all =
     budgeted_subcommand (codes "verify") refl verify
@@ -194,6 +240,8 @@ all =
     ∷ two_subcommand (codes "replay") refl (codes "file") (codes "schedule") refl refl replay
     ∷ one_subcommand (codes "show") refl (codes "file") (λ file. Some (show file))
     ∷ one_subcommand (codes "trial") refl (codes "number") (λ n. option_map trial (number_within 1 50 n))
+    ∷ stray_subcommand
+    ∷ one_subcommand (codes "core") refl (codes "file") (λ file. Some (core file))
     ∷ []
 
 -- the parser and the tables are made of them

@@ -8,7 +8,8 @@ use Rattle.cap_top_words.specs.Number.{number_within}
 abbrev pub CommandWord : Type 0
 CommandWord = List ℕ
 
--- a command: words stand for files, numbers for a budget or a trial
+-- a command: words stand for files, numbers for a budget, for a trial, or for what schedules are
+-- drawn from and how many they are
 pub data PlainCommand : Type 0 where
   verify : CommandWord → ℕ → PlainCommand
   derive : CommandWord → ℕ → PlainCommand
@@ -16,6 +17,8 @@ pub data PlainCommand : Type 0 where
   replay : CommandWord → CommandWord → PlainCommand
   show : CommandWord → PlainCommand
   trial : ℕ → PlainCommand
+  stray : CommandWord → ℕ → ℕ → PlainCommand
+  core : CommandWord → PlainCommand
 
 -- ---- the words after a command's name
 
@@ -92,6 +95,18 @@ abbrev pub two_operands : (CommandWord → CommandWord → PlainCommand) → Sig
 two_operands make [] (a ∷ b ∷ []) = Some (make a b)
 two_operands make _ _ = None
 
+-- three operands
+abbrev pub three_operands : (CommandWord → CommandWord → CommandWord → Option PlainCommand)
+    → Signature
+three_operands make [] (a ∷ b ∷ c ∷ []) = make a b c
+three_operands make _ _ = None
+
+-- a file, the number that schedules are drawn from, and how many they are
+abbrev pub stray_of : CommandWord → CommandWord → CommandWord → Option PlainCommand
+stray_of file number count =
+    option_and_then (λ n. option_map (stray file n) (number_within 1 1000 count))
+    (number_within 0 18446744073709551615 number)
+
 -- each command's name, and what it takes
 abbrev pub signatures : List (CommandWord × Signature)
 signatures =
@@ -101,6 +116,8 @@ signatures =
     ∷ (codes "replay", two_operands replay)
     ∷ (codes "show", one_operand (λ file. Some (show file)))
     ∷ (codes "trial", one_operand (λ n. option_map trial (number_within 1 50 n)))
+    ∷ (codes "stray", three_operands stray_of)
+    ∷ (codes "core", one_operand (λ file. Some (core file)))
     ∷ []
 
 -- what the command of this name takes

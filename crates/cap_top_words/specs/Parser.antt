@@ -9,7 +9,7 @@ use Rattle.clap.specs.declared.builder.command.Command.{Command}
 use Rattle.clap.specs.declared.builder.command.Command.TheViews.{out-Command}
 use Rattle.cap_top_words.specs.Number.{number_within}
 use Rattle.cap_top_words.specs.Meaning.{PlainCommand, CommandWord, default_budget}
-use Rattle.cap_top_words.specs.Meaning.{verify, derive, check, replay, show, trial}
+use Rattle.cap_top_words.specs.Meaning.{verify, derive, check, replay, show, trial, core, stray_of}
 
 -- ---- `-` alone, which `clap` takes for an operand
 
@@ -46,6 +46,8 @@ subcommands =
     ∷ (codes "replay", operand_rules (codes "file" ∷ codes "schedule" ∷ []))
     ∷ (codes "show", operand_rules (codes "file" ∷ []))
     ∷ (codes "trial", operand_rules (codes "number" ∷ []))
+    ∷ (codes "stray", operand_rules (codes "file" ∷ codes "number" ∷ codes "count" ∷ []))
+    ∷ (codes "core", operand_rules (codes "file" ∷ []))
     ∷ []
 
 abbrev pub bare_app : App
@@ -91,6 +93,12 @@ abbrev pub two_operands_in : CommandWord → CommandWord → (CommandWord → Co
 two_operands_in id other make rows =
     option_and_then (λ a. option_map (make a) (first_of other rows)) (first_of id rows)
 
+abbrev pub three_operands_in : CommandWord → CommandWord → CommandWord
+    → (CommandWord → CommandWord → CommandWord → Option PlainCommand) → RowReader
+three_operands_in id other third make rows =
+    let last = λ (a b : CommandWord). option_and_then (make a b) (first_of third rows) in
+    option_and_then (λ a. option_and_then (last a) (first_of other rows)) (first_of id rows)
+
 abbrev pub row_readers : List (CommandWord × RowReader)
 row_readers =
     (codes "verify", file_and_budget_in verify)
@@ -102,6 +110,8 @@ row_readers =
       codes "trial",
       one_operand_in (codes "number") (λ n. option_map trial (number_within 1 50 n)),
     )
+    ∷ (codes "stray", three_operands_in (codes "file") (codes "number") (codes "count") stray_of)
+    ∷ (codes "core", one_operand_in (codes "file") (λ file. Some (core file)))
     ∷ []
 
 -- what is read of the rows of the subcommand of this name

@@ -4,7 +4,7 @@ use Rattle.std.specs.Prelude.{Option, Some, None}
 use Rattle.std.specs.List.{All}
 use Rattle.std.specs.Fmt.{decimal}
 use Rattle.cap_top_words.specs.Meaning.{PlainCommand, CommandWord, begins_option, default_budget}
-use Rattle.cap_top_words.specs.Meaning.{verify, derive, check, replay, show, trial}
+use Rattle.cap_top_words.specs.Meaning.{verify, derive, check, replay, show, trial, stray, core}
 
 -- an argument before any `--`: an operand, or the option with its value, as two words or as one
 pub data WrittenArgument : Type 0 where
@@ -74,6 +74,13 @@ HasArguments (show file) name budgets operands =
 HasArguments (trial n) name budgets operands =
     (name ≡ codes "trial")
     × ((word : CommandWord) × (operands ≡ word ∷ []) × IsNumber 1 50 word n) × (budgets ≡ [])
+HasArguments (stray file n m) name budgets operands =
+    (name ≡ codes "stray")
+    × ((number count : CommandWord) × (operands ≡ file ∷ number ∷ count ∷ [])
+    × IsNumber 0 18446744073709551615 number n × IsNumber 1 1000 count m)
+    × (budgets ≡ [])
+HasArguments (core file) name budgets operands =
+    (name ≡ codes "core") × (operands ≡ file ∷ []) × (budgets ≡ [])
 
 -- the words write the command: its name, and then its arguments, perhaps with a `--`
 pub record IsWritten (words : List CommandWord) (command : PlainCommand) : Type 0 where

@@ -6,15 +6,43 @@
 #[derive(Debug, Clone, Copy, PartialEq, Eq)]
 pub enum Command<'a> {
     /// Verifies the program in a file.
-    Verify { file: &'a str, budget: u64 },
+    Verify {
+        file: &'a str,
+        budget: u64,
+    },
     /// Verifies the program in a file, and writes its derivation where all of it is proved.
-    Derive { file: &'a str, budget: u64 },
+    Derive {
+        file: &'a str,
+        budget: u64,
+    },
     /// Judges the derivation in a file for the program in another.
-    Check { file: &'a str, derivation: &'a str },
+    Check {
+        file: &'a str,
+        derivation: &'a str,
+    },
     /// Runs the program in a file along the schedule in another.
-    Replay { file: &'a str, schedule: &'a str },
+    Replay {
+        file: &'a str,
+        schedule: &'a str,
+    },
     /// Writes the program in a file in its canonical layout.
-    Show { file: &'a str },
+    Show {
+        file: &'a str,
+    },
     /// Verifies a large program that is made from the number, which is from 1 to 50.
-    Trial { number: u32 },
+    Trial {
+        number: u32,
+    },
+    /// Draws so many schedules of the program in a file from the number, and writes the first that
+    /// ends in a fault. The number is from 0 to 18,446,744,073,709,551,615, and the count of the
+    /// schedules from 1 to 1,000.
+    Stray {
+        file: &'a str,
+        number: u64,
+        count: u64,
+    },
+    /// Verifies the program in a file, and writes which rows each proof needs.
+    Core {
+        file: &'a str,
+    },
 }

@@ -19,6 +19,8 @@ const MAX_BUDGET: u64 = 1_000_000_000;
 
 const MAX_TRIAL: u64 = 50;
 
+const MAX_SCHEDULES: u64 = 1_000;
+
 // `-` alone stands before the first `--`: `clap` would take it for an operand.
 fn has_lone_dash(words: &[String]) -> bool
     ensures { result ≡ has_lone_dash (map string_bytes words.now) }
@@ -78,6 +80,14 @@ fn command<'a>(name: &str, matches: &ArgMatches<'a>) -> Option<Command<'a>>
         }),
         "trial" => Some(Command::Trial {
             number: number(value(matches, "number")?, 1, MAX_TRIAL)? as u32,
+        }),
+        "stray" => Some(Command::Stray {
+            file: value(matches, "file")?,
+            number: number(value(matches, "number")?, 0, u64::MAX)?,
+            count: number(value(matches, "count")?, 1, MAX_SCHEDULES)?,
+        }),
+        "core" => Some(Command::Core {
+            file: value(matches, "file")?,
         }),
         _ => None,
     }
