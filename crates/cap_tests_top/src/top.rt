@@ -815,7 +815,12 @@ fn strays(rt: HostRuntime) -> Result<(), Fail> {
             Status::Bad,
             "start\nstep 0\nend\n",
         ),
-        ("stray f 5 3", "function main() { }", Status::Good, "stray: none in 3\n"),
+        (
+            "stray f 5 3",
+            "function main() { }",
+            Status::Good,
+            "stray: none in 3\n",
+        ),
         (
             "stray f 18446744073709551615 1000",
             "function main() requires true; { }",

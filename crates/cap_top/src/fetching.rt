@@ -12,9 +12,7 @@ ghost use Rattle.cap_top.specs.Views.{fetched_view, BeginsAfter};
 
 use cap_io::{FetchError, Shelf};
 use cap_prog::Program;
-use cap_top_commands::{
-    Begun, Output, begin, check, core, derive, play, show, stray, verify,
-};
+use cap_top_commands::{Begun, Output, begin, check, core, derive, play, show, stray, verify};
 use std::alloc::{AllocError, Global};
 
 /// What a file gave: its bytes, nothing, or more bytes than a file may have.

@@ -102,11 +102,13 @@ fn respond<'a, S: Shelf>(
         }
         Some(Command::Replay { file, schedule }) => replay_files(alloc, shelf, file, schedule),
         Some(Command::Trial { number }) => trial(alloc, number),
-        Some(Command::Stray {
-            file,
-            number,
-            count,
-        }) => {
+        Some(
+            Command::Stray {
+                file,
+                number,
+                count,
+            },
+        ) => {
             let fetched = fetch(shelf, file)?;
             stray_file(alloc, file, fetched, number, count)
         }

@@ -17,11 +17,7 @@ pub fn core<'a>(alloc: Global, bytes: &[u8]) -> Result<Output<'a>, AllocError>
     ensures { IfOk result (λ o. IsOnly (IsCored bytes.now) (output_view o)) }
 {
     match read_program(alloc, bytes) {
-        Ok(program) => Ok(Output::Reported(cores_on(
-            alloc,
-            &program,
-            DEFAULT_BUDGET,
-        )?)),
+        Ok(program) => Ok(Output::Reported(cores_on(alloc, &program, DEFAULT_BUDGET)?)),
         Err(refusal) => refuse(refusal),
     }
 }

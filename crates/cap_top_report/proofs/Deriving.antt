@@ -25,4 +25,4 @@ proved-derive ascend first p budget u ts s has h =
     }
 
 pub proved-cores : ProofsHaveCores → ProvedDerive → ProvedHaveCores
-proved-cores cores derive p budget w s u ts has h = cores p u ts w (derive p budget u ts s has h)
+proved-cores cores derive p budget w s u ts has h = cores p u ts w s (derive p budget u ts s has h)
