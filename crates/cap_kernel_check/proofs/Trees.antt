@@ -8,7 +8,7 @@ use Rattle.cap_rules.specs.Rules.{rule}
 use Rattle.cap_rules.specs.Valid.{deepest, Derives, AllDerive}
 use Rattle.cap_rules.proofs.Answering.{answers-one}
 use Rattle.cap_kernel_check.specs.Faults.{nodes_of, all_nodes_of, Fault, failed, left_over, missing, HasFault, HaveFault}
-use Rattle.cap_kernel_check.specs.Walks.{PlainWalk, Outcome, goes_on, at_node, at_shape, passed, lacking, Leaves, stray, AfterLeft, Visits, VisitsAll}
+use Rattle.cap_kernel_check.specs.Walks.{PlainWalk, Outcome, goes_on, at_node, at_shape, passed, lacking, Leaves, surplus, AfterLeft, Visits, VisitsAll}
 use Rattle.cap_kernel_check.proofs.Telling.{Shows, Pending, With, Told, Within, true-false, both-ways, failed-missing, failed-left, with-above, within-after, told-same, told-after, unless-cases}
 
 pub subgoals-one : (p : PlainProgram) (g : PlainGoal) (c : PlainChoice) (gs hs : List PlainGoal) → Subgoals p g c gs → Subgoals p g c hs → gs ≡ hs
@@ -41,9 +41,9 @@ left-within None w end o Next le next h = subst (Within end) (sym h) le
 left-within (Some gs) w end o Next le next h =
     unless-cases w.lacks (goes_on (passed (suc w.before))) o (suc w.before) (λ v. Next v gs) (Within end o) (λ l e. subst (Within end) (sym e) le) (λ l x. next gs x) h
 
-stray-within : (room : ℕ) (w : PlainWalk) (end : ℕ) (o : Outcome) → suc w.before ≤ end → o ≡ stray room w → Within end o
-stray-within zero w end o le h = subst (Within end) (sym h) le
-stray-within (suc room) w end o le h = subst (Within end) (sym h) le
+surplus-within : (room : ℕ) (w : PlainWalk) (end : ℕ) (o : Outcome) → suc w.before ≤ end → o ≡ surplus room w → Within end o
+surplus-within zero w end o le h = subst (Within end) (sym h) le
+surplus-within (suc room) w end o le h = subst (Within end) (sym h) le
 
 pub some-node : (t : PlainTree) → 1 ≤ nodes_of t
 some-node (node c ts) = omega arith
@@ -57,7 +57,7 @@ mutual
   pub all-within : (ts : PlainTrees) (p : PlainProgram) (w : PlainWalk) (room : ℕ) (gs : List PlainGoal) (o : Outcome) (end : ℕ) → w.before + all_nodes_of ts ≡ end → VisitsAll p w room ts gs o → Within end o
   all-within no_trees p w room [] o end e h = subst (Within end) (sym h) (omega (arith, e))
   all-within no_trees p w room (g ∷ gs) o end e h = subst (Within end) (sym h) (omega (arith, e))
-  all-within (tree t ts) p w room [] o end e h = stray-within room w end o (let x : 1 ≤ nodes_of t = some-node t in omega (arith, e, x)) h
+  all-within (tree t ts) p w room [] o end e h = surplus-within room w end o (let x : 1 ≤ nodes_of t = some-node t in omega (arith, e, x)) h
   all-within (tree t ts) p w room (g ∷ gs) o end e (m, v, a) =
       within-after m o (w.before + nodes_of t) end (λ u x. VisitsAll p u room ts gs x) (omega (arith, e)) (visits-within t p w room g m (w.before + nodes_of t) refl v)
       (λ u same x. all-within ts p u room gs o end (omega (arith, e, same)) x) a
@@ -139,10 +139,10 @@ left-told p w d c ts g (Some gs) o Next le s next h =
     (λ l e. tells-pending w (HasFault p w.before d (node c ts) g) (Derives p d (node c ts) g) o l (applies-fine p w.before d c ts g gs le s) (λ f k x. has-above (node c ts) p w.before d g f k x) e)
     (λ l x. node-told p w d c ts g gs o le s l (next gs x)) h
 
-stray-told : (p : PlainProgram) (w : PlainWalk) (room d : ℕ) (t : PlainTree) (ts : PlainTrees) (o : Outcome) → room + d ≡ suc deepest → o ≡ stray room w → Told (With w (HaveFault p w.before d (tree t ts) [])) (AllDerive (Subgoals p) d (tree t ts) []) o
-stray-told p w zero d t ts o e h =
+surplus-told : (p : PlainProgram) (w : PlainWalk) (room d : ℕ) (t : PlainTree) (ts : PlainTrees) (o : Outcome) → room + d ≡ suc deepest → o ≡ surplus room w → Told (With w (HaveFault p w.before d (tree t ts) [])) (AllDerive (Subgoals p) d (tree t ts) []) o
+surplus-told p w zero d t ts o e h =
     tells-node w (HaveFault p w.before d (tree t ts) []) (AllDerive (Subgoals p) d (tree t ts) []) o (inr (refl, omega (arith, e)), refl) (λ f k x. have-above (tree t ts) p w.before d [] f k x) h
-stray-told p w (suc room) d t ts o e h =
+surplus-told p w (suc room) d t ts o e h =
     tells-left w (HaveFault p w.before d (tree t ts) []) (AllDerive (Subgoals p) d (tree t ts) []) o (inl refl, refl) (λ x. fine x) (λ f k x. have-above (tree t ts) p w.before d [] f k x) h
   where
     fine : ¬ HaveFault p w.before d (tree t ts) [] failed (suc w.before)
@@ -159,7 +159,7 @@ mutual
   pub all-told : (ts : PlainTrees) (p : PlainProgram) (w : PlainWalk) (room d : ℕ) (gs : List PlainGoal) (o : Outcome) → room + d ≡ suc deepest → VisitsAll p w room ts gs o → Told (With w (HaveFault p w.before d ts gs)) (AllDerive (Subgoals p) d ts gs) o
   all-told no_trees p w room d [] o e h = tells-none w (HaveFault p w.before d no_trees []) (AllDerive (Subgoals p) d no_trees []) o (λ f k x. x) tt h
   all-told no_trees p w room d (g ∷ gs) o e h = tells-missing w (HaveFault p w.before d no_trees (g ∷ gs)) (AllDerive (Subgoals p) d no_trees (g ∷ gs)) o (λ f k x. x) (refl, refl) h
-  all-told (tree t ts) p w room d [] o e h = stray-told p w room d t ts o e h
+  all-told (tree t ts) p w room d [] o e h = surplus-told p w room d t ts o e h
   all-told (tree t ts) p w room d (g ∷ gs) o e (m, v, a) =
       told-after w (HasFault p w.before d t g) (HaveFault p (w.before + nodes_of t) d ts gs) (Derives p d t g) (AllDerive (Subgoals p) d ts gs) (w.before + nodes_of t) m o (λ u x. VisitsAll p u room ts gs x)
       (λ f k x. have-above ts p (w.before + nodes_of t) d gs f k x)

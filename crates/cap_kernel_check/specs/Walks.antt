@@ -50,9 +50,9 @@ abbrev pub entered : PlainWalk → Outcome
 entered w = unless_lacking w.lacks (goes_on (passed (next_of w))) (next_of w)
 
 -- the next node has no goal
-abbrev pub stray : ℕ → PlainWalk → Outcome
-stray zero w = at_node (next_of w)
-stray (suc room) w = at_shape (next_of w)
+abbrev pub surplus : ℕ → PlainWalk → Outcome
+surplus zero w = at_node (next_of w)
+surplus (suc room) w = at_shape (next_of w)
 
 -- the next node's choice leaves goals, with which the walk goes on, or it doesn't apply
 abbrev pub AfterLeft :
@@ -72,7 +72,7 @@ abbrev mutual
   pub VisitsAll : PlainProgram → PlainWalk → ℕ → PlainTrees → List PlainGoal → Outcome → Type 0
   VisitsAll p w room no_trees [] o = o ≡ goes_on w
   VisitsAll p w room no_trees (g ∷ gs) o = o ≡ goes_on (lacking w)
-  VisitsAll p w room (tree t ts) [] o = o ≡ stray room w
+  VisitsAll p w room (tree t ts) [] o = o ≡ surplus room w
   VisitsAll p w room (tree t ts) (g ∷ gs) o =
       (m : Outcome) × Visits p w room t g m × After m (λ v end. VisitsAll p v room ts gs end) o
 

@@ -73,7 +73,7 @@ fn visit_all<'a>(
 {
     for (index, node) in nodes.iter().enumerate() {
         match goals.get(index) {
-            None => return walk.stray(room),
+            None => return walk.surplus(room),
             Some(goal) => visit(alloc, program, goal, node, room, walk)?,
         }
     }

@@ -2,7 +2,7 @@
 ghost use Rattle.std.specs.Prelude.{◌≡◌, IfOk};
 ghost use Rattle.cap_kernel_check.specs.Views.{Walked, walk_view};
 ghost use Rattle.cap_kernel_check.specs.Walks.{at_node, at_shape, ended, entered, lacking, next_of};
-ghost use Rattle.cap_kernel_check.specs.Walks.{passed, stray as stray_at, unrooted_at};
+ghost use Rattle.cap_kernel_check.specs.Walks.{passed, surplus as surplus_at, unrooted_at};
 
 use crate::error::CheckError;
 use std::alloc::AllocError;
@@ -52,8 +52,8 @@ impl Walk {
     }
 
     /// The next node has no goal; below it there would be room for so many levels.
-    pub fn stray(&self, room: usize) -> Result<(), CheckError>
-        ensures { Walked self.now result (λ o. o ≡ stray_at room (walk_view self.now)) }
+    pub fn surplus(&self, room: usize) -> Result<(), CheckError>
+        ensures { Walked self.now result (λ o. o ≡ surplus_at room (walk_view self.now)) }
     {
         if room == 0 {
             self.fail()
