@@ -4,3 +4,4 @@ pub mod Alive
 pub mod Turns
 pub mod Schedules
 pub mod Lines
+pub mod Limits

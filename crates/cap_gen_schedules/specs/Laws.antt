@@ -7,8 +7,9 @@ use Rattle.cap_machine.specs.declared.event.Entry.{Entry}
 use Rattle.cap_machine.specs.Machine.{start}
 use Rattle.cap_machine_accounts.specs.Safety.{Safe}
 use Rattle.cap_replay.specs.declared.playing.End.TheVariants.{Stopped}
+use Rattle.cap_replay.specs.Reading.{read}
 use Rattle.cap_replay.specs.RunText.{run_from}
-use Rattle.cap_replay.specs.Writing.{PlainSchedule, IsWithinLimits}
+use Rattle.cap_replay.specs.Writing.{PlainSchedule, schedule_text, IsReadWhole, IsWithinLimits}
 use Rattle.cap_gen_schedules.specs.Drawn.{first_fault}
 
 -- main has no parameters
@@ -37,8 +38,14 @@ SafeProgramsHaveNone =
     (p : PlainProgram) (count : ℕ) (g : Lcg) → AsksForNothing p → Safe p →
     first_fault p count g ≡ None
 
--- a schedule that is found is within the limits, so that its text is read as this schedule
-abbrev pub FoundSchedulesFit : Type 0
-FoundSchedulesFit =
+-- a schedule that is found is within the limits of those that can be written and read
+abbrev pub FoundSchedulesAreWithinLimits : Type 0
+FoundSchedulesAreWithinLimits =
     (p : PlainProgram) (count : ℕ) (g : Lcg) (es : List Entry) →
     first_fault p count g ≡ Some es → IsWithinLimits (drawn_schedule es)
+
+-- what is written of it is read as it
+abbrev pub FoundSchedulesAreReadBack : Type 0
+FoundSchedulesAreReadBack =
+    (p : PlainProgram) (count : ℕ) (g : Lcg) (es : List Entry) → first_fault p count g ≡ Some es →
+    IsReadWhole (drawn_schedule es) (read (schedule_text (drawn_schedule es)))

@@ -221,8 +221,9 @@ fn schedule_of(alloc: Global, entries: Vec<Entry>) -> Schedule
 /// one behind the other from the words of a number, and each begins at the empty heap: at each turn
 /// a word chooses one of the threads that have not ended, and what that allocates comes behind all
 /// cells. A schedule ends where all threads have ended, behind an entry that faults or is the
-/// 1,000th, and before one that makes a number past 128 bits. `main` has no parameters. The only
-/// error is want of memory.
+/// 1,000th, and before one that makes a number past 128 bits. The text of what is found
+/// (`schedule_text`) is read as it (`found_schedules_are_read_back`). `main` has no parameters. The
+/// only error is want of memory.
 pub fn stray(
     alloc: Global,
     program: &Program,

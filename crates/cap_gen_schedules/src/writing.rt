@@ -100,7 +100,8 @@ fn push_entries(alloc: Global, text: &mut Vec<u8>, entries: &[Entry]) -> Result<
 
 /// The canonical text of a schedule. Where the addresses of its heap are at least 1 and ascend, and
 /// there are at most 100,000 entries, it is read as this schedule
-/// (`cap_replay::written_schedules_are_read_back`). The only error is want of memory.
+/// (`cap_replay::written_schedules_are_read_back`). Each schedule that `stray` finds is one of these
+/// (`found_schedules_are_read_back`). The only error is want of memory.
 pub fn schedule_text(alloc: Global, schedule: &Schedule) -> Result<Vec<u8>, AllocError>
     ensures { IfOk result (λ text. text.items ≡ text_of (schedule_view schedule.now)) }
 {

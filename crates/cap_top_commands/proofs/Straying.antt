@@ -15,9 +15,9 @@ use Rattle.cap_replay.specs.declared.playing.End.TheVariants.{Stopped}
 use Rattle.cap_replay.specs.declared.reading.ScheduleError.{ScheduleError}
 use Rattle.cap_replay.specs.Reading.{Progress, read}
 use Rattle.cap_replay.specs.RunText.{RunText, run_from}
-use Rattle.cap_replay.specs.Writing.{PlainSchedule, schedule_view, schedule_text, IsReadWhole, SchedulesAreReadBack}
+use Rattle.cap_replay.specs.Writing.{PlainSchedule, schedule_view, schedule_text, IsReadWhole}
 use Rattle.cap_gen_schedules.specs.Drawn.{seeded, first_fault}
-use Rattle.cap_gen_schedules.specs.Laws.{AsksForNothing, TakesNothing, drawn_schedule, FoundSchedulesFault, FoundSchedulesFit, SafeProgramsHaveNone}
+use Rattle.cap_gen_schedules.specs.Laws.{AsksForNothing, TakesNothing, drawn_schedule, FoundSchedulesFault, FoundSchedulesAreReadBack, SafeProgramsHaveNone}
 use Rattle.cap_top_reading.specs.declared.refusal.Refusal.{Refusal}
 use Rattle.cap_top_reading.specs.Reading.{FindsProgram}
 use Rattle.cap_top_reading.specs.Refused.{IsRefused, IsTextOf}
@@ -97,14 +97,14 @@ read-to : (s : PlainSchedule) (r : Result Progress ScheduleError) → IsReadWhol
 read-to s (Ok p) h = record { progress = p; is = refl; args = h.0; heap = h.1; entries = h.2 }
 read-to s (Err e) h = absurd h
 
-module _ (fault : FoundSchedulesFault) (fit : FoundSchedulesFit) (back : SchedulesAreReadBack)
+module _ (fault : FoundSchedulesFault) (back : FoundSchedulesAreReadBack)
     (number count : ℕ) (bytes : List ℕ) where
   faults : (o : Output) (p : PlainProgram) → IsTextOf bytes p → AsksForNothing p → (es : List Entry)
       → first_fault p count (seeded number) ≡ Some es → o ≡ stray_output (schedule_text (drawn_schedule es))
       → FaultsAlong bytes o.text
   faults o p t asks es found e =
       let s = drawn_schedule es in
-      let k = read-to s (read (schedule_text s)) (back s (fit p count (seeded number) es found)) in
+      let k = read-to s (read (schedule_text s)) (back p count (seeded number) es found) in
       let whole : o.text ≡ schedule_text s = ap (λ (q : Output). q.text) e in
       record {
         program = p;

@@ -9,9 +9,10 @@ ghost use Rattle.cap_top_commands.specs.Needed.{CoresAreTold};
 
 use cap_account::derivations_are_sound;
 use cap_deriv_write::readings_are_lines;
-use cap_gen_schedules::{found_schedules_fault, found_schedules_fit, safe_programs_have_none};
+use cap_gen_schedules::{
+    found_schedules_are_read_back, found_schedules_fault, safe_programs_have_none,
+};
 use cap_kernel_check::{judged_are_valid, judgements_are_one};
-use cap_replay::written_schedules_are_read_back;
 use cap_search_starts::empty_starts_are_none;
 use cap_top_reading::programs_of_texts_are_well_formed;
 use cap_top_report::{found_trees_are_valid, proved_have_cores};
@@ -72,8 +73,7 @@ pub fn strays_fault()
     ensures { StraysFault }
 {
     found_schedules_fault();
-    found_schedules_fit();
-    written_schedules_are_read_back();
+    found_schedules_are_read_back();
 }
 
 /// A law: `stray` says no schedule of the text of a safe program.

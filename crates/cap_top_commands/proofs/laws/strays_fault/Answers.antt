@@ -2,4 +2,4 @@ use Rattle.cap_top_commands.proofs.Straying.{strays-fault}
 use Rattle.cap_top_commands.proofs.laws.strays_fault.Goals as goal
 
 pub returns : goal.returns
-returns c = strays-fault c.found_schedules_fault.ensures c.found_schedules_fit.ensures c.written_schedules_are_read_back.ensures
+returns c = strays-fault c.found_schedules_fault.ensures c.found_schedules_are_read_back.ensures
