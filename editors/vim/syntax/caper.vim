@@ -33,6 +33,9 @@ syn region caperAtomParens contained transparent start="(" end=")" end="\ze[;{}]
 syn cluster caperAtoms contains=caperComment,caperGuard,caperGuardOperator,caperCount,caperBrackets,caperAtomParens
 syn region caperHeld contained matchgroup=caperGuardOperator start="@" matchgroup=NONE end="\ze\%(&\*&\|[;{})]\)" end="\ze\<\%(region\|function\)\>" contains=@caperAtoms
 
+" The name of a function that is declared; clauses begin beside it, and so count before it.
+syn match caperFunctionName contained "\<\a\w*\>"
+
 " Assertions.
 syn keyword caperBoolean contained true false
 syn match caperOperator contained "&\*&\||->\|?\|\~>\|:="
@@ -61,7 +64,6 @@ syn region caperTypeOf matchgroup=caperDeclaration start="\<region\>" matchgroup
 syn keyword caperStatement contained fork if else while assert return
 syn keyword caperBuiltin contained alloc CAS
 syn match caperCall contained "\<\a\w*\>\ze\s*("
-syn match caperFunctionName contained "\<\a\w*\>"
 syn region caperBlock contained transparent start="{" end="}" end="\ze\<\%(region\|function\)\>" contains=@caperStatements
 syn region caperBody contained transparent start="{" end="}"me=s-1 end="\ze\<\%(region\|function\)\>" contains=@caperStatements
 syn cluster caperStatements contains=@caperTerm,caperStatement,caperBuiltin,caperCall,caperClauseOf,caperBlock
