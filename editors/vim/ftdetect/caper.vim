@@ -1,0 +1,2 @@
+" Texts of the verifier caper.
+autocmd BufNewFile,BufRead *.cap setfiletype caper
