@@ -1,5 +1,5 @@
 -- What is found is within the limits of the schedules that can be written and read.
-use Rattle.std.proofs.Common.{◌≡◌, ◌∙◌, ap, sym, refl, subst, ℕ, zero, suc, ◌+◌, ◌-◌, ◌%◌, ◌^◌, ◌<◌}
+use Rattle.std.proofs.Common.{◌≡◌, ◌∙◌, ap, refl, subst, ℕ, zero, suc, ◌+◌, ◌-◌, ◌%◌, ◌^◌, ◌<◌}
 use Rattle.std.proofs.Common.{◌≤◌, Bool, true, false, cond, ◌&&◌, List, [], ◌∷◌, ◌++◌, map, get_or}
 use Rattle.std.proofs.Common.{length, length-set, length-append, arith}
 use Rattle.std.specs.Prelude.{ℤ, pos, ◌+ℤ◌, ◌≤ℤ◌, int_le, is_none, Option, Some, None, IfSome}
@@ -118,7 +118,7 @@ module _ (p : PlainProgram) (s : Spot) where
   same : (fs : List Frame) → length (slice_set s.configuration.threads s.thread fs) ≤ suc many
   same fs =
       let e : length (slice_set s.configuration.threads s.thread fs) ≡ many =
-          length-set s.configuration.threads s.thread fs in omega arith
+      length-set s.configuration.threads s.thread fs in omega arith
 
   calls-grows :
       (b : Block) (n : ℕ) (vs : List ℤ) (x : Option ℕ) (o : Option PlainFunction) →
@@ -134,7 +134,7 @@ module _ (p : PlainProgram) (s : Spot) where
       let ts = slice_set s.configuration.threads s.thread fs in
       let e : length ts ≡ many = length-set s.configuration.threads s.thread fs in
       let a : length (ts ++ (new_frame n g vs None ∷ []) ∷ []) ≡ length ts + 1 =
-          length-append ts ((new_frame n g vs None ∷ []) ∷ []) in omega arith
+      length-append ts ((new_frame n g vs None ∷ []) ∷ []) in omega arith
 
   returns-grows : (v : ℤ) (fs : List Frame) → Grows many (returns s v fs)
   returns-grows v [] = same _
@@ -260,6 +260,10 @@ draws-within p (suc n) g c es all t l w h =
         (one-below (suc (length es)) (word_of g % length (t ∷ ts)) (t ∷ ts) (omega arith) k)
         (are_narrow (entry_steps c e)) (step p c e) refl refl (step-grows p c e) m
 
+most-fit : length {A = Entry} [] + most_entries ≤ 1000
+unfolding most_entries
+most-fit = omega arith
+
 found-within :
     (p : PlainProgram) (count : ℕ) (g : Lcg) (es : List Entry) →
     first_fault p count g ≡ Some es → AreWithin es
@@ -267,16 +271,12 @@ unfolding first_fault
 found-within p zero g es h = absurd (cc)
 found-within p (suc n) g es h = by-drawn (λ k m. found-within p n k es m) (draw_one p g) refl h
   where
-    few : length {A = Entry} [] + most_entries ≤ 1000
-    unfolding most_entries
-    few = omega arith
-
     by-drawn :
         ((k : Lcg) → first_fault p n k ≡ Some es → AreWithin es) → (d : Drawn) →
         draw_one p g ≡ d → or_later d (λ k. first_fault p n k) ≡ Some es → AreWithin es
     by-drawn later (faulted fs) q m =
         let e : fs ≡ es = cc in
-        draws-within p most_entries g (start p [] empty) [] es (omega arith) few
+        draws-within p most_entries g (start p [] empty) [] es (omega arith) most-fit
         (record { each = tt; few = omega arith }) (q ∙ ap faulted e)
     by-drawn later (ended k) q m = later k m
 
