@@ -5,10 +5,10 @@ use Rattle.std.specs.Global.{Global}
 use Rattle.cap_lin.specs.Solves.{Infeasible}
 use Rattle.cap_lin.specs.declared.row.Row.{Row}
 use Rattle.cap_fm_spec.specs.Events.{first_limit}
-use Rattle.cap_fm_spec.specs.Solving.{Logged, logged, after, solved}
+use Rattle.cap_fm_spec.specs.Solving.{RowsAscend, Logged, logged, after, solved}
 use Rattle.cap_fm.specs.Answers.{Explains}
 use Rattle.cap_fm.specs.declared.error.SolveError.{SolveError}
-use Rattle.cap_core.specs.Core.{Numbered, numbered_from, rows_of, numbers_of}
+use Rattle.cap_core.specs.Core.{Numbered, numbered_from, rows_of, numbers_of, IsCore}
 
 -- a row stays unless a certificate was found without it
 abbrev pub stays_unless : Bool → List Numbered → Numbered → List Numbered
@@ -29,6 +29,13 @@ IsCoreOf r rows =
     MatchResult r
     (λ ns. (first_limit (core_of rows).events ≡ None) × (ns.items ≡ (core_of rows).value))
     (λ e. Explains e (core_of rows).events)
+
+-- where the parts of the rows' terms ascend and no event passes a limit, the numbers that are decided
+-- are those of the core
+abbrev pub DecidedAreCores : Type 0
+DecidedAreCores =
+    (rows : List Row) → RowsAscend rows → first_limit (core_of rows).events ≡ None
+    → IsCore rows (core_of rows).value
 
 -- ---- one decision
 

@@ -4,5 +4,5 @@
 mod laws;
 mod leaving;
 
-pub use laws::cores_are_irreducible;
+pub use laws::{cores_are_irreducible, decided_are_cores};
 pub use leaving::core;

@@ -10,6 +10,7 @@ use Rattle.cap_prog.specs.WellFormed.{IsWellFormed}
 use Rattle.cap_goal_spec.specs.Choices.{PlainTree}
 use Rattle.cap_goal_spec.specs.Roots.{PlainUnit}
 use Rattle.cap_rules_marks.specs.Proven.{given}
+use Rattle.cap_rules_ascending.specs.Ascending.{ProgramAscends}
 use Rattle.cap_kernel_nodes.specs.Nodes.{GoalNode, unit_nodes}
 use Rattle.cap_kernel_nodes.specs.Laws.{UnitDerives}
 use Rattle.cap_core.specs.Core.{IsIrreducible}
@@ -31,8 +32,9 @@ HasCoreIfGiven rows (Some c) = HasCore rows
 abbrev pub NodeHasCores : PlainProgram → GoalNode → Type 0
 NodeHasCores p n = AllZip HasCoreIfGiven (owed_by p n) (given n.choice)
 
--- so it is with each node of valid trees of a unit
+-- so it is with each node of valid trees of a unit, where the terms of the program are in order
 abbrev pub ProofsHaveCores : Type 0
 ProofsHaveCores =
     (p : PlainProgram) (u : PlainUnit) (ts : List (Option PlainTree)) →
-    IsWellFormed p → UnitDerives p u ts → AllByRecursion (NodeHasCores p) (unit_nodes p u ts)
+    IsWellFormed p → ProgramAscends p → UnitDerives p u ts
+    → AllByRecursion (NodeHasCores p) (unit_nodes p u ts)

@@ -45,14 +45,14 @@ proof_lines k j (rows ∷ ls) [] = []
 proof_lines k j (rows ∷ ls) (None ∷ os) = proof_lines k j ls os
 proof_lines k j (rows ∷ ls) (Some c ∷ os) = proof_line k j rows ++ proof_lines k (suc j) ls os
 
-abbrev pub lists_in : Answer (List (List Row)) → List (List Row)
-lists_in (applies ls) = ls
-lists_in inapplicable = []
-lists_in (too_wide a b) = []
+abbrev pub answered_lists : Answer (List (List Row)) → List (List Row)
+answered_lists (applies ls) = ls
+answered_lists inapplicable = []
+answered_lists (too_wide a b) = []
 
 -- the lists of rows that the choice owes at the goal
 abbrev pub owed_by : PlainProgram → GoalNode → List (List Row)
-owed_by p n = lists_in (proofs p n.goal n.choice)
+owed_by p n = answered_lists (proofs p n.goal n.choice)
 
 -- ---- a unit
 

@@ -3,6 +3,8 @@
 
 mod laws;
 mod lines;
+mod node;
+mod proof;
 
 pub use laws::proofs_have_cores;
 pub use lines::push_core_lines;

@@ -12,7 +12,8 @@ use Rattle.cap_rules_marks.specs.Proven.{ProvesOwed}
 use Rattle.cap_kernel_nodes.specs.Nodes.{GoalNode, unit_nodes}
 
 -- the trees are valid derivations of the unit, the terms of whose roots stay within 128 bits
-pub record UnitDerives (p : PlainProgram) (u : PlainUnit) (ts : List (Option PlainTree)) : Type 0 where
+pub record UnitDerives (p : PlainProgram) (u : PlainUnit) (ts : List (Option PlainTree))
+    : Type 0 where
   pub narrow : first_wide (roots_steps p u) ≡ None
   pub trees : AllZip (RootDerives p) ts (roots p u)
 

@@ -1,6 +1,8 @@
 //! The nodes of derivations, each with its goal, in preorder.
 #![tactic(auto)]
 
+mod ahead;
+mod goals;
 mod laws;
 mod walk;
 

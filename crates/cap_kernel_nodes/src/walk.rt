@@ -1,5 +1,5 @@
 //! A walk over the nodes of the trees of a unit.
-ghost use Rattle.std.specs.Prelude.{◌≡◌, IfOk, length, None};
+ghost use Rattle.std.specs.Prelude.{◌≡◌, IfOk, None};
 ghost use Rattle.std.specs.List.{AllByRecursion};
 ghost use Rattle.cap_lin.specs.Steps.{first_wide};
 ghost use Rattle.cap_prog.specs.Views.{program_view};
@@ -10,9 +10,9 @@ ghost use Rattle.cap_kernel_nodes.specs.Laws.{NodeIsProven};
 ghost use Rattle.cap_kernel_nodes.specs.Nodes.{unit_nodes};
 ghost use Rattle.cap_kernel_nodes.specs.Views.{behind_next, nodes_ahead, trees_lent};
 
+use crate::ahead::{GoalTree, push_trees, trees_at_roots};
+use crate::goals::{goals_left, roots_of};
 use cap_goal::{Choice, Goal, Node, Unit};
-use cap_goal_roots::roots;
-use cap_kernel::subgoals;
 use cap_prog::Program;
 use std::alloc::{AllocError, Global};
 
@@ -23,25 +23,17 @@ pub struct GoalNode<'a> {
     pub choice: &'a Choice,
 }
 
-// A tree that is still to come, with its goal.
-#[derive(Drop)]
-struct Ahead<'a> {
-    goal: Goal<'a>,
-    node: &'a Node,
-}
-
 /// A walk over the nodes of the trees of a unit, in preorder. It keeps the trees that are still to
 /// come, the next one last, so it takes no stack however deep they are.
 #[derive(Drop)]
 pub struct NodeWalk<'a> {
-    ahead: Vec<Ahead<'a>>,
+    ahead: Vec<GoalTree<'a>>,
 }
 
-// TODO: push_tree(s), children beside goals
-
 impl<'a> NodeWalk<'a> {
-    /// The walk over the trees of a unit, one for each root, before all nodes. The only error is want
-    /// of memory.
+    /// The walk over the trees of a unit, one for each root, before all nodes. The only error is
+    /// want of memory.
+    #[tactic(auto, unfolding(crate::specs::Nodes::unit_nodes))]
     pub fn start(
         alloc: Global,
         program: &'a Program,
@@ -49,15 +41,19 @@ impl<'a> NodeWalk<'a> {
         trees: &'a [Option<Node>],
     ) -> Result<NodeWalk<'a>, AllocError>
         requires there { HasUnit (program_view program.now) (unit_view unit) }
-        requires narrow { first_wide (roots_steps (program_view program.now) (unit_view unit)) ≡ None }
+        requires narrow { first_wide (roots_steps (program_view program.now) (unit_view unit))
+            ≡ None }
         ensures { let p = program_view program.now in IfOk result
             (λ w. nodes_ahead p w ≡ unit_nodes p (unit_view unit) (trees_lent trees.now)) }
     {
-        todo
+        let roots = roots_of(alloc, program, unit)?;
+        Ok(NodeWalk {
+            ahead: trees_at_roots(alloc, roots, trees)?,
+        })
     }
 
-    /// The next node, if there is one. The only error is want of memory, after which the walk has lost
-    /// its place.
+    /// The next node, if there is one. The only error is want of memory, after which the walk has
+    /// lost its place.
     pub fn next(
         &mut self,
         alloc: Global,
@@ -68,6 +64,14 @@ impl<'a> NodeWalk<'a> {
         ensures { let p = program_view program.now in IfOk result
             (λ n. nodes_ahead p self.old ≡ behind_next n (nodes_ahead p self.new)) }
     {
-        todo
+        let Some(GoalTree { goal, node }) = self.ahead.pop() else {
+            return Ok(None);
+        };
+        let goals = goals_left(alloc, program, &goal, &node.choice)?;
+        push_trees(alloc, &mut self.ahead, goals, &node.children)?;
+        Ok(Some(GoalNode {
+            goal,
+            choice: &node.choice,
+        }))
     }
 }

@@ -1,0 +1,3 @@
+pub mod Leaving
+pub mod Proven
+pub mod Stacks
