@@ -6,7 +6,7 @@ use Rattle.cap_goal_roots.specs.Units.{HasUnit}
 use Rattle.cap_top_report.proofs.Numbered.{units-exist}
 use Rattle.cap_top_report.proofs.cores.cores_on.Goals as goal
 
-pub push_units-requires : goal.push_units-requires
-push_units-requires c =
+pub push_units-requires-clause-there : goal.push_units-requires-clause-there
+push_units-requires-clause-there c =
     subst (AllByRecursion (HasUnit (program_view c.args.program.now)))
     (sym (ap (map unit_view) c.deref.ensures.value ∙ c.in_ok-units.ensures)) (units-exist (program_view c.args.program.now))
