@@ -8,4 +8,4 @@ mod Following
 mod Deriving
 mod Accepting
 mod Coring
-pub mod Straying
+pub mod Strays

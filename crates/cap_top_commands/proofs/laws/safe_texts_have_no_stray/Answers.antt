@@ -1,4 +1,4 @@
-use Rattle.cap_top_commands.proofs.Straying.{safe-no-stray}
+use Rattle.cap_top_commands.proofs.Strays.{safe-no-stray}
 use Rattle.cap_top_commands.proofs.laws.safe_texts_have_no_stray.Goals as goal
 
 pub returns : goal.returns

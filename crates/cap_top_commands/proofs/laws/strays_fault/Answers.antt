@@ -1,4 +1,4 @@
-use Rattle.cap_top_commands.proofs.Straying.{strays-fault}
+use Rattle.cap_top_commands.proofs.Strays.{strays-fault}
 use Rattle.cap_top_commands.proofs.laws.strays_fault.Goals as goal
 
 pub returns : goal.returns

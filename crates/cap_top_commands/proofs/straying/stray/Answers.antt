@@ -1,4 +1,4 @@
-use Rattle.cap_top_commands.proofs.Straying.{stray-says, stray-refused}
+use Rattle.cap_top_commands.proofs.Strays.{stray-says, stray-refused}
 use Rattle.cap_top_commands.proofs.straying.stray.Goals as goal
 
 pub returns-in-Ok : goal.returns-in-Ok
