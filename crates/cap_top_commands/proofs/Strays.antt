@@ -1,12 +1,17 @@
 -- What is said of the schedules that are drawn of a program, and nothing else; and what it means.
-use Rattle.std.proofs.Common.{◌≡◌, ◌↔◌, ℕ, zero, suc, ◌==◌, ◌⊎◌, ◌&&◌, inl, inr, Bool, true, false, List, [], ◌∷◌, length, Option, Some, None, Result, Ok, Err, IfOk, refl, sym, ap, ◌∙◌, subst}
+use Rattle.std.proofs.Common.{◌≡◌, ◌↔◌, map, ℕ, zero, suc, ◌==◌, ◌⊎◌, ◌&&◌, inl, inr, Bool, true, false, List, [], ◌∷◌, length, Option, Some, None, Result, Ok, Err, IfOk, refl, sym, ap, ◌∙◌, subst, arith, rules}
+use Rattle.std.specs.Bool.{IsTrue}
+use Rattle.std.proofs.lemmas.Bool.Decides.{nat_tests}
 use Rattle.std.specs.Prelude.{IsSomeAnd, slice_get}
 use Rattle.std.specs.FinMap.{from_entries, empty}
 use Rattle.std.specs.declared.alloc.AllocError.{AllocError}
-use Rattle.rand_pcg.specs.Lcg.{Lcg}
 use Rattle.cap_prog.specs.declared.program.Program.{Program}
-use Rattle.cap_prog.specs.Program.{Items, none, item, PlainFunction, PlainProgram}
-use Rattle.cap_prog.specs.Views.{program_view}
+use Rattle.cap_prog.specs.declared.assertion.Item.{Item}
+use Rattle.cap_prog.specs.declared.assertion.Item.TheFolds.{the_lemmas}
+use Rattle.cap_prog.specs.declared.assertion.Assertion.{Assertion}
+use Rattle.cap_prog.specs.declared.function.Function.{Function}
+use Rattle.cap_prog.specs.Program.{Items, items_of, none, item, PlainFunction, PlainProgram}
+use Rattle.cap_prog.specs.Views.{item_view, items_view, function_view, program_view}
 use Rattle.cap_machine.specs.declared.event.Entry.{Entry}
 use Rattle.cap_machine.specs.Machine.{start}
 use Rattle.cap_replay.specs.declared.entries.Schedule.{Schedule}
@@ -178,3 +183,27 @@ safe-no-stray safe-none number count bytes o h safe bad = by (asks-or safe.progr
         let e : o ≡ no_start_output = h.only no_start_output (inr (record { thing = p; is_so = t; said = inl (n, refl) })) in
         let f : Refused ≡ Bad = sym (same_status o no_start_output e) ∙ bad in
         cc
+
+-- ---- it is seen by counts
+
+view_items : (a : Assertion) → items_view a ≡ items_of (map item_view a.items.items)
+view_items a = search (rules, the_lemmas)
+
+none-counted : (xs : List Item) → IsTrue (length xs == 0) ↔ (items_of (map item_view xs) ≡ none)
+none-counted [] = (λ t. refl, λ e. refl)
+none-counted (x ∷ xs) = (λ t. absurd (let k : suc (length xs) ≡ 0 = grind (arith, nat_tests) in cc), λ e. absurd cc)
+
+pub asks-counted :
+    (p : PlainProgram) (f : Function) (b : Bool) → slice_get p.functions p.main ≡ Some (function_view f)
+    → 0 ≡ f.params → b ≡ (length f.requires_.items.items == 0) → IsTrue b ↔ AsksForNothing p
+asks-counted p f b e z h = (
+  λ t. subst (λ o. IsSomeAnd o (λ g. (0 ≡ g.params) × (g.requires ≡ none))) (sym e)
+      (z, seen ∙ (none-counted f.requires_.items.items).0 (sym h ∙ t)),
+  λ a.
+      let k : (0 ≡ f.params) × (items_view f.requires_ ≡ none) =
+      subst (λ o. IsSomeAnd o (λ g. (0 ≡ g.params) × (g.requires ≡ none))) e a in
+      h ∙ (none-counted f.requires_.items.items).1 (sym seen ∙ k.1),
+)
+  where
+    seen : items_view f.requires_ ≡ items_of (map item_view f.requires_.items.items)
+    seen = view_items f.requires_
