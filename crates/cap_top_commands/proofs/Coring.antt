@@ -1,10 +1,9 @@
 -- What is said of a program's cores, and nothing else; and what it means.
-use Rattle.std.proofs.Common.{◌≡◌, ℕ, ◌⊎◌, inl, inr, Bool, true, false, List, Result, Ok, Err, IfOk, refl, sym, ap, ◌∙◌}
+use Rattle.std.proofs.Common.{◌≡◌, ℕ, ◌⊎◌, inl, inr, List, Result, Ok, Err, IfOk, refl, sym, ap, ◌∙◌}
 use Rattle.std.specs.declared.alloc.AllocError.{AllocError}
 use Rattle.cap_prog.specs.declared.program.Program.{Program}
 use Rattle.cap_prog.specs.Program.{PlainProgram}
 use Rattle.cap_prog.specs.Views.{program_view}
-use Rattle.cap_prog.specs.WellFormed.{IsWellFormed}
 use Rattle.cap_top_reading.specs.declared.refusal.Refusal.{Refusal}
 use Rattle.cap_top_reading.specs.Reading.{FindsProgram}
 use Rattle.cap_top_reading.specs.Refused.{IsRefused, IsTextOf}
@@ -16,9 +15,9 @@ use Rattle.cap_top_report.specs.Views.{IsCoresOf}
 use Rattle.cap_top_words.specs.Meaning.{default_budget}
 use Rattle.cap_top_commands.specs.declared.output.Output as code
 use Rattle.cap_top_commands.specs.declared.status.Status.TheVariants.{Good, Bad, Refused}
-use Rattle.cap_top_commands.specs.Output.{Output, refusal_output, report_output, report_status}
+use Rattle.cap_top_commands.specs.Output.{Output, refusal_output, report_output}
 use Rattle.cap_top_commands.specs.Answers.{SaysCause, IsVerified, IsCored, IsOnly, GoodAnswersAreSafe}
-use Rattle.cap_top_commands.specs.Needed.{TellsCores, CoresAreTold}
+use Rattle.cap_top_commands.specs.Needed.{CoresAreTold}
 use Rattle.cap_top_commands.specs.Report.{IsCoresReport}
 use Rattle.cap_top_commands.specs.Views.{output_view}
 use Rattle.cap_top_commands.proofs.Answering.{AnswersRefusal, found_says, one_only, refused_says}

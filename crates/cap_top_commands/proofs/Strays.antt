@@ -1,5 +1,5 @@
 -- What is said of the schedules that are drawn of a program, and nothing else; and what it means.
-use Rattle.std.proofs.Common.{◌≡◌, ◌↔◌, map, ℕ, zero, suc, ◌==◌, ◌⊎◌, ◌&&◌, inl, inr, Bool, true, false, List, [], ◌∷◌, length, Option, Some, None, Result, Ok, Err, IfOk, refl, sym, ap, ◌∙◌, subst, arith, rules}
+use Rattle.std.proofs.Common.{◌≡◌, ◌↔◌, map, ℕ, zero, suc, ◌==◌, ◌⊎◌, inl, inr, Bool, List, [], ◌∷◌, length, Option, Some, None, Result, Ok, Err, IfOk, refl, sym, ap, ◌∙◌, subst, arith, rules}
 use Rattle.std.specs.Bool.{IsTrue}
 use Rattle.std.proofs.lemmas.Bool.Decides.{nat_tests}
 use Rattle.std.specs.Prelude.{IsSomeAnd, slice_get}
@@ -15,11 +15,10 @@ use Rattle.cap_prog.specs.Views.{item_view, items_view, function_view, program_v
 use Rattle.cap_machine.specs.declared.event.Entry.{Entry}
 use Rattle.cap_machine.specs.Machine.{start}
 use Rattle.cap_replay.specs.declared.entries.Schedule.{Schedule}
-use Rattle.cap_replay.specs.declared.playing.End.{End}
 use Rattle.cap_replay.specs.declared.playing.End.TheVariants.{Stopped}
 use Rattle.cap_replay.specs.declared.reading.ScheduleError.{ScheduleError}
 use Rattle.cap_replay.specs.Reading.{Progress, read}
-use Rattle.cap_replay.specs.RunText.{RunText, run_from}
+use Rattle.cap_replay.specs.RunText.{run_from}
 use Rattle.cap_replay.specs.Writing.{PlainSchedule, schedule_view, schedule_text, IsReadWhole}
 use Rattle.cap_gen_schedules.specs.Drawn.{seeded, first_fault}
 use Rattle.cap_gen_schedules.specs.Laws.{AsksForNothing, TakesNothing, drawn_schedule, FoundSchedulesFault, FoundSchedulesAreReadBack, SafeProgramsHaveNone}
@@ -29,8 +28,7 @@ use Rattle.cap_top_reading.specs.Refused.{IsRefused, IsTextOf}
 use Rattle.cap_top_commands.specs.declared.output.Output as code
 use Rattle.cap_top_commands.specs.declared.status.Status.TheVariants.{Good, Bad, Refused}
 use Rattle.cap_top_commands.specs.Output.{Output, refusal_output, no_start_output, stray_output, no_stray_output}
-use Rattle.cap_top_commands.specs.Answers.{IsStray, IsStrayed, IsOnly, drawn_output, TakesArguments, run_along, FaultsAlong, StraysFault, SafeTextsHaveNoStray}
-use Rattle.cap_top_commands.specs.SafeText.{IsSafeText}
+use Rattle.cap_top_commands.specs.Answers.{IsStray, IsStrayed, IsOnly, drawn_output, run_along, FaultsAlong, SafeTextsHaveNoStray}
 use Rattle.cap_top_commands.specs.Views.{output_view}
 use Rattle.cap_top_commands.proofs.Answering.{AnswersRefusal, found_says, refused_says}
 use Rattle.cap_top_commands.proofs.Good.{same_status}
