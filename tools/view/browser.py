@@ -9,6 +9,7 @@ import shutil
 import subprocess
 import tempfile
 import time
+import urllib.parse
 
 NAMES = ("chromium", "chromium-browser", "google-chrome")
 SECONDS = 60
@@ -97,14 +98,17 @@ class Browser:
                 return it["result"]
             self.events.append(it)
 
-    def open(self, path, fragment=""):
-        """Opens a file, and waits until it is loaded."""
+    def go(self, address):
+        """Goes to an address, and waits until it is loaded."""
         self.events.clear()
-        self.ask("Page.navigate", url="about:blank")
-        self.events.clear()
-        self.ask("Page.navigate", url=f"file://{os.path.abspath(path)}{fragment}")
+        self.ask("Page.navigate", url=address)
         while not any(it.get("method") == "Page.loadEventFired" for it in self.events):
             self.events.append(self.message())
+
+    def open(self, path, fragment=""):
+        """Opens a file anew."""
+        self.go("about:blank")
+        self.go(f"file://{urllib.parse.quote(os.path.abspath(path))}{fragment}")
 
     def size(self, width, height, scale=1):
         """Sets the size of the window."""

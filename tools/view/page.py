@@ -29,18 +29,20 @@ STYLE = """
 .t0 { --c: var(--t0); } .t1 { --c: var(--t1); } .t2 { --c: var(--t2); } .t3 { --c: var(--t3); }
 .t4 { --c: var(--t4); } .t5 { --c: var(--t5); } .t6 { --c: var(--t6); } .t7 { --c: var(--t7); }
 * { box-sizing: border-box; }
-body { margin: 0; background: var(--back); color: var(--text); font: 14px/1.35 system-ui, sans-serif; }
+body { margin: 0; background: var(--back); color: var(--text); font: 14px/1.35 system-ui, sans-serif; height: 100vh;
+  display: flex; flex-direction: column; overflow: hidden; }
 code, .cell, .source, th.at { font-family: ui-monospace, "DejaVu Sans Mono", Menlo, Consolas, monospace; }
-header { padding: 10px 16px 8px; border-bottom: 1px solid var(--line); }
+header { padding: 10px 16px 8px; border-bottom: 1px solid var(--line); flex: none; }
 h1 { font-size: 16px; margin: 0; }
 h1 span { font-weight: normal; color: var(--dim); }
 header p { margin: 2px 0 0; color: var(--dim); }
 header .bad { color: var(--fault); font-weight: 600; }
 kbd { font: 12px ui-monospace, "DejaVu Sans Mono", monospace; border: 1px solid var(--line); border-radius: 3px;
   padding: 0 4px; background: var(--panel); }
-main { display: grid; grid-template-columns: minmax(0, 1fr) minmax(0, 34em); }
-.strip { overflow: auto; height: calc(100vh - 62px); }
-aside { height: calc(100vh - 62px); display: flex; flex-direction: column; border-left: 1px solid var(--line);
+main { flex: 1; min-height: 0; display: grid; grid-template-columns: fit-content(calc(100vw - 36em)) minmax(0, 1fr);
+  grid-template-rows: minmax(0, 1fr); }
+.strip { overflow: auto; }
+aside { display: flex; flex-direction: column; min-height: 0; border-left: 1px solid var(--line);
   background: var(--panel); }
 table { border-collapse: separate; border-spacing: 0; font-size: 13px; }
 thead { position: sticky; top: 0; z-index: 2; }
@@ -89,11 +91,13 @@ tfoot td { padding: 6px 16px; color: var(--dim); border-top: 1px solid var(--lin
 .source span.done { outline: 2px solid var(--c); outline-offset: 1px; border-radius: 2px; }
 .source span.bad { background: var(--fault); color: var(--back); outline-color: var(--fault); }
 @media (max-width: 900px) {
-  main { display: block; } .strip, aside { height: auto; } aside { border-left: 0; } .source { max-height: none; } }
+  main { grid-template-columns: minmax(0, 1fr); grid-template-rows: minmax(0, 3fr) minmax(0, 2fr); }
+  aside { border-left: 0; border-top: 1px solid var(--line); } }
 @media print {
-  aside, .keys { display: none; } main { display: block; } .strip { height: auto; overflow: visible; }
-  body { font-size: 9pt; } table { font-size: 8pt; } thead { position: static; } tbody tr { break-inside: avoid; }
-  tr.now th, tr.now td { background-color: transparent; border-color: transparent; }
+  aside, .keys { display: none; } main, body { display: block; height: auto; overflow: visible; }
+  .strip { overflow: visible; } body { font-size: 9pt; } table { font-size: 8pt; } td.step .words { font-size: 7pt; } thead { position: static; } tbody tr { break-inside: avoid; }
+  tr.now th, tr.now td { border-color: transparent; } tr.now th, tr.now td:not(.step) { background-color: transparent; }
+  tr.now td.first { border-left-color: var(--line); }
   tr.now th { box-shadow: none; font-weight: normal; color: var(--dim); }
   tr.fault.now th { color: var(--fault); }
   * { print-color-adjust: exact; -webkit-print-color-adjust: exact; } }
@@ -125,6 +129,11 @@ function made(tag, name, text) {
 }
 function colour(thread) {
   return "t" + thread % data.colours;
+}
+function is_in_view(it) {
+  const line = it.getBoundingClientRect();
+  const panel = it.closest(".source").getBoundingClientRect();
+  return line.top >= panel.top && line.bottom <= panel.bottom;
 }
 function mark(place, thread, name) {
   for (const span of spans.get(place) || []) span.classList.add(name, colour(thread));
@@ -168,7 +177,7 @@ function show(row) {
     if (step.fault) mark(step.place, step.thread, "bad");
     seen = (spans.get(step.place) || [])[0] || seen;
   }
-  if (seen) seen.scrollIntoView({block: "nearest", inline: "nearest"});
+  if (seen && !is_in_view(seen)) seen.scrollIntoView({block: "center", inline: "nearest"});
 }
 document.addEventListener("keydown", function (event) {
   if (event.ctrlKey || event.metaKey || event.altKey) return;
@@ -285,14 +294,14 @@ def lane_of(program, row, thread, alive):
     return tag("td", "", f"lane {colour(thread)}" if thread in alive else "")
 
 
-def head_of(program, machine_threads, addresses, firsts, names):
+def head_of(began, addresses, firsts):
     """The head of the table: threads with the functions that they began with, and addresses."""
-    count, heap = machine_threads, len(addresses)
+    count, heap = len(began), len(addresses)
     groups = tag("th", "step", rowspan=2) + tag("th", "threads", colspan=count)
     if heap:
         groups += tag("th", "heap after the step", "heap", colspan=heap)
     cells = "".join(
-        tag("th", f"{thread} {escape(names[thread])}", f"thread {colour(thread)}", scope="col") for thread in range(count)
+        tag("th", f"{thread} {escape(name)}", f"thread {colour(thread)}", scope="col") for thread, name in enumerate(began)
     )
     cells += "".join(tag("th", str(it), "at first" if it in firsts else "at", scope="col") for it in addresses)
     return tag("thead", tag("tr", groups) + "\n" + tag("tr", cells))
@@ -368,11 +377,7 @@ def page_of(program, schedule, run, names, owners=None):
     threads = len(machine.threads)
     if len(rows) * (1 + threads + len(addresses)) > CELLS:
         raise TooLarge(f"a page has at most {CELLS} cells, and this run has more")
-    began = {thread: state["stack"] for row in rows for thread, state in reversed(row.states) if state}
-    first = {0: "main"}
-    for row in rows[1:]:
-        if row.touch.event == "fork":
-            first[row.touch.arguments[0]] = row.statement.parts[0]
+    began = ["main"] + [row.statement.parts[0] for row in rows[1:] if row.touch.event == "fork"]
     said, bad = end_of(run)
     keys = (
         "<kbd>\u2193</kbd> <kbd>j</kbd> next step, <kbd>\u2191</kbd> <kbd>k</kbd> one back, <kbd>Home</kbd> <kbd>End</kbd>,"
@@ -381,7 +386,7 @@ def page_of(program, schedule, run, names, owners=None):
     title = f"{names[0]} along {names[1]}"
     table = tag(
         "table",
-        head_of(program, threads, addresses, firsts, first)
+        head_of(began, addresses, firsts)
         + "\n"
         + rows_of(program, rows, threads, addresses, firsts, owners or {})
         + "\n"
