@@ -17,6 +17,8 @@ from texts import FAULTS, place_text
 # A page of more cells than so many is refused.
 CELLS = 400000
 COLOURS = 8
+# With more threads than so many their columns are narrow.
+MANY = 4
 
 STYLE = """
 :root { color-scheme: light dark; --back: #ffffff; --panel: #f6f7f9; --text: #1b1f24; --dim: #6a737d; --line: #d8dce1;
@@ -39,9 +41,9 @@ header p { margin: 2px 0 0; color: var(--dim); }
 header .bad { color: var(--fault); font-weight: 600; }
 kbd { font: 12px ui-monospace, "DejaVu Sans Mono", monospace; border: 1px solid var(--line); border-radius: 3px;
   padding: 0 4px; background: var(--panel); }
-main { flex: 1; min-height: 0; display: grid; grid-template-columns: fit-content(calc(100vw - 36em)) minmax(0, 1fr);
+main { flex: 1; min-height: 0; display: grid; grid-template-columns: fit-content(calc(100vw - 34em)) minmax(0, 1fr);
   grid-template-rows: minmax(0, 1fr); }
-.strip { overflow: auto; }
+.strip { overflow: auto; scroll-padding: 60px 8px 16px 64px; }
 aside { display: flex; flex-direction: column; min-height: 0; border-left: 1px solid var(--line);
   background: var(--panel); }
 table { border-collapse: separate; border-spacing: 0; font-size: 13px; }
@@ -52,13 +54,16 @@ thead tr:first-child th { font-weight: normal; color: var(--dim); border-bottom:
 thead th.thread { color: var(--c); border-bottom: 3px solid var(--c); min-width: 10em; }
 thead th.at { text-align: center; font-size: 12px; min-width: 3em; border-bottom: 3px solid var(--line); }
 th.heap, .first { border-left: 1px solid var(--line); }
-tbody th { color: var(--dim); font-weight: normal; text-align: right; padding: 3px 10px 3px 16px; vertical-align: top; }
+tbody th { color: var(--dim); font-weight: normal; text-align: right; padding: 3px 10px 3px 16px; vertical-align: top;
+  position: sticky; left: 0; z-index: 1; background: var(--back); border-top: 1px solid transparent; }
+thead tr:first-child th:first-child { position: sticky; left: 0; z-index: 1; }
 tbody td { padding: 3px 8px; vertical-align: top; border-top: 1px solid transparent; }
-tbody tr { cursor: pointer; scroll-margin: 64px 0 16px; }
+tbody tr { cursor: pointer; }
 td code { display: block; white-space: pre; }
 td.step { background: color-mix(in srgb, var(--c) 13%, transparent); box-shadow: inset 4px 0 0 var(--c); }
 td.step .event { color: var(--c); font-weight: 600; }
 td.step .words { color: var(--dim); font-size: 12px; max-width: 26em; overflow: hidden; text-overflow: ellipsis; }
+.many td.step .words { max-width: 13em; } .many thead th.thread { min-width: 6em; }
 td.lane { background: linear-gradient(var(--c), var(--c)) 1px 0 / 2px 100% no-repeat; }
 td.cell { text-align: center; min-width: 3em; }
 td.cell b { font-weight: normal; display: inline-block; min-width: 1.8em; padding: 0 3px; border: 1px solid transparent;
@@ -95,7 +100,7 @@ tfoot td { padding: 6px 16px; color: var(--dim); border-top: 1px solid var(--lin
   aside { border-left: 0; border-top: 1px solid var(--line); } }
 @media print {
   aside, .keys { display: none; } main, body { display: block; height: auto; overflow: visible; }
-  .strip { overflow: visible; } body { font-size: 9pt; } table { font-size: 8pt; } td.step .words { font-size: 7pt; } thead { position: static; } tbody tr { break-inside: avoid; }
+  .strip { overflow: visible; } body { font-size: 9pt; } table { font-size: 8pt; } td.step .words { font-size: 7pt; } thead, tbody th { position: static; } tbody tr { break-inside: avoid; }
   tr.now th, tr.now td { border-color: transparent; } tr.now th, tr.now td:not(.step) { background-color: transparent; }
   tr.now td.first { border-left-color: var(--line); }
   tr.now th { box-shadow: none; font-weight: normal; color: var(--dim); }
@@ -148,7 +153,9 @@ function show(row) {
   now = row;
   rows[now].classList.add("now");
   rows[now].setAttribute("aria-current", "step");
-  rows[now].scrollIntoView({block: "nearest", inline: "nearest"});
+  for (const it of [rows[now], rows[now].querySelector(".read, .wrote, .missed"), rows[now].querySelector(".step")]) {
+    if (it) it.scrollIntoView({block: "nearest", inline: it === rows[now] ? "start" : "nearest"});
+  }
   for (const group of spans.values()) for (const span of group) span.className = "";
   for (const it of document.querySelectorAll(".source .chips")) it.textContent = "";
   const panel = document.getElementById("threads");
@@ -391,6 +398,7 @@ def page_of(program, schedule, run, names, owners=None):
         + rows_of(program, rows, threads, addresses, firsts, owners or {})
         + "\n"
         + tag("tfoot", tag("tr", tag("td", escape(said), colspan=1 + threads + len(addresses)))),
+        "many" if threads > MANY else "",
     )
     policy = f"default-src 'none'; style-src {digest(STYLE)}; script-src {digest(SCRIPT)}"
     return (
