@@ -1,6 +1,7 @@
 """Calls of caper, for the tools that show what it says, and how these tools end."""
 
 import os
+import re
 import subprocess
 import sys
 
@@ -70,11 +71,14 @@ def write(path, text):
 def put(text):
     """Writes a text on standard output."""
     try:
-        sys.stdout.write(text)
+        if sys.stdout is None:
+            raise OSError
+        sys.stdout.buffer.write(text.encode())
         sys.stdout.flush()
     except OSError:
-        # What is left in the buffer would be tried again at the end.
-        os.dup2(os.open(os.devnull, os.O_WRONLY), sys.stdout.fileno())
+        if sys.stdout is not None:
+            # What is left in the buffer would be tried again at the end.
+            os.dup2(os.open(os.devnull, os.O_WRONLY), sys.stdout.fileno())
         raise Ends(UNWRITABLE, "cannot write the output") from None
 
 
@@ -97,7 +101,7 @@ def options_of(words, options):
 
 def whole(word, least, most):
     """The number that a word spells, within these."""
-    if not (word.isascii() and word.isdigit() and word == str(int(word)) and least <= int(word) <= most):
+    if not (re.fullmatch("[1-9][0-9]{0,18}|0", word) and least <= int(word) <= most):
         raise Ends(WORDS, "")
     return int(word)
 

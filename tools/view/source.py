@@ -178,7 +178,7 @@ class Reader:
         """The next token, a number."""
         if not self.ahead().isdigit():
             raise Strange(self.place(), f"{self.ahead()!r} is no number")
-        return int(self.take())
+        return int(self.take().lstrip("0") or "0")
 
     def comparison(self):
         """A comparison."""

@@ -45,11 +45,11 @@ EVENTS = {
 FAULTS = ("fault", "failed")
 VERDICTS = [
     r"proved",
-    r"spent [1-9]\d*",
+    r"spent [1-9][0-9]*",
     r"deep 1000",
-    r"wide (0|-?[1-9]\d*) (0|-?[1-9]\d*)",
+    r"wide (0|-?[1-9][0-9]*) (0|-?[1-9][0-9]*)",
     r"rows 4096",
-    r"open [1-9]\d*:[1-9]\d* needs (fact|cell|region|guard|move|state) [1-9]\d*:[1-9]\d*",
+    r"open [1-9][0-9]*:[1-9][0-9]* needs (fact|cell|region|guard|move|state) [1-9][0-9]*:[1-9][0-9]*",
 ]
 CAUSES = [
     r"bad byte",
@@ -57,8 +57,8 @@ CAUSES = [
     r"text too long",
     r"unexpected token",
     r"nested too deep",
-    r"unknown name [A-Za-z]\w*",
-    r"name [A-Za-z]\w* twice",
+    r"unknown name [A-Za-z][A-Za-z0-9_]*",
+    r"name [A-Za-z][A-Za-z0-9_]* twice",
     r"wrong number of arguments",
     r"wrong sort",
     r"product of two names",
@@ -69,8 +69,8 @@ CAUSES = [
 ]
 REFUSALS = [
     (r"refused start", 2),
-    (rf"refused [1-9]\d*:[1-9]\d*: ({'|'.join(CAUSES)})", 2),
-    (r"refused schedule line [1-9]\d*", 2),
+    (rf"refused [1-9][0-9]*:[1-9][0-9]*: ({'|'.join(CAUSES)})", 2),
+    (r"refused schedule line [1-9][0-9]*", 2),
     (r"refused schedule: more than 100000 entries", 2),
     (r"refused: file too long", 2),
     (r"cannot read .+", 4),
@@ -350,7 +350,7 @@ def verdicts(text):
         if line == "main: precondition empty":
             empty = True
             continue
-        found = re.fullmatch(r"(region|function) ([A-Za-z]\w*): (.*)", line)
+        found = re.fullmatch(r"(region|function) ([A-Za-z][A-Za-z0-9_]*): (.*)", line)
         if not found:
             lines.wrong("no line of a unit")
         if not any(re.fullmatch(form, found[3]) for form in VERDICTS):
