@@ -15,7 +15,7 @@ from machine import Differs, Machine
 from texts import FAULTS, place_text
 
 # A page of more cells than so many is refused.
-CELLS = 400000
+CELLS = 100000
 COLOURS = 8
 # With more threads than so many their columns are narrow.
 MANY = 4
