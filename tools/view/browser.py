@@ -121,9 +121,13 @@ class Browser:
         features = [{"name": "prefers-color-scheme", "value": scheme}]
         self.ask("Emulation.setEmulatedMedia", media=medium, features=features)
 
+    def scripts(self, run):
+        """Whether scripts of pages run."""
+        self.ask("Emulation.setScriptExecutionDisabled", value=not run)
+
     def key(self, name):
         """Presses a key."""
-        codes = {"ArrowDown": 40, "ArrowUp": 38, "Home": 36, "End": 35}
+        codes = {"ArrowDown": 40, "ArrowUp": 38, "Home": 36, "End": 35, "PageDown": 34, "PageUp": 33}
         more = {"windowsVirtualKeyCode": codes.get(name, ord(name.upper()[0]))}
         more.update({"text": name} if len(name) == 1 else {})
         self.ask("Input.dispatchKeyEvent", type="keyDown", key=name, **more)

@@ -188,7 +188,8 @@ function show(row) {
 }
 document.addEventListener("keydown", function (event) {
   if (event.ctrlKey || event.metaKey || event.altKey) return;
-  const to = {ArrowDown: now + 1, j: now + 1, ArrowUp: now - 1, k: now - 1, Home: 0, End: rows.length - 1}[event.key];
+  const to = {ArrowDown: now + 1, j: now + 1, ArrowUp: now - 1, k: now - 1, PageDown: now + 10, PageUp: now - 10,
+    Home: 0, End: rows.length - 1}[event.key];
   if (to === undefined) return;
   event.preventDefault();
   show(to);
