@@ -68,7 +68,8 @@ td.lane { background: linear-gradient(var(--c), var(--c)) 1px 0 / 2px 100% no-re
 td.cell { text-align: center; min-width: 3em; }
 td.cell b { font-weight: normal; display: inline-block; min-width: 1.8em; padding: 0 3px; border: 1px solid transparent;
   border-radius: 4px; }
-td.cell .owner { display: block; min-height: 1.2em; font-size: 11px; color: var(--dim); }
+td.cell .owner { display: block; min-height: 1.2em; font-size: 11px; color: var(--dim); white-space: nowrap; }
+td.cell .held { color: var(--c); }
 td.absent b { color: var(--line); }
 td.read b { border: 1px dashed var(--c); color: var(--c); }
 td.wrote b { border-color: var(--c); background: var(--c); color: var(--back); font-weight: 600; }
@@ -100,9 +101,10 @@ tfoot td { padding: 6px 16px; color: var(--dim); border-top: 1px solid var(--lin
   aside { border-left: 0; border-top: 1px solid var(--line); } }
 @media print {
   aside, .keys { display: none; } main, body { display: block; height: auto; overflow: visible; }
-  .strip { overflow: visible; } body { font-size: 9pt; } table { font-size: 8pt; } td.step .words { font-size: 7pt; } thead, tbody th { position: static; } tbody tr { break-inside: avoid; }
-  tr.now th, tr.now td { border-color: transparent; } tr.now th, tr.now td:not(.step) { background-color: transparent; }
-  tr.now td.first { border-left-color: var(--line); }
+  .strip { overflow: visible; } body { font-size: 9pt; } table { font-size: 8pt; } td.step .words { font-size: 7pt; }
+  thead, thead tr:first-child th:first-child, tbody th { position: static; } tbody tr { break-inside: avoid; }
+  tr.now th, tr.now td { border-color: transparent; } tr.now td.first { border-left-color: var(--line); }
+  tr.now th, tr.now td:not(.step) { background-color: transparent; }
   tr.now th { box-shadow: none; font-weight: normal; color: var(--dim); }
   tr.fault.now th { color: var(--fault); }
   * { print-color-adjust: exact; -webkit-print-color-adjust: exact; } }
@@ -289,7 +291,7 @@ def cell_of(row, address, first, owner):
         names += ["wrote", colour(row.step.thread)]
     text, thread = owner or ("", None)
     value = str(row.heap.get(address, "absent" if "missed" in names else "\u00b7"))
-    owned = tag("span", escape(text), "owner" + ("" if thread is None else f" {colour(thread)}"))
+    owned = tag("span", escape(text), "owner" if thread is None else f"owner held {colour(thread)}")
     return tag("td", tag("b", escape(value)) + owned, " ".join(names))
 
 
