@@ -48,10 +48,14 @@ class Browser:
         self.number, self.rest, self.events, self.session = 0, b"", [], None
 
     def __enter__(self):
-        target = self.ask("Target.createTarget", url="about:blank")["targetId"]
-        self.session = self.ask("Target.attachToTarget", targetId=target, flatten=True)["sessionId"]
-        for part in ("Page", "Runtime", "Log", "Network"):
-            self.ask(f"{part}.enable")
+        try:
+            target = self.ask("Target.createTarget", url="about:blank")["targetId"]
+            self.session = self.ask("Target.attachToTarget", targetId=target, flatten=True)["sessionId"]
+            for part in ("Page", "Runtime", "Log", "Network"):
+                self.ask(f"{part}.enable")
+        except Broken:
+            self.__exit__()
+            raise
         return self
 
     def __exit__(self, *_):
