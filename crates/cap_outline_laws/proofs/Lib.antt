@@ -1,0 +1,5 @@
+mod Listed
+mod Cells
+mod Guards
+mod Sitting
+mod Outlined
