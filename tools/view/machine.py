@@ -1,5 +1,5 @@
-"""The machine of the language (docs/LANGUAGE.md, "The machine"), for what a replay doesn't tell: what a swap puts
-into its cell, how many cells an allocation has, and what stands ahead of a thread.
+"""The machine of the language (docs/LANGUAGE.md, "The machine"), for what a replay doesn't tell: what a swap or an
+addition puts into its cell, how many cells an allocation has, and what stands ahead of a thread.
 
 It runs beside a replay and has to agree with it at each step; `Differs` says where it doesn't."""
 
@@ -134,6 +134,22 @@ class Machine:
             self.heap[address] = new
         frame.values[name] = int(swaps)
         return Touch("cas", (address, int(swaps)), *([[], [address]] if swaps else [[address], []]))
+
+    def do_faa(self, _thread, frame, _base, name, term, added):
+        """`x := FAA(a, t)`."""
+        address, added = value(frame.values, term), value(frame.values, added)
+        if address not in self.heap:
+            return Touch("fault", (address,))
+        frame.values[name] = self.heap[address]
+        self.heap[address] += added
+        return Touch("faa", (address, frame.values[name]), writes=[address])
+
+    def do_dispose(self, _thread, frame, _base, term):
+        """`dispose(a)`."""
+        address = value(frame.values, term)
+        touch = self.at_cell(address, Touch("dispose", (address,), writes=[address]))
+        self.heap.pop(address, None)
+        return touch
 
     def do_alloc(self, _thread, frame, base, name, count):
         """`x := alloc(n)`."""

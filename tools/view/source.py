@@ -1,8 +1,8 @@
 """The text of a program, read as far as a run needs it: the functions with their statements and places.
 
-This is the first version of the language (docs/LANGUAGE.md, "Texts"). What a run doesn't look at is skipped: region
-types, contracts and invariants. A text that caper takes is read; what isn't known here is refused by `Strange`, with
-its place. Columns count bytes, so a text is looked at byte by byte."""
+These are both versions of the language (docs/LANGUAGE.md, "Texts"): a text of the second one begins with `caper 2;`.
+What a run doesn't look at is skipped: region types, contracts and invariants. A text that caper takes is read; what
+isn't known here is refused by `Strange`, with its place. Columns count bytes, so a text is looked at byte by byte."""
 
 import re
 from dataclasses import dataclass, field
@@ -15,6 +15,8 @@ KEYWORDS = (
     "region function requires ensures guards interpretation actions when fork if else while invariant assert return"
     " alloc CAS true false src tok"
 ).split()
+# The further keywords of a text of the second version.
+SECOND = "FAA dispose at from".split()
 OPEN, CLOSE = "([{", ")]}"
 COMPARISONS = ("=", "!=", "<", "<=", ">", ">=")
 
@@ -104,7 +106,14 @@ class Reader:
     """The tokens of a text, one after the other."""
 
     def __init__(self, text):
-        self.tokens, self.at, self.destinations = tokens_of(text), 0, []
+        self.tokens, self.at, self.destinations, self.keywords = tokens_of(text), 0, [], KEYWORDS
+
+    def version(self):
+        """Passes over the words of the second version, where the text begins with them."""
+        if self.ahead() == "caper":
+            for word in ("caper", "2", ";"):
+                self.take(word)
+            self.keywords = KEYWORDS + SECOND
 
     def ahead(self, more=0):
         """The text of a token that comes."""
@@ -124,7 +133,7 @@ class Reader:
 
     def name(self):
         """The next token, a name."""
-        if not re.match("[A-Za-z]", self.ahead()) or self.ahead() in KEYWORDS:
+        if not re.match("[A-Za-z]", self.ahead()) or self.ahead() in self.keywords:
             raise Strange(self.place(), f"{self.ahead()!r} is no name")
         return self.take()
 
@@ -231,7 +240,13 @@ class Reader:
             if len(terms) != 3:
                 raise Strange(place, "CAS has three terms")
             return "cas", tuple(terms)
-        if self.ahead(1) == "(" and self.ahead() not in KEYWORDS and re.match("[A-Za-z]", self.ahead()):
+        if self.ahead() == "FAA" and "FAA" in self.keywords:
+            self.take()
+            place, terms = self.place(), self.arguments()
+            if len(terms) != 2:
+                raise Strange(place, "FAA has two terms")
+            return "faa", tuple(terms)
+        if self.ahead(1) == "(" and self.ahead() not in self.keywords and re.match("[A-Za-z]", self.ahead()):
             return "call", (self.name(), self.arguments())
         return "set", (self.term(),)
 
@@ -252,6 +267,12 @@ class Reader:
         if self.ahead() == "return":
             self.take()
             return "return", ([(1, [0])] if self.ahead() == ";" else self.term(),)
+        if self.ahead() == "dispose" and "dispose" in self.keywords:
+            self.take()
+            place, terms = self.place(), self.arguments()
+            if len(terms) != 1:
+                raise Strange(place, "dispose has one term")
+            return "dispose", (terms[0],)
         name = self.name()
         if self.ahead() == "(":
             return "call", (None, name, self.arguments())
@@ -318,6 +339,7 @@ def program_of(data):
     """The program that bytes spell."""
     text = data.decode("latin-1")
     reader, functions = Reader(text), {}
+    reader.version()
     while reader.ahead():
         if reader.ahead() == "region":
             reader.region()

@@ -5,8 +5,8 @@ leading zeros, with `-` where it may be negative, and within 128 signed bits.
     schedule = "start" { NUMBER } LINE { "cell" ADDRESS NUMBER LINE } { "step" THREAD [ NUMBER ] LINE } "end" LINE
     stray    = schedule | "stray: none in" COUNT LINE | refusal
     replay   = { K THREAD L:C EVENT LINE } last LINE | refusal
-    EVENT    = "set" V | "read" A V | "write" A V | "cas" A BIT | "alloc" B | "call" | "fork" THREAD | "branch" BIT
-             | "assert" | "return" V | "end" V | "fault" A | "failed"
+    EVENT    = "set" V | "read" A V | "write" A V | "cas" A BIT | "faa" A V | "dispose" A | "alloc" B | "call"
+             | "fork" THREAD | "branch" BIT | "assert" | "return" V | "end" V | "fault" A | "failed"
     last     = "ended" K | "stopped" K | "not enabled" K | "wide" K
     verdicts = { KIND NAME: VERDICT LINE } [ "main: precondition empty" LINE ] "proved" K "of" N LINE | refusal
     KIND     = "region" | "function"
@@ -32,6 +32,8 @@ EVENTS = {
     "read": "nn",
     "write": "nn",
     "cas": "nb",
+    "faa": "nn",
+    "dispose": "n",
     "alloc": "n",
     "call": "",
     "fork": "t",

@@ -28,7 +28,7 @@ syn cluster caperTerm contains=caperComment,caperVariable,caperResult,caperError
 " Guards: an algebra, and the atoms that are held or asked for.
 syn match caperGuard contained "\<\a\w*\>"
 syn match caperGuardOperator contained "[%|*+]"
-syn keyword caperCount contained src tok
+syn keyword caperCount contained src tok at from
 syn region caperAtomParens contained transparent start="(" end=")" end="\ze[;{}]" end="\ze\<\%(region\|function\)\>" contains=@caperAtoms
 syn cluster caperAtoms contains=caperComment,caperGuard,caperGuardOperator,caperCount,caperBrackets,caperAtomParens
 syn region caperHeld contained matchgroup=caperGuardOperator start="@" matchgroup=NONE end="\ze\%(&\*&\|[;{})]\)" end="\ze\<\%(region\|function\)\>" contains=@caperAtoms
@@ -45,12 +45,18 @@ syn region caperBraces contained transparent start="{" end="}" end="\ze\<\%(regi
 syn cluster caperAssertion contains=@caperTerm,caperBoolean,caperRegion,caperHeld,caperBraces
 syn region caperClauseOf contained matchgroup=caperClause start="\<\%(requires\|ensures\|invariant\)\>" matchgroup=NONE end=";" end="\ze}" end="\ze\<\%(region\|function\)\>" contains=@caperAssertion
 
+" The header of a text of the second version.
+syn match caperHeader "\<caper\>\ze\s\+2\s*;" nextgroup=caperVersion skipwhite
+syn match caperVersion contained "2" nextgroup=caperHeaderEnd skipwhite
+syn match caperHeaderEnd contained ";"
+
 " Region types.
 syn keyword caperClause contained when
 syn match caperTypeName contained "\<\a\w*\>"
 syn match caperParameter contained "\<\a\w*\>"
 syn region caperParameters contained transparent start="(" end=")" end="\ze[{};]" end="\ze\<\%(region\|function\)\>" contains=caperComment,caperParameter
-syn region caperAlgebra contained matchgroup=caperClause start="\<guards\>" matchgroup=NONE end=";" end="\ze}" end="\ze\<\%(region\|function\|interpretation\|actions\)\>" contains=caperComment,caperGuard,caperGuardOperator
+syn match caperIndexed contained "[][]"
+syn region caperAlgebra contained matchgroup=caperClause start="\<guards\>" matchgroup=NONE end=";" end="\ze}" end="\ze\<\%(region\|function\|interpretation\|actions\)\>" contains=caperComment,caperGuard,caperGuardOperator,caperIndexed
 syn region caperCase contained transparent start=":" end=";" end="\ze}" end="\ze\<\%(region\|function\|actions\)\>" contains=@caperAssertion
 syn region caperCases contained transparent start="{" end="}"me=s-1 end="\ze\<\%(region\|function\|actions\)\>" contains=@caperTerm,caperClause,caperCase
 syn region caperInterpretation contained matchgroup=caperClause start="\<interpretation\>" matchgroup=NONE end="}" end="\ze\<\%(region\|function\|actions\)\>" contains=caperComment,caperCases
@@ -61,8 +67,8 @@ syn region caperTypeBody contained transparent start="{" end="}"me=s-1 end="\ze\
 syn region caperTypeOf matchgroup=caperDeclaration start="\<region\>" matchgroup=NONE end="}" end="\ze\<\%(region\|function\)\>" contains=caperComment,caperParameters,caperTypeBody,caperTypeName
 
 " Functions.
-syn keyword caperStatement contained fork if else while assert return
-syn keyword caperBuiltin contained alloc CAS
+syn keyword caperStatement contained fork if else while assert return dispose
+syn keyword caperBuiltin contained alloc CAS FAA
 syn match caperCall contained "\<\a\w*\>\ze\s*("
 syn region caperBlock contained transparent start="{" end="}" end="\ze\<\%(region\|function\)\>" contains=@caperStatements
 syn region caperBody contained transparent start="{" end="}"me=s-1 end="\ze\<\%(region\|function\)\>" contains=@caperStatements
@@ -72,6 +78,9 @@ syn region caperFunctionOf matchgroup=caperDeclaration start="\<function\>" matc
 hi def link caperComment Comment
 hi def link caperDeclaration Structure
 hi def link caperClause Keyword
+hi def link caperHeader Keyword
+hi def link caperVersion Number
+hi def link caperIndexed Operator
 hi def link caperStatement Statement
 hi def link caperBuiltin Function
 hi def link caperBoolean Boolean
