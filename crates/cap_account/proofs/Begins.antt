@@ -12,7 +12,7 @@ use Rattle.cap_galg.specs.Laws.Composition.{composed-not-unit, true_or_false}
 use Rattle.cap_galg.specs.Laws.Algebras.{sound-of}
 use Rattle.cap_galg.specs.Laws.Placing.{atom-some}
 use Rattle.cap_prog.specs.declared.assertion.Asked.{Asked}
-use Rattle.cap_prog.specs.declared.assertion.Asked.TheVariants.{One, Share, Src, Tok}
+use Rattle.cap_prog.specs.declared.assertion.Asked.TheVariants.{One, Share, Src, Tok, At, From}
 use Rattle.cap_prog.specs.Program.{PlainItem, compare, choose, fact, atom, cell, Items, none, item, PlainFunction, PlainProgram}
 use Rattle.cap_machine.specs.Machine.{Heap, Frame, new_frame}
 use Rattle.cap_machine_accounts.specs.Parts.{Guard, join, guard_of, or_none, algebra_of, with_guard, Part, guard_at, without_cell}
@@ -80,6 +80,8 @@ nothing-wanted a i v (Share s) x e u h =
     absurd (cc)
 nothing-wanted a i v (Src s) x e u h = h
 nothing-wanted a i v (Tok s) x e u h = h
+nothing-wanted a i v (At s) x e u h = h
+nothing-wanted a i v (From s) x e u h = h
 
 -- ---- parts without guards
 

@@ -1,13 +1,13 @@
 mod Soundness
 mod Unsafe
 mod Storing
-mod Stocked
-mod Tracks
+pub mod Stocked
+pub mod Tracks
 mod Totals
-mod Parts
-mod Drawn
-mod Valid
-mod Begins
+pub mod Parts
+pub mod Drawn
+pub mod Valid
+pub mod Begins
 mod Chosen
 mod Renewed
 mod Changes
@@ -19,4 +19,4 @@ mod Strides
 mod Ordinary
 mod Touching
 mod Handing
-mod Returning
+pub mod Returning

@@ -4,7 +4,7 @@ use Rattle.std.specs.Prelude.{slice_get, slice_set, if◌then◌else◌}
 use Rattle.std.specs.FinMap.{get}
 use Rattle.cap_lin.specs.Linear.{Linear}
 use Rattle.cap_prog.specs.declared.assertion.Comp.{Comp}
-use Rattle.cap_prog.specs.Program.{PlainProgram, PlainFunction, PlainAssertion, Label, set, read, write, cas, alloc, call, fork, branch, loop, check, give_back, Block, done, first, append}
+use Rattle.cap_prog.specs.Program.{PlainProgram, PlainFunction, PlainAssertion, Label, set, read, write, cas, faa, dispose, alloc, call, fork, branch, loop, check, give_back, Block, done, first, append}
 use Rattle.cap_machine.specs.Machine.{Frame, value_in, holds, with_rest, passes, receives, returns, does, statement_step}
 use Rattle.cap_machine.specs.declared.event.Event.TheVariants.{Branch, Return, End}
 use Rattle.cap_machine_accounts.specs.Parts.{Part, guard_at}
@@ -31,7 +31,7 @@ use Rattle.cap_account.proofs.Following.{before, follows}
 use Rattle.cap_account.proofs.Succeeding.{below-wait, moved}
 use Rattle.cap_account.proofs.Strides.{makes, same-cells, Goes, no-access, left-all, goes-on}
 use Rattle.cap_account.proofs.Ordinary.{StandsAt, before-act, act-set, branch-goes, act-check, alloc-goes}
-use Rattle.cap_account.proofs.Touching.{act-read, act-write, act-cas}
+use Rattle.cap_account.proofs.Touching.{act-read, act-write, act-cas, act-add, act-dispose}
 use Rattle.cap_account.proofs.Handing.{cut-roomy, cut-ensures, act-call, act-fork}
 
 -- ---- two parts that are joined
@@ -261,6 +261,8 @@ module _ (p : Checked) (ls : Statements p) (stable : Stable p.program) (x : Turn
   advance None (first l (read y t) b) s = act-read p ls stable x l y t b s
   advance None (first l (write t u) b) s = act-write p ls stable x l t u b s
   advance None (first l (cas y t old new) b) s = act-cas p ls stable x l y t old new b s
+  advance None (first l (faa y t u) b) s = act-add p ls stable x l y t u b s
+  advance None (first l (dispose t) b) s = act-dispose p ls stable x l t b s
   advance None (first l (call d n args) b) s = act-call p ls stable x l d n args b s
   advance None (first l (fork n args) b) s = act-fork p ls stable x l n args b s
   advance None (first l (branch c a d) b) s = branch-goes p ls stable x l c a d b s
@@ -271,6 +273,8 @@ module _ (p : Checked) (ls : Statements p) (stable : Stable p.program) (x : Turn
   advance (Some z) (first l (read y t) b) s = tt
   advance (Some z) (first l (write t u) b) s = tt
   advance (Some z) (first l (cas y t old new) b) s = tt
+  advance (Some z) (first l (faa y t u) b) s = tt
+  advance (Some z) (first l (dispose t) b) s = tt
   advance (Some z) (first l (call d n args) b) s = tt
   advance (Some z) (first l (fork n args) b) s = tt
   advance (Some z) (first l (branch c a d) b) s = tt

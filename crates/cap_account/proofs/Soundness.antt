@@ -2,7 +2,7 @@
 use Rattle.cap_account.specs.Law.{DerivationsAreSound}
 use Rattle.cap_account_states.proofs.Checked.{Checked, derivations}
 use Rattle.cap_account_steps.proofs.Regained.{Stable}
-use Rattle.cap_account_steps.proofs.Bundles.{unit-roots}
+use Rattle.cap_account_steps.proofs.Bundles.{valid-roots, unit-roots}
 use Rattle.cap_account_steps.proofs.StableLaws.{valid-stable}
 use Rattle.cap_account_steps.proofs.Statements.{Statements}
 use Rattle.cap_account_steps.proofs.StatementLaws.{statements}
@@ -15,5 +15,6 @@ pub derivations-are-sound : DerivationsAreSound
 derivations-are-sound program trees well valid =
     let p : Checked = derivations program in
     let stable : Stable program = valid-stable program trees well valid in
-    let laws : Statements p = statements p well (unit-roots program trees valid) stable in
+    let roots = unit-roots p (valid-roots program trees valid) in
+    let laws : Statements p = statements p well roots stable in
     safe p (all-advance p laws stable) (accounts-are-valid p) (body-begins p laws.bodies)

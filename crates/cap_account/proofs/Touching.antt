@@ -1,22 +1,23 @@
--- Statements that access a cell, with up to two regions open: read, write, compare and swap.
+-- Statements that access a cell, with up to two regions open: read, write, compare and swap, add
+-- and dispose.
 use Rattle.cap_account_resources.proofs.Order.{same-or, met-relates, unmet-relates}
-use Rattle.std.proofs.Common.{◌≡◌, inl, inr, ℕ, ◌+◌, ◌≤◌, ℤ, pos, Bool, true, false, List, [], ◌∷◌, Option, Some, None, refl, sym, ap, ◌∙◌, subst, arith}
+use Rattle.std.proofs.Common.{◌≡◌, inl, inr, ℕ, ◌+◌, ◌≤◌, ℤ, pos, ◌+ℤ◌, Bool, true, false, List, [], ◌∷◌, Option, Some, None, refl, sym, ap, ◌∙◌, subst, arith}
 use Rattle.std.specs.Prelude.{slice_set, if◌then◌else◌}
-use Rattle.std.specs.FinMap.{insert}
+use Rattle.std.specs.FinMap.{insert, remove}
 use Rattle.cap_lin.specs.Linear.{Linear, same_number}
 use Rattle.cap_lin.specs.declared.row.Op.TheVariants.{Eq as Equal}
-use Rattle.cap_prog.specs.Program.{PlainProgram, Label, PlainAct, read, write, cas, Block, first}
+use Rattle.cap_prog.specs.Program.{PlainProgram, Label, PlainAct, read, write, cas, faa, dispose, Block, first}
 use Rattle.cap_rules.specs.Closing.{address_of}
-use Rattle.cap_machine.specs.Machine.{Heap, Frame, Configuration, next, value_in, compared, with_rest, with_value, passes, sets, at_cell, swaps, does}
+use Rattle.cap_machine.specs.Machine.{Heap, Frame, Configuration, next, value_in, compared, with_rest, with_value, passes, sets, at_cell, swaps, adds, does}
 use Rattle.cap_machine.specs.declared.event.Event.{Event}
-use Rattle.cap_machine.specs.declared.event.Event.TheVariants.{Read, Write, Cas}
+use Rattle.cap_machine.specs.declared.event.Event.TheVariants.{Read, Write, Cas, Faa, Dispose}
 use Rattle.cap_machine_accounts.specs.Parts.{Part, no_part}
 use Rattle.cap_machine_accounts.specs.Accounts.{Held, Account}
 use Rattle.cap_machine_accounts.specs.Following.{StaysOn, FramesFollow, accesses, SomeHasCell}
 use Rattle.cap_machine_accounts.specs.Safety.{KeepsContracts}
 use Rattle.cap_account_resources.specs.Parts.{Table, one_cell, cells_of}
 use Rattle.cap_account_resources.proofs.Lists.{some-same, none-some}
-use Rattle.cap_account_resources.proofs.Heaps.{one-itself, one-other, written}
+use Rattle.cap_account_resources.proofs.Heaps.{one-itself, one-other, written, removed}
 use Rattle.cap_account_resources.proofs.Interference.{relies-same}
 use Rattle.cap_account_resources.proofs.Stocks.{Stock, both, all_of}
 use Rattle.cap_account_states.proofs.Checked.{Checked}
@@ -204,6 +205,47 @@ module _ (p : Checked) (ls : Statements p) (stable : Stable p.program) (x : Turn
         callee = refl;
         puts = λ c k. written x.c.heap ad h.content w c k h.is_cell;
       }) (Write ad w) refl (λ new left k. k) (λ d e. tt))
+
+  pub act-add :
+      (l : Label) (y : ℕ) (t u : Linear) (b : Block) → StandsAt p x (first l (faa y t u) b) →
+      Goes p x (does p.program (spot_of x) l (faa y t u) b None)
+  act-add l y t u b s =
+      let ad = value_in x.frame.store t in
+      let added = value_in x.frame.store u in
+      let h = stepped l (faa y t u) b t refl s (λ z.
+      ok-store P s.fn x.held.fixed (with_rest x.frame (first l (faa y t u) b)) y z b s.ok
+      (point-act P s.fn l (faa y t u) b s.ok.point).0.low
+      (point-next P s.fn l (faa y t u) b s.ok.point)) in
+      let w = h.content +ℤ added in
+      subst (λ o. Goes p x (at_cell ad o (adds (spot_of x) b y ad added))) (sym h.is_cell)
+      (touched (faa y t u) b t h (record {
+        heap = insert x.c.heap ad w;
+        content = Some w;
+        frame = with_value (with_rest x.frame b) y h.content;
+        is = refl;
+        callee = refl;
+        puts = λ c k. written x.c.heap ad h.content w c k h.is_cell;
+      }) (Faa ad h.content) refl (λ new left k. k) (λ d e. tt))
+
+  pub act-dispose :
+      (l : Label) (t : Linear) (b : Block) → StandsAt p x (first l (dispose t) b) →
+      Goes p x (does p.program (spot_of x) l (dispose t) b None)
+  act-dispose l t b s =
+      let ad = value_in x.frame.store t in
+      let h = stepped l (dispose t) b t refl s (λ z.
+      ok-rest P s.fn x.held.fixed (with_rest x.frame (first l (dispose t) b)) b s.ok
+      (point-next P s.fn l (dispose t) b s.ok.point)) in
+      subst (λ o. Goes p x (at_cell ad o (λ v.
+      passes (spot_of x) (remove x.c.heap ad) b (Dispose ad))))
+      (sym h.is_cell)
+      (touched (dispose t) b t h (record {
+        heap = remove x.c.heap ad;
+        content = None;
+        frame = with_rest x.frame b;
+        is = refl;
+        callee = refl;
+        puts = λ c k. let e = removed x.c.heap ad h.content c k h.is_cell in omega (arith, e);
+      }) (Dispose ad) refl (λ new left k. k) (λ d e. tt))
 
   -- the swap, by its test
   swapped :

@@ -18,7 +18,7 @@ Along p X [] c a = X c a
 Along p X (e ∷ es) c a =
     X c a × Followed p e.thread c a (λ d b. Along p X es d b) (step p c e)
 
-followed-more :
+pub followed-more :
     (p : PlainProgram) (i : ℕ) (c : Configuration) (a : Account) (K L : AccountProperty) →
     ((d : Configuration) (b : Account) → K d b → L d b) → (o : Outcome) →
     Followed p i c a K o → Followed p i c a L o

@@ -26,8 +26,9 @@ pub fn safe_example_is_safe()
     ensures { SafeExample }
 {}
 
-/// Programs are not safe where an address is read that nobody has, where an assertion fails on some
-/// schedule, though it holds on another, and where a callee doesn't keep its postcondition.
+/// Programs are not safe where an address is read that nobody has, where a cell is added to that
+/// was disposed of, where an assertion fails on some schedule, though it holds on another, and where
+/// a callee doesn't keep its postcondition.
 pub fn unsafe_examples_are_refused()
     ensures { UnsafeExamples }
 {}

@@ -1,7 +1,7 @@
 -- What is drawn is drawn alike to itself, and to what is drawn over a multiple of the denominator.
 use Rattle.std.proofs.Common.{◌*ℤ◌, refl, sym, ap, ◌∙◌, inl, inr}
 use Rattle.cap_lin.specs.Values.{Valuation, denominator}
-use Rattle.cap_prog.specs.declared.assertion.Asked.TheVariants.{One, Share, Src, Tok}
+use Rattle.cap_prog.specs.declared.assertion.Asked.TheVariants.{One, Share, Src, Tok, At, From}
 use Rattle.cap_prog.specs.declared.assertion.Slot.TheVariants.{Any, Is}
 use Rattle.cap_prog.specs.Parts.{all_items}
 use Rattle.cap_prog.specs.Program.{PlainItem, compare, choose, fact, atom, cell, Items, none, item, PlainProgram}
@@ -31,6 +31,8 @@ module _ (p : PlainProgram) (T : Table) (a : Valuation) where
     drawn-same (atom place n k i (Share (Is t))) q r d = tt
     drawn-same (atom place n k i (Src x)) q r d = refl
     drawn-same (atom place n k i (Tok x)) q r d = refl
+    drawn-same (atom place n k i (At x)) q r d = refl
+    drawn-same (atom place n k i (From x)) q r d = refl
     drawn-same (cell place x s) q r d = refl
 
     pub all-drawn-same :
@@ -63,6 +65,8 @@ module _ (p : PlainProgram) (T : Table) (a : Valuation) where
       drawn-finer (atom place n k i (Share (Is t))) more q r fit d = tt
       drawn-finer (atom place n k i (Src x)) more q r fit d = refl
       drawn-finer (atom place n k i (Tok x)) more q r fit d = refl
+      drawn-finer (atom place n k i (At x)) more q r fit d = refl
+      drawn-finer (atom place n k i (From x)) more q r fit d = refl
       drawn-finer (cell place x s) more q r fit d = refl
 
       pub all-drawn-finer :

@@ -9,7 +9,7 @@ use Rattle.cap_lin.specs.declared.row.Sort.TheVariants.{Int, Perm}
 use Rattle.cap_galg.specs.Elements.{Element}
 use Rattle.cap_galg.specs.Algebras.{atom_algebra}
 use Rattle.cap_prog.specs.declared.assertion.Asked.{Asked}
-use Rattle.cap_prog.specs.declared.assertion.Asked.TheVariants.{One, Share, Src, Tok}
+use Rattle.cap_prog.specs.declared.assertion.Asked.TheVariants.{One, Share, Src, Tok, At, From}
 use Rattle.cap_prog.specs.declared.assertion.Comp.{Comp}
 use Rattle.cap_prog.specs.declared.assertion.Slot.{Slot}
 use Rattle.cap_prog.specs.declared.assertion.Slot.TheVariants.{Any, Is}
@@ -45,6 +45,8 @@ AskedAlike a b (Share Any) y z h k =
 AskedAlike a b (Share (Is t)) y z h k = Unit {0}
 AskedAlike a b (Src x) y z h k = k.0 ≡ h.0
 AskedAlike a b (Tok x) y z h k = k.0 ≡ h.0
+AskedAlike a b (At x) y z h k = k.0 ≡ h.0
+AskedAlike a b (From x) y z h k = k.0 ≡ h.0
 
 -- the same sides, and slots met at the same numbers
 abbrev mutual
@@ -213,6 +215,8 @@ module _ (sc : Scope) (a b : Valuation) (l : Alike (InScope sc) a b) where
   form-alike f g (Share (Is t)) y z d e h i same = parts-alike f g Perm t.parts h i
   form-alike f g (Src x) y z d e h i same = slot-alike f g x (pos d.0) (pos e.0) h i (ap pos same)
   form-alike f g (Tok x) y z d e h i same = slot-alike f g x (pos d.0) (pos e.0) h i (ap pos same)
+  form-alike f g (At x) y z d e h i same = slot-alike f g x (pos d.0) (pos e.0) h i (ap pos same)
+  form-alike f g (From x) y z d e h i same = slot-alike f g x (pos d.0) (pos e.0) h i (ap pos same)
 
   module _ (p : PlainProgram) (T : Table) where
     mutual
@@ -300,6 +304,8 @@ module _ (p : PlainProgram) (T : Table) (sc : Scope) (a w b : Valuation)
     finer-alike (atom place n k i (Share (Is t))) more q r q' r' fit d e same = tt
     finer-alike (atom place n k i (Src x)) more q r q' r' fit d e same = same
     finer-alike (atom place n k i (Tok x)) more q r q' r' fit d e same = same
+    finer-alike (atom place n k i (At x)) more q r q' r' fit d e same = same
+    finer-alike (atom place n k i (From x)) more q r q' r' fit d e same = same
     finer-alike (cell place x s) more q r q' r' fit d e same = same
 
     pub all-finer-alike :

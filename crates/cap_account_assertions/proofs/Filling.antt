@@ -5,7 +5,7 @@ use Rattle.cap_lin.specs.Values.{Valuation}
 use Rattle.cap_lin.specs.declared.row.Sort.TheVariants.{Int}
 use Rattle.cap_galg.specs.Elements.{Element}
 use Rattle.cap_prog.specs.declared.assertion.Asked.{Asked}
-use Rattle.cap_prog.specs.declared.assertion.Asked.TheVariants.{One, Share, Src, Tok}
+use Rattle.cap_prog.specs.declared.assertion.Asked.TheVariants.{One, Share, Src, Tok, At, From}
 use Rattle.cap_prog.specs.Program.{PlainItem, compare, choose, fact, atom, cell, Items, none, item, append_items, PlainProgram}
 use Rattle.cap_account_resources.specs.Parts.{Table}
 use Rattle.cap_account_resources.proofs.Stocks.{Stock, Inside, inside-same}
@@ -20,6 +20,8 @@ fill_form a One y h f = f
 fill_form a (Share x) y h f = fill_amount a x h.1 f
 fill_form a (Src x) y h f = fill_slot a x (pos h.0) f
 fill_form a (Tok x) y h f = fill_slot a x (pos h.0) f
+fill_form a (At x) y h f = fill_slot a x (pos h.0) f
+fill_form a (From x) y h f = fill_slot a x (pos h.0) f
 
 module _ (p : PlainProgram) (T : Table) (a : Valuation) where
   abbrev mutual
@@ -81,6 +83,8 @@ puts-form a One y h f = puts-none f
 puts-form a (Share x) y h f = puts-amount a x h.1 f
 puts-form a (Src x) y h f = puts-slot a x (pos h.0) f
 puts-form a (Tok x) y h f = puts-slot a x (pos h.0) f
+puts-form a (At x) y h f = puts-slot a x (pos h.0) f
+puts-form a (From x) y h f = puts-slot a x (pos h.0) f
 
 module _ (p : PlainProgram) (T : Table) (a : Valuation) where
   mutual

@@ -1,19 +1,20 @@
 -- Full pieces go: pieces that are proved to be all of their guards are taken out of a state, with
 -- the guards that they are.
-use Rattle.std.proofs.Common.{◌≡◌, ℕ, suc, ◌+◌, ℤ, pos, List, [], ◌∷◌, ◌++◌, take, drop, arith, refl, sym, ap, ◌∙◌, subst, Bool, true, false, Option, Some, inl, inr}
-use Rattle.std.specs.Prelude.{slice_get, find, cond, if◌then◌else◌}
+use Rattle.std.proofs.Common.{◌≡◌, ℕ, suc, ◌+◌, ℤ, pos, List, [], ◌∷◌, ◌++◌, take, drop, arith, refl, sym, ap, ◌∙◌, subst, Bool, true, false, Option, Some, None, inl, inr}
+use Rattle.std.specs.Prelude.{slice_get, find, cond, not, if◌then◌else◌}
 use Rattle.std.specs.List.{AllByRecursion}
 use Rattle.std.proofs.lemmas.Int.{ints}
 use Rattle.cap_lin.specs.Linear.{Linear}
 use Rattle.cap_lin.specs.Values.{Valuation, value, amount}
 use Rattle.cap_lin.specs.declared.row.Sort.TheVariants.{Int, Perm}
 use Rattle.cap_lin.specs.declared.row.Op.TheVariants.{Eq as Equal}
-use Rattle.cap_galg.specs.Elements.{Element, nothing, share, src, compose}
+use Rattle.cap_galg_indices.specs.Sets.{indices_from}
+use Rattle.cap_galg.specs.Elements.{Element, nothing, share, src, indices, compose}
 use Rattle.cap_galg.specs.Lists.{compose_all}
-use Rattle.cap_galg.specs.Algebras.{PlainAlgebra, unique, divisible, counting, product, sum, atom_algebra, atom_element}
-use Rattle.cap_galg.specs.Laws.Composition.{bind-is}
+use Rattle.cap_galg.specs.Algebras.{PlainAlgebra, unique, divisible, counting, indexed, product, sum, atom_algebra, atom_element}
+use Rattle.cap_galg.specs.Laws.Composition.{and-true, bind-is}
 use Rattle.cap_gsolve.specs.declared.piece.Form.{Form}
-use Rattle.cap_gsolve.specs.declared.piece.Form.TheVariants.{One, Share, Src, Tok}
+use Rattle.cap_gsolve.specs.declared.piece.Form.TheVariants.{One, Share, Src, Tok, Span}
 use Rattle.cap_gsolve.specs.declared.piece.Piece.{Piece}
 use Rattle.cap_gsolve.specs.Pieces.{same_part}
 use Rattle.cap_gsolve.specs.Merge.{zero_term, one_term}
@@ -24,7 +25,7 @@ use Rattle.cap_machine_accounts.specs.Parts.{algebra_of}
 use Rattle.cap_goal_spec.specs.States.{PlainState}
 use Rattle.cap_rules.specs.Attempts.{Attempt, ◌>>=◌}
 use Rattle.cap_rules.specs.Making.{without_first}
-use Rattle.cap_rules.specs.Taking.{prove_full, without_full}
+use Rattle.cap_rules.specs.Taking.{has_end, may_be_full, prove_full, without_full}
 use Rattle.cap_account_resources.proofs.Lists.{some-same, none-some, all-at}
 use Rattle.cap_account_resources.proofs.Marks.{Mark}
 use Rattle.cap_account_resources.proofs.Covering.{join_marks, mark}
@@ -49,12 +50,16 @@ FullAt v One = Unit {0}
 FullAt v (Share a) = amount v.fraction a ≡ amount v.fraction one_term
 FullAt v (Src m) = value v.whole m ≡ value v.whole zero_term
 FullAt v (Tok m) = ⊥
+FullAt v (Span a None) = value v.whole a ≡ value v.whole zero_term
+FullAt v (Span a (Some e)) = ⊥
 
 full-at : (v : Valuation) (f : Form) → IsFull f → FullAt v f
 full-at v One h = tt
 full-at v (Share a) h = ap (amount v.fraction) h
 full-at v (Src m) h = ap (value v.whole) h
 full-at v (Tok m) h = h
+full-at v (Span a None) h = ap (value v.whole) h
+full-at v (Span a (Some e)) h = h
 
 proved-full :
     (ks : List ℕ) (v : Valuation) (s : PlainState) (f : Form) (P : Unit {0} → Type 0) →
@@ -68,6 +73,13 @@ proved-full ks v s (Src n) P m o h =
     let q = comes-proved s.rows n Equal zero_term Int P h in
     (proved-relates ks v s n Equal zero_term Int m q.0 o tt, q.1)
 proved-full ks v s (Tok n) P m o h = absurd h.1
+proved-full ks v s (Span a None) P m o h =
+    let q = comes-proved s.rows a Equal zero_term Int P h in
+    (proved-relates ks v s a Equal zero_term Int m q.0 o.0 tt, q.1)
+proved-full ks v s (Span a (Some e)) P m o h = absurd h.1
+
+one-number : (i j : ℕ) → pos i ≡ pos j → i ≡ j
+one-number i j e = omega (arith, ints, e)
 
 -- of an atom there is one such element
 full-one :
@@ -82,13 +94,18 @@ full-one divisible v (Share a) g x y t u m n h k = absurd u
 full-one divisible v f g x y t u m n h k = absurd t
 full-one counting v (Src a) (Src d) x y t u m n h k =
     h.2 ∙ ap src (one-number h.0 k.0 (sym h.1 ∙ m ∙ sym n ∙ k.1)) ∙ sym k.2
-  where
-    one-number : (i j : ℕ) → pos i ≡ pos j → i ≡ j
-    one-number i j e = omega (arith, ints, e)
 full-one counting v (Src a) (Tok d) x y t u m n h k = absurd n
 full-one counting v (Src a) g x y t u m n h k = absurd u
 full-one counting v (Tok a) g x y t u m n h k = absurd m
 full-one counting v f g x y t u m n h k = absurd t
+full-one indexed v (Span a None) (Span d None) x y t u m n h k =
+    h.2
+    ∙ ap (λ i. indices (indices_from i)) (one-number h.0 k.0 (sym h.1 ∙ m ∙ sym n ∙ k.1))
+    ∙ sym k.2
+full-one indexed v (Span a None) (Span d (Some e)) x y t u m n h k = absurd n
+full-one indexed v (Span a (Some e)) g x y t u m n h k = absurd m
+full-one indexed v (Span a None) g x y t u m n h k = absurd u
+full-one indexed v f g x y t u m n h k = absurd t
 full-one (product c d) v f g x y t u m n h k = absurd t
 full-one (sum c d) v f g x y t u m n h k = absurd t
 
@@ -157,7 +174,7 @@ module _ (p : PlainProgram) (ks : List ℕ) (v : Valuation) (r : Linear) (k : �
   w = algebra_of p k
 
   abbrev part_of : Piece → Piece → Bool
-  part_of f q = same_part q f
+  part_of f q = may_be_full f q
 
   one-gone :
       (s : PlainState) (c : Stock) (ps : List Piece) (f : Piece) (x : Element) (q : Piece) →
@@ -168,7 +185,7 @@ module _ (p : PlainProgram) (ks : List ℕ) (v : Valuation) (r : Linear) (k : �
       let here = at-own-region w k v n f x (ap (value v.whole) full.region_is) at in
       let first = first-at (part_of f) ps q e in
       let i = first.index in
-      let same = part-is q f first.passes in
+      let same = part-is q f (and-true (same_part q f) (not (has_end q.form)) first.passes).0 in
       let region : region_of v q ≡ n = ap (value v.whole) (same.region ∙ full.region_is) in
       let kind : q.kind ≡ k = same.kind ∙ full.kind_is in
       let qa = atom_algebra (algebra_of p q.kind) q.atom in

@@ -1,34 +1,37 @@
 -- What slots and forms that are given become: terms and forms of the state, with the values that
 -- are asked for.
-use Rattle.std.proofs.Common.{◌≡◌, ℕ, ◌+◌, ℤ, pos, ◌*ℤ◌, List, [], ◌∷◌, length, map, refl, sym, ap, ◌∙◌}
+use Rattle.std.proofs.Common.{◌≡◌, ℕ, ◌+◌, ℤ, pos, ◌*ℤ◌, List, [], ◌∷◌, length, map, Some, None, refl, sym, ap, ◌∙◌}
 use Rattle.std.specs.List.{AllByRecursion}
-use Rattle.cap_lin.specs.Linear.{Linear}
+use Rattle.cap_lin.specs.Linear.{Linear, plus}
+use Rattle.cap_lin.specs.Steps.{plus_steps}
 use Rattle.cap_lin.specs.Values.{Valuation, value}
 use Rattle.cap_lin.specs.declared.row.Sort.{Sort}
 use Rattle.cap_lin.specs.declared.row.Sort.TheVariants.{Int, Perm}
 use Rattle.cap_galg.specs.Elements.{Element}
-use Rattle.cap_galg.specs.Algebras.{PlainAlgebra, unique, divisible, counting}
+use Rattle.cap_galg.specs.Algebras.{PlainAlgebra, unique, divisible, counting, indexed}
 use Rattle.cap_gsolve.specs.declared.piece.Form.{Form}
 use Rattle.cap_gsolve.specs.declared.piece.Form.TheVariants as form
 use Rattle.cap_gsolve.specs.Meaning.{IsFormElement, Takes}
 use Rattle.cap_prog.specs.declared.assertion.Slot.{Slot}
 use Rattle.cap_prog.specs.declared.assertion.Slot.TheVariants.{Any, Is}
 use Rattle.cap_prog.specs.declared.assertion.Asked.{Asked}
-use Rattle.cap_prog.specs.declared.assertion.Asked.TheVariants.{One, Share, Src, Tok}
+use Rattle.cap_prog.specs.declared.assertion.Asked.TheVariants.{One, Share, Src, Tok, At, From}
 use Rattle.cap_prog.specs.Scopes.{Scope, SlotFits}
 use Rattle.cap_prog.specs.WellFormed.{AskedFits}
 use Rattle.cap_machine_accounts.specs.Assertions.{SlotsAre}
 use Rattle.cap_goal_spec.specs.States.{PlainState}
-use Rattle.cap_rules.specs.Attempts.{unit}
-use Rattle.cap_rules.specs.Making.{fresh, env_at}
+use Rattle.cap_goal_spec.specs.Environments.{one_value}
+use Rattle.cap_rules.specs.Attempts.{Attempt, unit, ◌>>=◌}
+use Rattle.cap_rules.specs.Making.{sum, fresh, env_at}
 use Rattle.cap_rules.specs.Giving.{Given as Pair, given as pair, give_slot, give_slots, give_form}
 use Rattle.cap_account_states.specs.Nodes.{Comes}
 use Rattle.cap_account_resources.proofs.Lists.{get-last, push-length}
-use Rattle.cap_account_states.proofs.Terms.{Over}
-use Rattle.cap_account_states.proofs.Attempts.{comes-bind, after-sort, sort_added}
+use Rattle.cap_account_states.proofs.Terms.{Over, over-plus}
+use Rattle.cap_account_states.proofs.Attempts.{comes-bind, after-computed, after-sort, sort_added}
 use Rattle.cap_account_states.proofs.Meets.{Usable, new-share, variable-amount}
 use Rattle.cap_account_states.proofs.Filled.{Filled, filled_at, fill_slots, fill_amount}
 use Rattle.cap_account_states.proofs.Naming.{Ready, Step, step-none, step-trans, step-fresh}
+use Rattle.cap_account_states.proofs.Asking.{single-form}
 use Rattle.cap_account_states.proofs.Wants.{AmountIs, Wants}
 use Rattle.cap_account_states.proofs.Guarding.{FormOver}
 use Rattle.cap_account_assertions.proofs.Filling.{fill_form}
@@ -124,6 +127,8 @@ IsShaped One form.One = Unit {0}
 IsShaped (Share x) (form.Share t) = Unit {0}
 IsShaped (Src x) (form.Src t) = Unit {0}
 IsShaped (Tok x) (form.Tok t) = Unit {0}
+IsShaped (At x) (form.Span t d) = Unit {0}
+IsShaped (From x) (form.Span t d) = Unit {0}
 IsShaped x f = ⊥
 
 pub shaped-takes :
@@ -133,10 +138,14 @@ shaped-takes sc unique One form.One h k = tt
 shaped-takes sc divisible (Share x) (form.Share t) h k = tt
 shaped-takes sc counting (Src x) (form.Src t) h k = tt
 shaped-takes sc counting (Tok x) (form.Tok t) h k = tt
+shaped-takes sc indexed (At x) (form.Span t d) h k = tt
+shaped-takes sc indexed (From x) (form.Span t d) h k = tt
 shaped-takes sc unique One f h k = absurd k
 shaped-takes sc divisible (Share x) f h k = absurd k
 shaped-takes sc counting (Src x) f h k = absurd k
 shaped-takes sc counting (Tok x) f h k = absurd k
+shaped-takes sc indexed (At x) f h k = absurd k
+shaped-takes sc indexed (From x) f h k = absurd k
 shaped-takes sc b x f h k = absurd h
 
 -- a form over usable variables, with this element
@@ -189,4 +198,29 @@ module _ (sc : Scope) (e : ℕ) (a v : Valuation) (s : PlainState) (y : Element)
       let g = slot-given sc e a v s x (pos h.0) _ r f h.1 (comes-bind (give_slot s e Int x) _ P c)
       in
       form-of (Tok x) form.Tok Int (pos h.0) _ g ((h.0, g.number_is, h.2), tt, g.over)
+  form-given (At x) indexed f h c =
+      let more : Pair Linear → Attempt (Pair Form) = λ t. sum t.value one_value >>= λ next.
+      unit (pair t.state (form.Span t.value (Some next))) in
+      let g = slot-given sc e a v s x (pos h.0) (λ t. Comes (more t) P) r f h.1
+      (comes-bind (give_slot s e Int x) more P c) in
+      let last : Linear → Attempt (Pair Form) = λ next.
+      unit (pair g.after (form.Span g.term (Some next))) in
+      let next = plus g.term one_value in
+      record {
+        after = g.after;
+        made = form.Span g.term (Some next);
+        step = g.step;
+        filled = g.filled;
+        is = (
+          single-form g.step.w g.term y (h.0, g.number_is, h.2),
+          tt,
+          (g.over, over-plus (Usable [] g.after.sorts Int) g.term one_value g.over tt),
+        );
+        comes = (after-computed next (plus_steps g.term one_value) last P g.comes).1;
+      }
+  form-given (From x) indexed f h c =
+      let g = slot-given sc e a v s x (pos h.0) _ r f h.1 (comes-bind (give_slot s e Int x) _ P c)
+      in
+      form-of (From x) (λ t. form.Span t None) Int (pos h.0) _ g
+      ((h.0, g.number_is, h.2), tt, (g.over, tt))
   form-given asked b f h c = absurd f

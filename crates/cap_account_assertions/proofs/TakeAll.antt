@@ -6,7 +6,7 @@ use Rattle.cap_lin.specs.Values.{Valuation}
 use Rattle.cap_syntax.specs.declared.place.Place.{Place}
 use Rattle.cap_prog.specs.declared.assertion.Slot.{Slot}
 use Rattle.cap_prog.specs.declared.assertion.Asked.{Asked}
-use Rattle.cap_prog.specs.declared.assertion.Asked.TheVariants.{One, Share, Src, Tok}
+use Rattle.cap_prog.specs.declared.assertion.Asked.TheVariants.{One, Share, Src, Tok, At, From}
 use Rattle.cap_prog.specs.Program.{PlainItem, compare, choose, fact, atom, cell, Items, none, item}
 use Rattle.cap_prog.specs.WellFormed.{ItemFits, RegionFits}
 use Rattle.cap_goal_spec.specs.States.{PlainState, to_take}
@@ -94,6 +94,10 @@ module _ (p : Checked) (regions : AllByRecursion (RegionFits p.program) p.progra
         h
     guard-taken-by trees i (suc (suc zero)) place n k m (Src x) more f h =
         piece-taken p ks T j v s c st.ready st.backed trees i 2 place n k m (Src x) more st.low f h
+    guard-taken-by trees i (suc (suc zero)) place n k m (At x) more f h =
+        piece-taken p ks T j v s c st.ready st.backed trees i 2 place n k m (At x) more st.low f h
+    guard-taken-by trees i (suc (suc zero)) place n k m (From x) more f h =
+        piece-taken p ks T j v s c st.ready st.backed trees i 2 place n k m (From x) more st.low f h
     guard-taken-by trees i zero place n k m asked more f h =
         piece-taken p ks T j v s c st.ready st.backed trees i 0 place n k m asked more st.low f h
     guard-taken-by trees i (suc zero) place n k m asked more f h =

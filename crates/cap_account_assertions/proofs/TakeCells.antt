@@ -38,7 +38,7 @@ use Rattle.cap_account_assertions.proofs.TakeSteps.{Job, remaining, Head}
 use Rattle.cap_account_assertions.proofs.TakeHeads.{same-parts, means-bound, head-kept, head-bound, ItemTaken}
 
 -- cells are one of them and the others
-need-apart :
+pub need-apart :
     (v : Valuation) (cs : List (Linear × Linear)) (i : ℕ) (d : Linear × Linear) →
     slice_get cs i ≡ Some d → (a z : ℤ) →
     need v cs a z ≡ need v (remove cs i) a z + one_cell (value v.whole d.0) (value v.whole d.1) a z

@@ -1,12 +1,13 @@
 -- Guards with the type of their region are a commutative monoid, where what doesn't compose is
 -- none.
-use Rattle.std.proofs.Common.{◌≡◌, ℕ, Bool, true, false, Option, Some, None, refl, sym, ap, ◌∙◌, subst, arith}
+use Rattle.std.proofs.Common.{◌≡◌, ℕ, ◌+◌, List, [], ◌∷◌, Bool, true, false, Option, Some, None, refl, sym, ap, ◌∙◌, subst, arith}
 use Rattle.std.specs.Prelude.{not, nat_eq, nat_lt, nat_le, ◌&&◌, ◌==◌}
 use Rattle.std.proofs.lemmas.Bool.Decides.{nat_tests}
+use Rattle.cap_galg_indices.specs.Sets.{AscendFrom, is_empty}
 use Rattle.cap_galg.specs.declared.fraction.Fraction.{Fraction}
 use Rattle.cap_galg.specs.Fractions.{IsShare, gcd}
-use Rattle.cap_galg.specs.Elements.{Element, nothing, one, share, tok, src, both, whole, left, right, is_unit, is_full, bind, compose}
-use Rattle.cap_galg.specs.Algebras.{PlainAlgebra, unique, divisible, counting, product, sum, full, IsElement}
+use Rattle.cap_galg.specs.Elements.{Element, nothing, one, share, tok, src, indices, both, whole, left, right, is_unit, is_full, bind, compose}
+use Rattle.cap_galg.specs.Algebras.{PlainAlgebra, unique, divisible, counting, indexed, product, sum, full, IsElement}
 use Rattle.cap_galg.specs.Laws.Fractions.{gcd-is, amount-from, from-lowest}
 use Rattle.cap_galg.specs.Laws.Composition.{le-true, true-le, true-eq, eq-true, compose-comm, composed-not-unit, compose_assoc}
 use Rattle.cap_galg.specs.Laws.Algebras.{sound-of, closed, full-element, full-present}
@@ -42,12 +43,29 @@ tested-share f h =
     (from-lowest f (gcd f.num f.den) (gcd-is f.num f.den) h.amount.lowest) in
     rw (a, b, c) refl
 
+-- the bounds of a set of indices
+abbrev pub ascend_from : ℕ → List ℕ → Bool
+ascend_from low [] = true
+ascend_from low (x ∷ xs) = nat_le low x && ascend_from (x + 1) xs
+
+ascend-tested : (low : ℕ) (xs : List ℕ) → ascend_from low xs ≡ true → AscendFrom low xs
+ascend-tested low [] e = tt
+ascend-tested low (x ∷ xs) e =
+    let h = both-true (nat_le low x) (ascend_from (x + 1) xs) e in
+    (true-le low x h.0, ascend-tested (x + 1) xs h.1)
+
+tested-ascend : (low : ℕ) (xs : List ℕ) → AscendFrom low xs → ascend_from low xs ≡ true
+tested-ascend low [] h = refl
+tested-ascend low (x ∷ xs) h =
+    rw (le-true low x h.0, tested-ascend (x + 1) xs h.1) refl
+
 abbrev pub is_element : PlainAlgebra → Element → Bool
 is_element a nothing = true
 is_element unique one = true
 is_element divisible (share f) = is_share f
 is_element counting (tok k) = nat_lt 0 k
 is_element counting (src n) = true
+is_element indexed (indices xs) = ascend_from 0 xs && not (is_empty xs)
 is_element (product a b) (both x y) =
     is_element a x && (is_element b y && not (is_unit x && is_unit y))
 is_element (sum a b) whole = true
@@ -65,6 +83,9 @@ element-tested unique one e = tt
 element-tested divisible (share f) e = share-tested f e
 element-tested counting (tok k) e = true-lt 0 k e
 element-tested counting (src n) e = tt
+element-tested indexed (indices xs) e =
+    let h = both-true (ascend_from 0 xs) (not (is_empty xs)) e in
+    (ascend-tested 0 xs h.0, not-true (is_empty xs) h.1)
 element-tested (product a b) (both x y) e =
     let h = both-true (is_element a x) (is_element b y && not (is_unit x && is_unit y)) e in
     let k = both-true (is_element b y) (not (is_unit x && is_unit y)) h.1 in
@@ -86,6 +107,7 @@ tested-element unique one h = refl
 tested-element divisible (share f) h = tested-share f h
 tested-element counting (tok k) h = lt-true 0 k h
 tested-element counting (src n) h = refl
+tested-element indexed (indices xs) h = rw (tested-ascend 0 xs h.0, h.1) refl
 tested-element (product a b) (both x y) h =
     rw (tested-element a x h.0, tested-element b y h.1, h.2) refl
 tested-element (sum a b) whole h = refl
@@ -200,7 +222,10 @@ module _ (p : PlainProgram) where
           fit p j y k x ≡ t → meet_if s k x y ≡ meet_if t j y x
       by k x j y true e true g =
           let f = fitting p k x j y e in
-          ap (wrap k) (compose-comm x y) ∙ ap (λ n. wrap n (compose y x)) f.same
+          ap (wrap k)
+          (compose-comm x y (sound-of (algebra_of p k) x (is-element p k x f.first))
+          (sound-of (algebra_of p j) y (is-element p j y f.second)))
+          ∙ ap (λ n. wrap n (compose y x)) f.same
       by k x j y true e false g = absurd (let q = turned k j x y e in cc)
       by k x j y false e true g = absurd (let q = turned j k y x g in cc)
       by k x j y false e false g = refl

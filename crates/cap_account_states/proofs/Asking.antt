@@ -1,27 +1,34 @@
 -- What an action asks for, as forms over variables: each `_` gets a variable of its value.
 use Rattle.cap_account_resources.proofs.Order.{grouped}
-use Rattle.std.proofs.Common.{◌≡◌, ℕ, ◌+◌, ◌≤◌, ◌<◌, ℤ, pos, ◌*ℤ◌, List, [], ◌∷◌, length, Option, sym, ap, ◌∙◌, arith}
-use Rattle.cap_lin.specs.Linear.{Linear, variable}
+use Rattle.std.proofs.Common.{◌≡◌, ℕ, ◌+◌, ◌≤◌, ◌<◌, ℤ, pos, ◌+ℤ◌, ◌*ℤ◌, List, [], ◌∷◌, length, Option, Some, None, refl, sym, ap, ◌∙◌, arith}
+use Rattle.cap_lin.specs.Linear.{Linear, variable, plus}
+use Rattle.cap_lin.specs.Steps.{plus_steps}
 use Rattle.cap_lin.specs.Values.{Valuation, denominator, value, amount}
 use Rattle.cap_lin.specs.Solves.{IsWholeAt}
 use Rattle.cap_lin.specs.declared.row.Sort.TheVariants.{Int, Perm}
-use Rattle.cap_galg.specs.Elements.{Element}
+use Rattle.cap_lin.proofs.Values.{value-plus}
+use Rattle.cap_galg_indices.specs.Sets.{one_index}
+use Rattle.cap_galg.specs.Elements.{Element, indices}
 use Rattle.cap_gsolve.specs.declared.piece.Form.{Form}
 use Rattle.cap_gsolve.specs.declared.piece.Form.TheVariants as form
 use Rattle.cap_gsolve.specs.Meaning.{IsFormElement}
+use Rattle.cap_gsolve.proofs.CutSpans.{single-set}
 use Rattle.cap_prog.specs.declared.assertion.Slot.{Slot}
 use Rattle.cap_prog.specs.declared.assertion.Slot.TheVariants.{Any, Is}
 use Rattle.cap_prog.specs.declared.assertion.Asked.{Asked}
-use Rattle.cap_prog.specs.declared.assertion.Asked.TheVariants.{One, Share, Src, Tok}
+use Rattle.cap_prog.specs.declared.assertion.Asked.TheVariants.{One, Share, Src, Tok, At, From}
 use Rattle.cap_prog.specs.Program.{PlainProgram}
 use Rattle.cap_prog.specs.Scopes.{Scope, HasSort, SlotFits}
+use Rattle.cap_goal_spec.specs.Environments.{one_value}
 use Rattle.cap_rules.specs.Attempts.{unit, ◌>>=◌}
+use Rattle.cap_rules.specs.Making.{sum}
 use Rattle.cap_rules.specs.Resting.{Names, names_below, end_of, ask_slot, ask, ask_all, want_slot, want_form, want_all}
 use Rattle.cap_machine_accounts.specs.Assertions.{IsAsked}
 use Rattle.cap_account_states.specs.Nodes.{Comes}
-use Rattle.cap_account_states.proofs.Terms.{Over, Agree, agree-same, agree-trans, agree-less}
+use Rattle.cap_account_states.proofs.Terms.{Over, over-plus, Agree, agree-same, agree-trans, agree-less}
 use Rattle.cap_account_states.proofs.Meets.{with_value, new-whole, new-share, variable-value, variable-amount}
-use Rattle.cap_account_states.proofs.Attempts.{comes-bind}
+use Rattle.cap_account_states.proofs.Attempts.{comes-bind, after-computed}
+use Rattle.cap_account_states.proofs.Cutting.{one-is}
 use Rattle.cap_account_resources.proofs.Marks.{Mark}
 use Rattle.cap_account_resources.proofs.Interference.{AsksAtoms}
 use Rattle.cap_account_states.proofs.Wanting.{Low, named_term, NamesOk, names-agree, fresh-agree, names-up, named-value, named-amount, named-whole, scope-low}
@@ -37,6 +44,8 @@ form_over ts n One = form.One
 form_over ts n (Share s) = form.Share (slot_over ts n s)
 form_over ts n (Src s) = form.Src (slot_over ts n s)
 form_over ts n (Tok s) = form.Tok (slot_over ts n s)
+form_over ts n (At s) = form.Span (slot_over ts n s) (Some (plus (slot_over ts n s) one_value))
+form_over ts n (From s) = form.Span (slot_over ts n s) None
 
 abbrev pub forms_over : List Linear → Names → List (ℕ × Asked) → List (ℕ × Form)
 forms_over ts W [] = []
@@ -62,6 +71,15 @@ comes-form ts n (Src s) P h =
 comes-form ts n (Tok s) P h =
     (comes-slot ts n s (λ u. Comes (unit (form.Tok u)) P)
     (comes-bind (want_slot ts n s) (λ u. unit (form.Tok u)) P h)).1
+comes-form ts n (At s) P h =
+    let last = λ (u next : Linear). unit (form.Span u (Some next)) in
+    let more = λ (u : Linear). sum u one_value >>= last u in
+    let k = comes-slot ts n s (λ u. Comes (more u) P) (comes-bind (want_slot ts n s) more P h) in
+    let u = slot_over ts n s in
+    (after-computed (plus u one_value) (plus_steps u one_value) (last u) P k).1
+comes-form ts n (From s) P h =
+    (comes-slot ts n s (λ u. Comes (unit (form.Span u None)) P)
+    (comes-bind (want_slot ts n s) (λ u. unit (form.Span u None)) P h)).1
 
 pub comes-forms :
     (ts : List Linear) (W : Names) (gs : List (ℕ × Asked)) (P : List (ℕ × Form) → Type 0) →
@@ -84,6 +102,8 @@ IsFine X (Share Any) x h = (q : ℤ) × (denominator X.fraction ≡ q *ℤ pos h
 IsFine X (Share (Is t)) x h = Unit {0}
 IsFine X (Src s) x h = Unit {0}
 IsFine X (Tok s) x h = Unit {0}
+IsFine X (At s) x h = Unit {0}
+IsFine X (From s) x h = Unit {0}
 
 -- the slot is over the names, of its sort
 abbrev pub AskedOver : Scope → Asked → Type 0
@@ -91,6 +111,30 @@ AskedOver sc One = Unit {0}
 AskedOver sc (Share s) = SlotFits sc Perm s
 AskedOver sc (Src s) = SlotFits sc Int s
 AskedOver sc (Tok s) = SlotFits sc Int s
+AskedOver sc (At s) = SlotFits sc Int s
+AskedOver sc (From s) = SlotFits sc Int s
+
+-- the element of one index, which a term says
+abbrev pub IsSingle : Valuation → Linear → Element → Type 0
+IsSingle w t x = (i : ℕ) × (value w.whole t ≡ pos i) × (x ≡ indices (one_index i))
+
+pub single-form :
+    (w : Valuation) (t : Linear) (x : Element) → IsSingle w t x →
+    IsFormElement w (form.Span t (Some (plus t one_value))) x
+single-form w t x h = (
+  h.0,
+  h.0 + 1,
+  h.1,
+  value-plus w.whole t one_value
+      ∙ ap (λ z. z +ℤ value w.whole one_value) h.1
+      ∙ ap (λ z. pos h.0 +ℤ z) (one-is w.whole)
+      ∙ up h.0,
+  omega arith,
+  h.2 ∙ sym (single-set h.0),
+)
+  where
+    up : (i : ℕ) → pos i +ℤ pos 1 ≡ pos (i + 1)
+    up i = refl
 
 -- the variable that stands for `_` has its value
 abbrev pub SlotOk : Valuation → ℕ → Asked → Element → Type 0
@@ -101,13 +145,22 @@ SlotOk w n (Src Any) x = IsFormElement w (form.Src (variable n)) x × IsWholeAt 
 SlotOk w n (Src (Is t)) x = Unit {0}
 SlotOk w n (Tok Any) x = IsFormElement w (form.Tok (variable n)) x × IsWholeAt w n
 SlotOk w n (Tok (Is t)) x = Unit {0}
+SlotOk w n (At Any) x = IsSingle w (variable n) x × IsWholeAt w n
+SlotOk w n (At (Is t)) x = Unit {0}
+SlotOk w n (From Any) x = IsFormElement w (form.Span (variable n) None) x × IsWholeAt w n
+SlotOk w n (From (Is t)) x = Unit {0}
 
 -- an integer form's variables are whole
+abbrev pub EndWhole : Valuation → Option Linear → Type 0
+EndWhole w None = Unit {0}
+EndWhole w (Some e) = Over (IsWholeAt w) e
+
 abbrev pub FormWhole : Valuation → Form → Type 0
 FormWhole w form.One = Unit {0}
 FormWhole w (form.Share t) = Unit {0}
 FormWhole w (form.Src t) = Over (IsWholeAt w) t
 FormWhole w (form.Tok t) = Over (IsWholeAt w) t
+FormWhole w (form.Span t e) = Over (IsWholeAt w) t × EndWhole w e
 
 module _ (p : PlainProgram) (X : Valuation) (sc : Scope)
     (normal : (x : ℕ) → HasSort sc Int x → IsWholeAt X x) (k : ℕ) where
@@ -197,6 +250,12 @@ module _ (p : PlainProgram) (X : Valuation) (sc : Scope)
   asked-one w W (Tok Any) x h fine ok =
       wild-number w W (pos h.0) (λ v. SlotOk v W.next (Tok Any) x) ok (λ v e i. ((h.0, e, h.2), i))
   asked-one w W (Tok (Is t)) x h fine ok = named w W (end_of t.parts) (λ v. Unit {0}) (λ v. tt) ok
+  asked-one w W (At Any) x h fine ok =
+      wild-number w W (pos h.0) (λ v. SlotOk v W.next (At Any) x) ok (λ v e i. ((h.0, e, h.2), i))
+  asked-one w W (At (Is t)) x h fine ok = named w W (end_of t.parts) (λ v. Unit {0}) (λ v. tt) ok
+  asked-one w W (From Any) x h fine ok =
+      wild-number w W (pos h.0) (λ v. SlotOk v W.next (From Any) x) ok (λ v e i. ((h.0, e, h.2), i))
+  asked-one w W (From (Is t)) x h fine ok = named w W (end_of t.parts) (λ v. Unit {0}) (λ v. tt) ok
 
   -- ---- values that agree on what there is so far
 
@@ -239,6 +298,18 @@ module _ (p : PlainProgram) (X : Valuation) (sc : Scope)
         whole-later v w m W.next a l h.1,
       )
   slot-later v w m W (Tok (Is t)) x a le h = tt
+  slot-later v w m W (At Any) x a le h =
+      let l : W.next < m = omega (arith, le) in (
+        (h.0.0, number-later v w m W.next (pos h.0.0) a l h.0.1, h.0.2),
+        whole-later v w m W.next a l h.1,
+      )
+  slot-later v w m W (At (Is t)) x a le h = tt
+  slot-later v w m W (From Any) x a le h =
+      let l : W.next < m = omega (arith, le) in (
+        (h.0.0, number-later v w m W.next (pos h.0.0) a l h.0.1, h.0.2),
+        whole-later v w m W.next a l h.1,
+      )
+  slot-later v w m W (From (Is t)) x a le h = tt
 
   slot-more : (W : Names) (s : Slot) → W.next ≤ (ask_slot W s).next
   slot-more W Any = omega arith
@@ -249,6 +320,8 @@ module _ (p : PlainProgram) (X : Valuation) (sc : Scope)
   ask-more W (Share s) = slot-more W s
   ask-more W (Src s) = slot-more W s
   ask-more W (Tok s) = slot-more W s
+  ask-more W (At s) = slot-more W s
+  ask-more W (From s) = slot-more W s
 
   all-more' : (W : Names) (gs : List (ℕ × Asked)) → W.next ≤ (ask_all W gs).next
   all-more' W [] = omega arith
@@ -342,6 +415,20 @@ module _ (p : PlainProgram) (X : Valuation) (sc : Scope)
         ∙ h.1,
     h.2,
   )
+  form-element w ts next n (At Any) x ok le f h s = single-form w (variable n) x s.0
+  form-element w ts next n (At (Is t)) x ok le f h s = single-form w (named_term ts t) x (
+    h.0,
+    named-value X sc normal w ts next ok t (scope-low X sc normal (length ts) Int t le f)
+        ∙ h.1,
+    h.2,
+  )
+  form-element w ts next n (From Any) x ok le f h s = s.0
+  form-element w ts next n (From (Is t)) x ok le f h s = (
+    h.0,
+    named-value X sc normal w ts next ok t (scope-low X sc normal (length ts) Int t le f)
+        ∙ h.1,
+    h.2,
+  )
 
   pub form-whole :
       (w : Valuation) (ts : List Linear) (next n : ℕ) (asked : Asked) (x : Element) →
@@ -353,3 +440,11 @@ module _ (p : PlainProgram) (X : Valuation) (sc : Scope)
   form-whole w ts next n (Src (Is t)) x ok le f s = named-whole X sc normal w ts next ok le t f
   form-whole w ts next n (Tok Any) x ok le f s = (s.1, tt)
   form-whole w ts next n (Tok (Is t)) x ok le f s = named-whole X sc normal w ts next ok le t f
+  form-whole w ts next n (At Any) x ok le f s =
+      ((s.1, tt), over-plus (IsWholeAt w) (variable n) one_value (s.1, tt) tt)
+  form-whole w ts next n (At (Is t)) x ok le f s =
+      let h = named-whole X sc normal w ts next ok le t f in
+      (h, over-plus (IsWholeAt w) (named_term ts t) one_value h tt)
+  form-whole w ts next n (From Any) x ok le f s = ((s.1, tt), tt)
+  form-whole w ts next n (From (Is t)) x ok le f s =
+      (named-whole X sc normal w ts next ok le t f, tt)

@@ -1,35 +1,36 @@
 -- The variables of compatibility's rows; and what is held covers the pieces also at alike values.
-use Rattle.std.proofs.Common.{inl, inr, ℕ, ℤ, Bool, true, false, List, [], ◌∷◌, Option, Some, None, sym, ◌∙◌, subst}
+use Rattle.std.proofs.Common.{inl, inr, ℕ, ℤ, Bool, true, false, List, [], ◌∷◌, ◌++◌, Option, Some, None, sym, ◌∙◌, subst}
 use Rattle.std.specs.Prelude.{if◌then◌else◌}
 use Rattle.std.specs.List.{AllByRecursion}
-use Rattle.cap_lin.specs.Linear.{Linear, plus}
+use Rattle.cap_lin.specs.Linear.{Linear, plus, minus}
+use Rattle.cap_lin.specs.Rows.{row_of}
 use Rattle.cap_lin.specs.Values.{Valuation}
 use Rattle.cap_lin.specs.Solves.{IsWholeAt}
 use Rattle.cap_lin.specs.declared.row.Row.{Row}
 use Rattle.cap_lin.specs.declared.row.Sort.{Sort}
 use Rattle.cap_lin.specs.declared.row.Sort.TheVariants.{Int, Perm}
-use Rattle.cap_lin.specs.declared.row.Op.TheVariants.{Le as AtMost, Gt as Greater, Ge as AtLeast}
+use Rattle.cap_lin.specs.declared.row.Op.TheVariants.{Le as AtMost, Gt as Greater, Ge as AtLeast, Ne as Unequal}
 use Rattle.cap_galg.specs.Elements.{Element}
 use Rattle.cap_galg.specs.Algebras.{PlainAlgebra}
 use Rattle.cap_galg.specs.Laws.Composition.{true_or_false}
 use Rattle.cap_gsolve.specs.declared.piece.Form.{Form}
-use Rattle.cap_gsolve.specs.declared.piece.Form.TheVariants.{One, Share, Src, Tok}
+use Rattle.cap_gsolve.specs.declared.piece.Form.TheVariants.{One, Share, Src, Tok, Span}
 use Rattle.cap_gsolve.specs.declared.piece.Piece.{Piece}
-use Rattle.cap_gsolve.specs.Pieces.{piece, same_part}
-use Rattle.cap_gsolve.specs.Merge.{zero_term, one_term, added_rows, there}
-use Rattle.cap_gsolve.specs.Compat.{share_there, fits_rows, one_rows, wanted_rows, clashes_some, compat}
+use Rattle.cap_gsolve.specs.Pieces.{piece, joins, is_single}
+use Rattle.cap_gsolve.specs.Merge.{zero_term, one_term, beside, there}
+use Rattle.cap_gsolve.specs.Compat.{share_there, fits_rows, wanted_alone, wanted_beside, off_rows, one_rows, wanted_rows, clashes_some, compat}
 use Rattle.cap_gsolve.specs.Meaning.{IsFormElement, IsElementAt, AreElementsAt}
 use Rattle.cap_gsolve.proofs.Held.{there-same, there-other}
 use Rattle.cap_prog.specs.Program.{PlainProgram}
 use Rattle.cap_machine_accounts.specs.Parts.{algebra_of}
 use Rattle.cap_account_resources.proofs.Lists.{all-both}
-use Rattle.cap_account_states.proofs.Terms.{Vars, Over, vars-more, RowOver, row-over, over-plus}
+use Rattle.cap_account_states.proofs.Terms.{Vars, Over, vars-more, RowOver, row-over, over-plus, over-minus}
 use Rattle.cap_account_states.proofs.Alike.{Alike, value-alike}
 use Rattle.cap_account_states.proofs.Wants.{value-of-alike}
 use Rattle.cap_account_resources.proofs.Marks.{Mark}
 use Rattle.cap_account_resources.proofs.Covering.{Covered}
 use Rattle.cap_account_states.proofs.Guarding.{FormOver}
-use Rattle.cap_account_states.proofs.Adding.{PieceOver}
+use Rattle.cap_account_states.proofs.Adding.{PieceOver, beside-over}
 use Rattle.cap_account_states.proofs.Asking.{FormWhole}
 
 -- ---- variables
@@ -42,7 +43,7 @@ there-over :
     (R : Sort → ℕ → Type 0) (ps : List Piece) (q : Piece) → AllByRecursion (PieceOver R) ps →
     OptionOver R (there ps q)
 there-over R [] q h = tt
-there-over R (r ∷ ps) q h = elim (true_or_false (same_part r q)) [
+there-over R (r ∷ ps) q h = elim (true_or_false (joins r q)) [
   | inl t ↦ subst (OptionOver R) (sym (there-same r ps q t)) h.0.1
   | inr f ↦ subst (OptionOver R) (sym (there-other r ps q f)) (there-over R ps q h.1)
 ]
@@ -54,14 +55,16 @@ share-over R (Some One) h = tt
 share-over R (Some (Share t)) h = h
 share-over R (Some (Src t)) h = tt
 share-over R (Some (Tok t)) h = tt
+share-over R (Some (Span t e)) h = tt
 
 form-rows-over :
     (R : Sort → ℕ → Type 0) (f : Form) → FormOver R f →
-    AllByRecursion (RowOver R) (added_rows f)
+    AllByRecursion (RowOver R) (wanted_alone f)
 form-rows-over R One h = tt
 form-rows-over R (Share t) h = (row-over R t Greater zero_term Perm h tt, tt)
 form-rows-over R (Src t) h = (row-over R t AtLeast zero_term Int h tt, tt)
 form-rows-over R (Tok t) h = (row-over R t AtLeast zero_term Int h tt, tt)
+form-rows-over R (Span t e) h = (row-over R t AtLeast zero_term Int h.0 tt, tt)
 
 fit-over :
     (R : Sort → ℕ → Type 0) (o : Option Form) (f : Form) → OptionOver R o → FormOver R f →
@@ -86,6 +89,36 @@ fit-over R (Some (Src t)) (Tok n) h k = (row-over R n AtMost t Int k h, tt)
 fit-over R (Some (Tok t)) One h k = tt
 fit-over R (Some (Tok t)) (Src n) h k = (row-over R t AtMost n Int h k, tt)
 fit-over R (Some (Tok t)) (Tok n) h k = tt
+fit-over R None (Span t e) h k = tt
+fit-over R (Some One) (Span t e) h k = tt
+fit-over R (Some (Share t)) (Span u e) h k = tt
+fit-over R (Some (Src t)) (Span u e) h k = tt
+fit-over R (Some (Tok t)) (Span u e) h k = tt
+fit-over R (Some (Span t e)) One h k = tt
+fit-over R (Some (Span t e)) (Src n) h k = tt
+fit-over R (Some (Span t e)) (Tok n) h k = tt
+fit-over R (Some (Span t e)) (Span u d) h k = tt
+
+off-over :
+    (R : Sort → ℕ → Type 0) (f g : Form) → FormOver R f → FormOver R g →
+    AllByRecursion (RowOver R) (wanted_beside f g)
+off-over R (Span a e) (Span i d) h k = by (is_single i d) e
+  where
+    off : (e : Option Linear) → AllByRecursion (RowOver R) (off_rows a e i)
+    off None =
+        (row-over R i AtMost (minus a one_term) Int k.0 (over-minus (R Int) a one_term h.0 tt), tt)
+    off (Some e) = at (is_single a (Some e))
+      where
+        at : (b : Bool) → AllByRecursion (RowOver R) (if b then row_of i Unequal a Int ∷ [] else [])
+        at true = (row-over R i Unequal a Int k.0 h.0, tt)
+        at false = tt
+
+    by :
+        (b : Bool) (e : Option Linear) →
+        AllByRecursion (RowOver R) (if b then off_rows a e i else [])
+    by true e = off e
+    by false e = tt
+off-over R f g h k = tt
 
 wanted-over :
     (R : Sort → ℕ → Type 0) (ps : List Piece) (r : Linear) (k : ℕ) (ws : List (ℕ × Form)) →
@@ -95,9 +128,13 @@ unfolding wanted_rows
 wanted-over R ps r k [] h g = tt
 wanted-over R ps r k (w ∷ ws) h g =
     all-both (RowOver R) (one_rows ps r k w) (wanted_rows ps r k ws)
-    (all-both (RowOver R) (added_rows w.1) (fits_rows (there ps (piece r k w.0 w.1)) w.1)
+    (all-both (RowOver R) (wanted_alone w.1)
+    (fits_rows (there ps (piece r k w.0 w.1)) w.1 ++ beside wanted_beside ps (piece r k w.0 w.1))
     (form-rows-over R w.1 g.0)
-    (fit-over R (there ps (piece r k w.0 w.1)) w.1 (there-over R ps (piece r k w.0 w.1) h) g.0))
+    (all-both (RowOver R) (fits_rows (there ps (piece r k w.0 w.1)) w.1)
+    (beside wanted_beside ps (piece r k w.0 w.1))
+    (fit-over R (there ps (piece r k w.0 w.1)) w.1 (there-over R ps (piece r k w.0 w.1) h) g.0)
+    (beside-over R wanted_beside ps (piece r k w.0 w.1) (λ f o. off-over R f w.1 o g.0) h)))
     (wanted-over R ps r k ws h g.1)
 
 -- where there are rows
@@ -131,6 +168,8 @@ form-over-whole w (Share t) h = units t.parts
     units (p ∷ ps) = (tt, units ps)
 form-over-whole w (Src t) h = h
 form-over-whole w (Tok t) h = h
+form-over-whole w (Span t None) h = (h.0, tt)
+form-over-whole w (Span t (Some e)) h = h
 
 pub form-more :
     (R S : Sort → ℕ → Type 0) → ((o : Sort) (x : ℕ) → R o x → S o x) → (f : Form) →
@@ -139,6 +178,9 @@ form-more R S g One h = tt
 form-more R S g (Share t) h = vars-more (R Perm) (S Perm) (g Perm) t.parts h
 form-more R S g (Src t) h = vars-more (R Int) (S Int) (g Int) t.parts h
 form-more R S g (Tok t) h = vars-more (R Int) (S Int) (g Int) t.parts h
+form-more R S g (Span t None) h = (vars-more (R Int) (S Int) (g Int) t.parts h.0, tt)
+form-more R S g (Span t (Some e)) h =
+    (vars-more (R Int) (S Int) (g Int) t.parts h.0, vars-more (R Int) (S Int) (g Int) e.parts h.1)
 
 pub pieces-more :
     (R S : Sort → ℕ → Type 0) → ((o : Sort) (x : ℕ) → R o x → S o x) → (ps : List Piece) →
@@ -161,6 +203,9 @@ form-alike P v w a One o x h = h
 form-alike P v w a (Share t) o x h = (h.0, h.1, value-of-alike P v w a t o h.0 h.2, h.3)
 form-alike P v w a (Src t) o x h = (h.0, value-alike P v w a t o ∙ h.1, h.2)
 form-alike P v w a (Tok t) o x h = (h.0, value-alike P v w a t o ∙ h.1, h.2)
+form-alike P v w a (Span t None) o x h = (h.0, value-alike P v w a t o.0 ∙ h.1, h.2)
+form-alike P v w a (Span t (Some e)) o x h =
+    (h.0, h.1, value-alike P v w a t o.0 ∙ h.2, value-alike P v w a e o.1 ∙ h.3, h.4, h.5)
 
 module _ (a : PlainAlgebra) (k : ℕ) (P : ℕ → Type 0) (v w : Valuation) (l : Alike P v w)
     (n : ℤ) where

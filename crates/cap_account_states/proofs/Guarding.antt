@@ -1,7 +1,8 @@
 -- What an assertion asks of a guard is cut out of a piece's form, but for an open amount.
-use Rattle.std.proofs.Common.{◌≡◌, ℕ, zero, suc, ℤ, pos, ◌*ℤ◌, ◌≤ℤ◌, ◌<ℤ◌, Bool, true, false, List, [], ◌∷◌, length, Option, Some, None, refl, sym, ap, ◌∙◌, subst}
-use Rattle.std.specs.Prelude.{if◌then◌else◌}
+use Rattle.std.proofs.Common.{◌≡◌, ℕ, zero, suc, ◌+◌, ℤ, pos, ◌+ℤ◌, ◌*ℤ◌, ◌≤ℤ◌, ◌<ℤ◌, arith, Bool, true, false, List, [], ◌∷◌, length, Option, Some, None, refl, sym, ap, ◌∙◌, subst}
+use Rattle.std.specs.Prelude.{if◌then◌else◌, nat_lt}
 use Rattle.std.specs.List.{AllByRecursion}
+use Rattle.std.proofs.lemmas.Int.{ints}
 use Rattle.cap_lin.specs.Linear.{Linear, plus, minus}
 use Rattle.cap_lin.specs.Steps.{plus_steps, minus_steps}
 use Rattle.cap_lin.specs.Rows.{row_of}
@@ -12,45 +13,53 @@ use Rattle.cap_lin.specs.declared.row.Sort.TheVariants.{Int, Perm}
 use Rattle.cap_lin.specs.declared.row.Op.{Op}
 use Rattle.cap_lin.specs.declared.row.Op.TheVariants.{Eq as Equal, Le as AtMost, Lt as Less, Gt as Greater}
 use Rattle.cap_lin.proofs.Rows.{row_of-means}
+use Rattle.cap_lin.proofs.Values.{value-plus}
+use Rattle.cap_galg_indices.specs.Sets.{one_index, indices_from, index_range}
 use Rattle.cap_galg.specs.declared.fraction.Fraction.{Fraction}
 use Rattle.cap_galg.specs.Fractions.{IsShare}
-use Rattle.cap_galg.specs.Elements.{Element, one, share, src, tokens}
-use Rattle.cap_galg.specs.Algebras.{PlainAlgebra, divisible, counting, unique, IsElement}
+use Rattle.cap_galg.specs.Elements.{Element, one, share, src, tokens, indices, index_set}
+use Rattle.cap_galg.specs.Algebras.{PlainAlgebra, divisible, counting, indexed, unique, IsElement}
 use Rattle.cap_galg.specs.Laws.Kin.{tokens-is}
 use Rattle.cap_gsolve.specs.declared.piece.Form.{Form}
 use Rattle.cap_gsolve.specs.declared.piece.Form.TheVariants as form
 use Rattle.cap_gsolve.specs.Meaning.{IsValueOf, IsFormElement, Takes}
 use Rattle.cap_gsolve.proofs.Amounts.{zero-amount, zero-value}
+use Rattle.cap_gsolve.proofs.CutSpans.{Cuts, single-set, cut-index, cut-index-open, cut-from, cut-first, cut-first-open}
 use Rattle.cap_prog.specs.declared.assertion.Slot.{Slot}
 use Rattle.cap_prog.specs.declared.assertion.Slot.TheVariants.{Any, Is}
 use Rattle.cap_prog.specs.declared.assertion.Asked.{Asked}
-use Rattle.cap_prog.specs.declared.assertion.Asked.TheVariants.{One, Share, Src, Tok}
+use Rattle.cap_prog.specs.declared.assertion.Asked.TheVariants.{One, Share, Src, Tok, At, From}
 use Rattle.cap_prog.specs.Scopes.{Scope, SlotFits}
 use Rattle.cap_machine_accounts.specs.Assertions.{SlotIs}
 use Rattle.cap_goal_spec.specs.Terms.{lone_variable}
-use Rattle.cap_goal_spec.specs.States.{PlainEnv, PlainState}
-use Rattle.cap_goal_spec.specs.Environments.{zero_value, is_determined, term_in, term_in_steps, Reading, settled, open_to, stuck, read_name, reading, bind_open}
-use Rattle.cap_rules.specs.Attempts.{Attempt, unit, ◌>>=◌, prove_that}
-use Rattle.cap_rules.specs.Making.{sum, difference, match_reading}
-use Rattle.cap_rules.specs.Taking.{Cut, cut, cut_share, cut_source, cut_tokens, cut_new_tokens, cut_form}
+use Rattle.cap_goal_spec.specs.States.{PlainEnv, PlainState, longest_list}
+use Rattle.cap_goal_spec.specs.Environments.{zero_value, one_value, is_determined, term_in, term_in_steps, Reading, settled, open_to, stuck, read_name, reading, bind_open}
+use Rattle.cap_rules.specs.Attempts.{Attempt, unit, ◌>>=◌, need, prove_that}
+use Rattle.cap_rules.specs.Making.{sum, difference, value_by, match_reading}
+use Rattle.cap_rules.specs.Taking.{Cut, cut, cut_share, cut_source, cut_tokens, cut_new_tokens, cut_index, cut_onwards, prove_end, cut_form}
 use Rattle.cap_account_states.specs.Nodes.{Comes}
 use Rattle.cap_account_states.proofs.Terms.{Over, vars-more, over-plus, over-minus, row-over}
-use Rattle.cap_account_states.proofs.Attempts.{after-computed, after-proved}
+use Rattle.cap_account_states.proofs.Attempts.{comes-bind, comes-proved, after-computed, after-need, after-proved}
 use Rattle.cap_account_states.proofs.Meets.{Usable, usable-old, Old, Meets, proved-holds}
 use Rattle.cap_account_states.proofs.Alike.{Alike, value-alike}
 use Rattle.cap_account_states.proofs.Wants.{AmountIs, Wants, value-of-alike, share-wants}
 use Rattle.cap_account_states.proofs.Naming.{Placed, Means, Stays, term-over, term-number, bound-of}
 use Rattle.cap_account_states.proofs.Matching.{Outside, matching}
 use Rattle.cap_account_states.proofs.Asking.{AskedOver}
-use Rattle.cap_account_states.proofs.Cutting.{Cuts, cut-all}
+use Rattle.cap_account_states.proofs.Cutting.{cut-all, one-is}
 use Rattle.cap_account_states.proofs.Cutting as cutting
 
--- the variables of a form
+-- the variables of an end, and of a form
+abbrev pub EndOver : (Sort → ℕ → Type 0) → Option Linear → Type 0
+EndOver R None = Unit {0}
+EndOver R (Some e) = Over (R Int) e
+
 abbrev pub FormOver : (Sort → ℕ → Type 0) → Form → Type 0
 FormOver R form.One = Unit {0}
 FormOver R (form.Share t) = Over (R Perm) t
 FormOver R (form.Src t) = Over (R Int) t
 FormOver R (form.Tok t) = Over (R Int) t
+FormOver R (form.Span a e) = Over (R Int) a × EndOver R e
 
 -- an amount that is `_` or an unbound name
 abbrev pub is_open_reading : Reading → Bool
@@ -138,7 +147,7 @@ proved-relates ks v s l op r o m h a b =
     (proved-holds ks ks v s (row_of l op r o) m h (row-over (Usable ks s.sorts) l op r o a b))
 
 -- a slot's value
-slot-is :
+pub slot-is :
     (X : Valuation) (x : Slot) (t : Linear) (z y : ℤ) → x ≡ Is t → z ≡ value X.whole t → z ≡ y →
     SlotIs X x y
 slot-is X x t z y e a b = subst (λ u. SlotIs X u y) (sym e) (sym a ∙ b)
@@ -179,6 +188,61 @@ tokens-tokens : (b : PlainAlgebra) (m n : Linear) → Takes b (form.Tok m) → T
 tokens-tokens counting m n t = tt
 tokens-tokens b m n t = absurd t
 
+pub spanned :
+    (b : PlainAlgebra) (a : Linear) (e : Option Linear) (x : Element) → IsElement indexed x →
+    Takes b (form.Span a e) → IsElement b x
+spanned indexed a e x h t = h
+spanned b a e x h t = absurd t
+
+pub span-takes :
+    (b : PlainAlgebra) (a : Linear) (e : Option Linear) (c : Linear) (d : Option Linear) →
+    Takes b (form.Span a e) → Takes b (form.Span c d)
+span-takes indexed a e c d t = tt
+span-takes b a e c d t = absurd t
+
+pub single-element : (k : ℕ) → IsElement indexed (indices (one_index k))
+single-element k = ((omega arith, (omega arith, tt)), refl)
+
+pub onwards-element : (k : ℕ) → IsElement indexed (indices (indices_from k))
+onwards-element k = ((omega arith, tt), refl)
+
+-- a span whose end is one more than its start
+single-own :
+    (v : Valuation) (a e : Linear) (own : Element) → IsFormElement v (form.Span a (Some e)) own →
+    value v.whole e ≡ value v.whole a +ℤ pos 1 →
+    (k : ℕ) × (value v.whole a ≡ pos k) × (own ≡ indices (one_index k))
+single-own v a e own w h =
+    let i = w.0 in
+    let j = w.1 in
+    let ai = w.2 in
+    let ej = w.3 in
+    let n : j ≡ i + 1 = omega (arith, ints, h, ai, ej) in
+    (i, ai, w.5 ∙ ap (λ m. index_set (index_range i m)) n ∙ single-set i)
+
+-- an end, where there is one, is at least this
+abbrev pub IsAbove : Valuation → Linear → Option Linear → Type 0
+IsAbove v next None = Unit {0}
+IsAbove v next (Some e) = value v.whole next ≤ℤ value v.whole e
+
+-- an index out of a span, and its first one
+pub cut-any :
+    (v : Valuation) (a x y : Linear) (e : Option Linear) (held : Element) →
+    IsFormElement v (form.Span a e) held → value v.whole a ≤ℤ value v.whole x →
+    value v.whole y ≡ value v.whole x +ℤ pos 1 → IsAbove v y e →
+    (k : ℕ) × (value v.whole x ≡ pos k)
+    × Cuts v held (indices (one_index k)) (form.Span a (Some x) ∷ (form.Span y e ∷ []))
+cut-any v a x y None held h l n m = cut-index-open v a x y held h l n
+cut-any v a x y (Some e) held h l n m = cut-index v a e x y held h l n m
+
+cut-start :
+    (v : Valuation) (a y : Linear) (e : Option Linear) (held : Element) →
+    IsFormElement v (form.Span a e) held → value v.whole y ≡ value v.whole a +ℤ pos 1 →
+    IsAbove v y e →
+    (k : ℕ) × (value v.whole a ≡ pos k)
+    × Cuts v held (indices (one_index k)) (form.Span y e ∷ [])
+cut-start v a y None held h n m = cut-first-open v a y held h n
+cut-start v a y (Some e) held h n m = cut-first v a e y held h n m
+
 alone : (b : PlainAlgebra) → Takes b form.One → IsElement b one
 alone unique t = tt
 alone b t = absurd t
@@ -207,7 +271,35 @@ module _ (ks : List ℕ) (sc : Scope) (v : Valuation) (s : PlainState) (me : Mee
     comes = c;
   }
 
-  -- the slot is open to a term: its name is bound
+  -- the slot is open to a term: its name is bound, and these forms stay
+  bound-left :
+      (x : Slot) (y : Option ℕ) (m : Linear) (asked : Asked) (f : Form) (left : List Form) →
+      reading env x ≡ open_to y → SlotFits sc Int x → Over (Usable ks s.sorts Int) m →
+      AllByRecursion (FormOver (Usable ks s.sorts)) left →
+      ((b : PlainAlgebra) → Takes b f → AllByRecursion (Takes b) left) →
+      ((later : PlainEnv) →
+      ((w : Valuation) → Alike (Old s) v w → (X : Valuation) → Means sc w later X →
+      SlotIs X x (value v.whole m)) → (own : Element) → IsFormElement v f own → (w : Element) ×
+      WantedNear sc (Old s) v later asked w ×
+      ((b : PlainAlgebra) → Takes b f → IsElement b w) × Cuts v own w left) →
+      P (cut (bind_open env y m) s left) → CutOk ks sc v s env asked f P
+  bound-left x y m asked f left e h o lo t g c =
+      let k = matching ks sc v s env x m (λ later. later ≡ bind_open env y m) me pl h o
+      (subst (λ r. Comes (match_reading s.rows env m r) (λ later. later ≡ bind_open env y m))
+      (sym e) (tt, refl)) in
+      record {
+        later = k.later;
+        left = left;
+        placed = k.placed;
+        stays = k.stays;
+        outside = k.outside;
+        size = k.size;
+        left_over = lo;
+        fits = t;
+        cuts = g k.later k.means;
+        comes = subst (λ l. P (cut l s left)) (sym k.comes) c;
+      }
+
   bound-to :
       (x : Slot) (y : Option ℕ) (m : Linear) (asked : Asked) (f : Form) →
       reading env x ≡ open_to y → SlotFits sc Int x → Over (Usable ks s.sorts Int) m →
@@ -217,22 +309,7 @@ module _ (ks : List ℕ) (sc : Scope) (v : Valuation) (s : PlainState) (me : Mee
       WantedNear sc (Old s) v later asked w ×
       ((b : PlainAlgebra) → Takes b f → IsElement b w) × Cuts v own w []) →
       P (cut (bind_open env y m) s []) → CutOk ks sc v s env asked f P
-  bound-to x y m asked f e h o g c =
-      let k = matching ks sc v s env x m (λ later. later ≡ bind_open env y m) me pl h o
-      (subst (λ r. Comes (match_reading s.rows env m r) (λ later. later ≡ bind_open env y m))
-      (sym e) (tt, refl)) in
-      record {
-        later = k.later;
-        left = [];
-        placed = k.placed;
-        stays = k.stays;
-        outside = k.outside;
-        size = k.size;
-        left_over = tt;
-        fits = λ b tk. tt;
-        cuts = g k.later k.means;
-        comes = subst (λ l. P (cut l s [])) (sym k.comes) c;
-      }
+  bound-to x y m asked f e h o g c = bound-left x y m asked f [] e h o tt (λ b tk. tt) g c
 
   -- a settled slot has its value at all alike values
   old-over : (o : Sort) (t : Linear) → Over (Usable ks s.sorts o) t → Over (Old s) t
@@ -452,6 +529,191 @@ module _ (ks : List ℕ) (sc : Scope) (v : Valuation) (s : PlainState) (me : Mee
   new-tokens-cut x m (suc zero) stuck e h o c = absurd c.1
   new-tokens-cut x m (suc (suc way)) stuck e h o c = absurd c.1
 
+  -- one more than a term
+  abbrev next_of : Linear → Linear
+  next_of t = plus t one_value
+
+  next-over :
+      (t : Linear) → Over (Usable ks s.sorts Int) t → Over (Usable ks s.sorts Int) (next_of t)
+  next-over t o = over-plus (Usable ks s.sorts Int) t one_value o tt
+
+  next-is : (t : Linear) → value v.whole (next_of t) ≡ value v.whole t +ℤ pos 1
+  next-is t =
+      value-plus v.whole t one_value ∙ ap (λ z. value v.whole t +ℤ z) (one-is v.whole)
+
+  -- an end that is proved to be at least a term
+  end-above :
+      (e : Option Linear) (next : Linear) (Q : Unit {0} → Type 0) →
+      Over (Usable ks s.sorts Int) next → EndOver (Usable ks s.sorts) e →
+      Comes (prove_end s.rows e next) Q → IsAbove v next e × Q tt
+  end-above None next Q o u c = (tt, c.1)
+  end-above (Some e) next Q o u c =
+      let k = comes-proved s.rows next AtMost e Int Q c in
+      (proved-relates ks v s next AtMost e Int me k.0 o u, k.1)
+
+  -- an index within a span
+  inner-cut :
+      (x : Slot) (a : Linear) (e : Option Linear) (t : Linear) → reading env x ≡ settled t →
+      SlotFits sc Int x → FormOver (Usable ks s.sorts) (form.Span a e) →
+      Comes (value_by env t >>= λ w. (prove_that s.rows a AtMost w Int >>= λ _.
+      (sum w one_value >>= λ next. (prove_end s.rows e next >>= λ _.
+      (need (nat_lt (length s.guards) longest_list) >>= λ _.
+      unit (cut env s (form.Span a (Some w) ∷ (form.Span next e ∷ [])))))))) P →
+      CutOk ks sc v s env (At x) (form.Span a e) P
+  inner-cut x a e t q h o c =
+      let i = settled-slot ks sc s env x Int t pl h q in
+      let u = term_in env t in
+      let left = form.Span a (Some u) ∷ (form.Span (next_of u) e ∷ []) in
+      let last : Attempt Cut = unit (cut env s left) in
+      let fifth : Attempt Cut = need (nat_lt (length s.guards) longest_list) >>= λ _. last in
+      let fourth : Linear → Attempt Cut = λ next. prove_end s.rows e next >>= λ _.
+      (need (nat_lt (length s.guards) longest_list) >>= λ _.
+      unit (cut env s (form.Span a (Some u) ∷ (form.Span next e ∷ [])))) in
+      let third : Linear → Attempt Cut = λ w. sum w one_value >>= λ next.
+      (prove_end s.rows e next >>= λ _.
+      (need (nat_lt (length s.guards) longest_list) >>= λ _.
+      unit (cut env s (form.Span a (Some w) ∷ (form.Span next e ∷ []))))) in
+      let second : Linear → Attempt Cut = λ w. prove_that s.rows a AtMost w Int >>= λ _. third w in
+      let k1 = after-computed u (term_in_steps env t) second P c in
+      let k2 = after-proved s.rows a AtMost u Int (λ _. third u) P k1 in
+      let k3 = after-computed (next_of u) (plus_steps u one_value) fourth P k2.1 in
+      let k4 = end-above e (next_of u) (λ _. Comes fifth P) (next-over u i.over) o.1
+      (comes-bind (prove_end s.rows e (next_of u)) (λ _. fifth) P k3) in
+      let k5 = after-need (nat_lt (length s.guards) longest_list) (λ _. last) P k4.1 in
+      let le : value v.whole a ≤ℤ value v.whole u =
+      proved-relates ks v s a AtMost u Int me k2.0 o.0 i.over in
+      kept (At x) (form.Span a e) left
+      ((o.0, i.over), ((next-over u i.over, o.1), tt))
+      (λ b tk. (span-takes b a e a (Some u) tk, (span-takes b a e (next_of u) e tk, tt)))
+      (λ own w.
+      let k = cut-any v a u (next_of u) e own w le (next-is u) k4.0 in (
+        indices (one_index k.0),
+        (λ y l X n. (k.0, wanted-slot x t i (pos k.0) k.1 y l X n, refl)),
+        (λ b tk. spanned b a e (indices (one_index k.0)) (single-element k.0) tk),
+        k.2,
+      )) k5.1.1
+
+  -- the first index of a span
+  first-cut :
+      (x : Slot) (a : Linear) (e : Option Linear) (y : Option ℕ) → reading env x ≡ open_to y →
+      SlotFits sc Int x → FormOver (Usable ks s.sorts) (form.Span a e) →
+      Comes (sum a one_value >>= λ next. (prove_end s.rows e next >>= λ _.
+      unit (cut (bind_open env y a) s (form.Span next e ∷ [])))) P →
+      CutOk ks sc v s env (At x) (form.Span a e) P
+  first-cut x a e y q h o c =
+      let last : Attempt Cut = unit (cut (bind_open env y a) s (form.Span (next_of a) e ∷ [])) in
+      let fourth : Linear → Attempt Cut = λ next. prove_end s.rows e next >>= λ _.
+      unit (cut (bind_open env y a) s (form.Span next e ∷ [])) in
+      let k3 = after-computed (next_of a) (plus_steps a one_value) fourth P c in
+      let k4 = end-above e (next_of a) (λ _. Comes last P) (next-over a o.0) o.1
+      (comes-bind (prove_end s.rows e (next_of a)) (λ _. last) P k3) in
+      bound-left x y a (At x) (form.Span a e) (form.Span (next_of a) e ∷ []) q h o.0
+      ((next-over a o.0, o.1), tt) (λ b tk. (span-takes b a e (next_of a) e tk, tt))
+      (λ later means own w.
+      let k = cut-start v a (next_of a) e own w (next-is a) k4.0 in (
+        indices (one_index k.0),
+        (λ z l X n. (k.0, subst (SlotIs X x) k.1 (means z l X n), refl)),
+        (λ b tk. spanned b a e (indices (one_index k.0)) (single-element k.0) tk),
+        k.2,
+      )) k4.1.1
+
+  index-cut :
+      (x : Slot) (a : Linear) (e : Option Linear) (way : ℕ) (r : Reading) → reading env x ≡ r →
+      SlotFits sc Int x → FormOver (Usable ks s.sorts) (form.Span a e) →
+      Comes (cut_index s env a e way r) P → CutOk ks sc v s env (At x) (form.Span a e) P
+  index-cut x a (Some e) zero (settled t) q h o c =
+      let i = settled-slot ks sc s env x Int t pl h q in
+      let u = term_in env t in
+      let fourth : Linear → Attempt Cut = λ next. prove_that s.rows e Equal next Int >>= λ _.
+      unit (cut env s []) in
+      let third : Linear → Attempt Cut = λ w. sum w one_value >>= fourth in
+      let second : Linear → Attempt Cut = λ w. prove_that s.rows a Equal w Int >>= λ _. third w in
+      let k1 = after-computed u (term_in_steps env t) second P c in
+      let k2 = after-proved s.rows a Equal u Int (λ _. third u) P k1 in
+      let k3 = after-computed (next_of u) (plus_steps u one_value) fourth P k2.1 in
+      let k4 = after-proved s.rows e Equal (next_of u) Int (λ _. unit (cut env s [])) P k3 in
+      let eq : value v.whole a ≡ value v.whole u =
+      proved-relates ks v s a Equal u Int me k2.0 o.0 i.over in
+      let en : value v.whole e ≡ value v.whole (next_of u) =
+      proved-relates ks v s e Equal (next_of u) Int me k4.0 o.1 (next-over u i.over) in
+      kept (At x) (form.Span a (Some e)) [] tt (λ b tk. tt) (λ own w.
+      let one = single-own v a e own w (en ∙ next-is u ∙ ap (λ z. z +ℤ pos 1) (sym eq)) in (
+        own,
+        (λ y l X n. (one.0, wanted-slot x t i (pos one.0) (sym eq ∙ one.1) y l X n, one.2)),
+        (λ b tk. spanned b a (Some e) own
+            (subst (IsElement indexed) (sym one.2) (single-element one.0)) tk),
+        cut-all v own,
+      )) k4.1.1
+  index-cut x a None (suc zero) (settled t) q h o c = inner-cut x a None t q h o c
+  index-cut x a (Some e) (suc zero) (settled t) q h o c = inner-cut x a (Some e) t q h o c
+  index-cut x a None (suc zero) (open_to y) q h o c = first-cut x a None y q h o c
+  index-cut x a (Some e) (suc zero) (open_to y) q h o c = first-cut x a (Some e) y q h o c
+  index-cut x a None zero (settled t) q h o c = absurd c.1
+  index-cut x a None zero (open_to y) q h o c = absurd c.1
+  index-cut x a (Some e) zero (open_to y) q h o c = absurd c.1
+  index-cut x a None zero stuck q h o c = absurd c.1
+  index-cut x a (Some e) zero stuck q h o c = absurd c.1
+  index-cut x a None (suc zero) stuck q h o c = absurd c.1
+  index-cut x a (Some e) (suc zero) stuck q h o c = absurd c.1
+  index-cut x a None (suc (suc way)) (settled t) q h o c = absurd c.1
+  index-cut x a None (suc (suc way)) (open_to y) q h o c = absurd c.1
+  index-cut x a None (suc (suc way)) stuck q h o c = absurd c.1
+  index-cut x a (Some e) (suc (suc way)) (settled t) q h o c = absurd c.1
+  index-cut x a (Some e) (suc (suc way)) (open_to y) q h o c = absurd c.1
+  index-cut x a (Some e) (suc (suc way)) stuck q h o c = absurd c.1
+
+  onwards-cut :
+      (x : Slot) (a : Linear) (way : ℕ) (r : Reading) → reading env x ≡ r →
+      SlotFits sc Int x → FormOver (Usable ks s.sorts) (form.Span a None) →
+      Comes (cut_onwards s env a way r) P → CutOk ks sc v s env (From x) (form.Span a None) P
+  onwards-cut x a zero (open_to y) q h o c =
+      bound-to x y a (From x) (form.Span a None) q h o.0 (λ later means own w. (
+        own,
+        (λ z l X n. (w.0, subst (SlotIs X x) w.1 (means z l X n), w.2)),
+        (λ b tk. spanned b a None own
+            (subst (IsElement indexed) (sym w.2) (onwards-element w.0)) tk),
+        cut-all v own,
+      )) c.1
+  onwards-cut x a zero (settled t) q h o c =
+      let i = settled-slot ks sc s env x Int t pl h q in
+      let u = term_in env t in
+      let k1 = after-computed u (term_in_steps env t)
+      (λ w. prove_that s.rows a Equal w Int >>= λ _. unit (cut env s [])) P c in
+      let k2 = after-proved s.rows a Equal u Int (λ _. unit (cut env s [])) P k1 in
+      let eq : value v.whole a ≡ value v.whole u =
+      proved-relates ks v s a Equal u Int me k2.0 o.0 i.over in
+      kept (From x) (form.Span a None) [] tt (λ b tk. tt) (λ own w. (
+        own,
+        (λ y l X n. (w.0, wanted-slot x t i (pos w.0) (sym eq ∙ w.1) y l X n, w.2)),
+        (λ b tk. spanned b a None own
+            (subst (IsElement indexed) (sym w.2) (onwards-element w.0)) tk),
+        cut-all v own,
+      )) k2.1.1
+  onwards-cut x a (suc zero) (settled t) q h o c =
+      let i = settled-slot ks sc s env x Int t pl h q in
+      let u = term_in env t in
+      let second : Linear → Attempt Cut = λ w. prove_that s.rows a AtMost w Int >>= λ _.
+      unit (cut env s (form.Span a (Some w) ∷ [])) in
+      let k1 = after-computed u (term_in_steps env t) second P c in
+      let k2 = after-proved s.rows a AtMost u Int
+      (λ _. unit (cut env s (form.Span a (Some u) ∷ []))) P k1 in
+      let le : value v.whole a ≤ℤ value v.whole u =
+      proved-relates ks v s a AtMost u Int me k2.0 o.0 i.over in
+      kept (From x) (form.Span a None) (form.Span a (Some u) ∷ [])
+      ((o.0, i.over), tt) (λ b tk. (span-takes b a None a (Some u) tk, tt)) (λ own w.
+      let k = cut-from v a u own w le in (
+        indices (indices_from k.0),
+        (λ y l X n. (k.0, wanted-slot x t i (pos k.0) k.1 y l X n, refl)),
+        (λ b tk. spanned b a None (indices (indices_from k.0)) (onwards-element k.0) tk),
+        k.2,
+      )) k2.1.1
+  onwards-cut x a (suc zero) (open_to y) q h o c = absurd c.1
+  onwards-cut x a zero stuck q h o c = absurd c.1
+  onwards-cut x a (suc zero) stuck q h o c = absurd c.1
+  onwards-cut x a (suc (suc way)) (settled t) q h o c = absurd c.1
+  onwards-cut x a (suc (suc way)) (open_to y) q h o c = absurd c.1
+  onwards-cut x a (suc (suc way)) stuck q h o c = absurd c.1
+
   pub form-cut :
       (asked : Asked) (f : Form) (way : ℕ) → AskedOver sc asked → FormOver (Usable ks s.sorts) f →
       is_open asked env ≡ false → Comes (cut_form s env asked f way) P →
@@ -469,4 +731,6 @@ module _ (ks : List ℕ) (sc : Scope) (v : Valuation) (s : PlainState) (me : Mee
   form-cut (Src x) (form.Src m) way h o op c = source-cut x m way (reading env x) refl h o c
   form-cut (Tok x) (form.Tok m) way h o op c = tokens-cut x m way (reading env x) refl h o c
   form-cut (Tok x) (form.Src m) way h o op c = new-tokens-cut x m way (reading env x) refl h o c
+  form-cut (At x) (form.Span a e) way h o op c = index-cut x a e way (reading env x) refl h o c
+  form-cut (From x) (form.Span a None) way h o op c = onwards-cut x a way (reading env x) refl h o c
   form-cut asked f way h o op c = absurd c.1

@@ -25,12 +25,13 @@ use Rattle.cap_rules.specs.Making.{prove_equal, env_at, fresh, determined_slot}
 use Rattle.cap_rules.specs.Taking.{Cut, cut, cut_form, after_cut, with_form, cut_share}
 use Rattle.cap_rules.specs.Rules.{Remaining, goes, at_piece, at_no_tokens}
 use Rattle.cap_prog.specs.declared.assertion.Slot.{Slot}
-use Rattle.cap_prog.specs.declared.assertion.Asked.TheVariants.{One, Share, Src, Tok}
+use Rattle.cap_prog.specs.declared.assertion.Asked.TheVariants.{One, Share, Src, Tok, At, From}
 use Rattle.cap_account_states.proofs.Alike.{usable-alike, Alike, alike-same, alike-on}
 use Rattle.cap_account_states.proofs.Terms.{Over, vars-more}
 use Rattle.cap_account_states.proofs.Brought.{Brought, form_brings, piece_brings, brought-none}
 use Rattle.cap_account_states.proofs.Compatible.{pieces-more, form-alike, covered-alike}
-use Rattle.cap_account_states.proofs.Cutting.{Cuts, one-fraction}
+use Rattle.cap_gsolve.proofs.CutSpans.{Cuts}
+use Rattle.cap_account_states.proofs.Cutting.{one-fraction}
 use Rattle.cap_account_states.proofs.Halving.{halved, half_state, half-cut}
 use Rattle.cap_gsolve.specs.declared.piece.Form.TheVariants as form
 use Rattle.cap_prog.specs.declared.assertion.Slot.TheVariants.{Any, Is}
@@ -339,6 +340,10 @@ guard-taken p ks sc v s j way n k i (Src x) r held P me apart ov fit cover pl hn
     closed-taken p ks sc v s j way n k i (Src x) r held P me ov fit cover pl hn ao refl c
 guard-taken p ks sc v s j way n k i (Tok x) r held P me apart ov fit cover pl hn ao c =
     closed-taken p ks sc v s j way n k i (Tok x) r held P me ov fit cover pl hn ao refl c
+guard-taken p ks sc v s j way n k i (At x) r held P me apart ov fit cover pl hn ao c =
+    closed-taken p ks sc v s j way n k i (At x) r held P me ov fit cover pl hn ao refl c
+guard-taken p ks sc v s j way n k i (From x) r held P me apart ov fit cover pl hn ao c =
+    closed-taken p ks sc v s j way n k i (From x) r held P me ov fit cover pl hn ao refl c
 guard-taken p ks sc v s j way n k i (Share x) r held P me apart ov fit cover pl hn ao c =
     by (reading (env_at s r.env) x) refl
   where

@@ -38,7 +38,8 @@ use Rattle.cap_account_states.proofs.Brought.{Brought, a_half}
 use Rattle.cap_account_states.proofs.Alike.{Alike, scaled-agree-alike, meets-fresh}
 use Rattle.cap_account_states.proofs.Wants.{AmountIs, value-of-alike, share-wants}
 use Rattle.cap_account_states.proofs.Guarding.{WantedNear, shared}
-use Rattle.cap_account_states.proofs.Cutting.{Cuts, cut-share}
+use Rattle.cap_gsolve.proofs.CutSpans.{Cuts}
+use Rattle.cap_account_states.proofs.Cutting.{cut-share}
 
 -- ---- an open slot for an amount
 

@@ -1,13 +1,15 @@
 -- A guard is taken out of one of a state's pieces: what was held is what is taken and what covers
 -- the pieces that stay.
-use Rattle.std.proofs.Common.{◌≡◌, ◌≢◌, ◌⊎◌, inl, inr, ℕ, zero, suc, ◌+◌, ℤ, true, List, [], ◌∷◌, ◌++◌, map, take, drop, Option, Some, refl, sym, ap, ◌∙◌, subst, arith}
-use Rattle.std.specs.Prelude.{slice_get, ◌==◌}
+use Rattle.std.proofs.Common.{◌≡◌, ◌≢◌, ◌⊎◌, inl, inr, ℕ, zero, suc, ◌+◌, ℤ, Bool, true, false, List, [], ◌∷◌, ◌++◌, map, take, drop, Option, Some, None, refl, sym, ap, ◌∙◌, subst, arith}
+use Rattle.std.specs.Prelude.{slice_get, ◌==◌, if◌then◌else◌}
 use Rattle.std.specs.List.{AllByRecursion}
 use Rattle.std.proofs.lemmas.Bool.Decides.{nat_tests}
 use Rattle.cap_lin.specs.Values.{Valuation}
-use Rattle.cap_galg.specs.Elements.{Element, nothing, is_unit, bind, compose}
+use Rattle.cap_galg_indices.specs.Sets.{AreBounds, is_empty, indices_from, index_range}
+use Rattle.cap_galg_indices.specs.Laws.Members.{range-ascends, from-ascends}
+use Rattle.cap_galg.specs.Elements.{Element, nothing, indices, index_set, is_unit, bind, compose}
 use Rattle.cap_galg.specs.Lists.{compose_all}
-use Rattle.cap_galg.specs.Algebras.{PlainAlgebra, unique, divisible, counting, IsElement, atom_algebra, atom_element}
+use Rattle.cap_galg.specs.Algebras.{PlainAlgebra, unique, divisible, counting, indexed, IsElement, atom_algebra, atom_element}
 use Rattle.cap_galg.specs.Laws.Composition.{true_or_false, bind-is, unit-is, made_of_nothing, composed-not-unit, compose-nothing, IsSound, sound-composed}
 use Rattle.cap_galg.specs.Laws.Algebras.{sound-of, closed}
 use Rattle.cap_galg.specs.Laws.Atoms.{atom-is}
@@ -15,10 +17,11 @@ use Rattle.cap_galg.specs.Laws.Kin.{tokens-is}
 use Rattle.cap_galg.specs.Laws.Lists.{all-sound, grouped, regrouped, exchanged, swapped}
 use Rattle.cap_galg.specs.Laws.Placing.{atom-composed}
 use Rattle.cap_gsolve.specs.declared.piece.Form.{Form}
-use Rattle.cap_gsolve.specs.declared.piece.Form.TheVariants.{One, Share, Src, Tok}
+use Rattle.cap_gsolve.specs.declared.piece.Form.TheVariants.{One, Share, Src, Tok, Span}
 use Rattle.cap_gsolve.specs.declared.piece.Piece.{Piece}
 use Rattle.cap_gsolve.specs.Meaning.{IsFormElement, region_of, IsElementAt, AreElementsAt, ComposeAt, Takes, Fits}
 use Rattle.cap_gsolve.proofs.Forms.{form-sound}
+use Rattle.cap_gsolve.proofs.CutSpans.{AreLeft, Cuts}
 use Rattle.cap_gsolve.proofs.Held.{element-sound, elements-sound, in-a-row, IsOwn, at-own}
 use Rattle.cap_prog.specs.Program.{PlainProgram}
 use Rattle.cap_machine_accounts.specs.Parts.{algebra_of}
@@ -26,7 +29,6 @@ use Rattle.cap_rules.specs.Taking.{with_form}
 use Rattle.cap_account_resources.proofs.Lists.{some-same, none-some, all-at, all-both}
 use Rattle.cap_account_resources.proofs.Marks.{Mark, free, of, fit, wrap, is-by, joins-law}
 use Rattle.cap_account_resources.proofs.Covering.{join_marks, IsPartOf, mark, mark-unit, mark-of, free-right, Covered, unit-form}
-use Rattle.cap_account_states.proofs.Cutting.{AreLeft, Cuts}
 
 -- ---- a piece among the others
 
@@ -92,7 +94,9 @@ split-at a k v n (r ∷ ps) (suc j) q (x ∷ xs) u e h c =
       );
       afters = subst (λ i. ComposeAt a k v n (drop i (r ∷ ps)) m.after) more m.afters;
       joined = s3.outer;
-      whole = swapped s2.middle m.own (Some u) s2.outer;
+      whole =
+          swapped s2.middle m.own (Some u) (sound-composed x m.others s2.middle sx sw s2.inner) so
+          s2.outer;
     }
 
 -- other pieces in its place
@@ -107,11 +111,24 @@ put-at a k v n ps j q u s qs z t c e =
     let sa = composed-sound a k v n (drop (j + 1) ps) s.after s.afters in
     let g1 = grouped z s.before s.after s.others t sz sb sa s.joined e in
     let g2 = regrouped s.before z s.after g1.middle t sb sz sa
-    (swapped z s.before (Some g1.middle) g1.inner) g1.outer in
+    (swapped z s.before (Some g1.middle) sz sb g1.inner) g1.outer in
     in-a-row a k v n (take j ps) (qs ++ drop (j + 1) ps) s.before g2.middle t s.befores
     (in-a-row a k v n qs (drop (j + 1) ps) z s.after g2.middle c s.afters g2.inner) g2.outer
 
 -- ---- elements of a type's guards
+
+pub indices-after : (i : ℕ) → IsElement indexed (indices (indices_from i))
+indices-after i = (from-ascends i, refl)
+
+set-element :
+    (b : Bool) (xs : List ℕ) → is_empty xs ≡ b → AreBounds xs →
+    IsElement indexed (if b then nothing else indices xs)
+set-element true xs e h = tt
+set-element false xs e h = (h, e)
+
+range-element : (i j : ℕ) → IsElement indexed (index_set (index_range i j))
+range-element i j =
+    set-element (is_empty (index_range i j)) (index_range i j) refl (range-ascends i j)
 
 pub form-element :
     (b : PlainAlgebra) (v : Valuation) (f : Form) (x : Element) → Takes b f → IsFormElement v f x →
@@ -120,6 +137,9 @@ form-element unique v One x t h = subst (IsElement unique) (sym h) tt
 form-element divisible v (Share a) x t h = subst (IsElement divisible) (sym h.3) h.1
 form-element counting v (Src a) x t h = subst (IsElement counting) (sym h.2) tt
 form-element counting v (Tok a) x t h = subst (IsElement counting) (sym h.2) (tokens-is h.0)
+form-element indexed v (Span a None) x t h = subst (IsElement indexed) (sym h.2) (indices-after h.0)
+form-element indexed v (Span a (Some e)) x t h =
+    subst (IsElement indexed) (sym h.5) (range-element h.0 h.1)
 form-element b v f x t h = absurd t
 
 abbrev pub AllFit : PlainProgram → List Piece → Type 0
@@ -253,26 +273,35 @@ pub record CutHere (p : PlainProgram) (v : Valuation) (ps : List Piece) (j : ℕ
       CutAt p v (left_pieces ps j q fs) n
       (mark q.kind (atom_element (algebra_of p q.kind) q.atom y)) m
 
+left-sound : (v : Valuation) (fs : List Form) (z : Element) → AreLeft v fs z → IsSound z
+left-sound v [] z h = subst IsSound (sym h) tt
+left-sound v (f ∷ fs) z h =
+    sound-composed h.0 h.1 z (form-sound v f h.0 h.2) (left-sound v fs h.1 h.3) h.4
+
 left-at :
     (a : PlainAlgebra) (k : ℕ) (v : Valuation) (n : ℤ) (q : Piece) (fs : List Form) (z : Element) →
     region_of v q ≡ n → ((q.kind ≡ k) ⊎ (z ≡ nothing)) → AreLeft v fs z →
     ComposeAt a k v n (map (with_form q) fs) (atom_element a q.atom z)
 left-at a k v n q [] z e o h = ([], tt, ap (λ x. Some (atom_element a q.atom x)) (sym h))
-left-at a k v n q (f ∷ []) z e o h =
-    let x = atom_element a q.atom z in
-    (x ∷ [], (inl (e, (z, h, refl), kinds o), tt), compose-nothing x)
+left-at a k v n q (f ∷ fs) z e o h =
+    let x = h.0 in
+    let y = h.1 in
+    let m = left-at a k v n q fs y e (second o) h.3 in (
+      atom_element a q.atom x ∷ m.0,
+      (inl (e, (x, h.2, refl), first o), m.1),
+      ap (λ r. bind r (λ w. compose (atom_element a q.atom x) w)) m.2
+          ∙ atom-composed a q.atom x y (form-sound v f x h.2) (left-sound v fs y h.3)
+          ∙ ap (λ r. bind r (λ w. Some (atom_element a q.atom w))) h.4,
+    )
   where
-    kinds : (q.kind ≡ k) ⊎ (z ≡ nothing) → (q.kind ≡ k) ⊎ (atom_element a q.atom z ≡ nothing)
-    kinds (inl i) = inl i
-    kinds (inr i) = inr (ap (atom_element a q.atom) i)
-left-at a k v n q (f ∷ (g ∷ fs)) z e o h = absurd h
+    first : (q.kind ≡ k) ⊎ (z ≡ nothing) → (q.kind ≡ k) ⊎ (atom_element a q.atom h.0 ≡ nothing)
+    first (inl i) = inl i
+    first (inr i) =
+        inr (ap (atom_element a q.atom) (made_of_nothing h.0 h.1 z h.4 (ap is_unit i)).0)
 
-left-sound :
-    (a : PlainAlgebra) (v : Valuation) (q : Piece) (fs : List Form) (z : Element) → AreLeft v fs z →
-    IsSound z
-left-sound a v q [] z h = subst IsSound (sym h) tt
-left-sound a v q (f ∷ []) z h = form-sound v f z h
-left-sound a v q (f ∷ (g ∷ fs)) z h = absurd h
+    second : (q.kind ≡ k) ⊎ (z ≡ nothing) → (q.kind ≡ k) ⊎ (h.1 ≡ nothing)
+    second (inl i) = inl i
+    second (inr i) = inr (made_of_nothing h.0 h.1 z h.4 (ap is_unit i)).1
 
 pub cut-here :
     (p : PlainProgram) (v : Valuation) (ps : List Piece) (j : ℕ) (q : Piece) (n : ℤ)
@@ -310,7 +339,7 @@ cut-here p v ps j q n m fits e here c = record {
         let y' = atom_element a q.atom y in
         let z' = atom_element a q.atom z in
         let sy = sound-of (atom_algebra a q.atom) y hy in
-        let sz = left-sound a v q fs z cuts.are_left in
+        let sz = left-sound v fs z cuts.are_left in
         let iy = atom-is a q.atom y g.0 hy in
         let join-own : compose y' z' ≡ Some s.own =
         atom-composed a q.atom y z sy sz

@@ -1,6 +1,6 @@
 -- Full pieces compose to a full element and fit, and those of the two sides of a sum are one
 -- element.
-use Rattle.std.proofs.Common.{◌≡◌, ℕ, zero, suc, ◌+◌, ◌-◌, ◌<◌, arith, List, Bool, true, false, Option, Some, refl, sym, ap, ◌∙◌, subst}
+use Rattle.std.proofs.Common.{◌≡◌, ℕ, zero, suc, ◌+◌, ◌-◌, ◌<◌, arith, List, Bool, true, false, Option, Some, None, refl, sym, ap, ◌∙◌, subst}
 use Rattle.std.specs.Prelude.{if◌then◌else◌, nat_lt}
 use Rattle.std.specs.List.{AllByRecursion}
 use Rattle.cap_lin.specs.Linear.{Linear}
@@ -8,11 +8,11 @@ use Rattle.cap_lin.specs.Values.{Valuation, value}
 use Rattle.cap_lin.specs.declared.row.Sort.{Sort}
 use Rattle.cap_lin.specs.declared.row.Sort.TheVariants.{Int, Perm}
 use Rattle.cap_galg.specs.Elements.{Element, nothing, both, whole, left, right, on_left, on_right}
-use Rattle.cap_galg.specs.Algebras.{PlainAlgebra, unique, divisible, counting, product, sum, atoms, atom_algebra, full}
+use Rattle.cap_galg.specs.Algebras.{PlainAlgebra, unique, divisible, counting, indexed, product, sum, atoms, atom_algebra, full}
 use Rattle.cap_galg.specs.Laws.Algebras.{full-full}
 use Rattle.cap_galg.specs.Laws.Atoms.{lt-true, lt-false}
 use Rattle.cap_gsolve.specs.declared.piece.Form.{Form}
-use Rattle.cap_gsolve.specs.declared.piece.Form.TheVariants.{One, Share, Src, Tok}
+use Rattle.cap_gsolve.specs.declared.piece.Form.TheVariants.{One, Share, Src, Tok, Span}
 use Rattle.cap_gsolve.specs.declared.piece.Piece.{Piece}
 use Rattle.cap_gsolve.specs.Pieces.{piece, pieces_of, full_forms, full_pieces}
 use Rattle.cap_gsolve.specs.Merge.{zero_term, one_term}
@@ -115,6 +115,8 @@ IsFull One = Unit {0}
 IsFull (Share t) = t ≡ one_term
 IsFull (Src t) = t ≡ zero_term
 IsFull (Tok t) = ⊥
+IsFull (Span t None) = t ≡ zero_term
+IsFull (Span t (Some e)) = ⊥
 
 -- all of one guard of a region's
 pub record FullPiece (w : PlainAlgebra) (r : Linear) (k : ℕ) (q : Piece) : Type 0 where
@@ -146,6 +148,8 @@ each-full divisible w r k i h =
     (one-full w divisible r k i (Share one_term) (omega arith) tt refl h, tt)
 each-full counting w r k i h =
     (one-full w counting r k i (Src zero_term) (omega arith) tt refl h, tt)
+each-full indexed w r k i h =
+    (one-full w indexed r k i (Span zero_term None) (omega arith) tt refl h, tt)
 each-full (product a b) w r k i h =
     let j = i + atoms a in
     subst (AllByRecursion (FullPiece w r k))
@@ -175,6 +179,8 @@ full-over R w r k ps o h =
     form (Share t) h = subst (Over (R Perm)) (sym h) tt
     form (Src t) h = subst (Over (R Int)) (sym h) tt
     form (Tok t) h = absurd h
+    form (Span t None) h = (subst (Over (R Int)) (sym h) tt, tt)
+    form (Span t (Some e)) h = absurd h
 
 -- pieces of a region, each all of a guard, that compose to this element
 pub record Full (w : PlainAlgebra) (k : ℕ) (v : Valuation) (r : Linear) (ps : List Piece)
@@ -218,6 +224,7 @@ sum-within :
 sum-within unique w i h n x e = absurd (none-some e)
 sum-within divisible w i h n x e = absurd (none-some e)
 sum-within counting w i h n x e = absurd (none-some e)
+sum-within indexed w i h n x e = absurd (none-some e)
 sum-within (product a b) w i h n x e =
     let j = i + atoms a in
     let m = n - sum_count a in

@@ -7,11 +7,12 @@ use Rattle.cap_lin.specs.Values.{Valuation, denominator, amount}
 use Rattle.cap_lin.specs.declared.row.Sort.TheVariants.{Int, Perm}
 use Rattle.cap_galg.specs.declared.fraction.Fraction.{Fraction}
 use Rattle.cap_galg.specs.Fractions.{IsShare}
-use Rattle.cap_galg.specs.Elements.{Element, one, share, src, tokens}
+use Rattle.cap_galg_indices.specs.Sets.{one_index, indices_from}
+use Rattle.cap_galg.specs.Elements.{Element, one, share, src, tokens, indices}
 use Rattle.cap_prog.specs.declared.assertion.Slot.{Slot}
 use Rattle.cap_prog.specs.declared.assertion.Slot.TheVariants.{Any, Is}
 use Rattle.cap_prog.specs.declared.assertion.Asked.{Asked}
-use Rattle.cap_prog.specs.declared.assertion.Asked.TheVariants.{One, Share, Src, Tok}
+use Rattle.cap_prog.specs.declared.assertion.Asked.TheVariants.{One, Share, Src, Tok, At, From}
 use Rattle.cap_gsolve.specs.Meaning.{IsValueOf}
 use Rattle.cap_prog.specs.Scopes.{Scope, SlotFits}
 use Rattle.cap_machine_accounts.specs.Assertions.{SlotIs, IsAsked}
@@ -19,7 +20,7 @@ use Rattle.cap_account_states.proofs.Terms.{Over}
 use Rattle.cap_account_states.proofs.Alike.{Alike, above-zero, value-alike, amount-alike, InScope, fits-over}
 use Rattle.cap_account_states.proofs.Values.{scaled, scaled-denominator}
 use Rattle.cap_account_states.proofs.Asking.{AskedOver}
-use Rattle.cap_galg.specs.Algebras.{PlainAlgebra, unique, divisible, counting}
+use Rattle.cap_galg.specs.Algebras.{PlainAlgebra, unique, divisible, counting, indexed}
 use Rattle.cap_prog.specs.WellFormed.{AskedFits}
 
 abbrev pub AmountIs : Valuation → Slot → ℤ → Type 0
@@ -36,6 +37,8 @@ Wants v (Share s) x =
     × (x ≡ share f)
 Wants v (Src s) x = (n : ℕ) × SlotIs v s (pos n) × (x ≡ src n)
 Wants v (Tok s) x = (k : ℕ) × SlotIs v s (pos k) × (x ≡ tokens k)
+Wants v (At s) x = (i : ℕ) × SlotIs v s (pos i) × (x ≡ indices (one_index i))
+Wants v (From s) x = (i : ℕ) × SlotIs v s (pos i) × (x ≡ indices (indices_from i))
 
 -- it is what assertions ask for
 pub wants-asked : (v : Valuation) (asked : Asked) (x : Element) → Wants v asked x →
@@ -45,6 +48,8 @@ wants-asked v (Share Any) x h = (h.0, h.2, tt, h.5)
 wants-asked v (Share (Is t)) x h = (h.0, h.2, ap (λ z. z *ℤ pos h.0.den) h.3 ∙ h.4, h.5)
 wants-asked v (Src s) x h = h
 wants-asked v (Tok s) x h = h
+wants-asked v (At s) x h = h
+wants-asked v (From s) x h = h
 
 -- ---- at alike values
 
@@ -108,6 +113,8 @@ wants-alike sc v w a (Share (Is t)) x f k h =
     (value-of-alike (InScope sc) v w a t (fits-over sc Perm t f) h.0 i))
 wants-alike sc v w a (Src s) x f k h = (h.0, slot-alike sc v w a s (pos h.0) f h.1, h.2)
 wants-alike sc v w a (Tok s) x f k h = (h.0, slot-alike sc v w a s (pos h.0) f h.1, h.2)
+wants-alike sc v w a (At s) x f k h = (h.0, slot-alike sc v w a s (pos h.0) f h.1, h.2)
+wants-alike sc v w a (From s) x f k h = (h.0, slot-alike sc v w a s (pos h.0) f h.1, h.2)
 
 abbrev pub stays-finer : (v w : Valuation) → IsFiner v w → (asked : Asked) → StaysWanted v w asked
 stays-finer v w k One = tt
@@ -115,6 +122,8 @@ stays-finer v w k (Share Any) = k
 stays-finer v w k (Share (Is t)) = tt
 stays-finer v w k (Src s) = tt
 stays-finer v w k (Tok s) = tt
+stays-finer v w k (At s) = tt
+stays-finer v w k (From s) = tt
 
 -- over a multiple of the denominator all stays
 abbrev pub wants-finer :
@@ -129,4 +138,6 @@ asked-over sc unique One h = tt
 asked-over sc divisible (Share s) h = h
 asked-over sc counting (Src s) h = h
 asked-over sc counting (Tok s) h = h
+asked-over sc indexed (At s) h = h
+asked-over sc indexed (From s) h = h
 asked-over sc b asked h = absurd h

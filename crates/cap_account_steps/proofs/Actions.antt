@@ -1,8 +1,8 @@
 -- A move by an action, matched and proved: values of the action's names, what they say of the
 -- region, and the pieces that its guards are cut out of.
-use Rattle.cap_account_resources.proofs.Lists.{map-at, within, get-first, get-map, all-both, all-first, all-second, all-at}
+use Rattle.cap_account_resources.proofs.Lists.{map-at, within, get-first, get-map, all-more, all-both, all-first, all-second, all-at}
 use Rattle.std.proofs.Common.{◌≡◌, ℕ, ◌+◌, ◌<◌, Bool, true, false, List, [], ◌∷◌, ◌++◌, length, map, Some, None, sym, ap, ◌∙◌, subst, arith}
-use Rattle.std.specs.Prelude.{find, unwrap_or, if◌then◌else◌}
+use Rattle.std.specs.Prelude.{find, filter, not, unwrap_or, if◌then◌else◌}
 use Rattle.std.specs.List.{AllByRecursion}
 use Rattle.cap_lin.specs.Linear.{Linear}
 use Rattle.cap_lin.specs.Values.{Valuation, value}
@@ -22,7 +22,7 @@ use Rattle.cap_goal_spec.specs.States.{PlainFact, PlainEnv, PlainState}
 use Rattle.cap_goal_spec.specs.Environments.{term_of, unbound, region_env}
 use Rattle.cap_rules.specs.Attempts.{Attempt, ◌>>=◌}
 use Rattle.cap_rules.specs.Making.{prove_comparisons}
-use Rattle.cap_rules.specs.Closing.{MovePart, guard, source, target, waits, match_form, match_part, Matched, match_ready, match_all, parts_of, prove_action}
+use Rattle.cap_rules.specs.Closing.{MovePart, guard, source, target, waits, match_form, match_part, Matched, match_ready, match_all, parts_of, is_indexed, indexed_of, match_spans, prove_action}
 use Rattle.cap_account_states.specs.Nodes.{Comes}
 use Rattle.cap_account_states.proofs.Terms.{Over}
 use Rattle.cap_account_states.proofs.Scopes.{rep-length, rep-in}
@@ -42,6 +42,38 @@ use Rattle.cap_account_steps.proofs.Worlds.{AllOver}
 use Rattle.cap_account_states.proofs.Wants.{asked-over}
 use Rattle.cap_account_steps.proofs.Offers.{LeadsTo, form-offers}
 use Rattle.cap_account_steps.proofs.Atoms.{found-at, is-piece, Found}
+use Rattle.cap_account_steps.proofs.Spans.{spans-found}
+
+-- ---- lists in two parts, of which a test is false and true
+
+all-filtered :
+    {X : Type 0} (P : X → Type 0) (t : X → Bool) (xs : List X) → AllByRecursion P xs →
+    AllByRecursion P (filter t xs)
+all-filtered P t [] h = tt
+all-filtered P t (x ∷ xs) h = by (t x) (all-filtered P t xs h.1)
+  where
+    by : (b : Bool) → AllByRecursion P (filter t xs) →
+        AllByRecursion P (if b then x ∷ filter t xs else filter t xs)
+    by true k = (h.0, k)
+    by false k = k
+
+all-whole :
+    {X : Type 0} (P : X → Type 0) (t : X → Bool) (xs : List X) →
+    AllByRecursion P (filter (λ x. not (t x)) xs) → AllByRecursion P (filter t xs) →
+    AllByRecursion P xs
+all-whole P t [] h k = tt
+all-whole {X} P t (x ∷ xs) h k = by (t x) h k (λ a b. all-whole P t xs a b)
+  where
+    others : List X
+    others = filter (λ y. not (t y)) xs
+
+    by :
+        (b : Bool) → AllByRecursion P (if not b then x ∷ others else others) →
+        AllByRecursion P (if b then x ∷ filter t xs else filter t xs) →
+        (AllByRecursion P others → AllByRecursion P (filter t xs) → AllByRecursion P xs) →
+        AllByRecursion P (x ∷ xs)
+    by true a b g = (b.0, g a b.1)
+    by false a b g = (a.0, g a.1 b)
 
 -- ---- environments that go on
 
@@ -143,7 +175,12 @@ module _ (p : PlainProgram) (ks : List ℕ) (v : Valuation) (s : PlainState) (me
         placed = o.placed;
         stays = o.stays;
         says =
-            λ X m. record { form = q.form; found = w.1 ∙ ap Some is; offers = o.says X m };
+            λ X m. record {
+              number = at.0;
+              form = q.form;
+              found = at.1 ∙ ap Some is;
+              offers = o.says X m;
+            };
         comes = o.comes;
       }
   part-leads source h env pl Q c =
@@ -251,28 +288,39 @@ module _ (p : PlainProgram) (ks : List ℕ) (v : Valuation) (s : PlainState) (me
     pub guards : AllByRecursion (Found p v values f.region f.kind s.before) a.guards
 
   pub matches :
-      length f.args + 1 ≡ k.params → (P : Unit {0} → Type 0) →
-      Comes (prove_action s f new a) P → Matches × P tt
-  matches arity P c =
+      (spans : List ℕ) → length f.args + 1 ≡ k.params → (P : Unit {0} → Type 0) →
+      Comes (prove_action s f new a spans) P → Matches × P tt
+  matches spans arity P c =
       let names = unbound (length a.names) in
       let start = region_env f names in
-      let gs = map (λ (g : ℕ × Asked). guard g.0 g.1) a.guards in
+      let fit_at = λ (g : ℕ × Asked). AtomFits sc k g.0 g.1 in
+      let plain = filter (λ (g : ℕ × Asked). not (is_indexed g)) a.guards in
+      let plain-fit = all-filtered fit_at (λ g. not (is_indexed g)) a.guards fits.guards in
+      let indexed-fit = all-filtered fit_at is_indexed a.guards fits.guards in
+      let gs = map (λ (g : ℕ × Asked). guard g.0 g.1) plain in
       let ends = source ∷ target ∷ [] in
-      let last = λ (e : PlainEnv). prove_comparisons s.rows e a.when in
-      let Q = λ (e : PlainEnv). Comes (last e) P in
+      let last = λ (e : PlainEnv) (u : Unit {0}). prove_comparisons s.rows e a.when in
+      let third = λ (e : PlainEnv). match_spans s f e (indexed_of a) spans >>= last e in
+      let Q = λ (e : PlainEnv). Comes (third e) P in
       let ready = match_ready s f new a start [] (parts_of a) in
       let all = λ (m : Matched). match_all s f new a m.env m.waiting in
       let pl = case-placed ks s.sorts k a.names f names arity over.0 over.1
       (rep-length (length a.names) None) (none-bound (Usable ks s.sorts Int) (length a.names)) in
       let n = ready-lead (parts_of a) []
-      (all-both PartFits gs ends (guards-fit a.guards fits.guards) (tt, (tt, tt))) tt start pl Q
-      (comes-more ready (λ m. Comes (all m >>= last) P) (λ m. Comes (all m) Q)
-      (λ m h. comes-bind (all m) last P h) (comes-bind ready (λ m. all m >>= last) P c)) in
+      (all-both PartFits gs ends (guards-fit plain plain-fit) (tt, (tt, tt))) tt start pl Q
+      (comes-more ready (λ m. Comes (all m >>= third) P) (λ m. Comes (all m) Q)
+      (λ m h. comes-bind (all m) third P h) (comes-bind ready (λ m. all m >>= third) P c)) in
       let X = values_in v n.later in
       let means = values-mean sc v n.later in
       let says = (n.says X means).1 in
       let ended = all-second (Says X) gs ends says in
-      let w = comparisons-hold ks sc v s n.later X me n.placed means a.when fits.when P n.comes in (
+      let spanned = spans-found p ks sc v s me f pieces fit n.later n.placed X means (indexed_of a)
+      spans (all-more fit_at (λ (g : ℕ × Asked). AskedOver sc g.1)
+      (λ g h. asked-over sc (atom_algebra k.algebra g.0) g.1 h.form) (indexed_of a) indexed-fit)
+      (λ u. Comes (last n.later u) P)
+      (comes-bind (match_spans s f n.later (indexed_of a) spans) (last n.later) P n.comes) in
+      let w = comparisons-hold ks sc v s n.later X me n.placed means a.when fits.when P
+      spanned.1 in (
         record {
           values = X;
           args =
@@ -281,7 +329,9 @@ module _ (p : PlainProgram) (ks : List ℕ) (v : Valuation) (s : PlainState) (me
           source_is = ended.0;
           target_is = ended.1.0;
           conditions = w.0;
-          guards = guards-say X a.guards (all-first (Says X) gs ends says);
+          guards =
+              all-whole (Found p v X f.region f.kind s.before) is_indexed a.guards
+              (guards-say X plain (all-first (Says X) gs ends says)) spanned.0;
         },
         w.1,
       )

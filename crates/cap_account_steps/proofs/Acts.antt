@@ -1,21 +1,23 @@
--- A heap statement acts: it reads or writes the cell at its address, or swaps its content if that
--- is the expected one.
-use Rattle.cap_account_states.proofs.Terms.{value-number, Over, row-over}
-use Rattle.std.proofs.Common.{◌≡◌, ℕ, ℤ, pos, List, [], ◌∷◌, length, refl, sym, ◌∙◌, Option, Some, Bool, true, false}
-use Rattle.std.specs.Prelude.{flat_map}
-use Rattle.cap_lin.specs.Linear.{Linear, same_number}
+-- A heap statement acts: it reads or writes the cell at its address, swaps its content if that is
+-- the expected one, adds to it, or disposes of the cell.
+use Rattle.cap_account_states.proofs.Terms.{value-number, Over, row-over, over-plus}
+use Rattle.std.proofs.Common.{◌≡◌, ℕ, ℤ, pos, ◌+ℤ◌, List, [], ◌∷◌, length, refl, sym, ap, ◌∙◌, Option, Some, Bool, true, false}
+use Rattle.std.specs.Prelude.{flat_map, remove}
+use Rattle.cap_lin.specs.Linear.{Linear, plus, same_number}
+use Rattle.cap_lin.specs.Steps.{plus_steps}
 use Rattle.cap_lin.specs.Values.{Valuation, value}
 use Rattle.cap_lin.specs.Rows.{row_of}
 use Rattle.cap_lin.specs.declared.row.Row.{Row}
 use Rattle.cap_lin.specs.declared.row.Sort.TheVariants.{Int}
 use Rattle.cap_lin.specs.declared.row.Op.TheVariants.{Eq as Equal, Ne as Unequal}
 use Rattle.cap_lin.proofs.Rows.{row_of-means}
-use Rattle.cap_prog.specs.Program.{PlainAct, set, read, write, cas, alloc, call, fork, branch, loop, check, give_back, Block, PlainFunction}
+use Rattle.cap_lin.proofs.Values.{value-plus}
+use Rattle.cap_prog.specs.Program.{PlainAct, set, read, write, cas, faa, dispose, alloc, call, fork, branch, loop, check, give_back, Block, PlainFunction}
 use Rattle.cap_goal_spec.specs.States.{PlainState, Home, goals_of}
 use Rattle.cap_goal_spec.specs.Environments.{zero_value, one_value}
 use Rattle.cap_goal_spec.specs.Choices.{PlainTrees}
 use Rattle.cap_rules.specs.Attempts.{unit, ◌>>=◌}
-use Rattle.cap_rules.specs.Making.{value_here, with_comparison, with_local}
+use Rattle.cap_rules.specs.Making.{sum, value_here, with_comparison, with_local}
 use Rattle.cap_rules.specs.Closing.{address_of, with_content}
 use Rattle.cap_machine.specs.Machine.{Frame, value_in, with_rest}
 use Rattle.cap_machine_accounts.specs.Assertions.{NameValue}
@@ -24,12 +26,12 @@ use Rattle.cap_account_resources.specs.Parts.{Table}
 use Rattle.cap_account_resources.proofs.Lists.{none-some, all-at}
 use Rattle.cap_account_resources.proofs.Order.{same-int, other-int}
 use Rattle.cap_account_resources.proofs.Stocks.{Stock}
-use Rattle.cap_account_states.proofs.Attempts.{row_added, after-here, after-comparison}
+use Rattle.cap_account_states.proofs.Attempts.{row_added, after-computed, after-here, after-comparison}
 use Rattle.cap_account_states.proofs.Checked.{Checked, Split, children-split}
 use Rattle.cap_account_states.proofs.Meets.{Usable, CellOver}
 use Rattle.cap_account_steps.proofs.Stores.{here, here-value}
 use Rattle.cap_account_steps.proofs.Worlds.{opened_table, after_cas, after_act, recelled}
-use Rattle.cap_account_steps.proofs.Changing.{Ready, here-free, ready-row, ready-local, ready-same, ready-content}
+use Rattle.cap_account_steps.proofs.Changing.{Ready, here-free, ready-row, ready-local, ready-same, ready-content, ready-gone}
 use Rattle.cap_account_steps.proofs.AtCell.{then_close, AtCell}
 
 module _ (p : Checked) (V : Table) (part held : Stock) (ns : List ℤ) (fn : PlainFunction)
@@ -139,6 +141,52 @@ module _ (p : Checked) (V : Table) (part held : Stock) (ns : List ℤ) (fn : Pla
             (term-value a k t);
       }
 
+  add-done :
+      (y : ℕ) (u t : Linear) (k : Cells (faa y u t)) →
+      Done (faa y u t) k (after_act (faa y u t) f b (value k.v.whole k.c.1))
+  add-done y u t k =
+      let a = faa y u t in
+      let w = here k.s t in
+      let sum-of = plus k.c.1 w in
+      let z = content a k in
+      let added = value_in f.store t in
+      let R = Usable k.ks k.s.sorts Int in
+      let s1 = with_content k.s k.j k.c sum-of in
+      let after = with_local s1 y k.c.1 in
+      let last = λ (v : Linear). unit (with_local (with_content k.s k.j k.c v) y k.c.1 ∷ []) in
+      let all = after-here k.s t (λ w. sum k.c.1 w >>= last) (AllTrees a k) k.goals in
+      let each = after-computed sum-of (plus_steps k.c.1 w) last (AllTrees a k) all in
+      let trees = first-trees a k after [] each.1 in
+      let r1 = ready-content p.program V (W a k) part k.ks k.v k.s held h fn fixed (g a k) k.ready
+      k.j k.c k.is (value_in f.store x) k.address sum-of (z +ℤ added)
+      (over-plus R k.c.1 w (content-over a k) (term-over a k t))
+      (value-plus k.v.whole k.c.1 w ∙ ap (λ n. z +ℤ n) (term-value a k t)) in
+      record {
+        t = after;
+        trees = trees.left;
+        opened = refl;
+        goes = trees.first;
+        ready = ready-local p.program V (W a k) part k.ks k.v s1
+            (recelled held (value_in f.store x) z (Some (z +ℤ added))) h fn fixed (g a k) r1 y k.c.1
+            z b (content-over a k) refl;
+      }
+
+  dispose-done :
+      (u : Linear) (k : Cells (dispose u)) →
+      Done (dispose u) k (after_act (dispose u) f b (value k.v.whole k.c.1))
+  dispose-done u k =
+      let a = dispose u in
+      let after = record k.s { cells = remove k.s.cells k.j } in
+      let trees = first-trees a k after [] k.goals.1 in
+      record {
+        t = after;
+        trees = trees.left;
+        opened = refl;
+        goes = trees.first;
+        ready = ready-gone p.program V (W a k) part k.ks k.v k.s held h fn fixed (g a k) k.ready k.j
+            k.c k.is (value_in f.store x) k.address;
+      }
+
   module _ (y : ℕ) (u old new : Linear) (k : Cells (cas y u old new)) where
     abbrev swap : PlainAct
     swap = cas y u old new
@@ -229,6 +277,8 @@ module _ (p : Checked) (V : Table) (part held : Stock) (ns : List ℤ) (fn : Pla
   statement-done (read y u) e k = read-done y u k
   statement-done (write u t) e k = write-done u t k
   statement-done (cas y u old new) e k = swap-done y u old new k _ refl
+  statement-done (faa y u t) e k = add-done y u t k
+  statement-done (dispose u) e k = dispose-done u k
   statement-done (set y t) e k = absurd (none-some e)
   statement-done (alloc y m) e k = absurd (none-some e)
   statement-done (call y m us) e k = absurd (none-some e)

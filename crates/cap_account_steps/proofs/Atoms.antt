@@ -1,8 +1,9 @@
 -- What is asked of different atoms, each cut out of the piece that is found for it, is together
 -- part of what covers the pieces.
-use Rattle.std.proofs.Common.{◌≡◌, ℕ, zero, suc, ◌+◌, Bool, true, false, List, [], ◌∷◌, ◌++◌, map, take, drop, cond, Option, Some, refl, sym, ap, ◌∙◌, arith}
-use Rattle.std.specs.Prelude.{slice_get, nat_eq, find, ◌&&◌}
+use Rattle.std.proofs.Common.{◌≡◌, ◌≢◌, ℕ, zero, suc, ◌+◌, Bool, true, false, List, [], ◌∷◌, ◌++◌, map, take, drop, cond, Option, Some, refl, sym, ap, ◌∙◌, arith}
+use Rattle.std.specs.Prelude.{slice_get, nat_eq, find}
 use Rattle.std.specs.List.{AllByRecursion, IsDistinct}
+use Rattle.std.proofs.lemmas.Bool.Decides.{nat_tests}
 use Rattle.std.proofs.lemmas.Map.Keys.{IsDistinct-head, IsDistinct-tail}
 use Rattle.cap_lin.specs.Linear.{Linear}
 use Rattle.cap_lin.specs.Values.{Valuation, value}
@@ -10,7 +11,7 @@ use Rattle.cap_galg.specs.Elements.{Element}
 use Rattle.cap_galg.specs.Algebras.{PlainAlgebra, IsElement, atom_algebra, atom_element}
 use Rattle.cap_gsolve.specs.declared.piece.Form.{Form}
 use Rattle.cap_gsolve.specs.declared.piece.Piece.{Piece}
-use Rattle.cap_gsolve.specs.Pieces.{piece, of_guards, of_atom}
+use Rattle.cap_gsolve.specs.Pieces.{piece, of_atom}
 use Rattle.cap_gsolve.specs.Meaning.{Fits}
 use Rattle.cap_gsolve.proofs.Held.{part-is}
 use Rattle.cap_prog.specs.declared.assertion.Asked.{Asked}
@@ -43,26 +44,31 @@ found-at {A} test (y ∷ xs) x e = by (test y) refl e (λ g. found-at test xs x 
     by true t g more = (0, g, ap test (sym (some-same y x g)) ∙ t)
     by false t g more = let m = more g in (suc m.0, m.1, m.2)
 
-find-none :
-    {A : Type 0} (test : A → Bool) (xs ys : List A) → AllByRecursion (λ x. test x ≡ false) xs →
-    find test (xs ++ ys) ≡ find test ys
-find-none test [] ys h = refl
-find-none test (x ∷ xs) ys h =
-    ap (λ b. cond b (Some x) (find test (xs ++ ys))) h.0 ∙ find-none test xs ys h.1
+-- ---- an element of a list stays where others take the place of another one
 
--- it stays when others take the place of one that doesn't pass, and they don't either
-find-past :
-    {A : Type 0} (test : A → Bool) (xs : List A) (j : ℕ) (x : A) (new : List A) →
-    slice_get xs j ≡ Some x → test x ≡ false → AllByRecursion (λ y. test y ≡ false) new →
-    find test (take j xs ++ (new ++ drop (j + 1) xs)) ≡ find test xs
-find-past test [] j x new e t h = absurd (none-some e)
-find-past test (y ∷ xs) zero x new e t h =
-    find-none test new xs h
-    ∙ sym (ap (λ b. cond b (Some y) (find test xs)) (ap test (some-same y x e) ∙ t))
-find-past test (y ∷ xs) (suc j) x new e t h =
-    let next : suc j + 1 ≡ suc (j + 1) = omega arith in
-    ap (λ n. find test (take (suc j) (y ∷ xs) ++ (new ++ drop n (y ∷ xs)))) next
-    ∙ ap (cond (test y) (Some y)) (find-past test xs j x new e t h)
+behind :
+    {A : Type 0} (new xs : List A) (j : ℕ) →
+    (m : ℕ) × (slice_get (new ++ xs) m ≡ slice_get xs j)
+behind [] xs j = (j, refl)
+behind (y ∷ new) xs j = let m = behind new xs j in (suc m.0, m.1)
+
+still-there :
+    {A : Type 0} (xs : List A) (j n : ℕ) (x y : A) (new : List A) → slice_get xs j ≡ Some x →
+    slice_get xs n ≡ Some y → x ≢ y →
+    (m : ℕ) × (slice_get (take n xs ++ (new ++ drop (n + 1) xs)) m ≡ Some x)
+still-there [] j n x y new e g ne = absurd (none-some e)
+still-there (z ∷ xs) zero zero x y new e g ne =
+    absurd (ne (sym (some-same z x e) ∙ some-same z y g))
+still-there (z ∷ xs) (suc j) zero x y new e g ne =
+    let m = behind new xs j in (m.0, m.1 ∙ e)
+still-there (z ∷ xs) zero (suc n) x y new e g ne = (0, e)
+still-there (z ∷ xs) (suc j) (suc n) x y new e g ne =
+    let next : suc n + 1 ≡ suc (n + 1) = omega arith in
+    let m = still-there xs j n x y new e g ne in (
+      suc m.0,
+      ap (λ i. slice_get (take (suc n) (z ∷ xs) ++ (new ++ drop i (z ∷ xs))) (suc m.0)) next
+          ∙ m.1,
+    )
 
 -- ---- pieces of a region's atoms
 
@@ -82,27 +88,22 @@ module _ (p : PlainProgram) (v X : Valuation) (r : Linear) (k : ℕ) where
   abbrev b : ℕ → PlainAlgebra
   b i = atom_algebra (algebra_of p k) i
 
-  -- the piece that is found for the atom offers what is asked of it
+  -- a piece of the atom, by its number, offers what is asked of it
   pub record Found (ps : List Piece) (g : ℕ × Asked) : Type 0 where
+    pub number : ℕ
     pub form : Form
-    pub found : find (of_atom r k g.0) ps ≡ Some (piece r k g.0 form)
+    pub found : slice_get ps number ≡ Some (piece r k g.0 form)
     pub offers : Offers (b g.0) v X form g.1
 
   -- a piece of one atom is none of another
-  other-atom : (i j : ℕ) (f : Form) → nat_eq i j ≡ false → of_atom r k j (piece r k i f) ≡ false
-  other-atom i j f e = by (of_guards r k (piece r k i f))
-    where
-      by : (t : Bool) → (t && nat_eq i j) ≡ false
-      by true = e
-      by false = refl
+  other-atom :
+      (i j : ℕ) (f h : Form) → nat_eq i j ≡ false → piece r k j h ≢ piece r k i f
+  other-atom i j f h d e =
+      let same : j ≡ i = ap (λ (q : Piece). q.atom) e in
+      let t : nat_eq i j ≡ true = grind (arith, nat_tests, same) in
+      absurd (let clash : true ≡ false = sym t ∙ d in cc)
 
-  other-atoms :
-      (i j : ℕ) (f : Form) (fs : List Form) → nat_eq i j ≡ false →
-      AllByRecursion (λ q. of_atom r k j q ≡ false) (map (with_form (piece r k i f)) fs)
-  other-atoms i j f [] e = tt
-  other-atoms i j f (x ∷ fs) e = (other-atom i j x e, other-atoms i j f fs e)
-
-  -- where a piece of one atom was cut, the others are found as before
+  -- where a piece of one atom was cut, those of others are still there
   still-found :
       (ps : List Piece) (i : ℕ) (f : Form) (n : ℕ) (left : List Form) (gs : List (ℕ × Asked)) →
       slice_get ps n ≡ Some (piece r k i f) →
@@ -110,16 +111,13 @@ module _ (p : PlainProgram) (v X : Valuation) (r : Linear) (k : ℕ) where
       AllByRecursion (Found ps) gs →
       AllByRecursion (Found (left_pieces ps n (piece r k i f) left)) gs
   still-found ps i f n left [] e d h = tt
-  still-found ps i f n left (g ∷ gs) e d h = (
-    record {
-      form = h.0.form;
-      found =
-          find-past (of_atom r k g.0) ps n (piece r k i f) (map (with_form (piece r k i f)) left) e
-          (other-atom i g.0 f d.0) (other-atoms i g.0 f left d.0) ∙ h.0.found;
-      offers = h.0.offers;
-    },
-    still-found ps i f n left gs e d.1 h.1,
-  )
+  still-found ps i f n left (g ∷ gs) e d h =
+      let w = h.0 in
+      let m = still-there ps w.number n (piece r k g.0 w.form) (piece r k i f)
+      (map (with_form (piece r k i f)) left) w.found e (other-atom i g.0 f w.form d.0) in (
+        record { number = m.0; form = w.form; found = m.1; offers = w.offers },
+        still-found ps i f n left gs e d.1 h.1,
+      )
 
   -- what is asked of one atom, and of others beside it
   asks-of :
@@ -144,16 +142,16 @@ module _ (p : PlainProgram) (v X : Valuation) (r : Linear) (k : ℕ) where
       let i = g.0 in
       let q = piece r k i w.form in
       let left = w.offers.left in
-      let at = found-at (of_atom r k i) ps q w.found in
-      let here = cut-here p v ps at.0 q (value v.whole r) m fit at.1 refl c in
+      let j = w.number in
+      let here = cut-here p v ps j q (value v.whole r) m fit w.found refl c in
       let o = w.offers.cut here.own here.is_own in
-      let own_fits = all-at (λ x. Fits (algebra_of p x.kind) x) ps at.0 q fit at.1 in
+      let own_fits = all-at (λ x. Fits (algebra_of p x.kind) x) ps j q fit w.found in
       let fits = forms-fit p q left own_fits w.offers.takes in
       let u = here.cut o.0 left o.2 fits o.3 in
       let names = map (λ (x : ℕ × Asked). x.0) gs in
-      let more = guards-within gs (left_pieces ps at.0 q left) u.rest
-      (left-fits p ps at.0 q left fit fits) u.covered (IsDistinct-tail nat_eq i names d)
-      (still-found ps i w.form at.0 left gs at.1 (IsDistinct-head nat_eq i names d) h.1) in
+      let more = guards-within gs (left_pieces ps j q left) u.rest
+      (left-fits p ps j q left fit fits) u.covered (IsDistinct-tail nat_eq i names d)
+      (still-found ps i w.form j left gs w.found (IsDistinct-head nat_eq i names d) h.1) in
       let a = mark k (atom_element (algebra_of p k) i o.0) in (
         join_marks p a more.0,
         asks-both g gs a more.0 (asks-of g o.0 o.1 o.2) more.1,

@@ -1,13 +1,13 @@
--- The trees of a bundle, by the roots of a function.
+-- The trees of a bundle, by the roots of a unit.
 use Rattle.std.proofs.Common.{◌≡◌, ℕ, ◌+◌, List, [], ◌∷◌, length, map, arith, refl, sym, ap, Option, Some, zero, suc, ◌<◌, subst, None, inl, inr}
 use Rattle.std.specs.Prelude.{slice_get, option_to_list, flat_map}
 use Rattle.cap_prog.specs.Program.{done, PlainCase, PlainRegionType, PlainFunction, PlainProgram}
 use Rattle.cap_goal_spec.specs.States.{to_run, to_turn, PlainGoal}
 use Rattle.cap_goal_spec.specs.Choices.{PlainTrees, PlainTree, no_trees, tree}
 use Rattle.cap_goal_spec.specs.Roots.{PlainUnit, region_unit, function_unit, LoopPoint, loops_in, at_entry, at_exit, at_loop, home_of, stability, from_given, case_root, loop_roots, function_roots, region_roots, optional_roots, roots, units, all_roots}
-use Rattle.cap_account_states.specs.Nodes.{Children, Deriving}
+use Rattle.cap_account_states.specs.Nodes.{NodePredicate, Children, Deriving}
 use Rattle.cap_account_resources.proofs.Lists.{Among, within, some-same, none-some, among-left, among-right}
-use Rattle.cap_account_states.proofs.Checked.{Checked, derivations}
+use Rattle.cap_account_states.proofs.Checked.{Checked}
 use Rattle.std.specs.List.{AllZip, range_with_len}
 use Rattle.cap_rules.specs.Valid.{RootDerives, Valid}
 
@@ -43,6 +43,12 @@ among-number u n k l =
     let q : 0 + k ≡ k = omega arith in
     subst (λ m. Among (u m) (map u (range_with_len 0 n))) q (among-units u 0 n k l)
 
+-- of each root of the program there are trees of which this holds
+abbrev pub RootsHave : PlainProgram → NodePredicate → Type 0
+RootsHave p N =
+    (g : Option PlainGoal) → Among g (all_roots p) →
+    (ks : PlainTrees) × Children N ks (option_to_list g)
+
 root-trees :
     (p : PlainProgram) (t : Option PlainTree) (g : Option PlainGoal) → RootDerives p t g →
     (ks : PlainTrees) × Children (Deriving p) ks (option_to_list g)
@@ -51,38 +57,40 @@ root-trees p None (Some g) h = absurd h
 root-trees p (Some t) None h = absurd h
 root-trees p (Some t) (Some g) h = (tree t no_trees, ((1, h), tt))
 
--- each root of a unit has trees
-unit-root :
-    (p : PlainProgram) (trees : List (Option PlainTree)) → Valid p trees → (u : PlainUnit) →
-    Among u (units p) → (g : Option PlainGoal) → Among g (roots p u) →
-    (ks : PlainTrees) × Children (Deriving p) ks (option_to_list g)
-unit-root p trees valid u among g k =
-    let z = zip-at (RootDerives p) trees (all_roots p) g valid.derivations
-    (among-flat (roots p) (units p) u g among k) in
+pub valid-roots :
+    (p : PlainProgram) (trees : List (Option PlainTree)) → Valid p trees →
+    RootsHave p (Deriving p)
+valid-roots p trees valid g k =
+    let z = zip-at (RootDerives p) trees (all_roots p) g valid.derivations k in
     root-trees p z.0 g z.1
 
-pub function-root :
-    (p : PlainProgram) (trees : List (Option PlainTree)) → Valid p trees → (n : ℕ)
-    (f : PlainFunction) → slice_get p.functions n ≡ Some f → (g : Option PlainGoal) →
-    Among g (function_roots f n) → (ks : PlainTrees) × Children (Deriving p) ks (option_to_list g)
-function-root p trees valid n f e g k =
-    unit-root p trees valid (function_unit n)
-    (among-right (function_unit n) (map region_unit (range_with_len 0 (length p.regions)))
-    (map function_unit (range_with_len 0 (length p.functions)))
-    (among-number function_unit (length p.functions) n (within p.functions n f e))) g
-    (subst (λ o. Among g (optional_roots o n)) (sym e) k)
+module _ (p : PlainProgram) (N : NodePredicate) (have : RootsHave p N) where
+  unit-root :
+      (u : PlainUnit) → Among u (units p) → (g : Option PlainGoal) → Among g (roots p u) →
+      (ks : PlainTrees) × Children N ks (option_to_list g)
+  unit-root u among g k = have g (among-flat (roots p) (units p) u g among k)
 
-pub region-root :
-    (p : PlainProgram) (trees : List (Option PlainTree)) → Valid p trees → (n : ℕ)
-    (y : PlainRegionType) → slice_get p.regions n ≡ Some y → (g : Option PlainGoal) →
-    Among g (map (case_root y n) y.cases) →
-    (ks : PlainTrees) × Children (Deriving p) ks (option_to_list g)
-region-root p trees valid n y e g k =
-    unit-root p trees valid (region_unit n)
-    (among-left (region_unit n) (map region_unit (range_with_len 0 (length p.regions)))
-    (map function_unit (range_with_len 0 (length p.functions)))
-    (among-number region_unit (length p.regions) n (within p.regions n y e))) g
-    (subst (λ o. Among g (region_roots o n)) (sym e) k)
+  function-root :
+      (n : ℕ) (f : PlainFunction) → slice_get p.functions n ≡ Some f →
+      (g : Option PlainGoal) → Among g (function_roots f n) →
+      (ks : PlainTrees) × Children N ks (option_to_list g)
+  function-root n f e g k =
+      unit-root (function_unit n)
+      (among-right (function_unit n) (map region_unit (range_with_len 0 (length p.regions)))
+      (map function_unit (range_with_len 0 (length p.functions)))
+      (among-number function_unit (length p.functions) n (within p.functions n f e))) g
+      (subst (λ o. Among g (optional_roots o n)) (sym e) k)
+
+  region-root :
+      (n : ℕ) (y : PlainRegionType) → slice_get p.regions n ≡ Some y →
+      (g : Option PlainGoal) → Among g (map (case_root y n) y.cases) →
+      (ks : PlainTrees) × Children N ks (option_to_list g)
+  region-root n y e g k =
+      unit-root (region_unit n)
+      (among-left (region_unit n) (map region_unit (range_with_len 0 (length p.regions)))
+      (map function_unit (range_with_len 0 (length p.functions)))
+      (among-number region_unit (length p.regions) n (within p.regions n y e))) g
+      (subst (λ o. Among g (region_roots o n)) (sym e) k)
 
 -- the roots that bodies and loops begin with have trees
 pub record UnitRoots (p : Checked) : Type 0 where
@@ -99,18 +107,16 @@ pub record UnitRoots (p : Checked) : Type 0 where
       (from_given at_loop f n (length w.invariant.names) w.invariant.items
       (to_turn (home_of at_loop f n) w.block)))
 
-pub unit-roots :
-    (p : PlainProgram) (trees : List (Option PlainTree)) → Valid p trees →
-    UnitRoots (derivations p)
-unit-roots p trees valid = record {
+pub unit-roots : (p : Checked) → RootsHave p.program p.N → UnitRoots p
+unit-roots p have = record {
   bodies =
-      λ n f e. function-root p trees valid n f e
+      λ n f e. function-root p.program p.N have n f e
       (from_given at_entry f n 0 f.requires (to_run (home_of at_entry f n) f.body))
       (inr (inr (inl refl)));
   loops = λ n f e w k.
       let g = from_given at_loop f n (length w.invariant.names) w.invariant.items
       (to_turn (home_of at_loop f n) w.block) in
-      function-root p trees valid n f e g
+      function-root p.program p.N have n f e g
       (inr (inr
       (inr (among-flat (loop_roots f n) (loops_in f.body done) w g k (inr (inl refl))))));
 }
@@ -141,19 +147,18 @@ among-map g [] i x e = absurd (none-some e)
 among-map g (z ∷ xs) zero x e = inl (ap g (some-same z x e))
 among-map g (z ∷ xs) (suc i) x e = inr (among-map g xs i x e)
 
-pub stable-roots :
-    (p : PlainProgram) (trees : List (Option PlainTree)) → Valid p trees →
-    StableRoots (derivations p)
-stable-roots p trees valid = record {
+pub stable-roots : (p : Checked) → RootsHave p.program p.N → StableRoots p
+stable-roots p have = record {
   requires =
-      λ n f e. function-root p trees valid n f e (stability at_entry f n 0 f.requires) (inl refl);
+      λ n f e. function-root p.program p.N have n f e
+      (stability at_entry f n 0 f.requires) (inl refl);
   ensures = λ n f e.
-      function-root p trees valid n f e
+      function-root p.program p.N have n f e
       (stability at_exit f n (length f.ensures.names) f.ensures.items) (inr (inl refl));
   invariants = λ n f e w k.
       let g = stability at_loop f n (length w.invariant.names) w.invariant.items in
-      function-root p trees valid n f e g
+      function-root p.program p.N have n f e g
       (inr (inr (inr (among-flat (loop_roots f n) (loops_in f.body done) w g k (inl refl)))));
   cases = λ n y e i c is.
-      region-root p trees valid n y e (case_root y n c) (among-map (case_root y n) y.cases i c is);
+      region-root p.program p.N have n y e (case_root y n c) (among-map (case_root y n) y.cases i c is);
 }

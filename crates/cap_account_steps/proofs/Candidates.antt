@@ -5,12 +5,17 @@ use Rattle.std.specs.List.{AllByRecursion, list_any}
 use Rattle.cap_lin.specs.Linear.{Linear}
 use Rattle.cap_lin.specs.Steps.{Step}
 use Rattle.cap_lin.specs.declared.row.Row.{Row}
+use Rattle.cap_lin.specs.declared.row.Sort.{Sort}
 use Rattle.cap_lin.specs.declared.row.Sort.TheVariants.{Int}
 use Rattle.cap_lin.specs.declared.row.Op.TheVariants.{Eq as Equal, Le as AtMost}
+use Rattle.cap_gsolve.specs.declared.piece.Form.{Form}
+use Rattle.cap_gsolve.specs.declared.piece.Form.TheVariants.{One, Share, Src, Tok, Span}
+use Rattle.cap_gsolve.specs.declared.piece.Piece.{Piece}
+use Rattle.cap_gsolve.specs.Pieces.{of_guards}
 use Rattle.cap_prog.specs.Program.{PlainRegionType}
 use Rattle.cap_goal_spec.specs.States.{PlainFact, PlainState}
 use Rattle.cap_goal_spec.specs.Environments.{region_env, term_in, term_in_steps}
-use Rattle.cap_goal_spec.specs.Candidates.{MadeRow, bounds, is_over_params, bounds_by, action_bounds, all_candidates, is_made, repeats, without_repeats, later_state, candidates}
+use Rattle.cap_goal_spec.specs.Candidates.{MadeRow, bounds, is_over_params, bounds_by, action_bounds, form_bounds, piece_bounds, all_candidates, is_made, repeats, without_repeats, later_state, candidates}
 use Rattle.cap_rules.specs.Attempts.{Attempt, unit, ◌>>=◌, computed, found}
 use Rattle.cap_rules.specs.Resting.{named_candidates}
 use Rattle.cap_account_states.specs.Nodes.{Comes}
@@ -19,6 +24,8 @@ use Rattle.cap_account_states.proofs.Terms.{Over, vars-more, RowOver, row-over}
 use Rattle.cap_account_states.proofs.Attempts.{comes-bind, after-found, after-need, after-computed}
 use Rattle.cap_account_states.proofs.Meets.{Free, Usable}
 use Rattle.cap_account_states.proofs.Environments.{in-env-over, region-env-over}
+use Rattle.cap_account_states.proofs.Guarding.{FormOver}
+use Rattle.cap_account_states.proofs.Adding.{PieceOver}
 use Rattle.cap_account_steps.proofs.Settling.{IsCandidate}
 
 -- ---- lists
@@ -53,6 +60,11 @@ few-over R seen (m ∷ ms) h =
     (m ∷ without_repeats (m ∷ seen) ms) (few-over R seen ms h.1)
     (h.0, few-over R (m ∷ seen) ms h.1)
 
+-- the start of a span
+abbrev StartOver : (ℕ → Type 0) → Form → Type 0
+StartOver R (Span t e) = Over R t
+StartOver R f = Unit {0}
+
 module _ (R : ℕ → Type 0) (k : PlainRegionType) (f : PlainFact) (u : Linear)
     (region : Over R f.region) (args : AllByRecursion (Over R) f.args) (later : Over R u) where
   bounds-over : (steps : List Step) (e : Linear) → Over R e →
@@ -85,6 +97,23 @@ module _ (R : ℕ → Type 0) (k : PlainRegionType) (f : PlainFact) (u : Linear)
             (typed-over a.source) (typed-over a.target)) k.actions)),
       )
 
+  -- bounds by the spans of the region's guards
+  form-over : (g : Form) → StartOver R g → AllByRecursion (MadeOver R) (form_bounds u g)
+  form-over (Span t e) h = bounds-over [] t h
+  form-over One h = tt
+  form-over (Share t) h = tt
+  form-over (Src t) h = tt
+  form-over (Tok t) h = tt
+
+  spans-over :
+      (qs : List Piece) → AllByRecursion (λ q. StartOver R q.form) qs →
+      AllByRecursion (MadeOver R) (flat_map (piece_bounds f u) qs)
+  spans-over [] h = tt
+  spans-over (q ∷ qs) h =
+      all-both (MadeOver R) (piece_bounds f u q) (flat_map (piece_bounds f u) qs)
+      (all-chosen (MadeOver R) (of_guards f.region f.kind q) (form_bounds u q.form) []
+      (form-over q.form h.0) tt) (spans-over qs h.1)
+
 -- ---- those that are named
 
 named-over :
@@ -106,6 +135,15 @@ named-over R all h low (i ∷ list) P c =
     (comes-bind (named_candidates (i + 1) all list) (last m.row) P k3) in
     (m.row ∷ k4.0, (all-at (MadeOver R) all i m h k2.1, k4.1), k4.2.1)
 
+start-over :
+    (S : Sort → ℕ → Type 0) (R : ℕ → Type 0) → ((t : Linear) → Over (S Int) t → Over R t) →
+    (g : Form) → FormOver S g → StartOver R g
+start-over S R more (Span t e) h = more t h.0
+start-over S R more One h = tt
+start-over S R more (Share t) h = tt
+start-over S R more (Src t) h = tt
+start-over S R more (Tok t) h = tt
+
 -- the named candidates of a fact in a state
 pub record Named (ks : List ℕ) (s : PlainState) (P : List Row → Type 0) : Type 0 where
   pub rows : List Row
@@ -117,9 +155,9 @@ pub named-candidates :
     (ks : List ℕ) (k : PlainRegionType) (s : PlainState) (f : PlainFact) (low : ℕ) (list : List ℕ)
     (P : List Row → Type 0) → Free ks (length s.sorts) →
     Over (Usable ks s.sorts Int) f.region → AllByRecursion (Over (Usable ks s.sorts Int)) f.args →
-    Over (Usable ks s.sorts Int) f.state → Comes (named_candidates low (candidates k s f) list) P →
-    Named ks s P
-named-candidates ks k s f low list P free region args state c =
+    Over (Usable ks s.sorts Int) f.state → AllByRecursion (PieceOver (Usable ks s.sorts)) s.guards →
+    Comes (named_candidates low (candidates k s f) list) P → Named ks s P
+named-candidates ks k s f low list P free region args state pieces c =
     let sorts = s.sorts ++ Int ∷ [] in
     let R = Usable ks sorts Int in
     let K = λ (x : ℕ). slice_get sorts x ≡ Some Int in
@@ -129,7 +167,15 @@ named-candidates ks k s f low list P free region args state c =
     let all = all-over R k f (later_state s) (more f.region region)
     (all-more (Over (Usable ks s.sorts Int)) (Over R) more f.args args)
     ((get-last s.sorts Int, free), tt) (more f.state state) in
-    let n = named-over R (candidates k s f) (few-over R [] (all_candidates k f (later_state s)) all)
+    let u = later_state s in
+    let starts = all-more (PieceOver (Usable ks s.sorts)) (λ (q : Piece). StartOver R q.form)
+    (λ q h. start-over (Usable ks s.sorts) R more q.form h.1) s.guards pieces in
+    let spans = spans-over R k f u (more f.region region)
+    (all-more (Over (Usable ks s.sorts Int)) (Over R) more f.args args)
+    ((get-last s.sorts Int, free), tt) s.guards starts in
+    let n = named-over R (candidates k s f)
+    (few-over R [] (all_candidates k f u ++ flat_map (piece_bounds f u) s.guards)
+    (all-both (MadeOver R) (all_candidates k f u) (flat_map (piece_bounds f u) s.guards) all spans))
     low list P c in
     record {
       rows = n.0;

@@ -1,8 +1,8 @@
--- While regions are open a statement acts on one cell: rows come, the cell gets another content and
--- a local another value.
+-- While regions are open a statement acts on one cell: rows come, the cell gets another content or
+-- goes, and a local gets another value.
 use Rattle.cap_account_states.proofs.Environments.{all-vars}
-use Rattle.std.proofs.Common.{◌≡◌, ℕ, ◌≤◌, ℤ, pos, ◌<ℤ◌, List, [], ◌∷◌, Some, arith, ap, ◌∙◌}
-use Rattle.std.specs.Prelude.{slice_get}
+use Rattle.std.proofs.Common.{◌≡◌, ℕ, ◌≤◌, ℤ, pos, ◌<ℤ◌, List, [], ◌∷◌, Some, None, arith, ap, ◌∙◌}
+use Rattle.std.specs.Prelude.{slice_get, remove}
 use Rattle.std.specs.List.{AllByRecursion}
 use Rattle.cap_lin.specs.Linear.{Linear}
 use Rattle.cap_lin.specs.Values.{Valuation, value}
@@ -16,7 +16,7 @@ use Rattle.cap_rules.specs.Making.{in_store, with_local}
 use Rattle.cap_rules.specs.Closing.{with_content}
 use Rattle.cap_machine.specs.Machine.{Frame, with_rest, with_value}
 use Rattle.cap_machine_accounts.specs.Assertions.{NameValue}
-use Rattle.cap_account_resources.proofs.Lists.{all-set, all-at}
+use Rattle.cap_account_resources.proofs.Lists.{all-set, all-at, all-remove}
 use Rattle.cap_account_resources.specs.Parts.{one_cell, Table}
 use Rattle.cap_account_resources.proofs.Stocks.{Stock}
 use Rattle.cap_account_resources.proofs.Tables.{FitsRoom}
@@ -24,6 +24,7 @@ use Rattle.cap_account_states.proofs.Terms.{Over, RowOver, vars-more, over-over}
 use Rattle.cap_account_states.proofs.Attempts.{row_added}
 use Rattle.cap_account_states.proofs.Meets.{Usable, CellOver, Meets, meets-row}
 use Rattle.cap_account_states.proofs.Backed.{Backed}
+use Rattle.cap_account_assertions.proofs.TakeCells.{need-apart}
 use Rattle.cap_account_steps.proofs.Stores.{Store, here, get-over}
 use Rattle.cap_account_steps.proofs.Cells.{Cell, need-one, need-set, store-local}
 use Rattle.cap_account_steps.proofs.Worlds.{Earlier, IfAny, Closing, recelled}
@@ -71,6 +72,18 @@ meets-content ks v s j c u m is o =
       positive = all-set Positive s.cells j (c.0, u) m.positive up;
       store_over = m.store_over;
     }
+
+pub meets-gone :
+    (ks : List ℕ) (v : Valuation) (s : PlainState) (j : ℕ) → Meets ks v s →
+    Meets ks v (record s { cells = remove s.cells j })
+meets-gone ks v s j m = record {
+  sorted = m.sorted;
+  rows = m.rows;
+  rows_over = m.rows_over;
+  cells_over = all-remove (CellOver (Usable ks s.sorts)) s.cells j m.cells_over;
+  positive = all-remove (λ (d : Cell). pos 0 <ℤ value v.whole d.0) s.cells j m.positive;
+  store_over = m.store_over;
+}
 
 -- ---- and of a frame, while regions are open
 
@@ -213,6 +226,33 @@ module _ (p : PlainProgram) (V W : Table) (part : Stock) (ks : List ℕ) (v : Va
                       ∙ ap (λ n. one_cell a n x y) e in
                       let le = b.cells x y in
                       omega (arith, set, one, here, there, le);
+                  guards = b.guards;
+                })
+                k.closing.room;
+            over = k.over;
+            store = record {
+              home = k.store.home;
+              store = k.store.store;
+              fixed_are = k.store.fixed_are;
+              fixed_known = k.store.fixed_known;
+            };
+          }
+
+      -- it goes
+      pub ready-gone :
+          Ready p V W part ks v (record s { cells = remove s.cells j })
+          (recelled held a (value v.whole c.1) None) h fn fixed f
+      ready-gone =
+          let t = record s { cells = remove s.cells j } in
+          record {
+            closing = closing-changed s.rows t.cells s.store (recelled held a z None) k.closing
+                (meets-gone ks v s j m)
+                (record {
+                  cells = λ x y.
+                      let apart = need-apart v s.cells j c is x y in
+                      let here = at-address x y in
+                      let le = b.cells x y in
+                      omega (arith, apart, here, le);
                   guards = b.guards;
                 })
                 k.closing.room;

@@ -25,6 +25,7 @@ use Rattle.cap_account_resources.proofs.Covering.{join_marks, first-some, free-r
 use Rattle.cap_account_resources.proofs.Interference.{AsksAtoms, less-composes}
 use Rattle.cap_account_states.proofs.Wanting.{NamesOk}
 use Rattle.cap_account_states.proofs.Asking.{AskedOver, SlotsOk, forms_over, form-element}
+use Rattle.cap_account_states.proofs.Pieces.{composed-sound}
 
 -- ---- marks of one type
 
@@ -166,7 +167,8 @@ module _ (p : PlainProgram) (X w : Valuation) (k : ℕ) where
       (ap (λ z. join_marks p z (mark c.kind c.element)) y.is_mark
       ∙ (ap (join_marks p (mark k y.element)) same ∙ e))) in
       compat-means (algebra_of p k) ps r k ws w c.element y.element j.element held y.is
-      (compose-comm c.element y.element ∙ j.composed)
+      (compose-comm c.element y.element (composed-sound (algebra_of p k) k w n ps c.element held)
+      (composed-sound (algebra_of p k) k w n (wanted_pieces r k ws) y.element y.is) ∙ j.composed)
 
   pub are-forms :
       (sc : Scope) (normal : (x : ℕ) → HasSort sc Int x → IsWholeAt X x) (ts : List Linear)

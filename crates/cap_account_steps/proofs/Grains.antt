@@ -10,7 +10,7 @@ use Rattle.cap_lin.specs.declared.row.Sort.TheVariants.{Int}
 use Rattle.cap_galg.specs.Elements.{Element}
 use Rattle.cap_prog.specs.declared.assertion.Slot.TheVariants.{Any, Is}
 use Rattle.cap_prog.specs.declared.assertion.Asked.{Asked}
-use Rattle.cap_prog.specs.declared.assertion.Asked.TheVariants.{One, Share, Src, Tok}
+use Rattle.cap_prog.specs.declared.assertion.Asked.TheVariants.{One, Share, Src, Tok, At, From}
 use Rattle.cap_prog.specs.Program.{PlainProgram}
 use Rattle.cap_prog.specs.Scopes.{Scope, HasSort}
 use Rattle.cap_machine_accounts.specs.Assertions.{IsAsked}
@@ -42,7 +42,11 @@ asked-like sc a b l (Share (Is t)) x f h = (
 asked-like sc a b l (Src Any) x f h = h
 asked-like sc a b l (Src (Is t)) x f h = (h.0, like-value sc a b l t f ∙ h.1, h.2)
 asked-like sc a b l (Tok Any) x f h = h
+asked-like sc a b l (At Any) x f h = h
+asked-like sc a b l (From Any) x f h = h
 asked-like sc a b l (Tok (Is t)) x f h = (h.0, like-value sc a b l t f ∙ h.1, h.2)
+asked-like sc a b l (At (Is t)) x f h = (h.0, like-value sc a b l t f ∙ h.1, h.2)
+asked-like sc a b l (From (Is t)) x f h = (h.0, like-value sc a b l t f ∙ h.1, h.2)
 
 abbrev pub AllOver : Scope → List (ℕ × Asked) → Type 0
 AllOver sc gs = AllByRecursion (λ g. AskedOver sc g.1) gs
@@ -73,6 +77,8 @@ grain_one X (Share Any) x h = h.0.den
 grain_one X (Share (Is t)) x h = 1
 grain_one X (Src s) x h = 1
 grain_one X (Tok s) x h = 1
+grain_one X (At s) x h = 1
+grain_one X (From s) x h = 1
 
 abbrev pub grain :
     (p : PlainProgram) (X : Valuation) (k : ℕ) (gs : List (ℕ × Asked)) (m : Option Mark) →
@@ -91,6 +97,8 @@ grain-one-positive X (Share Any) x h =
 grain-one-positive X (Share (Is t)) x h = omega arith
 grain-one-positive X (Src s) x h = omega arith
 grain-one-positive X (Tok s) x h = omega arith
+grain-one-positive X (At s) x h = omega arith
+grain-one-positive X (From s) x h = omega arith
 
 both-positive : (x y : ℕ) → 0 < x → 0 < y → 0 < x * y
 both-positive zero y h g = absurd (omega (arith, h))
@@ -115,6 +123,8 @@ grain-one-like sc a b l (Share Any) x f h = refl
 grain-one-like sc a b l (Share (Is t)) x f h = refl
 grain-one-like sc a b l (Src s) x f h = refl
 grain-one-like sc a b l (Tok s) x f h = refl
+grain-one-like sc a b l (At s) x f h = refl
+grain-one-like sc a b l (From s) x f h = refl
 
 grain-like :
     (p : PlainProgram) (k : ℕ) (sc : Scope) (a b : Valuation) (l : Like sc a b)
@@ -136,6 +146,8 @@ is-fine X (Share Any) x h q e = (q, e)
 is-fine X (Share (Is t)) x h q e = tt
 is-fine X (Src s) x h q e = tt
 is-fine X (Tok s) x h q e = tt
+is-fine X (At s) x h q e = tt
+is-fine X (From s) x h q e = tt
 
 first-of : (q d g : ℤ) → q *ℤ (d *ℤ g) ≡ q *ℤ g *ℤ d
 first-of q d g = simp expand (omega (arith, ints, product3))

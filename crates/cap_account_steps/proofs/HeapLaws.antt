@@ -5,7 +5,7 @@ use Rattle.cap_lin.specs.Linear.{Linear}
 use Rattle.cap_lin.specs.Values.{Valuation}
 use Rattle.cap_lin.specs.declared.row.Sort.TheVariants.{Int}
 use Rattle.cap_farkas.specs.declared.cert.Cert.{Cert}
-use Rattle.cap_prog.specs.Program.{Label, PlainAct, set, read, write, cas, alloc, call, fork, branch, loop, check, give_back, Block, first, PlainFunction}
+use Rattle.cap_prog.specs.Program.{Label, PlainAct, set, read, write, cas, faa, dispose, alloc, call, fork, branch, loop, check, give_back, Block, first, PlainFunction}
 use Rattle.cap_prog.specs.WellFormed.{IsWellFormed}
 use Rattle.cap_goal_spec.specs.States.{PlainState, Home}
 use Rattle.cap_goal_spec.specs.Choices.{PlainTree, node, by_absurd, by_clash, by_enter, by_act, PlainTrees}
@@ -95,6 +95,8 @@ module _ (p : Checked) (program : IsWellFormed p.program) (give : GivenAlongLaw 
   acts-at fuel n e (read y t) x is ok d o = absurd (p.step o.valid).1
   acts-at fuel n e (write t u) x is ok d o = absurd (p.step o.valid).1
   acts-at fuel n e (cas y t u w) x is ok d o = absurd (p.step o.valid).1
+  acts-at fuel n e (faa y t u) x is ok d o = absurd (p.step o.valid).1
+  acts-at fuel n e (dispose t) x is ok d o = absurd (p.step o.valid).1
   acts-at fuel n e (set y t) x is ok d o = absurd (none-some is)
   acts-at fuel n e (alloc y m) x is ok d o = absurd (none-some is)
   acts-at fuel n e (call y m us) x is ok d o = absurd (none-some is)

@@ -19,6 +19,7 @@ pub mod Entries
 pub mod Bundles
 pub mod Offers
 pub mod Atoms
+pub mod Spans
 pub mod Returning
 pub mod Exact
 pub mod Turning

@@ -9,6 +9,7 @@ use Rattle.cap_lin.specs.declared.row.Op.TheVariants.{Eq as Equal}
 use Rattle.cap_prog.specs.Program.{PlainAction, PlainRegionType, PlainProgram}
 use Rattle.cap_prog.specs.WellFormed.{ActionFits, RegionFits}
 use Rattle.cap_goal_spec.specs.States.{PlainFact, PlainState}
+use Rattle.cap_rules.specs.Making.{is_empty, prove_equal}
 use Rattle.cap_rules.specs.Closing.{prove_action, prove_move}
 use Rattle.cap_account_states.specs.Nodes.{Comes}
 use Rattle.cap_account_resources.proofs.Marks.{Mark}
@@ -16,7 +17,7 @@ use Rattle.cap_account_resources.proofs.Interference.{Can}
 use Rattle.cap_account_resources.proofs.Lists.{all-more, all-at}
 use Rattle.cap_account_resources.proofs.Stocks.{Stock}
 use Rattle.cap_account_states.proofs.Terms.{Over, vars-more}
-use Rattle.cap_account_states.proofs.Attempts.{after-found, comes-proved}
+use Rattle.cap_account_states.proofs.Attempts.{after-found, after-need, comes-proved}
 use Rattle.cap_account_states.proofs.Meets.{Usable, Meets}
 use Rattle.cap_account_states.proofs.Guarding.{proved-relates}
 use Rattle.cap_account_steps.proofs.Worlds.{AllOver, Earlier}
@@ -69,21 +70,23 @@ module _ (p : PlainProgram) (ks : List ℕ) (v : Valuation) (s : PlainState) (me
     (later : Over (Usable ks s.sorts Int) new) (P : Unit {0} → Type 0) where
   -- move 0 keeps the state
   pub kept-says :
-      Comes (prove_move k s f new 0) P → (value v.whole new ≡ value v.whole f.state) × P tt
-  kept-says c =
-      let w = comes-proved s.rows new Equal f.state Int P c in
+      (spans : List ℕ) → Comes (prove_move k s f new 0 spans) P →
+      (value v.whole new ≡ value v.whole f.state) × P tt
+  kept-says spans c =
+      let q = after-need (is_empty spans) (λ u. prove_equal s new f.state) P c in
+      let w = comes-proved s.rows new Equal f.state Int P q.1 in
       (proved-relates ks v s new Equal f.state Int me w.0 later is.over.2, w.1)
 
   -- its guards are cut out of what covers the pieces that were there before
   action-says :
       (part : Stock) → Earlier p ks v s part → (i : ℕ) (a : PlainAction) →
-      slice_get k.actions i ≡ Some a →
-      Comes (prove_action s f new a) P → MovesTo p part v f new × P tt
-  action-says part before i a e c =
+      slice_get k.actions i ≡ Some a → (spans : List ℕ) →
+      Comes (prove_action s f new a spans) P → MovesTo p part v f new × P tt
+  action-says part before i a e spans c =
       let fits = all-at (ActionFits k) k.actions i a is.fits.actions e in
       let n = value v.whole f.region in
-      let m = matches p ks v s me f is.over k new later a fits before.over before.fit is.arity
-      P c in
+      let m = matches p ks v s me f is.over k new later a fits before.over before.fit spans
+      is.arity P c in
       let w = guards-within p v m.0.values f.region f.kind a.guards s.before (part.guards n)
       before.fit (before.covered n) fits.distinct m.0.guards in (
         inr (
@@ -107,9 +110,9 @@ module _ (p : PlainProgram) (ks : List ℕ) (v : Valuation) (s : PlainState) (me
       )
 
   pub move-says :
-      (part : Stock) → Earlier p ks v s part → (m : ℕ) → Comes (prove_move k s f new m) P →
-      MovesTo p part v f new × P tt
-  move-says part before zero c = let w = kept-says c in (inl w.0, w.1)
-  move-says part before (suc i) c =
-      let w = after-found (slice_get k.actions i) (prove_action s f new) P c in
-      action-says part before i w.0 w.1 w.2
+      (part : Stock) → Earlier p ks v s part → (m : ℕ) (spans : List ℕ) →
+      Comes (prove_move k s f new m spans) P → MovesTo p part v f new × P tt
+  move-says part before zero spans c = let w = kept-says spans c in (inl w.0, w.1)
+  move-says part before (suc i) spans c =
+      let w = after-found (slice_get k.actions i) (λ a. prove_action s f new a spans) P c in
+      action-says part before i w.0 w.1 spans w.2

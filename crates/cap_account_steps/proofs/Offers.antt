@@ -37,7 +37,8 @@ use Rattle.cap_account_states.proofs.Alike.{alike-same}
 use Rattle.cap_account_states.proofs.Wants.{Wants, share-wants}
 use Rattle.cap_account_states.proofs.Naming.{Placed, Means, Stays}
 use Rattle.cap_account_states.proofs.Asking.{AskedOver}
-use Rattle.cap_account_states.proofs.Cutting.{Cuts, cut-all}
+use Rattle.cap_gsolve.proofs.CutSpans.{Cuts}
+use Rattle.cap_account_states.proofs.Cutting.{cut-all}
 use Rattle.cap_account_states.proofs.Guarding.{FormOver, is_open, is_open_reading, CutOk, settled-slot, proved-relates, shared, form-cut}
 use Rattle.cap_account_states.proofs.Halving.{binding}
 

@@ -112,10 +112,11 @@ module _ (p : Checked) (V W : Table) (part : Stock) (ks : List ℕ) (v : Valuati
   earlier : Earlier p.program ks w t part
   earlier = known-open t.opened ct.o f (Earlier p.program ks w t part) is_f ct.closing.earlier
 
-  abbrev ShiftedHere : PlainTrees → Type 0
-  ShiftedHere kids = Shifted p.N ks ct.w ct.t ct.o ct.move ct.env ct.f ct.k ct.x ts kids
+  abbrev ShiftedHere : List ℕ → PlainTrees → Type 0
+  ShiftedHere spans kids =
+      Shifted p.N ks ct.w ct.t spans ct.o ct.move ct.env ct.f ct.k ct.x ts kids
 
-  module _ (kids : PlainTrees) (sh : ShiftedHere kids) where
+  module _ (spans : List ℕ) (kids : PlainTrees) (sh : ShiftedHere spans kids) where
     abbrev g : PlainFact
     g = with_state ct.f sh.new
 
@@ -141,7 +142,7 @@ module _ (p : Checked) (V W : Table) (part : Stock) (ks : List ℕ) (v : Valuati
     moves : MovesTo p.program part w f sh.new × Goes
     moves =
         move-says p.program ks w t ct.closing.grounded.meets f k ct.movable sh.new sh.over
-        (λ _. Goes) part earlier ct.move sh.moves
+        (λ _. Goes) part earlier ct.move spans sh.moves
 
     moved : HasMoved p.program V part r
     moved = record { state = value w.whole f.state; was = this-open.1; moves = moves.0 }
@@ -334,11 +335,11 @@ module _ (p : Checked) (V W : Table) (part : Stock) (ks : List ℕ) (v : Valuati
       RegionClosed p V W part ks v s held ts
   shift-closes (node (by_absurd cs) kids) h =
       absurd ((p.step h).0.0 w (solves ks w t ct.closing.grounded.meets))
-  shift-closes (node (by_shift cs) kids) h =
+  shift-closes (node (by_shift cs spans) kids) h =
       let none = none-other ks w T t f None ct.closing.facts this-open.2 in
-      let sh = shifted p.program p.N ks w t ct.closing.grounded.meets ct.o ct.number ct.move ct.env
-      ts kids f k ct.x is_f ct.is_case ct.movable ct.placed none (p.step h) in
-      region-closed kids sh (joined kids sh)
+      let sh = shifted p.program p.N ks w t ct.closing.grounded.meets spans ct.o ct.number ct.move
+      ct.env ts kids f k ct.x is_f ct.is_case ct.movable ct.placed none (p.step h) in
+      region-closed spans kids sh (joined spans kids sh)
   shift-closes d h = absurd (p.step h).1
 
 pub close-closes :

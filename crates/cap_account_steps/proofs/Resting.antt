@@ -24,7 +24,7 @@ use Rattle.cap_account_resources.proofs.Covering.{Covered}
 use Rattle.cap_account_resources.proofs.Stocks.{Stock}
 use Rattle.cap_account_states.proofs.Terms.{RowOver}
 use Rattle.cap_account_states.proofs.Attempts.{comes-bind, comes-more, after-found, after-sort, after-computed, sort_added}
-use Rattle.cap_account_states.proofs.Adding.{comes-rows}
+use Rattle.cap_account_states.proofs.Adding.{PieceOver, comes-rows}
 use Rattle.cap_account_states.proofs.Checked.{Checked, lone-child}
 use Rattle.cap_account_states.proofs.Meets.{Free, Usable, solves}
 use Rattle.cap_account_states.proofs.Backed.{IsFirm, Grounded}
@@ -55,15 +55,16 @@ record SettledBy (ks : List ℕ) (k : PlainRegionType) (s : PlainState) (j : ℕ
 comes-settle :
     (ks : List ℕ) (k : PlainRegionType) (s : PlainState) (j : ℕ) (f : PlainFact)
     (list : List ℕ) (Q : PlainState → Type 0) → Free ks (length s.sorts) →
-    AllOver (Usable ks s.sorts Int) f → Comes (settle k s j f list) Q → SettledBy ks k s j f Q
-comes-settle ks k s j f list Q new over h =
+    AllOver (Usable ks s.sorts Int) f → AllByRecursion (PieceOver (Usable ks s.sorts)) s.guards →
+    Comes (settle k s j f list) Q → SettledBy ks k s j f Q
+comes-settle ks k s j f list Q new over pieces h =
     let g = with_state f (later_state s) in
     let third = λ (named : List Row) (x : Unit {0}). with_settled s j f named in
     let second = λ (named : List Row) (x : Unit {0}).
     prove_stable k s f named k.actions >>= third named in
     let first = λ (named : List Row). prove_at s s.rows f.state named >>= second named in
     let n = named-candidates ks k s f 1 list (λ named. Comes (first named) Q) new over.0 over.1
-    over.2 (comes-bind (named_candidates 1 (candidates k s f) list) first Q h) in
+    over.2 pieces (comes-bind (named_candidates 1 (candidates k s f) list) first Q h) in
     let at = comes-at s s.rows f.state n.rows (λ x. Comes (second n.rows x) Q)
     (comes-bind (prove_at s s.rows f.state n.rows) (second n.rows) Q n.comes) in
     let R = λ (x : Unit {0}). Comes (third n.rows x) Q in
@@ -196,7 +197,7 @@ module _ (p : Checked) (ks : List ℕ) (part : Stock) (T U : Table)
       let turn = turn-of j v s mid f.0 f.1 k.0 k.1 in
       let r = comes-settle ks k.0 s j f.0 list
       (λ t. Comes (last t) P) (new-free p.program ks part T U j v s turn)
-      (own p.program ks part T U j v s turn)
+      (own p.program ks part T U j v s turn) mid.grounded.pieces_over
       (comes-bind (settle k.0 s j f.0 list) last P k.2) in
       record {
         state = settled_state s j f.0 r.named;

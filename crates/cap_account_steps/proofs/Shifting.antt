@@ -152,8 +152,8 @@ comes-closed s o f new Q none h =
 -- a term for the case's state; what the case says of its names' values; and that the region moves
 -- to that state, in which its fact joins the others
 pub record Shifted (N : NodePredicate) (ks : List ℕ) (v : Valuation) (s : PlainState)
-    (o m e : ℕ) (f : PlainFact) (k : PlainRegionType) (x : PlainCase) (ts : List PlainTask)
-    (kids : PlainTrees) : Type 0 where
+    (spans : List ℕ) (o m e : ℕ) (f : PlainFact) (k : PlainRegionType) (x : PlainCase)
+    (ts : List PlainTask) (kids : PlainTrees) : Type 0 where
   pub new : Linear
   pub over : Over (Usable ks s.sorts Int) new
   pub state_is :
@@ -163,11 +163,11 @@ pub record Shifted (N : NodePredicate) (ks : List ℕ) (v : Valuation) (s : Plai
       (X : Valuation) → Means (region_scope k x.names) v (env_at s e) X →
       AllByRecursion (CompHolds X) x.when
   pub moves :
-      Comes (prove_move k s f new m)
+      Comes (prove_move k s f new m spans)
       (λ _. Open N kids (closed_state s o (with_state f new)) ts)
 
 module _ (p : PlainProgram) (N : NodePredicate) (ks : List ℕ) (v : Valuation) (s : PlainState)
-    (me : Meets ks v s) (o c m e : ℕ) (ts : List PlainTask) (kids : PlainTrees) where
+    (me : Meets ks v s) (spans : List ℕ) (o c m e : ℕ) (ts : List PlainTask) (kids : PlainTrees) where
   abbrev env : PlainEnv
   env = env_at s e
 
@@ -179,7 +179,7 @@ module _ (p : PlainProgram) (N : NodePredicate) (ks : List ℕ) (v : Valuation) 
   from_move f new = with_closed s o f new >>= λ s'. leaves s' ts
 
   abbrev from_state : PlainFact → PlainRegionType → Linear → Attempt (List PlainGoal)
-  from_state f k new = prove_move k s f new m >>= λ _. from_move f new
+  from_state f k new = prove_move k s f new m spans >>= λ _. from_move f new
 
   abbrev with_case : PlainFact → PlainRegionType → PlainCase → Attempt (List PlainGoal)
   with_case f k x =
@@ -196,7 +196,7 @@ module _ (p : PlainProgram) (N : NodePredicate) (ks : List ℕ) (v : Valuation) 
       slice_get k.cases c ≡ Some x → Movable p ks s f k →
       Placed ks (region_scope k x.names) s.sorts env →
       list_any (is_of_other_type f) s.facts ≡ false →
-      Comes (at_shift p s o c m e ts) After → Shifted N ks v s o m e f k x ts kids
+      Comes (at_shift p s spans o c m e ts) After → Shifted N ks v s spans o m e f k x ts kids
   shifted f k x is_f is_x is pl none h =
       let sc = region_scope k x.names in
       let fits = all-at (CaseFits p k) k.cases c x is.fits.cases is_x in
@@ -220,9 +220,9 @@ module _ (p : PlainProgram) (N : NodePredicate) (ks : List ℕ) (v : Valuation) 
         state_is = λ X n. term-number sc v env X Int x.state n fits.state names;
         conditions = λ X n. (said X n).0;
         moves =
-            comes-more (prove_move k s f new m) (λ u. Comes (last u) After)
+            comes-more (prove_move k s f new m spans) (λ u. Comes (last u) After)
             (λ _. Open N kids (closed_state s o (with_state f new)) ts)
             (λ u w. (comes-closed s o f new (λ t. Comes (leave t) After) none
             (comes-bind (with_closed s o f new) leave After w)).1)
-            (comes-bind (prove_move k s f new m) last After d.1);
+            (comes-bind (prove_move k s f new m spans) last After d.1);
       }

@@ -5,7 +5,7 @@ use Rattle.std.specs.List.{AllByRecursion}
 use Rattle.cap_lin.specs.Linear.{variable}
 use Rattle.cap_lin.specs.declared.row.Sort.{Sort}
 use Rattle.cap_lin.specs.declared.row.Sort.TheVariants.{Int}
-use Rattle.cap_prog.specs.Program.{Label, PlainAct, set, read, write, cas, alloc, call, fork, branch, loop, check, give_back, Block, done, first, append, PlainFunction, PlainProgram}
+use Rattle.cap_prog.specs.Program.{Label, PlainAct, set, read, write, cas, faa, dispose, alloc, call, fork, branch, loop, check, give_back, Block, done, first, append, PlainFunction, PlainProgram}
 use Rattle.cap_prog.specs.Parts.{block_statements, all_statements}
 use Rattle.cap_prog.specs.Scopes.{fixed_start, result_name, invariant_scope}
 use Rattle.cap_prog.specs.WellFormed.{IsWellFormed, ActFits, AssertionFits}
@@ -54,6 +54,8 @@ module _ (p : PlainProgram) (f : PlainFunction) where
     loops-of-fit (read x a) l after h k = tt
     loops-of-fit (write a t) l after h k = tt
     loops-of-fit (cas x a old new) l after h k = tt
+    loops-of-fit (faa x a t) l after h k = tt
+    loops-of-fit (dispose a) l after h k = tt
     loops-of-fit (alloc x n) l after h k = tt
     loops-of-fit (call x g args) l after h k = tt
     loops-of-fit (fork g args) l after h k = tt

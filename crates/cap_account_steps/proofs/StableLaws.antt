@@ -8,7 +8,7 @@ use Rattle.cap_account_states.proofs.Checked.{Checked, derivations}
 use Rattle.cap_account_assertions.proofs.GiveLaw.{given-law}
 use Rattle.cap_account_assertions.proofs.Laws.{GivenLaw, RestsLaw}
 use Rattle.cap_account_assertions.proofs.TakenStill.{StillLaw, still-always}
-use Rattle.cap_account_steps.proofs.Bundles.{StableRoots, stable-roots}
+use Rattle.cap_account_steps.proofs.Bundles.{StableRoots, valid-roots, stable-roots}
 use Rattle.cap_account_steps.proofs.Regained.{Stable}
 use Rattle.cap_account_steps.proofs.RestLaws.{rests}
 use Rattle.cap_account_steps.proofs.StableContracts.{requires-stable, ensures-stable, invariant-stable}
@@ -38,4 +38,4 @@ stability p program roots =
 pub valid-stable :
     (p : PlainProgram) (trees : List (Option PlainTree)) → IsWellFormed p → Valid p trees → Stable p
 valid-stable p trees program valid =
-    stability (derivations p) program (stable-roots p trees valid)
+    stability (derivations p) program (stable-roots (derivations p) (valid-roots p trees valid))

@@ -176,7 +176,7 @@ module _ (p : Checked) (still : StillLaw p) (U : Table) (h : Stock) (room : Fits
       × (r.values ≡ values_in t.w (env_at t.after (length s.envs)))
   shifted-owns o cn m kids q says none t (node (by_absurd x) below) hd =
       absurd ((p.step hd).0.0 t.w (solves [] t.w t.after t.ready.grounded.meets))
-  shifted-owns o cn m kids q says none t (node (by_shift cs) below) hd =
+  shifted-owns o cn m kids q says none t (node (by_shift cs spans) below) hd =
       let pp = p.program in
       let e = length s.envs in
       let start = env_added s (region_env q.f q.names) in
@@ -193,7 +193,7 @@ module _ (p : Checked) (still : StillLaw p) (U : Table) (h : Stock) (room : Fits
       ) in
       let now = says-alike (Old s) w t.w t.follows.alike q.f over n k args b says in
       let opened = ap (λ fs. slice_get fs o) t.follows.goes_on.opened ∙ q.is_opened in
-      let sh = shifted pp p.N [] t.w t.after meets o cn m e [] below q.f q.k q.x opened q.is_case
+      let sh = shifted pp p.N [] t.w t.after meets spans o cn m e [] below q.f q.k q.x opened q.is_case
       movable t.ready.placed
       (none-other [] t.w U t.after q.f (Some b) t.ready.facts
       (says-known t.w U q.f n k args b now there)) (p.step hd) in
@@ -201,8 +201,8 @@ module _ (p : Checked) (still : StillLaw p) (U : Table) (h : Stock) (room : Fits
       let X = values_in t.w env in
       let mean = values-mean (region_scope q.k q.x.names) t.w env in
       let keeps = kept-says pp [] t.w t.after meets q.f q.k movable sh.new sh.over
-      (λ u. Open p.N below (closed_state t.after o (with_state q.f sh.new)) [])
-      (subst (λ i. Comes (prove_move q.k t.after q.f sh.new i)
+      (λ u. Open p.N below (closed_state t.after o (with_state q.f sh.new)) []) spans
+      (subst (λ i. Comes (prove_move q.k t.after q.f sh.new i spans)
       (λ u. Open p.N below (closed_state t.after o (with_state q.f sh.new)) [])) none sh.moves) in
       let size = map-length (value t.w.whole) q.f.args in
       let same = ap length now.args_are in

@@ -1,13 +1,13 @@
 -- A heap statement where regions are opened: what there is before it acts, once it acted, and after
 -- the regions are closed again.
-use Rattle.std.specs.Prelude.{◌≡◌, ◌≢◌, ◌⊎◌, ℕ, zero, suc, ◌+◌, ◌-◌, ◌<◌, ◌≤◌, ℤ, pos, Bool, true, false, List, [], ◌∷◌, length, map, slice_get, Option, Some, None}
+use Rattle.std.specs.Prelude.{◌≡◌, ◌≢◌, ◌⊎◌, ℕ, zero, suc, ◌+◌, ◌-◌, ◌<◌, ◌≤◌, ℤ, pos, ◌+ℤ◌, Bool, true, false, List, [], ◌∷◌, length, map, slice_get, Option, Some, None}
 use Rattle.std.specs.List.{AllByRecursion, list_any}
 use Rattle.std.specs.FinMap.{get}
 use Rattle.cap_lin.specs.Linear.{Linear, same_number}
 use Rattle.cap_lin.specs.Values.{Valuation, value}
 use Rattle.cap_lin.specs.declared.row.Sort.{Sort}
 use Rattle.cap_lin.specs.declared.row.Sort.TheVariants.{Int}
-use Rattle.cap_prog.specs.Program.{PlainAct, read, write, cas, Block, PlainProgram}
+use Rattle.cap_prog.specs.Program.{PlainAct, read, write, cas, faa, dispose, Block, PlainProgram}
 use Rattle.cap_goal_spec.specs.States.{PlainFact, PlainState, PlainTask, to_close}
 use Rattle.cap_goal_spec.specs.Choices.{PlainTrees}
 use Rattle.cap_machine.specs.Machine.{Heap, Frame, value_in, with_rest, with_value}
@@ -218,6 +218,9 @@ after_act (read y a) f b z = (Some z, with_value (with_rest f b) y z)
 after_act (write a u) f b z = (Some (value_in f.store u), with_rest f b)
 after_act (cas y a old new) f b z =
     after_cas (same_number z (value_in f.store old)) (with_rest f b) y z (value_in f.store new)
+after_act (faa y a u) f b z =
+    (Some (z +ℤ value_in f.store u), with_value (with_rest f b) y z)
+after_act (dispose a) f b z = (None, with_rest f b)
 after_act a f b z = (Some z, f)
 
 -- the cell at a has another content, or is there no more

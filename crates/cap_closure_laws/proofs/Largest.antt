@@ -76,9 +76,9 @@ all-made k s f p = let one : 1 + p ≡ suc p = omega arith in ap (slice_get (can
 begin-present : (k : PlainRegionType) (s : PlainState) (f : PlainFact) → AllByRecursion (Present (candidates k s f) s f) (begin k s f)
 begin-present k s f = present-each (candidates k s f) s f 1 (made k s f) (all-made k s f)
 
-present-in-order : (k : PlainRegionType) (s : PlainState) (f : PlainFact) (xs : List Listed) → FactAscends f → AllByRecursion (Present (candidates k s f) s f) xs → InOrder xs
-present-in-order k s f xs g h =
-    all-by (Present (candidates k s f) s f) (λ (x : Listed). RowAscends x.row) (λ x p. candidate-ordered (candidates k s f) x (candidates-ordered k s f g) p.candidate) xs h
+present-in-order : (k : PlainRegionType) (s : PlainState) (f : PlainFact) (xs : List Listed) → StateAscends s → FactAscends f → AllByRecursion (Present (candidates k s f) s f) xs → InOrder xs
+present-in-order k s f xs o g h =
+    all-by (Present (candidates k s f) s f) (λ (x : Listed). RowAscends x.row) (λ x p. candidate-ordered (candidates k s f) x (candidates-ordered k s f g o.guards) p.candidate) xs h
 
 begins-same : (k : PlainRegionType) (s : PlainState) (f : PlainFact) → first_list k s f ≡ begin k s f
 begins-same k s f = started-is s f 1 (made k s f) clean
@@ -102,7 +102,7 @@ begin-has k s f x h g w a m =
     let p : ℕ = x.number - 1 in
     let e : x.number ≡ 1 + p = omega arith in
     let i : slice_get (made k s f) p ≡ Some c.made = sym (all-made k s f p) ∙ (ap (slice_get (candidates k s f)) (sym e) ∙ c.at) in
-    let o = candidate-ordered (candidates k s f) x (candidates-ordered k s f g) c in
+    let o = candidate-ordered (candidates k s f) x (candidates-ordered k s f g h.guards) c in
     subst (λ n. IsOneOf (begin k s f) (listed n x.row)) (sym e)
     (present-has s f 1 (made k s f) p c.made x.row i c.is (holds-one k s f x.row h g o (starts-one k s f p c.made x.row w i c.is) m))
 
@@ -135,7 +135,7 @@ among-them k s j f others h g w t =
     let n = named-as Infeasible all 1 others p.middle p.first in
     let now = subst (AllByRecursion (AtMeets Infeasible s s.rows f.state)) (sym n.rows) (at-all Infeasible s s.rows f.state p.middle q.middle q.first) in
     let stable : Stable k s f n.members = record { actions = subst (λ rows. AllByRecursion (ActionMeets Infeasible k s f rows) k.actions) (sym n.rows) (stable-all Infeasible k s f p.middle k.actions o.middle o.first) } in
-    let i = rounds-keep k s f n.members (length (begin k s f)) (begin k s f) h g stable (rounds-within k s f w) (present-in-order k s f (begin k s f) g (begin-present k s f)) (begin-all k s f n.members h g w n.each now) in
+    let i = rounds-keep k s f n.members (length (begin k s f)) (begin k s f) h g stable (rounds-within k s f w) (present-in-order k s f (begin k s f) h g (begin-present k s f)) (begin-all k s f n.members h g w n.each now) in
     subst (λ list. AreAmong list (numbers_of (end k s f))) n.numbers (numbers-in n.members (end k s f) i)
 
 -- ---- and they settle the fact
@@ -245,7 +245,7 @@ settles-it k s j f h g w room =
     let n = length (begin k s f) in
     let there = rounds-last (AllByRecursion (Present all s f)) k s f n (begin k s f) (λ test xs m. passing-all (Present all s f) test xs m) (begin-present k s f) in
     let up = rounds-last (Ascend 1) k s f n (begin k s f) (λ test xs m. passing-ascend test 1 xs m) (present-ascend s f 1 (made k s f)) in
-    let order = present-in-order k s f xs g there in
+    let order = present-in-order k s f xs h g there in
     let tests = alive-all k s f (rows_of xs) xs (rounds-end k s f n (begin k s f) (omega arith)) in
     let kept = settled-meets HasCert s j f (rows_of xs) (subst (HasRoomFor s) (same-count xs) room) in
     let m = meets-chain HasCert (named_candidates 1 all (numbers_of xs)) (then_now k s j f) (rows_of xs) kept.state (named-meets HasCert all 1 xs up (all-by (Present all s f) (IsCandidate all) (λ x p. p.candidate) xs there))

@@ -1,16 +1,19 @@
 -- The parts of the terms of candidates ascend.
-use Rattle.std.proofs.Common.{Bool, true, false, List, [], ◌∷◌, subst, flat_map, refl}
+use Rattle.std.proofs.Common.{Bool, true, false, List, [], ◌∷◌, ◌++◌, length, subst, flat_map, refl}
 use Rattle.std.specs.Prelude.{◌&&◌, if◌then◌else◌}
 use Rattle.std.specs.List.{AllByRecursion, list_any}
 use Rattle.cap_lin.specs.Linear.{Linear}
 use Rattle.cap_lin.specs.Steps.{first_wide}
 use Rattle.cap_lin.specs.declared.row.Op.TheVariants.{Eq as Equal, Le as AtMost}
 use Rattle.cap_lin.specs.declared.row.Sort.TheVariants.{Int}
+use Rattle.cap_gsolve.specs.declared.piece.Form.{Form}
+use Rattle.cap_gsolve.specs.declared.piece.Form.TheVariants.{Span}
+use Rattle.cap_gsolve.specs.Pieces.{of_guards}
 use Rattle.cap_prog.specs.Program.{PlainCase, PlainAction, PlainRegionType}
 use Rattle.cap_goal_spec.specs.States.{PlainFact, PlainState}
 use Rattle.cap_goal_spec.specs.Environments.{region_env}
-use Rattle.cap_goal_spec.specs.Candidates.{MadeRow, is_over_params, bounds_by, action_bounds, all_candidates, is_made, repeats, without_repeats, later_state, candidates}
-use Rattle.cap_rules_ascending.specs.Ascending.{TermAscends, RowAscends, FactAscends}
+use Rattle.cap_goal_spec.specs.Candidates.{form_bounds, piece_bounds, MadeRow, is_over_params, bounds_by, action_bounds, all_candidates, is_made, repeats, without_repeats, later_state, candidates}
+use Rattle.cap_rules_ascending.specs.Ascending.{TermAscends, RowAscends, FormAscends, PieceAscends, FactAscends}
 use Rattle.cap_rules_ascending.proofs.Lists.{IfSome, all-join, all-get, all-flat, all-any}
 use Rattle.cap_rules_ascending.proofs.Safe.{IsAny}
 use Rattle.cap_rules_ascending.proofs.Terms.{variable-ascends, row-ascends, in-ascends, region-ascends}
@@ -54,8 +57,15 @@ without-ordered : (earlier ms : List MadeRow) → AllByRecursion MadeOrdered ms 
 without-ordered earlier [] h = tt
 without-ordered earlier (m ∷ ms) h = unless-repeated (is_made m && list_any (repeats m) earlier) m (without_repeats earlier ms) (without_repeats (m ∷ earlier) ms) h.0 (without-ordered earlier ms h.1) (without-ordered (m ∷ earlier) ms h.1)
 
-pub candidates-ordered : (k : PlainRegionType) (s : PlainState) (f : PlainFact) → FactAscends f → AllByRecursion MadeOrdered (candidates k s f)
-candidates-ordered k s f h = without-ordered [] (all_candidates k f (later_state s)) (all-ordered k f (later_state s) h (variable-ascends _))
+form-ordered : (u : Linear) (f : Form) → TermAscends u → FormAscends f → AllByRecursion MadeOrdered (form_bounds u f)
+form-ordered u (Span a e) h k = (record { row = row-ascends a AtMost u Int k.0 h }, (record { row = row-ascends u AtMost a Int h k.0 }, tt))
+form-ordered u f h k = tt
+
+pub candidates-ordered : (k : PlainRegionType) (s : PlainState) (f : PlainFact) → FactAscends f → AllByRecursion PieceAscends s.guards → AllByRecursion MadeOrdered (candidates k s f)
+candidates-ordered k s f h g =
+    let u = later_state s in
+    let e = variable-ascends (length s.sorts) in
+    without-ordered [] (all_candidates k f u ++ flat_map (piece_bounds f u) s.guards) (all-join MadeOrdered (all_candidates k f u) (flat_map (piece_bounds f u) s.guards) (all-ordered k f u h e) (all-flat PieceAscends MadeOrdered (piece_bounds f u) (λ q i. by-if (of_guards f.region f.kind q) (form_bounds u q.form) (form-ordered u q.form e i.form)) s.guards g))
 
 pub candidate-ordered : (all : List MadeRow) (x : Listed) → AllByRecursion MadeOrdered all → IsCandidate all x → RowAscends x.row
 candidate-ordered all x h c =

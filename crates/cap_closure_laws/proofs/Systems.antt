@@ -13,10 +13,12 @@ use Rattle.cap_prog.specs.declared.assertion.Comp.{Comp}
 use Rattle.cap_prog.specs.declared.assertion.Slot.{Slot}
 use Rattle.cap_prog.specs.declared.assertion.Slot.TheVariants.{Any, Is}
 use Rattle.cap_prog.specs.declared.assertion.Asked.{Asked}
-use Rattle.cap_prog.specs.declared.assertion.Asked.TheVariants.{One, Share, Src, Tok}
+use Rattle.cap_prog.specs.declared.assertion.Asked.TheVariants.{One, Share, Src, Tok, At, From}
 use Rattle.cap_prog.specs.Program.{PlainAction, PlainRegionType}
 use Rattle.cap_goal_spec.specs.States.{PlainFact, PlainState}
 use Rattle.cap_goal_spec.specs.Candidates.{later_state}
+use Rattle.cap_goal_spec.specs.Environments.{one_value}
+use Rattle.cap_rules.specs.Making.{sum}
 use Rattle.cap_rules.specs.Attempts.{owed, Event, makes, claims, Attempt, unit, go_on, ◌>>=◌, computed, comparison_row}
 use Rattle.cap_rules.specs.Answers.{steps_of, owed_lists}
 use Rattle.cap_rules.specs.Resting.{Names, ask, first_names, value_over, rows_over, want_slot, want_form, want_all, joined_rows, system}
@@ -154,6 +156,8 @@ form-plain names x One = plain-unit _
 form-plain names x (Share t) = plain-chain (want_slot names x t) (λ a. unit (form.Share a)) (slot-plain names x t) (λ a. plain-unit _)
 form-plain names x (Src t) = plain-chain (want_slot names x t) (λ a. unit (form.Src a)) (slot-plain names x t) (λ a. plain-unit _)
 form-plain names x (Tok t) = plain-chain (want_slot names x t) (λ a. unit (form.Tok a)) (slot-plain names x t) (λ a. plain-unit _)
+form-plain names x (At t) = plain-chain (want_slot names x t) (λ i. sum i one_value >>= λ next. unit (form.Span i (Some next))) (slot-plain names x t) (λ i. plain-chain (sum i one_value) (λ next. unit (form.Span i (Some next))) (plain-computed _ _) (λ next. plain-unit _))
+form-plain names x (From t) = plain-chain (want_slot names x t) (λ i. unit (form.Span i None)) (slot-plain names x t) (λ i. plain-unit _)
 
 want-plain : (names : List Linear) (w : Names) (gs : List (ℕ × Asked)) → Plain (want_all names w gs)
 want-plain names w [] = plain-unit []

@@ -12,7 +12,7 @@ use Rattle.cap_rules.specs.Answers.{Subgoals}
 use Rattle.cap_rules.specs.Valid.{Derives, AllDerive, RootDerives}
 use Rattle.cap_rules_ascending.specs.Ascending.{GoalAscends, ProgramAscends}
 use Rattle.cap_rules_ascending.specs.Laws.{SubgoalsAscend, RootAscends, RootsAscend}
-use Rattle.cap_kernel_nodes.specs.Nodes.{GoalNode, nodes_at, all_nodes_at, all_root_nodes, unit_nodes}
+use Rattle.cap_rules_nodes.specs.Nodes.{GoalNode, nodes_at, all_nodes_at, all_root_nodes, unit_nodes}
 use Rattle.cap_kernel_nodes.specs.Laws.{UnitDerives}
 use Rattle.cap_kernel_nodes.proofs.Leaving.{subgoals-left}
 

@@ -13,7 +13,7 @@ use Rattle.cap_rules.specs.Rules.{rule}
 use Rattle.cap_rules_marks.specs.Proven.{RefutesIfGiven, given, ProvesOwed}
 use Rattle.cap_rules_ascending.specs.Ascending.{GoalAscends}
 use Rattle.cap_rules_ascending.specs.Laws.{OwedAscend, SubgoalsAscend, RootsAscend}
-use Rattle.cap_kernel_nodes.specs.Nodes.{GoalNode, unit_nodes}
+use Rattle.cap_rules_nodes.specs.Nodes.{GoalNode, unit_nodes}
 use Rattle.cap_kernel_nodes.specs.Laws.{NodeIsProven, NodesAreProven}
 use Rattle.cap_core.specs.Core.{CoresAreIrreducible}
 use Rattle.cap_core.specs.Deciding.{core_of, DecidedAreCores}

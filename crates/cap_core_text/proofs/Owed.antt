@@ -10,7 +10,7 @@ use Rattle.cap_rules_steps.specs.declared.error.RuleError.{RuleError}
 use Rattle.cap_rules_steps.specs.declared.error.RuleError.TheVariants.{NotApplicable, Wide, OutOfMemory}
 use Rattle.cap_rules_steps.specs.Judging.{IsTold}
 use Rattle.cap_rules_steps.specs.Walks.{seen}
-use Rattle.cap_kernel_nodes.specs.Nodes.{GoalNode}
+use Rattle.cap_rules_nodes.specs.Nodes.{GoalNode}
 use Rattle.cap_core_text.specs.Lines.{answered_lists, owed_by}
 
 -- ---- the lists are those that are owed

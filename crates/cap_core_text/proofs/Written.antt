@@ -10,7 +10,7 @@ use Rattle.cap_farkas.specs.declared.cert.Cert.{Cert}
 use Rattle.cap_farkas.proofs.Sound.{refuted-excludes, excluded-infeasible}
 use Rattle.cap_prog.specs.Program.{PlainProgram}
 use Rattle.cap_rules_marks.specs.Proven.{RefutesIfGiven, given}
-use Rattle.cap_kernel_nodes.specs.Nodes.{GoalNode}
+use Rattle.cap_rules_nodes.specs.Nodes.{GoalNode}
 use Rattle.cap_kernel_nodes.specs.Laws.{NodeIsProven}
 use Rattle.cap_core_text.specs.Lines.{proof_line, proof_lines, owed_by, node_lines}
 use Rattle.cap_core_text.proofs.Given.{given_at}

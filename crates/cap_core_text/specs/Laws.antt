@@ -11,7 +11,7 @@ use Rattle.cap_goal_spec.specs.Choices.{PlainTree}
 use Rattle.cap_goal_spec.specs.Roots.{PlainUnit}
 use Rattle.cap_rules_marks.specs.Proven.{given}
 use Rattle.cap_rules_ascending.specs.Ascending.{ProgramAscends}
-use Rattle.cap_kernel_nodes.specs.Nodes.{GoalNode, unit_nodes}
+use Rattle.cap_rules_nodes.specs.Nodes.{GoalNode, unit_nodes}
 use Rattle.cap_kernel_nodes.specs.Laws.{UnitDerives}
 use Rattle.cap_core.specs.Core.{IsIrreducible}
 use Rattle.cap_core.specs.Deciding.{core_of}

@@ -6,5 +6,6 @@ pub mod Plain
 pub mod Loops
 pub mod ReadAs
 pub mod Parts
+pub mod Shifts
 pub mod Words
 pub mod WholeLine

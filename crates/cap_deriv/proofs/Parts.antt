@@ -47,14 +47,14 @@ pub none_read : {C : Type 0} (k : C) (d : ℕ) → ReadsItems (of_none k) d (end
 none_read k d = end_reads (of_none k) d (λ x xs. refl)
 
 pub one_read : {A C : Type 0} (k : A → C) (f : Data → Option A) (p : Parse A) (d : ℕ) → ReadsData f d p → ReadsItems (of_one k f) d (one_taken k p)
-one_read k f p d same = item_reads f (of_one k f) (λ a. of_none (k a)) (λ a. ended (k a)) d (λ x xs. refl) refl (λ a. none_read (k a) d) p same
+one_read k f p d same = item_reads f (of_one k f) (λ a. of_none (k a)) (λ a. ended (k a)) d (λ x xs. refl) (λ a. none_read (k a) d) refl p same
 
 pub two_read : {A B C : Type 0} (k : A → B → C) (f : Data → Option A) (g : Data → Option B) (p : Parse A) (q : Parse B) (d : ℕ) → ReadsData f d p → ReadsData g d q → ReadsItems (of_two k f g) d (two_taken k p q)
-two_read k f g p q d same next = item_reads f (of_two k f g) (λ a. of_one (k a) g) (λ a. one_taken (k a) q) d (λ x xs. refl) refl (λ a. one_read (k a) g q d next) p same
+two_read k f g p q d same next = item_reads f (of_two k f g) (λ a. of_one (k a) g) (λ a. one_taken (k a) q) d (λ x xs. refl) (λ a. one_read (k a) g q d next) refl p same
 
 pub three_read : {A B C D : Type 0} (k : A → B → C → D) (f : Data → Option A) (g : Data → Option B) (h : Data → Option C) (p : Parse A) (q : Parse B) (r : Parse C) (d : ℕ) → ReadsData f d p → ReadsData g d q → ReadsData h d r
     → ReadsItems (of_three k f g h) d (three_taken k p q r)
-three_read k f g h p q r d same next last = item_reads f (of_three k f g h) (λ a. of_two (k a) g h) (λ a. two_taken (k a) q r) d (λ x xs. refl) refl (λ a. two_read (k a) g h q r d next last) p same
+three_read k f g h p q r d same next last = item_reads f (of_three k f g h) (λ a. of_two (k a) g h) (λ a. two_taken (k a) q r) d (λ x xs. refl) (λ a. two_read (k a) g h q r d next last) refl p same
 
 -- what reads the items as f does, reads them as g does where both are the same
 pub same_items : {A : Type 0} (f g : List Data → Option A) (d : ℕ) (p : Parse A) → ((xs : List Data) → f xs ≡ g xs) → ReadsItems f d p → ReadsItems g d p
@@ -162,7 +162,7 @@ head_step F xs (Some w) = refl
 
 pub head_read : {B : Type 0} (F : List ℕ → List Data → Option B) (t : List ℕ → Parse B) (d : ℕ) → ((w : List ℕ) → ReadsItems (F w) d (t w))
     → ReadsItems (λ xs. option_and_then (λ h. F h.0 h.1) (head_of_items xs)) d (λ ts. option_and_then (λ (w : List ℕ × List Token). t w.0 w.1) (take_text ts))
-head_read F t d reads = item_reads as_str (λ xs. option_and_then (λ h. F h.0 h.1) (head_of_items xs)) F t d (λ x xs. head_step F xs (as_str x)) refl reads take_text (text_reads d)
+head_read F t d reads = item_reads as_str (λ xs. option_and_then (λ h. F h.0 h.1) (head_of_items xs)) F t d (λ x xs. head_step F xs (as_str x)) reads refl take_text (text_reads d)
 
 opened_cert_read : (d : ℕ) → ReadsItems (λ xs. option_and_then (λ h. cert_of_items h.0 h.1) (head_of_items xs)) (suc (suc d)) take_opened_cert
 opened_cert_read d =

@@ -200,7 +200,7 @@ module _ {A : Type 0} (f : List Data → Option A) where
 
 -- an item, and those behind it
 module _ {A B : Type 0} (h : Data → Option A) (f : List Data → Option B) (g : A → List Data → Option B) (t : A → Parse B) (d : ℕ)
-    (step : (x : Data) (xs : List Data) → f (x ∷ xs) ≡ option_and_then (λ a. g a xs) (h x)) (none : f [] ≡ None) (more : (a : A) → ReadsItems (g a) d (t a)) where
+    (step : (x : Data) (xs : List Data) → f (x ∷ xs) ≡ option_and_then (λ a. g a xs) (h x)) (more : (a : A) → ReadsItems (g a) d (t a)) where
   abbrev behind : Option (A × List Token) → Option (B × List Token)
   behind o = option_and_then (λ (a : A × List Token). t a.0 a.1) o
 
@@ -221,15 +221,19 @@ module _ {A B : Type 0} (h : Data → Option A) (f : List Data → Option B) (g 
       let turn = ap (converted (listed f)) (items_more (value d) n ts q.1 q.0 (omega arith) e w) ∙ with_item f q.0 (items (value d) (n - 1) q.1) in
       ap (λ v. behind (converted (data_as h) v)) w ∙ arg_data (n - 1) q.1 (omega arith) (of_json q.0) ∙ sym turn
 
-  arg_at : (n : ℕ) (ts : List Token) → length ts ≤ n → (o : Option (List Token)) → after_end_array ts ≡ o → behind (read_as h d ts) ≡ list_as f d n ts
-  arg_at n ts le (Some r) e =
+  -- where the array doesn't end
+  pub first_reads : (s : Parse A) → ReadsData h d s → (n : ℕ) (ts : List Token) → length ts ≤ n → after_end_array ts ≡ None → behind (s ts) ≡ list_as f d n ts
+  first_reads s same n ts le e = ap behind (same ts) ∙ arg_value n ts le e (value d ts) refl
+
+  arg_at : f [] ≡ None → (n : ℕ) (ts : List Token) → length ts ≤ n → (o : Option (List Token)) → after_end_array ts ≡ o → behind (read_as h d ts) ≡ list_as f d n ts
+  arg_at none n ts le (Some r) e =
       let stop : value d ts ≡ None = ap (value d) (closed_array ts r e) ∙ value_is d (Token.end_array ∷ r) in
       let over : list_as f d n ts ≡ None = ap (converted (listed f)) (items_end (value d) n ts r le e) ∙ ap (with_rest r) none in
       ap (λ v. behind (converted (data_as h) v)) stop ∙ sym over
-  arg_at n ts le None e = arg_value n ts le e (value d ts) refl
+  arg_at none n ts le None e = arg_value n ts le e (value d ts) refl
 
-  pub item_reads : (s : Parse A) → ReadsData h d s → ReadsItems f d (λ ts. option_and_then (λ (a : A × List Token). t a.0 a.1) (s ts))
-  item_reads s same n ts le = ap behind (same ts) ∙ arg_at n ts le (after_end_array ts) refl
+  pub item_reads : f [] ≡ None → (s : Parse A) → ReadsData h d s → ReadsItems f d (λ ts. option_and_then (λ (a : A × List Token). t a.0 a.1) (s ts))
+  item_reads none s same n ts le = ap behind (same ts) ∙ arg_at none n ts le (after_end_array ts) refl
 
 -- ---- a whole array
 

@@ -83,7 +83,7 @@ module _ (d : ℕ) where
   headed_line xs (Some w) = refl
 
   line_items_read : ReadsItems line_of_items deep (λ ts. option_and_then (λ (w : List ℕ × List Token). take_line_by_word w.0 w.1) (take_text ts))
-  line_items_read = item_reads as_str line_of_items line_by_word take_line_by_word deep (λ x xs. headed_line xs (as_str x)) refl line_by_word_read take_text (text_reads deep)
+  line_items_read = item_reads as_str line_of_items line_by_word take_line_by_word deep (λ x xs. headed_line xs (as_str x)) line_by_word_read refl take_text (text_reads deep)
 
   line_read : ReadsData line_of_json (suc deep) take_line
   line_read =
@@ -121,7 +121,7 @@ trees_read d true = one_read (λ n. n) number_of_json take_number d (number_read
 trees_read d false = refused_read (trees_if false) d (λ xs. refl)
 
 version_read : (d : ℕ) → ReadsItems opening_of_items d take_version_and_trees
-version_read d = item_reads number_of_json opening_of_items (λ k. trees_if (k == 1)) (λ k. take_trees_if (k == 1)) d trees_step refl (λ k. trees_read d (k == 1)) take_number (number_read d)
+version_read d = item_reads number_of_json opening_of_items (λ k. trees_if (k == 1)) (λ k. take_trees_if (k == 1)) d trees_step (λ k. trees_read d (k == 1)) refl take_number (number_read d)
 
 opening_items_read : (d : ℕ) → ReadsItems (λ xs. option_and_then (λ h. opening_by_word h.0 h.1) (head_of_items xs)) d (λ ts. option_and_then (λ (w : List ℕ × List Token). take_opening_by_word w.0 w.1) (take_text ts))
 opening_items_read d =

@@ -5,11 +5,12 @@ use Rattle.std.proofs.lemmas.Slice.Eq.{bytes_eq-Decides}
 use Rattle.json.specs.Token.{Token}
 use Rattle.json.specs.Json.{Parse}
 use Rattle.serde_json.specs.Data.{Data}
-use Rattle.cap_goal_spec.specs.Choices.{PlainChoice, by_absurd, by_clash, by_set, by_alloc, by_assert, by_if, by_loop, by_turn, by_call, by_fork, by_return, by_enter, by_act, by_pick, by_shift, by_settle, by_keep, by_give, by_fact, by_cases, by_cell, by_region, by_guard, by_convert, by_create, by_made}
+use Rattle.cap_goal_spec.specs.Choices.{PlainChoice, by_absurd, by_clash, by_set, by_alloc, by_assert, by_if, by_loop, by_turn, by_call, by_fork, by_return, by_enter, by_act, by_pick, by_settle, by_keep, by_give, by_fact, by_cases, by_cell, by_region, by_guard, by_convert, by_create, by_made}
 use Rattle.cap_deriv.specs.Reading.{row_of_word, number_of_json, numbers_of_json, cert_of_json, certs_of_json, marks_of_json, choices_of_none, choices_of_one, choices_of_two, choices_of_three, choice_of_items}
-use Rattle.cap_deriv.specs.Taking.{take_close, take_number, take_numbers, take_cert, take_certs, take_marks, take_none, take_one, take_two, take_three, take_by_three, take_by_two, take_by_one, take_by_word, take_choice}
+use Rattle.cap_deriv.specs.Taking.{take_close, take_number, take_numbers, take_cert, take_certs, take_marks, take_none, take_one, take_two, take_three, take_by_three, take_by_two, take_by_one, take_by_word, take_closed, take_shift, take_choice}
 use Rattle.cap_deriv.proofs.ReadAs.{ReadsData, list_as, ReadsItems}
 use Rattle.cap_deriv.proofs.Parts.{ended, one_taken, two_taken, three_taken, of_none, of_one, of_two, of_three, none_read, one_read, two_read, three_read, same_items, refused_read, NoneAt, is_of_none, is_of_one, is_of_two, is_of_three, number_read, numbers_read, cert_read, certs_read, marks_read}
+use Rattle.cap_deriv.proofs.Shifts.{shift_read}
 
 pub word_is : (w v : List ℕ) → bytes_eq w v ≡ true → w ≡ v
 word_is w v e = (bytes_eq-Decides w v).0 e
@@ -73,7 +74,7 @@ abbrev words_of_none : List (List ℕ)
 words_of_none = firsts choices_of_none
 
 abbrev words_of_one : List (List ℕ)
-words_of_one = codes "absurd" ∷ codes "assert" ∷ codes "shift" ∷ codes "keep" ∷ codes "fact" ∷ codes "create" ∷ codes "made" ∷ []
+words_of_one = codes "absurd" ∷ codes "assert" ∷ codes "keep" ∷ codes "fact" ∷ codes "create" ∷ codes "made" ∷ []
 
 abbrev words_of_two : List (List ℕ)
 words_of_two = codes "enter" ∷ codes "settle" ∷ codes "cell" ∷ codes "region" ∷ []
@@ -81,20 +82,22 @@ words_of_two = codes "enter" ∷ codes "settle" ∷ codes "cell" ∷ codes "regi
 abbrev words_of_three : List (List ℕ)
 words_of_three = codes "clash" ∷ codes "act" ∷ codes "pick" ∷ codes "guard" ∷ codes "convert" ∷ []
 
-choice_none : (w : List ℕ) → Absent w (words_of_none ++ (words_of_one ++ (words_of_two ++ words_of_three))) → (xs : List Data) → choice_of_items w xs ≡ None
-choice_none w h [] = row_none w choices_of_none (absent_front w words_of_none (words_of_one ++ (words_of_two ++ words_of_three)) h)
-choice_none w h (a ∷ []) =
+choice_none : (w : List ℕ) → bytes_eq w (codes "shift") ≡ false → Absent w (words_of_none ++ (words_of_one ++ (words_of_two ++ words_of_three))) → (xs : List Data) → choice_of_items w xs ≡ None
+choice_none w unlike h [] = row_none w choices_of_none (absent_front w words_of_none (words_of_one ++ (words_of_two ++ words_of_three)) h)
+choice_none w unlike h (a ∷ []) =
     let one = absent_back w words_of_none (words_of_one ++ (words_of_two ++ words_of_three)) h in
-    row_none w (choices_of_one a) (absent_front w words_of_one (words_of_two ++ words_of_three) one)
-choice_none w h (a ∷ b ∷ []) =
+    let all = absent_front w words_of_one (words_of_two ++ words_of_three) one in
+    row_none w (choices_of_one a) (all.0, (all.1.0, (unlike, all.1.1)))
+choice_none w unlike h (a ∷ b ∷ []) =
     let one = absent_back w words_of_none (words_of_one ++ (words_of_two ++ words_of_three)) h in
     let two = absent_back w words_of_one (words_of_two ++ words_of_three) one in
-    row_none w (choices_of_two a b) (absent_front w words_of_two words_of_three two)
-choice_none w h (a ∷ b ∷ c ∷ []) =
+    let all = absent_front w words_of_two words_of_three two in
+    row_none w (choices_of_two a b) (all.0, (unlike, all.1))
+choice_none w unlike h (a ∷ b ∷ c ∷ []) =
     let one = absent_back w words_of_none (words_of_one ++ (words_of_two ++ words_of_three)) h in
     let two = absent_back w words_of_one (words_of_two ++ words_of_three) one in
     row_none w (choices_of_three a b c) (absent_back w words_of_two words_of_three two)
-choice_none w h (a ∷ b ∷ c ∷ d ∷ ds) = refl
+choice_none w unlike h (a ∷ b ∷ c ∷ d ∷ ds) = refl
 
 -- ---- a row
 
@@ -180,7 +183,6 @@ choice_rows =
     ∷ (codes "cases", take_none by_cases)
     ∷ (codes "absurd", take_one by_absurd take_cert)
     ∷ (codes "assert", take_one by_assert take_certs)
-    ∷ (codes "shift", take_one by_shift take_certs)
     ∷ (codes "keep", take_one by_keep take_certs)
     ∷ (codes "fact", take_one by_fact take_certs)
     ∷ (codes "create", take_one by_create take_number)
@@ -214,7 +216,6 @@ module _ (d : ℕ) where
       ▹ row_of_none deep (codes "cases") by_cases refl (λ x. refl) (λ x y. refl) (λ x y z. refl)
       ▹ row_of_one deep (codes "absurd") by_absurd cert_of_json take_cert (cert_read (suc d)) refl (λ x. refl) (λ x y. refl) (λ x y z. refl)
       ▹ row_of_one deep (codes "assert") by_assert certs_of_json take_certs (certs_read d) refl (λ x. refl) (λ x y. refl) (λ x y z. refl)
-      ▹ row_of_one deep (codes "shift") by_shift certs_of_json take_certs (certs_read d) refl (λ x. refl) (λ x y. refl) (λ x y z. refl)
       ▹ row_of_one deep (codes "keep") by_keep certs_of_json take_certs (certs_read d) refl (λ x. refl) (λ x y. refl) (λ x y z. refl)
       ▹ row_of_one deep (codes "fact") by_fact certs_of_json take_certs (certs_read d) refl (λ x. refl) (λ x y. refl) (λ x y z. refl)
       ▹ row_of_one deep (codes "create") by_create number_of_json take_number (number_read deep) refl (λ x. refl) (λ x y. refl) (λ x y z. refl)
@@ -230,6 +231,16 @@ module _ (d : ℕ) where
       ▹ row_of_three deep (codes "convert") by_convert number_of_json number_of_json certs_of_json take_number take_number take_certs (number_read deep) (number_read deep) (certs_read d) refl (λ x. refl) (λ x y. refl) (λ x y z. refl)
       ▹ tt
 
-  pub choice_read : (w : List ℕ) → ReadsItems (choice_of_items w) deep (take_choice w)
+  closed_read : (w : List ℕ) → bytes_eq w (codes "shift") ≡ false → ReadsItems (choice_of_items w) deep (take_closed w)
   unfolding take_by_word take_by_one take_by_two take_by_three
-  choice_read w = rows_read deep choice_rows all_rows w (λ xs absent. choice_none w absent xs)
+  closed_read w unlike = rows_read deep choice_rows all_rows w (λ xs absent. choice_none w unlike absent xs)
+
+  pub choice_read : (w : List ℕ) → ReadsItems (choice_of_items w) deep (take_choice w)
+  choice_read w n ts le = at (bytes_eq w (codes "shift")) refl
+    where
+      at : (t : Bool) → bytes_eq w (codes "shift") ≡ t → take_choice w ts ≡ list_as (choice_of_items w) deep n ts
+      at true e =
+          ap (λ (t : Bool). cond t (take_shift ts) (take_closed w ts)) e
+          ∙ shift_read d n ts le
+          ∙ ap (λ v. list_as (choice_of_items v) deep n ts) (sym (word_is w (codes "shift") e))
+      at false e = ap (λ (t : Bool). cond t (take_shift ts) (take_closed w ts)) e ∙ closed_read w e n ts le

@@ -115,6 +115,15 @@ marks_of_json d = option_and_then (each_of_json mark_of_json) (array_of_json d)
 
 -- ---- choices, by the number of their arguments
 
+-- any list but the empty one
+abbrev pub unless_empty : {A : Type 0} → List A → Option (List A)
+unless_empty [] = None
+unless_empty (x ∷ xs) = Some (x ∷ xs)
+
+-- the pieces that a shift names, where it names any
+abbrev pub spans_of_json : Data → Option (List ℕ)
+spans_of_json d = option_and_then unless_empty (numbers_of_json d)
+
 -- what the first row with this word says
 abbrev pub row_of_word : {A : Type 0} → List ℕ → List (List ℕ × Option A) → Option A
 row_of_word w [] = None
@@ -138,7 +147,7 @@ abbrev pub choices_of_one : Data → List (List ℕ × Option PlainChoice)
 choices_of_one a =
     (codes "absurd", option_map by_absurd (cert_of_json a))
     ∷ (codes "assert", option_map by_assert (certs_of_json a))
-    ∷ (codes "shift", option_map by_shift (certs_of_json a))
+    ∷ (codes "shift", option_map (λ cs. by_shift cs []) (certs_of_json a))
     ∷ (codes "keep", option_map by_keep (certs_of_json a))
     ∷ (codes "fact", option_map by_fact (certs_of_json a))
     ∷ (codes "create", option_map by_create (number_of_json a))
@@ -150,6 +159,10 @@ choices_of_two a b = (
   codes "enter",
   option_and_then (λ i. option_map (by_enter i) (certs_of_json b)) (number_of_json a),
 )
+    ∷ (
+      codes "shift",
+      option_and_then (λ cs. option_map (by_shift cs) (spans_of_json b)) (certs_of_json a),
+    )
     ∷ (
       codes "settle",
       option_and_then (λ ns. option_map (by_settle ns) (certs_of_json b)) (numbers_of_json a),

@@ -7,7 +7,7 @@ use Rattle.serde_json.specs.Read.{number_of}
 use Rattle.cap_farkas.specs.declared.cert.Cert.{Cert}
 use Rattle.cap_farkas.specs.declared.cert.Cert.TheVariants.{Leaf, Split}
 use Rattle.cap_goal_spec.specs.Choices.{PlainChoice, by_absurd, by_clash, by_set, by_alloc, by_assert, by_if, by_loop, by_turn, by_call, by_fork, by_return, by_enter, by_act, by_pick, by_shift, by_settle, by_keep, by_give, by_fact, by_cases, by_cell, by_region, by_guard, by_convert, by_create, by_made}
-use Rattle.cap_deriv.specs.Reading.{below_limit, multiplier_text}
+use Rattle.cap_deriv.specs.Reading.{below_limit, multiplier_text, unless_empty}
 use Rattle.cap_deriv.specs.Told.{PlainLine, choice_line, end_line}
 
 infixl 10 ◌>>=◌
@@ -222,7 +222,6 @@ abbrev pub rows_of_one : List Token → List (List ℕ × Option (PlainChoice ×
 rows_of_one ts =
     (codes "absurd", take_one by_absurd take_cert ts)
     ∷ (codes "assert", take_one by_assert take_certs ts)
-    ∷ (codes "shift", take_one by_shift take_certs ts)
     ∷ (codes "keep", take_one by_keep take_certs ts)
     ∷ (codes "fact", take_one by_fact take_certs ts)
     ∷ (codes "create", take_one by_create take_number ts)
@@ -249,11 +248,35 @@ rows_of_none ts =
 unfoldable pub take_by_word : List ℕ → Parse PlainChoice
 take_by_word w ts = row_or w (rows_of_none ts) (take_by_one w ts)
 
-abbrev pub take_choice : List ℕ → Parse PlainChoice
-take_choice w ts = do
+-- up to the end of its array, of any word but that of a shift
+abbrev pub take_closed : List ℕ → Parse PlainChoice
+take_closed w ts = do
   c ← take_by_word w ts
   e ← take_close c.1
   Some (c.0, e.1)
+
+-- the pieces that a shift names, where it names any
+abbrev pub take_spans : Parse (List ℕ)
+take_spans ts = do
+  ns ← take_numbers ts
+  option_map (λ ks. (ks, ns.1)) (unless_empty ns.0)
+
+abbrev pub spans_turn : List Token → Option (List Token) → Option (List ℕ × List Token)
+spans_turn ts (Some rest) = Some ([], rest)
+spans_turn ts None = do
+  ns ← take_spans ts
+  e ← take_close ns.1
+  Some (ns.0, e.1)
+
+-- none, or such pieces, up to the end of the array
+abbrev pub take_last_spans : Parse (List ℕ)
+take_last_spans ts = spans_turn ts (after_end_array ts)
+
+abbrev pub take_shift : Parse PlainChoice
+take_shift ts = take_two by_shift take_certs take_last_spans ts
+
+abbrev pub take_choice : List ℕ → Parse PlainChoice
+take_choice w ts = if bytes_eq w (codes "shift") then take_shift ts else take_closed w ts
 
 -- ---- lines
 

@@ -2,7 +2,8 @@
 ghost use Rattle.std.specs.Prelude.{◌≡◌};
 ghost use Rattle.cap_goal.specs.Views.{choice_view};
 ghost use Rattle.cap_deriv.specs.Taking.{take_by_three, take_by_two, take_by_one};
-ghost use Rattle.cap_deriv.specs.Taking.{take_by_word, take_choice};
+ghost use Rattle.cap_deriv.specs.Taking.{take_by_word, take_closed, take_shift, take_choice};
+ghost use Rattle.cap_deriv.specs.Taking.{take_spans, take_last_spans};
 ghost use Rattle.cap_deriv.specs.Views.{Takes};
 
 use crate::certs::{cert, certs, marks};
@@ -49,7 +50,6 @@ fn by_one(alloc: Global, word: &str, reader: &mut Reader<'_>) -> Result<Choice, 
     match word {
         "absurd" => Ok(Choice::Absurd(cert(alloc, reader)?)),
         "assert" => Ok(Choice::Assert(certs(alloc, reader)?)),
-        "shift" => Ok(Choice::Shift(certs(alloc, reader)?)),
         "keep" => Ok(Choice::Keep(certs(alloc, reader)?)),
         "fact" => Ok(Choice::Fact(certs(alloc, reader)?)),
         "create" => Ok(Choice::Create(number(reader)?)),
@@ -77,11 +77,49 @@ fn by_word(alloc: Global, word: &str, reader: &mut Reader<'_>) -> Result<Choice,
     }
 }
 
-/// The choice of a node's line whose word was read.
-pub(crate) fn choice(alloc: Global, word: &str, reader: &mut Reader<'_>) -> Result<Choice, Fault>
-    ensures { Takes choice_view result reader.new (take_choice word.now reader.old) }
+fn closed(alloc: Global, word: &str, reader: &mut Reader<'_>) -> Result<Choice, Fault>
+    ensures { Takes choice_view result reader.new (take_closed word.now reader.old) }
 {
     let choice = by_word(alloc, word, reader)?;
     close(reader)?;
     Ok(choice)
+}
+
+// An array of numbers that is not empty.
+fn spans(alloc: Global, reader: &mut Reader<'_>) -> Result<Vec<u32>, Fault>
+    ensures { Takes (λ v. v.items) result reader.new (take_spans reader.old) }
+{
+    let found = numbers(alloc, reader)?;
+    if found.is_empty() {
+        return Err(Fault::Form);
+    }
+    Ok(found)
+}
+
+// The end of the line's array, or such numbers before it.
+fn last_spans(alloc: Global, reader: &mut Reader<'_>) -> Result<Vec<u32>, Fault>
+    ensures { Takes (λ v. v.items) result reader.new (take_last_spans reader.old) }
+{
+    if reader.take_end_array() {
+        return Ok(Vec::new(alloc));
+    }
+    let found = spans(alloc, reader)?;
+    close(reader)?;
+    Ok(found)
+}
+
+fn shift(alloc: Global, reader: &mut Reader<'_>) -> Result<Choice, Fault>
+    ensures { Takes choice_view result reader.new (take_shift reader.old) }
+{
+    Ok(Choice::Shift(certs(alloc, reader)?, last_spans(alloc, reader)?))
+}
+
+/// The choice of a node's line whose word was read.
+pub(crate) fn choice(alloc: Global, word: &str, reader: &mut Reader<'_>) -> Result<Choice, Fault>
+    ensures { Takes choice_view result reader.new (take_choice word.now reader.old) }
+{
+    match word {
+        "shift" => shift(alloc, reader),
+        _ => closed(alloc, word, reader),
+    }
 }

@@ -1,5 +1,5 @@
 -- Choices, and the first and the last line, are read from the forms that they are written in alone.
-use Rattle.std.proofs.Common.{◌≡◌, ℕ, cond, inl, inr, List, [], ◌∷◌, Some, None, option_map, option_and_then, refl, ap, ◌∙◌}
+use Rattle.std.proofs.Common.{◌≡◌, ℕ, cond, inl, inr, List, [], ◌∷◌, Some, None, option_map, option_and_then, refl, ap, subst, ◌∙◌}
 use Rattle.std.specs.Prelude.{codes, ◌==◌}
 use Rattle.std.specs.List.{AllByRecursion}
 use Rattle.std.specs.Str.{bytes_eq}
@@ -7,10 +7,10 @@ use Rattle.std.proofs.lemmas.Bool.{eqb-true}
 use Rattle.serde_json.specs.Data.{Data}
 use Rattle.cap_farkas.specs.declared.cert.Cert.{Cert}
 use Rattle.cap_goal_spec.specs.Choices.{PlainChoice, by_absurd, by_clash, by_set, by_alloc, by_assert, by_if, by_loop, by_turn, by_call, by_fork, by_return, by_enter, by_act, by_pick, by_shift, by_settle, by_keep, by_give, by_fact, by_cases, by_cell, by_region, by_guard, by_convert, by_create, by_made}
-use Rattle.cap_deriv.specs.Reading.{number_of_json, numbers_of_json, cert_of_json, certs_of_json, marks_of_json, choices_of_none, choices_of_one, choices_of_two, choices_of_three, choice_of_items, choice_of_json, head_of_json, opening_of_items, opening_by_word, opening_of_json, closing_of_items, closing_by_word, closing_of_json}
+use Rattle.cap_deriv.specs.Reading.{number_of_json, numbers_of_json, cert_of_json, certs_of_json, marks_of_json, unless_empty, spans_of_json, choices_of_none, choices_of_one, choices_of_two, choices_of_three, choice_of_items, choice_of_json, head_of_json, opening_of_items, opening_by_word, opening_of_json, closing_of_items, closing_by_word, closing_of_json}
 use Rattle.cap_deriv_write.specs.Bounds.{IsNumber, IsCert, AreCerts, IsMark, IsChoice}
 use Rattle.cap_deriv_write.specs.Forms.{headed_form, number_form, numbers_form, cert_form, certs_form, marks_form, choice_form, opening_form, closing_form}
-use Rattle.cap_deriv_write.proofs.Options.{then_of, test_of}
+use Rattle.cap_deriv_write.proofs.Options.{some_same, then_of, test_of}
 use Rattle.cap_deriv_write.proofs.Parts.{number_read, number_sound, numbers_read, numbers_sound, long_sound, head_sound}
 use Rattle.cap_deriv_write.proofs.CertForms.{cert_read, cert_sound, certs_read, certs_sound, marks_read, marks_sound, headed_as}
 use Rattle.cap_deriv_write.proofs.Rows.{Spells, IsSoundRow, rows_sound, row_of_none, row_of_one, row_of_two, row_of_three}
@@ -32,7 +32,10 @@ choice_read by_return h = refl
 choice_read (by_enter i cs) h = rw (number_read i h.0, certs_read cs h.1) refl
 choice_read (by_act j cs ms) h = rw (number_read j h.0, certs_read cs h.1, marks_read ms h.2) refl
 choice_read (by_pick o c m) h = rw (number_read o h.0, number_read c h.1, number_read m h.2) refl
-choice_read (by_shift cs) h = ap (option_map by_shift) (certs_read cs h)
+choice_read (by_shift cs []) h = ap (option_map (λ cs. by_shift cs [])) (certs_read cs h.0)
+choice_read (by_shift cs (n ∷ ns)) h =
+    ap (option_and_then (λ cs. option_map (by_shift cs) (spans_of_json (numbers_form (n ∷ ns))))) (certs_read cs h.0)
+    ∙ ap (λ o. option_map (by_shift cs) (option_and_then unless_empty o)) (numbers_read (n ∷ ns) h.1)
 choice_read (by_settle ns cs) h = rw (numbers_read ns h.0, certs_read cs h.1) refl
 choice_read (by_keep cs) h = ap (option_map by_keep) (certs_read cs h)
 choice_read by_give h = refl
@@ -67,6 +70,24 @@ twice_numbered_row : (make : ℕ → ℕ → List Cert → PlainChoice) (w : Lis
     → (a b c : Data) → IsSoundRow (a ∷ b ∷ c ∷ []) (w, option_and_then (λ n. option_and_then (λ m. option_map (make n m) (certs_of_json c)) (number_of_json b)) (number_of_json a))
 twice_numbered_row =
     row_of_three number_of_json number_form IsNumber number_sound number_of_json number_form IsNumber number_sound certs_of_json certs_form AreCerts certs_sound
+
+-- the pieces that a shift names, of which there are some
+abbrev AreSpans : List ℕ → Type 0
+AreSpans [] = ⊥
+AreSpans (n ∷ ns) = AllByRecursion IsNumber (n ∷ ns)
+
+spans_sound : (d : Data) (ns : List ℕ) → spans_of_json d ≡ Some ns → (d ≡ numbers_form ns) × AreSpans ns
+spans_sound d ns e =
+    let t = then_of unless_empty (numbers_of_json d) ns e in
+    go t.0 (numbers_sound d t.0 t.1) t.2
+  where
+    go : (ms : List ℕ) → (d ≡ numbers_form ms) × AllByRecursion IsNumber ms → unless_empty ms ≡ Some ns → (d ≡ numbers_form ns) × AreSpans ns
+    go [] s e = absurd (cc)
+    go (m ∷ ms) s e = let same : m ∷ ms ≡ ns = some_same _ _ e in (s.0 ∙ ap numbers_form same, subst AreSpans same s.1)
+
+shift_spelled : (cs : List Cert) (ns : List ℕ) → AreCerts cs → AreSpans ns → Spells (headed_form (codes "shift") (certs_form cs ∷ numbers_form ns ∷ [])) (by_shift cs ns)
+shift_spelled cs [] h k = absurd k
+shift_spelled cs (n ∷ ns) h k = (refl, (h, k))
 
 none_sound : AllByRecursion (IsSoundRow []) choices_of_none
 none_sound = (
@@ -104,7 +125,7 @@ one_sound a = (
   (
     proved_row by_assert (codes "assert") (λ cs h. (refl, h)) a,
     (
-      proved_row by_shift (codes "shift") (λ cs h. (refl, h)) a,
+      proved_row (λ cs. by_shift cs []) (codes "shift") (λ cs h. (refl, (h, tt))) a,
       (
         proved_row by_keep (codes "keep") (λ cs h. (refl, h)) a,
         (
@@ -123,10 +144,13 @@ two_sound : (a b : Data) → AllByRecursion (IsSoundRow (a ∷ b ∷ [])) (choic
 two_sound a b = (
   numbered_row by_enter (codes "enter") (λ n cs h k. (refl, (h, k))) a b,
   (
-    row_of_two numbers_of_json numbers_form (AllByRecursion IsNumber) numbers_sound certs_of_json certs_form AreCerts certs_sound by_settle (codes "settle") (λ ns cs h k. (refl, (h, k))) a b,
+    row_of_two certs_of_json certs_form AreCerts certs_sound spans_of_json numbers_form AreSpans spans_sound by_shift (codes "shift") shift_spelled a b,
     (
-      numbered_row by_cell (codes "cell") (λ n cs h k. (refl, (h, k))) a b,
-      (numbered_row by_region (codes "region") (λ n cs h k. (refl, (h, k))) a b, tt),
+      row_of_two numbers_of_json numbers_form (AllByRecursion IsNumber) numbers_sound certs_of_json certs_form AreCerts certs_sound by_settle (codes "settle") (λ ns cs h k. (refl, (h, k))) a b,
+      (
+        numbered_row by_cell (codes "cell") (λ n cs h k. (refl, (h, k))) a b,
+        (numbered_row by_region (codes "region") (λ n cs h k. (refl, (h, k))) a b, tt),
+      ),
     ),
   ),
 )

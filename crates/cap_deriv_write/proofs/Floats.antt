@@ -7,7 +7,7 @@ use Rattle.serde_json.specs.Written.{has_float, items_have_float}
 use Rattle.cap_farkas.specs.declared.cert.Cert.{Cert}
 use Rattle.cap_farkas.specs.declared.cert.Cert.TheVariants.{Leaf, Split}
 use Rattle.cap_goal_spec.specs.Choices.{PlainChoice, by_absurd, by_clash, by_set, by_alloc, by_assert, by_if, by_loop, by_turn, by_call, by_fork, by_return, by_enter, by_act, by_pick, by_shift, by_settle, by_keep, by_give, by_fact, by_cases, by_cell, by_region, by_guard, by_convert, by_create, by_made}
-use Rattle.cap_deriv_write.specs.Forms.{pair_form, cert_form, mark_form, choice_form, number_form}
+use Rattle.cap_deriv_write.specs.Forms.{pair_form, cert_form, mark_form, spans_form, choice_form, number_form}
 use Rattle.cap_deriv_write.specs.Written.{line_text}
 
 neither : (a b : Bool) → a ≡ false → b ≡ false → (a || b) ≡ false
@@ -29,6 +29,13 @@ mark_whole (Some c) = cert_whole c
 last_certs : (cs : List Cert) → (items_have_float (items_of (map cert_form cs)) || false) ≡ false
 last_certs cs = neither _ _ (none_of cert_form cert_whole cs) refl
 
+last_numbers : (ns : List ℕ) → (items_have_float (items_of (map number_form ns)) || false) ≡ false
+last_numbers ns = neither _ _ (none_of number_form (λ n. refl) ns) refl
+
+spans_whole : (ns : List ℕ) → items_have_float (items_of (spans_form ns)) ≡ false
+spans_whole [] = refl
+spans_whole (n ∷ ns) = last_numbers (n ∷ ns)
+
 pub choice_whole : (c : PlainChoice) → has_float (choice_form c) ≡ false
 choice_whole (by_absurd c) = neither _ _ (cert_whole c) refl
 choice_whole (by_clash i j cs) = last_certs cs
@@ -44,7 +51,7 @@ choice_whole by_return = refl
 choice_whole (by_enter i cs) = last_certs cs
 choice_whole (by_act j cs ms) = neither _ _ (none_of cert_form cert_whole cs) (neither _ _ (none_of mark_form mark_whole ms) refl)
 choice_whole (by_pick o c m) = refl
-choice_whole (by_shift cs) = last_certs cs
+choice_whole (by_shift cs spans) = neither _ _ (none_of cert_form cert_whole cs) (spans_whole spans)
 choice_whole (by_settle ns cs) = neither _ _ (none_of number_form (λ n. refl) ns) (last_certs cs)
 choice_whole (by_keep cs) = last_certs cs
 choice_whole by_give = refl

@@ -11,7 +11,7 @@ use Rattle.cap_farkas.specs.declared.cert.Cert.TheVariants.{Leaf, Split}
 use Rattle.cap_goal_spec.specs.Choices.{PlainChoice, by_absurd, by_clash, by_set, by_alloc, by_assert, by_if, by_loop, by_turn, by_call, by_fork, by_return, by_enter, by_act, by_pick, by_shift, by_settle, by_keep, by_give, by_fact, by_cases, by_cell, by_region, by_guard, by_convert, by_create, by_made}
 use Rattle.cap_deriv.specs.Told.{ended_lines}
 use Rattle.cap_deriv_write.specs.Bounds.{IsNumber, IsPair, ArePairs, IsCert, AreCerts, IsMark, IsChoice}
-use Rattle.cap_deriv_write.specs.Forms.{number_form, pair_form, pairs_form, cert_form, certs_form, mark_form, choice_form, opening_form, closing_form}
+use Rattle.cap_deriv_write.specs.Forms.{number_form, numbers_form, pair_form, pairs_form, cert_form, certs_form, mark_form, spans_form, choice_form, opening_form, closing_form}
 use Rattle.cap_deriv_write.specs.Spelled.{AreTexts, later_forms, all_forms, HaveForms, AreVisible}
 use Rattle.cap_deriv_write.specs.Written.{line_text, choice_lines, text_of_choices}
 use Rattle.cap_deriv_write.proofs.Visible.{IsSimple, AreSimple, visible_from, visible_signed, visible_text, line_cut, simple_text}
@@ -60,6 +60,20 @@ depth_mark : (m : Option Cert) → depth (mark_form m) ≤ 3
 depth_mark None = omega arith
 depth_mark (Some c) = depth_cert c
 
+simple_spans : (ns : List ℕ) → AllByRecursion IsNumber ns → AreSimple (items_of (spans_form ns))
+simple_spans [] h = tt
+simple_spans (n ∷ ns) h = (all_simple number_form IsNumber simple_number (n ∷ ns) h, tt)
+
+depth_numbers : (ns : List ℕ) → depth (numbers_form ns) ≤ 1
+depth_numbers ns = omega (arith, all_depth number_form 0 (λ n. omega arith) ns)
+
+depth_alone : (d : Data) → depth d ≤ 1 → items_depth (items_of (d ∷ [])) ≤ 1
+depth_alone d h = omega arith
+
+depth_spans : (ns : List ℕ) → items_depth (items_of (spans_form ns)) ≤ 1
+depth_spans [] = omega arith
+depth_spans (n ∷ ns) = depth_alone (numbers_form (n ∷ ns)) (depth_numbers (n ∷ ns))
+
 simple_choice : (c : PlainChoice) → IsChoice c → IsSimple (choice_form c)
 simple_choice (by_absurd c) h = (visible_from (codes "absurd") refl, (simple_cert c h, tt))
 simple_choice (by_clash i j cs) h = (visible_from (codes "clash") refl, (simple_number i h.0, (simple_number j h.1, (simple_certs cs h.2, tt))))
@@ -75,7 +89,7 @@ simple_choice by_return h = (visible_from (codes "return") refl, tt)
 simple_choice (by_enter i cs) h = (visible_from (codes "enter") refl, (simple_number i h.0, (simple_certs cs h.1, tt)))
 simple_choice (by_act j cs ms) h = (visible_from (codes "act") refl, (simple_number j h.0, (simple_certs cs h.1, (all_simple mark_form IsMark simple_mark ms h.2, tt))))
 simple_choice (by_pick o c m) h = (visible_from (codes "pick") refl, (simple_number o h.0, (simple_number c h.1, (simple_number m h.2, tt))))
-simple_choice (by_shift cs) h = (visible_from (codes "shift") refl, (simple_certs cs h, tt))
+simple_choice (by_shift cs spans) h = (visible_from (codes "shift") refl, (simple_certs cs h.0, simple_spans spans h.1))
 simple_choice (by_settle ns cs) h = (visible_from (codes "settle") refl, (all_simple number_form IsNumber simple_number ns h.0, (simple_certs cs h.1, tt)))
 simple_choice (by_keep cs) h = (visible_from (codes "keep") refl, (simple_certs cs h, tt))
 simple_choice by_give h = (visible_from (codes "give") refl, tt)
@@ -103,7 +117,7 @@ depth_choice by_return = omega arith
 depth_choice (by_enter i cs) = omega (arith, depth_certs cs)
 depth_choice (by_act j cs ms) = omega (arith, depth_certs cs, all_depth mark_form 3 depth_mark ms)
 depth_choice (by_pick o c m) = omega arith
-depth_choice (by_shift cs) = omega (arith, depth_certs cs)
+depth_choice (by_shift cs spans) = omega (arith, depth_certs cs, depth_spans spans)
 depth_choice (by_settle ns cs) = omega (arith, depth_certs cs, all_depth number_form 0 (λ n. omega arith) ns)
 depth_choice (by_keep cs) = omega (arith, depth_certs cs)
 depth_choice by_give = omega arith

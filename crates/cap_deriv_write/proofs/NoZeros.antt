@@ -54,7 +54,7 @@ choice_both (by_enter i cs) f z = (f.0, certs_both cs f.1 z)
 choice_both (by_act j cs ms) f z =
     (f.0, certs_both cs f.1 (all_front HasNoZero cs (given_marks ms) z), marks_both ms f.2 (all_behind HasNoZero cs (given_marks ms) z))
 choice_both (by_pick o c m) f z = f
-choice_both (by_shift cs) f z = certs_both cs f z
+choice_both (by_shift cs spans) f z = (certs_both cs f.0 z, f.1)
 choice_both (by_settle ns cs) f z = (f.0, certs_both cs f.1 z)
 choice_both (by_keep cs) f z = certs_both cs f z
 choice_both by_give f z = tt

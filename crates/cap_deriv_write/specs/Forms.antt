@@ -49,6 +49,11 @@ numbers_form = list_form number_form
 
 -- ---- choices
 
+-- the pieces that a shift names, where it names any
+abbrev pub spans_form : List ℕ → List Data
+spans_form [] = []
+spans_form (n ∷ ns) = numbers_form (n ∷ ns) ∷ []
+
 abbrev pub choice_form : PlainChoice → Data
 choice_form (by_absurd c) = headed_form (codes "absurd") (cert_form c ∷ [])
 choice_form (by_clash i j cs) =
@@ -67,7 +72,7 @@ choice_form (by_act j cs ms) =
     headed_form (codes "act") (number_form j ∷ certs_form cs ∷ marks_form ms ∷ [])
 choice_form (by_pick o c m) =
     headed_form (codes "pick") (number_form o ∷ number_form c ∷ number_form m ∷ [])
-choice_form (by_shift cs) = headed_form (codes "shift") (certs_form cs ∷ [])
+choice_form (by_shift cs spans) = headed_form (codes "shift") (certs_form cs ∷ spans_form spans)
 choice_form (by_settle ns cs) =
     headed_form (codes "settle") (numbers_form ns ∷ certs_form cs ∷ [])
 choice_form (by_keep cs) = headed_form (codes "keep") (certs_form cs ∷ [])

@@ -1,10 +1,11 @@
 //! JSON values of choices.
-ghost use Rattle.std.specs.Prelude.{◌≡◌, ◌∷◌, [], IfOk};
+ghost use Rattle.std.specs.Prelude.{◌≡◌, ◌∷◌, [], IfOk, codes};
 ghost use Rattle.std.specs.List.{AllByRecursion};
 ghost use Rattle.serde_json.specs.View.{view};
 ghost use Rattle.cap_goal.specs.Views.{choice_view};
 ghost use Rattle.cap_deriv_write.specs.Bounds.{IsNumber, CertFits, ChoiceFits};
-ghost use Rattle.cap_deriv_write.specs.Forms.{headed_form, number_form, certs_form, choice_form};
+ghost use Rattle.cap_deriv_write.specs.Forms.{headed_form, number_form, certs_form, spans_form};
+ghost use Rattle.cap_deriv_write.specs.Forms.{choice_form};
 
 use crate::certs::{cert, certs, marks};
 use crate::values::{headed, headed_one, headed_three, headed_two, numbers};
@@ -51,6 +52,19 @@ fn twice_numbered(
     )
 }
 
+// Certificates, and the pieces that a shift names, where it names any.
+fn shift(alloc: Global, all: &[Cert], spans: &[u32]) -> Result<Value, AllocError>
+    ensures value { IfOk result (λ v. view v
+        ≡ headed_form (codes "shift") (certs_form all.now ∷ spans_form spans.now)) }
+    ensures fits { IfOk result
+        (λ v. AllByRecursion CertFits all.now × AllByRecursion IsNumber spans.now) }
+{
+    match spans {
+        [] => proved(alloc, "shift", all),
+        [_, ..] => headed_two(alloc, "shift", certs(alloc, all)?, numbers(alloc, spans)?),
+    }
+}
+
 /// The value of a choice's line.
 pub(crate) fn choice(alloc: Global, choice: &Choice) -> Result<Value, AllocError>
     ensures value { IfOk result (λ v. view v ≡ choice_form (choice_view choice.now)) }
@@ -83,7 +97,7 @@ pub(crate) fn choice(alloc: Global, choice: &Choice) -> Result<Value, AllocError
             Value::from(*case),
             Value::from(*step),
         ),
-        Choice::Shift(all) => proved(alloc, "shift", all),
+        Choice::Shift(all, spans) => shift(alloc, all, spans),
         Choice::Settle(candidates, all) => headed_two(
             alloc,
             "settle",

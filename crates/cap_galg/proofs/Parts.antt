@@ -11,6 +11,9 @@ use Rattle.cap_galg.specs.Elements.{Element, nothing, share, tok, src, tokens, a
 use Rattle.cap_galg.specs.Views.{counting_element}
 use Rattle.cap_galg.specs.Answers.{IsComposition}
 use Rattle.cap_galg.specs.Laws.Fractions.{product-positive, amount-from, from-lowest}
+use Rattle.cap_galg.specs.Laws.Kin.{tokens-is}
+use Rattle.cap_galg.specs.Laws.Algebras.{sound-of}
+use Rattle.cap_galg.specs.Algebras.{counting}
 use Rattle.cap_galg.specs.Laws.Composition.{true_or_false, le-true, le-false, true-eq, eq-true, false-eq, compose-comm, sound-composed}
 
 -- ---- amounts
@@ -92,7 +95,7 @@ pub given-back_too : (x y : Counting) (n k : ℕ) (r : Option Counting) → x �
 given-back_too x y n k r p q e =
     subst (λ v. IsComposition counting_element (counting_element v) (counting_element y) (Ok r)) (sym p)
     (subst (λ v. IsComposition counting_element (tokens k) (counting_element v) (Ok r)) (sym q)
-    (subst (λ o. IsComposition counting_element (tokens k) (src n) (Ok o)) (sym e) (given n k (nat_le k n) (tokens k) (src n) (back n k ∙ compose-comm (src n) (tokens k)) (back-narrow_too n k))))
+    (subst (λ o. IsComposition counting_element (tokens k) (src n) (Ok o)) (sym e) (given n k (nat_le k n) (tokens k) (src n) (back n k ∙ compose-comm (src n) (tokens k) tt (sound-of counting (tokens k) (tokens-is k))) (back-narrow_too n k))))
 
 pub amount-test : (f : Fraction) (g : ℕ) → 0 < f.den → f.num ≤ f.den → IsGcd f.num f.den g → (IsTrue (nat_eq g 1) → IsAmount f) × (IsAmount f → IsTrue (nat_eq g 1))
 amount-test f g h l is = (λ t. amount-from f g h l is (true-eq g 1 t), λ a. eq-true g 1 (from-lowest f g is a.lowest))

@@ -3,7 +3,7 @@ use Rattle.std.proofs.Common.{◌≡◌, ◌≢◌, refl, sym, ap, ◌∙◌, su
 use Rattle.std.specs.Prelude.{◌&&◌, ◌||◌, if◌then◌else◌}
 use Rattle.cap_galg.specs.declared.error.GuardError.{GuardError}
 use Rattle.cap_galg.specs.declared.error.GuardError.TheVariants.{Wide, OutOfMemory}
-use Rattle.cap_galg.specs.Elements.{Element, nothing, one, share, tok, src, both, whole, left, right, is_unit, is_full, pair_of, on_left, on_right, in_left, in_right, bind, compose, is_wide, at_most}
+use Rattle.cap_galg.specs.Elements.{Element, nothing, one, share, tok, src, indices, both, whole, left, right, is_unit, is_full, pair_of, on_left, on_right, in_left, in_right, bind, compose, is_wide, at_most}
 use Rattle.cap_galg.specs.Algebras.{PlainAlgebra, full, IsElement, AreKin}
 use Rattle.cap_galg.specs.Answers.{IsComposition, answer_of_both}
 use Rattle.cap_galg.specs.Laws.Composition.{bind-none, true_or_false, and-true, some-same, compose-nothing, compose-comm, unit-is, composed-not-unit, full_alone, sound-pair, IsSound}
@@ -93,6 +93,7 @@ wide-nothing one = refl
 wide-nothing (share f) = refl
 wide-nothing (tok k) = refl
 wide-nothing (src n) = refl
+wide-nothing (indices xs) = refl
 wide-nothing (both a b) = refl
 wide-nothing whole = refl
 wide-nothing (left x) = refl
@@ -104,6 +105,7 @@ at_most-nothing one = refl
 at_most-nothing (share f) = refl
 at_most-nothing (tok k) = refl
 at_most-nothing (src n) = refl
+at_most-nothing (indices xs) = refl
 at_most-nothing (both a b) = refl
 at_most-nothing whole = refl
 at_most-nothing (left x) = refl
@@ -163,10 +165,13 @@ none-full : (a : PlainAlgebra) (x y : Element) → IsElement a x → IsElement a
 none-full a x y h k f u = full_alone x y (sound-of a x h) (sound-of a y k) f u
 
 none-full_too : (a : PlainAlgebra) (x y : Element) → IsElement a x → IsElement a y → is_unit x ≡ false → is_full y ≡ true → compose x y ≡ None
-none-full_too a x y h k u f = compose-comm x y ∙ none-full a y x k h f u
+none-full_too a x y h k u f = compose-comm x y (sound-of a x h) (sound-of a y k) ∙ none-full a y x k h f u
 
 whole-in-left : (y : Element) → is_unit y ≡ false → (compose whole (in_left y) ≡ None)
 whole-in-left y u = ap (compose whole) (in-left-on y u) ∙ elim (is_full y) as (λ b. compose whole (if b then whole else left y) ≡ None) [ true ↦ refl | false ↦ refl ]
+
+left-in-whole : (x : Element) → is_unit x ≡ false → (compose (in_left x) whole ≡ None)
+left-in-whole x u = ap (λ p. compose p whole) (in-left-on x u) ∙ elim (is_full x) as (λ b. compose (if b then whole else left x) whole ≡ None) [ true ↦ refl | false ↦ refl ]
 
 in-left-made : (x y : Element) (r : Option Element) → is_unit x ≡ false → compose x y ≡ r → bind r (λ z. Some (on_left z)) ≡ bind r (λ z. Some (in_left z))
 in-left-made x y None u e = refl
@@ -194,7 +199,7 @@ in-left-one x y k = elim (true_or_false (is_unit x)) [
         | inl g ↦
             let n = none-full_too k.0 x y k.2 k.3 u g in
             record {
-              composed = ap (compose (in_left x)) (in-left-on y v ∙ on-left-full y g) ∙ compose-comm (in_left x) whole ∙ whole-in-left x u ∙ sym (ap (λ o. bind o (λ z. Some (in_left z))) n);
+              composed = ap (compose (in_left x)) (in-left-on y v ∙ on-left-full y g) ∙ left-in-whole x u ∙ sym (ap (λ o. bind o (λ z. Some (in_left z))) n);
               wide = no-wide (compose x y) n;
             }
         | inr g ↦
@@ -265,6 +270,9 @@ on-right-part x f = rw f refl
 whole-in-right : (y : Element) → is_unit y ≡ false → (compose whole (in_right y) ≡ None)
 whole-in-right y u = ap (compose whole) (in-right-on y u) ∙ elim (is_full y) as (λ b. compose whole (if b then whole else right y) ≡ None) [ true ↦ refl | false ↦ refl ]
 
+right-in-whole : (x : Element) → is_unit x ≡ false → (compose (in_right x) whole ≡ None)
+right-in-whole x u = ap (λ p. compose p whole) (in-right-on x u) ∙ elim (is_full x) as (λ b. compose (if b then whole else right x) whole ≡ None) [ true ↦ refl | false ↦ refl ]
+
 in-right-made : (x y : Element) (r : Option Element) → is_unit x ≡ false → compose x y ≡ r → bind r (λ z. Some (on_right z)) ≡ bind r (λ z. Some (in_right z))
 in-right-made x y None u e = refl
 in-right-made x y (Some z) u e = ap (λ w. Some w) (sym (in-right-on z (composed-not-unit x y z u e)))
@@ -288,7 +296,7 @@ in-right-one x y k = elim (true_or_false (is_unit x)) [
         | inl g ↦
             let n = none-full_too k.0 x y k.2 k.3 u g in
             record {
-              composed = ap (compose (in_right x)) (in-right-on y v ∙ on-right-full y g) ∙ compose-comm (in_right x) whole ∙ whole-in-right x u ∙ sym (ap (λ o. bind o (λ z. Some (in_right z))) n);
+              composed = ap (compose (in_right x)) (in-right-on y v ∙ on-right-full y g) ∙ right-in-whole x u ∙ sym (ap (λ o. bind o (λ z. Some (in_right z))) n);
               wide = no-wide (compose x y) n;
             }
         | inr g ↦
@@ -363,6 +371,7 @@ has_shares a x h = go x (sound-of a x h)
     go (share f) p = p
     go (tok k) p = tt
     go (src n) p = tt
+    go (indices xs) p = tt
     go (both x y) p = (go x p.0, go y p.1)
     go whole p = tt
     go (left x) p = go x p.0

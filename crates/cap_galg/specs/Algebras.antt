@@ -1,15 +1,17 @@
 -- Guard algebras: their elements, their atoms, and the laws.
 use Rattle.std.specs.Prelude.{◌≡◌, ◌≢◌, ◌↔◌, ℕ, ◌+◌, ◌-◌, ◌<◌, ◌&&◌, Bool, true, false, nat_lt}
 use Rattle.std.specs.Prelude.{if◌then◌else◌, Some}
+use Rattle.cap_galg_indices.specs.Sets.{AreBounds, all_indices, is_empty}
 use Rattle.cap_galg.specs.Fractions.{fraction, IsShare}
-use Rattle.cap_galg.specs.Elements.{Element, nothing, one, share, tok, src, both, whole, left}
-use Rattle.cap_galg.specs.Elements.{right, is_unit, is_full, on_left, on_right, bind, compose}
+use Rattle.cap_galg.specs.Elements.{Element, nothing, one, share, tok, src, indices, both, whole}
+use Rattle.cap_galg.specs.Elements.{left, right, is_unit, is_full, on_left, on_right, bind, compose}
 use Rattle.cap_galg.specs.Elements.{at_most}
 
 pub data PlainAlgebra : Type 0 where
   unique : PlainAlgebra
   divisible : PlainAlgebra
   counting : PlainAlgebra
+  indexed : PlainAlgebra
   product : PlainAlgebra → PlainAlgebra → PlainAlgebra
   sum : PlainAlgebra → PlainAlgebra → PlainAlgebra
 
@@ -17,6 +19,7 @@ abbrev pub full : PlainAlgebra → Element
 full unique = one
 full divisible = share (fraction 1 1)
 full counting = src 0
+full indexed = indices all_indices
 full (product a b) = both (full a) (full b)
 full (sum a b) = whole
 
@@ -26,6 +29,7 @@ IsElement unique one = Unit {0}
 IsElement divisible (share f) = IsShare f
 IsElement counting (tok k) = 0 < k
 IsElement counting (src n) = Unit {0}
+IsElement indexed (indices xs) = AreBounds xs × (is_empty xs ≡ false)
 IsElement (product a b) (both x y) =
     IsElement a x × IsElement b y × ((is_unit x && is_unit y) ≡ false)
 IsElement (sum a b) whole = Unit {0}
@@ -65,7 +69,7 @@ atoms (product a b) = atoms a + atoms b
 atoms (sum a b) = atoms a + atoms b
 atoms _ = 1
 
--- which of the three atomic algebras an atom is
+-- which of the four atomic algebras an atom is
 abbrev pub atom_algebra : PlainAlgebra → ℕ → PlainAlgebra
 atom_algebra (product a b) i =
     if nat_lt i (atoms a) then atom_algebra a i else atom_algebra b (i - atoms a)

@@ -2,7 +2,8 @@
 -- `nothing`. A pair isn't two units; a left or right element of a sum is neither unit nor full on
 -- its side, as all units of a sum are one element and all fulls are one element.
 use Rattle.std.specs.Prelude.{ℕ, ◌+◌, ◌-◌, ◌*◌, ◌^◌, ◌==◌, ◌&&◌, ◌||◌, Bool, true, false, nat_le}
-use Rattle.std.specs.Prelude.{if◌then◌else◌, Option, Some, None}
+use Rattle.std.specs.Prelude.{if◌then◌else◌, Option, Some, None, List}
+use Rattle.cap_galg_indices.specs.Sets.{is_empty, is_full as has_all, is_within, composed}
 use Rattle.cap_galg.specs.declared.fraction.Fraction.{Fraction}
 use Rattle.cap_galg.specs.Fractions.{crossed, plus}
 
@@ -12,6 +13,7 @@ pub data Element : Type 0 where
   share : Fraction → Element
   tok : ℕ → Element
   src : ℕ → Element
+  indices : List ℕ → Element
   both : Element → Element → Element
   whole : Element
   left : Element → Element
@@ -27,6 +29,7 @@ is_full one = true
 is_full (share f) = f.num == f.den
 is_full (tok k) = false
 is_full (src n) = n == 0
+is_full (indices xs) = has_all xs
 is_full (both x y) = is_full x && is_full y
 is_full whole = true
 is_full (left x) = false
@@ -38,6 +41,10 @@ amount f = if f.num == 0 then nothing else share f
 
 abbrev pub tokens : ℕ → Element
 tokens k = if k == 0 then nothing else tok k
+
+-- the element of an indexed guard with a set of indices
+abbrev pub index_set : List ℕ → Element
+index_set xs = if is_empty xs then nothing else indices xs
 
 -- the element of a product with two parts
 abbrev pub pair_of : Element → Element → Element
@@ -69,6 +76,7 @@ compose (share f) (share g) =
 compose (tok j) (tok k) = Some (tok (j + k))
 compose (src n) (tok k) = if nat_le k n then Some (src (n - k)) else None
 compose (tok k) (src n) = if nat_le k n then Some (src (n - k)) else None
+compose (indices xs) (indices ys) = bind (composed xs ys) (λ zs. Some (indices zs))
 compose (both a b) (both c d) = bind (compose a c) (λ x. bind (compose b d) (λ y. Some (both x y)))
 compose (left x) (left y) = bind (compose x y) (λ z. Some (on_left z))
 compose (right x) (right y) = bind (compose x y) (λ z. Some (on_right z))
@@ -92,6 +100,7 @@ at_most (share f) (share g) = nat_le (f.num * g.den) (g.num * f.den)
 at_most (tok j) (tok k) = nat_le j k
 at_most (tok k) (src n) = true
 at_most (src n) (src m) = nat_le m n
+at_most (indices xs) (indices ys) = is_within xs ys
 at_most (both a b) (both c d) = at_most a c && at_most b d
 at_most whole whole = true
 at_most (left x) whole = true

@@ -1,10 +1,11 @@
 -- What contracts see of the types in code.
 use Rattle.std.specs.Prelude.{◌≡◌, ℕ, ◌<◌}
-use Rattle.cap_galg.specs.Elements.{Element, nothing, one, share, tok, src, both, whole, left}
-use Rattle.cap_galg.specs.Elements.{right, in_left, in_right, amount, tokens}
+use Rattle.cap_galg_indices.specs.Sets.{one_index, indices_from}
+use Rattle.cap_galg.specs.Elements.{Element, nothing, one, share, tok, src, indices, both, whole}
+use Rattle.cap_galg.specs.Elements.{left, right, in_left, in_right, amount, tokens}
 use Rattle.cap_galg.specs.Fractions.{IsShare, IsAmount}
-use Rattle.cap_galg.specs.Algebras.{PlainAlgebra, unique, divisible, counting, product, sum, atoms}
-use Rattle.cap_galg.specs.Algebras.{atom_algebra}
+use Rattle.cap_galg.specs.Algebras.{PlainAlgebra, unique, divisible, counting, indexed, product}
+use Rattle.cap_galg.specs.Algebras.{sum, atoms, atom_algebra}
 use Rattle.cap_galg.specs.declared.algebra.Algebra.{Algebra, fold-Algebra}
 use Rattle.cap_galg.specs.declared.algebra.Atom.{Atom}
 use Rattle.cap_galg.specs.declared.algebra.Atom.TheVariants as atom
@@ -24,6 +25,7 @@ abbrev pub algebra_step : Algebra-F PlainAlgebra → PlainAlgebra
 algebra_step Algebra-F.Unique = unique
 algebra_step Algebra-F.Divisible = divisible
 algebra_step Algebra-F.Counting = counting
+algebra_step Algebra-F.Indexed = indexed
 algebra_step (Algebra-F.Pair a b) = product a.value b.value
 algebra_step (Algebra-F.Either a b) = sum a.value b.value
 
@@ -34,6 +36,7 @@ abbrev pub atom_view : Atom → PlainAlgebra
 atom_view atom.Unique = unique
 atom_view atom.Divisible = divisible
 atom_view atom.Counting = counting
+atom_view atom.Indexed = indexed
 
 abbrev pub node_step : Node-F Element → Element
 node_step Node-F.Nothing = nothing
@@ -41,6 +44,7 @@ node_step Node-F.One = one
 node_step (Node-F.Share f) = share f
 node_step (Node-F.Tok k) = tok k
 node_step (Node-F.Src n) = src n
+node_step (Node-F.Indices xs) = indices xs
 node_step (Node-F.Both x y) = both x.value y.value
 node_step Node-F.Whole = whole
 node_step (Node-F.Left x) = left x.value
@@ -81,6 +85,8 @@ amount_element part.One = one
 amount_element (part.Share f) = amount f
 amount_element (part.Src n) = src n
 amount_element (part.Tok k) = tokens k
+amount_element (part.At i) = indices (one_index i)
+amount_element (part.From i) = indices (indices_from i)
 
 -- the amount is one of an atomic algebra
 abbrev pub IsAmountOf : PlainAlgebra → Amount → Type 0
@@ -88,6 +94,8 @@ IsAmountOf unique part.One = Unit {0}
 IsAmountOf divisible (part.Share f) = IsAmount f
 IsAmountOf counting (part.Src n) = Unit {0}
 IsAmountOf counting (part.Tok k) = Unit {0}
+IsAmountOf indexed (part.At i) = Unit {0}
+IsAmountOf indexed (part.From i) = Unit {0}
 IsAmountOf a m = ⊥
 
 -- how many atoms a declared algebra has

@@ -9,14 +9,15 @@ ghost use Rattle.cap_galg.specs.Views.{algebra_view, atom_count, HasAtom, Accept
 use crate::amount::Amount;
 use std::alloc::{AllocError, Global};
 
-/// The guards of a region: one guard that is unique, divisible or counting, or two algebras of
-/// which a thread may hold parts of both (`Pair`) or of one alone (`Either`). Its atoms are its
-/// unique, divisible and counting guards, numbered from 0, left to right.
+/// The guards of a region: one guard that is unique, divisible, counting or indexed, or two
+/// algebras of which a thread may hold parts of both (`Pair`) or of one alone (`Either`). Its atoms
+/// are its unique, divisible, counting and indexed guards, numbered from 0, left to right.
 #[derive(Debug, Drop)]
 pub enum Algebra {
     Unique,
     Divisible,
     Counting,
+    Indexed,
     Pair(Box<Algebra>, Box<Algebra>),
     Either(Box<Algebra>, Box<Algebra>),
 }
@@ -27,6 +28,7 @@ pub enum Atom {
     Unique,
     Divisible,
     Counting,
+    Indexed,
 }
 
 // The kind of an atom, or else how many atoms it comes after the algebra's.
@@ -38,6 +40,7 @@ fn atom_or_rest(algebra: &Algebra, atom: u32) -> Result<Atom, u32>
         Algebra::Unique => leaf_or_rest(Atom::Unique, atom),
         Algebra::Divisible => leaf_or_rest(Atom::Divisible, atom),
         Algebra::Counting => leaf_or_rest(Atom::Counting, atom),
+        Algebra::Indexed => leaf_or_rest(Atom::Indexed, atom),
         Algebra::Pair(a, b) => match atom_or_rest(a, atom) {
             Ok(kind) => Ok(kind),
             Err(rest) => atom_or_rest(b, rest),
@@ -68,7 +71,9 @@ fn pass(algebra: &Algebra, i: u32, j: u32) -> Passed
     ensures { HasPassed (algebra_view algebra.now) i j result }
 {
     match algebra {
-        Algebra::Unique | Algebra::Divisible | Algebra::Counting => pass_leaf(i, j),
+        Algebra::Unique | Algebra::Divisible | Algebra::Counting | Algebra::Indexed => {
+            pass_leaf(i, j)
+        }
         Algebra::Pair(a, b) => match pass(a, i, j) {
             Passed::Both(apart) => Passed::Both(apart),
             Passed::First(rest) => match atom_or_rest(b, rest) {
@@ -157,14 +162,17 @@ impl Algebra {
             Algebra::Unique => matches!(other, Algebra::Unique),
             Algebra::Divisible => matches!(other, Algebra::Divisible),
             Algebra::Counting => matches!(other, Algebra::Counting),
+            Algebra::Indexed => matches!(other, Algebra::Indexed),
             Algebra::Pair(a, b) => match other {
                 Algebra::Pair(c, d) => a.same(c) && b.same(d),
-                Algebra::Unique | Algebra::Divisible | Algebra::Counting => false,
+                Algebra::Unique | Algebra::Divisible => false,
+                Algebra::Counting | Algebra::Indexed => false,
                 Algebra::Either(_, _) => false,
             },
             Algebra::Either(a, b) => match other {
                 Algebra::Either(c, d) => a.same(c) && b.same(d),
-                Algebra::Unique | Algebra::Divisible | Algebra::Counting => false,
+                Algebra::Unique | Algebra::Divisible => false,
+                Algebra::Counting | Algebra::Indexed => false,
                 Algebra::Pair(_, _) => false,
             },
         }
@@ -178,6 +186,7 @@ impl Algebra {
             Algebra::Unique => Ok(Algebra::Unique),
             Algebra::Divisible => Ok(Algebra::Divisible),
             Algebra::Counting => Ok(Algebra::Counting),
+            Algebra::Indexed => Ok(Algebra::Indexed),
             Algebra::Pair(a, b) => Ok(Algebra::Pair(
                 Box::new(alloc, a.copy(alloc)?)?,
                 Box::new(alloc, b.copy(alloc)?)?,

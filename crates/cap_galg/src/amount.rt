@@ -5,14 +5,17 @@ ghost use Rattle.cap_galg.specs.Views.{atom_view, IsAmountOf};
 use crate::algebra::Atom;
 use crate::fraction::Fraction;
 
-/// How much of one guard: all of a unique one, a fraction of a divisible one, or, of a counting
-/// one, the source with some tokens out, or some tokens.
+/// How much of one guard: all of a unique one, or a fraction of a divisible one; of a counting one,
+/// the source with some tokens out, or some tokens; of an indexed one, one index, or all indices
+/// from one on.
 #[derive(Clone, Copy, Debug, PartialEq, Eq)]
 pub enum Amount {
     One,
     Share(Fraction),
     Src(u64),
     Tok(u64),
+    At(u64),
+    From(u64),
 }
 
 impl Amount {
@@ -26,10 +29,15 @@ impl Amount {
             Atom::Divisible => match self {
                 Amount::Share(fraction) => fraction.is_amount(),
                 Amount::One | Amount::Src(_) | Amount::Tok(_) => false,
+                Amount::At(_) | Amount::From(_) => false,
             },
             Atom::Counting => match self {
                 Amount::Src(_) | Amount::Tok(_) => true,
-                Amount::One | Amount::Share(_) => false,
+                Amount::One | Amount::Share(_) | Amount::At(_) | Amount::From(_) => false,
+            },
+            Atom::Indexed => match self {
+                Amount::At(_) | Amount::From(_) => true,
+                Amount::One | Amount::Share(_) | Amount::Src(_) | Amount::Tok(_) => false,
             },
         }
     }

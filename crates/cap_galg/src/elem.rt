@@ -15,6 +15,7 @@ use crate::error::GuardError;
 use crate::fraction::Fraction;
 use crate::guard::Guard;
 use crate::node::{Node, on_left, on_right};
+use cap_galg_indices::Indices;
 use std::alloc::{AllocError, Global};
 
 /// An element of a declared algebra.
@@ -33,26 +34,28 @@ enum Placed {
     Past(u32, Node),
 }
 
-fn amount_node(amount: Amount) -> Node
-    ensures { node_view result ≡ amount_element amount }
+fn amount_node(alloc: Global, amount: Amount) -> Result<Node, AllocError>
+    ensures { IfOk result (λ n. node_view n ≡ amount_element amount) }
 {
     match amount {
-        Amount::One => Node::One,
+        Amount::One => Ok(Node::One),
         Amount::Share(fraction) => {
             if fraction.num == 0 {
-                Node::Nothing
+                Ok(Node::Nothing)
             } else {
-                Node::Share(fraction)
+                Ok(Node::Share(fraction))
             }
         }
-        Amount::Src(out) => Node::Src(out),
+        Amount::Src(out) => Ok(Node::Src(out)),
         Amount::Tok(count) => {
             if count == 0 {
-                Node::Nothing
+                Ok(Node::Nothing)
             } else {
-                Node::Tok(count)
+                Ok(Node::Tok(count))
             }
         }
+        Amount::At(index) => Ok(Node::Indices(Indices::at(alloc, index)?)),
+        Amount::From(first) => Ok(Node::Indices(Indices::from(alloc, first)?)),
     }
 }
 
@@ -61,7 +64,9 @@ fn at_atom(alloc: Global, algebra: &Algebra, atom: u32, node: Node) -> Result<Pl
     ensures { IfOk result (IsPlaced (algebra_view algebra.now) atom (node_view node)) }
 {
     match algebra {
-        Algebra::Unique | Algebra::Divisible | Algebra::Counting => Ok(at_leaf(atom, node)),
+        Algebra::Unique | Algebra::Divisible | Algebra::Counting | Algebra::Indexed => {
+            Ok(at_leaf(atom, node))
+        }
         Algebra::Pair(a, b) => match at_atom(alloc, a, atom, node)? {
             Placed::Here(x) => {
                 let none = Box::new(alloc, Node::Nothing)?;
@@ -102,6 +107,7 @@ fn full_node(alloc: Global, algebra: &Algebra) -> Result<Node, AllocError>
         Algebra::Unique => Ok(Node::One),
         Algebra::Divisible => Ok(Node::Share(Fraction { num: 1, den: 1 })),
         Algebra::Counting => Ok(Node::Src(0)),
+        Algebra::Indexed => Ok(Node::Indices(Indices::from(alloc, 0)?)),
         Algebra::Pair(a, b) => Ok(Node::Both(
             Box::new(alloc, full_node(alloc, a)?)?,
             Box::new(alloc, full_node(alloc, b)?)?,
@@ -156,7 +162,7 @@ impl Elem {
         ensures { let x = atom_element (algebra_view algebra.now) atom (amount_element amount) in
             MatchResult result (IsElementOf algebra.now x) (λ e. e ≡ OutOfMemory) }
     {
-        let node = amount_node(amount);
+        let node = amount_node(alloc, amount)?;
         if node.is_unit() {
             return Elem::unit(alloc, algebra);
         }

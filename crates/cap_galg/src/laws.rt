@@ -1,7 +1,8 @@
 //! Laws of guard elements, each the contract of a function that does nothing.
-ghost use Rattle.std.specs.Prelude.{◌≡◌, List, Some};
+ghost use Rattle.std.specs.Prelude.{◌≡◌, ℕ, List, Some, false};
 ghost use Rattle.std.specs.List.{All};
-ghost use Rattle.cap_galg.specs.Elements.{Element, bind, compose, on_left, on_right};
+ghost use Rattle.cap_galg.specs.Elements.{Element, bind, compose, is_wide, on_left, on_right};
+ghost use Rattle.cap_galg.specs.Elements.{index_set};
 ghost use Rattle.cap_galg.specs.Algebras.{PlainAlgebra, sum, full, AtMost};
 ghost use Rattle.cap_galg.specs.Lists.{compose_all};
 ghost use Rattle.cap_galg.specs.Portions.{Portion, IsPortion, held_elements, wanted_elements};
@@ -23,6 +24,11 @@ pub fn portions_compose()
 pub fn fulls_of_both_sides()
     ensures { (a b : PlainAlgebra) →
         (on_left (full a) ≡ full (sum a b)) × (on_right (full b) ≡ full (sum a b)) }
+{}
+
+/// Two parts of an indexed guard are never Wide: no number of theirs is bounded.
+pub fn sets_of_indices_are_narrow()
+    ensures { (xs ys : List ℕ) → is_wide (index_set xs) (index_set ys) ≡ false }
 {}
 
 /// Of three parts of a guard, it is the same to compose the first with the second and then with the

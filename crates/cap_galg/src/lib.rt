@@ -12,6 +12,7 @@ mod elem;
 mod error;
 mod fraction;
 mod guard;
+mod indexed;
 mod laws;
 mod node;
 mod pair;
@@ -26,6 +27,9 @@ pub use elem::Elem;
 pub use error::GuardError;
 pub use fraction::Fraction;
 pub use guard::Guard;
-pub use laws::{fulls_of_both_sides, parts_are_associative, portions_compose};
+pub use indexed::Indexed;
+pub use laws::{
+    fulls_of_both_sides, parts_are_associative, portions_compose, sets_of_indices_are_narrow,
+};
 pub use pair::Pair;
 pub use unique::Unique;

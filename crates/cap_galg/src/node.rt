@@ -2,13 +2,14 @@
 ghost use Rattle.std.specs.Prelude.{◌≡◌, IfOk, Ok};
 ghost use Rattle.cap_galg.specs.Fractions.{IsShare};
 ghost use Rattle.cap_galg.specs.Views.{node_view, HasShares};
-ghost use Rattle.cap_galg.specs.Elements.{is_unit, is_full, at_most, share, tok, src};
+ghost use Rattle.cap_galg.specs.Elements.{is_unit, is_full, at_most, share, tok, src, indices};
 ghost use Rattle.cap_galg.specs.Elements.{on_left as made_left, on_right as made_right};
 ghost use Rattle.cap_galg.specs.Answers.{IsComposition};
 
 use crate::answer::paired_answer;
 use crate::error::GuardError;
 use crate::fraction::{Fraction, is_at_most, sum};
+use cap_galg_indices::Indices;
 use std::alloc::{AllocError, Global};
 
 /// An element of some algebra. A pair isn't two units, and what stands on a side of a sum is
@@ -20,6 +21,7 @@ pub enum Node {
     Share(Fraction),
     Tok(u64),
     Src(u64),
+    Indices(Indices),
     Both(Box<Node>, Box<Node>),
     Whole,
     Left(Box<Node>),
@@ -37,6 +39,7 @@ impl Node {
             Node::Share(amount) => Ok(Node::Share(*amount)),
             Node::Tok(count) => Ok(Node::Tok(*count)),
             Node::Src(count) => Ok(Node::Src(*count)),
+            Node::Indices(set) => Ok(Node::Indices(set.copy(alloc)?)),
             Node::Both(x, y) => Ok(Node::Both(
                 Box::new(alloc, x.copy(alloc)?)?,
                 Box::new(alloc, y.copy(alloc)?)?,
@@ -64,6 +67,7 @@ impl Node {
             Node::Share(amount) => amount.num == amount.den,
             Node::Tok(_) => false,
             Node::Src(out) => *out == 0,
+            Node::Indices(set) => set.is_full(),
             Node::Both(x, y) => x.is_full() && y.is_full(),
             Node::Whole => true,
             Node::Left(_) | Node::Right(_) => false,
@@ -82,6 +86,7 @@ impl Node {
                 | Node::Share(_)
                 | Node::Tok(_)
                 | Node::Src(_)
+                | Node::Indices(_)
                 | Node::Both(_, _)
                 | Node::Whole
                 | Node::Left(_)
@@ -93,6 +98,7 @@ impl Node {
                 | Node::One
                 | Node::Tok(_)
                 | Node::Src(_)
+                | Node::Indices(_)
                 | Node::Both(_, _)
                 | Node::Whole
                 | Node::Left(_)
@@ -104,6 +110,7 @@ impl Node {
                 Node::Nothing
                 | Node::One
                 | Node::Share(_)
+                | Node::Indices(_)
                 | Node::Both(_, _)
                 | Node::Whole
                 | Node::Left(_)
@@ -115,6 +122,19 @@ impl Node {
                 | Node::One
                 | Node::Share(_)
                 | Node::Tok(_)
+                | Node::Indices(_)
+                | Node::Both(_, _)
+                | Node::Whole
+                | Node::Left(_)
+                | Node::Right(_) => false,
+            },
+            Node::Indices(set) => match other {
+                Node::Indices(more) => set.le(more),
+                Node::Nothing
+                | Node::One
+                | Node::Share(_)
+                | Node::Tok(_)
+                | Node::Src(_)
                 | Node::Both(_, _)
                 | Node::Whole
                 | Node::Left(_)
@@ -127,6 +147,7 @@ impl Node {
                 | Node::Share(_)
                 | Node::Tok(_)
                 | Node::Src(_)
+                | Node::Indices(_)
                 | Node::Whole
                 | Node::Left(_)
                 | Node::Right(_) => false,
@@ -138,6 +159,7 @@ impl Node {
                 | Node::Share(_)
                 | Node::Tok(_)
                 | Node::Src(_)
+                | Node::Indices(_)
                 | Node::Both(_, _)
                 | Node::Left(_)
                 | Node::Right(_) => false,
@@ -150,6 +172,7 @@ impl Node {
                 | Node::Share(_)
                 | Node::Tok(_)
                 | Node::Src(_)
+                | Node::Indices(_)
                 | Node::Both(_, _)
                 | Node::Right(_) => false,
             },
@@ -161,6 +184,7 @@ impl Node {
                 | Node::Share(_)
                 | Node::Tok(_)
                 | Node::Src(_)
+                | Node::Indices(_)
                 | Node::Both(_, _)
                 | Node::Left(_) => false,
             },
@@ -182,6 +206,7 @@ impl Node {
                 | Node::Share(_)
                 | Node::Tok(_)
                 | Node::Src(_)
+                | Node::Indices(_)
                 | Node::Both(_, _)
                 | Node::Whole
                 | Node::Left(_)
@@ -193,6 +218,7 @@ impl Node {
                 Node::One
                 | Node::Tok(_)
                 | Node::Src(_)
+                | Node::Indices(_)
                 | Node::Both(_, _)
                 | Node::Whole
                 | Node::Left(_)
@@ -204,6 +230,7 @@ impl Node {
                 Node::Nothing => Ok(Some(self.copy(alloc)?)),
                 Node::One
                 | Node::Share(_)
+                | Node::Indices(_)
                 | Node::Both(_, _)
                 | Node::Whole
                 | Node::Left(_)
@@ -214,6 +241,19 @@ impl Node {
                 Node::Nothing => Ok(Some(self.copy(alloc)?)),
                 Node::One
                 | Node::Share(_)
+                | Node::Src(_)
+                | Node::Indices(_)
+                | Node::Both(_, _)
+                | Node::Whole
+                | Node::Left(_)
+                | Node::Right(_) => Ok(None),
+            },
+            Node::Indices(set) => match other {
+                Node::Indices(more) => sets(alloc, set, more),
+                Node::Nothing => Ok(Some(self.copy(alloc)?)),
+                Node::One
+                | Node::Share(_)
+                | Node::Tok(_)
                 | Node::Src(_)
                 | Node::Both(_, _)
                 | Node::Whole
@@ -236,6 +276,7 @@ impl Node {
                 | Node::Share(_)
                 | Node::Tok(_)
                 | Node::Src(_)
+                | Node::Indices(_)
                 | Node::Whole
                 | Node::Left(_)
                 | Node::Right(_) => Ok(None),
@@ -246,6 +287,7 @@ impl Node {
                 | Node::Share(_)
                 | Node::Tok(_)
                 | Node::Src(_)
+                | Node::Indices(_)
                 | Node::Both(_, _)
                 | Node::Whole
                 | Node::Left(_)
@@ -261,6 +303,7 @@ impl Node {
                 | Node::Share(_)
                 | Node::Tok(_)
                 | Node::Src(_)
+                | Node::Indices(_)
                 | Node::Both(_, _)
                 | Node::Whole
                 | Node::Right(_) => Ok(None),
@@ -275,6 +318,7 @@ impl Node {
                 | Node::Share(_)
                 | Node::Tok(_)
                 | Node::Src(_)
+                | Node::Indices(_)
                 | Node::Both(_, _)
                 | Node::Whole
                 | Node::Left(_) => Ok(None),
@@ -312,6 +356,15 @@ fn given_back(out: u64, count: u64) -> Option<Node>
         Some(Node::Src(out - count))
     } else {
         None
+    }
+}
+
+fn sets(alloc: Global, a: &Indices, b: &Indices) -> Result<Option<Node>, GuardError>
+    ensures { IsComposition node_view (indices a.now) (indices b.now) result }
+{
+    match a.compose(alloc, b)? {
+        Some(set) => Ok(Some(Node::Indices(set))),
+        None => Ok(None),
     }
 }
 

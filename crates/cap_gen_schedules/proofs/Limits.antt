@@ -11,13 +11,14 @@ use Rattle.std.proofs.lemmas.List.Elements.{All-from_recursion, All-push, recurs
 use Rattle.rand_pcg.specs.Lcg.{Lcg}
 use Rattle.cap_lin.specs.Steps.{sum_of, fits, first_wide}
 use Rattle.cap_lin.specs.declared.row.Op.TheVariants.{Eq as Equal}
-use Rattle.cap_prog.specs.Program.{Label, PlainAct, set, read, write, cas, alloc, call, fork, branch}
-use Rattle.cap_prog.specs.Program.{loop, check, give_back, Block, done, first, PlainFunction}
+use Rattle.cap_prog.specs.Program.{Label, PlainAct, set, read, write, cas, faa, dispose, alloc}
+use Rattle.cap_prog.specs.Program.{call, fork, branch, loop, check, give_back, Block, done, first}
+use Rattle.cap_prog.specs.Program.{PlainFunction}
 use Rattle.cap_prog.specs.Program.{PlainProgram}
 use Rattle.cap_machine.specs.declared.event.Entry.{Entry}
 use Rattle.cap_machine.specs.Machine.{Frame, Thread, Configuration, Outcome, next, fault, disabled}
 use Rattle.cap_machine.specs.Machine.{Spot, with_rest, new_frame, value_in, holds, compared, at_cell}
-use Rattle.cap_machine.specs.Machine.{swaps, are_free, may_be_at, allocates, calls, forks, returns}
+use Rattle.cap_machine.specs.Machine.{swaps, adds, are_free, may_be_at, allocates, calls, forks, returns}
 use Rattle.cap_machine.specs.Machine.{does, takes_base, statement_step, thread_step, step, start}
 use Rattle.cap_machine.specs.Machine.{top_frame}
 use Rattle.cap_machine.specs.Laws.{is_step}
@@ -58,7 +59,7 @@ narrow-base p c thread b = at-thread (slice_get c.threads thread)
   where
     at-act :
         (s : Spot) (l : Label) (a : PlainAct) (rest : Block) →
-        are_narrow (act_steps s.frame.store a (Some b)) ≡ true →
+        are_narrow (act_steps s.configuration.heap s.frame.store a (Some b)) ≡ true →
         is_step (statement_step p s (Some b) (first l a rest)) ≡ true → fits b ≡ true
     at-act s l (alloc x m) rest n h =
         base-fits b (m - 1)
@@ -67,13 +68,14 @@ narrow-base p c thread b = at-thread (slice_get c.threads thread)
     at-act s l _ rest n h = absurd (cc)
 
     at-block :
-        (s : Spot) (k : Block) → are_narrow (block_steps s.frame.store (Some b) k) ≡ true →
+        (s : Spot) (k : Block) →
+        are_narrow (block_steps s.configuration.heap s.frame.store (Some b) k) ≡ true →
         is_step (statement_step p s (Some b) k) ≡ true → fits b ≡ true
     at-block s done n h = absurd (cc)
     at-block s (first l a rest) n h = at-act s l a rest n h
 
     at-thread :
-        (o : Option Thread) → are_narrow (frame_steps (Some b) (top_frame o)) ≡ true →
+        (o : Option Thread) → are_narrow (frame_steps c.heap (Some b) (top_frame o)) ≡ true →
         is_step (thread_step p c (record { thread = thread; base = Some b }) o) ≡ true →
         fits b ≡ true
     at-thread None n h = absurd (cc)
@@ -158,6 +160,11 @@ module _ (p : PlainProgram) (s : Spot) where
       (value_in s.frame.store new))
       (λ v. choice-grows many (compared Equal v (value_in s.frame.store old)) _ _ (same _)
       (same _))
+  does-grows l (faa x t u) b base =
+      cell-grows many _ (get s.configuration.heap (value_in s.frame.store t))
+      (adds s b x (value_in s.frame.store t) (value_in s.frame.store u)) (λ v. same _)
+  does-grows l (dispose t) b base =
+      cell-grows many _ (get s.configuration.heap (value_in s.frame.store t)) _ (λ v. same _)
   does-grows l (alloc x n) b base = allocates-grows b x n base
   does-grows l (call x n args) b base =
       calls-grows b n (map (value_in s.frame.store) args) x (slice_get p.functions n)

@@ -45,12 +45,12 @@ pub wide-entry :
     pos (2 ^ 127) ≤ℤ free_address c.heap → are_narrow (entry_steps c (entry_of c thread)) ≡ false
 wide-entry c thread n h l =
     ap (λ o. are_narrow
-    (frame_steps (option_map (λ n. free_address c.heap) o) (running c thread))) h
+    (frame_steps c.heap (option_map (λ n. free_address c.heap) o) (running c thread))) h
     ∙ at-frame (running c thread) h
   where
     at-act :
         (store : List ℤ) (a : PlainAct) → cells_of a ≡ Some n →
-        are_narrow (act_steps store a (Some (free_address c.heap))) ≡ false
+        are_narrow (act_steps c.heap store a (Some (free_address c.heap))) ≡ false
     at-act store (alloc x m) e = wide-sum (free_address c.heap) (m - 1) l
     at-act store _ e = absurd (cc)
 
@@ -59,7 +59,7 @@ wide-entry c thread n h l =
         option_and_then (λ a. a.cells)
         (option_map (statement_ahead f.function) (first_statement b))
         ≡ Some n →
-        are_narrow (block_steps f.store (Some (free_address c.heap)) b) ≡ false
+        are_narrow (block_steps c.heap f.store (Some (free_address c.heap)) b) ≡ false
     at-block f done e = absurd (cc)
     at-block f (first l a b) e = at-act f.store a e
 
@@ -69,7 +69,7 @@ wide-entry c thread n h l =
         (option_and_then
         (λ f. option_map (statement_ahead f.function) (first_statement f.rest)) o)
         ≡ Some n →
-        are_narrow (frame_steps (Some (free_address c.heap)) o) ≡ false
+        are_narrow (frame_steps c.heap (Some (free_address c.heap)) o) ≡ false
     at-frame None e = absurd (cc)
     at-frame (Some f) e = at-block f f.rest e
 

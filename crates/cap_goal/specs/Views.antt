@@ -4,7 +4,7 @@ use Rattle.std.specs.Borrow.{Bor}
 use Rattle.cap_farkas.specs.declared.cert.Cert.{Cert}
 use Rattle.cap_prog.specs.declared.assertion.Item.{Item}
 use Rattle.cap_prog.specs.declared.function.Statement.{Statement}
-use Rattle.cap_prog.specs.Program.{Items, none, item, items_of, append_items, Block, done, append, PlainAct, read, write, cas}
+use Rattle.cap_prog.specs.Program.{Items, none, item, items_of, append_items, Block, done, append, PlainAct, read, write, cas, faa, dispose}
 use Rattle.cap_prog.specs.Views.{item_view, block_view}
 use Rattle.cap_goal_spec.specs.States.{Home, PlainTask, to_run, to_turn, to_give, to_take, to_make, to_close, to_shift, to_rest, PlainGoal}
 use Rattle.cap_goal_spec.specs.Choices.{PlainChoice, by_absurd, by_clash, by_set, by_alloc, by_assert, by_if, by_loop, by_turn, by_call, by_fork, by_return, by_enter, by_act, by_pick, by_shift, by_settle, by_keep, by_give, by_fact, by_cases, by_cell, by_region, by_guard, by_convert, by_create, by_made, PlainTree, node, PlainTrees, no_trees, tree}
@@ -62,7 +62,7 @@ choice_view choice.Return = by_return
 choice_view (choice.Enter i cs) = by_enter i cs.items
 choice_view (choice.Act j cs ms) = by_act j cs.items ms.items
 choice_view (choice.Pick o c m) = by_pick o c m
-choice_view (choice.Shift cs) = by_shift cs.items
+choice_view (choice.Shift cs spans) = by_shift cs.items spans.items
 choice_view (choice.Settle list cs) = by_settle list.items cs.items
 choice_view (choice.Keep cs) = by_keep cs.items
 choice_view choice.Give = by_give
@@ -83,11 +83,13 @@ abbrev pub unit_view : named.Unit → PlainUnit
 unit_view (named.TheVariants.Region n) = region_unit n
 unit_view (named.TheVariants.Function n) = function_unit n
 
--- a read, a write or a compare-and-swap
+-- a statement that works on a cell
 abbrev pub is_heap_act : PlainAct → Bool
 is_heap_act (read x a) = true
 is_heap_act (write a t) = true
 is_heap_act (cas x a old new) = true
+is_heap_act (faa x a t) = true
+is_heap_act (dispose a) = true
 is_heap_act _ = false
 
 abbrev pub has_no_items : Items → Bool

@@ -30,7 +30,9 @@ pub enum Choice {
     Act(u32, Vec<Cert>, Vec<Option<Cert>>),
     /// Close an opened region in a case by a move.
     Pick(u32, u32, u32),
-    Shift(Vec<Cert>),
+    /// Check a move. For each indexed atom of its action, in their order, it names a piece of the
+    /// guards that were held before.
+    Shift(Vec<Cert>, Vec<u32>),
     /// Settle a fact by candidates.
     Settle(Vec<u32>, Vec<Cert>),
     /// Keep the state of a fact.

@@ -78,7 +78,9 @@ impl Choice {
                 Choice::Act(*cell, copy_certs(alloc, certs)?, copy_marks(alloc, marks)?)
             }
             Choice::Pick(opened, case, action) => Choice::Pick(*opened, *case, *action),
-            Choice::Shift(certs) => Choice::Shift(copy_certs(alloc, certs)?),
+            Choice::Shift(certs, spans) => {
+                Choice::Shift(copy_certs(alloc, certs)?, Vec::from_slice(alloc, spans)?)
+            }
             Choice::Settle(candidates, certs) => Choice::Settle(
                 Vec::from_slice(alloc, candidates)?,
                 copy_certs(alloc, certs)?,

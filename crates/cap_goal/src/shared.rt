@@ -1,6 +1,6 @@
 //! Lists that states share until one of them changes its own.
-ghost use Rattle.std.specs.Prelude.{◌≡◌, ◌<◌, [], ◌∷◌, ◌++◌, length, IfOk, if◌then◌else◌, remove};
-ghost use Rattle.std.specs.Prelude.{slice_set};
+ghost use Rattle.std.specs.Prelude.{◌≡◌, ◌<◌, ◌≤◌, [], ◌∷◌, ◌++◌, length, IfOk, remove};
+ghost use Rattle.std.specs.Prelude.{if◌then◌else◌, insert, slice_set};
 ghost use Rattle.std.specs.Result.{is_ok};
 
 use std::alloc::{AllocError, Global};
@@ -112,6 +112,17 @@ impl<T: Member> Shared<T> {
     {
         let items = Rc::make_mut(&mut self.items)?;
         items.all.push(member)?;
+        Ok(())
+    }
+
+    /// Inserts a member at a place, from 0, in front of those from there on. On an error the list
+    /// is as it was.
+    pub fn insert(&mut self, at: u32, member: T) -> Result<(), AllocError>
+        requires { at ≤ length self.old }
+        ensures { self.new ≡ (if is_ok result then insert self.old at member else self.old) }
+    {
+        let items = Rc::make_mut(&mut self.items)?;
+        items.all.insert(at as usize, member)?;
         Ok(())
     }
 

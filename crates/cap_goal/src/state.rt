@@ -1,5 +1,6 @@
 //! A state of a derivation: variables, rows, locals, cells, facts of regions and guards.
-ghost use Rattle.std.specs.Prelude.{◌≡◌, ◌<◌, [], ◌∷◌, ◌++◌, length, IfOk, if◌then◌else◌, remove};
+ghost use Rattle.std.specs.Prelude.{◌≡◌, ◌<◌, ◌≤◌, [], ◌∷◌, ◌++◌, length, IfOk, if◌then◌else◌};
+ghost use Rattle.std.specs.Prelude.{insert, remove};
 ghost use Rattle.std.specs.Prelude.{◌↔◌, IsTrue, slice_set};
 ghost use Rattle.std.specs.Result.{is_ok};
 ghost use Rattle.cap_goal_spec.specs.States.{longest_list};
@@ -18,7 +19,7 @@ pub const LONGEST_LIST: usize = 100_000_000;
 
 /// A symbolic state: nine lists, each of at most 100,000,000 members. Its copies share the lists
 /// that they have in common. Each list has four calls: one lends it, and three append, replace and
-/// remove a member. On an error a state is as it was.
+/// remove a member; into the guards a fifth inserts one. On an error a state is as it was.
 #[derive(Drop)]
 pub struct State {
     sorts: Shared<Sort>,
@@ -311,6 +312,17 @@ impl State {
             else self.old) }
     {
         self.guards.put(at, member)
+    }
+
+    /// Inserts a piece at a place of `guards`, from 0, in front of those from there on.
+    pub fn insert_guards(&mut self, at: u32, member: Piece) -> Result<(), AllocError>
+        requires place { at ≤ length self.old.guards }
+        requires room { length self.old.guards < longest_list }
+        ensures { self.new ≡ (if is_ok result
+            then record self.old { guards = insert self.old.guards at member }
+            else self.old) }
+    {
+        self.guards.insert(at, member)
     }
 
     /// Removes the piece at a place of `guards`, from 0.

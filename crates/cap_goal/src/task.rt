@@ -82,12 +82,17 @@ impl Task<'_> {
     }
 }
 
-/// Whether the statement is a read, a write or a compare-and-swap. It takes no memory.
+/// Whether the statement works on a cell: a read, a write, a compare-and-swap, a fetch-and-add or a
+/// disposal. It takes no memory.
 pub fn is_heap(statement: &Statement) -> bool
     ensures { result ≡ is_heap_act (statement_view statement.now).act }
 {
     match &statement.act {
-        Act::Read(_, _) | Act::Write(_, _) | Act::Cas(_, _, _, _) => true,
+        Act::Read(_, _)
+        | Act::Write(_, _)
+        | Act::Cas(_, _, _, _)
+        | Act::Faa(_, _, _)
+        | Act::Dispose(_) => true,
         Act::Set(_, _)
         | Act::Alloc(_, _)
         | Act::Call(_, _, _)

@@ -64,6 +64,8 @@ fn push_loops_of<'a>(
         | Act::Read(_, _)
         | Act::Write(_, _)
         | Act::Cas(_, _, _, _)
+        | Act::Faa(_, _, _)
+        | Act::Dispose(_)
         | Act::Alloc(_, _)
         | Act::Call(_, _, _)
         | Act::Fork(_, _)

@@ -9,6 +9,10 @@ use Rattle.cap_lin.specs.declared.row.Sort.TheVariants.{Int}
 use Rattle.cap_lin.specs.declared.row.Op.{Op}
 use Rattle.cap_lin.specs.declared.row.Op.TheVariants.{Eq as Equal, Le as AtMost}
 use Rattle.cap_fm_spec.specs.Rows.{same_row}
+use Rattle.cap_gsolve.specs.declared.piece.Form.{Form}
+use Rattle.cap_gsolve.specs.declared.piece.Form.TheVariants.{Span}
+use Rattle.cap_gsolve.specs.declared.piece.Piece.{Piece}
+use Rattle.cap_gsolve.specs.Pieces.{of_guards}
 use Rattle.cap_prog.specs.Program.{PlainAction, PlainRegionType}
 use Rattle.cap_goal_spec.specs.States.{PlainFact, PlainState}
 use Rattle.cap_goal_spec.specs.Environments.{region_env, term_in, term_in_steps}
@@ -40,6 +44,15 @@ bounds_by k f u t =
 abbrev pub action_bounds : PlainRegionType → PlainFact → Linear → PlainAction → List MadeRow
 action_bounds k f u a = bounds_by k f u a.source ++ bounds_by k f u a.target
 
+-- bounds by the first index of a span
+abbrev pub form_bounds : Linear → Form → List MadeRow
+form_bounds u (Span a e) = bounds u [] a
+form_bounds u f = []
+
+-- of a piece of the guards of the fact's region
+abbrev pub piece_bounds : PlainFact → Linear → Piece → List MadeRow
+piece_bounds f u q = if of_guards f.region f.kind q then form_bounds u q.form else []
+
 -- the state itself, bounds by it, and bounds by the states of cases, and by sources and targets of
 -- actions
 abbrev pub all_candidates : PlainRegionType → PlainFact → Linear → List MadeRow
@@ -68,8 +81,11 @@ without_repeats earlier (m ∷ ms) =
 abbrev pub later_state : PlainState → Linear
 later_state s = variable (length s.sorts)
 
+-- those of the region type, then bounds by the spans that are held
 abbrev pub candidates : PlainRegionType → PlainState → PlainFact → List MadeRow
-candidates k s f = without_repeats [] (all_candidates k f (later_state s))
+candidates k s f =
+    without_repeats []
+    (all_candidates k f (later_state s) ++ flat_map (piece_bounds f (later_state s)) s.guards)
 
 -- what is seen of a candidate: its row, or the operands of the first result that leaves 128 bits
 pub data PlainCandidate : Type 0 where

@@ -3,7 +3,8 @@ use Rattle.std.specs.Prelude.{ℕ, List, [], ◌∷◌, ◌++◌, Option, Some, 
 use Rattle.cap_farkas.specs.declared.cert.Cert.{Cert}
 
 -- numbers are of cells, facts, pieces, opened regions, cases, sums and candidates from 0, and of
--- moves: 0 for none, else an action from 1
+-- moves: 0 for none, else an action from 1; a shift names a piece for each indexed atom of its
+-- action
 pub data PlainChoice : Type 0 where
   by_absurd : Cert → PlainChoice
   by_clash : ℕ → ℕ → List Cert → PlainChoice
@@ -19,7 +20,7 @@ pub data PlainChoice : Type 0 where
   by_enter : ℕ → List Cert → PlainChoice
   by_act : ℕ → List Cert → List (Option Cert) → PlainChoice
   by_pick : ℕ → ℕ → ℕ → PlainChoice
-  by_shift : List Cert → PlainChoice
+  by_shift : List Cert → List ℕ → PlainChoice
   by_settle : List ℕ → List Cert → PlainChoice
   by_keep : List Cert → PlainChoice
   by_give : PlainChoice
@@ -45,7 +46,7 @@ certs_of (by_clash i j cs) = cs
 certs_of (by_assert cs) = cs
 certs_of (by_enter i cs) = cs
 certs_of (by_act j cs ms) = cs ++ given_marks ms
-certs_of (by_shift cs) = cs
+certs_of (by_shift cs spans) = cs
 certs_of (by_settle list cs) = cs
 certs_of (by_keep cs) = cs
 certs_of (by_fact cs) = cs
@@ -61,7 +62,7 @@ abbrev pub with_certs : PlainChoice → List Cert → PlainChoice
 with_certs (by_clash i j old) cs = by_clash i j cs
 with_certs (by_assert old) cs = by_assert cs
 with_certs (by_enter i old) cs = by_enter i cs
-with_certs (by_shift old) cs = by_shift cs
+with_certs (by_shift old spans) cs = by_shift cs spans
 with_certs (by_settle list old) cs = by_settle list cs
 with_certs (by_keep old) cs = by_keep cs
 with_certs (by_fact old) cs = by_fact cs

@@ -6,7 +6,7 @@ use Rattle.cap_lin.specs.Steps.{Step}
 use Rattle.cap_prog.specs.declared.assertion.Slot.{Slot}
 use Rattle.cap_prog.specs.declared.assertion.Slot.TheVariants.{Any, Is}
 use Rattle.cap_prog.specs.declared.assertion.Asked.{Asked}
-use Rattle.cap_prog.specs.declared.assertion.Asked.TheVariants.{One, Share, Src, Tok}
+use Rattle.cap_prog.specs.declared.assertion.Asked.TheVariants.{One, Share, Src, Tok, At, From}
 use Rattle.cap_prog.specs.Program.{PlainItem, compare, choose, fact, atom, cell, Items, none, item, PlainFunction}
 use Rattle.cap_goal_spec.specs.Terms.{term_over, term_over_steps, lone_variable, variables_from}
 use Rattle.cap_goal_spec.specs.States.{PlainFact, PlainEnv, Home}
@@ -63,6 +63,8 @@ asked_slot One = Any
 asked_slot (Share s) = s
 asked_slot (Src s) = s
 asked_slot (Tok s) = s
+asked_slot (At s) = s
+asked_slot (From s) = s
 
 abbrev pub is_name : ℕ → Option ℕ → Bool
 is_name x None = false

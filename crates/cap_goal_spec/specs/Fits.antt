@@ -4,9 +4,9 @@ use Rattle.std.specs.Prelude.{◌≡◌, ℕ, suc, ◌+◌, ◌≤◌, false, Li
 use Rattle.std.specs.List.{AllByRecursion, list_any}
 use Rattle.cap_lin.specs.Linear.{Linear, IsBelow}
 use Rattle.cap_gsolve.specs.declared.piece.Form.{Form}
-use Rattle.cap_gsolve.specs.declared.piece.Form.TheVariants.{One, Share, Src, Tok}
+use Rattle.cap_gsolve.specs.declared.piece.Form.TheVariants.{One, Share, Src, Tok, Span}
 use Rattle.cap_gsolve.specs.declared.piece.Piece.{Piece}
-use Rattle.cap_gsolve.specs.Pieces.{same_part}
+use Rattle.cap_gsolve.specs.Pieces.{joins}
 use Rattle.cap_gsolve.specs.Meaning.{Fits}
 use Rattle.cap_prog.specs.Program.{Items, PlainRegionType, loop, Block, first, PlainFunction, PlainProgram}
 use Rattle.cap_prog.specs.Parts.{all_items, all_statements}
@@ -21,6 +21,8 @@ FormIsBelow count One = Unit {0}
 FormIsBelow count (Share a) = IsBelow count a
 FormIsBelow count (Src n) = IsBelow count n
 FormIsBelow count (Tok k) = IsBelow count k
+FormIsBelow count (Span a None) = IsBelow count a
+FormIsBelow count (Span a (Some e)) = IsBelow count a × IsBelow count e
 
 abbrev pub NameIsBelow : ℕ → Option Linear → Type 0
 NameIsBelow count None = Unit {0}
@@ -39,10 +41,10 @@ pub record PieceFits (p : PlainProgram) (count : ℕ) (q : Piece) : Type 0 where
   pub form : FormIsBelow count q.form
   pub atom : IsSomeAnd (slice_get p.regions q.kind) (λ k. Fits k.algebra q)
 
--- no two of the pieces are of one part of one region's guards
+-- none of the pieces would have become one with an earlier one
 abbrev pub AreParted : List Piece → Type 0
 AreParted [] = Unit {0}
-AreParted (q ∷ qs) = (list_any (same_part q) qs ≡ false) × AreParted qs
+AreParted (q ∷ qs) = (list_any (joins q) qs ≡ false) × AreParted qs
 
 pub record HasRoom (s : PlainState) : Type 0 where
   pub sorts : length s.sorts ≤ longest_list

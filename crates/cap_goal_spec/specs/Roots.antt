@@ -7,7 +7,7 @@ use Rattle.cap_lin.specs.Rows.{row_of, row_of_steps}
 use Rattle.cap_lin.specs.declared.row.Row.{Row}
 use Rattle.cap_lin.specs.declared.row.Sort.TheVariants.{Int}
 use Rattle.cap_prog.specs.declared.assertion.Comp.{Comp}
-use Rattle.cap_prog.specs.Program.{Items, PlainAssertion, PlainCase, PlainRegionType, Label, PlainAct, set, read, write, cas, alloc, call, fork, branch, loop, check, give_back, Block, done, first, append, PlainFunction, PlainProgram}
+use Rattle.cap_prog.specs.Program.{Items, PlainAssertion, PlainCase, PlainRegionType, Label, PlainAct, set, read, write, cas, faa, dispose, alloc, call, fork, branch, loop, check, give_back, Block, done, first, append, PlainFunction, PlainProgram}
 use Rattle.cap_prog.specs.Scopes.{region_sorts}
 use Rattle.cap_goal_spec.specs.Terms.{variables_from}
 use Rattle.cap_goal_spec.specs.States.{PlainFact, PlainEnv, PlainState, Home, PlainTask, to_run, to_turn, to_give, to_take, to_close, to_rest, PlainGoal, goal_of}
@@ -133,6 +133,8 @@ abbrev mutual
   loops_of (read x a) l after = []
   loops_of (write a t) l after = []
   loops_of (cas x a old new) l after = []
+  loops_of (faa x a t) l after = []
+  loops_of (dispose a) l after = []
   loops_of (alloc x n) l after = []
   loops_of (call x f args) l after = []
   loops_of (fork f args) l after = []

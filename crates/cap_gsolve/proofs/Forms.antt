@@ -16,13 +16,15 @@ use Rattle.cap_galg.specs.Fractions.{plus as sum_of}
 use Rattle.cap_galg.specs.Elements.{Element, nothing, one, share, tok, src, tokens, is_unit, compose}
 use Rattle.cap_galg.specs.Algebras.{PlainAlgebra, unique, divisible, counting}
 use Rattle.cap_galg.specs.Laws.Fractions.{plus-share}
+use Rattle.cap_galg_indices.specs.Laws.Members.{from-ascends}
 use Rattle.cap_galg.specs.Laws.Composition.{true_or_false, le-true, true-le, true-eq, and-true, if-some, some-same, IsSound, compose-comm, compose-nothing}
 use Rattle.cap_gsolve.specs.declared.piece.Form.{Form}
-use Rattle.cap_gsolve.specs.declared.piece.Form.TheVariants.{One, Share, Src, Tok}
-use Rattle.cap_gsolve.specs.Pieces.{has_no_parts, is_above_zero, is_surely_some}
+use Rattle.cap_gsolve.specs.declared.piece.Form.TheVariants.{One, Share, Src, Tok, Span}
+use Rattle.cap_gsolve.specs.Pieces.{is_joined, has_no_parts, is_above_zero, is_surely_some}
 use Rattle.cap_gsolve.specs.Merge.{zero_term, one_term, added_rows, lone_rows, combined, combined_rows}
-use Rattle.cap_gsolve.specs.Compat.{never_compose, fits_rows}
+use Rattle.cap_gsolve.specs.Compat.{wanted_alone, never_compose, fits_rows}
 use Rattle.cap_gsolve.specs.Meaning.{IsFormElement, Takes}
+use Rattle.cap_gsolve.proofs.Ranges.{range-sound, range-some, indices-below}
 use Rattle.cap_gsolve.proofs.Amounts.{one-amount, zero-amount, zero-value, amount-positive, amount-most, sum-most, sum-is, count-positive, counts-most, counts-sum, counts-rest}
 
 -- ---- tokens
@@ -36,7 +38,7 @@ tokens-some k e = ap (λ b. if b then nothing else tok k) e
 not-zero : (j k : ℕ) → (j == 0) ≡ false → (j + k == 0) ≡ false
 not-zero j k e = grind (arith, nat_tests, e)
 
-tokens-sound : (k : ℕ) → IsSound (tokens k)
+pub tokens-sound : (k : ℕ) → IsSound (tokens k)
 tokens-sound k = by (k == 0) refl
   where
     by : (b : Bool) → (k == 0) ≡ b → IsSound (if b then nothing else tok k)
@@ -80,6 +82,8 @@ form-sound v One x h = subst IsSound (sym h) tt
 form-sound v (Share t) x h = subst IsSound (sym h.3) h.1
 form-sound v (Src t) x h = subst IsSound (sym h.2) tt
 form-sound v (Tok t) x h = subst IsSound (sym h.2) (tokens-sound h.0)
+form-sound v (Span a None) x h = subst IsSound (sym h.2) (from-ascends h.0, refl)
+form-sound v (Span a (Some e)) x h = subst IsSound (sym h.5) (range-sound h.0 h.1)
 
 constant-value : (n : ℕ → ℤ) (c : ℤ) (ps : List (ℕ × ℤ)) → has_no_parts ps ≡ true → is_above_zero c ≡ true → (k : ℕ) → value n (record { constant = c; parts = ps }) ≡ pos k → (k == 0) ≡ false
 unfolding value parts_value
@@ -98,6 +102,13 @@ surely-some v (Src t) x e h = ap is_unit h.2
 surely-some v (Tok t) x e h =
     let s = and-true (has_no_parts t.parts) (is_above_zero t.constant) e in
     ap is_unit (h.2 ∙ tokens-some h.0 (constant-value v.whole t.constant t.parts s.0 s.1 h.0 h.1))
+surely-some v (Span a None) x e h = ap is_unit h.2
+surely-some v (Span a (Some d)) x e h = ap is_unit (h.5 ∙ range-some h.0 h.1 (indices-below v a d h.0 h.1 e h.2 h.3))
+
+start-holds : (v : Valuation) (a : Linear) (i : ℕ) → value v.whole a ≡ pos i → Holds v (row_of a AtLeast zero_term Int)
+start-holds v a i e =
+    let p = count-positive (value v.whole a) i e in
+    (row_of-means v a AtLeast zero_term Int).1 (rw (zero-value v.whole) p)
 
 pub added-hold : (v : Valuation) (f : Form) (x : Element) → IsFormElement v f x → AllByRecursion (Holds v) (added_rows f)
 added-hold v One x h = tt
@@ -110,6 +121,17 @@ added-hold v (Src t) x h =
 added-hold v (Tok t) x h =
     let p = count-positive (value v.whole t) h.0 h.1 in
     ((row_of-means v t AtLeast zero_term Int).1 (rw (zero-value v.whole) p), tt)
+added-hold v (Span a None) x h = (start-holds v a h.0 h.1, tt)
+added-hold v (Span a (Some e)) x h =
+    (start-holds v a h.0 h.2, ((row_of-means v a AtMost e Int).1 (counts-most (value v.whole a) (value v.whole e) h.0 h.1 h.2 h.3 h.4), tt))
+
+pub wanted-hold : (v : Valuation) (f : Form) (x : Element) → IsFormElement v f x → AllByRecursion (Holds v) (wanted_alone f)
+wanted-hold v One x h = tt
+wanted-hold v (Share t) x h = added-hold v (Share t) x h
+wanted-hold v (Src t) x h = added-hold v (Src t) x h
+wanted-hold v (Tok t) x h = added-hold v (Tok t) x h
+wanted-hold v (Span a None) x h = (start-holds v a h.0 h.1, tt)
+wanted-hold v (Span a (Some e)) x h = (start-holds v a h.0 h.2, tt)
 
 most-holds : (v : Valuation) (t : Linear) → amount v.fraction t ≤ℤ denominator v.fraction → AllByRecursion (Holds v) (row_of t AtMost one_term Perm ∷ [])
 most-holds v t h = ((row_of-means v t AtMost one_term Perm).1 (rw (one-amount v.fraction) h), tt)
@@ -119,6 +141,7 @@ lone-hold v One x h = tt
 lone-hold v (Share t) x h = most-holds v t (amount-most v t h.0 h.1 h.2)
 lone-hold v (Src t) x h = tt
 lone-hold v (Tok t) x h = tt
+lone-hold v (Span a e) x h = tt
 
 -- ---- two forms
 
@@ -129,6 +152,10 @@ pub record Meet (v : Valuation) (f g : Form) (s : Element) : Type 0 where
   pub is_first : IsFormElement v f first
   pub is_second : IsFormElement v g second
   pub whole : compose first second ≡ Some s
+
+-- also the other way round
+pub turned-whole : (v : Valuation) (f g : Form) (s : Element) → (m : Meet v f g s) → compose m.second m.first ≡ Some s
+turned-whole v f g s m = compose-comm m.second m.first (form-sound v g m.second m.is_second) (form-sound v f m.first m.is_first) ∙ m.whole
 
 pub record Combine (v : Valuation) (f g : Form) (s : Element) : Type 0 where
   pub element : IsFormElement v (combined f g) s
@@ -153,18 +180,18 @@ sources v n k x y s h j w =
     let r = src-take h.0 j.0 s e in
     ((h.0 - j.0, counts-rest v n k h.0 j.0 h.1 j.1 r.0, r.1), ((row_of-means v k AtMost n Int).1 (counts-most (value v.whole k) (value v.whole n) j.0 h.0 j.1 h.1 r.0), tt))
 
-pub combine : (b : PlainAlgebra) (v : Valuation) (f g : Form) (s : Element) → Takes b f → Takes b g → Meet v f g s → Combine v f g s
-combine unique v One One s h k m = absurd (let e : None ≡ Some s = ap (compose one) (sym m.is_second) ∙ ap (λ z. compose z m.second) (sym m.is_first) ∙ m.whole in cc)
-combine divisible v (Share a) (Share b) s h k m = shares v a b s m
-combine counting v (Src n) (Src j) s h k m = absurd (let e : None ≡ Some s = ap (compose (src m.is_first.0)) (sym m.is_second.2) ∙ ap (λ z. compose z m.second) (sym m.is_first.2) ∙ m.whole in cc)
-combine counting v (Src n) (Tok j) s h k m = let r = sources v n j m.first m.second s m.is_first m.is_second m.whole in record { element = r.0; rows = r.1 }
-combine counting v (Tok j) (Src n) s h k m = let r = sources v n j m.second m.first s m.is_second m.is_first (compose-comm m.second m.first ∙ m.whole) in record { element = r.0; rows = r.1 }
-combine counting v (Tok i) (Tok j) s h k m =
+pub combine : (b : PlainAlgebra) (v : Valuation) (f g : Form) (s : Element) → is_joined g ≡ true → Takes b f → Takes b g → Meet v f g s → Combine v f g s
+combine unique v One One s jf h k m = absurd (let e : None ≡ Some s = ap (compose one) (sym m.is_second) ∙ ap (λ z. compose z m.second) (sym m.is_first) ∙ m.whole in cc)
+combine divisible v (Share a) (Share b) s jf h k m = shares v a b s m
+combine counting v (Src n) (Src j) s jf h k m = absurd (let e : None ≡ Some s = ap (compose (src m.is_first.0)) (sym m.is_second.2) ∙ ap (λ z. compose z m.second) (sym m.is_first.2) ∙ m.whole in cc)
+combine counting v (Src n) (Tok j) s jf h k m = let r = sources v n j m.first m.second s m.is_first m.is_second m.whole in record { element = r.0; rows = r.1 }
+combine counting v (Tok j) (Src n) s jf h k m = let r = sources v n j m.second m.first s m.is_second m.is_first (turned-whole v (Tok j) (Src n) s m) in record { element = r.0; rows = r.1 }
+combine counting v (Tok i) (Tok j) s jf h k m =
     let p = m.is_first in
     let q = m.is_second in
     let e : compose (tokens p.0) (tokens q.0) ≡ Some s = ap (compose (tokens p.0)) (sym q.2) ∙ ap (λ z. compose z m.second) (sym p.2) ∙ m.whole in
     record { element = (p.0 + q.0, counts-sum v i j p.0 q.0 p.1 q.1, some-same _ _ (sym e ∙ tokens-add p.0 q.0)); rows = tt }
-combine b v f g s h k m = first_of (cc, search rules)
+combine b v f g s jf h k m = first_of (cc, search rules)
 
 -- forms that never compose
 pub never-meet : (v : Valuation) (f g : Form) (s : Element) → never_compose (Some f) g ≡ true → Meet v f g s → ⊥
@@ -181,17 +208,19 @@ fits-alone v One x h = tt
 fits-alone v (Share t) x h = most-holds v (plus t zero_term) (with-zero v t (amount-most v t h.0 h.1 h.2))
 fits-alone v (Src t) x h = tt
 fits-alone v (Tok t) x h = tt
+fits-alone v (Span a e) x h = tt
 
 pub fits-hold : (v : Valuation) (f g : Form) (s : Element) → Meet v f g s → AllByRecursion (Holds v) (fits_rows (Some f) g)
 fits-hold v (Share a) (Share b) s m =
     let h = m.is_first in
     let k = m.is_second in
-    let e : compose (share k.0) (share h.0) ≡ Some s = ap (compose (share k.0)) (sym h.3) ∙ ap (λ z. compose z m.first) (sym k.3) ∙ compose-comm m.second m.first ∙ m.whole in
+    let e : compose (share k.0) (share h.0) ≡ Some s = ap (compose (share k.0)) (sym h.3) ∙ ap (λ z. compose z m.first) (sym k.3) ∙ turned-whole v (Share a) (Share b) s m in
     let r = if-some _ _ _ e in
     most-holds v (plus b a) (sum-most v b a k.0 h.0 k.1 h.1 k.2 h.2 (true-le _ _ r.0))
 fits-hold v One (Share b) s m = fits-alone v (Share b) m.second m.is_second
 fits-hold v (Src n) (Share b) s m = fits-alone v (Share b) m.second m.is_second
 fits-hold v (Tok k) (Share b) s m = fits-alone v (Share b) m.second m.is_second
-fits-hold v (Tok k) (Src n) s m = (sources v n k m.second m.first s m.is_second m.is_first (compose-comm m.second m.first ∙ m.whole)).1
+fits-hold v (Span a e) (Share b) s m = fits-alone v (Share b) m.second m.is_second
+fits-hold v (Tok k) (Src n) s m = (sources v n k m.second m.first s m.is_second m.is_first (turned-whole v (Tok k) (Src n) s m)).1
 fits-hold v (Src n) (Tok k) s m = (sources v n k m.first m.second s m.is_first m.is_second m.whole).1
 fits-hold v f g s m = tt

@@ -1,19 +1,20 @@
 -- The full pieces of a region's guards compose to the full element.
-use Rattle.std.proofs.Common.{◌≡◌, ℕ, ◌+◌, ◌-◌, ◌<◌, arith, pos, ◌*ℤ◌, refl, sym, ap, ◌∙◌, subst, List, [], ◌∷◌, map, inl, true, false, Option, Some, None}
+use Rattle.std.proofs.Common.{◌≡◌, ℕ, ◌+◌, ◌-◌, ◌<◌, arith, pos, ◌*ℤ◌, refl, sym, ap, ◌∙◌, subst, List, [], ◌∷◌, inl, true, false, Option, Some, None}
 use Rattle.std.specs.Prelude.{if◌then◌else◌}
 use Rattle.std.proofs.lemmas.Int.{ints}
 use Rattle.cap_lin.specs.Linear.{Linear}
 use Rattle.cap_lin.specs.Values.{Valuation, value, amount, denominator}
 use Rattle.cap_galg.specs.Fractions.{fraction}
-use Rattle.cap_galg.specs.Elements.{Element, nothing, one, share, src, both, whole, left, right, is_full, on_left, on_right, bind, compose}
-use Rattle.cap_galg.specs.Algebras.{PlainAlgebra, unique, divisible, counting, product, sum, atoms, at_atom, atom_element, full}
+use Rattle.cap_galg_indices.specs.Sets.{all_indices}
+use Rattle.cap_galg.specs.Elements.{Element, nothing, one, share, src, indices, both, whole, left, right, is_full, on_left, on_right, bind, compose}
+use Rattle.cap_galg.specs.Algebras.{PlainAlgebra, unique, divisible, counting, indexed, product, sum, atoms, at_atom, atom_element, full}
 use Rattle.cap_galg.specs.Laws.Fractions.{whole-share}
 use Rattle.cap_galg.specs.Laws.Composition.{compose-nothing}
 use Rattle.cap_galg.specs.Laws.Algebras.{sound-of, full-element, full-present, full-full}
 use Rattle.cap_galg.specs.Laws.Atoms.{lt-true, lt-false}
 use Rattle.cap_galg.specs.Laws.Placing.{IsSome, product-some, left-some, right-some, left-both, right-both, bind-map}
 use Rattle.cap_gsolve.specs.declared.piece.Form.{Form}
-use Rattle.cap_gsolve.specs.declared.piece.Form.TheVariants.{One, Share, Src}
+use Rattle.cap_gsolve.specs.declared.piece.Form.TheVariants.{One, Share, Src, Span}
 use Rattle.cap_gsolve.specs.declared.piece.Piece.{Piece}
 use Rattle.cap_gsolve.specs.Pieces.{piece, pieces_of, full_forms, full_pieces}
 use Rattle.cap_gsolve.specs.Merge.{zero_term, one_term}
@@ -117,6 +118,7 @@ full-from divisible w k v r i e s =
     let m : pos 1 *ℤ denominator v.fraction ≡ amount v.fraction one_term *ℤ pos 1 = rw (one-amount v.fraction) (omega (arith, ints)) in
     lone w divisible k v r i e (Share one_term) (share (fraction 1 1)) (omega arith) s refl (full-some divisible) (fraction 1 1, whole-share, m, refl)
 full-from counting w k v r i e s = lone w counting k v r i e (Src zero_term) (src 0) (omega arith) s refl (full-some counting) (0, zero-value v.whole, refl)
+full-from indexed w k v r i e s = lone w indexed k v r i e (Span zero_term None) (indices all_indices) (omega arith) s refl (full-some indexed) (0, zero-value v.whole, refl)
 full-from (product a b) w k v r i e s =
     let c = full-from a w k v r i (λ x. e (both x nothing)) (in-first w a b i e s) in
     let d = full-from b w k v r (i + atoms a) (λ x. e (both nothing x)) (in-second w a b i e s) in

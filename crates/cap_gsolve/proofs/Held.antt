@@ -1,6 +1,6 @@
 -- Pieces whose elements compose at a region: a new one with the piece of its part, and with those on other sides.
 use Rattle.std.proofs.Common.{◌≡◌, ℕ, suc, ◌+◌, ◌<◌, ◌≤◌, arith, ℤ, refl, sym, ap, ◌∙◌, subst, List, [], ◌∷◌, ◌++◌, length, ◌⊎◌, inl, inr, Bool, true, false, Option, Some, None}
-use Rattle.std.specs.Prelude.{◌==◌, ◌||◌, nat_lt, cond, not, option_map, position}
+use Rattle.std.specs.Prelude.{◌==◌, ◌||◌, nat_lt, cond, not, option_map, position, if◌then◌else◌}
 use Rattle.std.specs.List.{AllByRecursion, list_any, position_or_len}
 use Rattle.std.proofs.lemmas.Bool.{cases_lt}
 use Rattle.cap_lin.specs.Values.{Valuation, value}
@@ -13,8 +13,8 @@ use Rattle.cap_galg.specs.Laws.Placing.{atom-sound, atom-some, atom-composed, ap
 use Rattle.cap_galg.specs.Laws.Lists.{HasPart, part-meets, part-later, swapped, exchanged, regrouped, all-sound, appended}
 use Rattle.cap_gsolve.specs.declared.piece.Form.{Form}
 use Rattle.cap_gsolve.specs.declared.piece.Piece.{Piece}
-use Rattle.cap_gsolve.specs.Pieces.{of_guards, same_part, is_surely_some}
-use Rattle.cap_gsolve.specs.Merge.{combined, form_at, there, place, merged, merged_at, clashes_at, clashes}
+use Rattle.cap_gsolve.specs.Pieces.{of_guards, same_part, is_joined, joins, is_surely_some}
+use Rattle.cap_gsolve.specs.Merge.{combined, form_at, there, place, merged, merged_at, beside, clashes_at, clashes}
 use Rattle.cap_gsolve.specs.Meaning.{IsFormElement, region_of, IsElementAt, AreElementsAt, ComposeAt, Takes, Fits}
 use Rattle.cap_lin.specs.Laws.Sameness.{same_term-decides}
 use Rattle.cap_gsolve.proofs.Forms.{Meet, combine, form-sound, surely-some}
@@ -46,21 +46,21 @@ merged-by : (q : Piece) (qs : List Piece) (p : Piece) (o : Option ℕ) → merge
 merged-by q qs p None = refl
 merged-by q qs p (Some i) = refl
 
-pub merged-same : (q : Piece) (qs : List Piece) (p : Piece) → same_part q p ≡ true → merged (q ∷ qs) p ≡ as_one q p ∷ qs
-merged-same q qs p e = ap (merged_at (q ∷ qs) p) (place-same (λ t. same_part t p) q qs e)
+pub merged-same : (q : Piece) (qs : List Piece) (p : Piece) → joins q p ≡ true → merged (q ∷ qs) p ≡ as_one q p ∷ qs
+merged-same q qs p e = ap (merged_at (q ∷ qs) p) (place-same (λ t. joins t p) q qs e)
 
-pub merged-other : (q : Piece) (qs : List Piece) (p : Piece) → same_part q p ≡ false → merged (q ∷ qs) p ≡ q ∷ merged qs p
-merged-other q qs p e = ap (merged_at (q ∷ qs) p) (place-other (λ t. same_part t p) q qs e) ∙ merged-by q qs p (place qs p)
+pub merged-other : (q : Piece) (qs : List Piece) (p : Piece) → joins q p ≡ false → merged (q ∷ qs) p ≡ q ∷ merged qs p
+merged-other q qs p e = ap (merged_at (q ∷ qs) p) (place-other (λ t. joins t p) q qs e) ∙ merged-by q qs p (place qs p)
 
 there-by : (q : Piece) (qs : List Piece) (p : Piece) (o : Option ℕ) → option_map (form_at (q ∷ qs) p) (option_map suc o) ≡ option_map (form_at qs p) o
 there-by q qs p None = refl
 there-by q qs p (Some i) = refl
 
-pub there-same : (q : Piece) (qs : List Piece) (p : Piece) → same_part q p ≡ true → there (q ∷ qs) p ≡ Some q.form
-there-same q qs p e = ap (option_map (form_at (q ∷ qs) p)) (place-same (λ t. same_part t p) q qs e)
+pub there-same : (q : Piece) (qs : List Piece) (p : Piece) → joins q p ≡ true → there (q ∷ qs) p ≡ Some q.form
+there-same q qs p e = ap (option_map (form_at (q ∷ qs) p)) (place-same (λ t. joins t p) q qs e)
 
-pub there-other : (q : Piece) (qs : List Piece) (p : Piece) → same_part q p ≡ false → there (q ∷ qs) p ≡ there qs p
-there-other q qs p e = ap (option_map (form_at (q ∷ qs) p)) (place-other (λ t. same_part t p) q qs e) ∙ there-by q qs p (place qs p)
+pub there-other : (q : Piece) (qs : List Piece) (p : Piece) → joins q p ≡ false → there (q ∷ qs) p ≡ there qs p
+there-other q qs p e = ap (option_map (form_at (q ∷ qs) p)) (place-other (λ t. joins t p) q qs e) ∙ there-by q qs p (place qs p)
 
 -- ---- two pieces
 
@@ -74,6 +74,12 @@ part-is q p e =
     let s = and-true (of_guards p.region p.kind q) (q.atom == p.atom) e in
     let t = and-true _ (q.kind == p.kind) s.0 in
     record { region = (same_term-decides q.region p.region).0 t.0; kind = true-eq q.kind p.kind t.1; atom = true-eq q.atom p.atom s.1 }
+
+pub joined-part : (q p : Piece) → joins q p ≡ true → same_part q p ≡ true
+joined-part q p e = (and-true (same_part q p) (is_joined p.form) e).0
+
+pub joined-form : (q p : Piece) → joins q p ≡ true → is_joined p.form ≡ true
+joined-form q p e = (and-true (same_part q p) (is_joined p.form) e).1
 
 pub element-sound : (a : PlainAlgebra) (k : ℕ) (v : Valuation) (r : ℤ) (p : Piece) (x : Element) → IsElementAt a k v r p x → IsSound x
 element-sound a k v r p x (inl h) = subst IsSound (sym h.1.2) (atom-sound a p.atom h.1.0 (form-sound v p.form h.1.0 h.1.1))
@@ -113,8 +119,8 @@ pub record Joined (a : PlainAlgebra) (v : Valuation) (q p : Piece) (s : Element)
   pub meet : Meet v q.form p.form inner
   pub is : s ≡ atom_element a p.atom inner
 
-pub joins : (a : PlainAlgebra) (k : ℕ) (v : Valuation) (q p : Piece) (x y s : Element) → IsPart q p → IsOwn a k v q x → IsOwn a k v p y → compose x y ≡ Some s → Joined a v q p s
-joins a k v q p x y s e h j w =
+pub joins-in : (a : PlainAlgebra) (k : ℕ) (v : Valuation) (q p : Piece) (x y s : Element) → IsPart q p → IsOwn a k v q x → IsOwn a k v p y → compose x y ≡ Some s → Joined a v q p s
+joins-in a k v q p x y s e h j w =
     let x' : x ≡ atom_element a p.atom h.own = h.is ∙ ap (λ i. atom_element a i h.own) e.atom in
     let c = sym (atom-composed a p.atom h.own j.own (form-sound v q.form h.own h.form) (form-sound v p.form j.own j.form)) ∙ ap (λ z. compose z (atom_element a p.atom j.own)) (sym x') ∙ ap (compose x) (sym j.is) ∙ w in
     let r = bind-is (compose h.own j.own) (λ z. Some (atom_element a p.atom z)) s c in
@@ -129,16 +135,16 @@ kind-joined k q p x y s e (inr f) (inl g) w = inl g
 kind-joined k q p x y s e (inr f) (inr g) w = inr (nothing-joined x y s f g w)
 
 -- what two pieces of one part compose to is the element of the joined piece
-pub joined-element : (b a : PlainAlgebra) (k : ℕ) (v : Valuation) (r : ℤ) (q p : Piece) (x y s : Element) → IsPart q p → Fits b q → Fits b p
+pub joined-element : (b a : PlainAlgebra) (k : ℕ) (v : Valuation) (r : ℤ) (q p : Piece) (x y s : Element) → is_joined p.form ≡ true → IsPart q p → Fits b q → Fits b p
     → IsElementAt a k v r q x → IsElementAt a k v r p y → compose x y ≡ Some s → IsElementAt a k v r (as_one q p) s
-joined-element b a k v r q p x y s e f g (inl h) (inl j) w =
-    let m = joins a k v q p x y s e (at-own a k v r q x h.0 (inl h)) (at-own a k v r p y j.0 (inl j)) w in
+joined-element b a k v r q p x y s jf e f g (inl h) (inl j) w =
+    let m = joins-in a k v q p x y s e (at-own a k v r q x h.0 (inl h)) (at-own a k v r p y j.0 (inl j)) w in
     let t : Takes (atom_algebra b p.atom) q.form = subst (λ i. Takes (atom_algebra b i) q.form) e.atom f.1 in
-    let c = combine (atom_algebra b p.atom) v q.form p.form m.inner t g.1 m.meet in
+    let c = combine (atom_algebra b p.atom) v q.form p.form m.inner jf t g.1 m.meet in
     inl (j.0, (m.inner, c.element, m.is), kind-joined k q p x y s e.kind h.2 j.2 w)
-joined-element b a k v r q p x y s e f g (inr h) (inr j) w = inr (j.0, nothing-joined x y s h.1 j.1 w)
-joined-element b a k v r q p x y s e f g (inl h) (inr j) w = absurd (j.0 (ap (λ t. value v.whole t) (sym e.region) ∙ h.0))
-joined-element b a k v r q p x y s e f g (inr h) (inl j) w = absurd (h.0 (ap (λ t. value v.whole t) e.region ∙ j.0))
+joined-element b a k v r q p x y s jf e f g (inr h) (inr j) w = inr (j.0, nothing-joined x y s h.1 j.1 w)
+joined-element b a k v r q p x y s jf e f g (inl h) (inr j) w = absurd (j.0 (ap (λ t. value v.whole t) (sym e.region) ∙ h.0))
+joined-element b a k v r q p x y s jf e f g (inr h) (inl j) w = absurd (h.0 (ap (λ t. value v.whole t) e.region ∙ j.0))
 
 -- ---- the pieces that are held, and a new one
 
@@ -157,11 +163,11 @@ merged-composes b a k v r (q ∷ ps) p (x ∷ xs) y u w f g h j e c =
     let sx = element-sound a k v r q x h.0 in
     let sy = element-sound a k v r p y j in
     let st = all-sound xs t.0 (elements-sound a k v r ps xs h.1) t.1 in
-    elim (true_or_false (same_part q p)) [
+    elim (true_or_false (joins q p)) [
       | inl same ↦
-          let i = part-is q p same in
+          let i = part-is q p (joined-part q p same) in
           let m = exchanged x t.0 y u w sx st sy t.2 c in
-          let d = joined-element b a k v r q p x y m.middle i (f.0 i.kind) g h.0 j m.inner in
+          let d = joined-element b a k v r q p x y m.middle (joined-form q p same) i (f.0 i.kind) g h.0 j m.inner in
           rw (merged-same q ps p same) (m.middle ∷ xs, (d, h.1), ap (λ o. bind o (λ z. compose m.middle z)) t.1 ∙ m.outer)
       | inr other ↦
           let m = regrouped x t.0 y u w sx st sy t.2 c in
@@ -192,8 +198,8 @@ finds-there a k v r (q ∷ ps) p f [] u e h c = absurd h
 finds-there a k v r (q ∷ ps) p f (x ∷ xs) u e h c =
     let t = bind-is (compose_all xs) (λ z. compose x z) u c in
     let st = all-sound xs t.0 (elements-sound a k v r ps xs h.1) t.1 in
-    elim (true_or_false (same_part q p)) [
-      | inl same ↦ here a k v r (λ q. IsPart q p × (q.form ≡ f)) q x t.0 u (part-is q p same, some-same _ _ (sym (there-same q ps p same) ∙ e)) h.0 st t.2
+    elim (true_or_false (joins q p)) [
+      | inl same ↦ here a k v r (λ q. IsPart q p × (q.form ≡ f)) q x t.0 u (part-is q p (joined-part q p same), some-same _ _ (sym (there-same q ps p same) ∙ e)) h.0 st t.2
       | inr other ↦ later a k v r (λ q. IsPart q p × (q.form ≡ f)) x t.0 u (element-sound a k v r q x h.0) t.2 (finds-there a k v r ps p f xs t.0 (sym (there-other q ps p other) ∙ e) h.1 t.1)
     ]
 
@@ -216,8 +222,42 @@ pub meets-there : (a : PlainAlgebra) (k : ℕ) (v : Valuation) (ps : List Piece)
 meets-there a k v ps p f xs y u w e h j c d =
     let m = finds-there a k v (region_of v p) ps p f xs u e h c in
     let s = part-meets m.element u y w (element-sound a k v _ m.piece m.element m.is) (element-sound a k v _ p y j) m.part d in
-    let i = joins a k v m.piece p m.element y s.0 m.such.0 (at-own a k v _ m.piece m.element (ap (λ t. value v.whole t) m.such.0.region) m.is) (at-own a k v _ p y refl j) s.1 in
+    let i = joins-in a k v m.piece p m.element y s.0 m.such.0 (at-own a k v _ m.piece m.element (ap (λ t. value v.whole t) m.such.0.region) m.is) (at-own a k v _ p y refl j) s.1 in
     (i.inner, subst (λ g. Meet v g p.form i.inner) m.such.1 i.meet)
+
+-- the form of a new piece meets that of each of its part
+pub meets-one : (a : PlainAlgebra) (k : ℕ) (v : Valuation) (q p : Piece) (x y u w : Element) → same_part q p ≡ true → IsElementAt a k v (region_of v p) q x → IsElementAt a k v (region_of v p) p y → HasPart x u → compose u y ≡ Some w
+    → (s : Element) × Meet v q.form p.form s
+meets-one a k v q p x y u w e h j c d =
+    let n = part-is q p e in
+    let s = part-meets x u y w (element-sound a k v _ q x h) (element-sound a k v _ p y j) c d in
+    let i = joins-in a k v q p x y s.0 n (at-own a k v _ q x (ap (λ t. value v.whole t) n.region) h) (at-own a k v _ p y refl j) s.1 in
+    (i.inner, i.meet)
+
+pub beside-holds : {A : Type 0} (P : A → Type 0) (of : Form → Form → List A) (a : PlainAlgebra) (k : ℕ) (v : Valuation) (ps : List Piece) (p : Piece) (xs : List Element) (y u w : Element)
+    → ((f : Form) (s : Element) → Meet v f p.form s → AllByRecursion P (of f p.form))
+    → AreElementsAt a k v (region_of v p) ps xs → IsElementAt a k v (region_of v p) p y → compose_all xs ≡ Some u → compose u y ≡ Some w
+    → AllByRecursion P (beside of ps p)
+beside-holds {A = A} P of a k v [] p [] y u w f h j c d = tt
+beside-holds {A = A} P of a k v [] p (x ∷ xs) y u w f h j c d = absurd h
+beside-holds {A = A} P of a k v (q ∷ ps) p [] y u w f h j c d = absurd h
+beside-holds {A = A} P of a k v (q ∷ ps) p (x ∷ xs) y u w f h j c d =
+    let t = bind-is (compose_all xs) (λ z. compose x z) u c in
+    let sx = element-sound a k v _ q x h.0 in
+    let sy = element-sound a k v _ p y j in
+    let st = all-sound xs t.0 (elements-sound a k v _ ps xs h.1) t.1 in
+    let tail : HasPart t.0 u = record { rest = x; sound = sx; whole = swapped x t.0 (Some u) sx st t.2 } in
+    let m = part-meets t.0 u y w st sy tail d in
+    both-lists (same_part q p) refl (beside-holds {A = A} P of a k v ps p xs y t.0 m.0 f h.1 j t.1 m.1)
+    (λ e. let i = meets-one a k v q p x y u w e h.0 j (record { rest = t.0; sound = st; whole = t.2 }) d in f q.form i.0 i.1)
+  where
+    put : (xs ys : List A) → AllByRecursion P xs → AllByRecursion P ys → AllByRecursion P (xs ++ ys)
+    put [] ys h k = k
+    put (x ∷ xs) ys h k = (h.0, put xs ys h.1 k)
+
+    both-lists : (b : Bool) → same_part q p ≡ b → AllByRecursion P (beside of ps p) → (same_part q p ≡ true → AllByRecursion P (of q.form p.form)) → AllByRecursion P ((if b then of q.form p.form else []) ++ beside of ps p)
+    both-lists true e r g = put (of q.form p.form) (beside of ps p) (g e) r
+    both-lists false e r g = r
 
 -- no piece that is held clashes with a new one
 kind-known : (k : ℕ) (p : Piece) (x : Element) → (p.kind ≡ k) ⊎ (x ≡ nothing) → is_unit x ≡ false → p.kind ≡ k
@@ -244,6 +284,6 @@ never-clashes b a k v ps p xs y u w n h j c d = elim (true_or_false (clashes b p
       let q = surely-placed a k v m.piece m.element o.1 (at-own a k v _ m.piece m.element (ap (λ t. value v.whole t) ((same_term-decides m.piece.region p.region).0 g.0)) m.is) in
       let r = surely-placed a k v p y o.0 (at-own a k v _ p y refl j) in
       let apart : are_apart a p.atom m.piece.atom ≡ true = ap (λ z. are_apart z p.atom m.piece.atom) (sym (n r.2)) ∙ f.0 in
-      let z : None ≡ Some s.0 = sym (apart-never a p.atom m.piece.atom r.0 q.0 apart) ∙ ap (λ z. compose z (at_atom a m.piece.atom q.0)) (sym r.1) ∙ ap (compose y) (sym q.1) ∙ swapped m.element y (Some s.0) s.1 in
+      let z : None ≡ Some s.0 = sym (apart-never a p.atom m.piece.atom r.0 q.0 apart) ∙ ap (λ z. compose z (at_atom a m.piece.atom q.0)) (sym r.1) ∙ ap (compose y) (sym q.1) ∙ swapped m.element y (Some s.0) (element-sound a k v _ m.piece m.element m.is) (element-sound a k v _ p y j) s.1 in
       cc)
 ]

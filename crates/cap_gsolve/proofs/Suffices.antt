@@ -1,11 +1,11 @@
 -- A part that holds merged pieces holds what was merged, where the rows hold.
-use Rattle.std.proofs.Common.{◌≡◌, ℕ, suc, ◌+◌, ◌*◌, ◌-◌, ◌≤◌, ◌<◌, ℤ, pos, negsuc, ◌+ℤ◌, ◌*ℤ◌, ◌≤ℤ◌, ◌<ℤ◌, arith, refl, sym, ap, ◌∙◌, subst, List, [], ◌∷◌, ◌++◌, ◌⊎◌, inl, inr, true, false, Some}
-use Rattle.std.specs.Prelude.{nat_le, if◌then◌else◌, Option, None}
+use Rattle.std.proofs.Common.{◌≡◌, ℕ, suc, ◌+◌, ◌*◌, ◌-◌, ◌≤◌, ◌<◌, ℤ, pos, negsuc, ◌+ℤ◌, ◌*ℤ◌, ◌≤ℤ◌, ◌<ℤ◌, arith, refl, sym, ap, ◌∙◌, subst, List, [], ◌∷◌, ◌++◌, ◌⊎◌, inl, inr, Some}
+use Rattle.std.specs.Prelude.{if◌then◌else◌, None}
 use Rattle.std.specs.List.{AllByRecursion}
 use Rattle.std.proofs.lemmas.Int.{ints}
 use Rattle.std.proofs.Math.Nat.{mul-le-mul_right}
 use Rattle.cap_lin.specs.Linear.{Linear, plus, minus}
-use Rattle.cap_lin.specs.Values.{Valuation, parts_value, value, amount, denominator}
+use Rattle.cap_lin.specs.Values.{Valuation, parts_value, value, amount}
 use Rattle.cap_lin.specs.Rows.{row_of}
 use Rattle.cap_lin.specs.Solves.{Holds}
 use Rattle.cap_lin.specs.declared.row.Row.{Row}
@@ -19,18 +19,18 @@ use Rattle.cap_galg.specs.Elements.{Element, nothing, share, src, tokens, is_uni
 use Rattle.cap_galg.specs.Algebras.{PlainAlgebra, atom_element}
 use Rattle.cap_galg.specs.Lists.{compose_all}
 use Rattle.cap_galg.specs.Laws.Fractions.{cancel, cancel-le, equal, lowest-is, plus-share, reduced-share}
-use Rattle.cap_galg.specs.Laws.Composition.{true_or_false, le-true, bind-is, some-same, unit-is, compose-comm, compose-nothing, made_of_nothing}
+use Rattle.cap_galg.specs.Laws.Composition.{true_or_false, le-true, bind-is, compose-comm, compose-nothing, made_of_nothing}
 use Rattle.cap_galg.specs.Laws.Lists.{exchanged, all-sound}
 use Rattle.cap_galg.specs.Laws.Placing.{atom-composed}
 use Rattle.cap_gsolve.specs.declared.piece.Form.{Form}
-use Rattle.cap_gsolve.specs.declared.piece.Form.TheVariants.{One, Share, Src, Tok}
+use Rattle.cap_gsolve.specs.declared.piece.Form.TheVariants.{Share, Src, Tok}
 use Rattle.cap_gsolve.specs.declared.piece.Piece.{Piece}
-use Rattle.cap_gsolve.specs.Pieces.{same_part}
-use Rattle.cap_gsolve.specs.Merge.{zero_term, one_term, false_row, added_rows, combined, combined_rows, there, met_rows, clash, clash_rows, merged, merge_rows}
+use Rattle.cap_gsolve.specs.Pieces.{joins}
+use Rattle.cap_gsolve.specs.Merge.{zero_term, one_term, false_row, added_rows, combined, combined_rows, there, met_rows, parted_rows, beside, clash, clash_rows, merged, merge_rows}
 use Rattle.cap_gsolve.specs.Meaning.{IsValueOf, IsFormElement, IsElementAt, AreElementsAt, ComposeAt, HasElement, MergeSuffices}
-use Rattle.cap_gsolve.proofs.Amounts.{one-amount, zero-amount, zero-value, natural-amount, amount-positive, sum-number, sum-is, counts-rest, counts-sum}
-use Rattle.cap_gsolve.proofs.Forms.{Meet, form-sound, src-give, tokens-add}
-use Rattle.cap_gsolve.proofs.Held.{as_one, merged-same, merged-other, there-same, there-other, IsPart, part-is, element-sound, elements-sound, in-a-row}
+use Rattle.cap_gsolve.proofs.Amounts.{one-amount, zero-amount, zero-value, natural-amount, sum-number, sum-is, counts-rest, counts-sum}
+use Rattle.cap_gsolve.proofs.Forms.{Meet, form-sound, tokens-sound, src-give, tokens-add}
+use Rattle.cap_gsolve.proofs.Held.{as_one, merged-same, merged-other, there-same, there-other, IsPart, part-is, joined-part, element-sound, elements-sound, in-a-row}
 
 -- ---- amounts
 
@@ -151,7 +151,7 @@ meet v (Tok k) (Src n) x s h added rows c =
       second = src i.0;
       is_first = (h.0, h.1, refl);
       is_second = (i.0, i.1, refl);
-      whole = compose-comm (tokens h.0) (src i.0) ∙ returned v n k i.0 h.0 s i.1 h.1 rows.0 c;
+      whole = compose-comm (tokens h.0) (src i.0) (tokens-sound h.0) tt ∙ returned v n k i.0 h.0 s i.1 h.1 rows.0 c;
     }
 meet v (Tok j) (Tok k) x s h added rows c =
     let i = count-of v k added.0 in
@@ -223,10 +223,10 @@ pieces-of-joined a k v r q ps p (z ∷ xs) w i e added rows h c =
 pieces-of-merged : (a : PlainAlgebra) (k : ℕ) (v : Valuation) (r : ℤ) (ps : List Piece) (p : Piece) (w : Element) → AllByRecursion (HasElement v) ps → AllByRecursion (Holds v) (added_rows p.form) → AllByRecursion (Holds v) (met_rows (there ps p) p.form)
     → ComposeAt a k v r (merged ps p) w → ComposeAt a k v r (ps ++ (p ∷ [])) w
 pieces-of-merged a k v r [] p w e added rows c = c
-pieces-of-merged a k v r (q ∷ ps) p w e added rows c = elim (true_or_false (same_part q p)) [
+pieces-of-merged a k v r (q ∷ ps) p w e added rows c = elim (true_or_false (joins q p)) [
   | inl same ↦
       let d = rw (merged-same q ps p same) at c in
-      pieces-of-joined a k v r q ps p d.0 w (part-is q p same) e.0 added (subst (λ o. AllByRecursion (Holds v) (met_rows o p.form)) (there-same q ps p same) rows) d.1 d.2
+      pieces-of-joined a k v r q ps p d.0 w (part-is q p (joined-part q p same)) e.0 added (subst (λ o. AllByRecursion (Holds v) (met_rows o p.form)) (there-same q ps p same) rows) d.1 d.2
   | inr other ↦
       let d = rw (merged-other q ps p other) at c in
       let rest = subst (λ o. AllByRecursion (Holds v) (met_rows o p.form)) (there-other q ps p other) rows in
@@ -249,8 +249,8 @@ all-split P (x ∷ xs) ys h = let s = all-split P xs ys h.1 in ((h.0, s.0), s.1)
 pub merge-suffices : (a : PlainAlgebra) (ps : List Piece) (p : Piece) → MergeSuffices ps p (merged ps p) (merge_rows a ps p)
 unfolding merge_rows
 merge-suffices a ps p g part v each rows h r =
-    let s = all-split (Holds v) (added_rows p.form) (met_rows (there ps p) p.form ++ clash_rows (clash a ps p)) rows in
-    let t = all-split (Holds v) (met_rows (there ps p) p.form) (clash_rows (clash a ps p)) s.1 in
+    let s = all-split (Holds v) (added_rows p.form) (met_rows (there ps p) p.form ++ (beside parted_rows ps p ++ clash_rows (clash a ps p))) rows in
+    let t = all-split (Holds v) (met_rows (there ps p) p.form) (beside parted_rows ps p ++ clash_rows (clash a ps p)) s.1 in
     let c = h r in
     (c.0, pieces-of-merged (g.algebra (g.kind r)) (g.kind r) v r ps p c.0 each s.0 t.0 c.1, c.2)
 

@@ -1,6 +1,6 @@
 -- What symbolic guards mean: under a valuation each piece is an element of its region's guards, and
 -- a part of the guards holds the pieces that compose to no more than the part.
-use Rattle.std.specs.Prelude.{◌≡◌, ◌≢◌, ℕ, ◌<◌, List, [], ◌∷◌, ◌++◌, ◌⊎◌, ℤ, pos, ◌*ℤ◌, Option}
+use Rattle.std.specs.Prelude.{◌≡◌, ◌≢◌, ℕ, ◌<◌, ◌≤◌, List, [], ◌∷◌, ◌++◌, ◌⊎◌, ℤ, pos, ◌*ℤ◌, Option}
 use Rattle.std.specs.Prelude.{Some, None}
 use Rattle.std.specs.List.{AllByRecursion}
 use Rattle.cap_lin.specs.Linear.{Linear}
@@ -9,12 +9,14 @@ use Rattle.cap_lin.specs.Solves.{Holds}
 use Rattle.cap_lin.specs.declared.row.Row.{Row}
 use Rattle.cap_galg.specs.declared.fraction.Fraction.{Fraction}
 use Rattle.cap_galg.specs.Fractions.{IsShare}
-use Rattle.cap_galg.specs.Elements.{Element, nothing, one, share, src, tokens, compose}
+use Rattle.cap_galg_indices.specs.Sets.{indices_from, index_range}
+use Rattle.cap_galg.specs.Elements.{Element, nothing, one, share, src, tokens, indices, index_set}
+use Rattle.cap_galg.specs.Elements.{compose}
 use Rattle.cap_galg.specs.Lists.{compose_all}
-use Rattle.cap_galg.specs.Algebras.{PlainAlgebra, unique, divisible, counting, atoms, atom_algebra}
-use Rattle.cap_galg.specs.Algebras.{atom_element, full, AtMost}
+use Rattle.cap_galg.specs.Algebras.{PlainAlgebra, unique, divisible, counting, indexed, atoms}
+use Rattle.cap_galg.specs.Algebras.{atom_algebra, atom_element, full, AtMost}
 use Rattle.cap_gsolve.specs.declared.piece.Form.{Form}
-use Rattle.cap_gsolve.specs.declared.piece.Form.TheVariants.{One, Share, Src, Tok}
+use Rattle.cap_gsolve.specs.declared.piece.Form.TheVariants.{One, Share, Src, Tok, Span}
 use Rattle.cap_gsolve.specs.declared.piece.Piece.{Piece}
 use Rattle.cap_gsolve.specs.Pieces.{pieces_of}
 use Rattle.cap_gsolve.specs.Compat.{compat}
@@ -24,12 +26,18 @@ abbrev pub IsValueOf : Valuation → Linear → Fraction → Type 0
 IsValueOf v t f = pos f.num *ℤ denominator v.fraction ≡ amount v.fraction t *ℤ pos f.den
 
 -- the element of a form: an amount is above 0 and at most 1, a count is at least 0, and no tokens
--- are nothing
+-- are nothing; a span is the indices from its start on that are below its end, which is at least the
+-- start
 abbrev pub IsFormElement : Valuation → Form → Element → Type 0
 IsFormElement v One x = x ≡ one
 IsFormElement v (Share t) x = (f : Fraction) × IsShare f × IsValueOf v t f × (x ≡ share f)
 IsFormElement v (Src t) x = (n : ℕ) × (value v.whole t ≡ pos n) × (x ≡ src n)
 IsFormElement v (Tok t) x = (k : ℕ) × (value v.whole t ≡ pos k) × (x ≡ tokens k)
+IsFormElement v (Span a None) x =
+    (i : ℕ) × (value v.whole a ≡ pos i) × (x ≡ indices (indices_from i))
+IsFormElement v (Span a (Some e)) x =
+    (i : ℕ) × (j : ℕ) × (value v.whole a ≡ pos i) × (value v.whole e ≡ pos j) × (i ≤ j)
+    × (x ≡ index_set (index_range i j))
 
 -- the element of a piece, of the guards that it names
 abbrev pub IsPieceElement : PlainAlgebra → Valuation → Piece → Element → Type 0
@@ -78,6 +86,7 @@ Takes unique One = Unit {0}
 Takes divisible (Share t) = Unit {0}
 Takes counting (Src n) = Unit {0}
 Takes counting (Tok k) = Unit {0}
+Takes indexed (Span a e) = Unit {0}
 Takes a f = ⊥
 
 -- a piece has an atom of the algebra, and a form that fits it

@@ -71,16 +71,19 @@ pub fn combine(
         Form::One => kept(alloc, rows, there),
         Form::Share(a) => match new {
             Form::Share(b) => Ok(Form::Share(sum_of_shares(alloc, rows, a, b)?)),
-            Form::One | Form::Src(_) | Form::Tok(_) => kept(alloc, rows, there),
+            Form::One | Form::Src(_) | Form::Tok(_) | Form::Span(_, _) => kept(alloc, rows, there),
         },
         Form::Src(out) => match new {
             Form::Tok(back) => Ok(Form::Src(left_out(alloc, rows, out, back)?)),
-            Form::One | Form::Share(_) | Form::Src(_) => kept(alloc, rows, there),
+            Form::One | Form::Share(_) | Form::Src(_) | Form::Span(_, _) => {
+                kept(alloc, rows, there)
+            }
         },
         Form::Tok(count) => match new {
             Form::Src(out) => Ok(Form::Src(left_out(alloc, rows, out, count)?)),
             Form::Tok(more) => Ok(Form::Tok(count.add(alloc, more)?)),
-            Form::One | Form::Share(_) => kept(alloc, rows, there),
+            Form::One | Form::Share(_) | Form::Span(_, _) => kept(alloc, rows, there),
         },
+        Form::Span(_, _) => kept(alloc, rows, there),
     }
 }

@@ -54,6 +54,10 @@ fn push_full(
             let all = Form::Src(Term::constant(alloc, 0));
             push(alloc, region, kind, first, all, pieces)
         }
+        Algebra::Indexed => {
+            let all = Form::Span(Term::constant(alloc, 0), None);
+            push(alloc, region, kind, first, all, pieces)
+        }
         Algebra::Pair(a, b) => {
             let second = push_full(alloc, a, region, kind, first, pieces)?;
             push_full(alloc, b, region, kind, second, pieces)
@@ -98,7 +102,7 @@ fn past(algebra: &Algebra, first: u64) -> Result<u64, LinError>
         (λ next. next ≡ first + atom_count algebra.now) (λ e. e ≡ OutOfMemory) }
 {
     match algebra {
-        Algebra::Unique | Algebra::Divisible | Algebra::Counting => {
+        Algebra::Unique | Algebra::Divisible | Algebra::Counting | Algebra::Indexed => {
             first.checked_add(1).ok_or(LinError::OutOfMemory)
         }
         Algebra::Pair(a, b) | Algebra::Either(a, b) => past(b, past(a, first)?),

@@ -9,6 +9,7 @@ mod laws;
 mod merging;
 mod piece;
 mod rows;
+mod spans;
 
 pub use compatible::compat;
 pub use full::full_pieces;

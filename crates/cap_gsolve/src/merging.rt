@@ -12,6 +12,7 @@ use crate::clash::clashes;
 use crate::combine::combine;
 use crate::piece::{Form, Piece, place_of_atom};
 use crate::rows::{push_added, push_false, push_lone};
+use crate::spans::push_all_parted;
 use cap_galg::Algebra;
 use cap_lin::{LinError, Row};
 use std::alloc::{AllocError, Global};
@@ -98,7 +99,8 @@ fn met(
     ensures rows { let found = there pieces.now piece.now in
         OnOk result (Pushes rows.old rows.new (met_rows found piece.now.form)) }
 {
-    match place_of_atom(pieces, &piece.region, piece.kind, piece.atom) {
+    let joins = piece.form.is_joined();
+    match place_of_atom(pieces, &piece.region, piece.kind, piece.atom, joins) {
         Some(place) => joined(alloc, rows, pieces, place, piece),
         None => appended(alloc, rows, pieces, piece),
     }
@@ -139,20 +141,23 @@ fn composed_in(
     let mut rows = Vec::new(alloc);
     push_added(alloc, &mut rows, &piece.form)?;
     let merged = met(alloc, &mut rows, pieces, piece)?;
+    push_all_parted(alloc, &mut rows, pieces, piece)?;
     push_clash(alloc, &mut rows, clash)?;
     Ok((merged, rows))
 }
 
 /// The pieces with a new one composed in, and the rows that then hold: that an amount is above 0
 /// and, with the share that is there, at most 1, that a count is at least 0, that tokens which come
-/// back were out, and, for two unique guards, two sources, or surely some parts on two sides of a
-/// sum, a row that never holds. The new piece stands in the place of the piece of its part, or else
-/// as the last. Wide comes where a number of the new form or of a row leaves 128 bits, with the
-/// first such number's operands. Where a part of the guards holds the old pieces and the new one
-/// together, it holds the merged pieces and the rows hold, if the new piece and each piece of its
-/// kind has an atom of the algebra and a form that fits it. Where each of the old pieces has an
-/// element and the rows hold, a part that holds the merged pieces holds the old pieces and the new
-/// one together.
+/// back were out, that a span's start is at least 0 and at most its end, that two spans of one
+/// index differ and one that surely has an index ends where one without an end starts, or before,
+/// and, for two unique guards, two sources, two spans without an end, or surely some parts on two
+/// sides of a sum, a row that never holds. The new piece stands in the place of the piece of its
+/// part, or else, as a span always does, as the last. Wide comes where a number of the new form or
+/// of a row leaves 128 bits, with the first such number's operands. Where a part of the guards
+/// holds the old pieces and the new one together, it holds the merged pieces and the rows hold, if
+/// the new piece and each piece of its kind has an atom of the algebra and a form that fits it.
+/// Where each of the old pieces has an element and the rows hold, a part that holds the merged
+/// pieces holds the old pieces and the new one together.
 pub fn merge(
     alloc: Global,
     algebra: &Algebra,

@@ -47,7 +47,7 @@ fn subgoals_by<'a>(
         | Choice::Fork
         | Choice::Return => pure_subgoals(alloc, program, goal, choice),
         Choice::Settle(_, _) | Choice::Keep(_) => stab_subgoals(alloc, program, goal, choice),
-        Choice::Enter(_, _) | Choice::Act(_, _, _) | Choice::Pick(_, _, _) | Choice::Shift(_) =>
+        Choice::Enter(_, _) | Choice::Act(_, _, _) | Choice::Pick(_, _, _) | Choice::Shift(_, _) =>
             open_subgoals(alloc, program, goal, choice),
         Choice::Give
         | Choice::Fact(_)
@@ -113,7 +113,7 @@ pub fn proofs<'a>(
         | Choice::Fork
         | Choice::Return => pure_proofs(alloc, program, goal, choice),
         Choice::Settle(_, _) | Choice::Keep(_) => stab_proofs(alloc, program, goal, choice),
-        Choice::Enter(_, _) | Choice::Act(_, _, _) | Choice::Pick(_, _, _) | Choice::Shift(_) =>
+        Choice::Enter(_, _) | Choice::Act(_, _, _) | Choice::Pick(_, _, _) | Choice::Shift(_, _) =>
             open_proofs(alloc, program, goal, choice),
         Choice::Give
         | Choice::Fact(_)

@@ -7,7 +7,7 @@ use Rattle.cap_goal_spec.specs.Choices.{PlainChoice, certs_of}
 use Rattle.cap_rules.specs.Answers.{Subgoals, marks_of}
 use Rattle.cap_rules.specs.Rules.{rule}
 use Rattle.cap_rules.proofs.Answering.{answers-succeed}
-use Rattle.cap_kernel_nodes.specs.Nodes.{goals_left}
+use Rattle.cap_rules_nodes.specs.Nodes.{goals_left}
 
 pub subgoals-left : (p : PlainProgram) (g : PlainGoal) (c : PlainChoice) (gs : List PlainGoal) → Subgoals p g c gs → goals_left p g c ≡ gs
 unfolding goals_left

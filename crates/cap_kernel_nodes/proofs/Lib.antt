@@ -1,3 +1,4 @@
 pub mod Leaving
 pub mod Proven
 pub mod Stacks
+pub mod Units

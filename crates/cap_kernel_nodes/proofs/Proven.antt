@@ -1,17 +1,18 @@
 -- At each node of valid trees the goal is kept, and the choice proves what it owes.
 use Rattle.std.proofs.Common.{ℕ, suc, List, [], ◌∷◌, ◌++◌, Option, Some, None, sym, subst}
+use Rattle.std.specs.Prelude.{flat_map}
 use Rattle.std.specs.List.{AllByRecursion, AllZip}
 use Rattle.cap_prog.specs.Program.{PlainProgram}
 use Rattle.cap_prog.specs.WellFormed.{IsWellFormed}
 use Rattle.cap_goal_spec.specs.States.{PlainGoal}
 use Rattle.cap_goal_spec.specs.Choices.{PlainTree, node, PlainTrees, no_trees, tree}
-use Rattle.cap_goal_spec.specs.Roots.{roots}
+use Rattle.cap_goal_spec.specs.Roots.{PlainUnit, roots, units, all_roots}
 use Rattle.cap_rules.specs.Answers.{Subgoals}
 use Rattle.cap_rules.specs.Valid.{Derives, AllDerive, RootDerives}
 use Rattle.cap_rules_fits.specs.Kept.{IsKept, RootIsKept, RootsAreKept, SubgoalsAreKept}
 use Rattle.cap_rules_marks.specs.Proven.{SubgoalsAreProven}
-use Rattle.cap_kernel_nodes.specs.Nodes.{nodes_at, all_nodes_at, all_root_nodes, unit_nodes}
-use Rattle.cap_kernel_nodes.specs.Laws.{NodeIsProven, NodesAreProven}
+use Rattle.cap_rules_nodes.specs.Nodes.{nodes_at, all_nodes_at, all_root_nodes, unit_nodes, program_nodes}
+use Rattle.cap_kernel_nodes.specs.Laws.{NodeIsProven, NodesAreProven, ProgramNodesAreProven}
 use Rattle.cap_kernel_nodes.proofs.Leaving.{subgoals-left}
 
 each-join : {X : Type 0} (P : X → Type 0) (xs ys : List X) → AllByRecursion P xs → AllByRecursion P ys → AllByRecursion P (xs ++ ys)
@@ -43,3 +44,11 @@ module _ (kept : SubgoalsAreKept) (proven : SubgoalsAreProven) (p : PlainProgram
 pub nodes-proven : RootsAreKept → SubgoalsAreKept → SubgoalsAreProven → NodesAreProven
 unfolding unit_nodes
 nodes-proven at kept proven p u ts w h = roots-proven kept proven p w ts (roots p u) (at p w u) h.trees
+
+units-kept : RootsAreKept → (p : PlainProgram) → IsWellFormed p → (us : List PlainUnit) → AllByRecursion (RootIsKept p) (flat_map (roots p) us)
+units-kept at p w [] = tt
+units-kept at p w (u ∷ us) = each-join (RootIsKept p) (roots p u) (flat_map (roots p) us) (at p w u) (units-kept at p w us)
+
+pub program-nodes-proven : RootsAreKept → SubgoalsAreKept → SubgoalsAreProven → ProgramNodesAreProven
+unfolding program_nodes
+program-nodes-proven at kept proven p ts w h = roots-proven kept proven p w ts (all_roots p) (units-kept at p w (units p)) h.derivations

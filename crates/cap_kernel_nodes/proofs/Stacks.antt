@@ -12,9 +12,9 @@ use Rattle.cap_goal.specs.Trees.{node_view, nodes_view}
 use Rattle.cap_goal.specs.Views.{choice_view, goal_view}
 use Rattle.cap_goal_roots.specs.Views.{roots_view}
 use Rattle.cap_kernel_nodes.specs.declared.ahead.GoalTree.{GoalTree}
-use Rattle.cap_kernel_nodes.specs.Nodes.{GoalNode, goals_left, nodes_at, all_nodes_at, all_root_nodes}
+use Rattle.cap_rules_nodes.specs.Nodes.{GoalNode, goals_left, nodes_at, all_nodes_at, all_root_nodes}
 use Rattle.cap_kernel_nodes.specs.Laws.{NodeIsProven}
-use Rattle.cap_kernel_nodes.specs.Views.{tree_nodes, all_tree_nodes, trees_lent}
+use Rattle.cap_kernel_nodes.specs.Views.{all_tree_nodes, trees_lent}
 
 -- trees are gathered, and then reversed, where none remain
 pub all-stacked : (p : PlainProgram) (gathered stack : List GoalTree) (more all : List GoalNode) → stack ≡ reverse gathered → more ≡ [] → all_tree_nodes p gathered ++ more ≡ all → all_tree_nodes p (reverse stack) ≡ all

@@ -8,7 +8,7 @@ use Rattle.cap_goal.specs.Views.{choice_view, goal_view}
 use Rattle.cap_kernel_nodes.specs.declared.ahead.GoalTree.{GoalTree}
 use Rattle.cap_kernel_nodes.specs.declared.walk.GoalNode as code
 use Rattle.cap_kernel_nodes.specs.declared.walk.NodeWalk.{NodeWalk}
-use Rattle.cap_kernel_nodes.specs.Nodes.{GoalNode, nodes_at}
+use Rattle.cap_rules_nodes.specs.Nodes.{GoalNode, nodes_at}
 
 abbrev pub goal_node_view : code.GoalNode → GoalNode
 goal_node_view n = record { goal = goal_view n.goal; choice = choice_view n.choice.now }

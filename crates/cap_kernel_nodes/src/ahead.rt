@@ -4,7 +4,7 @@ ghost use Rattle.cap_prog.specs.Program.{PlainProgram};
 ghost use Rattle.cap_goal.specs.Trees.{node_view, nodes_view};
 ghost use Rattle.cap_goal_roots.specs.Views.{root_view, roots_view};
 ghost use Rattle.cap_rules_steps.specs.Goals.{goals_view};
-ghost use Rattle.cap_kernel_nodes.specs.Nodes.{all_nodes_at, all_root_nodes, root_nodes};
+ghost use Rattle.cap_rules_nodes.specs.Nodes.{all_nodes_at, all_root_nodes, root_nodes};
 ghost use Rattle.cap_kernel_nodes.specs.Views.{all_tree_nodes, trees_lent};
 
 use cap_goal::{Goal, Node};

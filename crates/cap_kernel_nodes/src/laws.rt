@@ -1,5 +1,5 @@
-//! A law of the nodes of valid trees.
-ghost use Rattle.cap_kernel_nodes.specs.Laws.{NodesAreProven};
+//! Laws of the nodes of valid trees.
+ghost use Rattle.cap_kernel_nodes.specs.Laws.{NodesAreProven, ProgramNodesAreProven};
 
 use cap_rules_fits::{roots_are_kept, subgoals_are_kept};
 use cap_rules_marks::subgoals_are_proven;
@@ -8,6 +8,15 @@ use cap_rules_marks::subgoals_are_proven;
 /// what its rule owes.
 pub fn nodes_are_proven()
     ensures { NodesAreProven }
+{
+    roots_are_kept();
+    subgoals_are_kept();
+    subgoals_are_proven();
+}
+
+/// A law: so it is at each node of valid trees of all units of a program.
+pub fn program_nodes_are_proven()
+    ensures { ProgramNodesAreProven }
 {
     roots_are_kept();
     subgoals_are_kept();

@@ -6,5 +6,5 @@ mod goals;
 mod laws;
 mod walk;
 
-pub use laws::nodes_are_proven;
+pub use laws::{nodes_are_proven, program_nodes_are_proven};
 pub use walk::{GoalNode, NodeWalk};

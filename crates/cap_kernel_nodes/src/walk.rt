@@ -1,17 +1,17 @@
-//! A walk over the nodes of the trees of a unit.
+//! A walk over the nodes of the trees of a unit or of a program.
 ghost use Rattle.std.specs.Prelude.{◌≡◌, IfOk, None};
 ghost use Rattle.std.specs.List.{AllByRecursion};
 ghost use Rattle.cap_lin.specs.Steps.{first_wide};
 ghost use Rattle.cap_prog.specs.Views.{program_view};
-ghost use Rattle.cap_goal_spec.specs.Roots.{roots_steps};
+ghost use Rattle.cap_goal_spec.specs.Roots.{all_roots_steps, roots_steps};
 ghost use Rattle.cap_goal.specs.Views.{unit_view};
 ghost use Rattle.cap_goal_roots.specs.Units.{HasUnit};
 ghost use Rattle.cap_kernel_nodes.specs.Laws.{NodeIsProven};
-ghost use Rattle.cap_kernel_nodes.specs.Nodes.{unit_nodes};
+ghost use Rattle.cap_rules_nodes.specs.Nodes.{program_nodes, unit_nodes};
 ghost use Rattle.cap_kernel_nodes.specs.Views.{behind_next, nodes_ahead, trees_lent};
 
 use crate::ahead::{GoalTree, push_trees, trees_at_roots};
-use crate::goals::{goals_left, roots_of};
+use crate::goals::{all_roots, goals_left, roots_of};
 use cap_goal::{Choice, Goal, Node, Unit};
 use cap_prog::Program;
 use std::alloc::{AllocError, Global};
@@ -23,8 +23,8 @@ pub struct GoalNode<'a> {
     pub choice: &'a Choice,
 }
 
-/// A walk over the nodes of the trees of a unit, in preorder. It keeps the trees that are still to
-/// come, the next one last, so it takes no stack however deep they are.
+/// A walk over the nodes of the trees of a unit or of a program, in preorder. It keeps the trees that
+/// are still to come, the next one last, so it takes no stack however deep they are.
 #[derive(Drop)]
 pub struct NodeWalk<'a> {
     ahead: Vec<GoalTree<'a>>,
@@ -33,7 +33,7 @@ pub struct NodeWalk<'a> {
 impl<'a> NodeWalk<'a> {
     /// The walk over the trees of a unit, one for each root, before all nodes. The only error is
     /// want of memory.
-    #[tactic(auto, unfolding(crate::specs::Nodes::unit_nodes))]
+    #[tactic(auto, unfolding(cap_rules_nodes::specs::Nodes::unit_nodes))]
     pub fn start(
         alloc: Global,
         program: &'a Program,
@@ -47,6 +47,24 @@ impl<'a> NodeWalk<'a> {
             (λ w. nodes_ahead p w ≡ unit_nodes p (unit_view unit) (trees_lent trees.now)) }
     {
         let roots = roots_of(alloc, program, unit)?;
+        Ok(NodeWalk {
+            ahead: trees_at_roots(alloc, roots, trees)?,
+        })
+    }
+
+    /// The walk over the trees of all units of a program, one for each root, before all nodes. The
+    /// only error is want of memory.
+    #[tactic(auto, unfolding(cap_rules_nodes::specs::Nodes::program_nodes))]
+    pub fn start_program(
+        alloc: Global,
+        program: &'a Program,
+        trees: &'a [Option<Node>],
+    ) -> Result<NodeWalk<'a>, AllocError>
+        requires { first_wide (all_roots_steps (program_view program.now)) ≡ None }
+        ensures { let p = program_view program.now in IfOk result
+            (λ w. nodes_ahead p w ≡ program_nodes p (trees_lent trees.now)) }
+    {
+        let roots = all_roots(alloc, program)?;
         Ok(NodeWalk {
             ahead: trees_at_roots(alloc, roots, trees)?,
         })

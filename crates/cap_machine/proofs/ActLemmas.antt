@@ -66,14 +66,16 @@ step_is p m e s r =
     ∙ (ap (statement_step p (spot p m e s r) e.base) r.next
     ∙ ap (λ b. cond b (now p m e s r) disabled) r.base)
 
-pub results_are : (p : PlainProgram) (m : Machine) (e : Entry) (s : PlainStatement) (r : IsReady p m e s) → entry_steps (configuration p m) e ≡ act_steps r.frame.store s.act e.base
-results_are p m e s r = ap (λ o. frame_steps e.base (top_frame o)) r.there ∙ ap (block_steps r.frame.store e.base) r.next
+pub results_are : (p : PlainProgram) (m : Machine) (e : Entry) (s : PlainStatement) (r : IsReady p m e s) → entry_steps (configuration p m) e ≡ act_steps (configuration p m).heap r.frame.store s.act e.base
+results_are p m e s r =
+    ap (λ o. frame_steps (configuration p m).heap e.base (top_frame o)) r.there
+    ∙ ap (block_steps (configuration p m).heap r.frame.store e.base) r.next
 
-pub ok_next : (p : PlainProgram) (m after : Machine) (e : Entry) (s : PlainStatement) (r : IsReady p m e s) (event : Event) (d : Configuration) → are_narrow (act_steps r.frame.store s.act e.base) ≡ true → now p m e s r ≡ next d event → configuration p after ≡ d → is_stopped after ≡ is_stopped m → Steps p e m after (Ok event)
+pub ok_next : (p : PlainProgram) (m after : Machine) (e : Entry) (s : PlainStatement) (r : IsReady p m e s) (event : Event) (d : Configuration) → are_narrow (act_steps (configuration p m).heap r.frame.store s.act e.base) ≡ true → now p m e s r ≡ next d event → configuration p after ≡ d → is_stopped after ≡ is_stopped m → Steps p e m after (Ok event)
 ok_next p m after e s r event d n o c t =
     (r.runs, ap are_narrow (results_are p m e s r) ∙ n, subst (LeavesMachine p m after event) (sym (step_is p m e s r ∙ o)) (refl, c, t ∙ r.runs))
 
-pub ok_fault : (p : PlainProgram) (m after : Machine) (e : Entry) (s : PlainStatement) (r : IsReady p m e s) (event : Event) → are_narrow (act_steps r.frame.store s.act e.base) ≡ true → now p m e s r ≡ fault event → configuration p after ≡ configuration p m → is_stopped after ≡ true → Steps p e m after (Ok event)
+pub ok_fault : (p : PlainProgram) (m after : Machine) (e : Entry) (s : PlainStatement) (r : IsReady p m e s) (event : Event) → are_narrow (act_steps (configuration p m).heap r.frame.store s.act e.base) ≡ true → now p m e s r ≡ fault event → configuration p after ≡ configuration p m → is_stopped after ≡ true → Steps p e m after (Ok event)
 ok_fault p m after e s r event n o c t =
     (r.runs, ap are_narrow (results_are p m e s r) ∙ n, subst (LeavesMachine p m after event) (sym (step_is p m e s r ∙ o)) (refl, c, t))
 
@@ -88,7 +90,7 @@ same : (p : PlainProgram) (m : Machine) → IsSame p m m
 same p m = record { same_configuration = refl; same_stop = refl }
 
 -- an error of a term leaves the machine
-pub err_steps : (p : PlainProgram) (m : Machine) (e : Entry) (s : PlainStatement) (r : IsReady p m e s) (x : StepError) → BaseFits (configuration p m).heap s.act e.base → Explains x (act_steps r.frame.store s.act e.base) → Steps p e m m (Err x)
+pub err_steps : (p : PlainProgram) (m : Machine) (e : Entry) (s : PlainStatement) (r : IsReady p m e s) (x : StepError) → BaseFits (configuration p m).heap s.act e.base → Explains x (act_steps (configuration p m).heap r.frame.store s.act e.base) → Steps p e m m (Err x)
 err_steps p m e s r NotEnabled b h = absurd h
 err_steps p m e s r Wide b h = (enabled_now p m e s r b, ap are_narrow (results_are p m e s r) ∙ h, same p m)
 err_steps p m e s r OutOfMemory b h = same p m
@@ -139,17 +141,17 @@ heap_is p m = refl
 abbrev pub with_frame : (p : PlainProgram) (m : Machine) (e : Entry) (s : PlainStatement) → IsReady p m e s → Heap → Frame → Configuration
 with_frame p m e s r h f = record { heap = h; threads = slice_set (configuration p m).threads e.thread (f ∷ r.below) }
 
-pub assigned_ok : (p : PlainProgram) (m after : Machine) (h : Heap) (e : Entry) (s : PlainStatement) (r : IsReady p m e s) (event : Event) (x : ℕ) (v : ℤ) (k : Heap) → are_narrow (act_steps r.frame.store s.act e.base) ≡ true → now p m e s r ≡ next (with_frame p m e s r k (with_value (with_rest r.frame r.rest) x v)) event → k ≡ h → HasChanged p (with_top (λ f. with_value (passed f) x v)) e.thread (over m h) after → Steps p e m after (Ok event)
+pub assigned_ok : (p : PlainProgram) (m after : Machine) (h : Heap) (e : Entry) (s : PlainStatement) (r : IsReady p m e s) (event : Event) (x : ℕ) (v : ℤ) (k : Heap) → are_narrow (act_steps (configuration p m).heap r.frame.store s.act e.base) ≡ true → now p m e s r ≡ next (with_frame p m e s r k (with_value (with_rest r.frame r.rest) x v)) event → k ≡ h → HasChanged p (with_top (λ f. with_value (passed f) x v)) e.thread (over m h) after → Steps p e m after (Ok event)
 unfolding is_stopped
 assigned_ok p m after h e s r event x v k n o i c =
     ok_next p m after e s r event _ n o (moved p m after h e s r (λ f. with_value (passed f) x v) (with_value (with_rest r.frame r.rest) x v) c (ap (λ f. with_value f x v) (passed_to p m e s r)) ∙ ap (λ g. with_frame p m e s r g (with_value (with_rest r.frame r.rest) x v)) (sym i)) c.stop
 
-pub passed_ok : (p : PlainProgram) (m after : Machine) (h : Heap) (e : Entry) (s : PlainStatement) (r : IsReady p m e s) (event : Event) (k : Heap) → are_narrow (act_steps r.frame.store s.act e.base) ≡ true → now p m e s r ≡ next (with_frame p m e s r k (with_rest r.frame r.rest)) event → k ≡ h → HasChanged p (with_top passed) e.thread (over m h) after → Steps p e m after (Ok event)
+pub passed_ok : (p : PlainProgram) (m after : Machine) (h : Heap) (e : Entry) (s : PlainStatement) (r : IsReady p m e s) (event : Event) (k : Heap) → are_narrow (act_steps (configuration p m).heap r.frame.store s.act e.base) ≡ true → now p m e s r ≡ next (with_frame p m e s r k (with_rest r.frame r.rest)) event → k ≡ h → HasChanged p (with_top passed) e.thread (over m h) after → Steps p e m after (Ok event)
 unfolding is_stopped
 passed_ok p m after h e s r event k n o i c =
     ok_next p m after e s r event _ n o (moved p m after h e s r passed (with_rest r.frame r.rest) c (passed_to p m e s r) ∙ ap (λ g. with_frame p m e s r g (with_rest r.frame r.rest)) (sym i)) c.stop
 
-pub entered_ok : (p : PlainProgram) (m after : Machine) (e : Entry) (s : PlainStatement) (r : IsReady p m e s) (event : Event) (side : Bool) → are_narrow (act_steps r.frame.store s.act e.base) ≡ true → now p m e s r ≡ next (with_frame p m e s r (configuration p m).heap (with_rest r.frame (append (side_of side s.act) (behind_act s.label s.act r.rest)))) event → HasChanged p (with_top (entered side)) e.thread m after → Steps p e m after (Ok event)
+pub entered_ok : (p : PlainProgram) (m after : Machine) (e : Entry) (s : PlainStatement) (r : IsReady p m e s) (event : Event) (side : Bool) → are_narrow (act_steps (configuration p m).heap r.frame.store s.act e.base) ≡ true → now p m e s r ≡ next (with_frame p m e s r (configuration p m).heap (with_rest r.frame (append (side_of side s.act) (behind_act s.label s.act r.rest)))) event → HasChanged p (with_top (entered side)) e.thread m after → Steps p e m after (Ok event)
 entered_ok p m after e s r event side n o c =
     ok_next p m after e s r event _ n o (moved p m after m.heap e s r (entered side) (with_rest r.frame (append (side_of side s.act) (behind_act s.label s.act r.rest))) c (entered_to p m e s r side) ∙ ap (λ g. with_frame p m e s r g (with_rest r.frame (append (side_of side s.act) (behind_act s.label s.act r.rest)))) (sym (heap_is p m))) c.stop
 
@@ -157,7 +159,7 @@ pub kept_memory : (p : PlainProgram) (m after : Machine) (e : Entry) → IsUncha
 kept_memory p m after e k = record { same_configuration = k.configured; same_stop = k.stop }
 
 -- a fault stops the machine and leaves the rest
-pub fault_ok : (p : PlainProgram) (m : Machine) (e : Entry) (s : PlainStatement) (r : IsReady p m e s) (event : Event) → are_narrow (act_steps r.frame.store s.act e.base) ≡ true → now p m e s r ≡ fault event → Steps p e m (record m { stopped = true }) (Ok event)
+pub fault_ok : (p : PlainProgram) (m : Machine) (e : Entry) (s : PlainStatement) (r : IsReady p m e s) (event : Event) → are_narrow (act_steps (configuration p m).heap r.frame.store s.act e.base) ≡ true → now p m e s r ≡ fault event → Steps p e m (record m { stopped = true }) (Ok event)
 unfolding configuration is_stopped
 fault_ok p m e s r event n o = ok_fault p m (record m { stopped = true }) e s r event n o refl refl
 

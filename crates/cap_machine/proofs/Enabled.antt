@@ -4,10 +4,10 @@ use Rattle.std.specs.Prelude.{◌↔◌, ℤ, pos, ◌+ℤ◌, ◌≤ℤ◌, int
 use Rattle.std.specs.FinMap.{get}
 use Rattle.std.proofs.lemmas.Int.{ints}
 use Rattle.cap_lin.specs.declared.row.Op.TheVariants.{Eq as Equal}
-use Rattle.cap_prog.specs.Program.{Label, PlainAct, set, read, write, cas, alloc, call, fork, branch, loop, check, give_back, Block, done, first, PlainFunction, PlainProgram}
+use Rattle.cap_prog.specs.Program.{Label, PlainAct, set, read, write, cas, faa, dispose, alloc, call, fork, branch, loop, check, give_back, Block, done, first, PlainFunction, PlainProgram}
 use Rattle.cap_prog.specs.WellFormed.{IsWellFormed}
 use Rattle.cap_machine.specs.declared.event.Entry.{Entry}
-use Rattle.cap_machine.specs.Machine.{Heap, Frame, Thread, Configuration, Outcome, disabled, Spot, with_rest, at_cell, swaps, may_be_at, are_free, allocates, calls, forks, returns, statement_step, thread_step, step, value_in, holds, compared, top_frame}
+use Rattle.cap_machine.specs.Machine.{Heap, Frame, Thread, Configuration, Outcome, disabled, Spot, with_rest, at_cell, swaps, adds, may_be_at, are_free, allocates, calls, forks, returns, statement_step, thread_step, step, value_in, holds, compared, top_frame}
 use Rattle.cap_machine.specs.Fits.{FrameFits, ThreadFits, ConfigurationFits}
 use Rattle.cap_machine.specs.Laws.{is_step, AreFree, BaseFits, IsEnabled, first_statement}
 use Rattle.cap_machine.proofs.Lists.{all_at}
@@ -109,6 +109,9 @@ statement-iff p s base l (read x t) b r = no_base-iff _ base (at_cell-steps (val
 statement-iff p s base l (write t u) b r = no_base-iff _ base (at_cell-steps (value_in s.frame.store t) (get s.configuration.heap (value_in s.frame.store t)) _ (λ v. refl))
 statement-iff p s base l (cas x t old new) b r =
     no_base-iff _ base (at_cell-steps (value_in s.frame.store t) (get s.configuration.heap (value_in s.frame.store t)) (swaps s b x (value_in s.frame.store t) (value_in s.frame.store old) (value_in s.frame.store new)) (λ v. choice-steps (compared Equal v (value_in s.frame.store old)) _ _ refl refl))
+statement-iff p s base l (faa x t u) b r =
+    no_base-iff _ base (at_cell-steps (value_in s.frame.store t) (get s.configuration.heap (value_in s.frame.store t)) (adds s b x (value_in s.frame.store t) (value_in s.frame.store u)) (λ v. refl))
+statement-iff p s base l (dispose t) b r = no_base-iff _ base (at_cell-steps (value_in s.frame.store t) (get s.configuration.heap (value_in s.frame.store t)) _ (λ v. refl))
 statement-iff p s base l (alloc x n) b r = allocation-iff s b x n base
 statement-iff p s base l (call x n args) b r = no_base-iff _ base (calls-steps s b n (map (value_in s.frame.store) args) x (slice_get p.functions n) (λ g. length args ≡ g.params) r.act.1.arity)
 statement-iff p s base l (fork n args) b r = no_base-iff _ base (forks-steps s b n (map (value_in s.frame.store) args) (slice_get p.functions n) (λ g. length args ≡ g.params) r.act.arity)

@@ -3,11 +3,11 @@ use Rattle.std.proofs.Common.{◌≡◌, ◌∙◌, refl, ap, subst, ℕ, Bool, 
 use Rattle.std.specs.Prelude.{◌↔◌, ℤ, Option, Some, None, slice_get, IsSomeAnd, is_none}
 use Rattle.std.specs.FinMap.{get}
 use Rattle.cap_lin.specs.declared.row.Op.TheVariants.{Eq as Equal}
-use Rattle.cap_prog.specs.Program.{Label, PlainAct, set, read, write, cas, alloc, call, fork, branch, loop, check, give_back, Block, done, first, PlainStatement, PlainFunction, PlainProgram}
+use Rattle.cap_prog.specs.Program.{Label, PlainAct, set, read, write, cas, faa, dispose, alloc, call, fork, branch, loop, check, give_back, Block, done, first, PlainStatement, PlainFunction, PlainProgram}
 use Rattle.cap_machine.specs.declared.event.Entry.{Entry}
 use Rattle.cap_machine.specs.declared.event.Event.{Event}
-use Rattle.cap_machine.specs.declared.event.Event.TheVariants.{Set, Read, Write, Cas, Alloc, Call, Fork, Branch, Assert, Return, End, Bad, Failed}
-use Rattle.cap_machine.specs.Machine.{Heap, Frame, Thread, Configuration, Outcome, next, fault, disabled, Spot, at_cell, swaps, may_be_at, allocates, calls, forks, returns, does, takes_base, statement_step, thread_step, step, top_frame, value_in, holds, compared}
+use Rattle.cap_machine.specs.declared.event.Event.TheVariants.{Set, Read, Write, Cas, Faa, Dispose, Alloc, Call, Fork, Branch, Assert, Return, End, Bad, Failed}
+use Rattle.cap_machine.specs.Machine.{Heap, Frame, Thread, Configuration, Outcome, next, fault, disabled, Spot, at_cell, swaps, adds, may_be_at, allocates, calls, forks, returns, does, takes_base, statement_step, thread_step, step, top_frame, value_in, holds, compared}
 use Rattle.cap_machine.specs.Laws.{accessed, IsFailing, FaultsAs, FrameFaults, IsFault, first_statement}
 
 -- no outcome that is a fault
@@ -36,6 +36,8 @@ harmless heap store s (Set a) e n h = h
 harmless heap store s (Read a b) e n h = h
 harmless heap store s (Write a b) e n h = h
 harmless heap store s (Cas a b) e n h = h
+harmless heap store s (Faa a b) e n h = h
+harmless heap store s (Dispose a) e n h = h
 harmless heap store s (Alloc a) e n h = h
 harmless heap store s Call e n h = h
 harmless heap store s (Fork a) e n h = h
@@ -65,6 +67,8 @@ access-exact heap store s a f e n h event = (to (get heap a) refl event, back ev
     back (Read x y) k = absurd k
     back (Write x y) k = absurd k
     back (Cas x y) k = absurd k
+    back (Faa x y) k = absurd k
+    back (Dispose x) k = absurd k
     back (Alloc x) k = absurd k
     back Call k = absurd k
     back (Fork x) k = absurd k
@@ -88,6 +92,8 @@ check-exact heap store s b o h e to_false from_false event = (to b refl event, b
     back (Read x y) k = absurd k
     back (Write x y) k = absurd k
     back (Cas x y) k = absurd k
+    back (Faa x y) k = absurd k
+    back (Dispose x) k = absurd k
     back (Alloc x) k = absurd k
     back Call k = absurd k
     back (Fork x) k = absurd k
@@ -123,6 +129,8 @@ does-exact p s l (set x t) b base = never-exact _ s.configuration.heap s.frame.s
 does-exact p s l (read x t) b base = access-exact s.configuration.heap s.frame.store (statement l (read x t)) (value_in s.frame.store t) _ refl (λ z. z) (λ v. next-never _ _)
 does-exact p s l (write t u) b base = access-exact s.configuration.heap s.frame.store (statement l (write t u)) (value_in s.frame.store t) _ refl (λ z. z) (λ v. next-never _ _)
 does-exact p s l (cas x t old new) b base = access-exact s.configuration.heap s.frame.store (statement l (cas x t old new)) (value_in s.frame.store t) _ refl (λ z. z) (swaps-never s b x _ _ _)
+does-exact p s l (faa x t u) b base = access-exact s.configuration.heap s.frame.store (statement l (faa x t u)) (value_in s.frame.store t) (adds s b x (value_in s.frame.store t) (value_in s.frame.store u)) refl (λ z. z) (λ v. next-never _ _)
+does-exact p s l (dispose t) b base = access-exact s.configuration.heap s.frame.store (statement l (dispose t)) (value_in s.frame.store t) _ refl (λ z. z) (λ v. next-never _ _)
 does-exact p s l (alloc x n) b base = never-exact _ s.configuration.heap s.frame.store (statement l (alloc x n)) (allocates-never s b x n base) refl (λ z. z)
 does-exact p s l (call x n args) b base = never-exact _ s.configuration.heap s.frame.store (statement l (call x n args)) (calls-never s b n _ x (slice_get p.functions n)) refl (λ z. z)
 does-exact p s l (fork n args) b base = never-exact _ s.configuration.heap s.frame.store (statement l (fork n args)) (forks-never s b n _ (slice_get p.functions n)) refl (λ z. z)
@@ -142,6 +150,8 @@ without_base heap store l (set x t) base event h k = no_base base k
 without_base heap store l (read x t) base event h k = no_base base k
 without_base heap store l (write t u) base event h k = no_base base k
 without_base heap store l (cas x t old new) base event h k = no_base base k
+without_base heap store l (faa x t u) base event h k = no_base base k
+without_base heap store l (dispose t) base event h k = no_base base k
 without_base heap store l (call x n args) base event h k = no_base base k
 without_base heap store l (fork n args) base event h k = no_base base k
 without_base heap store l (branch c a d) base event h k = no_base base k
@@ -155,6 +165,8 @@ takes_none heap store l (set x t) event h = refl
 takes_none heap store l (read x t) event h = refl
 takes_none heap store l (write t u) event h = refl
 takes_none heap store l (cas x t old new) event h = refl
+takes_none heap store l (faa x t u) event h = refl
+takes_none heap store l (dispose t) event h = refl
 takes_none heap store l (call x n args) event h = refl
 takes_none heap store l (fork n args) event h = refl
 takes_none heap store l (branch c a d) event h = refl

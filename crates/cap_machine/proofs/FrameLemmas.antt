@@ -1,7 +1,7 @@
 -- Frames at places.
 use Rattle.std.proofs.Common.{◌≡◌, ℕ, zero, suc, Bool, true, false, cond, List, [], ◌∷◌, ◌++◌, refl, sym, ap, ◌∙◌, subst}
 use Rattle.std.specs.Prelude.{Option, Some, None}
-use Rattle.cap_prog.specs.Program.{Label, PlainAct, set, read, write, cas, alloc, call, fork, branch, loop, check, give_back, Block, done, first, append, PlainStatement}
+use Rattle.cap_prog.specs.Program.{Label, PlainAct, set, read, write, cas, faa, dispose, alloc, call, fork, branch, loop, check, give_back, Block, done, first, append, PlainStatement}
 use Rattle.cap_machine.specs.declared.position.Level.{Level}
 use Rattle.cap_machine.specs.Places.{skip, inside, side_of, is_loop, behind, behind_act, after, past, block_at, rest_at, here, IsSettled}
 use Rattle.cap_machine.specs.Changes.{tail_of}
@@ -42,6 +42,8 @@ behind_is l (set x t) b = refl
 behind_is l (read x a) b = refl
 behind_is l (write a t) b = refl
 behind_is l (cas x a old new) b = refl
+behind_is l (faa x a t) b = refl
+behind_is l (dispose a) b = refl
 behind_is l (alloc x n) b = refl
 behind_is l (call x f args) b = refl
 behind_is l (fork f args) b = refl

@@ -3,16 +3,16 @@ use Rattle.std.proofs.Common.{◌≡◌, ◌∙◌, sym, refl, ap, subst, ℕ, �
 use Rattle.std.proofs.lemmas.List.{length-map, length-replicate}
 use Rattle.std.specs.Prelude.{ℤ, pos, Option, Some, None, slice_get, slice_set, replicate, IsSomeAnd}
 use Rattle.std.specs.List.{AllByRecursion}
-use Rattle.std.specs.FinMap.{get, insert}
+use Rattle.std.specs.FinMap.{get, insert, remove}
 use Rattle.cap_lin.specs.Linear.{Linear}
-use Rattle.cap_prog.specs.Program.{Label, PlainAct, set, read, write, cas, alloc, call, fork, branch, loop, check, give_back, Block, done, first, append, PlainStatement, PlainFunction, PlainProgram}
+use Rattle.cap_prog.specs.Program.{Label, PlainAct, set, read, write, cas, faa, dispose, alloc, call, fork, branch, loop, check, give_back, Block, done, first, append, PlainStatement, PlainFunction, PlainProgram}
 use Rattle.cap_prog.specs.Parts.{all_statements, block_statements}
 use Rattle.cap_prog.specs.WellFormed.{IsLocal, GivesLocal, ActFits, IsClosingReturn, EndsInReturn, FunctionFits, IsWellFormed}
 use Rattle.cap_machine.specs.declared.event.Entry.{Entry}
 use Rattle.cap_machine.specs.declared.event.Event.{Event}
-use Rattle.cap_machine.specs.declared.event.Event.TheVariants.{Read, Write, Cas}
+use Rattle.cap_machine.specs.declared.event.Event.TheVariants.{Read, Write, Cas, Dispose}
 use Rattle.cap_lin.specs.declared.row.Op.TheVariants.{Eq as Equal}
-use Rattle.cap_machine.specs.Machine.{Heap, Frame, Thread, Configuration, Outcome, next, fault, disabled, Spot, with_rest, with_value, passes, sets, at_cell, swaps, may_be_at, allocates, new_frame, calls, forks, receives, returns, does, takes_base, statement_step, thread_step, step, start, value_in, holds, compared}
+use Rattle.cap_machine.specs.Machine.{Heap, Frame, Thread, Configuration, Outcome, next, fault, disabled, Spot, with_rest, with_value, passes, sets, at_cell, swaps, adds, may_be_at, allocates, new_frame, calls, forks, receives, returns, does, takes_base, statement_step, thread_step, step, start, value_in, holds, compared}
 use Rattle.cap_machine.specs.Fits.{IsStatementOf, FrameFits, CallerTakes, ThreadFits, ConfigurationFits}
 use Rattle.cap_machine.proofs.Lists.{all_at, all_set, all_append, all_front, all_back, some_map, all_one, each_of_itself, all_joined}
 
@@ -159,6 +159,14 @@ does-kept p s l (cas x t old new) b base w h k =
     choice-kept p (compared Equal v o) (sets s (insert s.configuration.heap a n) b x (pos 1) (Cas a true)) (sets s s.configuration.heap b x (pos 0) (Cas a false))
     (placed p s (with_value (with_rest s.frame b) x (pos 1) ∷ s.below) h (value-thread p (with_rest s.frame b) s.below x (pos 1) (passed-thread p s.frame s.below l (cas x t old new) b (λ z. z) k)))
     (placed p s (with_value (with_rest s.frame b) x (pos 0) ∷ s.below) h (value-thread p (with_rest s.frame b) s.below x (pos 0) (passed-thread p s.frame s.below l (cas x t old new) b (λ z. z) k))))
+does-kept p s l (faa x t u) b base w h k =
+    let a = value_in s.frame.store t in let d = value_in s.frame.store u in
+    at_cell-kept p a (get s.configuration.heap a) (adds s b x a d)
+    (λ v. placed p s (with_value (with_rest s.frame b) x v ∷ s.below) h (value-thread p (with_rest s.frame b) s.below x v (passed-thread p s.frame s.below l (faa x t u) b (λ z. z) k)))
+does-kept p s l (dispose t) b base w h k =
+    let a = value_in s.frame.store t in
+    at_cell-kept p a (get s.configuration.heap a) (λ _. passes s (remove s.configuration.heap a) b (Dispose a))
+    (λ _. placed p s (with_rest s.frame b ∷ s.below) h (passed-thread p s.frame s.below l (dispose t) b (λ z. z) k))
 does-kept p s l (alloc x n) b base w h k = allocates-kept p s b x n base h (passed-thread p s.frame s.below l (alloc x n) b (λ z. z) k)
 does-kept p s l (call x n args) b base w h k =
     let r = runs p s.frame l (call x n args) b w k.0 in

@@ -2,7 +2,7 @@
 use Rattle.std.proofs.Common.{◌≡◌, ℕ, zero, suc, Bool, true, false, cond, List, [], ◌∷◌, ◌++◌, map, refl, sym, ap, ◌∙◌}
 use Rattle.std.specs.Prelude.{slice_get, option_map}
 use Rattle.cap_prog.specs.declared.function.Statement.{Statement}
-use Rattle.cap_prog.specs.Program.{Label, PlainAct, set, read, write, cas, alloc, call, fork, branch, loop, check, give_back, Block, done, first, append, PlainStatement, block_of}
+use Rattle.cap_prog.specs.Program.{Label, PlainAct, set, read, write, cas, faa, dispose, alloc, call, fork, branch, loop, check, give_back, Block, done, first, append, PlainStatement, block_of}
 use Rattle.cap_prog.specs.Views.{block_view, statement_view}
 use Rattle.cap_machine.specs.declared.position.Level.{Level}
 use Rattle.cap_machine.specs.Places.{skip, inside, is_loop, behind, after, block_at, rest_at, here, IsFirst, IsSettled}
@@ -33,6 +33,8 @@ behind_skip zero (first l (set x t) b) = refl
 behind_skip zero (first l (read x a) b) = refl
 behind_skip zero (first l (write a t) b) = refl
 behind_skip zero (first l (cas x a old new) b) = refl
+behind_skip zero (first l (faa x a t) b) = refl
+behind_skip zero (first l (dispose a) b) = refl
 behind_skip zero (first l (alloc x n) b) = refl
 behind_skip zero (first l (call x f args) b) = refl
 behind_skip zero (first l (fork f args) b) = refl

@@ -12,7 +12,7 @@ use Rattle.cap_lin.specs.declared.row.Op.TheVariants.{Eq as Equal}
 use Rattle.std.proofs.lemmas.Int.{ints}
 use Rattle.std.proofs.lemmas.List.{length-map}
 use Rattle.std.proofs.lemmas.Option.{slice_get_read}
-use Rattle.cap_prog.specs.Program.{Label, PlainAct, set, read, write, cas, alloc, call, fork, branch, loop, check, give_back, Block, done, first, PlainStatement, PlainFunction, PlainProgram}
+use Rattle.cap_prog.specs.Program.{Label, PlainAct, set, read, write, cas, faa, dispose, alloc, call, fork, branch, loop, check, give_back, Block, done, first, PlainStatement, PlainFunction, PlainProgram}
 use Rattle.cap_prog.specs.Views.{function_view, block_view, statement_view, act_view}
 use Rattle.cap_prog.specs.declared.function.Act.TheFolds as acts
 use Rattle.cap_prog.specs.declared.assertion.Comp.{Comp}
@@ -27,10 +27,10 @@ use Rattle.cap_machine.specs.declared.event.StepError.TheVariants.{NotEnabled, W
 use Rattle.cap_machine.specs.declared.frame.Frame as code
 use Rattle.cap_machine.specs.declared.machine.Machine.{Machine}
 use Rattle.cap_machine.specs.Cells.{IsTop}
-use Rattle.cap_machine.specs.Machine.{Heap, Frame, Thread, Configuration, Outcome, next, fault, disabled, Spot, with_rest, new_frame, at_cell, swaps, may_be_at, allocates, sets, with_cells, calls, forks, returns, does, value_in, holds, compared, takes_base, statement_step, thread_step, step, top_frame, are_free}
+use Rattle.cap_machine.specs.Machine.{Heap, Frame, Thread, Configuration, Outcome, next, fault, disabled, Spot, with_rest, new_frame, at_cell, swaps, adds, may_be_at, allocates, sets, with_cells, calls, forks, returns, does, value_in, holds, compared, takes_base, statement_step, thread_step, step, top_frame, are_free}
 use Rattle.cap_machine.specs.Fits.{FrameFits, ThreadFits, ConfigurationFits}
 use Rattle.cap_machine.specs.Laws.{is_step, running, AreFree, BaseFits}
-use Rattle.cap_machine.specs.Results.{allocation_steps, are_narrow}
+use Rattle.cap_machine.specs.Results.{allocation_steps, addition_steps, are_narrow}
 use Rattle.cap_machine.specs.View.{body_of, thread_view, configuration, is_stopped, ArePlaced, AllArePlaced, RunsProgram, IsSame, LeavesMachine, Steps, is_enabled}
 use Rattle.cap_machine.specs.Ready.{IsReady, IsReadyTo}
 use Rattle.cap_machine.proofs.Lists.{all_at}
@@ -73,6 +73,8 @@ takes h (set x t) base b = ap is_none b
 takes h (read x a) base b = ap is_none b
 takes h (write a t) base b = ap is_none b
 takes h (cas x a old new) base b = ap is_none b
+takes h (faa x a t) base b = ap is_none b
+takes h (dispose a) base b = ap is_none b
 takes h (call x f args) base b = ap is_none b
 takes h (fork f args) base b = ap is_none b
 takes h (branch c x y) base b = ap is_none b
@@ -241,6 +243,9 @@ does-grows p s l (read x t) b base = at_cell-grows _ _ (get s.configuration.heap
 does-grows p s l (write t u) b base = at_cell-grows _ _ (get s.configuration.heap (value_in s.frame.store t)) _ (λ v. set-grows s.configuration.threads s.thread _)
 does-grows p s l (cas x t old new) b base =
     at_cell-grows _ _ (get s.configuration.heap (value_in s.frame.store t)) (swaps s b x (value_in s.frame.store t) (value_in s.frame.store old) (value_in s.frame.store new)) (λ v. choice-grows _ (compared Equal v (value_in s.frame.store old)) _ _ (set-grows s.configuration.threads s.thread _) (set-grows s.configuration.threads s.thread _))
+does-grows p s l (faa x t u) b base =
+    at_cell-grows _ _ (get s.configuration.heap (value_in s.frame.store t)) (adds s b x (value_in s.frame.store t) (value_in s.frame.store u)) (λ v. set-grows s.configuration.threads s.thread _)
+does-grows p s l (dispose t) b base = at_cell-grows _ _ (get s.configuration.heap (value_in s.frame.store t)) _ (λ v. set-grows s.configuration.threads s.thread _)
 does-grows p s l (alloc x n) b base = allocates-grows s b x n base
 does-grows p s l (call x n args) b base = calls-grows s b n (map (value_in s.frame.store) args) x (slice_get p.functions n)
 does-grows p s l (fork n args) b base = forks-grows s b n (map (value_in s.frame.store) args) (slice_get p.functions n)
@@ -331,3 +336,24 @@ pub allocates_at : (s : Spot) (rest : Block) (x n : ℕ) (o : Option ℤ) (base 
 allocates_at s rest x n o base b i =
     let f = base_at s.configuration.heap x n o base b i in
     ap (allocates s rest x n) i ∙ where_true _ _ _ (at_free s.configuration.heap s.configuration.heap base n f.0 (is_free s.configuration.heap base n f.1) refl)
+
+-- ---- additions
+
+pub sum_wide : (z : ℤ) → (SFits w128 z → ⊥) → fits z ≡ false
+sum_wide z k = not_true _ (λ t. k (sfits_of z t))
+
+pub sum_narrow : (z : ℤ) → SFits w128 z → fits z ≡ true
+sum_narrow z k = narrow z k
+
+pub addition_narrow : (o : Option ℤ) (v d : ℤ) (b : Bool) → o ≡ Some v → fits (v +ℤ d) ≡ b → are_narrow (addition_steps o d) ≡ b
+unfolding first_wide
+addition_narrow o v d b i f = ap (λ u. are_narrow (addition_steps u d)) i ∙ go (fits (v +ℤ d)) f
+  where
+    go : (t : Bool) → t ≡ b → is_none {T = ℤ × ℤ} (cond t None (Some (v, d))) ≡ b
+    go true e = e
+    go false e = e
+
+-- at an absent address there is no sum
+pub no_addition : (o : Option ℤ) (d : ℤ) → o ≡ None → are_narrow (addition_steps o d) ≡ true
+unfolding first_wide
+no_addition o d i = ap (λ u. are_narrow (addition_steps u d)) i

@@ -26,6 +26,10 @@ cell_absent a cell h k f e n i =
 pub cell_found : (a cell v : ℤ) (h k : Heap) (f : ℤ → Outcome) → cell ≡ a → Some v ≡ get h cell → k ≡ h → at_cell a (get k a) f ≡ f v
 cell_found a cell v h k f e n i = ap (λ o. at_cell a o f) (ap (λ x. get x a) i ∙ (ap (get h) (sym e) ∙ sym n))
 
+-- what the definition finds at the address is what the code found
+pub found_at : (a cell : ℤ) (h k : Heap) (o : Option ℤ) → cell ≡ a → o ≡ get h cell → k ≡ h → get k a ≡ o
+found_at a cell h k o e n i = ap (λ x. get x a) i ∙ (ap (get h) (sym e) ∙ sym n)
+
 pub same_compared : (a b : ℤ) → a ≡ b → compared Equal a b ≡ true
 same_compared a b e = grind (arith, ints)
 
@@ -52,7 +56,7 @@ pub threads_after : (p : PlainProgram) (m after : Machine) (e : Entry) (s : Plai
 threads_after p m after e s r change c =
     c.configured ∙ ap (λ ts. record { heap = (configuration p m).heap; threads = ts }) (update_is change (configuration p m).threads e.thread (r.frame ∷ r.below) r.there)
 
-pub returned_ok : (p : PlainProgram) (m after : Machine) (e : Entry) (s : PlainStatement) (r : IsReady p m e s) (event : Event) (v : ℤ) → are_narrow (act_steps r.frame.store s.act e.base) ≡ true → now p m e s r ≡ next (record { heap = (configuration p m).heap; threads = slice_set (configuration p m).threads e.thread (received r.frame v r.below) }) (return_event v (r.frame ∷ r.below)) → HasChanged p (returned v) e.thread m after → event ≡ return_event v (r.frame ∷ r.below) → Steps p e m after (Ok event)
+pub returned_ok : (p : PlainProgram) (m after : Machine) (e : Entry) (s : PlainStatement) (r : IsReady p m e s) (event : Event) (v : ℤ) → are_narrow (act_steps (configuration p m).heap r.frame.store s.act e.base) ≡ true → now p m e s r ≡ next (record { heap = (configuration p m).heap; threads = slice_set (configuration p m).threads e.thread (received r.frame v r.below) }) (return_event v (r.frame ∷ r.below)) → HasChanged p (returned v) e.thread m after → event ≡ return_event v (r.frame ∷ r.below) → Steps p e m after (Ok event)
 returned_ok p m after e s r event v n o c i =
     ok_next p m after e s r event (record { heap = (configuration p m).heap; threads = slice_set (configuration p m).threads e.thread (received r.frame v r.below) }) n
     (o ∙ ap (λ x. next (record { heap = (configuration p m).heap; threads = slice_set (configuration p m).threads e.thread (received r.frame v r.below) }) x) (sym i))
@@ -60,7 +64,7 @@ returned_ok p m after e s r event v n o c i =
 
 -- ---- calls and forks
 
-pub called_ok : (p : PlainProgram) (m after : Machine) (e : Entry) (s : PlainStatement) (r : IsReady p m e s) (callee : Frame) (n : ℕ) (g : PlainFunction) (vs : List ℤ) (x : Option ℕ) → are_narrow (act_steps r.frame.store s.act e.base) ≡ true → now p m e s r ≡ calls (spot p m e s r) r.rest n vs x (slice_get p.functions n) → slice_get p.functions n ≡ Some g → callee ≡ new_frame n g vs x → HasChanged p (λ fs. callee ∷ with_top passed fs) e.thread m after → Steps p e m after (Ok Call)
+pub called_ok : (p : PlainProgram) (m after : Machine) (e : Entry) (s : PlainStatement) (r : IsReady p m e s) (callee : Frame) (n : ℕ) (g : PlainFunction) (vs : List ℤ) (x : Option ℕ) → are_narrow (act_steps (configuration p m).heap r.frame.store s.act e.base) ≡ true → now p m e s r ≡ calls (spot p m e s r) r.rest n vs x (slice_get p.functions n) → slice_get p.functions n ≡ Some g → callee ≡ new_frame n g vs x → HasChanged p (λ fs. callee ∷ with_top passed fs) e.thread m after → Steps p e m after (Ok Call)
 called_ok p m after e s r callee n g vs x w o i j c =
     ok_next p m after e s r Call _ w (o ∙ ap (calls (spot p m e s r) r.rest n vs x) i)
     (threads_after p m after e s r (λ fs. callee ∷ with_top passed fs) c
@@ -82,7 +86,7 @@ can_change_more p m more e s r first h =
     let at : slice_get (configuration p more).threads e.thread ≡ Some (r.frame ∷ r.below) = ap (λ (c : Configuration). slice_get c.threads e.thread) h.configured ∙ get_front (configuration p m).threads ((first ∷ []) ∷ []) e.thread (r.frame ∷ r.below) r.there in
     record { top = has_top p more e.thread r.frame r.below at; places = h.places }
 
-pub forked_ok : (p : PlainProgram) (m more after : Machine) (e : Entry) (s : PlainStatement) (r : IsReady p m e s) (first : Frame) (n k : ℕ) (g : PlainFunction) (vs : List ℤ) → are_narrow (act_steps r.frame.store s.act e.base) ≡ true → now p m e s r ≡ forks (spot p m e s r) r.rest n vs (slice_get p.functions n) → slice_get p.functions n ≡ Some g → first ≡ new_frame n g vs None → HasThread p first m more → HasChanged p (with_top passed) e.thread more after → k ≡ length (configuration p m).threads → Steps p e m after (Ok (Fork k))
+pub forked_ok : (p : PlainProgram) (m more after : Machine) (e : Entry) (s : PlainStatement) (r : IsReady p m e s) (first : Frame) (n k : ℕ) (g : PlainFunction) (vs : List ℤ) → are_narrow (act_steps (configuration p m).heap r.frame.store s.act e.base) ≡ true → now p m e s r ≡ forks (spot p m e s r) r.rest n vs (slice_get p.functions n) → slice_get p.functions n ≡ Some g → first ≡ new_frame n g vs None → HasThread p first m more → HasChanged p (with_top passed) e.thread more after → k ≡ length (configuration p m).threads → Steps p e m after (Ok (Fork k))
 forked_ok p m more after e s r first n k g vs w o i j h c l =
     ok_next p m after e s r (Fork k) _ w
     (o ∙ (ap (forks (spot p m e s r) r.rest n vs) i ∙ ap (λ x. next (record { heap = (configuration p m).heap; threads = slice_set (configuration p m).threads e.thread (with_rest r.frame r.rest ∷ r.below) ++ (new_frame n g vs None ∷ []) ∷ [] }) (Fork x)) (sym l)))

@@ -1,7 +1,7 @@
 -- What the definition of a step means: when there is one, when it is a fault, and what it keeps.
 use Rattle.std.specs.Prelude.{◌≡◌, ◌↔◌, ℕ, ◌<◌, ℤ, pos, ◌+ℤ◌, ◌≤ℤ◌, Bool, true, false, List, length, slice_get, Option, Some, None, IsTrue, IsSome, IfSome, IsSomeAnd, option_and_then}
 use Rattle.std.specs.FinMap.{get}
-use Rattle.cap_prog.specs.Program.{PlainAct, read, write, cas, alloc, check, Block, done, first, PlainStatement, PlainProgram}
+use Rattle.cap_prog.specs.Program.{PlainAct, read, write, cas, faa, dispose, alloc, check, Block, done, first, PlainStatement, PlainProgram}
 use Rattle.cap_prog.specs.WellFormed.{IsWellFormed}
 use Rattle.cap_machine.specs.declared.event.Entry.{Entry}
 use Rattle.cap_machine.specs.declared.event.Event.{Event}
@@ -53,6 +53,8 @@ abbrev pub accessed : List ℤ → PlainAct → Option ℤ
 accessed store (read x a) = Some (value_in store a)
 accessed store (write a t) = Some (value_in store a)
 accessed store (cas x a old new) = Some (value_in store a)
+accessed store (faa x a t) = Some (value_in store a)
+accessed store (dispose a) = Some (value_in store a)
 accessed store _ = None
 
 -- an assertion that does not hold

@@ -1,16 +1,16 @@
 -- The machine: configurations, and one step as one statement of one thread. Values have no bound.
 use Rattle.std.specs.Prelude.{◌≡◌, ℕ, zero, suc, ℤ, pos, ◌+ℤ◌, ◌≤ℤ◌, int_lt, int_le, Bool, true, false, not, ◌&&◌, is_some, is_none, if◌then◌else◌, List, [], ◌∷◌, ◌++◌, length, map, replicate, slice_get, slice_set, Option, Some, None, option_map, option_to_list}
 use Rattle.std.specs.Ordering.{int_cmp}
-use Rattle.std.specs.FinMap.{FinMap, get, insert}
+use Rattle.std.specs.FinMap.{FinMap, get, insert, remove}
 use Rattle.cap_lin.specs.Linear.{Linear}
 use Rattle.cap_lin.specs.Values.{number_at, value}
 use Rattle.cap_lin.specs.declared.row.Op.{Op}
 use Rattle.cap_lin.specs.declared.row.Op.TheVariants.{Eq as Equal, Ne as Unequal, Lt as Less, Le as AtMost, Gt as Greater, Ge as AtLeast}
 use Rattle.cap_prog.specs.declared.assertion.Comp.{Comp}
-use Rattle.cap_prog.specs.Program.{Label, PlainAct, set, read, write, cas, alloc, call, fork, branch, loop, check, give_back, Block, done, first, append, PlainFunction, PlainProgram}
+use Rattle.cap_prog.specs.Program.{Label, PlainAct, set, read, write, cas, faa, dispose, alloc, call, fork, branch, loop, check, give_back, Block, done, first, append, PlainFunction, PlainProgram}
 use Rattle.cap_machine.specs.declared.event.Entry.{Entry}
 use Rattle.cap_machine.specs.declared.event.Event.{Event}
-use Rattle.cap_machine.specs.declared.event.Event.TheVariants.{Set, Read, Write, Cas, Alloc, Call, Fork, Branch, Assert, Return, End, Bad, Failed}
+use Rattle.cap_machine.specs.declared.event.Event.TheVariants.{Set, Read, Write, Cas, Faa, Dispose, Alloc, Call, Fork, Branch, Assert, Return, End, Bad, Failed}
 
 -- from positive addresses to whole numbers
 abbrev pub Heap : Type 0
@@ -90,6 +90,10 @@ swaps s rest x a old new v =
     then sets s (insert s.configuration.heap a new) rest x (pos 1) (Cas a true)
     else sets s s.configuration.heap rest x (pos 0) (Cas a false)
 
+-- the local gets what the cell holds, and the cell that value plus what is added
+abbrev pub adds : Spot → Block → ℕ → ℤ → ℤ → ℤ → Outcome
+adds s rest x a added v = sets s (insert s.configuration.heap a (v +ℤ added)) rest x v (Faa a v)
+
 -- whether the addresses from the base on are absent, as many as there are new cells
 abbrev pub are_free : Heap → ℤ → ℕ → Bool
 are_free heap base zero = true
@@ -156,6 +160,12 @@ does p s l (write address t) rest base =
 does p s l (cas x address old new) rest base =
     let a = value_in s.frame.store address in
     at_cell a (get s.configuration.heap a) (swaps s rest x a (value_in s.frame.store old) (value_in s.frame.store new))
+does p s l (faa x address t) rest base =
+    let a = value_in s.frame.store address in
+    at_cell a (get s.configuration.heap a) (adds s rest x a (value_in s.frame.store t))
+does p s l (dispose address) rest base =
+    let a = value_in s.frame.store address in
+    at_cell a (get s.configuration.heap a) (λ _. passes s (remove s.configuration.heap a) rest (Dispose a))
 does p s l (alloc x n) rest base = allocates s rest x n base
 does p s l (call x n args) rest base = calls s rest n (map (value_in s.frame.store) args) x (slice_get p.functions n)
 does p s l (fork n args) rest base = forks s rest n (map (value_in s.frame.store) args) (slice_get p.functions n)

@@ -1,7 +1,7 @@
 -- A place in a function's body, and what remains from there. A place is the levels of the blocks that were entered, the outermost first, and
 -- the index of the next statement of the innermost block.
 use Rattle.std.specs.Prelude.{ℕ, zero, suc, Bool, true, false, if◌then◌else◌, List, [], ◌∷◌, Option, Some, None}
-use Rattle.cap_prog.specs.Program.{Label, PlainAct, set, read, write, cas, alloc, call, fork, branch, loop, check, give_back, Block, done, first, append, PlainStatement}
+use Rattle.cap_prog.specs.Program.{Label, PlainAct, set, read, write, cas, faa, dispose, alloc, call, fork, branch, loop, check, give_back, Block, done, first, append, PlainStatement}
 use Rattle.cap_machine.specs.declared.position.Level.{Level}
 
 abbrev pub skip : ℕ → Block → Block
@@ -18,6 +18,8 @@ side_of side (set x t) = done
 side_of side (read x a) = done
 side_of side (write a t) = done
 side_of side (cas x a old new) = done
+side_of side (faa x a t) = done
+side_of side (dispose a) = done
 side_of side (alloc x n) = done
 side_of side (call x f args) = done
 side_of side (fork f args) = done
@@ -36,6 +38,8 @@ behind_act l (set x t) b = b
 behind_act l (read x a) b = b
 behind_act l (write a t) b = b
 behind_act l (cas x a old new) b = b
+behind_act l (faa x a t) b = b
+behind_act l (dispose a) b = b
 behind_act l (alloc x n) b = b
 behind_act l (call x f args) b = b
 behind_act l (fork f args) b = b

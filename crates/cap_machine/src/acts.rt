@@ -125,6 +125,65 @@ impl Machine {
         }
     }
 
+    // A fetch-and-add.
+    pub(crate) fn fetch_add(
+        &mut self,
+        program: &Program,
+        entry: &Entry,
+        variable: u32,
+        address: &Term,
+        term: &Term,
+    ) -> Result<Event, StepError>
+        requires { IsReadyTo (program_view program.now) self.old entry.now
+            (plain.faa variable address.now term.now) }
+        ensures steps { Steps (program_view program.now) entry.now self.old self.new result }
+        ensures places { AllArePlaced (program_view program.now) self.new }
+    {
+        let store = self.store(entry.thread);
+        let cell = evaluate(address, store)?;
+        let added = evaluate(term, store)?;
+        match self.heap.get(cell) {
+            None => {
+                self.stopped = true;
+                Ok(Event::Bad(cell))
+            }
+            Some(found) => {
+                let Some(sum) = found.checked_add(added) else {
+                    return Err(StepError::Wide);
+                };
+                self.heap.write(cell, sum);
+                self.assign(program, entry.thread, variable, found);
+                Ok(Event::Faa(cell, found))
+            }
+        }
+    }
+
+    // A cell that goes.
+    pub(crate) fn dispose(
+        &mut self,
+        program: &Program,
+        entry: &Entry,
+        address: &Term,
+    ) -> Result<Event, StepError>
+        requires { IsReadyTo (program_view program.now) self.old entry.now
+            (plain.dispose address.now) }
+        ensures steps { Steps (program_view program.now) entry.now self.old self.new result }
+        ensures places { AllArePlaced (program_view program.now) self.new }
+    {
+        let cell = evaluate(address, self.store(entry.thread))?;
+        match self.heap.get(cell) {
+            None => {
+                self.stopped = true;
+                Ok(Event::Bad(cell))
+            }
+            Some(_) => {
+                self.heap.remove(cell);
+                self.pass(program, entry.thread);
+                Ok(Event::Dispose(cell))
+            }
+        }
+    }
+
     // An allocation, at the entry's base.
     pub(crate) fn allocate(
         &mut self,

@@ -33,6 +33,10 @@ pub enum Event {
     Read(i128, i128),
     Write(i128, i128),
     Cas(i128, bool),
+    /// A sum in a cell, with what it held before.
+    Faa(i128, i128),
+    /// A cell that is gone.
+    Dispose(i128),
     Alloc(i128),
     Call,
     Fork(u32),

@@ -77,8 +77,8 @@ impl Heap {
         let _ = self.cells.insert(address, value);
     }
 
-    // Takes a cell away.
-    fn remove(&mut self, address: i128)
+    /// Takes a cell away.
+    pub(crate) fn remove(&mut self, address: i128)
         ensures { self.new ≡ map.remove self.old address }
     {
         self.cells.remove(&address);
@@ -117,6 +117,8 @@ impl Heap {
             | Act::Read(_, _)
             | Act::Write(_, _)
             | Act::Cas(_, _, _, _)
+            | Act::Faa(_, _, _)
+            | Act::Dispose(_)
             | Act::Call(_, _, _)
             | Act::Fork(_, _)
             | Act::If(_, _, _)

@@ -55,6 +55,8 @@ fn side_of(act: &Act, side: bool) -> &[Statement]
         | Act::Read(_, _)
         | Act::Write(_, _)
         | Act::Cas(_, _, _, _)
+        | Act::Faa(_, _, _)
+        | Act::Dispose(_)
         | Act::Alloc(_, _)
         | Act::Call(_, _, _)
         | Act::Fork(_, _)

@@ -28,6 +28,8 @@ fn cells_of(act: &Act) -> Option<u32>
         | Act::Read(_, _)
         | Act::Write(_, _)
         | Act::Cas(_, _, _, _)
+        | Act::Faa(_, _, _)
+        | Act::Dispose(_)
         | Act::Call(_, _, _)
         | Act::Fork(_, _)
         | Act::If(_, _, _)
@@ -98,6 +100,10 @@ impl Machine {
             Act::Cas(variable, address, old, new) => {
                 self.swap(program, entry, *variable, address, old, new)
             }
+            Act::Faa(variable, address, term) => {
+                self.fetch_add(program, entry, *variable, address, term)
+            }
+            Act::Dispose(address) => self.dispose(program, entry, address),
             Act::Alloc(variable, count) => self.allocate(program, entry, *variable, *count),
             Act::Call(destination, function, args) => {
                 self.call(alloc, program, entry, *destination, *function, args)
@@ -123,10 +129,10 @@ impl Machine {
 
     /// One step, which is one statement of the entry's thread, and what it did. `NotEnabled` comes
     /// exactly where `enabled` says no, and `Wide` exactly where it says yes and a product or a
-    /// partial sum of a term that the statement evaluates, or the last address of what it
-    /// allocates, leaves 128 bits. After an error the machine is as it was. A fault leaves the
-    /// configuration as it was and stops the machine. There are fewer than 4,294,967,295 threads
-    /// before the step, and at most one more after it.
+    /// partial sum of a term that the statement evaluates, the sum that it leaves in a cell, or the
+    /// last address of what it allocates, leaves 128 bits. After an error the machine is as it was.
+    /// A fault leaves the configuration as it was and stops the machine. There are fewer than
+    /// 4,294,967,295 threads before the step, and at most one more after it.
     pub fn step(
         &mut self,
         alloc: Global,

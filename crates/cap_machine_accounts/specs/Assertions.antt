@@ -7,15 +7,16 @@ use Rattle.cap_lin.specs.Values.{Valuation, denominator, value, amount}
 use Rattle.cap_lin.specs.Solves.{Compares}
 use Rattle.cap_lin.specs.declared.row.Sort.{Sort}
 use Rattle.cap_lin.specs.declared.row.Sort.TheVariants.{Int, Perm}
+use Rattle.cap_galg_indices.specs.Sets.{one_index, indices_from}
 use Rattle.cap_galg.specs.declared.fraction.Fraction.{Fraction}
 use Rattle.cap_galg.specs.Fractions.{IsShare}
-use Rattle.cap_galg.specs.Elements.{Element, one, share, src, tokens}
+use Rattle.cap_galg.specs.Elements.{Element, one, share, src, tokens, indices}
 use Rattle.cap_galg.specs.Algebras.{atom_algebra, IsElement}
 use Rattle.cap_prog.specs.declared.assertion.Comp.{Comp}
 use Rattle.cap_prog.specs.declared.assertion.Slot.{Slot}
 use Rattle.cap_prog.specs.declared.assertion.Slot.TheVariants.{Any, Is}
 use Rattle.cap_prog.specs.declared.assertion.Asked.{Asked}
-use Rattle.cap_prog.specs.declared.assertion.Asked.TheVariants.{One, Share, Src, Tok}
+use Rattle.cap_prog.specs.declared.assertion.Asked.TheVariants.{One, Share, Src, Tok, At, From}
 use Rattle.cap_prog.specs.Program.{PlainItem, compare, choose, fact, atom, cell, Items, none, item, PlainCase, PlainAction, PlainRegionType, PlainFunction, PlainProgram}
 use Rattle.cap_prog.specs.Scopes.{fixed_start, result_name}
 use Rattle.cap_machine_accounts.specs.Parts.{Guard, join, IsGuard, atom_guard, algebra_of, Part, guard_at, with_guard, without_cell, Region, region_at}
@@ -40,12 +41,14 @@ ShareIs v (Is t) f = amount v.fraction t *ℤ pos f.den ≡ pos f.num *ℤ denom
 
 -- ---- guards
 
--- an amount is above 0 and at most 1, and a count is at least 0; no token is no guard
+-- an amount is above 0 and at most 1, and a count or an index is at least 0; no token is no guard
 abbrev pub IsAsked : Valuation → Asked → Element → Type 0
 IsAsked v One x = x ≡ one
 IsAsked v (Share s) x = (f : Fraction) × IsShare f × ShareIs v s f × (x ≡ share f)
 IsAsked v (Src s) x = (n : ℕ) × SlotIs v s (pos n) × (x ≡ src n)
 IsAsked v (Tok s) x = (k : ℕ) × SlotIs v s (pos k) × (x ≡ tokens k)
+IsAsked v (At s) x = (i : ℕ) × SlotIs v s (pos i) × (x ≡ indices (one_index i))
+IsAsked v (From s) x = (i : ℕ) × SlotIs v s (pos i) × (x ≡ indices (indices_from i))
 
 -- what is asked of an atom, taken out of the held guard, leaves the rest
 pub record TakesGuard (p : PlainProgram) (v : Valuation) (k i : ℕ) (asked : Asked)

@@ -7,7 +7,7 @@ use Rattle.cap_lin.specs.Linear.{same_number}
 use Rattle.cap_prog.specs.Program.{PlainProgram}
 use Rattle.cap_machine.specs.Machine.{Heap}
 use Rattle.cap_machine.specs.declared.event.Event.{Event}
-use Rattle.cap_machine.specs.declared.event.Event.TheVariants.{Set, Read, Write, Cas, Alloc, Call, Fork, Branch, Assert, Return, End, Bad, Failed}
+use Rattle.cap_machine.specs.declared.event.Event.TheVariants.{Set, Read, Write, Cas, Faa, Dispose, Alloc, Call, Fork, Branch, Assert, Return, End, Bad, Failed}
 use Rattle.cap_machine_accounts.specs.Parts.{Guard, GuardAtMost, full_guard, Part, HasCell, guard_at, guards_at, Region, region_at}
 use Rattle.cap_machine_accounts.specs.Assertions.{Acts}
 use Rattle.cap_machine_accounts.specs.Accounts.{Held, OwnedRegion, Account, table_of, table, EachTwo, CellsApart, CellsWithin, GuardsFit}
@@ -107,6 +107,8 @@ FramesFollow (Set v) s new handed left = StaysOn s new left
 FramesFollow (Read a v) s new handed left = StaysOn s new left
 FramesFollow (Write a v) s new handed left = StaysOn s new left
 FramesFollow (Cas a swapped) s new handed left = StaysOn s new left
+FramesFollow (Faa a v) s new handed left = StaysOn s new left
+FramesFollow (Dispose a) s new handed left = StaysOn s new left
 FramesFollow (Alloc a) s new handed left = StaysOn s new left
 FramesFollow Call s new handed left = Calls s new left
 FramesFollow (Fork n) s new handed left = Forks s new left
@@ -124,6 +126,8 @@ abbrev pub accesses : Event → Option ℤ
 accesses (Read a v) = Some a
 accesses (Write a v) = Some a
 accesses (Cas a swapped) = Some a
+accesses (Faa a v) = Some a
+accesses (Dispose a) = Some a
 accesses event = None
 
 -- some part has a cell of this address

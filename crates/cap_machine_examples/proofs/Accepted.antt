@@ -8,11 +8,12 @@ use Rattle.cap_lin.specs.Linear.{variable, number}
 use Rattle.cap_prog.specs.declared.assertion.Slot.TheVariants.{Is}
 use Rattle.cap_lin.specs.Values.{value, parts_value}
 use Rattle.cap_galg.specs.Elements.{one}
-use Rattle.cap_machine.specs.declared.event.Event.TheVariants.{Write}
+use Rattle.cap_machine.specs.declared.event.Event.{Event}
+use Rattle.cap_machine.specs.declared.event.Event.TheVariants.{Write, Faa}
 use Rattle.cap_machine_accounts.specs.Parts.{Guard, join_all, IsGuard, GuardAtMost, Part, no_part, guard_at, HasCell, guards_at, Region, region_at}
 use Rattle.cap_machine_accounts.specs.Assertions.{IsOwned, IsInterpreted, Acts}
 use Rattle.cap_machine_accounts.specs.Accounts.{GuardsFit, IsValidAccount}
-use Rattle.cap_machine_accounts.specs.Following.{SomeHasCell, IsBound, Follows}
+use Rattle.cap_machine_accounts.specs.Following.{FramesFollow, accesses, SomeHasCell, IsBound, Follows}
 use Rattle.cap_machine_examples.specs.Example.{flag_case, raise, flag_type, flag_program, main_function, cell_at_5, configuration_with, flag_part, the_guard, with_the_guard, flag_in, account_with, flag_down, flag_up, flag_values}
 use Rattle.cap_machine_examples.specs.Expected.{AcceptedStep}
 use Rattle.cap_machine_examples.proofs.Example.{none-some, some-same, get-nothing, get-alone, value-zero, value-one, guard-there}
@@ -126,25 +127,31 @@ pub at-most-same : (g : Option Guard) → GuardAtMost flag_program g g
 at-most-same None = (None, tt, refl)
 at-most-same (Some g) = (None, tt, refl)
 
-follows : Follows flag_program (cell_at_5 (pos 0)) 0 (Write (pos 5) (pos 1)) flag_down flag_up no_part
-follows = record {
+-- by any access to the cell at which the frame stays
+follows :
+    (event : Event) → accesses event ≡ Some (pos 5) →
+    FramesFollow event
+    (record { thread = 0; top = record { part = with_the_guard; fixed = [] }; below = []; threads = flag_down.threads })
+    flag_up.threads no_part (with_the_guard ∷ []) →
+    Follows flag_program (cell_at_5 (pos 0)) 0 event flag_down flag_up no_part
+follows event at frames = record {
   top = record { part = with_the_guard; fixed = [] };
   below = [];
   is_stepping = refl;
   opened = pos 1 ∷ [];
   at_most_two = omega arith;
-  only_at_access = λ e. absurd (some-none e);
+  only_at_access = λ e. absurd (some-none (sym at ∙ e));
   kept = record { region = flag_in (pos 1); part = flag_part (pos 1) } ∷ [];
   made = [];
   regions = refl;
   old_regions = (record { number = refl; kind = refl; args = refl; moves = inr (refl, raised); keeps = λ n. absurd (n refl) }, tt);
   left = with_the_guard ∷ [];
-  frames = (record { part = with_the_guard; fixed = [] }, refl, refl, refl);
+  frames = frames;
   handed_fits = no-guards-fit (flag_in (pos 1) ∷ []) no_part refl;
   handed_within = λ a z e. absurd (none-some (sym (get-nothing a) ∙ e));
   left_apart = (((λ a h k. no-cell a with_the_guard refl h), tt), (tt, tt));
   left_compose = λ n. (guard_at with_the_guard n, both (pos 1) n);
-  access = λ x e. inr (inl (pos 0, ap (get (cell_at_5 (pos 0))) (sym (some-same (pos 5) x e)) ∙ cell-in (pos 0)));
+  access = λ x e. inr (inl (pos 0, ap (get (cell_at_5 (pos 0))) (sym (some-same (pos 5) x (sym at ∙ e))) ∙ cell-in (pos 0)));
   exchanges = record { cells = cells; guards = guards };
 }
   where
@@ -169,5 +176,6 @@ pub accepted : AcceptedStep
 accepted = record {
   first = valid (pos 0) down-interpreted;
   second = valid (pos 1) up-interpreted;
-  follows = follows;
+  follows = follows (Write (pos 5) (pos 1)) refl (record { part = with_the_guard; fixed = [] }, refl, refl, refl);
+  follows_by_a_sum = follows (Faa (pos 5) (pos 0)) refl (record { part = with_the_guard; fixed = [] }, refl, refl, refl);
 }

@@ -5,7 +5,7 @@ use Rattle.std.specs.Ordering.{int_cmp, eq_by_cmp}
 use Rattle.std.specs.Cmp.{int_cmp_total}
 use Rattle.std.specs.FinMap.{get, insert, empty, get-insert, gets}
 use Rattle.cap_lin.specs.Values.{value, parts_value}
-use Rattle.cap_galg.specs.Elements.{Element, nothing, one, share, tok, src, both, whole, left, right, compose}
+use Rattle.cap_galg.specs.Elements.{Element, nothing, one, share, tok, src, indices, both, whole, left, right, compose}
 use Rattle.cap_prog.specs.Program.{PlainCase, PlainAction, PlainProgram}
 use Rattle.cap_lin.specs.Linear.{number}
 use Rattle.cap_machine.specs.declared.event.Event.TheVariants.{Set, Write}
@@ -134,6 +134,7 @@ chosen-none true one e = none-some e
 chosen-none true (share f) e = none-some e
 chosen-none true (tok k) e = none-some e
 chosen-none true (src n) e = none-some e
+chosen-none true (indices xs) e = none-some e
 chosen-none true (both x y) e = none-some e
 chosen-none true whole e = none-some e
 chosen-none true (left x) e = none-some e

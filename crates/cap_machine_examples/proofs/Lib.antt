@@ -2,6 +2,7 @@ mod Example
 mod Values
 mod Accepted
 mod LastReturns
+mod Indices
 mod Holding
 mod Promises
 mod Regions

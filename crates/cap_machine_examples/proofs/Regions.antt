@@ -11,10 +11,11 @@ use Rattle.cap_lin.specs.declared.row.Op.TheVariants.{Eq, Ne}
 use Rattle.cap_galg.specs.declared.fraction.Fraction.{Fraction}
 use Rattle.cap_galg.specs.Fractions.{fraction}
 use Rattle.cap_galg.specs.Laws.Fractions.{whole-share}
-use Rattle.cap_galg.specs.Elements.{one, share}
-use Rattle.cap_galg.specs.Algebras.{unique, divisible}
+use Rattle.cap_galg_indices.specs.Sets.{one_index}
+use Rattle.cap_galg.specs.Elements.{one, share, indices}
+use Rattle.cap_galg.specs.Algebras.{unique, divisible, indexed}
 use Rattle.cap_prog.specs.declared.assertion.Slot.TheVariants.{Is}
-use Rattle.cap_prog.specs.declared.assertion.Asked.TheVariants.{One, Share}
+use Rattle.cap_prog.specs.declared.assertion.Asked.TheVariants.{One, Share, At}
 use Rattle.cap_prog.specs.Program.{PlainCase, PlainAction, PlainProgram}
 use Rattle.cap_machine_accounts.specs.Parts.{Guard, join, atom_guard, Part, no_part, Region}
 use Rattle.cap_machine_accounts.specs.Assertions.{CompHolds, TakesGuards, Sat, IsInterpreted, Acts}
@@ -22,8 +23,9 @@ use Rattle.cap_machine_examples.specs.Example.{holds_number, flag_case, flag_typ
 use Rattle.cap_machine_examples.specs.Validity.{cell_at}
 use Rattle.cap_machine_examples.specs.Latch.{with_five, latch_case, latch_action, latch_type, latch_program}
 use Rattle.cap_machine_examples.specs.Holding.{guard_with}
-use Rattle.cap_machine_examples.specs.Regions.{region_of, Interprets, InterpretsWhere, InterpretationConditions, ActsWhere, ActsByShare, ActionConditions, down, Remains, RegionConditions}
+use Rattle.cap_machine_examples.specs.Regions.{region_of, Interprets, InterpretsWhere, InterpretationConditions, ActsWhere, ActsByShare, ActsByIndex, ActionConditions, down, Remains, RegionConditions}
 use Rattle.cap_machine_examples.proofs.Example.{none-some, some-same, get-nothing, get-alone, false-true, joined-none}
+use Rattle.cap_machine_examples.proofs.Indices.{asked-index, one-bounded, taken-within}
 use Rattle.cap_machine_examples.proofs.Values.{numbers, value-number, value-variable, apart, one-there, its-value, owns, owned-is}
 
 -- ---- interpretations of flags
@@ -314,6 +316,54 @@ by-nothing x = no-share x.values.fraction g.1.is_asked.0 g.1.is_asked.1.positive
         (λ a. TakesGuards P x.values 0 a.guards (guard_with (share (fraction 1 1))) x.rest)
         (sym action) x.guarded
 
+-- ---- indices
+
+by-index : ActsByIndex (one_index 3)
+by-index = record {
+  type = latch_type indexed (At (Is (number (pos 3)))) [];
+  is_type = refl;
+  number = 0;
+  action = latch_action (At (Is (number (pos 3)))) [];
+  is_action = refl;
+  values = flag_values;
+  args_are = (refl, (refl, tt));
+  source_is = value-number flag_values.whole (pos 0);
+  target_is = value-variable flag_values.whole 1;
+  conditions = tt;
+  rest = None;
+  guarded = (
+    None,
+    record {
+      element = indices (one_index 3);
+      is_asked = (3, value-number flag_values.whole (pos 3), refl);
+      of_atom = one-bounded 3;
+      rest_guard = tt;
+      joined = refl;
+    },
+    refl,
+  );
+}
+
+by-another : ¬ ActsByIndex (one_index 4)
+by-another x =
+    false-true
+    (taken-within (At (Is (number (pos 3)))) x.values (At (Is (number (pos 3)))) (one_index 3)
+    (one_index 4) g.0 g.1 (asked-index x.values 3 g.1.element g.1.is_asked) (one-bounded 3))
+  where
+    action : latch_action (At (Is (number (pos 3)))) [] ≡ x.action
+    action =
+        one-there (latch_action (At (Is (number (pos 3)))) []) x.number x.action
+        (subst (λ t. slice_get t.actions x.number ≡ Some x.action)
+        (sym (some-same (latch_type indexed (At (Is (number (pos 3)))) []) x.type x.is_type))
+        x.is_action)
+
+    g : TakesGuards (latch_program indexed (At (Is (number (pos 3)))) []) x.values 0
+        ((0, At (Is (number (pos 3)))) ∷ []) (guard_with (indices (one_index 4))) x.rest
+    g = subst
+        (λ a. TakesGuards (latch_program indexed (At (Is (number (pos 3)))) []) x.values 0 a.guards
+        (guard_with (indices (one_index 4))) x.rest)
+        (sym action) x.guarded
+
 pub actions : ActionConditions
 actions = record {
   acts = acts;
@@ -331,6 +381,8 @@ actions = record {
   without_its_guard = without;
   by_the_whole_share = by-all;
   by_a_share_of_nothing = by-nothing;
+  by_its_index = by-index;
+  by_another_index = by-another;
 }
 
 -- ---- regions that remain

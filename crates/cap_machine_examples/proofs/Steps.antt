@@ -7,14 +7,14 @@ use Rattle.std.specs.FinMap.{get, insert, empty, get-insert}
 use Rattle.cap_lin.specs.Linear.{same_number}
 use Rattle.cap_galg.specs.declared.fraction.Fraction.{Fraction}
 use Rattle.cap_galg.specs.Fractions.{fraction, crossed, plus, IsShare}
-use Rattle.cap_galg.specs.Elements.{Element, nothing, one, share, tok, src, both, whole, left, right, compose}
+use Rattle.cap_galg.specs.Elements.{Element, nothing, one, share, tok, src, indices, both, whole, left, right, compose}
 use Rattle.cap_galg.specs.Algebras.{divisible, IsElement}
 use Rattle.cap_galg.specs.Laws.Fractions.{whole-share}
 use Rattle.cap_galg.specs.Laws.Composition.{true-le, true-eq}
 use Rattle.cap_prog.specs.declared.assertion.Asked.TheVariants.{One}
 use Rattle.cap_prog.specs.Program.{PlainProgram}
 use Rattle.cap_machine.specs.declared.event.Event.{Event}
-use Rattle.cap_machine.specs.declared.event.Event.TheVariants.{Set, Read, Return, End}
+use Rattle.cap_machine.specs.declared.event.Event.TheVariants.{Set, Read, Faa, Dispose, Return, End}
 use Rattle.cap_machine.specs.Machine.{Heap}
 use Rattle.cap_machine_accounts.specs.Parts.{Guard, join, join_all, or_none, IsGuard, GuardAtMost, full_guard, algebra_of, Part, no_part, guard_at, HasCell, guards_at, Region, region_at}
 use Rattle.cap_machine_accounts.specs.Accounts.{Held, OwnedRegion, EachTwo, CellsApart, CellsWithin, GuardsFit}
@@ -198,6 +198,7 @@ no-rest zero (share g) i e =
 no-rest zero one i e = none-some e
 no-rest zero (tok n) i e = none-some e
 no-rest zero (src n) i e = none-some e
+no-rest zero (indices xs) i e = none-some e
 no-rest zero (both x y) i e = none-some e
 no-rest zero whole i e = none-some e
 no-rest zero (left x) i e = none-some e
@@ -342,12 +343,26 @@ no-cell-here : (a : ℤ) → SomeHasCell (no_part ∷ []) a → ⊥
 no-cell-here a (inl h) = no-cell a no_part refl h
 no-cell-here a (inr h) = h
 
-reads-of-another : ¬ Steps 0 (Read (pos 5) (pos 0)) second_has_it second_has_it no_part
-reads-of-another f =
+-- an access to a cell of another frame
+of-another :
+    (event : Event) → accesses event ≡ Some (pos 5) →
+    ¬ Steps 0 event second_has_it second_has_it no_part
+of-another event at f =
     no-cell-here (pos 5)
     (subst (λ h. SomeHasCell (h.part ∷ []) (pos 5))
     (sym (top-of (held no_part []) f.top [] f.below (some-same _ _ f.is_stepping)))
-    (f.access (pos 5) refl))
+    (f.access (pos 5) at))
+
+five-accessed : (x : ℤ) → Some (pos 5) ≡ Some x → SomeHasCell (five ∷ []) x
+five-accessed x e =
+    inl (pos 0, ap (get (cell_at_5 (pos 0))) (sym (some-same (pos 5) x e)) ∙ five-there)
+
+-- the cell is there before, where it holds another value afterwards
+five-before : (a : ℤ) → SomeHasCell (cell_at (pos 5) (pos 1) ∷ []) a → SomeHasCell (five ∷ []) a
+five-before a (inl h) =
+    inl
+    (pos 0, ap (get (cell_at_5 (pos 0))) (alone-key (pos 5) (pos 1) a h.0 h.1).0 ∙ five-there)
+five-before a (inr h) = absurd h
 
 another-value : CellsWithin (cell_at_5 (pos 0)) (cell_at (pos 5) (pos 1)) → ⊥
 another-value within =
@@ -391,9 +406,19 @@ step-conditions = record {
   reads_its_cell =
       stays 1 (Read (pos 5) (pos 0)) second_has_it five [] refl refl
       (held five [], refl, refl, refl)
-      (λ x e.
-      inl (pos 0, ap (get (cell_at_5 (pos 0))) (sym (some-same (pos 5) x e)) ∙ five-there));
-  reads_a_cell_of_another = reads-of-another;
+      five-accessed;
+  reads_a_cell_of_another = of-another (Read (pos 5) (pos 0)) refl;
+  adds_to_its_cell =
+      steps 1 (Faa (pos 5) (pos 0)) second_has_it (has no_part ∷ has (cell_at (pos 5) (pos 1)) ∷ [])
+      (held five []) [] no_part (cell_at (pos 5) (pos 1) ∷ []) refl
+      (held (cell_at (pos 5) (pos 1)) [], refl, refl, refl) refl within-none (tt, tt)
+      (bare-one (cell_at (pos 5) (pos 1)) refl) five-accessed five-before;
+  adds_to_a_cell_of_another = of-another (Faa (pos 5) (pos 0)) refl;
+  disposes_of_its_cell =
+      steps 1 (Dispose (pos 5)) second_has_it (has no_part ∷ has no_part ∷ []) (held five []) []
+      no_part (no_part ∷ []) refl (held no_part [], refl, refl, refl) refl within-none (tt, tt)
+      (bare-one no_part refl) five-accessed (λ a h. absurd (no-cell-here a h));
+  disposes_of_a_cell_of_another = of-another (Dispose (pos 5)) refl;
   returns_its_cell =
       steps 0 (Return (pos 0)) callee_has_it (has five ∷ []) (held five []) (held no_part [] ∷ [])
       five (five ∷ []) refl

@@ -2,7 +2,7 @@
 use Rattle.std.specs.Prelude.{◌≢◌, ℤ, pos, [], ◌∷◌}
 use Rattle.std.specs.FinMap.{insert, empty}
 use Rattle.cap_machine.specs.declared.event.Event.{Event}
-use Rattle.cap_machine.specs.declared.event.Event.TheVariants.{Set, Write}
+use Rattle.cap_machine.specs.declared.event.Event.TheVariants.{Set, Write, Faa}
 use Rattle.cap_machine.specs.Machine.{Heap, Configuration}
 use Rattle.cap_machine_accounts.specs.Parts.{Part, no_part}
 use Rattle.cap_machine_accounts.specs.Assertions.{Met}
@@ -65,9 +65,11 @@ abbrev pub NothingHandedOver : Type 0
 NothingHandedOver = ¬ Met flag_program [] no_part main_function (pos 5 ∷ []) [] (pos 0)
 
 -- the first account is valid, and where the first thread raises the flag by its guard, the second
--- one is and follows
+-- one is and follows, also where the flag is raised by adding 1
 pub record AcceptedStep : Type 0 where
   pub first : IsValidAccount flag_program (configuration_with (pos 0)) flag_down
   pub second : IsValidAccount flag_program (configuration_with (pos 1)) flag_up
   pub follows : Follows flag_program (cell_at_5 (pos 0)) 0
       (Write (pos 5) (pos 1)) flag_down flag_up no_part
+  pub follows_by_a_sum : Follows flag_program (cell_at_5 (pos 0)) 0
+      (Faa (pos 5) (pos 0)) flag_down flag_up no_part

@@ -3,11 +3,12 @@ use Rattle.std.specs.Prelude.{ℕ, ℤ, pos, List, [], ◌∷◌, Option, Some, 
 use Rattle.cap_lin.specs.Linear.{number}
 use Rattle.cap_lin.specs.declared.row.Op.{Op}
 use Rattle.cap_lin.specs.declared.row.Op.TheVariants.{Eq, Ne}
+use Rattle.cap_galg_indices.specs.Sets.{one_index}
 use Rattle.cap_galg.specs.Fractions.{fraction}
-use Rattle.cap_galg.specs.Elements.{one, share}
-use Rattle.cap_galg.specs.Algebras.{unique, divisible}
+use Rattle.cap_galg.specs.Elements.{one, share, indices}
+use Rattle.cap_galg.specs.Algebras.{unique, divisible, indexed}
 use Rattle.cap_prog.specs.declared.assertion.Slot.TheVariants.{Is}
-use Rattle.cap_prog.specs.declared.assertion.Asked.TheVariants.{One, Share}
+use Rattle.cap_prog.specs.declared.assertion.Asked.TheVariants.{One, Share, At}
 use Rattle.cap_machine_accounts.specs.Parts.{Guard, Part, no_part, Region}
 use Rattle.cap_machine_accounts.specs.Assertions.{IsInterpreted, Acts}
 use Rattle.cap_machine_accounts.specs.Accounts.{OwnedRegion}
@@ -53,6 +54,12 @@ ActsByShare z =
     Acts (latch_program divisible (Share (Is (number z))) []) (latch_in (pos 5) (pos 0))
     (guard_with (share (fraction 1 1))) (pos 5)
 
+-- the action asks for the index 3, and these indices are held
+abbrev pub ActsByIndex : List ℕ → Type 0
+ActsByIndex held =
+    Acts (latch_program indexed (At (Is (number (pos 3)))) []) (latch_in (pos 5) (pos 0))
+    (guard_with (indices held)) (pos 5)
+
 pub record ActionConditions : Type 0 where
   pub acts : ActsWhere Eq 0 (pos 5) (pos 0) (guard_with one) (pos 5)
   pub no_such_type : ¬ ActsWhere Eq 1 (pos 5) (pos 0) (guard_with one) (pos 5)
@@ -63,6 +70,8 @@ pub record ActionConditions : Type 0 where
   pub without_its_guard : ¬ ActsWhere Eq 0 (pos 5) (pos 0) None (pos 5)
   pub by_the_whole_share : ActsByShare (pos 1)
   pub by_a_share_of_nothing : ¬ ActsByShare (pos 0)
+  pub by_its_index : ActsByIndex (one_index 3)
+  pub by_another_index : ¬ ActsByIndex (one_index 4)
 
 -- a flag that is down, of this number, type and argument, with this part
 abbrev pub down : ℤ → ℕ → ℤ → Part → OwnedRegion

@@ -6,7 +6,7 @@ use Rattle.cap_galg.specs.Elements.{share}
 use Rattle.cap_galg.specs.Algebras.{divisible}
 use Rattle.cap_prog.specs.declared.assertion.Asked.TheVariants.{One}
 use Rattle.cap_machine.specs.declared.event.Event.{Event}
-use Rattle.cap_machine.specs.declared.event.Event.TheVariants.{Set, Read, Return, End}
+use Rattle.cap_machine.specs.declared.event.Event.TheVariants.{Set, Read, Faa, Dispose, Return, End}
 use Rattle.cap_machine.specs.Machine.{Heap}
 use Rattle.cap_machine_accounts.specs.Parts.{Part, no_part}
 use Rattle.cap_machine_accounts.specs.Assertions.{NameValue, a_number}
@@ -97,6 +97,15 @@ pub record StepConditions : Type 0 where
   pub reads_its_cell : Steps 1 (Read (pos 5) (pos 0)) second_has_it second_has_it no_part
   pub reads_a_cell_of_another :
       ¬ Steps 0 (Read (pos 5) (pos 0)) second_has_it second_has_it no_part
+  pub adds_to_its_cell :
+      Steps 1 (Faa (pos 5) (pos 0)) second_has_it
+      (has no_part ∷ has (cell_at (pos 5) (pos 1)) ∷ []) no_part
+  pub adds_to_a_cell_of_another :
+      ¬ Steps 0 (Faa (pos 5) (pos 0)) second_has_it second_has_it no_part
+  pub disposes_of_its_cell :
+      Steps 1 (Dispose (pos 5)) second_has_it (has no_part ∷ has no_part ∷ []) no_part
+  pub disposes_of_a_cell_of_another :
+      ¬ Steps 0 (Dispose (pos 5)) second_has_it second_has_it no_part
   -- handed_within, handed_fits, exchanges
   pub returns_its_cell :
       Steps 0 (Return (pos 0)) callee_has_it (has (cell_at (pos 5) (pos 0)) ∷ [])

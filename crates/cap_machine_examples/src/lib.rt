@@ -14,7 +14,8 @@ ghost use Rattle.cap_machine_examples.specs.Regions.{RegionConditions};
 ghost use Rattle.cap_machine_examples.specs.Steps.{JoinConditions, ShareConditions};
 ghost use Rattle.cap_machine_examples.specs.Steps.{StepConditions, MakingConditions};
 
-/// A valid account, and one that follows it by a step that acts on a region.
+/// A valid account, and one that follows it by a step that acts on a region, which writes the cell
+/// or adds to it.
 pub fn a_step_is_accepted()
     ensures { AcceptedStep }
 {}
@@ -48,7 +49,8 @@ pub fn each_condition_of_accounts_counts()
     ensures { AccountConditions }
 {}
 
-/// What an assertion takes is refused for each condition by itself: a cell, a fact and a guard.
+/// What an assertion takes is refused for each condition by itself: a cell, a fact and a guard,
+/// also one of indices.
 pub fn each_condition_of_items_counts()
     ensures { HoldingConditions }
 {}
@@ -63,8 +65,8 @@ pub fn each_condition_of_contracts_counts()
 {}
 
 /// Regions are refused for each condition by itself: as interpreted; where they act, also where a
-/// condition of the action is false, by a share of nothing or without its guard; and as unchanged
-/// by a step that doesn't open them.
+/// condition of the action is false, by a share of nothing, by another index than its own or
+/// without its guard; and as unchanged by a step that doesn't open them.
 pub fn each_condition_of_regions_counts()
     ensures interpretation { InterpretationConditions }
     ensures action { ActionConditions }
@@ -72,10 +74,10 @@ pub fn each_condition_of_regions_counts()
 {}
 
 /// Steps are refused for each condition by itself: where another frame or a waiting caller loses
-/// its cell, or a cell of another frame is accessed; where what is handed over, at a return or at a
-/// last return, has another value than the heap, a cell that it lacks or that another frame has, or
-/// what a new region has too; where a guard that is joined is lost; and where a new region's guards
-/// are more than all of them.
+/// its cell, or a cell of another frame is accessed, also to add to it or to dispose of it; where
+/// what is handed over, at a return or at a last return, has another value than the heap, a cell
+/// that it lacks or that another frame has, or what a new region has too; where a guard that is
+/// joined is lost; and where a new region's guards are more than all of them.
 pub fn each_condition_of_steps_counts()
     ensures join { JoinConditions }
     ensures share { ShareConditions }

@@ -4,3 +4,4 @@ pub mod Listed
 pub mod Placed
 pub mod Headed
 pub mod Noted
+pub mod Spans

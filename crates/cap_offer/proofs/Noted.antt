@@ -1,5 +1,5 @@
 -- Calls that decide and note, one after the other.
-use Rattle.std.proofs.Common.{◌≡◌, ℕ, zero, suc, ◌+◌, ◌-◌, ◌<◌, ◌≤◌, Bool, false, nat_le, List, [], ◌∷◌, length, take, drop, drop-cons, get_or, Option, Some, None, refl, sym, ap, ◌∙◌, arith}
+use Rattle.std.proofs.Common.{◌≡◌, ℕ, zero, suc, ◌+◌, ◌-◌, ◌<◌, ◌≤◌, false, nat_le, List, [], ◌∷◌, length, take, drop, drop-cons, get_or, Option, Some, None, refl, sym, ap, ◌∙◌, arith}
 use Rattle.std.specs.Prelude.{Result, Ok, Err, IfOk, is_none, filter, count_by, option_to_list, ◌==◌}
 use Rattle.std.specs.Global.{Vec}
 use Rattle.std.proofs.lemmas.List.Sums.{length-filter}
@@ -12,7 +12,7 @@ use Rattle.cap_goal_spec.specs.States.{PlainState, longest_list, PlainFact, Plai
 use Rattle.cap_goal_spec.specs.Choices.{PlainChoice}
 use Rattle.cap_rules.specs.Making.{is_empty}
 use Rattle.cap_offer_spec.specs.Deciding.{PlainNotes, Outcome, Noted, done, ◌>>=◌}
-use Rattle.cap_offer_spec.specs.Scanning.{Scan, finds, ends, goes_on, unless_over, has_room_for, tried, tried_all}
+use Rattle.cap_offer_spec.specs.Scanning.{finds, ends, goes_on, unless_over, has_room_for, tried, tried_all}
 use Rattle.cap_closure_decide.specs.Noting.{Adds}
 use Rattle.cap_offer.specs.Seeking.{PlainSought, sought_scan, first_sought}
 use Rattle.cap_offer.specs.Views.{lists_in}

@@ -1,12 +1,11 @@
 -- Lists made for the numbers below a number.
-use Rattle.std.proofs.Common.{◌≡◌, ℕ, zero, suc, ◌+◌, ◌-◌, ◌<◌, ◌≤◌, Bool, true, false, nat_lt, if◌then◌else◌, List, [], ◌∷◌, ◌++◌, map, reverse, Option, Some, None, refl, sym, ap, ◌∙◌, arith, append_assoc, append-nil, add_assoc, zero-add, add-zero}
+use Rattle.std.proofs.Common.{◌≡◌, ℕ, zero, suc, ◌+◌, ◌-◌, ◌<◌, ◌≤◌, Bool, true, false, nat_lt, if◌then◌else◌, List, [], ◌∷◌, ◌++◌, refl, sym, ap, ◌∙◌, arith, add_assoc, zero-add, add-zero}
 use Rattle.std.specs.List.{range_with_len, flat_map}
-use Rattle.std.proofs.lemmas.List.{map-append}
 use Rattle.std.proofs.lemmas.List.Concat.{flat_map-append}
 use Rattle.std.proofs.lemmas.Bool.Decides.{nat_tests}
-use Rattle.cap_galg.specs.Algebras.{PlainAlgebra, unique, divisible, counting, product, sum as either, atoms}
+use Rattle.cap_galg.specs.Algebras.{PlainAlgebra, unique, divisible, counting, indexed, product, sum as either, atoms}
 use Rattle.cap_goal_spec.specs.Choices.{PlainChoice}
-use Rattle.cap_rules.specs.Taking.{sum_count, sum_in, sides_of}
+use Rattle.cap_rules.specs.Taking.{sum_count, sum_in}
 use Rattle.cap_offer_spec.specs.Listing.{numbers_below, conversion}
 use Rattle.cap_offer.specs.Sums.{conversion_at, conversions_in}
 
@@ -103,6 +102,7 @@ conversions-walk i (either x y) a n =
 conversions-walk i unique a n = refl
 conversions-walk i divisible a n = refl
 conversions-walk i counting a n = refl
+conversions-walk i indexed a n = refl
 
 pub conversions-all : (i : ℕ) (x : PlainAlgebra) → conversions_in i x 0 0 ≡ flat_map (λ n. conversion i n (sum_in x 0 n)) (numbers_below (sum_count x))
 conversions-all i x =

@@ -85,10 +85,10 @@ no-part-left p g f i n old h = ap (λ ns. first_tried p g (flat_map f ns) old) (
 
 -- ---- what is found of the rest is found of the whole
 
-pub found-so : (whole : Outcome (Option PlainChoice)) (rest after : Outcome (Option PlainChoice)) → (whole.value ≡ rest.value) × (whole.notes ≡ rest.notes) → rest ≡ after → (whole.value ≡ after.value) × (whole.notes ≡ after.notes)
-found-so whole rest after h e = (h.0 ∙ ap (λ (o : Outcome (Option PlainChoice)). o.value) e, h.1 ∙ ap (λ (o : Outcome (Option PlainChoice)). o.notes) e)
+pub found-so : {A : Type 0} (whole rest after : Outcome A) → (whole.value ≡ rest.value) × (whole.notes ≡ rest.notes) → rest ≡ after → (whole.value ≡ after.value) × (whole.notes ≡ after.notes)
+found-so {A} whole rest after h e = (h.0 ∙ ap (λ (o : Outcome A). o.value) e, h.1 ∙ ap (λ (o : Outcome A). o.notes) e)
 
-pub found-first : (whole : Outcome (Option PlainChoice)) (rest after : Outcome (Option PlainChoice)) → (whole.value ≡ rest.value) × (whole.notes ≡ rest.notes) → rest ≡ after → (after.value ≡ whole.value) × (after.notes ≡ whole.notes)
+pub found-first : {A : Type 0} (whole rest after : Outcome A) → (whole.value ≡ rest.value) × (whole.notes ≡ rest.notes) → rest ≡ after → (after.value ≡ whole.value) × (after.notes ≡ whole.notes)
 found-first whole rest after h e = let k = found-so whole rest after h e in (sym k.0, sym k.1)
 
 -- later cells, by their own numbers

@@ -2,4 +2,5 @@ pub mod Sums
 pub mod Claiming
 pub mod Seeking
 pub mod Heads
+pub mod Turns
 pub mod Views

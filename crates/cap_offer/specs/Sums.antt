@@ -1,8 +1,8 @@
 -- Conversions to an atom, by a walk through the sums of an algebra.
-use Rattle.std.specs.Prelude.{ℕ, suc, ◌+◌, ◌&&◌, nat_le, nat_lt, Bool, if◌then◌else◌, List, [], ◌∷◌, ◌++◌}
+use Rattle.std.specs.Prelude.{ℕ, ◌+◌, ◌&&◌, nat_le, nat_lt, Bool, if◌then◌else◌, List, [], ◌∷◌, ◌++◌}
 use Rattle.cap_galg.specs.Algebras.{PlainAlgebra, product, sum as either, atoms}
 use Rattle.cap_goal_spec.specs.Choices.{PlainChoice, by_convert}
-use Rattle.cap_rules.specs.Taking.{Side, Sides, sum_count}
+use Rattle.cap_rules.specs.Taking.{sum_count}
 
 -- the atoms from a on, up to b
 abbrev pub is_between : ℕ → ℕ → ℕ → Bool

@@ -1,13 +1,14 @@
 -- What contracts see of choices that are offered.
-use Rattle.std.specs.Prelude.{List, map, Option, Some, None, option_map}
+use Rattle.std.specs.Prelude.{ℕ, List, map, Option, Some, None, option_map}
 use Rattle.std.specs.Borrow.{Bor}
 use Rattle.std.specs.Global.{Vec}
 use Rattle.cap_lin.specs.declared.row.Row.{Row}
 use Rattle.cap_prog.specs.declared.assertion.Item.{Item}
-use Rattle.cap_prog.specs.declared.function.Act.{Act}
 use Rattle.cap_prog.specs.declared.region.RegionType.{RegionType}
-use Rattle.cap_prog.specs.Program.{PlainItem, Items, none, item, PlainAct, PlainRegionType}
-use Rattle.cap_prog.specs.Views.{item_view, act_view, region_view}
+use Rattle.cap_prog.specs.declared.region.Case.{Case}
+use Rattle.cap_prog.specs.declared.region.Action.{Action}
+use Rattle.cap_prog.specs.Program.{PlainItem, Items, none, item, PlainCase, PlainAction, PlainRegionType}
+use Rattle.cap_prog.specs.Views.{item_view, act_view, case_view, action_view, region_view}
 use Rattle.cap_goal_spec.specs.Choices.{PlainChoice}
 use Rattle.cap_goal.specs.Views.{choice_view}
 use Rattle.cap_goal.specs.declared.choice.Choice.{Choice}
@@ -36,6 +37,16 @@ sought_view (sought.TheVariants.Item env address) = of_item env address.now
 -- what is lent
 abbrev pub region_in : Option (Bor RegionType) → Option PlainRegionType
 region_in k = option_map (λ r. region_view r.now) k
+
+abbrev pub case_in : Option (Bor Case) → Option PlainCase
+case_in c = option_map (λ x. case_view x.now) c
+
+abbrev pub action_in : Option (Bor Action) → Option PlainAction
+action_in a = option_map (λ x. action_view x.now) a
+
+-- numbers of pieces
+abbrev pub numbers_seen : Option (Vec ℕ) → Option (List ℕ)
+numbers_seen js = option_map (λ v. v.items) js
 
 -- the item that comes first
 abbrev pub first_of_items : Items → Option PlainItem

@@ -29,6 +29,8 @@ fn address_of(act: &Act) -> Option<&Term>
         Act::Read(_, address) => Some(address),
         Act::Write(address, _) => Some(address),
         Act::Cas(_, address, _, _) => Some(address),
+        Act::Faa(_, address, _) => Some(address),
+        Act::Dispose(address) => Some(address),
         Act::Set(_, _)
         | Act::Alloc(_, _)
         | Act::Call(_, _, _)
@@ -72,8 +74,8 @@ fn has_address(
     }
 }
 
-// The environment of a number, or none of its names past the end.
-fn env_at<'a>(state: &'a State, number: u32, none: &'a Env) -> &'a Env
+/// The environment of a number, or none of its names past the end.
+pub(crate) fn env_at<'a>(state: &'a State, number: u32, none: &'a Env) -> &'a Env
     requires { none.now ≡ [] }
     ensures { result.now ≡ env_of state.now number }
 {

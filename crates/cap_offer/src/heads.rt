@@ -16,6 +16,7 @@ use crate::facts::at_fact;
 use crate::heap::at_statement;
 use crate::items::{at_item, first_item};
 use crate::listing::closings;
+use crate::shifting::at_shift;
 use crate::trying::{only, tried_all, tried_alone};
 use cap_closure_decide::{Notes, decided};
 use cap_goal::{Choice, Goal, Items, Point, Task};
@@ -101,8 +102,8 @@ fn at_task(
             tried_alone(alloc, program, goal, Choice::Made(Vec::new(alloc)), notes)
         }
         Task::Close(_, _) => at_close(alloc, program, goal, notes),
-        Task::Shift(_, _, _, _, _) => {
-            tried_alone(alloc, program, goal, Choice::Shift(Vec::new(alloc)), notes)
+        Task::Shift(opened, case, by, env, _) => {
+            at_shift(alloc, program, goal, *opened, *case, *by, *env, notes)
         }
         Task::Rest(number, _) => at_fact(alloc, program, &goal.state, *number, notes),
     }

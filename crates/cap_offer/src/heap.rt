@@ -122,7 +122,11 @@ fn own_rule(alloc: Global, act: &Act) -> Option<Choice>
     ensures { option_map choice_view result ≡ rule_of (act_view act.now) }
 {
     match act {
-        Act::Read(_, _) | Act::Write(_, _) | Act::Cas(_, _, _, _) => None,
+        Act::Read(_, _)
+        | Act::Write(_, _)
+        | Act::Cas(_, _, _, _)
+        | Act::Faa(_, _, _)
+        | Act::Dispose(_) => None,
         Act::Set(_, _) => Some(Choice::Set),
         Act::Alloc(_, _) => Some(Choice::Alloc),
         Act::Call(_, _, _) => Some(Choice::Call),

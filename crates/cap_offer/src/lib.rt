@@ -11,6 +11,7 @@ mod items;
 mod listing;
 mod offers;
 mod scanning;
+mod shifting;
 mod sums;
 mod trying;
 

@@ -17,7 +17,7 @@ fn behind(algebra: &Algebra, first: u64) -> Result<u64, AllocError>
     ensures { IfOk result (λ next. next ≡ first + atoms (algebra_view algebra.now)) }
 {
     match algebra {
-        Algebra::Unique | Algebra::Divisible | Algebra::Counting => {
+        Algebra::Unique | Algebra::Divisible | Algebra::Counting | Algebra::Indexed => {
             first.checked_add(1).ok_or(AllocError)
         }
         Algebra::Pair(a, b) | Algebra::Either(a, b) => behind(b, behind(a, first)?),
@@ -61,7 +61,7 @@ fn add_conversions(
         ++ conversions_in atom (algebra_view algebra.now) first sum)) }
 {
     match algebra {
-        Algebra::Unique | Algebra::Divisible | Algebra::Counting => Ok(sum),
+        Algebra::Unique | Algebra::Divisible | Algebra::Counting | Algebra::Indexed => Ok(sum),
         Algebra::Pair(a, b) => {
             let second = behind(a, first)?;
             let next = add_conversions(alloc, a, atom, first, sum, all)?;

@@ -14,7 +14,7 @@ use Rattle.cap_lin.specs.declared.row.Sort.TheVariants.{Int}
 use Rattle.cap_lin.specs.declared.row.Op.TheVariants.{Eq as Equal, Ne as Unequal}
 use Rattle.cap_lin.proofs.Results.{narrow-left, first_wide-nil}
 use Rattle.cap_farkas.specs.declared.cert.Cert.{Cert}
-use Rattle.cap_prog.specs.Program.{PlainAct, read, write, cas, Label}
+use Rattle.cap_prog.specs.Program.{PlainAct, read, write, cas, faa, dispose, Label}
 use Rattle.cap_goal_spec.specs.States.{PlainFact, PlainState, longest_list, PlainTask, PlainGoal, goals_of}
 use Rattle.cap_goal_spec.specs.Choices.{given_marks}
 use Rattle.cap_rules.specs.Attempts.{Claim, proved, owed, Event, makes, claims, Attempt, unit, ◌>>=◌, found, comparison_row}
@@ -23,7 +23,7 @@ use Rattle.cap_rules.specs.Making.{value_here, prove_equal, prove_differ, fresh,
 use Rattle.cap_rules.specs.Closing.{address_of, Rival, rivals, loosened, with_mark, with_marks, acted, closing}
 use Rattle.cap_rules.specs.Rules.{at_act}
 use Rattle.cap_offer_spec.specs.Laws.{IsDecided}
-use Rattle.cap_offer_spec.proofs.Quiet.{Quiet, chain, of-none, value-quiet, comparison-quiet}
+use Rattle.cap_offer_spec.proofs.Quiet.{of-steps, Quiet, chain, of-none, value-quiet, comparison-quiet}
 use Rattle.cap_offer_spec.proofs.Trying.{Runs, Comes, Parts, runs-chain, runs-parts}
 
 -- the state, with other sorts and facts
@@ -208,6 +208,8 @@ acted-owes : (s : PlainState) (j : ℕ) (c : Linear × Linear) (a : PlainAct) �
 acted-owes s j c (read x a) = of-none _
 acted-owes s j c (write a t) = search (chain, value-quiet, of-none)
 acted-owes s j c (cas x a old new) = search (chain, value-quiet, comparison-quiet, of-none)
+acted-owes s j c (faa x a t) = search (chain, value-quiet, of-steps, of-none)
+acted-owes s j c (dispose a) = of-none _
 acted-owes s j c a = of-none None
 
 -- ---- the rule

@@ -11,7 +11,7 @@ use Rattle.cap_farkas.specs.declared.cert.Cert.{Cert}
 use Rattle.cap_farkas.specs.Refutes.{Refutes}
 use Rattle.cap_fm_spec.specs.Solving.{RowsAscend}
 use Rattle.cap_fm_spec.proofs.Certified.{certified as cert-refutes}
-use Rattle.cap_prog.specs.Program.{PlainItem, compare, choose, fact, atom, cell, none, item, PlainAct, set, read, write, cas, alloc, call, fork, branch, loop, check, give_back, done as ended, first, PlainRegionType, PlainProgram}
+use Rattle.cap_prog.specs.Program.{PlainItem, compare, choose, fact, atom, cell, none, item, PlainAct, set, read, write, cas, faa, dispose, alloc, call, fork, branch, loop, check, give_back, done as ended, first, PlainRegionType, PlainProgram}
 use Rattle.cap_goal_spec.specs.States.{PlainFact, PlainState, longest_list, PlainTask, to_run, to_turn, to_give, to_take, to_make, to_close, to_shift, to_rest, PlainGoal, goals_of}
 use Rattle.cap_goal_spec.specs.Choices.{PlainChoice, given_marks, by_absurd, by_clash, by_set, by_alloc, by_assert, by_if, by_loop, by_turn, by_call, by_fork, by_return, by_enter, by_act, by_pick, by_shift, by_settle, by_keep, by_give, by_fact, by_cases, by_cell, by_region, by_guard, by_convert, by_create, by_made, certs_of, with_certs}
 use Rattle.cap_rules.specs.Attempts.{Attempt, ◌>>=◌, found, not_applicable}
@@ -27,6 +27,7 @@ use Rattle.cap_offer_spec.specs.Deciding.{PlainNotes, clean, Outcome, with_note,
 use Rattle.cap_offer_spec.specs.Claims.{has_address, has_item_address}
 use Rattle.cap_offer_spec.specs.Closures.{PlainClosure, keeps, settles, or_settled, settled, closed_list, closure}
 use Rattle.cap_offer_spec.specs.Listing.{own_rule, clashes, clashes_with, numbers_below, openings, known_regions, new_regions, cuts, has_atom, conversion, conversions, moves_of, closings_of, type_of_opened, closings}
+use Rattle.cap_offer_spec.specs.Shifting.{spans_for, shift_with}
 use Rattle.cap_offer_spec.specs.Scanning.{tried, tried_all, or_later, first_tried, or_else, Scan, finds, ends, goes_on, found_or_ends, ends_if, at_address, scanned_cell, unless_over, finished_cell, has_room_for, choice_if, finished_act, first_cell, first_act}
 use Rattle.cap_offer_spec.specs.Offering.{openings_unless, by_cells, at_heap, at_statement, at_item, of_closure, at_fact_of, at_fact, offering, offered, at_task as offers_at_task, at_tasks as offers_at_tasks}
 use Rattle.cap_offer_spec.specs.Members.{IsOneOf}
@@ -56,7 +57,7 @@ abbrev IsSure : PlainChoice → Type 0
 IsSure (by_clash i j cs) = Unit {0}
 IsSure (by_assert cs) = Unit {0}
 IsSure (by_enter i cs) = Unit {0}
-IsSure (by_shift cs) = Unit {0}
+IsSure (by_shift cs js) = Unit {0}
 IsSure (by_settle list cs) = Unit {0}
 IsSure (by_keep cs) = Unit {0}
 IsSure (by_fact cs) = Unit {0}
@@ -82,7 +83,7 @@ sure-own : (c : PlainChoice) (cs : List Cert) → IsSure c → (marks_of (with_c
 sure-own (by_clash i j old) cs h = (refl, refl)
 sure-own (by_assert old) cs h = (refl, refl)
 sure-own (by_enter i old) cs h = (refl, refl)
-sure-own (by_shift old) cs h = (refl, refl)
+sure-own (by_shift old js) cs h = (refl, refl)
 sure-own (by_settle list old) cs h = (refl, refl)
 sure-own (by_keep old) cs h = (refl, refl)
 sure-own (by_fact old) cs h = (refl, refl)
@@ -171,6 +172,10 @@ all-flat : (f : ℕ → List PlainChoice) → ((i : ℕ) → AllByRecursion IsTr
 all-flat f h [] = tt
 all-flat f h (i ∷ is) = all-join (f i) (flat_map f is) (h i) (all-flat f h is)
 
+shift-tried : (js : Option (List ℕ)) → AllByRecursion IsTried (shift_with js)
+shift-tried None = tt
+shift-tried (Some is) = (inl tt, tt)
+
 own-tried : (a : PlainAct) → AllByRecursion IsTried (own_rule a)
 own-tried (set x t) = (inr tt, tt)
 own-tried (alloc x n) = (inr tt, tt)
@@ -183,6 +188,8 @@ own-tried (give_back t) = (inr tt, tt)
 own-tried (read x a) = tt
 own-tried (write a t) = tt
 own-tried (cas x a b c) = tt
+own-tried (faa x a t) = tt
+own-tried (dispose a) = tt
 
 clashes-tried : (s : PlainState) → AllByRecursion IsTried (clashes s)
 clashes-tried s = all-flat (clashes_with (length s.cells)) (λ i. all-map (λ d. by_clash i (suc i + d) []) (λ d. inl tt) _) (numbers_below (length s.cells))
@@ -428,6 +435,8 @@ statement-proved : (p : PlainProgram) (g : PlainGoal) (a : PlainAct) (m : PlainN
 statement-proved p g (read y a) m x h = heap-proved p g (read y a) m x h
 statement-proved p g (write a t) m x h = heap-proved p g (write a t) m x h
 statement-proved p g (cas y a b c) m x h = heap-proved p g (cas y a b c) m x h
+statement-proved p g (faa y a t) m x h = heap-proved p g (faa y a t) m x h
+statement-proved p g (dispose a) m x h = heap-proved p g (dispose a) m x h
 statement-proved p g a m x h = all-proved p g (own_rule a) m x (own-tried a) h
 
 item-proved : (p : PlainProgram) (g : PlainGoal) (e : ℕ) (i : PlainItem) (m : PlainNotes) (x : PlainChoice) → IsOneOf (at_item p g e i m).value x → IsProvedBy p g x
@@ -448,7 +457,7 @@ task-proved p g (to_take none y l n) ts m x e k = absurd k
 task-proved p g (to_take (item i is) y l n) ts m x e k = item-proved p g y i m x k
 task-proved p g (to_make a b c t n) ts m x e k = all-proved p g (by_made [] ∷ []) m x (inl tt, tt) k
 task-proved p g (to_close any n) ts m x e k = all-proved p g (closings p g.state) m x (closings-tried p g.state) k
-task-proved p g (to_shift a b c d n) ts m x e k = all-proved p g (by_shift [] ∷ []) m x (inl tt, tt) k
+task-proved p g (to_shift a b c d n) ts m x e k = let js = spans_for p g.state a b c d (slice_get g.state.opened a) m in all-proved p g (shift_with js.value) js.notes x (shift-tried js.value) k
 task-proved p g (to_rest j n) ts m x e k = fact-by p g j n ts (slice_get g.state.facts j) m x e refl k
 
 absurd-proved : (p : PlainProgram) (g : PlainGoal) (t : PlainTask) (ts : List PlainTask) (c : Cert) → g.tasks ≡ t ∷ ts → IsDecided g.state.rows c → IsProvedBy p g (by_absurd c)

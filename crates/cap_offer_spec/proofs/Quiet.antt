@@ -13,7 +13,7 @@ use Rattle.cap_prog.specs.declared.assertion.Comp.{Comp}
 use Rattle.cap_prog.specs.declared.assertion.Slot.{Slot}
 use Rattle.cap_prog.specs.declared.assertion.Slot.TheVariants.{Any, Is}
 use Rattle.cap_prog.specs.declared.assertion.Asked.{Asked}
-use Rattle.cap_prog.specs.declared.assertion.Asked.TheVariants.{One, Share, Src, Tok}
+use Rattle.cap_prog.specs.declared.assertion.Asked.TheVariants.{One, Share, Src, Tok, At, From}
 use Rattle.cap_prog.specs.Program.{PlainItem, compare, choose, fact, atom, cell, Items, none, item, PlainCase, PlainRegionType, PlainProgram}
 use Rattle.cap_goal_spec.specs.States.{PlainFact, PlainEnv, PlainState, PlainTask}
 use Rattle.cap_goal_spec.specs.Environments.{term_of, unbound, region_env}
@@ -178,6 +178,8 @@ form-quiet s e One = search (of-none)
 form-quiet s e (Share x) = search (chain, of-none, give-slot-quiet)
 form-quiet s e (Src x) = search (chain, of-none, give-slot-quiet)
 form-quiet s e (Tok x) = search (chain, of-none, give-slot-quiet)
+form-quiet s e (At x) = search (chain, of-none, of-steps, give-slot-quiet)
+form-quiet s e (From x) = search (chain, of-none, give-slot-quiet)
 
 pub sides-quiet : (s : PlainState) (e : ℕ) (c : Comp) → Quiet (give_sides s e c)
 sides-quiet s e c = search (chain, of-none, term-quiet)

@@ -1,15 +1,16 @@
 -- The choices that are offered at a goal, in order, and what is noted while they are decided.
 use Rattle.std.specs.Prelude.{ℕ, Bool, true, false, is_some, ◌&&◌, List, [], ◌∷◌, ◌++◌, slice_get, option_map, option_to_list, Option, Some, None}
 use Rattle.cap_lin.specs.Linear.{Linear}
-use Rattle.cap_prog.specs.Program.{PlainItem, compare, choose, fact, atom, cell, item, PlainAct, read, write, cas, first, PlainRegionType, PlainProgram}
+use Rattle.cap_prog.specs.Program.{PlainItem, compare, choose, fact, atom, cell, item, PlainAct, read, write, cas, faa, dispose, first, PlainRegionType, PlainProgram}
 use Rattle.cap_goal_spec.specs.States.{PlainFact, PlainState, PlainTask, to_run, to_turn, to_give, to_take, to_make, to_close, to_shift, to_rest, PlainGoal}
-use Rattle.cap_goal_spec.specs.Choices.{PlainChoice, by_absurd, by_turn, by_shift, by_settle, by_keep, by_give, by_fact, by_cases, by_made}
+use Rattle.cap_goal_spec.specs.Choices.{PlainChoice, by_absurd, by_turn, by_settle, by_keep, by_give, by_fact, by_cases, by_made}
 use Rattle.cap_rules.specs.Making.{is_empty}
 use Rattle.cap_offer_spec.specs.Deciding.{clean, Outcome, Noted, done, ◌>>=◌, decided}
 use Rattle.cap_offer_spec.specs.Claims.{has_address, has_item_address}
 use Rattle.cap_offer_spec.specs.Closures.{PlainClosure, keeps, settles, closure}
 use Rattle.cap_offer_spec.specs.Listing.{own_rule, clashes, openings, known_regions, new_regions, cuts, conversions, closings}
 use Rattle.cap_offer_spec.specs.Scanning.{tried_all, first_tried, or_else, first_cell, first_act}
+use Rattle.cap_offer_spec.specs.Shifting.{spans_for, shift_with}
 
 -- ---- at a heap statement
 
@@ -33,6 +34,8 @@ abbrev pub at_statement : PlainProgram → PlainGoal → PlainAct → Noted (Lis
 at_statement p g (read x a) = at_heap p g (read x a)
 at_statement p g (write a t) = at_heap p g (write a t)
 at_statement p g (cas x a old new) = at_heap p g (cas x a old new)
+at_statement p g (faa x a t) = at_heap p g (faa x a t)
+at_statement p g (dispose a) = at_heap p g (dispose a)
 at_statement p g a = tried_all p g (own_rule a)
 
 -- ---- at an item that is to be given up
@@ -75,6 +78,14 @@ abbrev pub at_fact : PlainProgram → PlainState → ℕ → Option PlainFact �
 at_fact p s j None = done []
 at_fact p s j (Some f) = at_fact_of s j f (slice_get p.regions f.kind)
 
+-- ---- at a move
+
+-- the indexed atoms name the spans that are found for them
+abbrev pub at_shift : PlainProgram → PlainGoal → ℕ → ℕ → ℕ → ℕ → Noted (List PlainChoice)
+at_shift p g o c m e = do
+  js ← spans_for p g.state o c m e (slice_get g.state.opened o)
+  tried_all p g (shift_with js)
+
 -- ---- by the head of the tasks
 
 abbrev pub at_task : PlainProgram → PlainGoal → PlainTask → Noted (List PlainChoice)
@@ -84,7 +95,7 @@ at_task p g (to_give items e n) = tried_all p g (by_give ∷ [])
 at_task p g (to_take (item i more) e left n) = at_item p g e i
 at_task p g (to_make k c e t n) = tried_all p g (by_made [] ∷ [])
 at_task p g (to_close any n) = tried_all p g (closings p g.state)
-at_task p g (to_shift o c m e n) = tried_all p g (by_shift [] ∷ [])
+at_task p g (to_shift o c m e n) = at_shift p g o c m e
 at_task p g (to_rest j n) = at_fact p g.state j (slice_get g.state.facts j)
 at_task p g t = done []
 

@@ -61,26 +61,26 @@ picks p s marks o b m' (to_close any n ∷ ts) = refl
 picks p s marks o b m' (to_shift o' c e m n ∷ ts) = refl
 picks p s marks o b m' (to_rest j' n ∷ ts) = refl
 
-pub shifts : (p : PlainProgram) (s : PlainState) (marks : List Bool) (cs : List Cert) (ts : List PlainTask) → shift_first p s ts ≡ at_tasks p s marks (by_shift cs) ts
-shifts p s marks cs [] = refl
-shifts p s marks cs (to_run h done ∷ ts) = refl
-shifts p s marks cs (to_run h (first l a rest) ∷ ts) = refl
-shifts p s marks cs (to_turn h done ∷ ts) = refl
-shifts p s marks cs (to_turn h (first l a rest) ∷ ts) = refl
-shifts p s marks cs (to_give items e n ∷ ts) = refl
-shifts p s marks cs (to_take none e left n ∷ ts) = refl
-shifts p s marks cs (to_take (item i' more) e left n ∷ ts) = refl
-shifts p s marks cs (to_make k c e t n ∷ ts) = refl
-shifts p s marks cs (to_close any n ∷ ts) = refl
-shifts p s marks cs (to_shift o' c e m n ∷ ts) = refl
-shifts p s marks cs (to_rest j' n ∷ ts) = refl
+pub shifts : (p : PlainProgram) (s : PlainState) (marks : List Bool) (cs : List Cert) (spans : List ℕ) (ts : List PlainTask) → shift_first p s spans ts ≡ at_tasks p s marks (by_shift cs spans) ts
+shifts p s marks cs spans [] = refl
+shifts p s marks cs spans (to_run h done ∷ ts) = refl
+shifts p s marks cs spans (to_run h (first l a rest) ∷ ts) = refl
+shifts p s marks cs spans (to_turn h done ∷ ts) = refl
+shifts p s marks cs spans (to_turn h (first l a rest) ∷ ts) = refl
+shifts p s marks cs spans (to_give items e n ∷ ts) = refl
+shifts p s marks cs spans (to_take none e left n ∷ ts) = refl
+shifts p s marks cs spans (to_take (item i' more) e left n ∷ ts) = refl
+shifts p s marks cs spans (to_make k c e t n ∷ ts) = refl
+shifts p s marks cs spans (to_close any n ∷ ts) = refl
+shifts p s marks cs spans (to_shift o' c e m n ∷ ts) = refl
+shifts p s marks cs spans (to_rest j' n ∷ ts) = refl
 
 -- a choice of one of the four rules does what the rule says
 pub by_rule : (p : PlainProgram) (g : PlainGoal) (c : PlainChoice) (marks : List Bool) → IsOpening c → taken p g.state marks g.tasks (rule_in c) ≡ rule p g c marks
 by_rule p g (by_enter i cs) marks h = enters p g.state marks i cs g.tasks
 by_rule p g (by_act j cs ms) marks h = acts p g.state marks j cs ms g.tasks
 by_rule p g (by_pick o b m) marks h = picks p g.state marks o b m g.tasks
-by_rule p g (by_shift cs) marks h = shifts p g.state marks cs g.tasks
+by_rule p g (by_shift cs spans) marks h = shifts p g.state marks cs spans g.tasks
 by_rule p g c marks h = absurd h
 
 -- ---- heads

@@ -26,7 +26,7 @@ abbrev pub IsOpening : PlainChoice → Type 0
 IsOpening (by_enter i cs) = Unit {0}
 IsOpening (by_act j cs ms) = Unit {0}
 IsOpening (by_pick o c m) = Unit {0}
-IsOpening (by_shift cs) = Unit {0}
+IsOpening (by_shift cs spans) = Unit {0}
 IsOpening c = ⊥
 
 -- the marks of a choice, where it has some
@@ -139,10 +139,11 @@ abbrev pub shifting_of : List PlainTask → Attempt Shifting
 shifting_of [] = not_applicable
 shifting_of (t ∷ ts) = shifting_at t
 
-abbrev pub shift_first : PlainProgram → PlainState → List PlainTask → Attempt (List PlainGoal)
-shift_first p s ts = do
+abbrev pub shift_first :
+    PlainProgram → PlainState → List ℕ → List PlainTask → Attempt (List PlainGoal)
+shift_first p s spans ts = do
   x ← shifting_of ts
-  at_shift p s x.opened x.case x.move x.env (drop 1 ts)
+  at_shift p s spans x.opened x.case x.move x.env (drop 1 ts)
 
 -- ---- the four rules
 
@@ -150,20 +151,20 @@ pub data Taken : Type 0 where
   entering : ℕ → Taken
   acting : ℕ → Taken
   picking : ℕ → ℕ → ℕ → Taken
-  shifting : Taken
+  shifting : List ℕ → Taken
 
 abbrev pub rule_view : Rule → Taken
 rule_view (Enter i) = entering i
 rule_view (Act j) = acting j
 rule_view (Pick o c m) = picking o c m
-rule_view Shift = shifting
+rule_view (Shift spans) = shifting spans.now
 
 -- which of them the choice takes, if it takes one
 abbrev pub rule_in : PlainChoice → Option Taken
 rule_in (by_enter i cs) = Some (entering i)
 rule_in (by_act j cs ms) = Some (acting j)
 rule_in (by_pick o c m) = Some (picking o c m)
-rule_in (by_shift cs) = Some shifting
+rule_in (by_shift cs spans) = Some (shifting spans)
 rule_in c = None
 
 abbrev pub taken_by :
@@ -171,7 +172,7 @@ abbrev pub taken_by :
 taken_by p s marks ts (entering i) = enter_first p s i ts
 taken_by p s marks ts (acting j) = act_first s j marks ts
 taken_by p s marks ts (picking o c m) = pick_first p s o c m ts
-taken_by p s marks ts shifting = shift_first p s ts
+taken_by p s marks ts (shifting spans) = shift_first p s spans ts
 
 abbrev pub taken :
     PlainProgram → PlainState → List Bool → List PlainTask → Option Taken →

@@ -20,19 +20,20 @@ use cap_farkas::Cert;
 use cap_goal::{Choice, Goal, State, Task};
 use cap_lin::Row;
 use cap_open_acts::{act, enter, full_marks};
-use cap_open_moves::{pick, shift};
+use cap_open_moves::{Move, pick, shift};
 use cap_prog::Program;
 use cap_rules_steps::{Ledger, RuleError, judged, told};
 use std::alloc::{AllocError, Global};
 
 /// A rule by which a region is opened, a statement acts on a cell, or a region is closed: the fact,
-/// the cell, or the opened region, its case and the move, by their numbers.
+/// the cell, or the opened region, its case and the move, by their numbers; or the pieces for the
+/// indexed atoms of a move.
 #[derive(Clone, Copy)]
-pub(crate) enum Rule {
+pub(crate) enum Rule<'c> {
     Enter(u32),
     Act(u32),
     Pick(u32, u32, u32),
-    Shift,
+    Shift(&'c [u32]),
 }
 
 // Opens the region of a fact at the statement that comes first.
@@ -115,16 +116,17 @@ fn pick_head<'a>(
     )
 }
 
-// The move by which an opened region is closed is checked.
+// The move by which an opened region is closed is checked, with these pieces.
 fn shift_head<'a>(
     alloc: Global,
     ledger: &mut Ledger,
     program: &'a Program,
     state: &State,
+    spans: &[u32],
     tasks: &[Task<'a>],
 ) -> Result<Vec<Goal<'a>>, RuleError>
     ensures { Claims (seen goals_view result) ledger.old ledger.new
-        (shift_first (program_view program.now) state.now (tasks_view tasks.now)) }
+        (shift_first (program_view program.now) state.now spans.now (tasks_view tasks.now)) }
 {
     let shifting = shifting_of(tasks)?;
     shift(
@@ -134,7 +136,10 @@ fn shift_head<'a>(
         state,
         shifting.opened,
         shifting.case,
-        shifting.action,
+        Move {
+            action: shifting.action,
+            spans,
+        },
         shifting.env,
         behind(tasks),
     )
@@ -147,12 +152,13 @@ fn followed<'a>(
     program: &'a Program,
     state: &State,
     marks: &[bool],
-    rule: Rule,
+    rule: Rule<'_>,
     tasks: &[Task<'a>],
 ) -> Result<Vec<Goal<'a>>, RuleError>
     requires { HasRoom state.now }
     ensures { Claims (seen goals_view result) ledger.old ledger.new (taken_by
-        (program_view program.now) state.now marks.now (tasks_view tasks.now) (rule_view rule)) }
+        (program_view program.now) state.now marks.now (tasks_view tasks.now)
+        (rule_view rule.entry)) }
 {
     match rule {
         Rule::Enter(fact) => enter_head(alloc, ledger, program, state, fact, tasks),
@@ -160,19 +166,19 @@ fn followed<'a>(
         Rule::Pick(opened, case, action) => {
             pick_head(alloc, program, state, opened, case, action, tasks)
         }
-        Rule::Shift => shift_head(alloc, ledger, program, state, tasks),
+        Rule::Shift(spans) => shift_head(alloc, ledger, program, state, spans, tasks),
     }
 }
 
 // Which of the four rules the choice takes, if it takes one of them.
-fn rule_of(choice: &Choice) -> Option<Rule>
+fn rule_of(choice: &Choice) -> Option<Rule<'_>>
     ensures { option_map rule_view result ≡ rule_in (choice_view choice.now) }
 {
     match choice {
         Choice::Enter(fact, _) => Some(Rule::Enter(*fact)),
         Choice::Act(cell, _, _) => Some(Rule::Act(*cell)),
         Choice::Pick(opened, case, action) => Some(Rule::Pick(*opened, *case, *action)),
-        Choice::Shift(_) => Some(Rule::Shift),
+        Choice::Shift(_, spans) => Some(Rule::Shift(spans)),
         Choice::Absurd(_)
         | Choice::Clash(_, _, _)
         | Choice::Set
@@ -249,7 +255,7 @@ fn marks_in(choice: &Choice) -> Option<&[Option<Cert>]>
         | Choice::Return
         | Choice::Enter(_, _)
         | Choice::Pick(_, _, _)
-        | Choice::Shift(_)
+        | Choice::Shift(_, _)
         | Choice::Settle(_, _)
         | Choice::Keep(_)
         | Choice::Give

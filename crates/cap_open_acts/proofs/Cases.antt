@@ -1,5 +1,5 @@
 -- A goal for each case of an opened region.
-use Rattle.std.proofs.Common.{◌≡◌, ℕ, List, [], ◌∷◌, ◌++◌, map, length, refl}
+use Rattle.std.proofs.Common.{◌≡◌, ℕ, List, [], ◌∷◌, map, length, refl}
 use Rattle.cap_prog.specs.declared.region.Case.{Case}
 use Rattle.cap_prog.specs.Views.{case_view}
 use Rattle.cap_goal_spec.specs.States.{PlainFact, PlainState, PlainTask, to_give, PlainGoal, goals_of}

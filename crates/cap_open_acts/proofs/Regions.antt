@@ -1,5 +1,5 @@
 -- Opened regions, and facts beside them.
-use Rattle.std.proofs.Common.{◌≡◌, ℕ, zero, suc, ◌+◌, Bool, true, false, Option, Some, None, List, [], ◌∷◌, ◌++◌, map, refl, sym, ap, subst, ◌∙◌, ◌<◌, ◌≤◌, length, get_or, drop, drop-cons, add-one, arith}
+use Rattle.std.proofs.Common.{◌≡◌, ℕ, zero, suc, ◌+◌, Bool, true, false, Some, None, List, [], ◌∷◌, ◌++◌, map, refl, sym, ap, subst, ◌∙◌, ◌<◌, ◌≤◌, length, get_or, drop, drop-cons, add-one, arith}
 use Rattle.std.proofs.lemmas.List.{drop_all, append_assoc, append-nil, length-map}
 use Rattle.std.proofs.lemmas.Simd.{splat_is_map}
 use Rattle.std.proofs.lemmas.Bool.Decides.{nat_tests}

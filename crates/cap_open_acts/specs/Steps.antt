@@ -1,5 +1,5 @@
 -- What opening a region and acting on a cell make of a goal, step by step.
-use Rattle.std.specs.Prelude.{ℕ, ◌==◌, nat_lt, Bool, List, [], ◌∷◌, flat_map, length, slice_get, if◌then◌else◌}
+use Rattle.std.specs.Prelude.{ℕ, ◌==◌, nat_lt, Bool, List, [], ◌∷◌, flat_map, length, remove, slice_get, if◌then◌else◌}
 use Rattle.cap_lin.specs.Linear.{Linear}
 use Rattle.cap_lin.specs.declared.row.Sort.TheVariants.{Int}
 use Rattle.cap_lin.specs.declared.row.Op.TheVariants.{Eq as Equal, Ne as Unequal}
@@ -7,7 +7,7 @@ use Rattle.cap_prog.specs.Program.{PlainAct, PlainCase, PlainProgram}
 use Rattle.cap_goal_spec.specs.States.{PlainFact, PlainEnv, PlainState, PlainTask, PlainGoal, goals_of}
 use Rattle.cap_goal_spec.specs.Environments.{zero_value, one_value}
 use Rattle.cap_rules.specs.Attempts.{Attempt, unit, ◌>>=◌, found, need}
-use Rattle.cap_rules.specs.Making.{is_empty, value_here, determined, rows_by, prove_equal, prove_differ, with_comparison, with_rows, with_local, with_env}
+use Rattle.cap_rules.specs.Making.{is_empty, sum, value_here, determined, rows_by, prove_equal, prove_differ, with_comparison, with_rows, with_local, with_env}
 use Rattle.cap_rules.specs.Closing.{address_of, of_type, prove_other, with_opened, case_goals, Rival, rivals, with_marks, with_content, acted, closing}
 
 -- the region is another than an opened one, where they are of one type
@@ -64,6 +64,17 @@ abbrev pub swapped :
 swapped s j c x old new = do
   e ← value_here s old
   swapped_by s j c x e new
+
+-- a local gets the content of cell c, number j, which a term's value is added to
+abbrev pub added : PlainState → ℕ → Linear × Linear → ℕ → Linear → Attempt PlainState
+added s j c x t = do
+  u ← value_here s t
+  v ← sum c.1 u
+  unit (with_local (with_content s j c v) x c.1)
+
+-- cell j goes
+abbrev pub disposed : PlainState → ℕ → PlainState
+disposed s j = record s { cells = remove s.cells j }
 
 -- where no region is opened a step begins, and the guards that are held are those held before it
 abbrev pub step_begun : PlainState → PlainState

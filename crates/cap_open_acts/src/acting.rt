@@ -11,7 +11,7 @@ ghost use Rattle.cap_rules.specs.Closing.{with_content as with_content_of, with_
 ghost use Rattle.cap_rules.specs.Making.{with_comparison, with_local as with_local_of};
 ghost use Rattle.cap_rules_steps.specs.Goals.{goals_view};
 ghost use Rattle.cap_rules_steps.specs.Walks.{Makes, Claims, seen};
-ghost use Rattle.cap_open_acts.specs.Steps.{act_at, written, swapped, swapped_by};
+ghost use Rattle.cap_open_acts.specs.Steps.{act_at, added, disposed, written, swapped, swapped_by};
 ghost use Rattle.cap_open_acts.specs.Acts.{heap_act_view, heap_act_of, heap_acted};
 ghost use Rattle.cap_open_acts.specs.Views.{outcomes_view};
 
@@ -177,13 +177,47 @@ fn swap(
     swap_by(alloc, state, place, cell, local, &expected, new)
 }
 
-/// What a statement does to the cell at its address: it reads it into a local, writes a term, or
-/// swaps a new term in for an old one and tells a local so.
+// The local gets the cell's value, and the cell that value plus a term's.
+fn add(
+    alloc: Global,
+    state: &State,
+    number: u32,
+    cell: &(Term, Term),
+    local: u32,
+    term: &Term,
+) -> Result<State, RuleError>
+    ensures { Makes result (added state.now number cell.now local term.now) }
+{
+    let more = value_here(alloc, state, term)?;
+    let sum = cell.1.add(alloc, &more)?;
+    let mut next = state.copy()?;
+    with_content(alloc, &mut next, number, cell, sum)?;
+    with_local(&mut next, local, cell.1.copy(alloc)?)?;
+    Ok(next)
+}
+
+// The cell goes. Nothing changes where there is none of this number.
+fn dispose(state: &State, number: u32) -> Result<State, AllocError>
+    ensures { IfOk result (λ s. s ≡ disposed state.now number) }
+{
+    let mut next = state.copy()?;
+    if number as usize >= next.cells().len() {
+        return Ok(next);
+    }
+    next.cut_cells(number)?;
+    Ok(next)
+}
+
+/// What a statement does to the cell at its address: it reads it into a local, writes a term, swaps
+/// a new term in for an old one and tells a local so, reads it into a local and adds a term, or
+/// disposes of it.
 #[derive(Clone, Copy)]
 pub(crate) enum HeapAct<'a> {
     Read(u32),
     Write(&'a Term),
     Cas(u32, &'a Term, &'a Term),
+    Faa(u32, &'a Term),
+    Dispose,
 }
 
 // What the statement does to a cell, if it does something to one.
@@ -194,6 +228,8 @@ fn heap_act(act: &Act) -> Option<HeapAct<'_>>
         Act::Read(local, _) => Some(HeapAct::Read(*local)),
         Act::Write(_, term) => Some(HeapAct::Write(term)),
         Act::Cas(local, _, old, new) => Some(HeapAct::Cas(*local, old, new)),
+        Act::Faa(local, _, term) => Some(HeapAct::Faa(*local, term)),
+        Act::Dispose(_) => Some(HeapAct::Dispose),
         Act::Set(_, _)
         | Act::Call(_, _, _)
         | Act::Alloc(_, _)
@@ -233,6 +269,14 @@ fn acted_by(
             Ok(only(done))
         }
         HeapAct::Cas(local, old, new) => swap(alloc, state, number, cell, local, old, new),
+        HeapAct::Faa(local, term) => {
+            let done = add(alloc, state, number, cell, local, term)?;
+            Ok(only(done))
+        }
+        HeapAct::Dispose => {
+            let done = dispose(state, number)?;
+            Ok(only(done))
+        }
     }
 }
 

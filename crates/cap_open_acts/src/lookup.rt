@@ -11,7 +11,7 @@ use cap_lin::Term;
 use cap_prog::Act;
 use cap_rules_steps::RuleError;
 
-// The address of a statement that reads, writes or swaps; no other one has one.
+// The address of a statement that works on a cell; no other one has one.
 fn address_in(act: &Act) -> Option<&Term>
     ensures { option_copied result ≡ address_of (act_view act.now) }
 {
@@ -19,6 +19,8 @@ fn address_in(act: &Act) -> Option<&Term>
         Act::Read(_, address) => Some(address),
         Act::Write(address, _) => Some(address),
         Act::Cas(_, address, _, _) => Some(address),
+        Act::Faa(_, address, _) => Some(address),
+        Act::Dispose(address) => Some(address),
         Act::Set(_, _)
         | Act::Call(_, _, _)
         | Act::Alloc(_, _)
@@ -30,7 +32,7 @@ fn address_in(act: &Act) -> Option<&Term>
     }
 }
 
-/// The address of a statement that reads, writes or swaps.
+/// The address of a statement that works on a cell.
 pub(crate) fn heap_address(act: &Act) -> Result<&Term, RuleError>
     ensures { Makes (seen term_lent result) (found (address_of (act_view act.now))) }
 {

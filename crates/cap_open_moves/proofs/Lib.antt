@@ -1,3 +1,4 @@
 mod Members
 mod Picks
 mod Matches
+mod Indexed

@@ -1,12 +1,13 @@
 -- How a region is closed: the names of a case, and the move that keeps the state.
 use Rattle.std.proofs.Common.{◌≡◌, ℕ, zero, suc, ◌+◌, Bool, true, false, List, [], ◌∷◌, map, length, Option, None, refl, sym, ap, subst, ◌∙◌}
-use Rattle.std.specs.Prelude.{if◌then◌else◌, replicate, Result, Ok}
+use Rattle.std.specs.Prelude.{◌==◌, if◌then◌else◌, replicate, Result, Ok}
 use Rattle.std.specs.List.{range_with_len}
 use Rattle.cap_lin.specs.Linear.{Linear}
 use Rattle.cap_prog.specs.Program.{PlainCase, PlainRegionType}
 use Rattle.cap_goal_spec.specs.States.{PlainFact, PlainEnv}
 use Rattle.cap_goal_spec.specs.Environments.{is_bound_by, unbound, region_env}
 use Rattle.cap_rules.specs.Attempts.{Attempt, unit, ◌>>=◌}
+use Rattle.cap_rules.specs.Making.{is_empty}
 use Rattle.cap_rules.specs.Closing.{move_target}
 use Rattle.cap_rules.specs.Taking.{binds_all, names_with, case_env}
 use Rattle.cap_rules_steps.specs.Walks.{Makes}
@@ -47,3 +48,8 @@ case-wanting b k x f other r h t m =
 
 pub stays-there : (k : PlainRegionType) (f : PlainFact) (m : ℕ) (t : Linear) → m ≡ 0 → t ≡ f.state → Makes (Ok t) (move_target k f m)
 stays-there k f m t h e = rw h (done_as t f.state e)
+
+-- a member is there
+pub some-there : {A : Type 0} (xs : List A) → (length xs == 0) ≡ false → is_empty xs ≡ false
+some-there [] h = h
+some-there (x ∷ xs) h = refl

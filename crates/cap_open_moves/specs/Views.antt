@@ -10,8 +10,10 @@ use Rattle.cap_prog.specs.Views.{case_view, action_view}
 use Rattle.cap_goal_spec.specs.States.{PlainEnv}
 use Rattle.cap_rules.specs.Closing as closing
 use Rattle.cap_rules_steps.specs.declared.error.RuleError.{RuleError}
+use Rattle.cap_offer_spec.specs.Turning as turning
 use Rattle.cap_open_moves.specs.declared.matching.MovePart.{MovePart}
 use Rattle.cap_open_moves.specs.declared.matching.MovePart.TheVariants as part
+use Rattle.cap_open_moves.specs.declared.turning.Turn.{Turn}
 
 abbrev pub case_lent : Bor Case → PlainCase
 case_lent c = case_view c.now
@@ -29,6 +31,9 @@ part_view part.Target = closing.target
 
 abbrev pub parts_view : List MovePart → List closing.MovePart
 parts_view xs = map part_view xs
+
+abbrev pub turn_view : Turn → turning.Turn
+turn_view t = record { state = t.state; env = t.env }
 
 -- a call gives the parts that wait, and what the environment becomes
 abbrev pub matched_with :

@@ -45,6 +45,8 @@ fn read_asked<'a>(env: &Env, asked: &'a Asked) -> Reading<'a>
         Asked::Share(slot) => read_slot(env, slot),
         Asked::Src(slot) => read_slot(env, slot),
         Asked::Tok(slot) => read_slot(env, slot),
+        Asked::At(slot) => read_slot(env, slot),
+        Asked::From(slot) => read_slot(env, slot),
     }
 }
 
@@ -267,6 +269,7 @@ fn match_one(state: &State, env: &Env, form: &Form) -> Result<(), RuleError>
         Form::Share(_) => Err(RuleError::NotApplicable),
         Form::Src(_) => Err(RuleError::NotApplicable),
         Form::Tok(_) => Err(RuleError::NotApplicable),
+        Form::Span(_, _) => Err(RuleError::NotApplicable),
     }
 }
 
@@ -290,6 +293,7 @@ fn match_share_form(
         Form::One => Err(RuleError::NotApplicable),
         Form::Src(_) => Err(RuleError::NotApplicable),
         Form::Tok(_) => Err(RuleError::NotApplicable),
+        Form::Span(_, _) => Err(RuleError::NotApplicable),
     }
 }
 
@@ -313,6 +317,7 @@ fn match_source_form(
         Form::One => Err(RuleError::NotApplicable),
         Form::Share(_) => Err(RuleError::NotApplicable),
         Form::Tok(_) => Err(RuleError::NotApplicable),
+        Form::Span(_, _) => Err(RuleError::NotApplicable),
     }
 }
 
@@ -339,10 +344,11 @@ fn match_tokens_form(
         }
         Form::One => Err(RuleError::NotApplicable),
         Form::Share(_) => Err(RuleError::NotApplicable),
+        Form::Span(_, _) => Err(RuleError::NotApplicable),
     }
 }
 
-// What is asked of a guard, out of what was held of it.
+// What is asked of a guard, out of what was held of it. Indices have their own turn.
 fn match_form(
     alloc: Global,
     ledger: &mut Ledger,
@@ -359,6 +365,8 @@ fn match_form(
         Asked::Share(slot) => match_share_form(alloc, ledger, state, env, slot, form),
         Asked::Src(slot) => match_source_form(alloc, ledger, state, env, slot, form),
         Asked::Tok(slot) => match_tokens_form(alloc, ledger, state, env, slot, form),
+        Asked::At(_) => Err(RuleError::NotApplicable),
+        Asked::From(_) => Err(RuleError::NotApplicable),
     }
 }
 
@@ -387,8 +395,8 @@ fn piece_of_atom<'t>(
     }
 }
 
-// The guards that were held before the step.
-fn held_before(state: &State) -> &[Piece]
+/// The guards that were held before the step.
+pub(crate) fn held_before(state: &State) -> &[Piece]
     ensures { result.now ≡ state.now.before }
 {
     state.before()

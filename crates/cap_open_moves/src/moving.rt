@@ -1,5 +1,5 @@
 //! Moves: an action is allowed by the guards that were held, or the state is kept.
-ghost use Rattle.std.specs.Prelude.{◌≡◌, ◌++◌, IfOk, OnOk, [], length, map};
+ghost use Rattle.std.specs.Prelude.{◌≡◌, ◌++◌, IfOk, OnOk, [], length};
 ghost use Rattle.cap_goal_spec.specs.Environments.{unbound, region_env as env_of_region};
 ghost use Rattle.cap_prog.specs.Views.{action_view, region_view};
 ghost use Rattle.cap_rules.specs.Closing.{match_ready as ready_matched, match_all as all_matched};
@@ -8,10 +8,11 @@ ghost use Rattle.cap_rules.specs.Closing.{prove_move as move_proved};
 ghost use Rattle.cap_rules.specs.Making.{prove_comparisons as comparisons_proved};
 ghost use Rattle.cap_rules_steps.specs.Walks.{Claims, giving};
 ghost use Rattle.cap_open_moves.specs.Views.{parts_view, matched_with};
-ghost use Rattle.cap_open_moves.specs.Moves.{guard_part, numbered_proved};
+ghost use Rattle.cap_open_moves.specs.Moves.{parts_plain, kept_proved, numbered_proved};
 
 use crate::lookup::action_at;
 use crate::matching::{MovePart, match_part, waits};
+use crate::spans::{asks_indices, match_spans};
 use cap_goal::{Env, Fact, State};
 use cap_lin::Term;
 use cap_prog::{Action, Asked, RegionType};
@@ -19,22 +20,35 @@ use cap_rules_steps::{Ledger, RuleError, prove_comparisons, prove_equal};
 use cap_take_holdings::region_env;
 use std::alloc::{AllocError, Global};
 
-// Adds the guards of an action.
+/// A move: 0, which keeps the state, or the number of an action from 1; and for each indexed atom of
+/// the action, in their order, the number of a piece of the guards that were held before the step.
+#[derive(Clone, Copy)]
+pub struct Move<'a> {
+    pub action: u32,
+    pub spans: &'a [u32],
+}
+
+// Adds the guards of an action that aren't indexed.
 fn push_guards<'a>(
     parts: &mut Vec<MovePart<'a>>,
     guards: &'a [(u32, Asked)],
 ) -> Result<(), AllocError>
     ensures { OnOk result (parts_view parts.new.items
-        ≡ parts_view parts.old.items ++ map guard_part guards.now) }
+        ≡ parts_view parts.old.items ++ parts_plain guards.now) }
 {
     for guard in guards {
-        parts.push(MovePart::Guard(guard.0, &guard.1))?;
+        if !asks_indices(&guard.1) {
+            parts.push(MovePart::Guard(guard.0, &guard.1))?;
+        }
     }
     Ok(())
 }
 
-// The guards of an action, its source and its target.
-fn parts_of<'a>(alloc: Global, action: &'a Action) -> Result<Vec<MovePart<'a>>, AllocError>
+/// The guards of an action that aren't indexed, its source and its target.
+pub(crate) fn parts_of<'a>(
+    alloc: Global,
+    action: &'a Action,
+) -> Result<Vec<MovePart<'a>>, AllocError>
     ensures { IfOk result (λ v. parts_view v.items ≡ parts_in (action_view action.now)) }
 {
     let mut parts = Vec::new(alloc);
@@ -44,8 +58,8 @@ fn parts_of<'a>(alloc: Global, action: &'a Action) -> Result<Vec<MovePart<'a>>, 
     Ok(parts)
 }
 
-// Matches the parts that need no other one, and gives those that wait.
-fn match_ready<'a>(
+/// Matches the parts that need no other one, and gives those that wait.
+pub(crate) fn match_ready<'a>(
     alloc: Global,
     ledger: &mut Ledger,
     state: &State,
@@ -70,8 +84,8 @@ fn match_ready<'a>(
     Ok(waiting)
 }
 
-// Matches parts, one after the other.
-fn match_all(
+/// Matches parts, one after the other.
+pub(crate) fn match_all(
     alloc: Global,
     ledger: &mut Ledger,
     state: &State,
@@ -103,8 +117,8 @@ fn unbound_names(alloc: Global, count: usize) -> Result<Vec<Option<Term>>, Alloc
     Ok(names)
 }
 
-// The environment of an action, none of whose names is bound.
-fn start_env(alloc: Global, fact: &Fact, action: &Action) -> Result<Env, AllocError>
+/// The environment of an action, none of whose names is bound.
+pub(crate) fn start_env(alloc: Global, fact: &Fact, action: &Action) -> Result<Env, AllocError>
     ensures { IfOk result (λ e. e
         ≡ env_of_region fact.now (unbound (length (action_view action.now).names))) }
 {
@@ -112,8 +126,8 @@ fn start_env(alloc: Global, fact: &Fact, action: &Action) -> Result<Env, AllocEr
     region_env(alloc, fact, names)
 }
 
-// Claims that the comparisons of an action hold, by its environment.
-fn prove_when(
+/// Claims that the comparisons of an action hold, by its environment.
+pub(crate) fn prove_when(
     alloc: Global,
     ledger: &mut Ledger,
     state: &State,
@@ -126,7 +140,8 @@ fn prove_when(
     prove_comparisons(alloc, ledger, state.rows(), env, &action.when)
 }
 
-// Claims that an action leads from the old state to the new one, by what was held.
+// Claims that an action leads from the old state to the new one, by what was held, its indexed atoms
+// out of these pieces.
 fn prove_action(
     alloc: Global,
     ledger: &mut Ledger,
@@ -134,14 +149,16 @@ fn prove_action(
     fact: &Fact,
     new: &Term,
     action: &Action,
+    spans: &[u32],
 ) -> Result<(), RuleError>
     ensures { Claims (giving result tt) ledger.old ledger.new
-        (action_proved state.now fact.now new.now (action_view action.now)) }
+        (action_proved state.now fact.now new.now (action_view action.now) spans.now) }
 {
     let mut env = start_env(alloc, fact, action)?;
     let parts = parts_of(alloc, action)?;
     let waiting = match_ready(alloc, ledger, state, fact, new, action, &mut env, &parts)?;
     match_all(alloc, ledger, state, fact, new, action, &mut env, &waiting)?;
+    match_spans(alloc, ledger, state, fact, &env, &action.guards, spans)?;
     prove_when(alloc, ledger, state, &env, action)
 }
 
@@ -154,12 +171,31 @@ fn prove_numbered(
     fact: &Fact,
     new: &Term,
     number: u32,
+    spans: &[u32],
 ) -> Result<(), RuleError>
     ensures { Claims (giving result tt) ledger.old ledger.new (numbered_proved
-        (region_view region.now) state.now fact.now new.now number) }
+        (region_view region.now) state.now fact.now new.now number spans.now) }
 {
     let action = action_at(region, number)?;
-    prove_action(alloc, ledger, state, fact, new, action)
+    prove_action(alloc, ledger, state, fact, new, action, spans)
+}
+
+// Claims that a region keeps its state. No piece is named.
+fn prove_kept(
+    alloc: Global,
+    ledger: &mut Ledger,
+    state: &State,
+    fact: &Fact,
+    new: &Term,
+    spans: &[u32],
+) -> Result<(), RuleError>
+    ensures { Claims (giving result tt) ledger.old ledger.new
+        (kept_proved state.now fact.now new.now spans.now) }
+{
+    if !spans.is_empty() {
+        return Err(RuleError::NotApplicable);
+    }
+    prove_equal(alloc, ledger, state, new, &fact.state)
 }
 
 /// Claims that a move leads from the old state of an opened region to a new one: move 0 keeps the
@@ -171,13 +207,22 @@ pub(crate) fn prove_move(
     state: &State,
     fact: &Fact,
     new: &Term,
-    action: u32,
+    by: Move<'_>,
 ) -> Result<(), RuleError>
     ensures { Claims (giving result tt) ledger.old ledger.new (move_proved
-        (region_view region.now) state.now fact.now new.now action) }
+        (region_view region.now) state.now fact.now new.now by.entry.action by.entry.spans.now) }
 {
-    if action == 0 {
-        return prove_equal(alloc, ledger, state, new, &fact.state);
+    if by.action == 0 {
+        return prove_kept(alloc, ledger, state, fact, new, by.spans);
     }
-    prove_numbered(alloc, ledger, region, state, fact, new, action - 1)
+    prove_numbered(
+        alloc,
+        ledger,
+        region,
+        state,
+        fact,
+        new,
+        by.action - 1,
+        by.spans,
+    )
 }

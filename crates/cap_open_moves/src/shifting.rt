@@ -10,7 +10,7 @@ ghost use Rattle.cap_rules_steps.specs.Walks.{Makes, Claims, seen};
 ghost use Rattle.cap_open_moves.specs.Moves.{moved as goals_moved, shifted as goals_shifted};
 
 use crate::lookup::case_at;
-use crate::moving::prove_move;
+use crate::moving::{Move, prove_move};
 use cap_goal::{Fact, Goal, State, Task};
 use cap_lin::Term;
 use cap_open_acts::{clear_before, fact_at};
@@ -42,8 +42,8 @@ fn end_step(state: &mut State) -> Result<(), AllocError>
     Ok(())
 }
 
-// The state in which an opened region is closed in a new state.
-fn with_closed(
+/// The state in which an opened region is closed in a new state.
+pub(crate) fn with_closed(
     alloc: Global,
     state: &State,
     opened: u32,
@@ -69,14 +69,14 @@ fn moved<'a>(
     opened: u32,
     fact: &Fact,
     new: &Term,
-    action: u32,
+    by: Move<'_>,
     behind: &[Task<'a>],
 ) -> Result<Vec<Goal<'a>>, RuleError>
     ensures { Claims (seen goals_view result) ledger.old ledger.new (goals_moved
-        (region_view region.now) state.now opened fact.now new.now action
-        (tasks_view behind.now)) }
+        (region_view region.now) state.now opened fact.now new.now by.entry.action
+        by.entry.spans.now (tasks_view behind.now)) }
 {
-    prove_move(alloc, ledger, region, state, fact, new, action)?;
+    prove_move(alloc, ledger, region, state, fact, new, by)?;
     let next = with_closed(alloc, state, opened, fact, new)?;
     let tasks = copy_tasks(alloc, behind)?;
     Ok(leaves(alloc, next, tasks)?)
@@ -91,27 +91,27 @@ fn shifted<'a>(
     opened: u32,
     fact: &Fact,
     case: &Case,
-    action: u32,
+    by: Move<'_>,
     env: u32,
     behind: &[Task<'a>],
 ) -> Result<Vec<Goal<'a>>, RuleError>
     ensures { Claims (seen goals_view result) ledger.old ledger.new (goals_shifted
-        (region_view region.now) state.now opened fact.now (case_view case.now) action env
-        (tasks_view behind.now)) }
+        (region_view region.now) state.now opened fact.now (case_view case.now)
+        by.entry.action by.entry.spans.now env (tasks_view behind.now)) }
 {
     prove_comparisons_at(alloc, ledger, state, env, &case.when)?;
     let new = determined_at(alloc, state, env, &case.state)?;
-    moved(
-        alloc, ledger, region, state, opened, fact, &new, action, behind,
-    )
+    moved(alloc, ledger, region, state, opened, fact, &new, by, behind)
 }
 
 /// The goal in which an opened region is closed in the state of a case. It is claimed that the
 /// case's comparisons hold in an environment, and that the move leads from the old state to that of
 /// the case: move 0 keeps the state, and an action needs its guards among those held before the
-/// step. `NotApplicable` comes where the opened region, the case or the move isn't there, where a
-/// name that is needed is unbound, where such a guard was not held, and where a list of the state
-/// is full; `Wide` where a result leaves 128 bits before that.
+/// step, its indices out of the pieces that the move names. `NotApplicable` comes where the opened
+/// region, the case or the move isn't there, where a name that is needed is unbound, where such a
+/// guard was not held, where a piece that is named isn't there or isn't of its atom, where there are
+/// not as many as indexed atoms, and where a list of the state is full; `Wide` where a result leaves
+/// 128 bits before that.
 pub fn shift<'a>(
     alloc: Global,
     ledger: &mut Ledger,
@@ -119,17 +119,18 @@ pub fn shift<'a>(
     state: &State,
     opened: u32,
     case: u32,
-    action: u32,
+    by: Move<'_>,
     env: u32,
     behind: &[Task<'a>],
 ) -> Result<Vec<Goal<'a>>, RuleError>
     ensures { Claims (seen goals_view result) ledger.old ledger.new (at_shift
-        (program_view program.now) state.now opened case action env (tasks_view behind.now)) }
+        (program_view program.now) state.now by.entry.spans.now opened case by.entry.action env
+        (tasks_view behind.now)) }
 {
     let fact = fact_at(state.opened(), opened)?;
     let region = region_at(program, fact.kind)?;
     let chosen = case_at(region, case)?;
     shifted(
-        alloc, ledger, region, state, opened, fact, chosen, action, env, behind,
+        alloc, ledger, region, state, opened, fact, chosen, by, env, behind,
     )
 }

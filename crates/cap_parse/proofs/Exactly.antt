@@ -6,14 +6,16 @@ use Rattle.cap_parse_tree.specs.declared.tree.Tree.{Tree}
 use Rattle.cap_parse_tree.specs.Tree.{ProgramTree}
 use Rattle.cap_parse_tree.specs.Spelling.{spelling}
 use Rattle.cap_parse_tree.specs.Nesting.{max_nesting, Nests}
-use Rattle.cap_parse_tree.specs.Texts.{IsUnexpectedAt, IsTooDeepAt}
 use Rattle.cap_parse_tree.specs.Views.{tree_view}
-use Rattle.cap_parse_laws.specs.Readers.{Fault, unexpected, too_deep}
+use Rattle.cap_parse_laws.specs.Readers.{unexpected, too_deep}
 use Rattle.cap_parse_laws.specs.Grammar.{read_program}
+use Rattle.cap_parse_laws.specs.Versions.{worded, behind}
+use Rattle.cap_parse_laws.specs.Texts.{IsUnexpectedAt, IsTooDeepAt}
 use Rattle.cap_parse.specs.declared.text.ParseError.{ParseError}
 use Rattle.cap_parse.specs.declared.text.ParseError.TheVariants.{Unexpected, TooDeep, OutOfMemory}
-use Rattle.cap_parse.specs.Parsing.{first_place, IsTreeOf, IsParseOf, GivesTree, Refuses, IsOnlyParseOf}
+use Rattle.cap_parse.specs.Parsing.{first_place, IsParseOf, GivesTree, Refuses, IsOnlyParseOf}
 use Rattle.cap_parse.specs.Reading.{IsReadingOf}
+use Rattle.cap_parse.proofs.Sights.{behind-place}
 
 pub nesting_is : max_nesting ≡ 64
 unfolding max_nesting
@@ -23,23 +25,34 @@ nesting_is = refl
 pub record AreLaws : Type 0 where
   pub sound : (ts : List Token) (t : ProgramTree) → read_program max_nesting ts ≡ Ok t → (ts ≡ spelling t) × Nests t
   pub complete : (t : ProgramTree) → Nests t → read_program max_nesting (spelling t) ≡ Ok t
-  pub unexpected_at : (ts rest : List Token) → (read_program max_nesting ts ≡ Err (unexpected rest)) ↔ IsUnexpectedAt ts rest
-  pub too_deep_at : (ts rest : List Token) → (read_program max_nesting ts ≡ Err (too_deep rest)) ↔ IsTooDeepAt ts rest
+  pub unexpected_at : (ts seen : List Token)
+      → (read_program max_nesting (worded ts) ≡ Err (unexpected seen))
+      ↔ ((rest : List Token) × (u : IsUnexpectedAt ts rest) × (behind u.front rest ≡ seen))
+  pub too_deep_at : (ts seen : List Token)
+      → (read_program max_nesting (worded ts) ≡ Err (too_deep seen))
+      ↔ ((rest : List Token) × (u : IsTooDeepAt ts rest) × (behind u.front rest ≡ seen))
+
+-- a fault stands where it is seen
+here : (front rest seen : List Token) (end p : Place) → behind front rest ≡ seen → p ≡ first_place seen end
+    → p ≡ first_place rest end
+here front rest seen end p e h = h ∙ ap (λ l. first_place l end) (sym e) ∙ behind-place front rest end
 
 pub parse-of : AreLaws → (ts : List Token) (end : Place) (r : Result Tree ParseError) → IsReadingOf ts end r → IsParseOf ts end r
-parse-of laws ts end (Ok t) h = laws.sound ts (tree_view t) h
-parse-of laws ts end (Err (Unexpected p)) h = (h.0, (laws.unexpected_at ts h.0).0 h.1, h.2)
-parse-of laws ts end (Err (TooDeep p)) h = (h.0, (laws.too_deep_at ts h.0).0 h.1, h.2)
+parse-of laws ts end (Ok t) h = laws.sound (worded ts) (tree_view t) h
+parse-of laws ts end (Err (Unexpected p)) h =
+    let x = (laws.unexpected_at ts h.0).0 h.1 in (x.0, x.1, here x.1.front x.0 h.0 end p x.2 h.2)
+parse-of laws ts end (Err (TooDeep p)) h =
+    let x = (laws.too_deep_at ts h.0).0 h.1 in (x.0, x.1, here x.1.front x.0 h.0 end p x.2 h.2)
 parse-of laws ts end (Err OutOfMemory) h = tt
 
-gives : (ts : List Token) (end : Place) (t : ProgramTree) (r : Result Tree ParseError) → read_program max_nesting ts ≡ Ok t → IsReadingOf ts end r → GivesTree t r
+gives : (ts : List Token) (end : Place) (t : ProgramTree) (r : Result Tree ParseError) → read_program max_nesting (worded ts) ≡ Ok t → IsReadingOf ts end r → GivesTree t r
 gives ts end t (Ok u) e h = let f : Ok (tree_view u) ≡ Ok t = sym h ∙ e in cc
 gives ts end t (Err (Unexpected p)) e h = let f = sym e ∙ h.1 in absurd cc
 gives ts end t (Err (TooDeep p)) e h = let f = sym e ∙ h.1 in absurd cc
 gives ts end t (Err OutOfMemory) e h = refl
 
 refuses-unexpected : (ts : List Token) (end : Place) (rest : List Token) (r : Result Tree ParseError)
-    → read_program max_nesting ts ≡ Err (unexpected rest) → IsReadingOf ts end r → Refuses (Unexpected (first_place rest end)) r
+    → read_program max_nesting (worded ts) ≡ Err (unexpected rest) → IsReadingOf ts end r → Refuses (Unexpected (first_place rest end)) r
 refuses-unexpected ts end rest (Ok u) e h = let f = sym e ∙ h in absurd cc
 refuses-unexpected ts end rest (Err (Unexpected p)) e h =
     let f = sym h.1 ∙ e in
@@ -49,7 +62,7 @@ refuses-unexpected ts end rest (Err (TooDeep p)) e h = let f = sym e ∙ h.1 in 
 refuses-unexpected ts end rest (Err OutOfMemory) e h = tt
 
 refuses-too_deep : (ts : List Token) (end : Place) (rest : List Token) (r : Result Tree ParseError)
-    → read_program max_nesting ts ≡ Err (too_deep rest) → IsReadingOf ts end r → Refuses (TooDeep (first_place rest end)) r
+    → read_program max_nesting (worded ts) ≡ Err (too_deep rest) → IsReadingOf ts end r → Refuses (TooDeep (first_place rest end)) r
 refuses-too_deep ts end rest (Ok u) e h = let f = sym e ∙ h in absurd cc
 refuses-too_deep ts end rest (Err (Unexpected p)) e h = let f = sym e ∙ h.1 in absurd cc
 refuses-too_deep ts end rest (Err (TooDeep p)) e h =
@@ -61,8 +74,12 @@ refuses-too_deep ts end rest (Err OutOfMemory) e h = tt
 pub only-parse-of : AreLaws → (ts : List Token) (end : Place) (r : Result Tree ParseError) → IsReadingOf ts end r → IsOnlyParseOf ts end r
 only-parse-of laws ts end r h = record {
   spelled = λ t s. gives ts end t r (ap (read_program max_nesting) s.0 ∙ laws.complete t s.1) h;
-  unexpected = λ rest w. refuses-unexpected ts end rest r ((laws.unexpected_at ts rest).1 w) h;
-  too_deep = λ rest w. refuses-too_deep ts end rest r ((laws.too_deep_at ts rest).1 w) h;
+  unexpected = λ rest w.
+      subst (λ p. Refuses (Unexpected p) r) (behind-place w.front rest end)
+      (refuses-unexpected ts end (behind w.front rest) r ((laws.unexpected_at ts (behind w.front rest)).1 (rest, w, refl)) h);
+  too_deep = λ rest w.
+      subst (λ p. Refuses (TooDeep p) r) (behind-place w.front rest end)
+      (refuses-too_deep ts end (behind w.front rest) r ((laws.too_deep_at ts (behind w.front rest)).1 (rest, w, refl)) h);
 }
 
 take-front : (front more : List Token) → take (length front) (front ++ more) ≡ front

@@ -1,7 +1,6 @@
 -- A part in brackets, where one more may open.
-use Rattle.std.proofs.Common.{◌≡◌, ℕ, zero, suc, ◌-◌, ◌<◌, List, refl, sym, ap, arith}
+use Rattle.std.proofs.Common.{◌≡◌, ℕ, zero, suc, ◌-◌, ◌<◌, List, ap, arith}
 use Rattle.cap_syntax.specs.declared.token.Token.{Token}
-use Rattle.cap_parse_laws.specs.Readers.{Reader}
 use Rattle.cap_parse_laws.specs.Grammar.{read_bracketed, bracketed_at, read_term, read_side, side_at, read_assertion, read_block_with, block_at, read_statement, read_grouped, grouped_at, read_algebra}
 
 one_fewer : (room : ℕ) → room ≡ suc room - 1

@@ -5,7 +5,7 @@ use Rattle.cap_syntax.specs.declared.place.Place.{Place}
 use Rattle.cap_syntax.specs.declared.token.Token.{Token}
 use Rattle.cap_parse_laws.specs.declared.class.Class.{Class}
 use Rattle.cap_parse_laws.specs.Classes.{are_same}
-use Rattle.cap_parse_laws.specs.Readers.{unexpected, too_deep, Outcome, Reader, ◌>>=◌, ahead, next_place, read_while, read_behind, read_more}
+use Rattle.cap_parse_laws.specs.Readers.{unexpected, too_deep, Outcome, Reader, ahead, next_place, read_while, read_behind, read_more}
 use Rattle.cap_parse_laws.specs.Laws.Taking.{Takes, Ends, takes-keeps, behind-takes, while-taken, while-refused, with_front}
 use Rattle.cap_parse.specs.declared.cursor.Stop.{Stop}
 use Rattle.cap_parse.specs.declared.cursor.Stop.TheVariants.{Unexpected, TooDeep, OutOfMemory}

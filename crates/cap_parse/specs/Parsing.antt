@@ -1,13 +1,14 @@
 -- What parsing tokens answers: the tree that they spell, or where they go wrong.
-use Rattle.std.specs.Prelude.{◌≡◌, List, [], ◌∷◌, ◌++◌, Result, Ok, Err}
+use Rattle.std.specs.Prelude.{◌≡◌, List, [], ◌∷◌, Result, Ok, Err}
 use Rattle.cap_syntax.specs.declared.place.Place.{Place}
 use Rattle.cap_syntax.specs.declared.token.Token.{Token}
 use Rattle.cap_parse_tree.specs.declared.tree.Tree.{Tree}
 use Rattle.cap_parse_tree.specs.Tree.{ProgramTree}
 use Rattle.cap_parse_tree.specs.Spelling.{spelling}
 use Rattle.cap_parse_tree.specs.Nesting.{Nests}
-use Rattle.cap_parse_tree.specs.Texts.{IsUnexpectedAt, IsTooDeepAt}
 use Rattle.cap_parse_tree.specs.Views.{tree_view}
+use Rattle.cap_parse_laws.specs.Versions.{worded}
+use Rattle.cap_parse_laws.specs.Texts.{IsUnexpectedAt, IsTooDeepAt}
 use Rattle.cap_parse.specs.declared.text.ParseError.{ParseError}
 use Rattle.cap_parse.specs.declared.text.ParseError.TheVariants.{Unexpected, TooDeep, OutOfMemory}
 
@@ -16,9 +17,9 @@ abbrev pub first_place : List Token → Place → Place
 first_place [] end = end
 first_place (t ∷ ts) end = t.place
 
--- the tokens before the end spell this tree, and it nests
+-- the tokens before the end, as they are seen, spell this tree, and it nests
 abbrev pub IsTreeOf : List Token → ProgramTree → Type 0
-IsTreeOf ts t = (ts ≡ spelling t) × Nests t
+IsTreeOf ts t = (worded ts ≡ spelling t) × Nests t
 
 -- The answer for these tokens, behind which the text ends at this place; want of memory is none of
 -- the tokens'.

@@ -7,14 +7,15 @@ use Rattle.cap_parse_tree.specs.Nesting.{max_nesting}
 use Rattle.cap_parse_tree.specs.Views.{tree_view}
 use Rattle.cap_parse_laws.specs.Readers.{unexpected, too_deep}
 use Rattle.cap_parse_laws.specs.Grammar.{read_program}
+use Rattle.cap_parse_laws.specs.Versions.{worded}
 use Rattle.cap_parse.specs.declared.text.ParseError.{ParseError}
 use Rattle.cap_parse.specs.declared.text.ParseError.TheVariants.{Unexpected, TooDeep, OutOfMemory}
 use Rattle.cap_parse.specs.Parsing.{first_place}
 
 abbrev pub IsReadingOf : List Token → Place → Result Tree ParseError → Type 0
-IsReadingOf ts end (Ok t) = read_program max_nesting ts ≡ Ok (tree_view t)
+IsReadingOf ts end (Ok t) = read_program max_nesting (worded ts) ≡ Ok (tree_view t)
 IsReadingOf ts end (Err (Unexpected p)) =
-    (rest : List Token) × (read_program max_nesting ts ≡ Err (unexpected rest)) × (p ≡ first_place rest end)
+    (rest : List Token) × (read_program max_nesting (worded ts) ≡ Err (unexpected rest)) × (p ≡ first_place rest end)
 IsReadingOf ts end (Err (TooDeep p)) =
-    (rest : List Token) × (read_program max_nesting ts ≡ Err (too_deep rest)) × (p ≡ first_place rest end)
+    (rest : List Token) × (read_program max_nesting (worded ts) ≡ Err (too_deep rest)) × (p ≡ first_place rest end)
 IsReadingOf ts end (Err OutOfMemory) = Unit {0}

@@ -5,6 +5,7 @@ mod assertion;
 mod cursor;
 mod program;
 mod region;
+mod seen;
 mod statement;
 mod term;
 mod text;

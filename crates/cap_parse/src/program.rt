@@ -6,17 +6,18 @@ ghost use Rattle.cap_parse_tree.specs.Views.{several_view, listed_view, word_vie
 ghost use Rattle.cap_parse_tree.specs.Views.{block_view, function_view, declaration_view, tree_view};
 ghost use Rattle.cap_parse_laws.specs.Classes.{are_same};
 ghost use Rattle.cap_parse_laws.specs.Grammar.{read_function, read_declaration};
+ghost use Rattle.cap_parse_laws.specs.Grammar.{read_header, read_parts};
 ghost use Rattle.cap_parse_laws.specs.Readers.{read_name, read_several, read_optional, read_until};
 ghost use Rattle.cap_parse_laws.specs.Readers.{read_listed};
-ghost use Rattle.cap_parse_laws.specs.declared.class.Class.TheVariants.{Comma, Close, End};
+ghost use Rattle.cap_parse_laws.specs.declared.class.Class.TheVariants.{Comma, Close, End, Caper};
 ghost use Rattle.cap_parse.specs.Heads.{function_head_view, read_whole_clause, read_whole_block};
-ghost use Rattle.cap_parse.specs.Heads.{read_function_head, read_function_body, read_postcondition};
-ghost use Rattle.cap_parse.specs.Heads.{read_function_from};
+ghost use Rattle.cap_parse.specs.Heads.{read_function_head, contract_view, read_contract};
+ghost use Rattle.cap_parse.specs.Heads.{function_tree};
 ghost use Rattle.cap_parse.specs.Reads.{IsRead};
 
 use crate::cursor::{Cursor, Stop};
 use cap_parse_laws::Class;
-use cap_parse_tree::{Block, Clause, Declaration, Function, Listed, Separated, Word};
+use cap_parse_tree::{Block, Clause, Declaration, Function, Header, Listed, Separated, Tree, Word};
 use cap_syntax::Place;
 
 /// A function's keyword, name and parameters.
@@ -27,11 +28,42 @@ pub(crate) struct FunctionHead {
     parameters: Listed<Word>,
 }
 
+/// What a function requires and ensures.
+#[derive(Drop)]
+pub(crate) struct Contract {
+    precondition: Option<Clause>,
+    postcondition: Option<Clause>,
+}
+
+/// The function of a head, a contract and a body.
+fn function_of(head: FunctionHead, contract: Contract, body: Block) -> Function
+    ensures { function_view result
+        ≡ function_tree (function_head_view head) (contract_view contract) (block_view body) }
+{
+    let FunctionHead {
+        key,
+        name,
+        parameters,
+    } = head;
+    let Contract {
+        precondition,
+        postcondition,
+    } = contract;
+    Function {
+        key,
+        name,
+        parameters,
+        precondition,
+        postcondition,
+        body,
+    }
+}
+
 impl<'a> Cursor<'a> {
     fn optional_names(&mut self) -> Result<Option<Separated<Word>>, Stop>
-        ensures { IsRead (option_map (several_view word_view)) result self.new.rest.now
+        ensures { IsRead (option_map (several_view word_view)) result self.new.rest
             (read_optional (λ a. not (are_same Close a)) (read_several Comma read_name)
-            self.old.rest.now) }
+            self.old.rest) }
     {
         if self.is_ahead(Class::Close) {
             Ok(None)
@@ -42,8 +74,8 @@ impl<'a> Cursor<'a> {
 
     /// Names in parentheses.
     fn names(&mut self, room: u32) -> Result<Listed<Word>, Stop>
-        ensures { IsRead (listed_view word_view) result self.new.rest.now
-            (read_listed room (λ inner. read_name) self.old.rest.now) }
+        ensures { IsRead (listed_view word_view) result self.new.rest
+            (read_listed room (λ inner. read_name) self.old.rest) }
     {
         let (_, open) = self.opening(room, Class::Open)?;
         let parts = self.optional_names()?;
@@ -53,8 +85,8 @@ impl<'a> Cursor<'a> {
 
     /// The keyword, which comes next, the name and the parameters of a function.
     fn function_head(&mut self, room: u32) -> Result<FunctionHead, Stop>
-        ensures { IsRead function_head_view result self.new.rest.now
-            (read_function_head room self.old.rest.now) }
+        ensures { IsRead function_head_view result self.new.rest
+            (read_function_head room self.old.rest) }
     {
         let key = self.next_place()?;
         let name = self.name()?;
@@ -68,85 +100,47 @@ impl<'a> Cursor<'a> {
 
     #[tactic(auto, unfolding(crate::specs::Heads::read_whole_clause))]
     fn whole_clause(&mut self, room: u32, class: Class) -> Result<Option<Clause>, Stop>
-        ensures { IsRead (option_map clause_view) result self.new.rest.now
-            (read_optional (are_same class) (read_whole_clause room class) self.old.rest.now) }
+        ensures { IsRead (option_map clause_view) result self.new.rest
+            (read_optional (are_same class) (read_whole_clause room class) self.old.rest) }
     {
         self.optional_clause(room, class)
     }
 
     #[tactic(auto, unfolding(crate::specs::Heads::read_whole_block))]
     fn whole_block(&mut self, room: u32) -> Result<Block, Stop>
-        ensures { IsRead block_view result self.new.rest.now
-            (read_whole_block room self.old.rest.now) }
+        ensures { IsRead block_view result self.new.rest
+            (read_whole_block room self.old.rest) }
     {
         self.block(room)
     }
 
-    /// The body, behind a function's head and its contract.
-    fn function_body(
-        &mut self,
-        room: u32,
-        head: FunctionHead,
-        precondition: Option<Clause>,
-        postcondition: Option<Clause>,
-    ) -> Result<Function, Stop>
-        ensures { IsRead function_view result self.new.rest.now
-            (read_function_body room (function_head_view head) (option_map clause_view precondition)
-            (option_map clause_view postcondition) self.old.rest.now) }
+    fn contract(&mut self, room: u32) -> Result<Contract, Stop>
+        ensures { IsRead contract_view result self.new.rest
+            (read_contract room self.old.rest) }
     {
-        let body = self.whole_block(room)?;
-        let FunctionHead {
-            key,
-            name,
-            parameters,
-        } = head;
-        Ok(Function {
-            key,
-            name,
-            parameters,
+        let precondition = self.whole_clause(room, Class::Requires)?;
+        let postcondition = self.whole_clause(room, Class::Ensures)?;
+        Ok(Contract {
             precondition,
             postcondition,
-            body,
         })
     }
 
-    /// What stands behind a function's head and its precondition.
-    fn postcondition(
-        &mut self,
-        room: u32,
-        head: FunctionHead,
-        precondition: Option<Clause>,
-    ) -> Result<Function, Stop>
-        ensures { IsRead function_view result self.new.rest.now
-            (read_postcondition room (function_head_view head) (option_map clause_view precondition)
-            self.old.rest.now) }
-    {
-        let postcondition = self.whole_clause(room, Class::Ensures)?;
-        self.function_body(room, head, precondition, postcondition)
-    }
-
-    /// What stands behind a function's head.
-    fn function_from(&mut self, room: u32, head: FunctionHead) -> Result<Function, Stop>
-        ensures { IsRead function_view result self.new.rest.now
-            (read_function_from room (function_head_view head) self.old.rest.now) }
-    {
-        let precondition = self.whole_clause(room, Class::Requires)?;
-        self.postcondition(room, head, precondition)
-    }
-
     /// What `function`, which comes next, begins.
-    #[tactic(auto, using(crate::proofs::Functions::function_parts))]
+    #[tactic(auto, using(crate::proofs::Parts::function_parts))]
     fn function(&mut self, room: u32) -> Result<Function, Stop>
-        ensures { IsRead function_view result self.new.rest.now
-            (read_function room self.old.rest.now) }
+        ensures { IsRead function_view result self.new.rest
+            (read_function room self.old.rest) }
     {
         let head = self.function_head(room)?;
-        self.function_from(room, head)
+        let contract = self.contract(room)?;
+        let body = self.whole_block(room)?;
+        Ok(function_of(head, contract, body))
     }
 
     fn declaration(&mut self, room: u32) -> Result<Declaration, Stop>
-        ensures { IsRead declaration_view result self.new.rest.now
-            (read_declaration room self.old.rest.now) }
+        ensures { IsRead declaration_view result self.new.rest
+            (read_declaration room self.old.rest) }
     {
         match self.ahead() {
             Class::Region => Ok(Declaration::Region(self.region(room)?)),
@@ -156,9 +150,9 @@ impl<'a> Cursor<'a> {
     }
 
     /// What stands at the top of a text, up to its end.
-    pub(crate) fn declarations(&mut self, room: u32) -> Result<Vec<Declaration>, Stop>
-        ensures { IsRead (λ v. map declaration_view v.items) result self.new.rest.now
-            (read_until End (read_declaration room) self.old.rest.now) }
+    fn declarations(&mut self, room: u32) -> Result<Vec<Declaration>, Stop>
+        ensures { IsRead (λ v. map declaration_view v.items) result self.new.rest
+            (read_until End (read_declaration room) self.old.rest) }
     {
         let mut declarations = Vec::new(self.alloc);
         while !self.is_ahead(Class::End) {
@@ -166,5 +160,42 @@ impl<'a> Cursor<'a> {
             declarations.push(declaration)?;
         }
         Ok(declarations)
+    }
+
+    fn header(&mut self) -> Result<Header, Stop>
+        ensures { IsRead (λ h. h) result self.new.rest (read_header self.old.rest) }
+    {
+        let key = self.expect(Class::Caper)?;
+        let version = self.expect(Class::Two)?;
+        let semicolon = self.expect(Class::Semicolon)?;
+        Ok(Header {
+            key,
+            version,
+            semicolon,
+        })
+    }
+
+    fn optional_header(&mut self) -> Result<Option<Header>, Stop>
+        ensures { IsRead (λ h. h) result self.new.rest
+            (read_optional (are_same Caper) read_header self.old.rest) }
+    {
+        if self.is_ahead(Class::Caper) {
+            Ok(Some(self.header()?))
+        } else {
+            Ok(None)
+        }
+    }
+
+    /// A whole text.
+    pub(crate) fn parts(&mut self, room: u32) -> Result<Tree, Stop>
+        ensures { IsRead (λ t. (t.header, map declaration_view t.declarations.items)) result
+            self.new.rest (read_parts room self.old.rest) }
+    {
+        let header = self.optional_header()?;
+        let declarations = self.declarations(room)?;
+        Ok(Tree {
+            header,
+            declarations,
+        })
     }
 }

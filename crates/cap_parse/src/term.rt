@@ -14,6 +14,8 @@ ghost use Rattle.cap_parse_laws.specs.Classes.{are_same};
 ghost use Rattle.cap_parse_laws.specs.Readers.{ahead, next_place, read_more, read_optional};
 ghost use Rattle.cap_parse_laws.specs.Readers.{read_while, read_behind};
 ghost use Rattle.cap_parse_laws.specs.declared.class.Class.TheVariants.{Star, Minus};
+ghost use Rattle.cap_parse.specs.Parts.{term_in_brackets_view, read_term_in_brackets};
+ghost use Rattle.cap_parse.specs.Parts.{slot_in_brackets_view, read_slot_in_brackets};
 ghost use Rattle.cap_parse.specs.Reads.{IsRead};
 
 use crate::cursor::{Cursor, Stop};
@@ -23,11 +25,27 @@ use cap_parse_tree::{
 };
 use cap_syntax::Place;
 
+/// A term in square brackets.
+#[derive(Drop)]
+pub(crate) struct TermInBrackets {
+    pub(crate) open: Place,
+    pub(crate) term: Term,
+    pub(crate) close: Place,
+}
+
+/// A slot in square brackets.
+#[derive(Drop)]
+pub(crate) struct SlotInBrackets {
+    pub(crate) open: Place,
+    pub(crate) slot: Slot,
+    pub(crate) close: Place,
+}
+
 impl<'a> Cursor<'a> {
     #[cycle(terms)]
     fn factor(&mut self, room: u32) -> Result<Factor, Stop>
-        ensures { IsRead factor_view result self.new.rest.now
-            (read_factor (bracketed_at room) self.old.rest.now) }
+        ensures { IsRead factor_view result self.new.rest
+            (read_factor (bracketed_at room) self.old.rest) }
     {
         match self.ahead() {
             Class::Number => Ok(Factor::Number(self.next_literal()?)),
@@ -39,7 +57,7 @@ impl<'a> Cursor<'a> {
 
     #[cycle(terms)]
     fn bracketed(&mut self, room: u32) -> Result<Factor, Stop>
-        ensures { IsRead factor_view result self.new.rest.now (bracketed_at room self.old.rest.now) }
+        ensures { IsRead factor_view result self.new.rest (bracketed_at room self.old.rest) }
     {
         if room > 0 {
             return self.in_parentheses(room - 1);
@@ -53,8 +71,8 @@ impl<'a> Cursor<'a> {
 
     #[cycle(terms)]
     fn in_parentheses(&mut self, room: u32) -> Result<Factor, Stop>
-        ensures { IsRead factor_view result self.new.rest.now
-            (read_bracketed (read_term room) self.old.rest.now) }
+        ensures { IsRead factor_view result self.new.rest
+            (read_bracketed (read_term room) self.old.rest) }
     {
         let open = self.expect(Class::Open)?;
         let term = self.term(room)?;
@@ -64,8 +82,8 @@ impl<'a> Cursor<'a> {
 
     #[cycle(terms)]
     fn times(&mut self, room: u32) -> Result<Vec<Times>, Stop>
-        ensures { IsRead (λ v. map times_view v.items) result self.new.rest.now
-            (read_more Star (read_factor (bracketed_at room)) self.old.rest.now) }
+        ensures { IsRead (λ v. map times_view v.items) result self.new.rest
+            (read_more Star (read_factor (bracketed_at room)) self.old.rest) }
     {
         let mut times = Vec::new(self.alloc);
         while self.is_ahead(Class::Star) {
@@ -78,8 +96,8 @@ impl<'a> Cursor<'a> {
 
     #[cycle(terms)]
     fn product_from(&mut self, room: u32, first: Factor) -> Result<Product, Stop>
-        ensures { IsRead product_view result self.new.rest.now
-            (read_product_from (bracketed_at room) (factor_view first) self.old.rest.now) }
+        ensures { IsRead product_view result self.new.rest
+            (read_product_from (bracketed_at room) (factor_view first) self.old.rest) }
     {
         let more = self.times(room)?;
         Ok(Product { first, more })
@@ -87,8 +105,8 @@ impl<'a> Cursor<'a> {
 
     #[cycle(terms)]
     fn addend(&mut self, room: u32) -> Result<Addend, Stop>
-        ensures { IsRead addend_view result self.new.rest.now
-            (read_addend (bracketed_at room) self.old.rest.now) }
+        ensures { IsRead addend_view result self.new.rest
+            (read_addend (bracketed_at room) self.old.rest) }
     {
         let (sign, place) = self.sign()?;
         let factor = self.factor(room)?;
@@ -102,8 +120,8 @@ impl<'a> Cursor<'a> {
 
     #[cycle(terms)]
     fn addends(&mut self, room: u32) -> Result<Vec<Addend>, Stop>
-        ensures { IsRead (λ v. map addend_view v.items) result self.new.rest.now
-            (read_while is_sign (read_addend (bracketed_at room)) self.old.rest.now) }
+        ensures { IsRead (λ v. map addend_view v.items) result self.new.rest
+            (read_while is_sign (read_addend (bracketed_at room)) self.old.rest) }
     {
         let mut addends = Vec::new(self.alloc);
         while self.is_sign_ahead() {
@@ -121,8 +139,8 @@ impl<'a> Cursor<'a> {
         minus: Option<Place>,
         first: Factor,
     ) -> Result<Term, Stop>
-        ensures { IsRead term_view result self.new.rest.now
-            (read_term_from (bracketed_at room) minus (factor_view first) self.old.rest.now) }
+        ensures { IsRead term_view result self.new.rest
+            (read_term_from (bracketed_at room) minus (factor_view first) self.old.rest) }
     {
         let first = self.product_from(room, first)?;
         let more = self.addends(room)?;
@@ -131,7 +149,7 @@ impl<'a> Cursor<'a> {
 
     #[cycle(terms)]
     pub(crate) fn term(&mut self, room: u32) -> Result<Term, Stop>
-        ensures { IsRead term_view result self.new.rest.now (read_term room self.old.rest.now) }
+        ensures { IsRead term_view result self.new.rest (read_term room self.old.rest) }
     {
         let minus = self.minus()?;
         let first = self.factor(room)?;
@@ -140,15 +158,15 @@ impl<'a> Cursor<'a> {
 
     /// The term that begins with this name.
     pub(crate) fn term_named(&mut self, room: u32, name: Word) -> Result<Term, Stop>
-        ensures { IsRead term_view result self.new.rest.now
-            (read_term_from (bracketed_at room) None (named name) self.old.rest.now) }
+        ensures { IsRead term_view result self.new.rest
+            (read_term_from (bracketed_at room) None (named name) self.old.rest) }
     {
         self.term_from(room, None, Factor::Name(name))
     }
 
     fn minus(&mut self) -> Result<Option<Place>, Stop>
-        ensures { IsRead (λ p. p) result self.new.rest.now
-            (read_optional (are_same Minus) next_place self.old.rest.now) }
+        ensures { IsRead (λ p. p) result self.new.rest
+            (read_optional (are_same Minus) next_place self.old.rest) }
     {
         if self.is_ahead(Class::Minus) {
             Ok(Some(self.next_place()?))
@@ -158,13 +176,13 @@ impl<'a> Cursor<'a> {
     }
 
     fn is_sign_ahead(&self) -> bool
-        ensures { result ≡ is_sign (ahead self.now.rest.now) }
+        ensures { result ≡ is_sign (ahead self.now.rest) }
     {
         matches!(self.ahead(), Class::Plus | Class::Minus)
     }
 
     fn sign(&mut self) -> Result<(Sign, Place), Stop>
-        ensures { IsRead (λ s. s) result self.new.rest.now (read_sign self.old.rest.now) }
+        ensures { IsRead (λ s. s) result self.new.rest (read_sign self.old.rest) }
     {
         match self.ahead() {
             Class::Plus => Ok((Sign::Plus, self.next_place()?)),
@@ -174,7 +192,7 @@ impl<'a> Cursor<'a> {
     }
 
     fn relation(&mut self) -> Result<(Relation, Place), Stop>
-        ensures { IsRead (λ r. r) result self.new.rest.now (read_relation self.old.rest.now) }
+        ensures { IsRead (λ r. r) result self.new.rest (read_relation self.old.rest) }
     {
         match self.ahead() {
             Class::Equal => Ok((Relation::Equal, self.next_place()?)),
@@ -189,8 +207,8 @@ impl<'a> Cursor<'a> {
 
     /// The comparison that begins with this term.
     pub(crate) fn comparison_from(&mut self, room: u32, left: Term) -> Result<Comparison, Stop>
-        ensures { IsRead comparison_view result self.new.rest.now
-            (read_comparison_from room (term_view left) self.old.rest.now) }
+        ensures { IsRead comparison_view result self.new.rest
+            (read_comparison_from room (term_view left) self.old.rest) }
     {
         let (relation, place) = self.relation()?;
         let right = self.term(room)?;
@@ -203,19 +221,39 @@ impl<'a> Cursor<'a> {
     }
 
     pub(crate) fn comparison(&mut self, room: u32) -> Result<Comparison, Stop>
-        ensures { IsRead comparison_view result self.new.rest.now
-            (read_comparison room self.old.rest.now) }
+        ensures { IsRead comparison_view result self.new.rest
+            (read_comparison room self.old.rest) }
     {
         let left = self.term(room)?;
         self.comparison_from(room, left)
     }
 
     pub(crate) fn slot(&mut self, room: u32) -> Result<Slot, Stop>
-        ensures { IsRead slot_view result self.new.rest.now (read_slot room self.old.rest.now) }
+        ensures { IsRead slot_view result self.new.rest (read_slot room self.old.rest) }
     {
         match self.ahead() {
             Class::Wildcard => Ok(Slot::Any(self.next_place()?)),
             _ => Ok(Slot::Is(self.term(room)?)),
         }
+    }
+
+    pub(crate) fn term_in_brackets(&mut self, room: u32) -> Result<TermInBrackets, Stop>
+        ensures { IsRead term_in_brackets_view result self.new.rest
+            (read_term_in_brackets room self.old.rest) }
+    {
+        let (inner, open) = self.opening(room, Class::OpenBracket)?;
+        let term = self.term(inner)?;
+        let close = self.expect(Class::CloseBracket)?;
+        Ok(TermInBrackets { open, term, close })
+    }
+
+    pub(crate) fn slot_in_brackets(&mut self, room: u32) -> Result<SlotInBrackets, Stop>
+        ensures { IsRead slot_in_brackets_view result self.new.rest
+            (read_slot_in_brackets room self.old.rest) }
+    {
+        let (inner, open) = self.opening(room, Class::OpenBracket)?;
+        let slot = self.slot(inner)?;
+        let close = self.expect(Class::CloseBracket)?;
+        Ok(SlotInBrackets { open, slot, close })
     }
 }

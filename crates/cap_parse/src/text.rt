@@ -2,11 +2,12 @@
 ghost use Rattle.std.specs.Prelude.{◌≡◌, List, [], ◌∷◌, ◌++◌};
 ghost use Rattle.cap_syntax.specs.declared.token.Token.{Token};
 ghost use Rattle.cap_syntax.specs.Layout.{EndsOnce};
-ghost use Rattle.cap_parse.specs.Parsing.{first_place, IsParseOf, IsOnlyParseOf};
+ghost use Rattle.cap_parse.specs.Parsing.{IsParseOf, IsOnlyParseOf};
 ghost use Rattle.cap_parse.specs.Reading.{IsReadingOf};
 ghost use Rattle.cap_parse.specs.declared.text.ParseError.TheVariants.{OutOfMemory};
 
 use crate::cursor::{Cursor, Stop};
+use crate::seen::Seen;
 use cap_parse_laws::{texts_are_read_as_spelled, texts_go_wrong_at_one_token};
 use cap_parse_tree::Tree;
 use cap_syntax::{Place, Token};
@@ -31,16 +32,6 @@ pub enum ParseError {
 /// How many brackets may be open at once.
 const MAX_NESTING: u32 = 64;
 
-/// The place of the first of these tokens, or where there is none that of the end.
-fn first_place(tokens: &[Token], end: Place) -> Place
-    ensures { result ≡ first_place tokens.now end }
-{
-    match tokens {
-        [token, ..] => token.place,
-        [] => end,
-    }
-}
-
 /// The tree of these tokens, behind which the text ends at this place.
 #[tactic(auto, using(crate::proofs::Exactly::nesting_is))]
 fn read(alloc: Global, tokens: &[Token], end: Place) -> Result<Tree, ParseError>
@@ -48,12 +39,12 @@ fn read(alloc: Global, tokens: &[Token], end: Place) -> Result<Tree, ParseError>
 {
     let mut cursor = Cursor {
         alloc,
-        rest: tokens,
+        rest: Seen::new(tokens),
     };
-    match cursor.declarations(MAX_NESTING) {
-        Ok(declarations) => Ok(Tree { declarations }),
-        Err(Stop::Unexpected) => Err(ParseError::Unexpected(first_place(cursor.rest, end))),
-        Err(Stop::TooDeep) => Err(ParseError::TooDeep(first_place(cursor.rest, end))),
+    match cursor.parts(MAX_NESTING) {
+        Ok(tree) => Ok(tree),
+        Err(Stop::Unexpected) => Err(ParseError::Unexpected(cursor.rest.place_or(end))),
+        Err(Stop::TooDeep) => Err(ParseError::TooDeep(cursor.rest.place_or(end))),
         Err(Stop::OutOfMemory) => Err(ParseError::OutOfMemory),
     }
 }
@@ -61,8 +52,8 @@ fn read(alloc: Global, tokens: &[Token], end: Place) -> Result<Tree, ParseError>
 /// The tree that the tokens of a text spell, in one pass and with one token ahead. The list ends with
 /// the text's end, which is no part of the tree.
 ///
-/// - `Unexpected`: the first token after which no text of the grammar has the tokens up to it; at the
-///   end of the text, the place behind its last byte.
+/// - `Unexpected`: the first token such that no text of either version of the language has the tokens
+///   up to it; at the end of the text, the place behind its last byte.
 /// - `TooDeep`: a bracket `(`, `[` or `{` that opens while 64 are open, where some text goes on so.
 ///
 /// The one with the earliest place counts, and at one place `Unexpected`. `OutOfMemory` says that

@@ -26,7 +26,7 @@ pub data Rule : Type 0 where
   a_statement named_statement may_else may_invariant returned statements : Rule
   a_declared more_declared more_joints : Rule
   may_when more_comparisons : Ending → Rule
-  cases actions names more_names may_requires may_ensures a_declaration declarations : Rule
+  cases actions names more_names may_requires may_ensures a_declaration declarations a_text : Rule
 
 pub data Symbol : Type 0 where
   fixed : Class → Symbol
@@ -101,7 +101,7 @@ abbrev pub counted_guard : Stack
 counted_guard = fixed c.Name ∷ fixed c.OpenBracket ∷ rule a_slot ∷ fixed c.CloseBracket ∷ []
 
 abbrev pub guard_steps : Steps
-guard_steps = (c.Name, rule may_amount ∷ []) ∷ (c.Source, counted_guard) ∷ (c.Tokens, counted_guard) ∷ []
+guard_steps = (c.Name, rule may_amount ∷ []) ∷ (c.Source, counted_guard) ∷ (c.Tokens, counted_guard) ∷ (c.AtIndex, counted_guard) ∷ (c.FromIndex, counted_guard) ∷ []
 
 abbrev pub item_rest_steps : Steps
 item_rest_steps =
@@ -114,7 +114,8 @@ statement_steps =
     ∷ (c.Fork, fixed c.Name ∷ fixed c.Open ∷ rule terms ∷ fixed c.Semicolon ∷ [])
     ∷ (c.If, fixed c.Open ∷ a_comparison ++ fixed c.Close ∷ a_block ++ rule may_else ∷ [])
     ∷ (c.While, fixed c.Open ∷ a_comparison ++ fixed c.Close ∷ rule may_invariant ∷ a_block)
-    ∷ (c.Assert, a_comparison ++ fixed c.Semicolon ∷ []) ∷ (c.Return, rule returned ∷ []) ∷ []
+    ∷ (c.Assert, a_comparison ++ fixed c.Semicolon ∷ []) ∷ (c.Return, rule returned ∷ [])
+    ∷ (c.Dispose, fixed c.Open ∷ a_term ++ fixed c.Close ∷ fixed c.Semicolon ∷ []) ∷ []
 
 abbrev pub the_rest_of_a_region : Stack
 the_rest_of_a_region =
@@ -155,6 +156,7 @@ steps a_value =
     (c.OpenBracket, a_term ++ fixed c.CloseBracket ∷ [])
     ∷ (c.Alloc, fixed c.Open ∷ fixed c.Number ∷ fixed c.Close ∷ [])
     ∷ (c.Cas, fixed c.Open ∷ a_term ++ fixed c.Comma ∷ a_term ++ fixed c.Comma ∷ a_term ++ fixed c.Close ∷ [])
+    ∷ (c.Faa, fixed c.Open ∷ a_term ++ fixed c.Comma ∷ a_term ++ fixed c.Close ∷ [])
     ∷ (c.Name, rule named_value ∷ []) ∷ term_steps
 steps named_value = (c.Open, rule terms ∷ []) ∷ rest_steps
 steps terms = (c.Close, []) ∷ behind (rule more_terms ∷ []) term_steps
@@ -168,6 +170,7 @@ steps returned = (c.Semicolon, []) ∷ behind (fixed c.Semicolon ∷ []) term_st
 steps statements = (c.CloseBrace, []) ∷ behind (rule statements ∷ []) statement_steps
 steps a_declared =
     (c.Name, []) ∷ (c.Percent, fixed c.Name ∷ []) ∷ (c.Bar, fixed c.Name ∷ fixed c.Bar ∷ [])
+    ∷ (c.Index, fixed c.Name ∷ fixed c.CloseBracket ∷ [])
     ∷ (c.Open, an_algebra ++ fixed c.Close ∷ []) ∷ []
 steps more_declared = (c.Star, a_joint) ∷ []
 steps more_joints = (c.Plus, an_algebra) ∷ []
@@ -183,6 +186,9 @@ steps may_requires = (c.Requires, an_assertion ++ fixed c.Semicolon ∷ []) ∷ 
 steps may_ensures = (c.Ensures, an_assertion ++ fixed c.Semicolon ∷ []) ∷ []
 steps a_declaration = declaration_steps
 steps declarations = behind (rule declarations ∷ []) declaration_steps
+steps a_text =
+    (c.Caper, fixed c.Two ∷ fixed c.Semicolon ∷ rule declarations ∷ [])
+    ∷ behind (rule declarations ∷ []) declaration_steps
 
 abbrev pub may_be_empty : Rule → Bool
 may_be_empty may_minus = true
@@ -200,6 +206,7 @@ may_be_empty more_joints = true
 may_be_empty may_requires = true
 may_be_empty may_ensures = true
 may_be_empty declarations = true
+may_be_empty a_text = true
 may_be_empty r = false
 
 -- what the stack is behind a token of the class; none may come; or nothing is left at the end
@@ -245,4 +252,7 @@ walk s [] = ended (next s c.End)
 walk s (t ∷ ts) = goes (next s (class t)) (λ s2. walk s2 ts) (wrong (t ∷ ts))
 
 abbrev pub start : Stack
-start = rule declarations ∷ []
+start = rule a_text ∷ []
+
+abbrev pub the_declarations : Stack
+the_declarations = rule declarations ∷ []

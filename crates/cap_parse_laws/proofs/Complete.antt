@@ -7,7 +7,7 @@ use Rattle.cap_parse_tree.specs.declared.term.Sign.{Sign}
 use Rattle.cap_parse_tree.specs.declared.term.Sign.TheVariants.{Plus, Minus}
 use Rattle.cap_parse_tree.specs.declared.term.Relation.{Relation}
 use Rattle.cap_parse_tree.specs.declared.term.Relation.TheVariants.{Equal, Unequal, Less, AtMost, Greater, AtLeast}
-use Rattle.cap_parse_tree.specs.declared.assertion.Counted.TheVariants.{Source, Tokens}
+use Rattle.cap_parse_tree.specs.declared.assertion.Counted.TheVariants.{Source, Tokens, At, From}
 use Rattle.cap_parse_tree.specs.Tree.{any, is, alone, amount, count, bare, in_parentheses, FactorTree, ProductTree, FactorTrees, TermTree, ProductTrees, SlotTree, GuardTree, HeldTree, ItemTree, ItemTrees, AssertionTree, SideTree, StatementTree, StatementTrees, DeclaredTrees, JointTrees, ComparisonTree, ClauseTree, GuardsTree, literal, whole_share, named, bracketed, product, no_factor, times, term, no_product, signed, holds, fails, fact, guards, cell, compare, choose, no_item, and_item, assertion, side, no_statement, then_statement, no_declared, and_declared, no_joint, or_joint}
 use Rattle.cap_parse_tree.specs.Tokens.{name, keyword, symbol}
 use Rattle.cap_parse_tree.specs.Spelling.{spell_all, spell_more, sign_text, spell_factor, spell_product, spell_factors, spell_term, spell_products, relation_text, spell_comparison, spell_slot, spell_guard, spell_guards, spell_held, spell_item, spell_items, spell_assertion, spell_side, spell_clause}
@@ -252,6 +252,10 @@ guard-gives d (count Source k w p x q) ts e =
     opens-then _ c.OpenBracket d (symbol (codes "[") p) (spell_slot x (symbol (codes "]") q ∷ ts)) refl (λ n. yields _ (slot-gives n x (symbol (codes "]") q ∷ ts) refl) gives)
 guard-gives d (count Tokens k w p x q) ts e =
     opens-then _ c.OpenBracket d (symbol (codes "[") p) (spell_slot x (symbol (codes "]") q ∷ ts)) refl (λ n. yields _ (slot-gives n x (symbol (codes "]") q ∷ ts) refl) gives)
+guard-gives d (count At k w p x q) ts e =
+    opens-then _ c.OpenBracket d (symbol (codes "[") p) (spell_slot x (symbol (codes "]") q ∷ ts)) refl (λ n. yields _ (slot-gives n x (symbol (codes "]") q ∷ ts) refl) gives)
+guard-gives d (count From k w p x q) ts e =
+    opens-then _ c.OpenBracket d (symbol (codes "[") p) (spell_slot x (symbol (codes "]") q ∷ ts)) refl (λ n. yields _ (slot-gives n x (symbol (codes "]") q ∷ ts) refl) gives)
 
 pub guards-gives : (d : ℕ) (g : GuardsTree) (ts : List Token) → are_same c.Star (ahead ts) ≡ false
     → not (are_same c.OpenBracket (ahead ts)) ≡ true
@@ -263,6 +267,8 @@ abbrev pub begins_guard : Class → Bool
 begins_guard c.Name = true
 begins_guard c.Source = true
 begins_guard c.Tokens = true
+begins_guard c.AtIndex = true
+begins_guard c.FromIndex = true
 begins_guard k = false
 
 pub guard-begins : (g : GuardTree) (ts : List Token)
@@ -271,6 +277,8 @@ guard-begins (alone w) ts = refl
 guard-begins (amount w p x q) ts = refl
 guard-begins (count Source k w p x q) ts = refl
 guard-begins (count Tokens k w p x q) ts = refl
+guard-begins (count At k w p x q) ts = refl
+guard-begins (count From k w p x q) ts = refl
 
 held-of-guards : (d : ℕ) (k : Class) (us : List Token) → begins_guard k ≡ true
     → held_by d k us ≡ (read_guards d us >>= λ g. Ok (bare g.0, g.1))

@@ -3,15 +3,16 @@ use Rattle.std.proofs.Common.{◌≡◌, ℕ, zero, suc, not, Bool, true, false,
 use Rattle.cap_syntax.specs.declared.place.Place.{Place}
 use Rattle.cap_syntax.specs.declared.token.Token.{Token}
 use Rattle.cap_parse_tree.specs.declared.word.Word.{Word}
-use Rattle.cap_parse_tree.specs.Tree.{value, load, alloc, cas, result_of, region, function, TermTree, ValueTree, StatementTree, ElseTree, BlockTree, DeclaredTree, JointTree, AlgebraTree, DeclarationTree, InParentheses, InBraces, ComparisonTree, ClauseTree, WhenTree, CaseTree, ActionTree, RegionTree, FunctionTree, ProgramTree, literal, whole_share, named, bracketed, product, term, assign, store, call, fork, branch, loop, check, give_back, no_else, else_block, block, unique, divisible, counting, grouped, joint, algebra}
-use Rattle.cap_parse_tree.specs.Tokens.{number, keyword, symbol}
-use Rattle.cap_parse_tree.specs.Spelling.{Spells, spell_all, spell_more, spell_several, spell_option, spell_listed, spell_group, spell_name, spell_factors, spell_term, spell_products, spell_comparison, spell_guard, spell_assertion, spell_clause, spell_terms, spell_value, spell_statement, spell_block, spell_declared, spell_declareds, spell_joint, spell_joints, spell_algebra, spell_when, spell_case, spell_action, spell_region, spell_function, spell_declaration, spelling}
+use Rattle.cap_parse_tree.specs.declared.tree.Header.{Header}
+use Rattle.cap_parse_tree.specs.Tree.{value, load, alloc, cas, faa, result_of, region, function, TermTree, ValueTree, StatementTree, ElseTree, BlockTree, DeclaredTree, JointTree, AlgebraTree, DeclarationTree, InParentheses, InBraces, ComparisonTree, ClauseTree, WhenTree, CaseTree, ActionTree, RegionTree, FunctionTree, ProgramTree, literal, whole_share, named, bracketed, product, term, assign, store, call, fork, branch, loop, check, give_back, dispose, no_else, else_block, block, unique, divisible, counting, indexed, grouped, joint, algebra}
+use Rattle.cap_parse_tree.specs.Tokens.{name, number, keyword, symbol}
+use Rattle.cap_parse_tree.specs.Spelling.{Spells, spell_all, spell_more, spell_several, spell_option, spell_listed, spell_group, spell_name, spell_factors, spell_term, spell_products, spell_comparison, spell_guard, spell_assertion, spell_clause, spell_terms, spell_value, spell_statement, spell_block, spell_declared, spell_declareds, spell_joint, spell_joints, spell_algebra, spell_when, spell_case, spell_action, spell_region, spell_function, spell_declaration, spell_header, spelling}
 use Rattle.cap_parse_tree.specs.Views.{statements_of, BothTree, EitherTree, declareds_of, joints_of}
 use Rattle.cap_parse_laws.specs.declared.class.Class.{Class}
 use Rattle.cap_parse_laws.specs.declared.class.Class.TheVariants as c
 use Rattle.cap_parse_laws.specs.Classes.{class, are_same}
 use Rattle.cap_parse_laws.specs.Readers.{Fault, unexpected, too_deep, Outcome, Reader, ◌>>=◌, ahead, read_name, read_until, read_several, read_listed, read_group}
-use Rattle.cap_parse_laws.specs.Grammar.{read_term_from, bracketed_at, read_term, read_comparison, read_clause, read_terms, named_value_by, read_value, read_branch, read_statement, read_block_with, block_at, read_declared, read_joint, grouped_at, read_algebra, read_when, read_optional_when, read_case, read_action, read_region, read_function, read_declaration, read_program}
+use Rattle.cap_parse_laws.specs.Grammar.{read_term_from, bracketed_at, read_term, read_comparison, read_clause, read_terms, named_value_by, read_value, read_branch, read_statement, read_block_with, block_at, read_declared, read_joint, grouped_at, read_algebra, read_when, read_optional_when, read_case, read_action, read_region, read_function, read_declaration, read_header, read_parts, read_program}
 use Rattle.cap_parse_laws.specs.Laws.Taking.{Takes, Keeps, takes-keeps, name-takes, term-takes, comparison-takes, statement-takes, declared-takes, joint-takes, case-takes, action-takes, declaration-takes}
 use Rattle.cap_parse_laws.proofs.MeetsStatements.{statements-spelled}
 use Rattle.cap_parse_laws.proofs.MeetsTexts.{declareds-spelled, joints-spelled}
@@ -89,6 +90,11 @@ value-gives d (cas p q x a y b z r) e ts =
     let rest1 = symbol (codes ",") a ∷ spell_term y rest2 in
     opens-then _ c.Open d (symbol (codes "(") q) (spell_term x rest1) refl (λ n.
     yields _ (term-gives n x rest1 refl) (yields _ (term-gives n y rest2 refl) (yields _ (term-gives n z rest3 refl) gives)))
+value-gives d (faa p q x a y r) e ts =
+    let rest2 = symbol (codes ")") r ∷ symbol (codes ";") e ∷ ts in
+    let rest1 = symbol (codes ",") a ∷ spell_term y rest2 in
+    opens-then _ c.Open d (symbol (codes "(") q) (spell_term x rest1) refl (λ n.
+    yields _ (term-gives n x rest1 refl) (yields _ (term-gives n y rest2 refl) gives))
 value-gives d (result_of w l) e ts = yields _ (terms-gives d l (symbol (codes ";") e ∷ ts)) gives
 
 abbrev BlockGives : ℕ → Type 0
@@ -147,6 +153,9 @@ statement-gives d h (check p x e) ts f = yields _ (comparison-gives d x (symbol 
 statement-gives d h (give_back p t e) ts f =
     let rest = symbol (codes ";") e ∷ ts in
     yields _ (optional-gives spell_term (λ k. not (are_same c.Semicolon k)) (read_term d) t rest refl (λ y. no-semicolon (ahead (spell_term y rest)) (term-begins y rest)) (λ y. term-gives d y rest refl)) gives
+statement-gives d h (dispose p q t r e) ts f =
+    let rest = symbol (codes ")") r ∷ symbol (codes ";") e ∷ ts in
+    opens-then _ c.Open d (symbol (codes "(") q) (spell_term t rest) refl (λ n. yields _ (term-gives n t rest refl) gives)
 
 statement-begins : (s : StatementTree) (ts : List Token)
     → Begins (λ k. not (are_same c.CloseBrace k)) no_else_ahead (spell_statement s ts)
@@ -158,6 +167,7 @@ statement-begins (branch p q x r b o) ts = (refl, refl, refl)
 statement-begins (loop p q x r i b) ts = (refl, refl, refl)
 statement-begins (check p x e) ts = (refl, refl, refl)
 statement-begins (give_back p t e) ts = (refl, refl, refl)
+statement-begins (dispose p q t r e) ts = (refl, refl, refl)
 
 block-gives : (d : ℕ) → BlockGives d
 block-gives zero (block p ss q) ts = not-here
@@ -176,22 +186,23 @@ abbrev GroupedGives : ℕ → Type 0
 GroupedGives d = (p : Place) (a : AlgebraTree) (q : Place) (ts : List Token) → Gives (grouped p a q) ts (grouped_at d (symbol (codes "(") p ∷ spell_algebra a (symbol (codes ")") q ∷ ts)))
 
 declared-gives : (d : ℕ) → GroupedGives d → (x : DeclaredTree) (ts : List Token)
-    → Gives x ts (read_declared (grouped_at d) (spell_declared x ts))
+    → Gives x ts (read_declared d (grouped_at d) (spell_declared x ts))
 declared-gives d h (unique w) ts = gives
 declared-gives d h (divisible p w) ts = gives
 declared-gives d h (counting p w q) ts = gives
+declared-gives d h (indexed p w q) ts = opens-then _ c.Index d (keyword (codes "[") p) (name w ∷ symbol (codes "]") q ∷ ts) refl (λ n. gives)
 declared-gives d h (grouped p a q) ts = h p a q ts
 
 joint-gives : (d : ℕ) → GroupedGives d → (j : JointTree) (ts : List Token)
-    → no_star (ahead ts) ≡ true → Gives j ts (read_joint (grouped_at d) (spell_joint j ts))
+    → no_star (ahead ts) ≡ true → Gives j ts (read_joint d (grouped_at d) (spell_joint j ts))
 joint-gives d h (joint x more) ts e =
-    subst (λ m. Gives (joint x m) ts (read_joint (grouped_at d) (spell_declared x (spell_declareds m ts)))) (declareds-again more) (by (list_of_declareds more))
+    subst (λ m. Gives (joint x m) ts (read_joint d (grouped_at d) (spell_declared x (spell_declareds m ts)))) (declareds-again more) (by (list_of_declareds more))
   where
-    by : (l : List BothTree) → Gives (joint x (declareds_of l)) ts (read_joint (grouped_at d) (spell_declared x (spell_declareds (declareds_of l) ts)))
+    by : (l : List BothTree) → Gives (joint x (declareds_of l)) ts (read_joint d (grouped_at d) (spell_declared x (spell_declareds (declareds_of l) ts)))
     by l =
-        subst (λ us. Gives (joint x (declareds_of l)) ts (read_joint (grouped_at d) (spell_declared x us))) (declareds-spelled l ts)
+        subst (λ us. Gives (joint x (declareds_of l)) ts (read_joint d (grouped_at d) (spell_declared x us))) (declareds-spelled l ts)
         (yields _ (declared-gives d h x (spell_more (codes "*") spell_declared l ts))
-        (yields _ (more-gives spell_declared (λ k. true) c.Star (codes "*") (read_declared (grouped_at d)) (λ p. refl) refl refl (takes-keeps (read_declared (grouped_at d)) (declared-takes d)) (λ a us f. declared-gives d h a us) l ts (no-star (ahead ts) e) refl) gives))
+        (yields _ (more-gives spell_declared (λ k. true) c.Star (codes "*") (read_declared d (grouped_at d)) (λ p. refl) refl refl (takes-keeps (read_declared d (grouped_at d)) (declared-takes d)) (λ a us f. declared-gives d h a us) l ts (no-star (ahead ts) e) refl) gives))
 
 plus-no-star : (more : List EitherTree) (ts : List Token) → no_star (ahead ts) ≡ true
     → no_star (ahead (spell_more (codes "+") spell_joint more ts)) ≡ true
@@ -208,7 +219,7 @@ algebra-gives-with d h (algebra j more) ts e f =
     by l =
         subst (λ us. Gives (algebra j (joints_of l)) ts (read_algebra d (spell_joint j us))) (joints-spelled l ts)
         (yields _ (joint-gives d h j (spell_more (codes "+") spell_joint l ts) (plus-no-star l ts f))
-        (yields _ (more-gives spell_joint no_star c.Plus (codes "+") (read_joint (grouped_at d)) (λ p. refl) refl refl (takes-keeps (read_joint (grouped_at d)) (joint-takes d)) (joint-gives d h) l ts e f) gives))
+        (yields _ (more-gives spell_joint no_star c.Plus (codes "+") (read_joint d (grouped_at d)) (λ p. refl) refl refl (takes-keeps (read_joint d (grouped_at d)) (joint-takes d)) (joint-gives d h) l ts e f) gives))
 
 grouped-gives : (d : ℕ) → GroupedGives d
 grouped-gives zero p a q ts = not-here
@@ -327,12 +338,20 @@ IsReadUnlessDeep t (Ok u) = u ≡ t
 IsReadUnlessDeep t (Err (unexpected rest)) = ⊥
 IsReadUnlessDeep t (Err (too_deep rest)) = Unit {0}
 
+no-header : (ds : List DeclarationTree) → are_same c.Caper (ahead (spell_all spell_declaration ds [])) ≡ false
+no-header [] = refl
+no-header (region r ∷ ds) = refl
+no-header (function f ∷ ds) = refl
+
+parts-give : (d : ℕ) (t : ProgramTree) → Gives (t.header, t.declarations) [] (read_parts d (spelling t))
+parts-give d t =
+    yields _ (optional-gives spell_header (are_same c.Caper) read_header t.header (spell_all spell_declaration t.declarations []) (no-header t.declarations) (λ y. refl) (λ y. gives))
+    (yields _ (while-gives spell_declaration (λ j. not (are_same c.End j)) (λ j. true) (read_declaration d) (declaration-takes d) declaration-begins (λ a us f. declaration-gives d a us) t.declarations [] refl refl) gives)
+
 pub program-gives : (d : ℕ) (t : ProgramTree) → IsReadUnlessDeep t (read_program d (spelling t))
-program-gives d t =
-    by (read_until c.End (read_declaration d) (spelling t))
-    (while-gives spell_declaration (λ j. not (are_same c.End j)) (λ j. true) (read_declaration d) (declaration-takes d) declaration-begins (λ a us f. declaration-gives d a us) t.declarations [] refl refl)
+program-gives d t = by (read_parts d (spelling t)) (parts-give d t)
   where
-    by : (r : Outcome (List DeclarationTree)) → Gives t.declarations [] r → IsReadUnlessDeep t (r >>= λ ds. Ok (record { declarations = ds.0 }))
-    by (Ok x) h = ap (λ (y : List DeclarationTree × List Token). record { declarations = y.0 }) h.held
+    by : (r : Outcome (Option Header × List DeclarationTree)) → Gives (t.header, t.declarations) [] r → IsReadUnlessDeep t (r >>= λ x. Ok (record { header = x.0.0; declarations = x.0.1 }))
+    by (Ok x) h = ap (λ (y : (Option Header × List DeclarationTree) × List Token). record { header = y.0.0; declarations = y.0.1 }) h.held
     by (Err (unexpected rest)) h = h.held
     by (Err (too_deep rest)) h = tt

@@ -1,5 +1,5 @@
 -- Every stack on which the automaton comes can be completed.
-use Rattle.std.proofs.Common.{◌≡◌, not, ◌&&◌, cond, Bool, true, false, List, [], ◌∷◌, ◌++◌, map, refl, sym, ap, ◌∙◌}
+use Rattle.std.proofs.Common.{◌≡◌, ℕ, not, ◌&&◌, cond, Bool, true, false, List, [], ◌∷◌, ◌++◌, map, refl, sym, ap, ◌∙◌, codes}
 use Rattle.cap_syntax.specs.declared.token.Token.{Token}
 use Rattle.cap_syntax.specs.declared.token.TokenKind.TheVariants as kind
 use Rattle.cap_parse_laws.specs.declared.class.Class.{Class}
@@ -7,14 +7,18 @@ use Rattle.cap_parse_laws.specs.declared.class.Class.TheVariants as c
 use Rattle.cap_parse_laws.specs.Classes.{class, are_same}
 use Rattle.cap_parse_laws.specs.Readers.{ahead}
 use Rattle.cap_parse_laws.proofs.Shapes.{same_is_equal, same-self, shaped, is_known}
-use Rattle.cap_parse_laws.proofs.Automaton.{a_colon, a_semicolon, end_class, fixed, rule, Rule, may_minus, a_factor, more_factors, a_sign, more_products, a_relation, a_slot, a_guard, may_amount, more_guards, a_held, an_item, named_item, item_rest, may_choose, more_items, slots, a_value, named_value, terms, more_terms, a_statement, named_statement, may_else, may_invariant, returned, statements, a_declared, more_declared, more_joints, may_when, more_comparisons, cases, actions, names, more_names, may_requires, may_ensures, a_declaration, declarations, Move, on, stop, done, whole, wrong, Stack, Steps, steps, may_be_empty, found, next, ended, goes, walk}
+use Rattle.cap_parse_laws.proofs.Automaton.{a_colon, a_semicolon, end_class, fixed, rule, Rule, may_minus, a_factor, more_factors, a_sign, more_products, a_relation, a_slot, a_guard, may_amount, more_guards, a_held, an_item, named_item, item_rest, may_choose, more_items, slots, a_value, named_value, terms, more_terms, a_statement, named_statement, may_else, may_invariant, returned, statements, a_declared, more_declared, more_joints, may_when, more_comparisons, cases, actions, names, more_names, may_requires, may_ensures, a_declaration, declarations, a_text, Move, on, stop, done, whole, wrong, Stack, Steps, steps, may_be_empty, found, next, ended, goes, walk}
 
-pub blank : Token
-blank = record { kind = kind.Name; text = []; value = 0; place = record { line = 1; column = 1 } }
+abbrev pub sample : Class → List ℕ
+sample c.Number = codes "0"
+sample k = codes "x"
 
--- some token of this class
+abbrev pub blank : List ℕ → Token
+blank text = record { kind = kind.Name; text = text; value = 0; place = record { line = 1; column = 1 } }
+
+-- some token of this class, as a text has it
 abbrev pub a_token : Class → Token
-a_token k = shaped k blank
+a_token k = shaped k (blank (sample k))
 
 token-class : (k : Class) → is_known k ≡ true → class (a_token k) ≡ k
 token-class c.Other e = cc
@@ -63,6 +67,7 @@ leads c.Invariant = true
 leads c.Requires = true
 leads c.Ensures = true
 leads c.Open = true
+leads c.Caper = true
 leads c.Region = true
 leads c.Function = true
 leads k = false
@@ -91,12 +96,12 @@ is_completable b (rule r ∷ s) = not (is_led b s) && is_completable b s
 abbrev pub IsCompletable : Stack → Type 0
 IsCompletable s = is_completable false s ≡ true
 
-both : (a b : Bool) → (a && b) ≡ true → (a ≡ true) × (b ≡ true)
+pub both : (a b : Bool) → (a && b) ≡ true → (a ≡ true) × (b ≡ true)
 both true true e = (refl, refl)
 both true false e = cc
 both false b e = cc
 
-and-true : (a b : Bool) → a ≡ true → b ≡ true → (a && b) ≡ true
+pub and-true : (a b : Bool) → a ≡ true → b ≡ true → (a && b) ≡ true
 and-true true b e f = f
 and-true false b e f = cc
 
@@ -109,7 +114,7 @@ led-append b [] s = refl
 led-append b (fixed k ∷ w) s = refl
 led-append b (rule r ∷ w) s = ap (lead_of (word r)) (led-append b w s)
 
-and-assoc : (x y z : Bool) → (x && (y && z)) ≡ ((x && y) && z)
+pub and-assoc : (x y z : Bool) → (x && (y && z)) ≡ ((x && y) && z)
 and-assoc true y z = refl
 and-assoc false y z = refl
 
@@ -133,7 +138,7 @@ steps-completable (more_comparisons a_colon) = refl
 steps-completable (more_comparisons a_semicolon) = refl
 steps-completable r = refl
 
-on-same : (s t : Stack) → on s ≡ on t → s ≡ t
+pub on-same : (s t : Stack) → on s ≡ on t → s ≡ t
 on-same s t e = cc
 
 found-completable : (st : Steps) (k : Class) (s : Stack) (m : Move) (s2 : Stack)
@@ -176,7 +181,7 @@ all_lead [] = true
 all_lead (step ∷ more) = leads step.0 && all_lead more
 
 -- a part that may be empty has no word, and begins by leads
-optional-part : (r : Rule) → may_be_empty r ≡ true → (all_lead (steps r) ≡ true) × (word r ≡ [])
+pub optional-part : (r : Rule) → may_be_empty r ≡ true → (all_lead (steps r) ≡ true) × (word r ≡ [])
 optional-part a_factor e = cc
 optional-part a_sign e = cc
 optional-part a_relation e = cc
@@ -239,6 +244,7 @@ word-walked more_joints s ts e = cc
 word-walked may_requires s ts e = cc
 word-walked may_ensures s ts e = cc
 word-walked declarations s ts e = cc
+word-walked a_text s ts e = cc
 word-walked (may_when a_colon) s ts e = refl
 word-walked (may_when a_semicolon) s ts e = refl
 word-walked (more_comparisons a_colon) s ts e = refl

@@ -1,14 +1,14 @@
 -- Reading, spelling, and the places where a text goes wrong.
-use Rattle.std.proofs.Common.{◌≡◌, ℕ, ◌⊎◌, inl, inr, true, List, [], ◌∷◌, ◌++◌, length, Option, Some, None, IsSome, Result, Ok, Err, refl, sym, ap, ◌∙◌, subst, arith, append_assoc, append-nil}
+use Rattle.std.proofs.Common.{◌≡◌, ℕ, true, List, [], ◌∷◌, ◌++◌, length, Option, Some, None, IsSome, Result, Ok, Err, refl, sym, ap, ◌∙◌, subst, arith, append_assoc, append-nil}
 use Rattle.cap_syntax.specs.declared.token.Token.{Token}
 use Rattle.cap_parse_tree.specs.Tree.{ProgramTree}
 use Rattle.cap_parse_tree.specs.Spelling.{spelling}
 use Rattle.cap_parse_tree.specs.Nesting.{max_nesting, opens, room_behind, room_left, Nests}
-use Rattle.cap_parse_tree.specs.Texts.{BeginsText, IsUnexpectedAt, IsTooDeepAt}
 use Rattle.cap_parse_laws.specs.declared.class.Class.TheVariants as c
 use Rattle.cap_parse_laws.specs.Classes.{class}
 use Rattle.cap_parse_laws.specs.Readers.{Fault, unexpected, too_deep}
 use Rattle.cap_parse_laws.specs.Grammar.{read_program}
+use Rattle.cap_parse_laws.proofs.Seen.{BeginsTree, IsSeenUnexpected, IsSeenTooDeep}
 use Rattle.cap_parse_laws.proofs.Automaton.{Stack, Move, on, stop, done, whole, wrong, deep, next, ended, goes, within, run, walk, start}
 use Rattle.cap_parse_laws.proofs.Completion.{IsCompletable, next-completable, completed, completion}
 use Rattle.cap_parse_laws.proofs.Stops.{step-walk, stops-wrong, stops-deep, Comes, comes, run-whole, large}
@@ -83,19 +83,19 @@ spelled-once t u e =
     one-answer (read_program (length (spelling t)) (spelling t)) t u (spelled-is-read-largely t)
     (ap (λ l. read_program (length l) l) e ∙ spelled-is-read-largely u)
 
-text-walks : (t : ProgramTree) → walk start (spelling t) ≡ whole
+pub text-walks : (t : ProgramTree) → walk start (spelling t) ≡ whole
 text-walks t =
     let n = length (spelling t) in
     let a = subst (Agrees (spelling t) (run start n (spelling t))) (spelled-is-read-largely t) (program-agrees n (spelling t)) in
     sym (large start n (spelling t) (omega arith)) ∙ a.1
 
-text-of : (ts : List Token) → walk start ts ≡ whole → (t : ProgramTree) × (spelling t ≡ ts)
+pub text-of : (ts : List Token) → walk start ts ≡ whole → (t : ProgramTree) × (spelling t ≡ ts)
 text-of ts w =
     let r = whole-read (length ts) ts (large start (length ts) ts (omega arith) ∙ w) in
     let a = subst (Agrees ts (run start (length ts) ts)) r.1 (program-agrees (length ts) ts) in
     (r.0, sym a.0)
 
-begins-text : (front more : List Token) → walk start (front ++ more) ≡ whole → BeginsText front
+begins-text : (front more : List Token) → walk start (front ++ more) ≡ whole → BeginsTree front
 begins-text front more w = let x = text-of (front ++ more) w in record { tree = x.0; others = more; spelled = x.1 }
 
 -- what is read is spelled, and nests
@@ -124,17 +124,17 @@ spelled-is-read d t h =
     let r = whole-read d (spelling t) (runs-whole d (spelling t) (text-walks t) h) in
     r.1 ∙ ap Ok (spelled-once r.0 t (sym (read-is-spelled d (spelling t) r.0 r.1).0))
 
-behind-one : (front : List Token) (t : Token) (b : BeginsText (front ++ t ∷ []))
+behind-one : (front : List Token) (t : Token) (b : BeginsTree (front ++ t ∷ []))
     → walk start (front ++ t ∷ b.others) ≡ whole
 behind-one front t b = ap (walk start) (sym (append_assoc front (t ∷ []) b.others) ∙ sym b.spelled) ∙ text-walks b.tree
 
 begins-behind : (front : List Token) (t : Token) (more : List Token)
-    → walk start (front ++ t ∷ more) ≡ whole → BeginsText (front ++ t ∷ [])
+    → walk start (front ++ t ∷ more) ≡ whole → BeginsTree (front ++ t ∷ [])
 begins-behind front t more w =
     let x = text-of (front ++ t ∷ more) w in record { tree = x.0; others = more; spelled = x.1 ∙ sym (append_assoc front (t ∷ []) more) }
 
 pub unexpected-is : (ts rest : List Token) → read_program max_nesting ts ≡ Err (unexpected rest)
-    → IsUnexpectedAt ts rest
+    → IsSeenUnexpected ts rest
 unexpected-is ts rest e =
     let x = stops-wrong start max_nesting ts rest refl (subst (Agrees ts (run start max_nesting ts)) e (program-agrees max_nesting ts)) in record {
       front = x.front;
@@ -146,7 +146,7 @@ unexpected-is ts rest e =
     }
 
 pub too-deep-is : (ts rest : List Token) → read_program max_nesting ts ≡ Err (too_deep rest)
-    → IsTooDeepAt ts rest
+    → IsSeenTooDeep ts rest
 too-deep-is ts rest e =
     let x = stops-deep start max_nesting ts rest refl (subst (Agrees ts (run start max_nesting ts)) e (program-agrees max_nesting ts)) in record {
       front = x.front;
@@ -180,7 +180,7 @@ wrong-here s d t others h never = by (next s (class t)) refl
     by done n = refl
 
 runs-wrong : (front rest : List Token) (d d2 : ℕ) (x : Comes front start d d2)
-    → ((t : Token) (others : List Token) → rest ≡ t ∷ others → BeginsText (front ++ t ∷ []) → ⊥)
+    → ((t : Token) (others : List Token) → rest ≡ t ∷ others → BeginsTree (front ++ t ∷ []) → ⊥)
     → (rest ≡ [] → (tree : ProgramTree) → spelling tree ≡ front → ⊥)
     → run start d (front ++ rest) ≡ wrong rest
 runs-wrong front [] d d2 x never short =
@@ -189,10 +189,10 @@ runs-wrong front [] d d2 x never short =
 runs-wrong front (t ∷ others) d d2 x never short =
     x.runs (t ∷ others) ∙ wrong-here x.to d2 t others x.sound (λ more w. never t others refl (begins-behind front t more (x.walks (t ∷ more) ∙ w)))
 
-begun-walks : (front : List Token) (b : BeginsText front) → walk start (front ++ b.others) ≡ whole
+begun-walks : (front : List Token) (b : BeginsTree front) → walk start (front ++ b.others) ≡ whole
 begun-walks front b = ap (walk start) (sym b.spelled) ∙ text-walks b.tree
 
-pub is-unexpected : (ts rest : List Token) → IsUnexpectedAt ts rest
+pub is-unexpected : (ts rest : List Token) → IsSeenUnexpected ts rest
     → read_program max_nesting ts ≡ Err (unexpected rest)
 is-unexpected ts rest u =
     let r = the-room (room_left max_nesting u.front) u.nested in
@@ -213,7 +213,7 @@ deep-here s t others more o w = by (next s (class t)) refl w
     by stop n f = absurd cc
     by done n f = absurd cc
 
-pub is-too-deep : (ts rest : List Token) → IsTooDeepAt ts rest
+pub is-too-deep : (ts rest : List Token) → IsSeenTooDeep ts rest
     → read_program max_nesting ts ≡ Err (too_deep rest)
 is-too-deep ts rest u =
     let w = behind-one u.front u.bracket u.begun in
@@ -222,17 +222,6 @@ is-too-deep ts rest u =
     (ap (run start max_nesting) (u.whole ∙ ap (λ l. u.front ++ l) u.first) ∙ x.runs (u.bracket ∷ u.others)
     ∙ deep-here x.to u.bracket u.others u.begun.others u.opened (sym (x.walks (u.bracket ∷ u.begun.others)) ∙ w)
     ∙ ap deep (sym u.first))
-
--- each list is a text, or goes wrong at one place for one cause
-pub one-of-three : (ts : List Token)
-    → ((t : ProgramTree) × (ts ≡ spelling t) × Nests t) ⊎ (((rest : List Token) × IsUnexpectedAt ts rest) ⊎ ((rest : List Token) × IsTooDeepAt ts rest))
-one-of-three ts = by (read_program max_nesting ts) refl
-  where
-    by : (r : Result ProgramTree Fault) → read_program max_nesting ts ≡ r
-        → ((t : ProgramTree) × (ts ≡ spelling t) × Nests t) ⊎ (((rest : List Token) × IsUnexpectedAt ts rest) ⊎ ((rest : List Token) × IsTooDeepAt ts rest))
-    by (Ok t) e = let x = read-is-spelled max_nesting ts t e in inl (t, x.0, x.1)
-    by (Err (unexpected rest)) e = inr (inl (rest, unexpected-is ts rest e))
-    by (Err (too_deep rest)) e = inr (inr (rest, too-deep-is ts rest e))
 
 pub nests-runs : (d : ℕ) (t : ProgramTree) → IsSome (room_left d (spelling t))
     → run start d (spelling t) ≡ whole

@@ -11,5 +11,15 @@ pub mod Complete
 pub mod CompleteTexts
 pub mod Completion
 pub mod Stops
+pub mod Seen
 pub mod Exact
+pub mod Plain
+pub mod Calm
+pub mod View
+pub mod Unseen
+pub mod Begins
+pub mod Wrong
 pub mod ReadBack
+pub mod Kept
+pub mod Again
+pub mod Examples

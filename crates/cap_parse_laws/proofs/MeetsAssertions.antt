@@ -4,7 +4,7 @@ use Rattle.cap_syntax.specs.declared.place.Place.{Place}
 use Rattle.cap_syntax.specs.declared.token.Token.{Token}
 use Rattle.cap_parse_tree.specs.declared.word.Word.{Word}
 use Rattle.cap_parse_tree.specs.declared.assertion.Counted.{Counted}
-use Rattle.cap_parse_tree.specs.declared.assertion.Counted.TheVariants.{Source, Tokens}
+use Rattle.cap_parse_tree.specs.declared.assertion.Counted.TheVariants.{Source, Tokens, At, From}
 use Rattle.cap_parse_tree.specs.Tree.{TermTree, ComparisonTree}
 use Rattle.cap_parse_tree.specs.Tokens.{name, keyword, symbol}
 use Rattle.cap_parse_tree.specs.Spelling.{spell_more, spell_term, spell_comparison, counted_text, spell_guard, spell_guards, spell_held, spell_item, spell_items, spell_assertion, spell_side, spell_clause}
@@ -49,6 +49,10 @@ guard_by-meets d c.Source ts s e =
     enter _ (fixed c.Source ∷ counted_guard ++ s) d ts c.Source e refl (counted-meets d c.Source Source ts s refl refl (λ p. refl) e)
 guard_by-meets d c.Tokens ts s e =
     enter _ (fixed c.Tokens ∷ counted_guard ++ s) d ts c.Tokens e refl (counted-meets d c.Tokens Tokens ts s refl refl (λ p. refl) e)
+guard_by-meets d c.AtIndex ts s e =
+    enter _ (fixed c.AtIndex ∷ counted_guard ++ s) d ts c.AtIndex e refl (counted-meets d c.AtIndex At ts s refl refl (λ p. refl) e)
+guard_by-meets d c.FromIndex ts s e =
+    enter _ (fixed c.FromIndex ∷ counted_guard ++ s) d ts c.FromIndex e refl (counted-meets d c.FromIndex From ts s refl refl (λ p. refl) e)
 guard_by-meets d k ts s e = refuse (rule a_guard ∷ s) d ts (ap (next (rule a_guard ∷ s)) e)
 
 guard-meets : (d : ℕ) → IsMet (rule a_guard ∷ []) spell_guard d (read_guard d)

@@ -10,7 +10,7 @@ use Rattle.cap_parse_laws.specs.declared.class.Class.{Class}
 use Rattle.cap_parse_laws.specs.declared.class.Class.TheVariants as c
 use Rattle.cap_parse_laws.specs.Classes.{are_same}
 use Rattle.cap_parse_laws.specs.Readers.{ahead}
-use Rattle.cap_parse_laws.specs.Grammar.{read_term, read_clause, read_terms, read_load, read_alloc, read_cas, named_value_by, value_by, named_statement_by, read_store, read_fork, read_else, read_branch, read_loop, read_check, read_give_back, statement_by, block_at}
+use Rattle.cap_parse_laws.specs.Grammar.{read_term, read_clause, read_terms, read_load, read_alloc, read_cas, read_faa, named_value_by, value_by, named_statement_by, read_store, read_fork, read_else, read_branch, read_loop, read_check, read_give_back, read_dispose, statement_by, block_at}
 use Rattle.cap_parse_laws.specs.Laws.Taking.{Keeps, takes-keeps, term-takes, statement-takes}
 use Rattle.cap_parse_laws.proofs.Automaton.{fixed, rule, a_value, named_value, terms, more_terms, a_statement, named_statement, may_else, may_invariant, returned, statements, Stack, the_rest_of_a_term, a_term, a_comparison, an_assertion, a_clause, a_block, next, run}
 use Rattle.cap_parse_laws.proofs.Meets.{Meets, IsChoice, so, chain, enter, refuse, this-token, place-meets, word-meets, expect-meets, name-meets, number-meets, no_room-meets, opened, opened-within, Read, IsMet, lead, until, optional-meets, while-meets, listed-meets}
@@ -59,6 +59,16 @@ cas-meets d ts s e =
     chain (term-meets o.0.0 n.1 (fixed c.Close ∷ s)) (λ z f7.
     chain (expect-meets c.Close o.0.0 (suc o.0.0) z.1 s refl refl) (λ q f8. so (rw (f1, f2, f3, f4, f5, f6, f7, f8))))))))))
 
+faa-meets : (d : ℕ) (ts : List Token) (s : Stack) → ahead ts ≡ c.Faa
+    → Meets (Read spell_value ts) (run (fixed c.Faa ∷ fixed c.Open ∷ a_term ++ fixed c.Comma ∷ a_term ++ fixed c.Close ∷ s) d ts) s d (read_faa d ts)
+faa-meets d ts s e =
+    chain (place-meets c.Faa d d ts (fixed c.Open ∷ a_term ++ fixed c.Comma ∷ a_term ++ fixed c.Close ∷ s) refl refl e) (λ p f1.
+    opened c.Open d p.1 (a_term ++ fixed c.Comma ∷ a_term ++ fixed c.Close ∷ s) refl (λ n. refl) (λ o f2.
+    chain (term-meets o.0.0 o.1 (fixed c.Comma ∷ a_term ++ fixed c.Close ∷ s)) (λ x f3.
+    chain (expect-meets c.Comma o.0.0 o.0.0 x.1 (a_term ++ fixed c.Close ∷ s) refl refl) (λ m f4.
+    chain (term-meets o.0.0 m.1 (fixed c.Close ∷ s)) (λ y f5.
+    chain (expect-meets c.Close o.0.0 (suc o.0.0) y.1 s refl refl) (λ q f6. so (rw (f1, f2, f3, f4, f5, f6))))))))
+
 named_value_by-meets : (d : ℕ) (w : Word) (k : Class) (ts : List Token) (s : Stack) (all : List Token)
     → all ≡ name w ∷ ts → ahead ts ≡ k
     → Meets (Read spell_value all) (run (rule named_value ∷ s) d ts) s d (named_value_by d w k ts)
@@ -73,6 +83,8 @@ value_by-meets d c.OpenBracket ts s e = enter _ (fixed c.OpenBracket ∷ a_term 
 value_by-meets d c.Alloc ts s e = enter _ (fixed c.Alloc ∷ fixed c.Open ∷ fixed c.Number ∷ fixed c.Close ∷ s) d ts c.Alloc e refl (alloc-meets d ts s e)
 value_by-meets d c.Cas ts s e =
     enter _ (fixed c.Cas ∷ fixed c.Open ∷ a_term ++ fixed c.Comma ∷ a_term ++ fixed c.Comma ∷ a_term ++ fixed c.Close ∷ s) d ts c.Cas e refl (cas-meets d ts s e)
+value_by-meets d c.Faa ts s e =
+    enter _ (fixed c.Faa ∷ fixed c.Open ∷ a_term ++ fixed c.Comma ∷ a_term ++ fixed c.Close ∷ s) d ts c.Faa e refl (faa-meets d ts s e)
 value_by-meets d c.Name ts s e =
     enter _ (fixed c.Name ∷ rule named_value ∷ s) d ts c.Name e refl
     (chain (word-meets d ts (rule named_value ∷ s) e) (λ w f. named_value_by-meets d w.0 (ahead w.1) w.1 s ts f refl))
@@ -167,6 +179,15 @@ give_back-meets d ts s e =
     chain (optional-meets (read_term d) d p.1 (until (rule returned ∷ s) (a_term ++ fixed c.Semicolon ∷ s) s c.Semicolon (λ k. refl)) (λ y. term-meets d p.1 (fixed c.Semicolon ∷ s))) (λ t g.
     chain (expect-meets c.Semicolon d d t.1 s refl refl) (λ q i. so (rw (f, g, i)))))
 
+dispose-meets : (d : ℕ) (ts : List Token) (s : Stack) → ahead ts ≡ c.Dispose
+    → Meets (Read spell_statement ts) (run (fixed c.Dispose ∷ fixed c.Open ∷ a_term ++ fixed c.Close ∷ fixed c.Semicolon ∷ s) d ts) s d (read_dispose d ts)
+dispose-meets d ts s e =
+    chain (place-meets c.Dispose d d ts (fixed c.Open ∷ a_term ++ fixed c.Close ∷ fixed c.Semicolon ∷ s) refl refl e) (λ p f1.
+    opened-within c.Open d p.1 (a_term ++ fixed c.Close ∷ fixed c.Semicolon ∷ s) refl (λ n. refl) (λ o n f2.
+    chain (term-meets o.0.0 o.1 (fixed c.Close ∷ fixed c.Semicolon ∷ s)) (λ t f3.
+    chain (expect-meets c.Close o.0.0 d t.1 (fixed c.Semicolon ∷ s) refl (ap Some n)) (λ q f4.
+    chain (expect-meets c.Semicolon d d q.1 s refl refl) (λ r f5. so (rw (f1, f2, f3, f4, f5)))))))
+
 statement_by-meets : (d : ℕ) → BlockMeets d → (k : Class) (ts : List Token) (s : Stack)
     → ahead ts ≡ k
     → Meets (Read spell_statement ts) (run (rule a_statement ∷ s) d ts) s d (statement_by (block_at d) d k ts)
@@ -183,6 +204,8 @@ statement_by-meets d h c.While ts s e =
     enter _ (fixed c.While ∷ fixed c.Open ∷ a_comparison ++ fixed c.Close ∷ rule may_invariant ∷ a_block ++ s) d ts c.While e refl (loop-meets d h ts s e)
 statement_by-meets d h c.Assert ts s e = enter _ (fixed c.Assert ∷ a_comparison ++ fixed c.Semicolon ∷ s) d ts c.Assert e refl (check-meets d ts s e)
 statement_by-meets d h c.Return ts s e = enter _ (fixed c.Return ∷ rule returned ∷ s) d ts c.Return e refl (give_back-meets d ts s e)
+statement_by-meets d h c.Dispose ts s e =
+    enter _ (fixed c.Dispose ∷ fixed c.Open ∷ a_term ++ fixed c.Close ∷ fixed c.Semicolon ∷ s) d ts c.Dispose e refl (dispose-meets d ts s e)
 statement_by-meets d h k ts s e = refuse (rule a_statement ∷ s) d ts (ap (next (rule a_statement ∷ s)) e)
 
 pub statements-spelled : (ss : List StatementTree) (ts : List Token)

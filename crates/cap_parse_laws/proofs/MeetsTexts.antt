@@ -1,19 +1,20 @@
 -- The automaton goes along with the readers of region types, functions and the whole text.
-use Rattle.std.proofs.Common.{◌≡◌, ℕ, zero, suc, not, cond, Bool, true, false, List, [], ◌∷◌, ◌++◌, length, Some, Result, Ok, Err, refl, sym, ap, ◌∙◌, codes}
+use Rattle.std.proofs.Common.{◌≡◌, ℕ, zero, suc, not, cond, Bool, true, false, List, [], ◌∷◌, ◌++◌, length, Option, Some, Result, Ok, Err, refl, sym, ap, ◌∙◌, codes}
 use Rattle.cap_syntax.specs.declared.place.Place.{Place}
 use Rattle.cap_syntax.specs.declared.token.Token.{Token}
+use Rattle.cap_parse_tree.specs.declared.tree.Header.{Header}
 use Rattle.cap_parse_tree.specs.Tree.{DeclarationTree, ProgramTree}
 use Rattle.cap_parse_tree.specs.Tokens.{name, keyword, symbol}
-use Rattle.cap_parse_tree.specs.Spelling.{Spells, spell_all, spell_more, spell_several, spell_option, spell_name, spell_declared, spell_declareds, spell_joint, spell_joints, spell_algebra, spell_when, spell_case, spell_action, spell_region, spell_function, spell_declaration, spelling}
+use Rattle.cap_parse_tree.specs.Spelling.{Spells, spell_all, spell_more, spell_several, spell_option, spell_name, spell_declared, spell_declareds, spell_joint, spell_joints, spell_algebra, spell_when, spell_case, spell_action, spell_region, spell_function, spell_declaration, spell_header, spelling}
 use Rattle.cap_parse_tree.specs.Views.{BothTree, EitherTree, declareds_of, joints_of}
 use Rattle.cap_parse_laws.specs.declared.class.Class.{Class}
 use Rattle.cap_parse_laws.specs.declared.class.Class.TheVariants as c
 use Rattle.cap_parse_laws.specs.Classes.{class, are_same}
-use Rattle.cap_parse_laws.specs.Readers.{Fault, unexpected, too_deep, Outcome, Reader, ◌>>=◌, ahead, read_name, read_at_most, read_until}
-use Rattle.cap_parse_laws.specs.Grammar.{read_comparison, read_clause, declared_by, read_declared, read_joint, grouped_at, read_algebra, read_when, read_optional_when, read_case, read_action, read_head, read_region_body, read_region, read_function, declaration_by, read_declaration, read_program, HeadTree}
+use Rattle.cap_parse_laws.specs.Readers.{Fault, unexpected, too_deep, Outcome, Reader, ◌>>=◌, ahead, read_name, read_optional, read_at_most, read_until}
+use Rattle.cap_parse_laws.specs.Grammar.{read_comparison, read_clause, declared_by, read_declared, read_joint, grouped_at, read_algebra, read_when, read_optional_when, read_case, read_action, read_head, read_region_body, read_region, read_function, declaration_by, read_declaration, read_header, read_parts, read_program, HeadTree}
 use Rattle.cap_parse_laws.specs.Laws.Taking.{and_more, takes-keeps, name-takes, comparison-takes, declared-takes, joint-takes, case-takes, action-takes, declaration-takes}
 use Rattle.cap_parse_laws.proofs.Shapes.{same_is_equal, not-end}
-use Rattle.cap_parse_laws.proofs.Automaton.{Ending, a_colon, a_semicolon, end_class, fixed, rule, a_guard, a_declared, more_declared, more_joints, may_when, more_comparisons, cases, actions, names, more_names, may_requires, may_ensures, a_declaration, Answer, whole, wrong, deep, Stack, a_term, a_comparison, an_assertion, a_clause, a_block, a_joint, an_algebra, a_case, the_rest_of_an_action, the_rest_of_a_region, the_rest_of_a_function, next, run, start}
+use Rattle.cap_parse_laws.proofs.Automaton.{Ending, a_colon, a_semicolon, end_class, fixed, rule, a_guard, a_declared, more_declared, more_joints, may_when, more_comparisons, cases, actions, names, more_names, may_requires, may_ensures, a_declaration, Answer, whole, wrong, deep, Stack, a_term, a_comparison, an_assertion, a_clause, a_block, a_joint, an_algebra, a_case, the_rest_of_an_action, the_rest_of_a_region, the_rest_of_a_function, next, run, start, the_declarations}
 use Rattle.cap_parse_laws.proofs.Meets.{Meets, IsChoice, so, chain, enter, refuse, place-meets, word-meets, expect-meets, name-meets, no_room-meets, opened, opened-within, Read, IsMet, lead, until, optional-meets, while-meets, more-meets, several-meets, comma, listed-meets, group-meets}
 use Rattle.cap_parse_laws.proofs.MeetsTerms.{star, term-meets, comparison-meets}
 use Rattle.cap_parse_laws.proofs.MeetsAssertions.{guards-meets, assertion-meets, clause-meets}
@@ -25,7 +26,7 @@ GroupedMeets d = (ts : List Token) (s : Stack) → Meets (Read spell_declared ts
 
 declared_by-meets : (d : ℕ) → GroupedMeets d → (k : Class) (ts : List Token) (s : Stack)
     → ahead ts ≡ k
-    → Meets (Read spell_declared ts) (run (rule a_declared ∷ s) d ts) s d (declared_by (grouped_at d) k ts)
+    → Meets (Read spell_declared ts) (run (rule a_declared ∷ s) d ts) s d (declared_by d (grouped_at d) k ts)
 declared_by-meets d h c.Name ts s e = enter _ (fixed c.Name ∷ s) d ts c.Name e refl (chain (word-meets d ts s e) (λ w f. so f))
 declared_by-meets d h c.Percent ts s e =
     enter _ (fixed c.Percent ∷ fixed c.Name ∷ s) d ts c.Percent e refl
@@ -35,6 +36,11 @@ declared_by-meets d h c.Bar ts s e =
     (chain (place-meets c.Bar d d ts (fixed c.Name ∷ fixed c.Bar ∷ s) refl refl e) (λ p f.
     chain (name-meets d p.1 (fixed c.Bar ∷ s)) (λ w g.
     chain (expect-meets c.Bar d d w.1 s refl refl) (λ q i. so (rw (f, g, i))))))
+declared_by-meets d h c.Index ts s e =
+    enter _ (fixed c.Index ∷ fixed c.Name ∷ fixed c.CloseBracket ∷ s) d ts c.Index e refl
+    (opened c.Index d ts (fixed c.Name ∷ fixed c.CloseBracket ∷ s) refl (λ n. refl) (λ o f.
+    chain (name-meets o.0.0 o.1 (fixed c.CloseBracket ∷ s)) (λ w g.
+    chain (expect-meets c.CloseBracket o.0.0 (suc o.0.0) w.1 s refl refl) (λ q i. so (rw (f, g, i))))))
 declared_by-meets d h k ts s e = enter _ (fixed c.Open ∷ an_algebra ++ fixed c.Close ∷ s) d ts k e refl (h ts s)
 
 pub declareds-spelled : (ds : List BothTree) (ts : List Token)
@@ -48,12 +54,12 @@ joints-spelled [] ts = refl
 joints-spelled (j ∷ js) ts = ap (λ l. symbol (codes "+") j.0 ∷ spell_joint j.1 l) (joints-spelled js ts)
 
 joint-meets : (d : ℕ) → GroupedMeets d → (ts : List Token) (s : Stack)
-    → Meets (Read spell_joint ts) (run (a_joint ++ s) d ts) s d (read_joint (grouped_at d) ts)
+    → Meets (Read spell_joint ts) (run (a_joint ++ s) d ts) s d (read_joint d (grouped_at d) ts)
 joint-meets d h ts s =
     chain (declared_by-meets d h (ahead ts) ts (rule more_declared ∷ s) refl) (λ x f.
     chain (more-meets c.Star (codes "*") d x.1 star
     (lead (rule more_declared ∷ s) (fixed c.Star ∷ a_joint ++ s) s (a_joint ++ s) c.Star (λ k. refl) (λ k. refl))
-    (takes-keeps (read_declared (grouped_at d)) (declared-takes d)) (λ us. declared_by-meets d h (ahead us) us (rule more_declared ∷ s) refl)) (λ more g.
+    (takes-keeps (read_declared d (grouped_at d)) (declared-takes d)) (λ us. declared_by-meets d h (ahead us) us (rule more_declared ∷ s) refl)) (λ more g.
     so (f ∙ ap (spell_declared x.0) (g ∙ declareds-spelled more.0 more.1))))
 
 algebra-meets-with : (d : ℕ) → GroupedMeets d → IsMet an_algebra spell_algebra d (read_algebra d)
@@ -61,7 +67,7 @@ algebra-meets-with d h ts s =
     chain (joint-meets d h ts (rule more_joints ∷ s)) (λ j f.
     chain (more-meets c.Plus (codes "+") d j.1 (refl, λ d. refl, λ p. refl)
     (lead (rule more_joints ∷ s) (fixed c.Plus ∷ an_algebra ++ s) s (an_algebra ++ s) c.Plus (λ k. refl) (λ k. refl))
-    (takes-keeps (read_joint (grouped_at d)) (joint-takes d)) (λ us. joint-meets d h us (rule more_joints ∷ s))) (λ more g.
+    (takes-keeps (read_joint d (grouped_at d)) (joint-takes d)) (λ us. joint-meets d h us (rule more_joints ∷ s))) (λ more g.
     so (f ∙ ap (spell_joint j.0) (g ∙ joints-spelled more.0 more.1))))
 
 grouped-meets : (d : ℕ) → GroupedMeets d
@@ -192,19 +198,36 @@ declaration_by-meets d k ts s e = refuse (rule a_declaration ∷ s) d ts (ap (ne
 -- the whole text
 
 text-enters : (k : Class) → not (are_same c.End k) ≡ true
-    → next start k ≡ next (rule a_declaration ∷ start) k
+    → next the_declarations k ≡ next (rule a_declaration ∷ the_declarations) k
 text-enters c.End b = absurd cc
 text-enters k b = refl
 
-text-leaves : (k : Class) → not (are_same c.End k) ≡ false → next start k ≡ next [] k
+text-leaves : (k : Class) → not (are_same c.End k) ≡ false → next the_declarations k ≡ next [] k
 text-leaves c.End b = refl
 text-leaves k b = absurd cc
 
 declarations-meet : (d : ℕ) (ts : List Token)
-    → Meets (Read (spell_all spell_declaration) ts) (run start d ts) [] d (read_until c.End (read_declaration d) ts)
+    → Meets (Read (spell_all spell_declaration) ts) (run the_declarations d ts) [] d (read_until c.End (read_declaration d) ts)
 declarations-meet d ts =
     while-meets d ts (record { enters = text-enters; leaves = text-leaves }) (declaration-takes d) (λ b. absurd cc)
-    (λ us. declaration_by-meets d (ahead us) us start refl)
+    (λ us. declaration_by-meets d (ahead us) us the_declarations refl)
+
+header-meets : (d : ℕ) → IsMet (fixed c.Caper ∷ fixed c.Two ∷ fixed c.Semicolon ∷ []) spell_header d read_header
+header-meets d ts s =
+    chain (expect-meets c.Caper d d ts (fixed c.Two ∷ fixed c.Semicolon ∷ s) refl refl) (λ p f1.
+    chain (expect-meets c.Two d d p.1 (fixed c.Semicolon ∷ s) refl refl) (λ q f2.
+    chain (expect-meets c.Semicolon d d q.1 s refl refl) (λ e f3. so (rw (f1, f2, f3)))))
+
+may-header : IsChoice start (fixed c.Caper ∷ fixed c.Two ∷ fixed c.Semicolon ∷ the_declarations) the_declarations (are_same c.Caper)
+may-header = lead start (fixed c.Caper ∷ fixed c.Two ∷ fixed c.Semicolon ∷ the_declarations) the_declarations (fixed c.Two ∷ fixed c.Semicolon ∷ the_declarations) c.Caper (λ k. refl) (λ k. refl)
+
+abbrev spell_parts : Spells (Option Header × List DeclarationTree)
+spell_parts x ts = spell_option spell_header x.0 (spell_all spell_declaration x.1 ts)
+
+parts-meet : (d : ℕ) (ts : List Token) → Meets (Read spell_parts ts) (run start d ts) [] d (read_parts d ts)
+parts-meet d ts =
+    chain (optional-meets {spell = spell_header} read_header d ts may-header (λ y. header-meets d ts the_declarations)) (λ h f.
+    chain (declarations-meet d h.1) (λ ds g. so (f ∙ ap (spell_option spell_header h.0) g)))
 
 -- what the reader of a text answers, and what the automaton does
 abbrev pub Agrees : List Token → Answer → Result ProgramTree Fault → Type 0
@@ -251,13 +274,28 @@ nothing-left (t ∷ ts) e = absurd (by (are_same c.End (class t)) refl e)
     by true f g = not-end t (sym (same_is_equal c.End (class t) f))
     by false f g = cc
 
-pub program-agrees : (d : ℕ) (ts : List Token) → Agrees ts (run start d ts) (read_program d ts)
-program-agrees d ts = by (read_until c.End (read_declaration d) ts) refl (declarations-meet d ts)
+parts-end : (d : ℕ) (ts : List Token) (x : (Option Header × List DeclarationTree) × List Token)
+    → read_parts d ts ≡ Ok x → x.1 ≡ []
+parts-end d ts x e = by (read_optional (are_same c.Caper) read_header ts) e
   where
-    by : (r : Outcome (List DeclarationTree)) → read_until c.End (read_declaration d) ts ≡ r → Meets (Read (spell_all spell_declaration) ts) (run start d ts) [] d r
-        → Agrees ts (run start d ts) (r >>= λ ds. Ok (record { declarations = ds.0 }))
+    by_more : (h : Option Header) (us : List Token) (r : Outcome (List DeclarationTree)) → read_until c.End (read_declaration d) us ≡ r
+        → (r >>= λ ds. Ok ((h, ds.0), ds.1)) ≡ Ok x → x.1 ≡ []
+    by_more h us (Ok ds) f g =
+        let same : ds.1 ≡ x.1 = left-same _ _ ds.1 x.1 _ refl g in
+        sym same ∙ nothing-left ds.1 (at-the-end (λ k. not (are_same c.End k)) (read_declaration d) (length us) us ds.0 ds.1 f)
+    by_more h us (Err o) f g = cc
+
+    by : (r : Outcome (Option Header)) → (r >>= λ h. read_until c.End (read_declaration d) h.1 >>= λ ds. Ok ((h.0, ds.0), ds.1)) ≡ Ok x → x.1 ≡ []
+    by (Ok h) g = by_more h.0 h.1 (read_until c.End (read_declaration d) h.1) refl g
+    by (Err o) g = cc
+
+pub program-agrees : (d : ℕ) (ts : List Token) → Agrees ts (run start d ts) (read_program d ts)
+program-agrees d ts = by (read_parts d ts) refl (parts-meet d ts)
+  where
+    by : (r : Outcome (Option Header × List DeclarationTree)) → read_parts d ts ≡ r → Meets (Read spell_parts ts) (run start d ts) [] d r
+        → Agrees ts (run start d ts) (r >>= λ x. Ok (record { header = x.0.0; declarations = x.0.1 }))
     by (Ok x) e h =
-        let empty : x.1 ≡ [] = nothing-left x.1 (at-the-end (λ k. not (are_same c.End k)) (read_declaration d) (length ts) ts x.0 x.1 e) in
-        (h.held.0 ∙ ap (spell_all spell_declaration x.0) empty, h.held.1 ∙ ap (run [] d) empty)
+        let empty : x.1 ≡ [] = parts-end d ts x e in
+        (h.held.0 ∙ ap (spell_parts x.0) empty, h.held.1 ∙ ap (run [] d) empty)
     by (Err (unexpected rest)) e h = h.held
     by (Err (too_deep rest)) e h = h.held

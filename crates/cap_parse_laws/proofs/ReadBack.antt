@@ -1,36 +1,31 @@
--- The canonical text of a tree spells that tree again, apart from the places.
+-- What is printed behind the tokens of a text, and tokens that are the same apart from their places.
 use Rattle.std.proofs.Common.{◌≡◌, ℕ, ◌<◌, ◌≤◌, Bool, true, false, ◌&&◌, cond, List, [], ◌∷◌, ◌++◌, map, length, Option, Some, None, IsTrue, All, refl, sym, ap, ◌∙◌, subst, arith}
 use Rattle.std.specs.List.{list_all}
 use Rattle.cap_syntax.specs.declared.token.Token.{Token}
 use Rattle.cap_syntax.specs.declared.token.TokenKind.{TokenKind}
 use Rattle.cap_syntax.specs.Layout.{is_blank, end_of, AreTokensOf}
 use Rattle.cap_syntax.specs.Printing.{IsSpelled, tokens_in, printed, AreSpaced, unplaced, ReadsAs}
-use Rattle.cap_syntax.specs.Refusal.{max_text}
-use Rattle.cap_parse_tree.specs.Tree.{ProgramTree}
-use Rattle.cap_parse_tree.specs.Spelling.{spelling}
-use Rattle.cap_parse_tree.specs.Nesting.{max_nesting, room_behind, Nests}
-use Rattle.cap_parse_tree.specs.Canonical.{is_zero, may_end_line, gap_behind, parentheses_behind, canonical_from, canonical_text}
-use Rattle.cap_parse_tree.specs.Texts.{Spells, AreSameApartFromPlaces}
+use Rattle.cap_parse_tree.specs.Nesting.{room_behind}
+use Rattle.cap_parse_tree.specs.Canonical.{is_zero, may_end_line, gap_behind, parentheses_behind, canonical_from}
 use Rattle.cap_parse_laws.specs.Classes.{class, class_with}
-use Rattle.cap_parse_laws.proofs.Automaton.{Stack, Move, on, stop, done, whole, wrong, deep, next, goes, within, run, start}
-use Rattle.cap_parse_laws.proofs.Exact.{whole-read, read-is-spelled, nests-runs}
+use Rattle.cap_parse_laws.proofs.Automaton.{Stack, Move, on, stop, done, whole, wrong, deep, next, goes, within, run}
 
 -- what is printed behind each token
-pieces_from : ℕ → List Token → List (Token × List ℕ)
+pub pieces_from : ℕ → List Token → List (Token × List ℕ)
 pieces_from n [] = []
 pieces_from n (t ∷ ts) = (t, gap_behind n t ts) ∷ pieces_from (parentheses_behind n t) ts
 
-pieces-tokens : (n : ℕ) (ts : List Token) → tokens_in (pieces_from n ts) ≡ ts
+pub pieces-tokens : (n : ℕ) (ts : List Token) → tokens_in (pieces_from n ts) ≡ ts
 unfolding pieces_from
 pieces-tokens n [] = refl
 pieces-tokens n (t ∷ ts) = ap (λ l. t ∷ l) (pieces-tokens (parentheses_behind n t) ts)
 
-pieces-printed : (n : ℕ) (ts : List Token) → printed (pieces_from n ts) ≡ canonical_from n ts
+pub pieces-printed : (n : ℕ) (ts : List Token) → printed (pieces_from n ts) ≡ canonical_from n ts
 unfolding pieces_from
 pieces-printed n [] = refl
 pieces-printed n (t ∷ ts) = ap (λ l. t.text ++ (gap_behind n t ts ++ l)) (pieces-printed (parentheses_behind n t) ts)
 
-pieces-spaced : (n : ℕ) (ts : List Token) → AreSpaced (pieces_from n ts)
+pub pieces-spaced : (n : ℕ) (ts : List Token) → AreSpaced (pieces_from n ts)
 unfolding pieces_from
 pieces-spaced n [] = tt
 pieces-spaced n (t ∷ []) = by (is_zero n && may_end_line t)
@@ -47,19 +42,19 @@ pieces-spaced n (t ∷ u ∷ ts) = by (is_zero n && may_end_line t) (pieces-spac
 
 -- tokens that are the same apart from their places
 
-same-head : {A : Type 0} (a b : A) (l m : List A) → a ∷ l ≡ b ∷ m → a ≡ b
+pub same-head : {A : Type 0} (a b : A) (l m : List A) → a ∷ l ≡ b ∷ m → a ≡ b
 same-head a b l m e = cc
 
-same-tail : {A : Type 0} (a b : A) (l m : List A) → a ∷ l ≡ b ∷ m → l ≡ m
+pub same-tail : {A : Type 0} (a b : A) (l m : List A) → a ∷ l ≡ b ∷ m → l ≡ m
 same-tail a b l m e = cc
 
-same-class : (t u : Token) → unplaced t ≡ unplaced u → class t ≡ class u
+pub same-class : (t u : Token) → unplaced t ≡ unplaced u → class t ≡ class u
 same-class t u e = ap (λ (x : TokenKind × List ℕ × ℕ). class_with x.0 x.1 x.2) e
 
 same-room : (d : ℕ) (t u : Token) → unplaced t ≡ unplaced u → room_behind d t ≡ room_behind d u
 same-room d t u e = ap (λ (x : TokenKind × List ℕ × ℕ). room_behind d (record { kind = x.0; text = x.1; value = x.2; place = t.place })) e
 
-alike : (s : Stack) (d : ℕ) (ts us : List Token) → map unplaced ts ≡ map unplaced us
+pub alike : (s : Stack) (d : ℕ) (ts us : List Token) → map unplaced ts ≡ map unplaced us
     → run s d ts ≡ whole → run s d us ≡ whole
 alike s d [] [] e h = h
 alike s d [] (u ∷ us) e h = absurd cc
@@ -86,32 +81,5 @@ alike s d (t ∷ ts) (u ∷ us) e h =
 abbrev pub ArePrintedBack : Type 0
 ArePrintedBack = (pieces : List (Token × List ℕ)) → All IsSpelled (tokens_in pieces) → AreSpaced pieces → ReadsAs (printed pieces) (tokens_in pieces)
 
--- a tree that the text has again
-abbrev pub HasAgain : List ℕ → ProgramTree → Type 0
-HasAgain text t = (again : ProgramTree) × AreTokensOf text (spelling again ++ end_of text ∷ []) × Nests again × AreSameApartFromPlaces again t
-
-pub canonical-again : ArePrintedBack → (t : ProgramTree) → Nests t → All IsSpelled (spelling t)
-    → HasAgain (canonical_text t) t
-canonical-again law t nests spelled =
-    let ps = pieces_from 0 (spelling t) in
-    let same_tokens : tokens_in ps ≡ spelling t = pieces-tokens 0 (spelling t) in
-    let back : ReadsAs (canonical_text t) (spelling t) =
-    subst (λ l. ReadsAs (canonical_text t) l) same_tokens (subst (λ text. ReadsAs text (tokens_in ps)) (pieces-printed 0 (spelling t))
-    (law ps (subst (All IsSpelled) (sym same_tokens) spelled) (pieces-spaced 0 (spelling t)))) in
-    let read = whole-read max_nesting back.again (alike start max_nesting (spelling t) back.again (sym back.same) (nests-runs max_nesting t nests)) in
-    let is = read-is-spelled max_nesting back.again read.0 read.1 in (
-      read.0,
-      subst (λ l. AreTokensOf (canonical_text t) (l ++ end_of (canonical_text t) ∷ [])) is.0 back.read,
-      is.1,
-      ap (map unplaced) (sym is.0) ∙ back.same,
-    )
-
 abbrev pub AreSpelledInTexts : Type 0
 AreSpelledInTexts = (bytes : List ℕ) (ts : List Token) → AreTokensOf bytes (ts ++ end_of bytes ∷ []) → All IsSpelled ts
-
-pub text-again : ArePrintedBack → AreSpelledInTexts → (bytes : List ℕ) (t : ProgramTree)
-    → Spells bytes t → length (canonical_text t) ≤ max_text
-    → (again : ProgramTree) × Spells (canonical_text t) again × AreSameApartFromPlaces again t
-text-again law spelled bytes t s l =
-    let x = canonical-again law t s.nests (spelled bytes (spelling t) s.tokens) in
-    (x.0, record { fits = l; tokens = x.1; nests = x.2 }, x.3)

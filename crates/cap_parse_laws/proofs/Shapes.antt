@@ -9,7 +9,7 @@ use Rattle.cap_syntax.specs.declared.token.TokenKind.{TokenKind}
 use Rattle.cap_syntax.specs.declared.token.TokenKind.TheVariants as kind
 use Rattle.cap_parse_tree.specs.Nesting.{one_fewer, room_behind}
 use Rattle.cap_parse_laws.specs.declared.class.Class.{Class}
-use Rattle.cap_parse_laws.specs.declared.class.Class.TheVariants.{Name, Number, Share, Wildcard, Region, Function, Requires, Ensures, Guards, Interpretation, Actions, When, Fork, If, Else, While, Invariant, Assert, Return, Alloc, Cas, True, False, Source, Tokens, Open, Close, OpenBrace, CloseBrace, OpenBracket, CloseBracket, Comma, Semicolon, Colon, Becomes, Equal, Unequal, Less, AtMost, Greater, AtLeast, Plus, Minus, Star, Percent, At, Question, Bar, PointsTo, And, LeadsTo, Other, End}
+use Rattle.cap_parse_laws.specs.declared.class.Class.TheVariants.{Name, Number, Share, Wildcard, Region, Function, Requires, Ensures, Guards, Interpretation, Actions, When, Fork, If, Else, While, Invariant, Assert, Return, Alloc, Cas, True, False, Source, Tokens, Caper, Two, Faa, Dispose, AtIndex, FromIndex, Index, Open, Close, OpenBrace, CloseBrace, OpenBracket, CloseBracket, Comma, Semicolon, Colon, Becomes, Equal, Unequal, Less, AtMost, Greater, AtLeast, Plus, Minus, Star, Percent, At, Question, Bar, PointsTo, And, LeadsTo, Other, End}
 use Rattle.cap_parse_laws.specs.Classes.{class_in, keyword_table, symbol_table, class_by, class_with, class, class_number, are_same}
 
 -- classes by number, back
@@ -20,12 +20,13 @@ decode n =
     cond (nat_eq n 10) Actions (cond (nat_eq n 11) When (cond (nat_eq n 12) Fork (cond (nat_eq n 13) If (cond (nat_eq n 14) Else (
     cond (nat_eq n 15) While (cond (nat_eq n 16) Invariant (cond (nat_eq n 17) Assert (cond (nat_eq n 18) Return (cond (nat_eq n 19) Alloc (
     cond (nat_eq n 20) Cas (cond (nat_eq n 21) True (cond (nat_eq n 22) False (cond (nat_eq n 23) Source (cond (nat_eq n 24) Tokens (
-    cond (nat_eq n 25) Open (cond (nat_eq n 26) Close (cond (nat_eq n 27) OpenBrace (cond (nat_eq n 28) CloseBrace (cond (nat_eq n 29) OpenBracket (
-    cond (nat_eq n 30) CloseBracket (cond (nat_eq n 31) Comma (cond (nat_eq n 32) Semicolon (cond (nat_eq n 33) Colon (cond (nat_eq n 34) Becomes (
-    cond (nat_eq n 35) Equal (cond (nat_eq n 36) Unequal (cond (nat_eq n 37) Less (cond (nat_eq n 38) AtMost (cond (nat_eq n 39) Greater (
-    cond (nat_eq n 40) AtLeast (cond (nat_eq n 41) Plus (cond (nat_eq n 42) Minus (cond (nat_eq n 43) Star (cond (nat_eq n 44) Percent (
-    cond (nat_eq n 45) At (cond (nat_eq n 46) Question (cond (nat_eq n 47) Bar (cond (nat_eq n 48) PointsTo (cond (nat_eq n 49) And (
-    cond (nat_eq n 50) LeadsTo (cond (nat_eq n 51) Other (End))))))))))))))))))))))))))))))))))))))))))))))))))))
+    cond (nat_eq n 25) Caper (cond (nat_eq n 26) Two (cond (nat_eq n 27) Faa (cond (nat_eq n 28) Dispose (cond (nat_eq n 29) AtIndex (
+    cond (nat_eq n 30) FromIndex (cond (nat_eq n 31) Index (cond (nat_eq n 32) Open (cond (nat_eq n 33) Close (cond (nat_eq n 34) OpenBrace (
+    cond (nat_eq n 35) CloseBrace (cond (nat_eq n 36) OpenBracket (cond (nat_eq n 37) CloseBracket (cond (nat_eq n 38) Comma (cond (nat_eq n 39) Semicolon (
+    cond (nat_eq n 40) Colon (cond (nat_eq n 41) Becomes (cond (nat_eq n 42) Equal (cond (nat_eq n 43) Unequal (cond (nat_eq n 44) Less (
+    cond (nat_eq n 45) AtMost (cond (nat_eq n 46) Greater (cond (nat_eq n 47) AtLeast (cond (nat_eq n 48) Plus (cond (nat_eq n 49) Minus (
+    cond (nat_eq n 50) Star (cond (nat_eq n 51) Percent (cond (nat_eq n 52) At (cond (nat_eq n 53) Question (cond (nat_eq n 54) Bar (
+    cond (nat_eq n 55) PointsTo (cond (nat_eq n 56) And (cond (nat_eq n 57) LeadsTo (cond (nat_eq n 58) Other (End)))))))))))))))))))))))))))))))))))))))))))))))))))))))))))
 
 decode-number : (k : Class) → decode (class_number k) ≡ k
 unfolding decode
@@ -54,6 +55,13 @@ decode-number True = refl
 decode-number False = refl
 decode-number Source = refl
 decode-number Tokens = refl
+decode-number Caper = refl
+decode-number Two = refl
+decode-number Faa = refl
+decode-number Dispose = refl
+decode-number AtIndex = refl
+decode-number FromIndex = refl
+decode-number Index = refl
 decode-number Open = refl
 decode-number Close = refl
 decode-number OpenBrace = refl
@@ -119,6 +127,13 @@ kind_of True = kind.Keyword
 kind_of False = kind.Keyword
 kind_of Source = kind.Keyword
 kind_of Tokens = kind.Keyword
+kind_of Caper = kind.Keyword
+kind_of Two = kind.Keyword
+kind_of Faa = kind.Keyword
+kind_of Dispose = kind.Keyword
+kind_of AtIndex = kind.Keyword
+kind_of FromIndex = kind.Keyword
+kind_of Index = kind.Keyword
 kind_of k = kind.Symbol
 
 -- a name's and a number's text is their own
@@ -148,6 +163,13 @@ text_in True text = codes "true"
 text_in False text = codes "false"
 text_in Source text = codes "src"
 text_in Tokens text = codes "tok"
+text_in Caper text = codes "caper"
+text_in Two text = codes "2"
+text_in Faa text = codes "FAA"
+text_in Dispose text = codes "dispose"
+text_in AtIndex text = codes "at"
+text_in FromIndex text = codes "from"
+text_in Index text = codes "["
 text_in Open text = codes "("
 text_in Close text = codes ")"
 text_in OpenBrace text = codes "{"
@@ -218,6 +240,7 @@ abbrev pub room_after : ℕ → Class → Option ℕ
 room_after d Open = one_fewer d
 room_after d OpenBrace = one_fewer d
 room_after d OpenBracket = one_fewer d
+room_after d Index = one_fewer d
 room_after d Close = Some (suc d)
 room_after d CloseBrace = Some (suc d)
 room_after d CloseBracket = Some (suc d)
@@ -266,7 +289,7 @@ seen-text of_kind k it text value n f g h v = by (bytes_eq text it) refl
 seen-by : (of_kind : TokenKind) (text : List ℕ) (value : ℕ) → value ≡ 0
     → (of_kind ≡ kind.Number → ⊥) → Seen of_kind text value (class_by of_kind text)
 seen-by kind.Name text value v n = inr (record { known = refl; kind_is = refl; text_is = refl; value_is = v })
-seen-by kind.Keyword text value v n = seen-in kind.Keyword keyword_table (λ x v. (refl, refl, refl, refl), (λ x v. (refl, refl, refl, refl), (λ x v. (refl, refl, refl, refl), (λ x v. (refl, refl, refl, refl), (λ x v. (refl, refl, refl, refl), (λ x v. (refl, refl, refl, refl), (λ x v. (refl, refl, refl, refl), (λ x v. (refl, refl, refl, refl), (λ x v. (refl, refl, refl, refl), (λ x v. (refl, refl, refl, refl), (λ x v. (refl, refl, refl, refl), (λ x v. (refl, refl, refl, refl), (λ x v. (refl, refl, refl, refl), (λ x v. (refl, refl, refl, refl), (λ x v. (refl, refl, refl, refl), (λ x v. (refl, refl, refl, refl), (λ x v. (refl, refl, refl, refl), (λ x v. (refl, refl, refl, refl), (λ x v. (refl, refl, refl, refl), (λ x v. (refl, refl, refl, refl), (λ x v. (refl, refl, refl, refl), tt))))))))))))))))))))) text value v
+seen-by kind.Keyword text value v n = seen-in kind.Keyword keyword_table (λ x v. (refl, refl, refl, refl), (λ x v. (refl, refl, refl, refl), (λ x v. (refl, refl, refl, refl), (λ x v. (refl, refl, refl, refl), (λ x v. (refl, refl, refl, refl), (λ x v. (refl, refl, refl, refl), (λ x v. (refl, refl, refl, refl), (λ x v. (refl, refl, refl, refl), (λ x v. (refl, refl, refl, refl), (λ x v. (refl, refl, refl, refl), (λ x v. (refl, refl, refl, refl), (λ x v. (refl, refl, refl, refl), (λ x v. (refl, refl, refl, refl), (λ x v. (refl, refl, refl, refl), (λ x v. (refl, refl, refl, refl), (λ x v. (refl, refl, refl, refl), (λ x v. (refl, refl, refl, refl), (λ x v. (refl, refl, refl, refl), (λ x v. (refl, refl, refl, refl), (λ x v. (refl, refl, refl, refl), (λ x v. (refl, refl, refl, refl), (λ x v. (refl, refl, refl, refl), (λ x v. (refl, refl, refl, refl), (λ x v. (refl, refl, refl, refl), (λ x v. (refl, refl, refl, refl), (λ x v. (refl, refl, refl, refl), (λ x v. (refl, refl, refl, refl), (λ x v. (refl, refl, refl, refl), tt)))))))))))))))))))))))))))) text value v
 seen-by kind.Number text value v n = absurd (n refl)
 seen-by kind.Share text value v n = seen-text kind.Share Share (codes "1p") text value refl refl refl refl v
 seen-by kind.Wildcard text value v n = seen-text kind.Wildcard Wildcard (codes "_") text value refl refl refl refl v

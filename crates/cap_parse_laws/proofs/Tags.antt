@@ -2,7 +2,7 @@
 use Rattle.std.proofs.Common.{◌≡◌, refl}
 use denote.Enum.Declared.{tag_of}
 use Rattle.cap_parse_laws.specs.declared.class.Class.{Class}
-use Rattle.cap_parse_laws.specs.declared.class.Class.TheVariants.{Name, Number, Share, Wildcard, Region, Function, Requires, Ensures, Guards, Interpretation, Actions, When, Fork, If, Else, While, Invariant, Assert, Return, Alloc, Cas, True, False, Source, Tokens, Open, Close, OpenBrace, CloseBrace, OpenBracket, CloseBracket, Comma, Semicolon, Colon, Becomes, Equal, Unequal, Less, AtMost, Greater, AtLeast, Plus, Minus, Star, Percent, At, Question, Bar, PointsTo, And, LeadsTo, Other, End}
+use Rattle.cap_parse_laws.specs.declared.class.Class.TheVariants.{Name, Number, Share, Wildcard, Region, Function, Requires, Ensures, Guards, Interpretation, Actions, When, Fork, If, Else, While, Invariant, Assert, Return, Alloc, Cas, True, False, Source, Tokens, Caper, Two, Faa, Dispose, AtIndex, FromIndex, Index, Open, Close, OpenBrace, CloseBrace, OpenBracket, CloseBracket, Comma, Semicolon, Colon, Becomes, Equal, Unequal, Less, AtMost, Greater, AtLeast, Plus, Minus, Star, Percent, At, Question, Bar, PointsTo, And, LeadsTo, Other, End}
 use Rattle.cap_parse_laws.specs.contracts.class.Class.{the_type}
 use Rattle.cap_parse_laws.specs.Classes.{class_number}
 
@@ -32,6 +32,13 @@ number-is True = refl
 number-is False = refl
 number-is Source = refl
 number-is Tokens = refl
+number-is Caper = refl
+number-is Two = refl
+number-is Faa = refl
+number-is Dispose = refl
+number-is AtIndex = refl
+number-is FromIndex = refl
+number-is Index = refl
 number-is Open = refl
 number-is Close = refl
 number-is OpenBrace = refl

@@ -5,7 +5,7 @@ use Rattle.cap_syntax.specs.declared.token.Token.{Token}
 use Rattle.cap_syntax.specs.declared.token.TokenKind.{TokenKind}
 use Rattle.cap_syntax.specs.declared.token.TokenKind.TheVariants as kind
 use Rattle.cap_parse_laws.specs.declared.class.Class.{Class}
-use Rattle.cap_parse_laws.specs.declared.class.Class.TheVariants.{Name, Number, Share, Wildcard, Region, Function, Requires, Ensures, Guards, Interpretation, Actions, When, Fork, If, Else, While, Invariant, Assert, Return, Alloc, Cas, True, False, Source, Tokens, Open, Close, OpenBrace, CloseBrace, OpenBracket, CloseBracket, Comma, Semicolon, Colon, Becomes, Equal, Unequal, Less, AtMost, Greater, AtLeast, Plus, Minus, Star, Percent, At, Question, Bar, PointsTo, And, LeadsTo, Other, End}
+use Rattle.cap_parse_laws.specs.declared.class.Class.TheVariants.{Name, Number, Share, Wildcard, Region, Function, Requires, Ensures, Guards, Interpretation, Actions, When, Fork, If, Else, While, Invariant, Assert, Return, Alloc, Cas, True, False, Source, Tokens, Caper, Two, Faa, Dispose, AtIndex, FromIndex, Index, Open, Close, OpenBrace, CloseBrace, OpenBracket, CloseBracket, Comma, Semicolon, Colon, Becomes, Equal, Unequal, Less, AtMost, Greater, AtLeast, Plus, Minus, Star, Percent, At, Question, Bar, PointsTo, And, LeadsTo, Other, End}
 
 -- the first of these texts that the token's is tells its class
 abbrev pub class_in : List (List ℕ × Class) → List ℕ → Class
@@ -34,7 +34,14 @@ keyword_table =
     (codes "true", True) ∷
     (codes "false", False) ∷
     (codes "src", Source) ∷
-    (codes "tok", Tokens) ∷ []
+    (codes "tok", Tokens) ∷
+    (codes "caper", Caper) ∷
+    (codes "2", Two) ∷
+    (codes "FAA", Faa) ∷
+    (codes "dispose", Dispose) ∷
+    (codes "at", AtIndex) ∷
+    (codes "from", FromIndex) ∷
+    (codes "[", Index) ∷ []
 
 abbrev pub keyword_class : List ℕ → Class
 keyword_class = class_in keyword_table
@@ -115,34 +122,41 @@ class_number True = 21
 class_number False = 22
 class_number Source = 23
 class_number Tokens = 24
-class_number Open = 25
-class_number Close = 26
-class_number OpenBrace = 27
-class_number CloseBrace = 28
-class_number OpenBracket = 29
-class_number CloseBracket = 30
-class_number Comma = 31
-class_number Semicolon = 32
-class_number Colon = 33
-class_number Becomes = 34
-class_number Equal = 35
-class_number Unequal = 36
-class_number Less = 37
-class_number AtMost = 38
-class_number Greater = 39
-class_number AtLeast = 40
-class_number Plus = 41
-class_number Minus = 42
-class_number Star = 43
-class_number Percent = 44
-class_number At = 45
-class_number Question = 46
-class_number Bar = 47
-class_number PointsTo = 48
-class_number And = 49
-class_number LeadsTo = 50
-class_number Other = 51
-class_number End = 52
+class_number Caper = 25
+class_number Two = 26
+class_number Faa = 27
+class_number Dispose = 28
+class_number AtIndex = 29
+class_number FromIndex = 30
+class_number Index = 31
+class_number Open = 32
+class_number Close = 33
+class_number OpenBrace = 34
+class_number CloseBrace = 35
+class_number OpenBracket = 36
+class_number CloseBracket = 37
+class_number Comma = 38
+class_number Semicolon = 39
+class_number Colon = 40
+class_number Becomes = 41
+class_number Equal = 42
+class_number Unequal = 43
+class_number Less = 44
+class_number AtMost = 45
+class_number Greater = 46
+class_number AtLeast = 47
+class_number Plus = 48
+class_number Minus = 49
+class_number Star = 50
+class_number Percent = 51
+class_number At = 52
+class_number Question = 53
+class_number Bar = 54
+class_number PointsTo = 55
+class_number And = 56
+class_number LeadsTo = 57
+class_number Other = 58
+class_number End = 59
 
 abbrev pub are_same : Class → Class → Bool
 are_same a b = nat_eq (class_number a) (class_number b)

@@ -9,8 +9,9 @@ use Rattle.cap_parse_tree.specs.declared.term.Sign.TheVariants.{Plus, Minus}
 use Rattle.cap_parse_tree.specs.declared.term.Relation.{Relation}
 use Rattle.cap_parse_tree.specs.declared.term.Relation.TheVariants.{Equal, Unequal, Less, AtMost, Greater, AtLeast}
 use Rattle.cap_parse_tree.specs.declared.assertion.Counted.{Counted}
-use Rattle.cap_parse_tree.specs.declared.assertion.Counted.TheVariants.{Source, Tokens}
-use Rattle.cap_parse_tree.specs.Tree.{Several, InParentheses, InBraces, FactorTree, literal, whole_share, named, bracketed, ProductTree, product, TermTree, term, ComparisonTree, SlotTree, any, is, GuardTree, alone, amount, count, GuardsTree, HeldTree, bare, in_parentheses, ItemTree, holds, fails, fact, guards, cell, compare, choose, AssertionTree, assertion, SideTree, side, ClauseTree, ValueTree, value, load, alloc, cas, result_of, StatementTree, assign, store, call, fork, branch, loop, check, give_back, ElseTree, no_else, else_block, BlockTree, block, DeclaredTree, unique, divisible, counting, grouped, JointTree, joint, AlgebraTree, algebra, WhenTree, CaseTree, ActionTree, RegionTree, FunctionTree, DeclarationTree, region, function, ProgramTree}
+use Rattle.cap_parse_tree.specs.declared.tree.Header.{Header}
+use Rattle.cap_parse_tree.specs.declared.assertion.Counted.TheVariants.{Source, Tokens, At, From}
+use Rattle.cap_parse_tree.specs.Tree.{Several, InParentheses, InBraces, FactorTree, literal, whole_share, named, bracketed, ProductTree, product, TermTree, term, ComparisonTree, SlotTree, any, is, GuardTree, alone, amount, count, GuardsTree, HeldTree, bare, in_parentheses, ItemTree, holds, fails, fact, guards, cell, compare, choose, AssertionTree, assertion, SideTree, side, ClauseTree, ValueTree, value, load, alloc, cas, faa, result_of, StatementTree, assign, store, call, fork, branch, loop, check, give_back, dispose, ElseTree, no_else, else_block, BlockTree, block, DeclaredTree, unique, divisible, counting, indexed, grouped, JointTree, joint, AlgebraTree, algebra, WhenTree, CaseTree, ActionTree, RegionTree, FunctionTree, DeclarationTree, region, function, ProgramTree}
 use Rattle.cap_parse_tree.specs.Views.{TimesTree, AddendTree, factors_of, products_of, AndTree, items_of, statements_of, else_of, BothTree, EitherTree, declareds_of, joints_of}
 use Rattle.cap_parse_laws.specs.declared.class.Class.{Class}
 use Rattle.cap_parse_laws.specs.declared.class.Class.TheVariants as c
@@ -171,6 +172,8 @@ guard_by room c.Name ts = do
   read_amount room w.0 w.1
 guard_by room c.Source ts = read_counted room Source ts
 guard_by room c.Tokens ts = read_counted room Tokens ts
+guard_by room c.AtIndex ts = read_counted room At ts
+guard_by room c.FromIndex ts = read_counted room From ts
 guard_by room k ts = Err (unexpected ts)
 
 abbrev pub read_guard : ℕ → Reader GuardTree
@@ -319,6 +322,16 @@ read_cas room ts = do
   q ← expect c.Close f.1
   Ok (cas p.0 o.0.1 a.0 m.0 e.0 n.0 f.0 q.0, q.1)
 
+abbrev pub read_faa : ℕ → Reader ValueTree
+read_faa room ts = do
+  p ← next_place ts
+  o ← read_opening room c.Open p.1
+  a ← read_term o.0.0 o.1
+  m ← expect c.Comma a.1
+  e ← read_term o.0.0 m.1
+  q ← expect c.Close e.1
+  Ok (faa p.0 o.0.1 a.0 m.0 e.0 q.0, q.1)
+
 -- a name, behind which a call's arguments or more of a term come
 abbrev pub named_value_by : ℕ → Word → Class → Reader ValueTree
 named_value_by room w c.Open ts = do
@@ -335,6 +348,7 @@ abbrev pub value_by : ℕ → Class → Reader ValueTree
 value_by room c.OpenBracket ts = read_load room ts
 value_by room c.Alloc ts = read_alloc room ts
 value_by room c.Cas ts = read_cas room ts
+value_by room c.Faa ts = read_faa room ts
 value_by room c.Name ts = do
   w ← next_word ts
   read_named_value room w.0 w.1
@@ -419,6 +433,15 @@ read_give_back room ts = do
   e ← expect c.Semicolon t.1
   Ok (give_back p.0 t.0 e.0, e.1)
 
+abbrev pub read_dispose : ℕ → Reader StatementTree
+read_dispose room ts = do
+  p ← next_place ts
+  o ← read_opening room c.Open p.1
+  t ← read_term o.0.0 o.1
+  q ← expect c.Close t.1
+  e ← expect c.Semicolon q.1
+  Ok (dispose p.0 o.0.1 t.0 q.0 e.0, e.1)
+
 abbrev pub statement_by : Reader BlockTree → ℕ → Class → Reader StatementTree
 statement_by blocks room c.Name ts = do
   w ← next_word ts
@@ -429,6 +452,7 @@ statement_by blocks room c.If ts = read_branch blocks room ts
 statement_by blocks room c.While ts = read_loop blocks room ts
 statement_by blocks room c.Assert ts = read_check room ts
 statement_by blocks room c.Return ts = read_give_back room ts
+statement_by blocks room c.Dispose ts = read_dispose room ts
 statement_by blocks room k ts = Err (unexpected ts)
 
 abbrev pub read_statement : Reader BlockTree → ℕ → Reader StatementTree
@@ -447,34 +471,42 @@ block_at (suc room) ts = read_block_with (read_statement (block_at room) room) t
 
 -- region types
 
-abbrev pub declared_by : Reader DeclaredTree → Class → Reader DeclaredTree
-declared_by bracket c.Name ts = do
+abbrev pub read_indexed : ℕ → Reader DeclaredTree
+read_indexed room ts = do
+  o ← read_opening room c.Index ts
+  w ← read_name o.1
+  q ← expect c.CloseBracket w.1
+  Ok (indexed o.0.1 w.0 q.0, q.1)
+
+abbrev pub declared_by : ℕ → Reader DeclaredTree → Class → Reader DeclaredTree
+declared_by room bracket c.Name ts = do
   w ← next_word ts
   Ok (unique w.0, w.1)
-declared_by bracket c.Percent ts = do
+declared_by room bracket c.Percent ts = do
   p ← next_place ts
   w ← read_name p.1
   Ok (divisible p.0 w.0, w.1)
-declared_by bracket c.Bar ts = do
+declared_by room bracket c.Bar ts = do
   p ← next_place ts
   w ← read_name p.1
   q ← expect c.Bar w.1
   Ok (counting p.0 w.0 q.0, q.1)
-declared_by bracket k ts = bracket ts
+declared_by room bracket c.Index ts = read_indexed room ts
+declared_by room bracket k ts = bracket ts
 
-abbrev pub read_declared : Reader DeclaredTree → Reader DeclaredTree
-read_declared bracket ts = declared_by bracket (ahead ts) ts
+abbrev pub read_declared : ℕ → Reader DeclaredTree → Reader DeclaredTree
+read_declared room bracket ts = declared_by room bracket (ahead ts) ts
 
-abbrev pub read_joint : Reader DeclaredTree → Reader JointTree
-read_joint bracket ts = do
-  d ← read_declared bracket ts
-  more ← read_more c.Star (read_declared bracket) d.1
+abbrev pub read_joint : ℕ → Reader DeclaredTree → Reader JointTree
+read_joint room bracket ts = do
+  d ← read_declared room bracket ts
+  more ← read_more c.Star (read_declared room bracket) d.1
   Ok (joint d.0 (declareds_of more.0), more.1)
 
-abbrev pub read_algebra_with : Reader DeclaredTree → Reader AlgebraTree
-read_algebra_with bracket ts = do
-  j ← read_joint bracket ts
-  more ← read_more c.Plus (read_joint bracket) j.1
+abbrev pub read_algebra_with : ℕ → Reader DeclaredTree → Reader AlgebraTree
+read_algebra_with room bracket ts = do
+  j ← read_joint room bracket ts
+  more ← read_more c.Plus (read_joint room bracket) j.1
   Ok (algebra j.0 (joints_of more.0), more.1)
 
 abbrev pub read_grouped : Reader AlgebraTree → Reader DeclaredTree
@@ -486,10 +518,10 @@ read_grouped inner ts = do
 
 abbrev pub grouped_at : ℕ → Reader DeclaredTree
 grouped_at zero ts = no_room c.Open ts
-grouped_at (suc room) ts = read_grouped (read_algebra_with (grouped_at room)) ts
+grouped_at (suc room) ts = read_grouped (read_algebra_with room (grouped_at room)) ts
 
 abbrev pub read_algebra : ℕ → Reader AlgebraTree
-read_algebra room = read_algebra_with (grouped_at room)
+read_algebra room = read_algebra_with room (grouped_at room)
 
 abbrev pub read_when : ℕ → Reader WhenTree
 read_when room ts = do
@@ -612,8 +644,22 @@ declaration_by room k ts = Err (unexpected ts)
 abbrev pub read_declaration : ℕ → Reader DeclarationTree
 read_declaration room ts = declaration_by room (ahead ts) ts
 
+-- in front of a text of the second version
+abbrev pub read_header : Reader Header
+read_header ts = do
+  p ← expect c.Caper ts
+  q ← expect c.Two p.1
+  e ← expect c.Semicolon q.1
+  Ok (record { key = p.0; version = q.0; semicolon = e.0 }, e.1)
+
+abbrev pub read_parts : ℕ → Reader (Option Header × List DeclarationTree)
+read_parts room ts = do
+  h ← read_optional (are_same c.Caper) read_header ts
+  ds ← read_until c.End (read_declaration room) h.1
+  Ok ((h.0, ds.0), ds.1)
+
 -- the whole text, where so many brackets may be open at once
 abbrev pub read_program : ℕ → List Token → Result ProgramTree Fault
 read_program room ts = do
-  ds ← read_until c.End (read_declaration room) ts
-  Ok (record { declarations = ds.0 })
+  x ← read_parts room ts
+  Ok (record { header = x.0.0; declarations = x.0.1 })

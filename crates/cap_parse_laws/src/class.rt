@@ -33,6 +33,13 @@ pub enum Class {
     False,
     Source,
     Tokens,
+    Caper,
+    Two,
+    Faa,
+    Dispose,
+    AtIndex,
+    FromIndex,
+    Index,
     Open,
     Close,
     OpenBrace,
@@ -70,7 +77,8 @@ pub fn are_same(a: Class, b: Class) -> bool
     a == b
 }
 
-fn keyword_class(text: &[u8]) -> Class
+/// The class of a keyword.
+pub fn keyword_class(text: &[u8]) -> Class
     ensures { result ≡ keyword_class text.now }
 {
     if text == b"region".as_slice() {
@@ -115,6 +123,20 @@ fn keyword_class(text: &[u8]) -> Class
         Class::Source
     } else if text == b"tok".as_slice() {
         Class::Tokens
+    } else if text == b"caper".as_slice() {
+        Class::Caper
+    } else if text == b"2".as_slice() {
+        Class::Two
+    } else if text == b"FAA".as_slice() {
+        Class::Faa
+    } else if text == b"dispose".as_slice() {
+        Class::Dispose
+    } else if text == b"at".as_slice() {
+        Class::AtIndex
+    } else if text == b"from".as_slice() {
+        Class::FromIndex
+    } else if text == b"[".as_slice() {
+        Class::Index
     } else {
         Class::Other
     }

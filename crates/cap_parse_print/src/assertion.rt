@@ -20,6 +20,8 @@ fn counted_text(counted: Counted) -> &'static [u8]
     match counted {
         Counted::Source => b"src",
         Counted::Tokens => b"tok",
+        Counted::At => b"at",
+        Counted::From => b"from",
     }
 }
 

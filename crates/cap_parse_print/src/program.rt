@@ -4,12 +4,13 @@
 ghost use Rattle.std.specs.Prelude.{◌≡◌, IfOk, [], map};
 ghost use Rattle.cap_parse_tree.specs.Tree.{DeclarationTree};
 ghost use Rattle.cap_parse_tree.specs.Canonical.{canonical_text};
-ghost use Rattle.cap_parse_tree.specs.Spelling.{spell_function, spell_declaration, spelling};
+ghost use Rattle.cap_parse_tree.specs.Spelling.{spell_function, spell_declaration, spell_option};
+ghost use Rattle.cap_parse_tree.specs.Spelling.{spell_header, spelling};
 ghost use Rattle.cap_parse_tree.specs.Views.{function_view, declaration_view, tree_view};
 
 use crate::list::Part;
 use crate::tail::Tail;
-use cap_parse_tree::{Declaration, Function, Tree};
+use cap_parse_tree::{Declaration, Function, Header, Tree};
 use std::alloc::{AllocError, Global};
 
 impl<'a> Tail<'a> {
@@ -34,6 +35,19 @@ impl<'a> Tail<'a> {
             Declaration::Function(function) => self.function(function),
         }
     }
+
+    fn header(&mut self, header: &Option<Header>) -> Result<(), AllocError>
+        ensures { IfOk result (λ _. self.new ≡ spell_option spell_header header.now self.old) }
+    {
+        match header {
+            Some(header) => {
+                self.symbol(b";", header.semicolon)?;
+                self.keyword(b"2", header.version)?;
+                self.keyword(b"caper", header.key)
+            }
+            None => Ok(()),
+        }
+    }
 }
 
 impl Part for Declaration {
@@ -56,5 +70,6 @@ pub fn print(alloc: Global, tree: &Tree) -> Result<Vec<u8>, AllocError>
 {
     let mut tail = Tail::new(alloc);
     tail.all(&tree.declarations)?;
+    tail.header(&tree.header)?;
     tail.text(alloc)
 }

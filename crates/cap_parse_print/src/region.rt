@@ -33,6 +33,11 @@ impl<'a> Tail<'a> {
                 self.name(name)?;
                 self.symbol(b"|", *open)
             }
+            Declared::Indexed(open, name, close) => {
+                self.symbol(b"]", *close)?;
+                self.name(name)?;
+                self.keyword(b"[", *open)
+            }
             Declared::Bracketed(open, algebra, close) => {
                 self.symbol(b")", *close)?;
                 self.algebra(algebra)?;

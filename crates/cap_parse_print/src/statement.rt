@@ -38,6 +38,14 @@ impl<'a> Tail<'a> {
                 self.symbol(b"(", *open)?;
                 self.keyword(b"CAS", *key)
             }
+            Value::Faa(key, open, address, comma, term, close) => {
+                self.symbol(b")", *close)?;
+                self.term(term)?;
+                self.symbol(b",", *comma)?;
+                self.term(address)?;
+                self.symbol(b"(", *open)?;
+                self.keyword(b"FAA", *key)
+            }
             Value::Call(name, arguments) => {
                 self.listed(arguments)?;
                 self.name(name)
@@ -106,6 +114,13 @@ impl<'a> Tail<'a> {
                 self.symbol(b";", *semicolon)?;
                 self.optional(term)?;
                 self.keyword(b"return", *key)
+            }
+            Statement::Dispose(key, open, address, close, semicolon) => {
+                self.symbol(b";", *semicolon)?;
+                self.symbol(b")", *close)?;
+                self.term(address)?;
+                self.symbol(b"(", *open)?;
+                self.keyword(b"dispose", *key)
             }
         }
     }

@@ -4,4 +4,3 @@ pub mod Spelling
 pub mod Nesting
 pub mod Canonical
 pub mod Views
-pub mod Texts

@@ -3,7 +3,7 @@ use Rattle.std.specs.Prelude.{ℕ, zero, suc, List, [], ◌∷◌, Bool, true, f
 use Rattle.std.specs.Str.{bytes_eq}
 use Rattle.cap_syntax.specs.declared.token.Token.{Token}
 use Rattle.cap_syntax.specs.declared.token.TokenKind.{TokenKind}
-use Rattle.cap_syntax.specs.declared.token.TokenKind.TheVariants.{Symbol}
+use Rattle.cap_syntax.specs.declared.token.TokenKind.TheVariants.{Keyword, Symbol}
 use Rattle.cap_parse_tree.specs.Tree.{ProgramTree}
 use Rattle.cap_parse_tree.specs.Spelling.{spelling}
 
@@ -11,9 +11,17 @@ abbrev pub is_symbol : TokenKind → Bool
 is_symbol Symbol = true
 is_symbol _ = false
 
+abbrev pub is_keyword : TokenKind → Bool
+is_keyword Keyword = true
+is_keyword _ = false
+
+-- the `[` of an indexed guard's declaration is seen as a keyword
+abbrev pub opens_index : Token → Bool
+opens_index t = is_keyword t.kind && bytes_eq t.text (codes "[")
+
 abbrev pub opens : Token → Bool
 opens t =
-    is_symbol t.kind && (bytes_eq t.text (codes "(") || bytes_eq t.text (codes "[")
+    opens_index t || is_symbol t.kind && (bytes_eq t.text (codes "(") || bytes_eq t.text (codes "[")
     || bytes_eq t.text (codes "{"))
 
 abbrev pub closes : Token → Bool

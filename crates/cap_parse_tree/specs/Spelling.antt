@@ -8,8 +8,9 @@ use Rattle.cap_parse_tree.specs.declared.term.Sign.TheVariants.{Plus, Minus}
 use Rattle.cap_parse_tree.specs.declared.term.Relation.{Relation}
 use Rattle.cap_parse_tree.specs.declared.term.Relation.TheVariants.{Equal, Unequal, Less, AtMost, Greater, AtLeast}
 use Rattle.cap_parse_tree.specs.declared.assertion.Counted.{Counted}
-use Rattle.cap_parse_tree.specs.declared.assertion.Counted.TheVariants.{Source, Tokens}
-use Rattle.cap_parse_tree.specs.Tree.{Several, InParentheses, InBraces, FactorTree, literal, whole_share, named, bracketed, ProductTree, product, FactorTrees, no_factor, times, TermTree, term, ProductTrees, no_product, signed, ComparisonTree, SlotTree, any, is, GuardTree, alone, amount, count, GuardsTree, HeldTree, bare, in_parentheses, ItemTree, holds, fails, fact, guards, cell, compare, choose, ItemTrees, no_item, and_item, AssertionTree, assertion, SideTree, side, ClauseTree, ValueTree, value, load, alloc, cas, result_of, StatementTree, assign, store, call, fork, branch, loop, check, give_back, ElseTree, no_else, else_block, StatementTrees, no_statement, then_statement, BlockTree, block, DeclaredTree, unique, divisible, counting, grouped, DeclaredTrees, no_declared, and_declared, JointTree, joint, JointTrees, no_joint, or_joint, AlgebraTree, algebra, WhenTree, CaseTree, ActionTree, RegionTree, FunctionTree, DeclarationTree, region, function, ProgramTree}
+use Rattle.cap_parse_tree.specs.declared.tree.Header.{Header}
+use Rattle.cap_parse_tree.specs.declared.assertion.Counted.TheVariants.{Source, Tokens, At, From}
+use Rattle.cap_parse_tree.specs.Tree.{Several, InParentheses, InBraces, FactorTree, literal, whole_share, named, bracketed, ProductTree, product, FactorTrees, no_factor, times, TermTree, term, ProductTrees, no_product, signed, ComparisonTree, SlotTree, any, is, GuardTree, alone, amount, count, GuardsTree, HeldTree, bare, in_parentheses, ItemTree, holds, fails, fact, guards, cell, compare, choose, ItemTrees, no_item, and_item, AssertionTree, assertion, SideTree, side, ClauseTree, ValueTree, value, load, alloc, cas, faa, result_of, StatementTree, assign, store, call, fork, branch, loop, check, give_back, dispose, ElseTree, no_else, else_block, StatementTrees, no_statement, then_statement, BlockTree, block, DeclaredTree, unique, divisible, counting, indexed, grouped, DeclaredTrees, no_declared, and_declared, JointTree, joint, JointTrees, no_joint, or_joint, AlgebraTree, algebra, WhenTree, CaseTree, ActionTree, RegionTree, FunctionTree, DeclarationTree, region, function, ProgramTree}
 use Rattle.cap_parse_tree.specs.Tokens.{name, number, share, wildcard, keyword, symbol}
 
 -- what a part spells, in front of what follows
@@ -100,6 +101,8 @@ spell_slot (is t) ts = spell_term t ts
 abbrev pub counted_text : Counted → List ℕ
 counted_text Source = codes "src"
 counted_text Tokens = codes "tok"
+counted_text At = codes "at"
+counted_text From = codes "from"
 
 abbrev pub spell_guard : Spells GuardTree
 spell_guard (alone w) ts = name w ∷ ts
@@ -159,6 +162,9 @@ spell_value (cas p q a c e d f r) ts =
     keyword (codes "CAS") p ∷ symbol (codes "(") q
     ∷ spell_term a (symbol (codes ",") c
     ∷ spell_term e (symbol (codes ",") d ∷ spell_term f (symbol (codes ")") r ∷ ts)))
+spell_value (faa p q a c e r) ts =
+    keyword (codes "FAA") p ∷ symbol (codes "(") q
+    ∷ spell_term a (symbol (codes ",") c ∷ spell_term e (symbol (codes ")") r ∷ ts))
 spell_value (result_of w l) ts = name w ∷ spell_terms l ts
 
 abbrev mutual
@@ -183,6 +189,9 @@ abbrev mutual
       keyword (codes "assert") p ∷ spell_comparison c (symbol (codes ";") e ∷ ts)
   spell_statement (give_back p t e) ts =
       keyword (codes "return") p ∷ spell_option spell_term t (symbol (codes ";") e ∷ ts)
+  spell_statement (dispose p q t r e) ts =
+      keyword (codes "dispose") p ∷ symbol (codes "(") q
+      ∷ spell_term t (symbol (codes ")") r ∷ symbol (codes ";") e ∷ ts)
 
   pub spell_else : Spells ElseTree
   spell_else no_else ts = ts
@@ -203,6 +212,7 @@ abbrev mutual
   spell_declared (unique w) ts = name w ∷ ts
   spell_declared (divisible p w) ts = symbol (codes "%") p ∷ name w ∷ ts
   spell_declared (counting p w q) ts = symbol (codes "|") p ∷ name w ∷ symbol (codes "|") q ∷ ts
+  spell_declared (indexed p w q) ts = keyword (codes "[") p ∷ name w ∷ symbol (codes "]") q ∷ ts
   spell_declared (grouped p a q) ts = symbol (codes "(") p ∷ spell_algebra a (symbol (codes ")") q ∷ ts)
 
   pub spell_declareds : Spells DeclaredTrees
@@ -256,6 +266,11 @@ abbrev pub spell_declaration : Spells DeclarationTree
 spell_declaration (region r) ts = spell_region r ts
 spell_declaration (function f) ts = spell_function f ts
 
+-- of a text of the second version: its first two tokens are seen as keywords
+abbrev pub spell_header : Spells Header
+spell_header h ts =
+    keyword (codes "caper") h.key ∷ keyword (codes "2") h.version ∷ symbol (codes ";") h.semicolon ∷ ts
+
 -- the tokens of the whole text, its end left out
 abbrev pub spelling : ProgramTree → List Token
-spelling t = spell_all spell_declaration t.declarations []
+spelling t = spell_option spell_header t.header (spell_all spell_declaration t.declarations [])

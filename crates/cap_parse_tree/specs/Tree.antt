@@ -7,6 +7,7 @@ use Rattle.cap_parse_tree.specs.declared.word.Literal.{Literal}
 use Rattle.cap_parse_tree.specs.declared.term.Sign.{Sign}
 use Rattle.cap_parse_tree.specs.declared.term.Relation.{Relation}
 use Rattle.cap_parse_tree.specs.declared.assertion.Counted.{Counted}
+use Rattle.cap_parse_tree.specs.declared.tree.Header.{Header}
 
 -- A { "," A }, A { "*" A }: a part, and others, each behind the place of its separator
 pub record Several (A : Type 0) : Type 0 where
@@ -72,7 +73,7 @@ pub data SlotTree : Type 0 where
   any : Place → SlotTree
   is : TermTree → SlotTree
 
--- gatom = NAME [ "[" slot "]" ] | ( "src" | "tok" ) NAME "[" slot "]"
+-- gatom = NAME [ "[" slot "]" ] | ( "src" | "tok" | "at" | "from" ) NAME "[" slot "]"
 pub data GuardTree : Type 0 where
   alone : Word → GuardTree
   amount : Word → Place → SlotTree → Place → GuardTree
@@ -123,12 +124,13 @@ pub data ValueTree : Type 0 where
   load : Place → TermTree → Place → ValueTree
   alloc : Place → Place → Literal → Place → ValueTree
   cas : Place → Place → TermTree → Place → TermTree → Place → TermTree → Place → ValueTree
+  faa : Place → Place → TermTree → Place → TermTree → Place → ValueTree
   result_of : Word → InParentheses TermTree → ValueTree
 
 -- stmt = NAME ":=" rhs ";" | "[" term "]" ":=" term ";" | NAME "(" [ term { "," term } ] ")" ";"
 --      | "fork" NAME "(" [ term { "," term } ] ")" ";" | "if" "(" comp ")" block [ "else" block ]
 --      | "while" "(" comp ")" [ "invariant" assertion ";" ] block | "assert" comp ";"
---      | "return" [ term ] ";"
+--      | "return" [ term ] ";" | "dispose" "(" term ")" ";"
 -- block = "{" { stmt } "}"
 mutual
   pub data StatementTree : Type 0 where
@@ -140,6 +142,7 @@ mutual
     loop : Place → Place → ComparisonTree → Place → Option ClauseTree → BlockTree → StatementTree
     check : Place → ComparisonTree → Place → StatementTree
     give_back : Place → Option TermTree → Place → StatementTree
+    dispose : Place → Place → TermTree → Place → Place → StatementTree
 
   pub data ElseTree : Type 0 where
     no_else : ElseTree
@@ -152,7 +155,7 @@ mutual
   pub data BlockTree : Type 0 where
     block : Place → StatementTrees → Place → BlockTree
 
--- galg = NAME | "%" NAME | "|" NAME "|" | "(" algebra ")"
+-- galg = NAME | "%" NAME | "|" NAME "|" | "[" NAME "]" | "(" algebra ")"
 -- product = galg { "*" galg }
 -- algebra = product { "+" product }
 mutual
@@ -160,6 +163,7 @@ mutual
     unique : Word → DeclaredTree
     divisible : Place → Word → DeclaredTree
     counting : Place → Word → Place → DeclaredTree
+    indexed : Place → Word → Place → DeclaredTree
     grouped : Place → AlgebraTree → Place → DeclaredTree
 
   pub data DeclaredTrees : Type 0 where
@@ -231,4 +235,5 @@ pub data DeclarationTree : Type 0 where
 
 -- program = { region | function }
 pub record ProgramTree : Type 0 where
+  pub header : Option Header
   pub declarations : List DeclarationTree

@@ -45,7 +45,7 @@ use Rattle.cap_parse_tree.specs.declared.tree.Declaration.{Declaration}
 use Rattle.cap_parse_tree.specs.declared.tree.Declaration.TheVariants as a_declaration
 use Rattle.cap_parse_tree.specs.declared.tree.Tree.{Tree}
 use Rattle.cap_parse_tree.specs.declared.word.Word.{Word}
-use Rattle.cap_parse_tree.specs.Tree.{Several, InParentheses, InBraces, FactorTree, literal, whole_share, named, bracketed, ProductTree, product, FactorTrees, no_factor, times, TermTree, term, ProductTrees, no_product, signed, ComparisonTree, SlotTree, any, is, GuardTree, alone, amount, count, GuardsTree, HeldTree, bare, in_parentheses, ItemTree, holds, fails, fact, guards, cell, compare, choose, ItemTrees, no_item, and_item, AssertionTree, assertion, SideTree, side, ClauseTree, ValueTree, value, load, alloc, cas, result_of, StatementTree, assign, store, call, fork, branch, loop, check, give_back, ElseTree, no_else, else_block, StatementTrees, no_statement, then_statement, BlockTree, block, DeclaredTree, unique, divisible, counting, grouped, DeclaredTrees, no_declared, and_declared, JointTree, joint, JointTrees, no_joint, or_joint, AlgebraTree, algebra, WhenTree, CaseTree, ActionTree, RegionTree, FunctionTree, DeclarationTree, region, function, ProgramTree}
+use Rattle.cap_parse_tree.specs.Tree.{Several, InParentheses, InBraces, FactorTree, literal, whole_share, named, bracketed, ProductTree, product, FactorTrees, no_factor, times, TermTree, term, ProductTrees, no_product, signed, ComparisonTree, SlotTree, any, is, GuardTree, alone, amount, count, GuardsTree, HeldTree, bare, in_parentheses, ItemTree, holds, fails, fact, guards, cell, compare, choose, ItemTrees, no_item, and_item, AssertionTree, assertion, SideTree, side, ClauseTree, ValueTree, value, load, alloc, cas, faa, result_of, StatementTree, assign, store, call, fork, branch, loop, check, give_back, dispose, ElseTree, no_else, else_block, StatementTrees, no_statement, then_statement, BlockTree, block, DeclaredTree, unique, divisible, counting, indexed, grouped, DeclaredTrees, no_declared, and_declared, JointTree, joint, JointTrees, no_joint, or_joint, AlgebraTree, algebra, WhenTree, CaseTree, ActionTree, RegionTree, FunctionTree, DeclarationTree, region, function, ProgramTree}
 
 -- lists
 
@@ -199,6 +199,7 @@ value_view (a_value.Term t) = value (term_view t)
 value_view (a_value.Load p t q) = load p (term_view t) q
 value_view (a_value.Alloc p q n r) = alloc p q n r
 value_view (a_value.Cas p q a c e d f r) = cas p q (term_view a) c (term_view e) d (term_view f) r
+value_view (a_value.Faa p q a c e r) = faa p q (term_view a) c (term_view e) r
 value_view (a_value.Call w l) = result_of w (listed_view term_view l)
 
 abbrev pub statements_of : List StatementTree → StatementTrees
@@ -219,6 +220,7 @@ statement_step (Statement-F.While p q c r i b) =
     loop p q (comparison_view c) r (option_map clause_view i) b
 statement_step (Statement-F.Assert p c e) = check p (comparison_view c) e
 statement_step (Statement-F.Return p t e) = give_back p (option_map term_view t) e
+statement_step (Statement-F.Dispose p q t r e) = dispose p q (term_view t) r e
 
 abbrev pub block_step : Block-F StatementTree BlockTree ElseTree → BlockTree
 block_step b = block b.«open» (statements_of b.statements.items) b.close
@@ -256,6 +258,7 @@ abbrev pub declared_step : Declared-F DeclaredTree AlgebraTree BothTree EitherTr
 declared_step (Declared-F.Unique w) = unique w
 declared_step (Declared-F.Divisible p w) = divisible p w
 declared_step (Declared-F.Counting p w q) = counting p w q
+declared_step (Declared-F.Indexed p w q) = indexed p w q
 declared_step (Declared-F.Bracketed p a q) = grouped p a.value q
 
 abbrev pub algebra_step : Algebra-F DeclaredTree AlgebraTree BothTree EitherTree JointTree → AlgebraTree
@@ -349,4 +352,4 @@ declaration_view (a_declaration.Region r) = region (region_view r)
 declaration_view (a_declaration.Function f) = function (function_view f)
 
 abbrev pub tree_view : Tree → ProgramTree
-tree_view t = record { declarations = map declaration_view t.declarations.items }
+tree_view t = record { header = t.header; declarations = map declaration_view t.declarations.items }

@@ -6,15 +6,17 @@ use crate::term::{Comparison, Slot, Term};
 use crate::word::Word;
 use cap_syntax::Place;
 
-/// `src` or `tok`.
+/// `src`, `tok`, `at` or `from`.
 #[derive(Clone, Copy, Debug, PartialEq, Eq)]
 pub enum Counted {
     Source,
     Tokens,
+    At,
+    From,
 }
 
-/// A guard's name alone, with an amount in brackets, or with a count in brackets behind `src` or
-/// `tok`.
+/// A guard's name alone, with an amount in brackets, or with a count or an index in brackets behind
+/// `src`, `tok`, `at` or `from`.
 #[derive(Drop)]
 pub enum GuardAtom {
     Alone(Word),

@@ -7,13 +7,14 @@ use crate::term::{Comparison, Term};
 use crate::word::Word;
 use cap_syntax::Place;
 
-/// A guard that a region type declares: `G`, `%G`, `|G|`, or an algebra in parentheses.
+/// A guard that a region type declares: `G`, `%G`, `|G|`, `[G]`, or an algebra in parentheses.
 #[cycle(algebras)]
 #[derive(Drop)]
 pub enum Declared {
     Unique(Word),
     Divisible(Place, Word),
     Counting(Place, Word, Place),
+    Indexed(Place, Word, Place),
     Bracketed(Place, Box<Algebra>, Place),
 }
 

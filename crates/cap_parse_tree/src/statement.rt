@@ -8,13 +8,15 @@ use crate::word::{Literal, Word};
 use cap_syntax::Place;
 
 /// What stands behind `:=`: a term; `Load`, an address in brackets; `Alloc`, `alloc ( NUMBER )`;
-/// `Cas`, `CAS ( term , term , term )`; `Call`, a function and its arguments.
+/// `Cas`, `CAS ( term , term , term )`; `Faa`, `FAA ( term , term )`; `Call`, a function and its
+/// arguments.
 #[derive(Drop)]
 pub enum Value {
     Term(Term),
     Load(Place, Term, Place),
     Alloc(Place, Place, Literal, Place),
     Cas(Place, Place, Term, Place, Term, Place, Term, Place),
+    Faa(Place, Place, Term, Place, Term, Place),
     Call(Word, Listed<Term>),
 }
 
@@ -32,6 +34,7 @@ pub enum Statement {
     While(Place, Place, Comparison, Place, Option<Clause>, Block),
     Assert(Place, Comparison, Place),
     Return(Place, Option<Term>, Place),
+    Dispose(Place, Place, Term, Place, Place),
 }
 
 /// Statements in braces.

@@ -26,8 +26,17 @@ pub enum Declaration {
     Function(Function),
 }
 
+/// `caper 2 ;` in front of a text of the second version.
+#[derive(Clone, Copy, Debug, PartialEq, Eq)]
+pub struct Header {
+    pub key: Place,
+    pub version: Place,
+    pub semicolon: Place,
+}
+
 /// The tree of a text.
 #[derive(Drop)]
 pub struct Tree {
+    pub header: Option<Header>,
     pub declarations: Vec<Declaration>,
 }

@@ -19,14 +19,17 @@ pub enum Slot {
     Is(Term),
 }
 
-/// What is asked of a guard: the whole of a unique one, an amount of a divisible one, or of a counting
-/// one the source with a count of tokens out, or a count of tokens.
+/// What is asked of a guard: the whole of a unique one; an amount of a divisible one; of a counting
+/// one the source with a count of tokens out, or a count of tokens; of an indexed one an index, or
+/// all indices from one on.
 #[derive(Debug, Drop)]
 pub enum Asked {
     One,
     Share(Slot),
     Src(Slot),
     Tok(Slot),
+    At(Slot),
+    From(Slot),
 }
 
 /// An item of an assertion. A variable is numbered as in the terms around it; region types,

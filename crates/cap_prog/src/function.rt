@@ -42,6 +42,10 @@ pub enum Act {
     Write(Term, Term),
     /// Compares the cell at an address with a value, and where they are equal swaps in another one.
     Cas(u32, Term, Term, Term),
+    /// Reads the cell at an address, and adds a value, which comes last, to what the cell holds.
+    Faa(u32, Term, Term),
+    /// Takes the cell at an address out of the heap.
+    Dispose(Term),
     /// Allocates cells, as many as the second number says.
     Alloc(u32, u32),
     /// Calls a function, by its number, at arguments.

@@ -10,7 +10,7 @@ use Rattle.cap_prog.specs.declared.function.Statement.{Statement}
 use Rattle.cap_prog.specs.declared.function.Act.{Act}
 use Rattle.cap_prog.specs.declared.function.Act.TheVariants as act
 use Rattle.cap_prog.specs.declared.function.Act.TheFolds.{the_lemmas}
-use Rattle.cap_prog.specs.Program.{PlainProgram, Label, Block, PlainAct, set, read, write, cas, alloc, call, fork, branch, loop, check, give_back}
+use Rattle.cap_prog.specs.Program.{PlainProgram, Label, Block, PlainAct, set, read, write, cas, faa, dispose, alloc, call, fork, branch, loop, check, give_back}
 use Rattle.cap_prog.specs.Views.{act_view, statement_view}
 use Rattle.cap_goal_spec.specs.States.{PlainState, Home, PlainTask}
 use Rattle.cap_goal_spec.specs.Choices.{by_set, by_alloc, by_assert, by_if, by_loop, by_turn, by_call, by_fork, by_return}
@@ -121,6 +121,14 @@ no-address (write a t) h = absurd (clash h)
     clash : false ≡ true → ⊥
     clash e = cc
 no-address (cas x a old new) h = absurd (clash h)
+  where
+    clash : false ≡ true → ⊥
+    clash e = cc
+no-address (faa x a t) h = absurd (clash h)
+  where
+    clash : false ≡ true → ⊥
+    clash e = cc
+no-address (dispose a) h = absurd (clash h)
   where
     clash : false ≡ true → ⊥
     clash e = cc

@@ -105,7 +105,7 @@ fn at_head<'a>(
         Choice::Enter(_, _)
         | Choice::Act(_, _, _)
         | Choice::Pick(_, _, _)
-        | Choice::Shift(_)
+        | Choice::Shift(_, _)
         | Choice::Settle(_, _)
         | Choice::Keep(_)
         | Choice::Give

@@ -237,7 +237,7 @@ pub(crate) fn at_statement<'t, 'a>(
         | Choice::Enter(_, _)
         | Choice::Act(_, _, _)
         | Choice::Pick(_, _, _)
-        | Choice::Shift(_)
+        | Choice::Shift(_, _)
         | Choice::Settle(_, _)
         | Choice::Keep(_)
         | Choice::Give

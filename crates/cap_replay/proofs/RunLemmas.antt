@@ -4,7 +4,7 @@ use Rattle.std.specs.Prelude.{ℤ, Option, Some, None, slice_get, Result, Ok, Er
 use Rattle.std.specs.FinMap.{get}
 use Rattle.std.proofs.lemmas.List.{get_or_default}
 use Rattle.cap_lin.specs.declared.row.Op.TheVariants.{Eq as Equal}
-use Rattle.cap_prog.specs.Program.{Label, PlainAct, set, read, write, cas, alloc, call, fork, branch, loop, check, give_back, Block, done, first, PlainFunction, PlainProgram}
+use Rattle.cap_prog.specs.Program.{Label, PlainAct, set, read, write, cas, faa, dispose, alloc, call, fork, branch, loop, check, give_back, Block, done, first, PlainFunction, PlainProgram}
 use Rattle.cap_machine.specs.declared.event.Ahead.{Ahead}
 use Rattle.cap_machine.specs.declared.event.Entry.{Entry}
 use Rattle.cap_machine.specs.declared.event.Event.{Event}
@@ -12,7 +12,7 @@ use Rattle.cap_machine.specs.declared.event.Event.TheVariants.{Failed}
 use Rattle.cap_machine.specs.declared.event.StepError.{StepError}
 use Rattle.cap_machine.specs.declared.event.StepError.TheVariants.{NotEnabled as IsNotEnabled}
 use Rattle.cap_machine.specs.declared.machine.Machine.{Machine}
-use Rattle.cap_machine.specs.Machine.{Frame, Thread, Configuration, Outcome, next, fault, disabled, Spot, at_cell, swaps, may_be_at, allocates, calls, forks, returns, does, takes_base, statement_step, thread_step, step, value_in, holds, compared}
+use Rattle.cap_machine.specs.Machine.{Frame, Thread, Configuration, Outcome, next, fault, disabled, Spot, at_cell, swaps, adds, may_be_at, allocates, calls, forks, returns, does, takes_base, statement_step, thread_step, step, value_in, holds, compared}
 use Rattle.cap_machine.specs.Laws.{is_step}
 use Rattle.cap_machine.specs.Ready.{ahead}
 use Rattle.cap_machine.specs.Results.{entry_steps, are_narrow}
@@ -61,6 +61,9 @@ does-tells p s l (read x t) b base = at_cell-tells _ (get s.configuration.heap (
 does-tells p s l (write t u) b base = at_cell-tells _ (get s.configuration.heap (value_in s.frame.store t)) _ (λ v. refl)
 does-tells p s l (cas x t old new) b base =
     at_cell-tells _ (get s.configuration.heap (value_in s.frame.store t)) (swaps s b x (value_in s.frame.store t) (value_in s.frame.store old) (value_in s.frame.store new)) (λ v. choice-tells (compared Equal v (value_in s.frame.store old)) _ _ refl refl)
+does-tells p s l (faa x t u) b base =
+    at_cell-tells _ (get s.configuration.heap (value_in s.frame.store t)) (adds s b x (value_in s.frame.store t) (value_in s.frame.store u)) (λ v. refl)
+does-tells p s l (dispose t) b base = at_cell-tells _ (get s.configuration.heap (value_in s.frame.store t)) _ (λ v. refl)
 does-tells p s l (alloc x n) b base = allocates-tells s b x n base
 does-tells p s l (call x n args) b base = calls-tells s b n (map (value_in s.frame.store) args) x (slice_get p.functions n)
 does-tells p s l (fork n args) b base = forks-tells s b n (map (value_in s.frame.store) args) (slice_get p.functions n)

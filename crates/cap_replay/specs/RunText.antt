@@ -8,7 +8,7 @@ use Rattle.cap_prog.specs.Program.{PlainProgram}
 use Rattle.cap_machine.specs.declared.event.Ahead.{Ahead}
 use Rattle.cap_machine.specs.declared.event.Entry.{Entry}
 use Rattle.cap_machine.specs.declared.event.Event.{Event}
-use Rattle.cap_machine.specs.declared.event.Event.TheVariants.{Set, Read, Write, Cas, Alloc, Call, Fork, Branch, Assert, Return, End as Ends, Bad, Failed}
+use Rattle.cap_machine.specs.declared.event.Event.TheVariants.{Set, Read, Write, Cas, Faa, Dispose, Alloc, Call, Fork, Branch, Assert, Return, End as Ends, Bad, Failed}
 use Rattle.cap_machine.specs.Machine.{Configuration, Outcome, next, fault, disabled, step, start}
 use Rattle.cap_machine.specs.Ready.{ahead}
 use Rattle.cap_machine.specs.Results.{entry_steps, are_narrow}
@@ -27,6 +27,8 @@ event_text (Read a v) = codes "read " ++ pair_text a v
 event_text (Write a v) = codes "write " ++ pair_text a v
 event_text (Cas a true) = codes "cas " ++ signed_decimal a ++ codes " 1"
 event_text (Cas a false) = codes "cas " ++ signed_decimal a ++ codes " 0"
+event_text (Faa a v) = codes "faa " ++ pair_text a v
+event_text (Dispose a) = codes "dispose " ++ signed_decimal a
 event_text (Alloc b) = codes "alloc " ++ signed_decimal b
 event_text Call = codes "call"
 event_text (Fork thread) = codes "fork " ++ decimal thread

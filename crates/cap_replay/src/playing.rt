@@ -55,6 +55,8 @@ fn event_text(alloc: Global, event: Event) -> Result<String, AllocError>
         Event::Write(cell, value) => pair_text(alloc, "write ", cell, value),
         Event::Cas(cell, true) => format!(in alloc; "cas {cell} 1"),
         Event::Cas(cell, false) => format!(in alloc; "cas {cell} 0"),
+        Event::Faa(cell, value) => pair_text(alloc, "faa ", cell, value),
+        Event::Dispose(cell) => format!(in alloc; "dispose {cell}"),
         Event::Alloc(base) => format!(in alloc; "alloc {base}"),
         Event::Call => String::from_str(alloc, "call"),
         Event::Fork(thread) => format!(in alloc; "fork {thread}"),

@@ -19,7 +19,7 @@ use crate::names::note_repeated;
 use cap_galg::Atom;
 use cap_lin::Sort;
 use cap_parse_tree::{GuardAtom, Guards, Item, Word};
-use cap_resolve_parts::{Placed, atom_place, atom_word, atoms_held, word_count};
+use cap_resolve_parts::{Placed, atom_place, atom_word, atoms_held, counts_indices, word_count};
 use cap_resolve_tables::{Numbered, RegionTable, Types};
 use cap_resolve_terms::{Cause, Noted, Scope};
 use std::alloc::{AllocError, Global};
@@ -45,7 +45,11 @@ fn has_form(kind: Atom, atom: &GuardAtom) -> bool
             GuardAtom::Alone(_) | GuardAtom::Count(_, _, _, _, _, _) => false,
         },
         Atom::Counting => match atom {
-            GuardAtom::Count(_, _, _, _, _, _) => true,
+            GuardAtom::Count(counted, _, _, _, _, _) => !counts_indices(*counted),
+            GuardAtom::Alone(_) | GuardAtom::Amount(_, _, _, _) => false,
+        },
+        Atom::Indexed => match atom {
+            GuardAtom::Count(counted, _, _, _, _, _) => counts_indices(*counted),
             GuardAtom::Alone(_) | GuardAtom::Amount(_, _, _, _) => false,
         },
     }

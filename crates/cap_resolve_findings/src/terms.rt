@@ -84,7 +84,7 @@ fn kind_sort(kind: Option<Atom>) -> Option<Sort>
     match kind {
         None => None,
         Some(Atom::Divisible) => Some(Sort::Perm),
-        Some(Atom::Unique) | Some(Atom::Counting) => Some(Sort::Int),
+        Some(Atom::Unique) | Some(Atom::Counting) | Some(Atom::Indexed) => Some(Sort::Int),
     }
 }
 

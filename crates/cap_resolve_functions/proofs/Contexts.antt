@@ -2,7 +2,7 @@
 use Rattle.std.proofs.Common.{◌≡◌, ℕ, ◌+◌, List, length, Option, Some, None, refl, ap, ◌∙◌}
 use Rattle.cap_syntax.specs.declared.place.Place.{Place}
 use Rattle.cap_parse_tree.specs.declared.word.Word.{Word}
-use Rattle.cap_parse_tree.specs.Tree.{TermTree, ValueTree, value, load, alloc, cas, result_of, StatementTree, assign, store, call, fork, branch, loop, check, give_back, ElseTree, no_else, else_block, StatementTrees, no_statement, then_statement, BlockTree, block}
+use Rattle.cap_parse_tree.specs.Tree.{TermTree, ValueTree, value, load, alloc, cas, faa, result_of, StatementTree, assign, store, call, fork, branch, loop, check, give_back, dispose, ElseTree, no_else, else_block, StatementTrees, no_statement, then_statement, BlockTree, block}
 use Rattle.cap_prog.specs.Program.{PlainAct, Block, first, append}
 use Rattle.cap_prog.specs.Program as plain
 use Rattle.cap_resolve_spec.specs.Parts.{statement_parts, block_parts}
@@ -29,6 +29,7 @@ module _ (g : Context) (r : NameScope) (given : List Word) (counted : List Place
   assign-same x (load p t q) = refl
   assign-same x (alloc p q n e) = refl
   assign-same x (cas p q a c e d f h) = refl
+  assign-same x (faa p q a c e r) = refl
   assign-same x (result_of w l) = refl
 
   returned-same : (t : Option TermTree) → returned (with_rest g r given counted) t ≡ returned g t
@@ -47,6 +48,7 @@ module _ (g : Context) (r : NameScope) (given : List Word) (counted : List Place
     act-same n (loop p q c k i b) = ap (plain.loop (comparison_program g.body c) (new_assertion g g.loop i)) (block-same (n + 1) b)
     act-same n (check p c e) = refl
     act-same n (give_back p t e) = ap plain.give_back (returned-same t)
+    act-same n (dispose p q t r e) = refl
 
     else-same : (n : ℕ) (e : ElseTree) → else_program (with_rest g r given counted) n e ≡ else_program g n e
     else-same n no_else = refl

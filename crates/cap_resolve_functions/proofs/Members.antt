@@ -1,12 +1,12 @@
 -- What holds of all members of a list holds of each.
-use Rattle.std.proofs.Common.{◌≡◌, ℕ, zero, suc, ◌+◌, ◌<◌, List, [], ◌∷◌, map, length, get_or, sym, ap, subst, ◌∙◌, arith}
+use Rattle.std.proofs.Common.{◌≡◌, ℕ, zero, suc, ◌<◌, List, [], ◌∷◌, map, length, get_or, sym, ap, subst, ◌∙◌, arith}
 use Rattle.std.specs.List.{AllByRecursion}
 use Rattle.cap_syntax.specs.declared.place.Place.{Place}
 use Rattle.cap_parse_tree.specs.declared.assertion.And.{And, out-And}
 use Rattle.cap_parse_tree.specs.declared.assertion.Assertion.{Assertion, out-Assertion}
 use Rattle.cap_parse_tree.specs.declared.statement.Statement.{Statement}
 use Rattle.cap_parse_tree.specs.declared.statement.Block.{Block, out-Block}
-use Rattle.cap_parse_tree.specs.Views.{behind_view, item_view, AndTree, assertion_view, statement_view, block_view}
+use Rattle.cap_parse_tree.specs.Views.{item_view, AndTree, assertion_view, statement_view, block_view}
 use Rattle.cap_resolve_spec.specs.Names.{NameScope}
 use Rattle.cap_resolve_spec.specs.Functions.{Context}
 use Rattle.cap_resolve_functions.specs.Narrow.{IsNarrowItem, AreNarrowItems, IsNarrowAssertion, IsNarrowStatement, AreNarrowStatements, IsNarrowBlock}

@@ -1,24 +1,25 @@
 -- Statements and functions in which nothing is found are narrow.
-use Rattle.std.proofs.Common.{◌≡◌, ◌<◌, ◌≤◌, ◌^◌, Bool, true, false, true≢false, not, ◌&&◌, List, [], ◌∷◌, ◌++◌, map, filter, flat_map, Option, Some, None, option_to_list, refl, sym, subst, arith, leb-true}
+use Rattle.std.proofs.Common.{◌≡◌, ◌+◌, ◌<◌, ◌≤◌, ◌^◌, length, Bool, true, false, true≢false, not, ◌&&◌, List, [], ◌∷◌, ◌++◌, map, filter, flat_map, Some, None, option_to_list, refl, sym, subst, arith, leb-true, length-append}
 use Rattle.std.specs.Prelude.{nat_lt, nat_le}
 use Rattle.std.specs.List.{AllByRecursion}
+use Rattle.std.proofs.lemmas.List.{length-map}
 use Rattle.cap_lin.specs.declared.row.Sort.TheVariants.{Int}
 use Rattle.cap_syntax.specs.declared.place.Place.{Place}
-use Rattle.cap_prog.specs.WellFormed.{most_cells}
+use Rattle.cap_prog.specs.WellFormed.{most_cells, most_members, most_variables}
 use Rattle.cap_parse_tree.specs.declared.word.Word.{Word}
 use Rattle.cap_parse_tree.specs.declared.word.Literal.{Literal}
-use Rattle.cap_parse_tree.specs.Tree.{TermTree, value, load, alloc, cas, result_of, StatementTree, assign, store, call, fork, branch, loop, check, give_back, ElseTree, no_else, else_block, StatementTrees, no_statement, then_statement, BlockTree, block, RegionTree, FunctionTree}
+use Rattle.cap_parse_tree.specs.Tree.{TermTree, value, load, alloc, cas, faa, result_of, StatementTree, assign, store, call, fork, branch, loop, check, give_back, dispose, ElseTree, no_else, else_block, StatementTrees, no_statement, then_statement, BlockTree, block, RegionTree, FunctionTree}
 use Rattle.cap_resolve_spec.specs.Finding.{unknown_word, twice_word, limit, cell_count}
-use Rattle.cap_resolve_spec.specs.Parts.{PlacedItem, term_words, comparison_words, clause_parts, statement_parts, else_parts, statements_parts, block_parts, statement_terms, statement_comparison, statement_names, destination, invariant, cells, parameters}
-use Rattle.cap_resolve_spec.specs.Names.{NameScope, knows, parameters_findings}
-use Rattle.cap_resolve_spec.specs.Terms.{wanted_as, term_findings, terms_findings, comparison_wanted}
+use Rattle.cap_resolve_spec.specs.Parts.{PlacedItem, term_words, clause_parts, statement_parts, else_parts, statements_parts, block_parts, statement_terms, statement_comparison, statement_names, destination, invariant, cells, parameters}
+use Rattle.cap_resolve_spec.specs.Names.{NameScope, knows, word_place, parameters_findings}
+use Rattle.cap_resolve_spec.specs.Terms.{wanted_as, term_findings, terms_findings}
 use Rattle.cap_resolve_spec.specs.Items.{TypedName}
-use Rattle.cap_resolve_spec.specs.Functions.{Context, context_of, requires_types, requires_scope, requires_findings, clause_findings, unknown_in, cells_findings, is_forbidden, statement_wanted, statement_findings, statements, body_findings, function_findings, fixed_names}
+use Rattle.cap_resolve_spec.specs.Functions.{Context, context_of, requires_types, requires_scope, requires_findings, clause_findings, unknown_in, cells_findings, is_forbidden, statement_wanted, statement_findings, statements, body_findings, function_findings, fixed_names, fixed_words, locals}
 use Rattle.cap_resolve_spec.proofs.Every.{each_front, each_behind, each_weaker}
 use Rattle.cap_resolve_spec.proofs.Nothing.{nothing_front, nothing_behind, nothing_flat, nothing_mapped, nothing_kept, not_found}
 use Rattle.cap_resolve_spec.proofs.Sorts.{IsKnown}
 use Rattle.cap_resolve_spec.proofs.Terms.{terms-front, terms-behind}
-use Rattle.cap_resolve_spec.proofs.Clauses.{requires-right}
+use Rattle.cap_resolve_spec.proofs.Clauses.{requires-right, clause-count}
 use Rattle.cap_resolve_spec.proofs.Functions.{after-callee, statement-invariant}
 use Rattle.cap_resolve_functions.specs.Functions.{Named, context_built, named_by}
 use Rattle.cap_resolve_functions.specs.Narrow.{AreNarrow, IsNarrowComparison, IsNarrowNew, IsNarrowStatement, IsNarrowElse, AreNarrowStatements, IsNarrowBlock, IsNarrowFunction, IsNarrowBuilt, IsNarrowBy}
@@ -83,6 +84,7 @@ module _ (g : Context) where
       statement_narrow (assign w q (load b t d) e) a = (values (assign w q (load b t d) e) a.0).0
       statement_narrow (assign w q (alloc b c m d) e) a = cells_in m [] (nothing_front (flat_map cells_findings (m ∷ [])) _ (after-callee g (assign w q (alloc b c m d) e) a.0))
       statement_narrow (assign w q (cas b c t d u k v m) e) a = let vs = values (assign w q (cas b c t d u k v m) e) a.0 in (vs.0, (vs.1.0, vs.1.1.0))
+      statement_narrow (assign w q (faa b c t d u m) e) a = let vs = values (assign w q (faa b c t d u m) e) a.0 in (vs.0, vs.1.0)
       statement_narrow (assign w q (result_of v l) e) a = values (assign w q (result_of v l) e) a.0
       statement_narrow (store b t c d u e) a = let vs = values (store b t c d u e) a.0 in (vs.0, vs.1.0)
       statement_narrow (call v l e) a = values (call v l e) a.0
@@ -98,6 +100,7 @@ module _ (g : Context) where
       statement_narrow (check b c e) a = (comparisons (check b c e) a.0).0
       statement_narrow (give_back b None e) a = tt
       statement_narrow (give_back b (Some t) e) a = (values (give_back b (Some t) e) a.0).0
+      statement_narrow (dispose b c t d e) a = (values (dispose b c t d e) a.0).0
 
       else_narrow : (e : ElseTree) → AllByRecursion NothingIn (else_parts e) → IsNarrowElse (with_rest g r given counted) e
       else_narrow no_else a = tt
@@ -130,18 +133,31 @@ narrow_with rs fs types n f kept scope l b a =
     subst (λ x. IsNarrowFunction (context_with rs fs types x scope) n f) (sym l)
     (subst (λ x. IsNarrowFunction (context_with rs fs types (context_built rs fs types n).loop x) n f) (sym b) a)
 
-module _ (rs : List RegionTree) (fs : List FunctionTree) (f : FunctionTree) (e : function_findings rs fs f ≡ []) where
+module _ (rs : List RegionTree) (fs : List FunctionTree) (f : FunctionTree) (e : function_findings rs fs f ≡ []) (small : length (block_parts f.body) ≤ most_members) where
   rest : requires_findings rs f ++ body_findings (context_of rs fs f) f ≡ []
   rest = nothing_behind (parameters_findings (parameters f)) _ e
 
   body : body_findings (context_of rs fs f) f ≡ []
   body = nothing_behind (requires_findings rs f) _ rest
 
+  ensured : clause_findings (context_of rs fs f) (context_of rs fs f).result f.postcondition ≡ []
+  ensured = nothing_front (clause_findings (context_of rs fs f) (context_of rs fs f).result f.postcondition) _ body
+
+  few_names : length (parameters f) + length (locals rs f) ≤ most_variables
+  few_names =
+      let h = clause-count (context_of rs fs f) (context_of rs fs f).result f.postcondition ensured in
+      let a : length (context_of rs fs f).counted ≡ length (parameters f ++ (fixed_words rs f ++ locals rs f)) = length-map (parameters f ++ (fixed_words rs f ++ locals rs f)) word_place in
+      let b : length (parameters f ++ (fixed_words rs f ++ locals rs f)) ≡ length (parameters f) + length (fixed_words rs f ++ locals rs f) = length-append (parameters f) (fixed_words rs f ++ locals rs f) in
+      let c : length (fixed_words rs f ++ locals rs f) ≡ length (fixed_words rs f) + length (locals rs f) = length-append (fixed_words rs f) (locals rs f) in
+      omega arith
+
   function_narrow : IsNarrowFunction (with_rest (context_of rs fs f) [] [] []) (the_names rs fs f) f
   function_narrow = record {
     requires = clause_narrow rs (requires_types rs f) (requires_scope rs f) f.precondition (requires-right rs f (nothing_front (requires_findings rs f) _ rest));
-    ensures = new_narrow (context_of rs fs f) (context_of rs fs f).result f.postcondition (nothing_front (clause_findings (context_of rs fs f) (context_of rs fs f).result f.postcondition) _ body);
+    ensures = new_narrow (context_of rs fs f) (context_of rs fs f).result f.postcondition ensured;
     body = block_narrow (context_of rs fs f) [] [] [] f.body (nothing_flat (statement_findings (context_of rs fs f)) (statements f) (nothing_behind (clause_findings (context_of rs fs f) (context_of rs fs f).result f.postcondition) _ body));
+    names = let h : length (parameters f) + length (locals rs f) ≤ most_variables = few_names in omega arith;
+    counted = omega (arith, small);
   }
 
   built_narrow : IsNarrowBuilt rs fs (requires_types rs f) (named_by (parameters f) (fixed_names rs f) (statements f)) f

@@ -1,5 +1,5 @@
 -- Terms and items in which nothing is found, and whose names are known, are narrow.
-use Rattle.std.proofs.Common.{◌≡◌, ℤ, Bool, true, false, true≢false, List, [], ◌∷◌, ◌++◌, flat_map, Option, Some, None, is_some, refl, sym, ap, ◌∙◌}
+use Rattle.std.proofs.Common.{◌≡◌, ℤ, Bool, true, false, true≢false, List, [], ◌∷◌, flat_map, Option, Some, None, is_some, refl, sym, ap, ◌∙◌}
 use Rattle.std.specs.List.{AllByRecursion}
 use Rattle.cap_lin.specs.Steps.{first_wide}
 use Rattle.cap_lin.specs.declared.row.Sort.{Sort}
@@ -11,14 +11,14 @@ use Rattle.cap_resolve_spec.specs.Finding.{limit, width}
 use Rattle.cap_resolve_spec.specs.Parts.{term_words, term_leaves, term_brackets, term_place, comparison_words, held_atoms, item_parts, items_parts, assertion_parts, side_parts, clause_parts}
 use Rattle.cap_resolve_spec.specs.Names.{NameScope, whole_numbers}
 use Rattle.cap_resolve_spec.specs.Linear.{with_names, is_wide, term_steps}
-use Rattle.cap_resolve_spec.specs.Terms.{WantedTerm, wanted_as, term_sort, products_findings, term_findings, terms_findings, comparison_wanted, slot_wanted}
+use Rattle.cap_resolve_spec.specs.Terms.{wanted_as, term_sort, products_findings, term_findings, terms_findings, comparison_wanted, slot_wanted}
 use Rattle.cap_resolve_spec.specs.Items.{NumberedRegion, TypedName, type_of, occurs, unbound, slot_occurrences, atom_occurrences, amount_sort, declared_kind, atom_wanted}
 use Rattle.cap_resolve_spec.specs.Functions.{Context, clause_types, clause_scope, clause_findings}
-use Rattle.cap_resolve_spec.proofs.Every.{each_front, each_behind, each_mapped, each_flat}
+use Rattle.cap_resolve_spec.proofs.Every.{each_front, each_behind, each_mapped}
 use Rattle.cap_resolve_spec.proofs.Nothing.{nothing_front, nothing_behind, not_found}
 use Rattle.cap_resolve_spec.proofs.Known.{OccursKnown}
 use Rattle.cap_resolve_spec.proofs.Sorts.{IsKnown}
-use Rattle.cap_resolve_spec.proofs.Terms.{TermKnown, SlotKnown, ComparisonKnown, terms-front, terms-behind, terms-flat}
+use Rattle.cap_resolve_spec.proofs.Terms.{TermKnown, ComparisonKnown, terms-front, terms-behind}
 use Rattle.cap_resolve_spec.proofs.Variables.{words-leaves}
 use Rattle.cap_resolve_spec.proofs.Items.{RightItem, Right}
 use Rattle.cap_resolve_spec.proofs.Clauses.{clause-right}

@@ -1,11 +1,12 @@
 -- Parts of a tree whose numbers stay within the widths of a program: the results on the way to each
--- linear form within 128 bits, and the number of cells of each allocation within 32.
-use Rattle.std.specs.Prelude.{◌≡◌, ◌<◌, ◌^◌, List, ◌∷◌, ◌++◌, [], Option, Some, None}
+-- linear form within 128 bits; the number of cells of each allocation, and the numbers of parameters,
+-- locals and statements of a function, within 32.
+use Rattle.std.specs.Prelude.{◌≡◌, ◌+◌, ◌<◌, ◌^◌, length, List, ◌∷◌, ◌++◌, [], Option, Some, None}
 use Rattle.std.specs.List.{AllByRecursion}
 use Rattle.cap_lin.specs.Steps.{first_wide}
 use Rattle.cap_syntax.specs.declared.place.Place.{Place}
 use Rattle.cap_parse_tree.specs.declared.word.Word.{Word}
-use Rattle.cap_parse_tree.specs.Tree.{listed_parts, TermTree, ComparisonTree, SlotTree, any, is, GuardTree, alone, amount, count, ItemTree, holds, fails, fact, guards, cell, compare, choose, ItemTrees, no_item, and_item, AssertionTree, assertion, SideTree, side, ClauseTree, ValueTree, value, load, alloc, cas, result_of, StatementTree, assign, store, call, fork, branch, loop, check, give_back, ElseTree, no_else, else_block, StatementTrees, no_statement, then_statement, BlockTree, block, RegionTree, FunctionTree}
+use Rattle.cap_parse_tree.specs.Tree.{listed_parts, TermTree, ComparisonTree, SlotTree, any, is, GuardTree, alone, amount, count, ItemTree, holds, fails, fact, guards, cell, compare, choose, ItemTrees, no_item, and_item, AssertionTree, assertion, SideTree, side, ClauseTree, ValueTree, value, load, alloc, cas, faa, result_of, StatementTree, assign, store, call, fork, branch, loop, check, give_back, dispose, ElseTree, no_else, else_block, StatementTrees, no_statement, then_statement, BlockTree, block, RegionTree, FunctionTree}
 use Rattle.cap_resolve_spec.specs.Parts.{PlacedItem, held_atoms, block_parts}
 use Rattle.cap_resolve_spec.specs.Names.{NameScope, whole_numbers, hidden}
 use Rattle.cap_resolve_spec.specs.Linear.{term_steps}
@@ -75,6 +76,7 @@ IsNarrowValue scope (value t) = IsNarrow scope t
 IsNarrowValue scope (load p t q) = IsNarrow scope t
 IsNarrowValue scope (alloc p q n r) = n.value < 2 ^ 32
 IsNarrowValue scope (cas p q a c e d f r) = IsNarrow scope a × (IsNarrow scope e × IsNarrow scope f)
+IsNarrowValue scope (faa p q a c e r) = IsNarrow scope a × IsNarrow scope e
 IsNarrowValue scope (result_of w l) = AreNarrow scope (listed_parts l)
 
 abbrev pub IsNarrowReturn : NameScope → Option TermTree → Type 0
@@ -93,6 +95,7 @@ abbrev mutual
       IsNarrowComparison g.body c × (IsNarrowNew g g.loop i × IsNarrowBlock g b)
   IsNarrowStatement g (check p c e) = IsNarrowComparison g.body c
   IsNarrowStatement g (give_back p t e) = IsNarrowReturn g.body t
+  IsNarrowStatement g (dispose p q t r e) = IsNarrow g.body t
 
   pub IsNarrowElse : Context → ElseTree → Type 0
   IsNarrowElse g no_else = Unit {0}
@@ -115,6 +118,8 @@ pub record IsNarrowFunction (g : Context) (n : Named) (f : FunctionTree) : Type 
       (whole_numbers n.parameters
       ++ (hidden n.locals ++ (scope_of n.fixed ++ result_entry ∷ []))) f.postcondition
   pub body : IsNarrowBlock g f.body
+  pub names : length n.parameters + length n.locals < 2 ^ 32
+  pub counted : length (block_parts f.body) + 1 < 2 ^ 32
 
 abbrev pub IsNarrowBuilt :
     List RegionTree → List FunctionTree → List TypedName → Named → FunctionTree → Type 0

@@ -52,6 +52,23 @@ fn build_cas(
     Ok(Act::Cas(variable, address, old, new))
 }
 
+fn build_faa(
+    alloc: Global,
+    scope: &Scope<'_>,
+    variable: u32,
+    address: &Term,
+    more: &Term,
+) -> Result<Act, AllocError>
+    requires address { IsNarrow scope.now (term_view address.now) }
+    requires more { IsNarrow scope.now (term_view more.now) }
+    ensures { IfOk result (λ a. act_view a ≡ plain.faa variable
+        (term_form scope.now (term_view address.now)) (term_form scope.now (term_view more.now))) }
+{
+    let address = build_term(alloc, scope, address)?;
+    let more = build_term(alloc, scope, more)?;
+    Ok(Act::Faa(variable, address, more))
+}
+
 fn build_assign(
     alloc: Global,
     body: &Body<'_, '_, '_>,
@@ -70,6 +87,9 @@ fn build_assign(
         Value::Alloc(_, _, cells, _) => Ok(Act::Alloc(variable, cells.value as u32)),
         Value::Cas(_, _, address, _, old, _, new, _) => {
             build_cas(alloc, body.scope, variable, address, old, new)
+        }
+        Value::Faa(_, _, address, _, more, _) => {
+            build_faa(alloc, body.scope, variable, address, more)
         }
         Value::Call(name, list) => build_call(alloc, body, Some(variable), name, list),
     }
@@ -119,20 +139,16 @@ fn statement_place(statement: &StatementTree) -> Place
         StatementTree::While(place, _, _, _, _, _) => *place,
         StatementTree::Assert(place, _, _) => *place,
         StatementTree::Return(place, _, _) => *place,
+        StatementTree::Dispose(place, _, _, _, _) => *place,
     }
 }
 
 /// Counts one statement more.
-fn advance(next: &mut u32) -> Result<(), AllocError>
-    ensures { OnOk result (next.new ≡ next.old + 1) }
+fn advance(next: &mut u32)
+    requires { next.now + 1 < 2 ^ 32 }
+    ensures { next.new ≡ next.old + 1 }
 {
-    match next.checked_add(1) {
-        Some(number) => {
-            *next = number;
-            Ok(())
-        }
-        None => Err(AllocError),
-    }
+    *next += 1;
 }
 
 #[tactic(auto, using(crate::proofs::Blocks::joined, cap_prog::specs::declared::function::Act::TheFolds::the_lemmas))]
@@ -221,13 +237,15 @@ fn build_act<'a>(
     body: &Body<'_, '_, 'a>,
     next: &mut u32,
 ) -> Result<Act, AllocError>
-    requires { IsNarrowStatement (context_seen body.now) (statement_view statement.now) }
+    requires narrow { IsNarrowStatement (context_seen body.now) (statement_view statement.now) }
+    requires counted { next.now + length (statement_parts (statement_view statement.now))
+        < 2 ^ 32 }
     ensures built { IfOk result (λ a. act_view a
         ≡ act_program (context_seen body.now) next.old (statement_view statement.now)) }
     ensures counted { OnOk result (next.new
         ≡ next.old + length (statement_parts (statement_view statement.now))) }
 {
-    advance(next)?;
+    advance(next);
     match statement {
         StatementTree::Assign(word, _, value, _) => {
             let variable = body.scope.number(word.text.as_bytes());
@@ -256,6 +274,9 @@ fn build_act<'a>(
             Ok(Act::Assert(build_comparison(alloc, body.scope, comparison)?))
         }
         StatementTree::Return(_, term, _) => Ok(Act::Return(build_returned(alloc, body, term)?)),
+        StatementTree::Dispose(_, _, term, _, _) => {
+            Ok(Act::Dispose(build_term(alloc, body.scope, term)?))
+        }
     }
 }
 
@@ -267,7 +288,9 @@ fn push_statement<'a>(
     next: &mut u32,
     list: &mut Vec<Statement>,
 ) -> Result<(), AllocError>
-    requires { IsNarrowStatement (context_seen body.now) (statement_view statement.now) }
+    requires narrow { IsNarrowStatement (context_seen body.now) (statement_view statement.now) }
+    requires counted { next.now + length (statement_parts (statement_view statement.now))
+        < 2 ^ 32 }
     ensures built { OnOk result (block_seen list.new.items ≡ append (block_seen list.old.items)
         (first (label next.old (place_of (statement_view statement.now)))
         (act_program (context_seen body.now) next.old (statement_view statement.now)) done)) }
@@ -287,7 +310,8 @@ fn build_block<'a>(
     body: &Body<'_, '_, 'a>,
     next: &mut u32,
 ) -> Result<Vec<Statement>, AllocError>
-    requires { IsNarrowBlock (context_seen body.now) (block_view block.now) }
+    requires narrow { IsNarrowBlock (context_seen body.now) (block_view block.now) }
+    requires counted { next.now + length (block_parts (block_view block.now)) < 2 ^ 32 }
     ensures built { IfOk result (λ made. block_seen made.items
         ≡ block_program (context_seen body.now) next.old (block_view block.now)) }
     ensures counted { OnOk result (next.new
@@ -306,7 +330,8 @@ pub(crate) fn build_body<'a>(
     block: &'a Block,
     body: &Body<'_, '_, 'a>,
 ) -> Result<Vec<Statement>, AllocError>
-    requires { IsNarrowBlock (context_seen body.now) (block_view block.now) }
+    requires narrow { IsNarrowBlock (context_seen body.now) (block_view block.now) }
+    requires counted { length (block_parts (block_view block.now)) + 1 < 2 ^ 32 }
     ensures { IfOk result (λ made. block_seen made.items
         ≡ body_program (context_seen body.now) (block_view block.now)) }
 {

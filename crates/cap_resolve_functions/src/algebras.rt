@@ -29,6 +29,7 @@ fn declared(alloc: Global, guard: &Declared) -> Result<Algebra, AllocError>
         Declared::Unique(_) => Ok(Algebra::Unique),
         Declared::Divisible(_, _) => Ok(Algebra::Divisible),
         Declared::Counting(_, _, _) => Ok(Algebra::Counting),
+        Declared::Indexed(_, _, _) => Ok(Algebra::Indexed),
         Declared::Bracketed(_, inner, _) => build_algebra(alloc, inner),
     }
 }

@@ -24,5 +24,11 @@ pub fn build_asked(alloc: Global, scope: &Scope<'_>, guard: &GuardAtom) -> Resul
         GuardAtom::Count(Counted::Tokens, _, _, _, count, _) => {
             Ok(Asked::Tok(build_slot(alloc, scope, count)?))
         }
+        GuardAtom::Count(Counted::At, _, _, _, index, _) => {
+            Ok(Asked::At(build_slot(alloc, scope, index)?))
+        }
+        GuardAtom::Count(Counted::From, _, _, _, index, _) => {
+            Ok(Asked::From(build_slot(alloc, scope, index)?))
+        }
     }
 }

@@ -1,8 +1,9 @@
 //! A function's name, parameters and fixed names.
-ghost use Rattle.std.specs.Prelude.{◌≡◌, [], ◌∷◌, ◌++◌, IfOk, length};
+ghost use Rattle.std.specs.Prelude.{◌≡◌, ◌+◌, ◌<◌, ◌^◌, [], ◌∷◌, ◌++◌, IfOk, length};
 ghost use Rattle.cap_prog.specs.Views.{function_view as seen, assertion_view, items_view};
 ghost use Rattle.cap_prog.specs.Views.{block_view as block_seen};
 ghost use Rattle.cap_parse_tree.specs.Views.{function_view};
+ghost use Rattle.cap_resolve_spec.specs.Parts.{block_parts};
 ghost use Rattle.cap_resolve_spec.specs.Names.{whole_numbers, hidden};
 ghost use Rattle.cap_resolve_spec.specs.Items.{scope_of};
 ghost use Rattle.cap_resolve_spec.specs.Functions.{result_entry};
@@ -39,15 +40,6 @@ pub(crate) struct Named<'s, 'a> {
     pub(crate) destinations: &'s Scope<'a>,
 }
 
-fn count(length: usize) -> Result<u32, AllocError>
-    ensures { IfOk result (λ n. n ≡ length) }
-{
-    if length > u32::MAX as usize {
-        return Err(AllocError);
-    }
-    Ok(length as u32)
-}
-
 /// What stands at the head of a function.
 #[derive(Drop)]
 struct Header {
@@ -64,6 +56,8 @@ fn build_header(
     names: &Named<'_, '_>,
     function: &FunctionTree,
 ) -> Result<Header, AllocError>
+    requires { length (named_seen names.now).parameters + length (named_seen names.now).locals
+        < 2 ^ 32 }
     ensures name { IfOk result (λ h. h.name ≡ (function_view function.now).name.text) }
     ensures params { IfOk result (λ h. h.params ≡ length (named_seen names.now).parameters) }
     ensures locals { IfOk result (λ h. h.locals ≡ length (named_seen names.now).locals) }
@@ -75,8 +69,8 @@ fn build_header(
     ensures place { IfOk result (λ h. h.place ≡ (function_view function.now).key) }
 {
     let name = function.name.text.copy(alloc)?;
-    let params = count(names.parameters.len())?;
-    let locals = count(names.locals.len())?;
+    let params = names.parameters.len() as u32;
+    let locals = names.locals.len() as u32;
     let fixed = build_sorts(alloc, names.fixed)?;
     let variables = variable_names(alloc, names.parameters, names.locals, names.fixed)?;
     Ok(Header {
@@ -174,7 +168,8 @@ fn with_ensures<'a>(
     requires_: Assertion,
     ensures_: Assertion,
 ) -> Result<Function, AllocError>
-    requires { IsNarrowBlock (context_seen body.now) (function_view function.now).body }
+    requires narrow { IsNarrowBlock (context_seen body.now) (function_view function.now).body }
+    requires counted { length (block_parts (function_view function.now).body) + 1 < 2 ^ 32 }
     ensures { IfOk result (λ f. seen f ≡ record {
       name = header.name;
       params = header.params;
@@ -204,6 +199,7 @@ fn with_requires<'a>(
         ++ (scope_of (named_seen names.now).fixed ++ result_entry ∷ [])))
         (function_view function.now).postcondition }
     requires body { IsNarrowBlock (context_seen body.now) (function_view function.now).body }
+    requires counted { length (block_parts (function_view function.now).body) + 1 < 2 ^ 32 }
     ensures { IfOk result (λ f. seen f ≡ record {
       name = header.name;
       params = header.params;

@@ -1,7 +1,9 @@
 //! A whole function.
-ghost use Rattle.std.specs.Prelude.{◌≡◌, IfOk, []};
+ghost use Rattle.std.specs.Prelude.{◌≡◌, ◌≤◌, IfOk, length, []};
 ghost use Rattle.cap_prog.specs.Views.{function_view as seen};
+ghost use Rattle.cap_prog.specs.WellFormed.{most_members};
 ghost use Rattle.cap_parse_tree.specs.Views.{function_view};
+ghost use Rattle.cap_resolve_spec.specs.Parts.{block_parts};
 ghost use Rattle.cap_resolve_spec.specs.Functions.{function_findings};
 ghost use Rattle.cap_resolve_spec.specs.Program.{function_program};
 ghost use Rattle.cap_resolve_parts.specs.Views.{words_view, statements_view, parts_view};
@@ -80,15 +82,17 @@ fn build_required<'a>(
     )
 }
 
-/// The function of a tree, in which nothing is found.
+/// The function of a tree, in which nothing is found and which has at most 2^20 statements. There is
+/// an error where memory runs out.
 pub fn build_function<'a>(
     alloc: Global,
     regions: &RegionTable<'a>,
     functions: &FunctionTable<'a>,
     function: &'a FunctionTree,
 ) -> Result<Function, AllocError>
-    requires { function_findings (regions_of regions.now) (functions_of functions.now)
+    requires right { function_findings (regions_of regions.now) (functions_of functions.now)
         (function_view function.now) ≡ [] }
+    requires small { length (block_parts (function_view function.now).body) ≤ most_members }
     ensures { IfOk result (λ f. seen f ≡ function_program (regions_of regions.now)
         (functions_of functions.now) (function_view function.now)) }
 {

@@ -15,7 +15,10 @@ fn push_declared<'a>(list: &mut Vec<&'a Declared>, declared: &'a Declared) -> Re
 {
     match declared {
         Declared::Bracketed(_, algebra, _) => push_algebra(list, algebra),
-        Declared::Unique(_) | Declared::Divisible(_, _) | Declared::Counting(_, _, _) => {
+        Declared::Unique(_)
+        | Declared::Divisible(_, _)
+        | Declared::Counting(_, _, _)
+        | Declared::Indexed(_, _, _) => {
             list.push(declared)?;
             Ok(())
         }
@@ -59,6 +62,7 @@ pub fn guard_word(declared: &Declared) -> Option<&Word>
         Declared::Unique(word) => Some(word),
         Declared::Divisible(_, word) => Some(word),
         Declared::Counting(_, word, _) => Some(word),
+        Declared::Indexed(_, word, _) => Some(word),
         Declared::Bracketed(_, _, _) => None,
     }
 }

@@ -6,11 +6,13 @@ ghost use Rattle.cap_resolve_spec.specs.Parts.{item_parts, assertion_parts, side
 ghost use Rattle.cap_resolve_spec.specs.Parts.{held_atoms};
 ghost use Rattle.cap_resolve_spec.specs.Parts.{item_place as place_of, atom_word as word_of};
 ghost use Rattle.cap_resolve_spec.specs.Parts.{atom_place as place_of_atom};
+ghost use Rattle.cap_resolve_spec.specs.Items.{counts_indices as indices_counted};
+ghost use Rattle.cap_resolve_spec.specs.Items.{has_index as index_stands};
 ghost use Rattle.cap_resolve_parts.specs.Views.{parts_view, clause_seen, guards_view};
 
 use crate::lists::atoms_of;
 use crate::terms::term_place;
-use cap_parse_tree::{Assertion, Clause, GuardAtom, Guards, Item, Side, Word};
+use cap_parse_tree::{Assertion, Clause, Counted, GuardAtom, Guards, Item, Side, Word};
 use cap_syntax::Place;
 use std::alloc::{AllocError, Global};
 
@@ -128,6 +130,26 @@ pub fn atom_place(atom: &GuardAtom) -> Place
         GuardAtom::Alone(word) => word.place,
         GuardAtom::Amount(word, _, _, _) => word.place,
         GuardAtom::Count(_, place, _, _, _, _) => *place,
+    }
+}
+
+/// Whether what is counted are indices, which stand behind `at` and `from`.
+pub fn counts_indices(counted: Counted) -> bool
+    ensures { result ≡ indices_counted counted }
+{
+    match counted {
+        Counted::At | Counted::From => true,
+        Counted::Source | Counted::Tokens => false,
+    }
+}
+
+/// Whether `at` or `from` stands before the guard's name.
+pub fn has_index(atom: &GuardAtom) -> bool
+    ensures { result ≡ index_stands (guard_view atom.now) }
+{
+    match atom {
+        GuardAtom::Alone(_) | GuardAtom::Amount(_, _, _, _) => false,
+        GuardAtom::Count(counted, _, _, _, _, _) => counts_indices(*counted),
     }
 }
 

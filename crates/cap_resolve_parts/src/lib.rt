@@ -9,7 +9,8 @@ mod terms;
 
 pub use guards::{guard_word, push_algebra};
 pub use items::{
-    Placed, atom_place, atom_word, atoms_held, item_place, items_of_clause, placed_items,
+    Placed, atom_place, atom_word, atoms_held, counts_indices, has_index, item_place,
+    items_of_clause, placed_items,
 };
 pub use lists::{
     atoms_of, comparisons_of, listed_count, listed_word_count, listed_words, word_count, words_of,

@@ -39,7 +39,9 @@ fn push_statement<'a>(
         Statement::While(_, _, _, _, _, block) => push_block(list, block),
         Statement::Assign(_, _, _, _) | Statement::Store(_, _, _, _, _, _) => Ok(()),
         Statement::Call(_, _, _) | Statement::Fork(_, _, _, _) => Ok(()),
-        Statement::Assert(_, _, _) | Statement::Return(_, _, _) => Ok(()),
+        Statement::Assert(_, _, _)
+        | Statement::Return(_, _, _)
+        | Statement::Dispose(_, _, _, _, _) => Ok(()),
     }
 }
 
@@ -83,6 +85,11 @@ fn push_value_terms<'a>(terms: &mut Vec<&'a Term>, value: &'a Value) -> Result<(
             terms.push(new)?;
             Ok(())
         }
+        Value::Faa(_, _, address, _, more, _) => {
+            terms.push(address)?;
+            terms.push(more)?;
+            Ok(())
+        }
         Value::Call(_, list) => push_listed_terms(terms, list),
     }
 }
@@ -111,6 +118,10 @@ pub fn push_statement_terms<'a>(
             Ok(())
         }
         Statement::Return(_, None, _) => Ok(()),
+        Statement::Dispose(_, _, term, _, _) => {
+            terms.push(term)?;
+            Ok(())
+        }
         Statement::If(_, _, _, _, _, _) | Statement::While(_, _, _, _, _, _) => Ok(()),
         Statement::Assert(_, _, _) => Ok(()),
     }
@@ -127,7 +138,7 @@ pub fn statement_comparison(statement: &Statement) -> Option<&Comparison>
         Statement::Assert(_, comparison, _) => Some(comparison),
         Statement::Assign(_, _, _, _) | Statement::Store(_, _, _, _, _, _) => None,
         Statement::Call(_, _, _) | Statement::Fork(_, _, _, _) => None,
-        Statement::Return(_, _, _) => None,
+        Statement::Return(_, _, _) | Statement::Dispose(_, _, _, _, _) => None,
     }
 }
 
@@ -141,7 +152,9 @@ pub fn destination(statement: &Statement) -> Option<&Word>
         Statement::Store(_, _, _, _, _, _) => None,
         Statement::Call(_, _, _) | Statement::Fork(_, _, _, _) => None,
         Statement::If(_, _, _, _, _, _) | Statement::While(_, _, _, _, _, _) => None,
-        Statement::Assert(_, _, _) | Statement::Return(_, _, _) => None,
+        Statement::Assert(_, _, _)
+        | Statement::Return(_, _, _)
+        | Statement::Dispose(_, _, _, _, _) => None,
     }
 }
 
@@ -156,7 +169,9 @@ pub fn invariant(statement: &Statement) -> Option<&Clause>
         Statement::Assign(_, _, _, _) | Statement::Store(_, _, _, _, _, _) => None,
         Statement::Call(_, _, _) | Statement::Fork(_, _, _, _) => None,
         Statement::If(_, _, _, _, _, _) => None,
-        Statement::Assert(_, _, _) | Statement::Return(_, _, _) => None,
+        Statement::Assert(_, _, _)
+        | Statement::Return(_, _, _)
+        | Statement::Dispose(_, _, _, _, _) => None,
     }
 }
 
@@ -171,11 +186,14 @@ pub fn callee(statement: &Statement) -> Option<(&Word, &Listed<Term>)>
         Statement::Assign(_, _, Value::Load(_, _, _), _) => None,
         Statement::Assign(_, _, Value::Alloc(_, _, _, _), _) => None,
         Statement::Assign(_, _, Value::Cas(_, _, _, _, _, _, _, _), _) => None,
+        Statement::Assign(_, _, Value::Faa(_, _, _, _, _, _), _) => None,
         Statement::Call(word, list, _) => Some((word, list)),
         Statement::Fork(_, word, list, _) => Some((word, list)),
         Statement::Store(_, _, _, _, _, _) => None,
         Statement::If(_, _, _, _, _, _) | Statement::While(_, _, _, _, _, _) => None,
-        Statement::Assert(_, _, _) | Statement::Return(_, _, _) => None,
+        Statement::Assert(_, _, _)
+        | Statement::Return(_, _, _)
+        | Statement::Dispose(_, _, _, _, _) => None,
     }
 }
 
@@ -190,10 +208,13 @@ pub fn cells(statement: &Statement) -> Option<&Literal>
         Statement::Assign(_, _, Value::Load(_, _, _), _) => None,
         Statement::Assign(_, _, Value::Call(_, _), _) => None,
         Statement::Assign(_, _, Value::Cas(_, _, _, _, _, _, _, _), _) => None,
+        Statement::Assign(_, _, Value::Faa(_, _, _, _, _, _), _) => None,
         Statement::Call(_, _, _) | Statement::Fork(_, _, _, _) => None,
         Statement::Store(_, _, _, _, _, _) => None,
         Statement::If(_, _, _, _, _, _) | Statement::While(_, _, _, _, _, _) => None,
-        Statement::Assert(_, _, _) | Statement::Return(_, _, _) => None,
+        Statement::Assert(_, _, _)
+        | Statement::Return(_, _, _)
+        | Statement::Dispose(_, _, _, _, _) => None,
     }
 }
 

@@ -1,1 +1,2 @@
 mod Unrefused
+mod Counted

@@ -1,6 +1,10 @@
 //! All region types and all functions of a tree.
-ghost use Rattle.std.specs.Prelude.{◌≡◌, ◌+◌, IfOk, map, flat_map, []};
+ghost use Rattle.std.specs.Prelude.{◌≡◌, ◌≤◌, IfOk, length, map, flat_map, []};
+ghost use Rattle.std.specs.List.{AllByRecursion};
 ghost use Rattle.cap_prog.specs.Views.{region_view as region_seen, function_view as function_seen};
+ghost use Rattle.cap_prog.specs.WellFormed.{most_members};
+ghost use Rattle.cap_parse_tree.specs.Tree.{FunctionTree};
+ghost use Rattle.cap_resolve_spec.specs.Parts.{block_parts};
 ghost use Rattle.cap_resolve_spec.specs.Items.{numbered_regions};
 ghost use Rattle.cap_resolve_spec.specs.Regions.{region_type_findings};
 ghost use Rattle.cap_resolve_spec.specs.Functions.{function_findings};
@@ -13,15 +17,6 @@ use cap_resolve_regions::build_region;
 use cap_resolve_tables::{FunctionTable, Numbered, RegionTable};
 use std::alloc::{AllocError, Global};
 
-fn next(number: u32) -> Result<u32, AllocError>
-    ensures { IfOk result (λ n. n ≡ number + 1) }
-{
-    match number.checked_add(1) {
-        Some(next) => Ok(next),
-        None => Err(AllocError),
-    }
-}
-
 /// The region types of a tree, in the order of the table. Nothing is found in them.
 pub(crate) fn build_regions(
     alloc: Global,
@@ -33,24 +28,30 @@ pub(crate) fn build_regions(
         ≡ map (region_program (regions_of regions.now))
         (numbered_regions (regions_of regions.now))) }
 {
+    let _count = regions.len();
     let mut built = Vec::new(alloc);
-    let mut number = 0;
+    let mut number = 0u32;
     for region in &regions.types {
         let numbered = Numbered { number, region };
         built.push(build_region(alloc, regions, numbered)?)?;
-        number = next(number)?;
+        number += 1;
     }
     Ok(built)
 }
 
-/// The functions of a tree, in the order of the table. Nothing is found in them.
+/// The functions of a tree, in the order of the table. Nothing is found in them, and none has more
+/// than 2^20 statements.
 pub(crate) fn build_functions(
     alloc: Global,
     regions: &RegionTable<'_>,
     functions: &FunctionTable<'_>,
 ) -> Result<Vec<Function>, AllocError>
-    requires { flat_map (function_findings (regions_of regions.now) (functions_of functions.now))
+    requires right { flat_map
+        (function_findings (regions_of regions.now) (functions_of functions.now))
         (functions_of functions.now) ≡ [] }
+    requires small { AllByRecursion
+        (λ (f : FunctionTree). length (block_parts f.body) ≤ most_members)
+        (functions_of functions.now) }
     ensures { IfOk result (λ built. map function_seen built.items
         ≡ map (function_program (regions_of regions.now) (functions_of functions.now))
         (functions_of functions.now)) }

@@ -3,7 +3,7 @@ use Rattle.std.proofs.Common.{◌≡◌, Bool, ◌||◌, cond, List, [], ◌∷�
 use Rattle.cap_parse_tree.specs.Tree.{CaseTree, ActionTree, RegionTree}
 use Rattle.cap_resolve_spec.specs.Parts.{whole_name, is_word, placed_items}
 use Rattle.cap_resolve_spec.specs.Items.{NumberedRegion, name_of, is_bound}
-use Rattle.cap_resolve_spec.specs.Regions.{parameters_scope, case_types, case_known, case_new, assertion_occurrences, action_known, action_new, action_atoms}
+use Rattle.cap_resolve_spec.specs.Regions.{parameters_scope, case_types, case_known, case_new, assertion_occurrences, action_known, action_new, counted_names}
 use Rattle.cap_resolve_tables.proofs.Firsts.{known_among}
 use Rattle.cap_resolve_regions.specs.Cases.{known_by_case, known_by_action}
 
@@ -18,4 +18,4 @@ case_names rs k c =
 
 pub action_names : (k : NumberedRegion) (a : ActionTree) → known_by_action (parameters_scope k) k a ≡ action_known k a
 action_names k a =
-    filter_same _ _ (λ o. ap (λ b. is_word (name_of o) (whole_name a.source) || (is_word (name_of o) (whole_name a.target) || b)) (known_among (filter is_bound (action_atoms k a)) (name_of o))) (action_new k a)
+    filter_same _ _ (λ o. ap (λ b. is_word (name_of o) (whole_name a.source) || (is_word (name_of o) (whole_name a.target) || b)) (known_among (filter is_bound (counted_names k a)) (name_of o))) (action_new k a)

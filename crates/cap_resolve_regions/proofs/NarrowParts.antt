@@ -8,8 +8,8 @@ use Rattle.cap_resolve_spec.specs.Finding.{guard_count, unknown_word, twice_word
 use Rattle.cap_resolve_spec.specs.Parts.{PlacedItem, term_words, comparison_words, when_comparisons, placed_items}
 use Rattle.cap_resolve_spec.specs.Names.{word_place, repeated, past_variables, past, parameters_findings}
 use Rattle.cap_resolve_spec.specs.Terms.{wanted_as, term_findings, terms_findings, comparison_wanted}
-use Rattle.cap_resolve_spec.specs.Items.{NumberedRegion, Occurrence, unbound, scope_of, atom_occurrences, occurrence_word, occurrence_words, ret_findings, item_wanted, atom_wanted, atom_findings, atoms_twice}
-use Rattle.cap_resolve_spec.specs.Regions.{own_parameters, own_name, parameters_scope, case_types, case_occurrences, case_new, is_known_in, case_known, case_unknown, case_scope, case_wanted, case_items_findings, case_findings, action_atoms, action_occurrences, action_new, is_whole_in, action_known, action_unknown, action_scope, action_wanted, action_findings, guard_names, region_type_findings}
+use Rattle.cap_resolve_spec.specs.Items.{NumberedRegion, Occurrence, unbound, scope_of, occurrence_word, occurrence_words, ret_findings, item_wanted, atom_wanted, atom_findings, atoms_twice}
+use Rattle.cap_resolve_spec.specs.Regions.{own_parameters, own_name, parameters_scope, case_types, case_occurrences, case_new, is_known_in, case_known, case_unknown, case_scope, case_wanted, case_items_findings, case_findings, action_atoms, action_occurrences, action_new, is_whole_in, action_known, action_unknown, action_indices_findings, action_scope, action_wanted, action_findings, guard_names, region_type_findings}
 use Rattle.cap_resolve_spec.proofs.Every.{each_front, each_behind}
 use Rattle.cap_resolve_spec.proofs.Nothing.{nothing_front, nothing_behind, nothing_mapped, nothing_kept}
 use Rattle.cap_resolve_spec.proofs.Sorts.{IsKnown}
@@ -61,8 +61,11 @@ action_narrow k a e = record {
   when = comparisons_narrow (action_scope k a) (when_comparisons a.when) (each_behind (IsKnown (action_scope k a)) (term_words a.target) _ words2) (nothing_behind (term_findings (action_scope k a) (wanted_as (Some Int) a.target)) _ terms3);
 }
   where
+    named : map unknown_word (occurrence_words (action_unknown k a)) ++ (ret_findings (action_new k a) ++ (past_variables (map word_place (own_parameters k ++ occurrence_words (action_known k a))) ++ (flat_map (atom_findings k) (parts_of a.guards) ++ (atoms_twice (parts_of a.guards) ++ terms_findings (action_scope k a) (action_wanted k a))))) ≡ []
+    named = nothing_behind (action_indices_findings k a) _ e
+
     rest : flat_map (atom_findings k) (parts_of a.guards) ++ (atoms_twice (parts_of a.guards) ++ terms_findings (action_scope k a) (action_wanted k a)) ≡ []
-    rest = nothing_behind (past_variables (map word_place (own_parameters k ++ occurrence_words (action_known k a)))) _ (nothing_behind (ret_findings (action_new k a)) _ (nothing_behind (map unknown_word (occurrence_words (action_unknown k a))) _ e))
+    rest = nothing_behind (past_variables (map word_place (own_parameters k ++ occurrence_words (action_known k a)))) _ (nothing_behind (ret_findings (action_new k a)) _ (nothing_behind (map unknown_word (occurrence_words (action_unknown k a))) _ named))
 
     terms : terms_findings (action_scope k a) (action_wanted k a) ≡ []
     terms = nothing_behind (atoms_twice (parts_of a.guards)) _ (nothing_behind (flat_map (atom_findings k) (parts_of a.guards)) _ rest)
@@ -74,7 +77,7 @@ action_narrow k a e = record {
     terms3 = nothing_behind (term_findings (action_scope k a) (wanted_as (Some Int) a.source)) _ terms2
 
     kept : action_known k a ≡ action_new k a
-    kept = all-kept (is_whole_in k a) (action_new k a) (nothing_kept (λ o. not (is_whole_in k a o)) (action_new k a) (none_unknown (action_unknown k a) (nothing_front (map unknown_word (occurrence_words (action_unknown k a))) _ e)))
+    kept = all-kept (is_whole_in k a) (action_new k a) (nothing_kept (λ o. not (is_whole_in k a o)) (action_new k a) (none_unknown (action_unknown k a) (nothing_front (map unknown_word (occurrence_words (action_unknown k a))) _ named)))
 
     all_known : AllByRecursion (OccursKnown (action_scope k a)) (action_occurrences k a)
     all_known = subst (λ os. AllByRecursion (OccursKnown (parameters_scope k ++ scope_of os)) (action_occurrences k a)) (sym kept) (occurrences-known (parameters_scope k) (action_occurrences k a))

@@ -7,7 +7,7 @@ use Rattle.cap_parse_tree.specs.Tree.{parts_of, CaseTree, ActionTree, RegionTree
 use Rattle.cap_resolve_spec.specs.Parts.{PlacedItem, term_words, comparison_words, when_comparisons, whole_name, term_place, atom_place}
 use Rattle.cap_resolve_spec.specs.Names.{NameScope}
 use Rattle.cap_resolve_spec.specs.Items.{NumberedRegion, TypedName, Occurrence, unbound, occurrences, new_names}
-use Rattle.cap_resolve_spec.specs.Regions.{action_atoms, action_occurrences}
+use Rattle.cap_resolve_spec.specs.Regions.{action_occurrences, counted_names}
 use Rattle.cap_resolve_spec.specs.Linear.{term_form}
 use Rattle.cap_resolve_spec.specs.Program.{occurrence_sorts, comparison_program, assertion_program, action_guard}
 use Rattle.cap_resolve_scopes.specs.Lists.{bound_entries, is_known_with, is_whole_with}
@@ -22,7 +22,7 @@ known_by_case scope types parts c =
 
 abbrev pub known_by_action : NameScope → NumberedRegion → ActionTree → List Occurrence
 known_by_action scope k a =
-    filter (is_whole_with (bound_entries (action_atoms k a)) (whole_name a.source)
+    filter (is_whole_with (bound_entries (counted_names k a)) (whole_name a.source)
     (whole_name a.target))
     (new_names scope (action_occurrences k a))
 

@@ -9,7 +9,7 @@ ghost use Rattle.cap_resolve_regions.specs.Cases.{known_by_case, known_by_action
 use cap_parse_tree::{Action, Case};
 use cap_resolve_parts::{Placed, atoms_of, comparisons_of, whole_name};
 use cap_resolve_scopes::{
-    action_atoms, action_occurrences, assertion_occurrences, bound_scope, case_occurrences,
+    action_occurrences, assertion_occurrences, bound_scope, case_occurrences, counted_names,
     known_in_action, known_in_case,
 };
 use cap_resolve_tables::{Numbered, Occurrence, Types, new_names};
@@ -48,8 +48,8 @@ pub fn names_of_action<'a>(
 {
     let when = comparisons_of(alloc, &action.when)?;
     let guards = atoms_of(alloc, &action.guards)?;
-    let atoms = action_atoms(alloc, region, guards.as_slice())?;
-    let bound = bound_scope(alloc, atoms.as_slice())?;
+    let counted = counted_names(alloc, region, guards.as_slice())?;
+    let bound = bound_scope(alloc, counted.as_slice())?;
     let list = action_occurrences(
         alloc,
         region,

@@ -1,8 +1,9 @@
 //! A whole region type.
-ghost use Rattle.std.specs.Prelude.{◌≡◌, IfOk, map, length, []};
+ghost use Rattle.std.specs.Prelude.{◌≡◌, ◌≤◌, IfOk, map, length, []};
 ghost use Rattle.cap_galg.specs.Views.{algebra_view as algebra_seen};
 ghost use Rattle.cap_prog.specs.Views.{case_view as case_seen, action_view as action_seen};
 ghost use Rattle.cap_prog.specs.Views.{region_view as seen};
+ghost use Rattle.cap_prog.specs.WellFormed.{most_params};
 ghost use Rattle.cap_parse_tree.specs.Tree.{parts_of};
 ghost use Rattle.cap_parse_tree.specs.Views.{region_view, several_view, word_view};
 ghost use Rattle.cap_resolve_spec.specs.Names.{word_text};
@@ -18,21 +19,13 @@ use cap_resolve_parts::{word_count, words_of};
 use cap_resolve_tables::{Numbered, RegionTable, scope_of_words};
 use std::alloc::{AllocError, Global};
 
-fn count(length: usize) -> Result<u32, AllocError>
-    ensures { IfOk result (λ n. n ≡ length) }
-{
-    if length > u32::MAX as usize {
-        return Err(AllocError);
-    }
-    Ok(length as u32)
-}
-
 fn build_type(
     alloc: Global,
     tree: &Region,
     cases: Vec<Case>,
     actions: Vec<Action>,
 ) -> Result<RegionType, AllocError>
+    requires { length (parts_of (region_view tree.now).parameters) ≤ most_params }
     ensures { IfOk result (λ r. seen r ≡ record {
       name = (region_view tree.now).name.text;
       params = length (parts_of (region_view tree.now).parameters);
@@ -44,7 +37,7 @@ fn build_type(
     }) }
 {
     let name = tree.name.text.copy(alloc)?;
-    let params = count(word_count(&tree.parameters))?;
+    let params = word_count(&tree.parameters) as u32;
     let algebra = build_algebra(alloc, &tree.algebra)?;
     let atoms = build_guard_names(alloc, tree)?;
     Ok(RegionType {

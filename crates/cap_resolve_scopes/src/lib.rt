@@ -12,6 +12,6 @@ pub use bodies::{
     statement_words,
 };
 pub use regions::{
-    action_atoms, action_occurrences, assertion_occurrences, bound_late, bound_scope,
-    case_occurrences, known_in_action, known_in_case, unknown_in_action, unknown_in_case,
+    action_occurrences, assertion_occurrences, bound_late, bound_scope, case_occurrences,
+    counted_names, known_in_action, known_in_case, unknown_in_action, unknown_in_case,
 };

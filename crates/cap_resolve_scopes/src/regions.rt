@@ -1,10 +1,11 @@
 //! The names that the cases and actions of a region type know.
 ghost use Rattle.std.specs.Prelude.{◌≡◌, ◌++◌, filter, flat_map, not, false, Some, IfOk};
 ghost use Rattle.std.specs.Prelude.{OnOk};
-ghost use Rattle.cap_parse_tree.specs.Views.{term_view};
+ghost use Rattle.cap_parse_tree.specs.Views.{guard_view, term_view};
 ghost use Rattle.cap_resolve_spec.specs.Parts.{whole_name as name_of_whole, term_words, is_word as named};
 ghost use Rattle.cap_resolve_spec.specs.Parts.{comparison_words};
 ghost use Rattle.cap_resolve_spec.specs.Items.{unbound, occurrences, atom_occurrences};
+ghost use Rattle.cap_resolve_spec.specs.Regions.{counted_in};
 ghost use Rattle.cap_resolve_parts.specs.Views.{comparisons_view, guards_view, parts_view, word_seen};
 ghost use Rattle.cap_resolve_tables.specs.Tables.{numbered_view, types_of};
 ghost use Rattle.cap_resolve_tables.specs.Views.{occurrence_view, occurrences_view};
@@ -13,9 +14,9 @@ ghost use Rattle.cap_resolve_scopes.specs.Lists.{bound_entries, with_kept};
 
 use cap_lin::Sort;
 use cap_parse_tree::{Comparison, GuardAtom, Term, Word};
-use cap_resolve_parts::{Placed, whole_name};
+use cap_resolve_parts::{Placed, has_index, whole_name};
 use cap_resolve_tables::{
-    Numbered, Occurrence, Types, bound_names, push_atoms, push_comparison, push_known,
+    Numbered, Occurrence, Types, bound_names, push_atom, push_atoms, push_comparison, push_known,
     push_occurrences, push_term,
 };
 use cap_resolve_terms::Scope;
@@ -83,18 +84,34 @@ pub fn case_occurrences<'a>(
     Ok(list)
 }
 
-/// The names of an action's guards.
-pub fn action_atoms<'a>(
+fn push_counted<'a>(
+    alloc: Global,
+    list: &mut Vec<Occurrence<'a>>,
+    region: Numbered<'_, '_>,
+    atom: &'a GuardAtom,
+) -> Result<(), AllocError>
+    ensures { OnOk result (occurrences_view list.new.items ≡ occurrences_view list.old.items
+        ++ counted_in (Some (numbered_view region.entry)) (guard_view atom.now)) }
+{
+    if has_index(atom) {
+        return Ok(());
+    }
+    push_atom(alloc, list, false, Some(region), atom)
+}
+
+/// The names in the amounts and counts of an action's guards, and none of those in indices.
+pub fn counted_names<'a>(
     alloc: Global,
     region: Numbered<'_, '_>,
     atoms: &[&'a GuardAtom],
 ) -> Result<Vec<Occurrence<'a>>, AllocError>
     ensures { IfOk result (λ list. occurrences_view list.items
-        ≡ flat_map (atom_occurrences false (Some (numbered_view region.entry)))
-        (guards_view atoms.now)) }
+        ≡ flat_map (counted_in (Some (numbered_view region.entry))) (guards_view atoms.now)) }
 {
     let mut list = Vec::new(alloc);
-    push_atoms(alloc, &mut list, false, Some(region), atoms)?;
+    for atom in atoms {
+        push_counted(alloc, &mut list, region, atom)?;
+    }
     Ok(list)
 }
 

@@ -7,7 +7,7 @@ use Rattle.std.proofs.lemmas.List.{map-append, length-map}
 use Rattle.std.proofs.lemmas.Bool.{cases_lt}
 use Rattle.std.proofs.lemmas.Bool.Decides.{nat_tests}
 use Rattle.std.proofs.lemmas.Option.{slice_get_within, get_or_from_slice_get, slice_get-map}
-use Rattle.cap_galg.specs.Algebras.{PlainAlgebra, unique, divisible, counting, product, sum, atoms, atom_algebra}
+use Rattle.cap_galg.specs.Algebras.{PlainAlgebra, unique, divisible, counting, indexed, product, sum, atoms, atom_algebra}
 use Rattle.cap_parse_tree.specs.Tree as tree
 use Rattle.cap_parse_tree.specs.Tree.{DeclaredTree, DeclaredTrees, no_declared, and_declared, JointTree, joint, JointTrees, no_joint, or_joint, AlgebraTree, algebra}
 use Rattle.cap_resolve_spec.specs.Parts.{declared_guards, declareds_guards, joint_guards, joints_guards, algebra_guards}
@@ -23,6 +23,7 @@ kinds-count : (a : PlainAlgebra) → atoms a ≡ length (kinds a)
 kinds-count unique = refl
 kinds-count divisible = refl
 kinds-count counting = refl
+kinds-count indexed = refl
 kinds-count (product a b) = rw (length-append (kinds a) (kinds b), kinds-count a, kinds-count b) refl
 kinds-count (sum a b) = rw (length-append (kinds a) (kinds b), kinds-count a, kinds-count b) refl
 
@@ -44,6 +45,7 @@ atom-kind : (a : PlainAlgebra) (i : ℕ) → i < atoms a → atom_algebra a i �
 atom-kind unique i h = let e : i ≡ 0 = omega arith in sym (ap (λ k. get_or (unique ∷ []) k unique) e)
 atom-kind divisible i h = let e : i ≡ 0 = omega arith in sym (ap (λ k. get_or (divisible ∷ []) k unique) e)
 atom-kind counting i h = let e : i ≡ 0 = omega arith in sym (ap (λ k. get_or (counting ∷ []) k unique) e)
+atom-kind indexed i h = let e : i ≡ 0 = omega arith in sym (ap (λ k. get_or (indexed ∷ []) k unique) e)
 atom-kind (product a b) i h = pair-kind a b (λ j k. atom-kind a j k) (λ j k. atom-kind b j k) i h
 atom-kind (sum a b) i h = pair-kind a b (λ j k. atom-kind a j k) (λ j k. atom-kind b j k) i h
 
@@ -52,6 +54,7 @@ mutual
   declared-kinds (tree.unique w) = refl
   declared-kinds (tree.divisible p w) = refl
   declared-kinds (tree.counting p w q) = refl
+  declared-kinds (tree.indexed p w q) = refl
   declared-kinds (tree.grouped p a q) = algebra-kinds a
 
   declareds-kinds : (ds : DeclaredTrees) (a : PlainAlgebra) → kinds (declareds_program a ds) ≡ kinds a ++ map guard_kind (declareds_guards ds)

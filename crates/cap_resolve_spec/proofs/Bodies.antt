@@ -11,7 +11,7 @@ use Rattle.cap_prog.specs.Scopes.{Scope, HasSort, TermFits, CompFits, body_scope
 use Rattle.cap_prog.specs.Scopes as sorted
 use Rattle.cap_prog.specs.WellFormed.{EndsInReturn}
 use Rattle.cap_parse_tree.specs.declared.word.Word.{Word}
-use Rattle.cap_parse_tree.specs.Tree.{value, load, alloc, cas, result_of, StatementTree, assign, store, call, fork, branch, loop, check, give_back, ElseTree, no_else, else_block, StatementTrees, no_statement, then_statement, BlockTree, block, RegionTree, FunctionTree}
+use Rattle.cap_parse_tree.specs.Tree.{value, load, alloc, cas, faa, result_of, StatementTree, assign, store, call, fork, branch, loop, check, give_back, dispose, ElseTree, no_else, else_block, StatementTrees, no_statement, then_statement, BlockTree, block, RegionTree, FunctionTree}
 use Rattle.cap_resolve_spec.specs.Parts.{statement_parts, else_parts, statements_parts, block_parts}
 use Rattle.cap_resolve_spec.specs.Names.{KnownName, NameScope, knows, has_name, known_sort, sorts_of, variable_of, whole_numbers, is_among}
 use Rattle.cap_resolve_spec.specs.Functions.{Context}
@@ -108,6 +108,7 @@ some-parts (branch p q c r b e) = omega arith
 some-parts (loop p q c r i b) = omega arith
 some-parts (check p c e) = omega arith
 some-parts (give_back p t e) = omega arith
+some-parts (dispose p q t r e) = omega arith
 
 length-range : (n m : ℕ) → length (range_with_len n m) ≡ m
 length-range n zero = refl
@@ -119,6 +120,7 @@ mutual
   act-numbered g n (assign w q (load p t r) e) = refl
   act-numbered g n (assign w q (alloc p c m r) e) = refl
   act-numbered g n (assign w q (cas p c a d x f y r) e) = refl
+  act-numbered g n (assign w q (faa p c a d x r) e) = refl
   act-numbered g n (assign w q (result_of v l) e) = refl
   act-numbered g n (store p a q r t e) = refl
   act-numbered g n (call w l e) = refl
@@ -132,6 +134,7 @@ mutual
       subst (λ k. Numbered (n + 1) k (all_statements (block_program g (n + 1) b))) h (block-numbered g (n + 1) b)
   act-numbered g n (check p c e) = refl
   act-numbered g n (give_back p t e) = refl
+  act-numbered g n (dispose p q t r e) = refl
 
   else-numbered : (g : Context) (n : ℕ) (e : ElseTree) → Numbered n (length (else_parts e)) (all_statements (else_program g n e))
   else-numbered g n no_else = refl

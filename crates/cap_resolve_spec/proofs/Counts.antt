@@ -9,7 +9,7 @@ use Rattle.std.proofs.lemmas.Option.{same_Some}
 use Rattle.cap_syntax.specs.declared.place.Place.{Place}
 use Rattle.cap_prog.specs.WellFormed.{most_variables}
 use Rattle.cap_parse_tree.specs.declared.word.Word.{Word}
-use Rattle.cap_parse_tree.specs.Tree.{GuardTree, DeclaredTree, unique, divisible, counting, grouped}
+use Rattle.cap_parse_tree.specs.Tree.{GuardTree, DeclaredTree, unique, divisible, counting, indexed, grouped}
 use Rattle.cap_resolve_spec.specs.Finding.{is_earlier, limit, variable_count}
 use Rattle.cap_resolve_spec.specs.Parts.{atom_word}
 use Rattle.cap_resolve_spec.specs.Names.{is_among, repeated_after, is_past, past_variables}
@@ -73,6 +73,7 @@ same-guard : (x y : List ℕ) (d : DeclaredTree) → is_guard x d ≡ true → i
 same-guard x y (unique w) e h = one-text x y w e h
 same-guard x y (divisible p w) e h = one-text x y w e h
 same-guard x y (counting p w q) e h = one-text x y w e h
+same-guard x y (indexed p w q) e h = one-text x y w e h
 same-guard x y (grouped p a q) e h = absurd (true≢false (sym e))
 
 found-passes : {A : Type 0} (p : A → Bool) (xs : List A) (x : A) → find p xs ≡ Some x → p x ≡ true

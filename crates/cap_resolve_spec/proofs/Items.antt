@@ -15,7 +15,7 @@ use Rattle.cap_prog.specs.Parts.{all_items, side_items}
 use Rattle.cap_prog.specs.Scopes.{HasSort, TermFits, SlotFits}
 use Rattle.cap_prog.specs.WellFormed.{AskedFits, AtomFits, FactFits, ItemFits}
 use Rattle.cap_parse_tree.specs.declared.word.Word.{Word}
-use Rattle.cap_parse_tree.specs.declared.assertion.Counted.TheVariants.{Source, Tokens}
+use Rattle.cap_parse_tree.specs.declared.assertion.Counted.TheVariants.{Source, Tokens, At, From}
 use Rattle.cap_parse_tree.specs.Tree.{TermTree, SlotTree, any, is, GuardTree, alone, amount, count, HeldTree, ItemTree, holds, fails, fact, guards, cell, compare, choose, ItemTrees, no_item, and_item, AssertionTree, assertion, SideTree, side, DeclaredTree, RegionTree}
 use Rattle.cap_resolve_spec.specs.Finding.{found_if, wrong_arity, wrong_sort, self_fact}
 use Rattle.cap_resolve_spec.specs.Parts.{PlacedItem, item_parts, items_parts, assertion_parts, side_parts, term_words, comparison_words, held_atoms, atom_word, atom_place, atom_slots, region_parameters}
@@ -110,6 +110,14 @@ form-fits scope algebra.counting (alone w) h e k = absurd (true≢false (sym h))
 form-fits scope algebra.counting (amount w p s q) h e k = absurd (true≢false (sym h))
 form-fits scope algebra.counting (count Source p w q s r) h e k = slot-fits scope Int s k.0 (terms-front scope (slot_wanted (Some Int) s) [] e)
 form-fits scope algebra.counting (count Tokens p w q s r) h e k = slot-fits scope Int s k.0 (terms-front scope (slot_wanted (Some Int) s) [] e)
+form-fits scope algebra.counting (count At p w q s r) h e k = absurd (true≢false (sym h))
+form-fits scope algebra.counting (count From p w q s r) h e k = absurd (true≢false (sym h))
+form-fits scope algebra.indexed (alone w) h e k = absurd (true≢false (sym h))
+form-fits scope algebra.indexed (amount w p s q) h e k = absurd (true≢false (sym h))
+form-fits scope algebra.indexed (count Source p w q s r) h e k = absurd (true≢false (sym h))
+form-fits scope algebra.indexed (count Tokens p w q s r) h e k = absurd (true≢false (sym h))
+form-fits scope algebra.indexed (count At p w q s r) h e k = slot-fits scope Int s k.0 (terms-front scope (slot_wanted (Some Int) s) [] e)
+form-fits scope algebra.indexed (count From p w q s r) h e k = slot-fits scope Int s k.0 (terms-front scope (slot_wanted (Some Int) s) [] e)
 form-fits scope (algebra.product a b) g h e k = absurd (true≢false (sym h))
 form-fits scope (algebra.sum a b) g h e k = absurd (true≢false (sym h))
 

@@ -10,14 +10,14 @@ use Rattle.cap_prog.specs.Scopes.{known, region_scope, TermFits, CompFits}
 use Rattle.cap_prog.specs.Scopes as sorted
 use Rattle.cap_prog.specs.WellFormed.{most_members, most_variables, most_atoms, most_params, AtomFits, ItemFits, CaseFits, ActionFits, RegionFits}
 use Rattle.cap_parse_tree.specs.declared.word.Word.{Word}
-use Rattle.cap_parse_tree.specs.Tree.{parts_of, ComparisonTree, GuardTree, DeclaredTree, unique, divisible, counting, grouped, DeclaredTrees, no_declared, and_declared, JointTree, joint, JointTrees, no_joint, or_joint, AlgebraTree, algebra, CaseTree, ActionTree, RegionTree}
+use Rattle.cap_parse_tree.specs.Tree.{parts_of, ComparisonTree, GuardTree, DeclaredTree, unique, divisible, counting, indexed, grouped, DeclaredTrees, no_declared, and_declared, JointTree, joint, JointTrees, no_joint, or_joint, AlgebraTree, algebra, CaseTree, ActionTree, RegionTree}
 use Rattle.cap_resolve_spec.specs.Finding.{unknown_word, twice_word, guard_count, parameter_count}
 use Rattle.cap_resolve_spec.specs.Parts.{PlacedItem, term_words, comparison_words, when_comparisons, placed_items, atom_word, declared_guards, declareds_guards, joint_guards, joints_guards, algebra_guards}
 use Rattle.cap_resolve_spec.specs.Names.{NameScope, sorts_of, word_text, word_place, repeated, past_variables, past, parameters_findings}
 use Rattle.cap_resolve_spec.specs.Linear.{term_form}
 use Rattle.cap_resolve_spec.specs.Terms.{wanted_as, term_findings, terms_findings, comparison_wanted}
 use Rattle.cap_resolve_spec.specs.Items.{NumberedRegion, is_guard, guard_words, guard_kind, region_guards, Occurrence, occurs, unbound, atom_occurrences, scope_of, occurrence_word, occurrence_words, ret_findings, item_wanted, atom_wanted, atom_findings, guard_findings, atoms_twice}
-use Rattle.cap_resolve_spec.specs.Regions.{own_parameters, own_name, parameters_scope, case_types, case_occurrences, case_new, is_known_in, case_known, case_unknown, case_scope, case_wanted, case_items_findings, case_findings, action_atoms, action_occurrences, action_new, is_whole_in, action_known, action_unknown, action_scope, action_wanted, action_findings, guard_names, region_type_findings}
+use Rattle.cap_resolve_spec.specs.Regions.{own_parameters, own_name, parameters_scope, case_types, case_occurrences, case_new, is_known_in, case_known, case_unknown, case_scope, case_wanted, case_items_findings, case_findings, action_atoms, action_occurrences, action_new, is_whole_in, action_known, action_unknown, action_indices_findings, action_scope, action_wanted, action_findings, guard_names, region_type_findings}
 use Rattle.cap_resolve_spec.specs.Program.{comparison_program, guard_number, action_guard, assertion_program, occurrence_sort, occurrence_sorts, case_program, action_program, region_program}
 use Rattle.cap_resolve_spec.proofs.Every.{each_append, each_front, each_behind, each_mapped, each_flat, each_weaker}
 use Rattle.cap_resolve_spec.proofs.Nothing.{cons_not_nil, nothing_front, nothing_behind, nothing_flat, nothing_mapped, nothing_kept, not_past}
@@ -138,8 +138,11 @@ action-fits rs k a e some few = record {
   comparisons = subst (λ m. m ≤ most_members) (sym (length-map (when_comparisons a.when) (comparison_program (action_scope k a)))) few;
 }
   where
+    rest1 : map unknown_word (occurrence_words (action_unknown k a)) ++ (ret_findings (action_new k a) ++ (past_variables (map word_place (own_parameters k ++ occurrence_words (action_known k a))) ++ (flat_map (atom_findings k) (parts_of a.guards) ++ (atoms_twice (parts_of a.guards) ++ terms_findings (action_scope k a) (action_wanted k a))))) ≡ []
+    rest1 = nothing_behind (action_indices_findings k a) _ e
+
     rest2 : past_variables (map word_place (own_parameters k ++ occurrence_words (action_known k a))) ++ (flat_map (atom_findings k) (parts_of a.guards) ++ (atoms_twice (parts_of a.guards) ++ terms_findings (action_scope k a) (action_wanted k a))) ≡ []
-    rest2 = nothing_behind (ret_findings (action_new k a)) _ (nothing_behind (map unknown_word (occurrence_words (action_unknown k a))) _ e)
+    rest2 = nothing_behind (ret_findings (action_new k a)) _ (nothing_behind (map unknown_word (occurrence_words (action_unknown k a))) _ rest1)
 
     rest3 : flat_map (atom_findings k) (parts_of a.guards) ++ (atoms_twice (parts_of a.guards) ++ terms_findings (action_scope k a) (action_wanted k a)) ≡ []
     rest3 = nothing_behind (past_variables (map word_place (own_parameters k ++ occurrence_words (action_known k a)))) _ rest2
@@ -157,7 +160,7 @@ action-fits rs k a e some few = record {
     terms2 = terms-behind (action_scope k a) (flat_map (atom_wanted (Some k)) (parts_of a.guards)) _ terms
 
     kept : action_known k a ≡ action_new k a
-    kept = all-kept (is_whole_in k a) (action_new k a) (nothing_kept (λ o. not (is_whole_in k a o)) (action_new k a) (none-unknown (action_unknown k a) (nothing_front (map unknown_word (occurrence_words (action_unknown k a))) _ e)))
+    kept = all-kept (is_whole_in k a) (action_new k a) (nothing_kept (λ o. not (is_whole_in k a o)) (action_new k a) (none-unknown (action_unknown k a) (nothing_front (map unknown_word (occurrence_words (action_unknown k a))) _ rest1)))
 
     all-known : AllByRecursion (OccursKnown (action_scope k a)) (action_occurrences k a)
     all-known = subst (λ os. AllByRecursion (OccursKnown (parameters_scope k ++ scope_of os)) (action_occurrences k a)) (sym kept) (occurrences-known (parameters_scope k) (action_occurrences k a))
@@ -182,6 +185,7 @@ mutual
   declared-words (unique w) = (refl, tt)
   declared-words (divisible p w) = (refl, tt)
   declared-words (counting p w q) = (refl, tt)
+  declared-words (indexed p w q) = (refl, tt)
   declared-words (grouped p a q) = algebra-words a
 
   declareds-words : (ds : DeclaredTrees) → AllByRecursion OneWord (declareds_guards ds)

@@ -5,9 +5,9 @@ use Rattle.cap_syntax.specs.declared.token.Token.{Token}
 use Rattle.cap_prog.specs.Program.{none, PlainAct, Block, done, first, append, PlainStatement}
 use Rattle.cap_prog.specs.Parts.{all_statements, block_statements, blocks, block_length}
 use Rattle.cap_prog.specs.WellFormed.{most_members}
-use Rattle.cap_parse_tree.specs.Tree.{value, load, alloc, cas, result_of, StatementTree, assign, store, call, fork, branch, loop, check, give_back, ElseTree, no_else, else_block, StatementTrees, no_statement, then_statement, BlockTree, block, unique, divisible, counting, grouped, DeclaredTrees, no_declared, and_declared, joint, JointTrees, no_joint, or_joint, algebra, WhenTree, CaseTree, ActionTree, RegionTree, FunctionTree, DeclarationTree, region, function, ProgramTree}
+use Rattle.cap_parse_tree.specs.Tree.{value, load, alloc, cas, faa, result_of, StatementTree, assign, store, call, fork, branch, loop, check, give_back, dispose, ElseTree, no_else, else_block, StatementTrees, no_statement, then_statement, BlockTree, block, unique, divisible, counting, indexed, grouped, DeclaredTrees, no_declared, and_declared, joint, JointTrees, no_joint, or_joint, algebra, WhenTree, CaseTree, ActionTree, RegionTree, FunctionTree, DeclarationTree, region, function, ProgramTree}
 use Rattle.cap_parse_tree.specs.Tokens.{symbol, keyword}
-use Rattle.cap_parse_tree.specs.Spelling.{spell_all, spell_option, spell_listed, spell_group, spell_name, spell_term, spell_comparison, spell_guard, spell_assertion, spell_clause, spell_value, spell_statement, spell_else, spell_statements, spell_block, spell_declared, spell_declareds, spell_joint, spell_joints, spell_algebra, spell_when, spell_case, spell_action, spell_region, spell_function, spell_declaration, spelling}
+use Rattle.cap_parse_tree.specs.Spelling.{spell_all, spell_option, spell_listed, spell_group, spell_name, spell_term, spell_comparison, spell_guard, spell_assertion, spell_clause, spell_value, spell_statement, spell_else, spell_statements, spell_block, spell_declared, spell_declareds, spell_joint, spell_joints, spell_algebra, spell_when, spell_case, spell_action, spell_region, spell_function, spell_declaration, spell_header, spelling}
 use Rattle.cap_resolve_spec.specs.Parts.{when_comparisons, statement_parts, else_parts, statements_parts, block_parts, invariant, region_in, function_in, regions, functions}
 use Rattle.cap_resolve_spec.specs.Items.{NumberedRegion}
 use Rattle.cap_resolve_spec.specs.Functions.{Context, context_of, clause_types, clause_scope, requires_types, requires_scope}
@@ -26,6 +26,7 @@ value-adds (value t) ts = term-adds t ts
 value-adds (load p t q) ts = omega (arith, term-adds t (symbol (codes "]") q ∷ ts))
 value-adds (alloc p q n r) ts = omega arith
 value-adds (cas p q a c e d f r) ts = omega (arith, term-adds a (symbol (codes ",") c ∷ spell_term e (symbol (codes ",") d ∷ spell_term f (symbol (codes ")") r ∷ ts))), term-adds e (symbol (codes ",") d ∷ spell_term f (symbol (codes ")") r ∷ ts)), term-adds f (symbol (codes ")") r ∷ ts))
+value-adds (faa p q a c e r) ts = omega (arith, term-adds a (symbol (codes ",") c ∷ spell_term e (symbol (codes ")") r ∷ ts)), term-adds e (symbol (codes ")") r ∷ ts))
 value-adds (result_of w l) ts = omega (arith, listed-adds spell_term term-adds l ts)
 
 mutual
@@ -38,6 +39,7 @@ mutual
   statement-adds g (loop p q c r i b) ts = omega (arith, comparison-adds c (symbol (codes ")") r ∷ spell_option (spell_clause (codes "invariant")) i (spell_block b ts)), option-adds (spell_clause (codes "invariant")) (clause-adds (codes "invariant")) i (spell_block b ts), block-adds g 0 b ts)
   statement-adds g (check p c e) ts = omega (arith, comparison-adds c (symbol (codes ";") e ∷ ts))
   statement-adds g (give_back p t e) ts = omega (arith, option-adds spell_term term-adds t (symbol (codes ";") e ∷ ts))
+  statement-adds g (dispose p q t r e) ts = omega (arith, term-adds t (symbol (codes ")") r ∷ symbol (codes ";") e ∷ ts))
 
   else-adds : Context → (e : ElseTree) (ts : List Token) → length ts ≤ length (spell_else e ts)
   else-adds g no_else ts = omega arith
@@ -66,6 +68,7 @@ mutual
   act-blocks g n (assign w q (load b t d) e) ts h = (tt, tt)
   act-blocks g n (assign w q (alloc b c m d) e) ts h = (tt, tt)
   act-blocks g n (assign w q (cas b c t d u k v m) e) ts h = (tt, tt)
+  act-blocks g n (assign w q (faa b c t d u m) e) ts h = (tt, tt)
   act-blocks g n (assign w q (result_of v l) e) ts h = (tt, tt)
   act-blocks g n (store b t c d u e) ts h = (tt, tt)
   act-blocks g n (call v l e) ts h = (tt, tt)
@@ -82,6 +85,7 @@ mutual
       ((omega (arith, block-adds g (n + 1) b ts), tt), block-blocks g (n + 1) b ts x)
   act-blocks g n (check b c e) ts h = (tt, tt)
   act-blocks g n (give_back b t e) ts h = (tt, tt)
+  act-blocks g n (dispose b c t d e) ts h = (tt, tt)
 
   else-blocks : (g : Context) (n : ℕ) (e : ElseTree) (ts : List Token) → length (spell_else e ts) ≤ most_members → BlocksShort (all_statements (else_program g n e))
   else-blocks g n no_else ts h = tt
@@ -119,6 +123,7 @@ mutual
       (clause-items g.regions (clause_types g i) (clause_scope g g.loop i) (codes "invariant") i (spell_block b ts) x, block-invariants g b ts y)
   statement-invariants g (check b c e) ts h = (no-items, tt)
   statement-invariants g (give_back b t e) ts h = (no-items, tt)
+  statement-invariants g (dispose b c t d e) ts h = (no-items, tt)
 
   else-invariants : (g : Context) (e : ElseTree) (ts : List Token) → length (spell_else e ts) ≤ most_members → AllByRecursion (InvariantShort g) (else_parts e)
   else-invariants g no_else ts h = tt
@@ -177,6 +182,7 @@ mutual
   declared-adds (unique w) ts = omega arith
   declared-adds (divisible p w) ts = omega arith
   declared-adds (counting p w q) ts = omega arith
+  declared-adds (indexed p w q) ts = omega arith
   declared-adds (grouped p a q) ts = omega (arith, algebra-adds a (symbol (codes ")") q ∷ ts))
 
   declareds-add : (ds : DeclaredTrees) (ts : List Token) → length ts ≤ length (spell_declareds ds ts)
@@ -316,8 +322,16 @@ short-functions (function f ∷ ds) ts h =
     let x : length (spell_all spell_declaration ds ts) ≤ most_members = omega (arith, function-adds [] [] f (spell_all spell_declaration ds ts)) in
     (record { behind = spell_all spell_declaration ds ts; short = h }, short-functions ds ts x)
 
+header-adds : Adds spell_header
+header-adds h ts = omega arith
+
+declarations-short : (t : ProgramTree) → length (spelling t) ≤ most_members → length (spell_all spell_declaration t.declarations []) ≤ most_members
+declarations-short t h =
+    let x : length (spell_option spell_header t.header (spell_all spell_declaration t.declarations [])) ≤ most_members = h in
+    omega (arith, option-adds spell_header header-adds t.header (spell_all spell_declaration t.declarations []), x)
+
 pub regions-short : (t : ProgramTree) → length (spelling t) ≤ most_members → AllByRecursion IsShortRegion (regions t)
-regions-short t h = short-regions t.declarations [] h
+regions-short t h = short-regions t.declarations [] (declarations-short t h)
 
 pub functions-short : (t : ProgramTree) → length (spelling t) ≤ most_members → AllByRecursion IsShortFunction (functions t)
-functions-short t h = short-functions t.declarations [] h
+functions-short t h = short-functions t.declarations [] (declarations-short t h)

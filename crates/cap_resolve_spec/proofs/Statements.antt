@@ -11,7 +11,7 @@ use Rattle.cap_prog.specs.Scopes.{Scope, requires_scope, ensures_scope, invarian
 use Rattle.cap_prog.specs.WellFormed.{most_cells, most_members, most_variables, ItemFits, ItemsFit, ActFits, IsLocal, IsValue, CallFits, AssertionFits, FunctionFits}
 use Rattle.cap_parse_tree.specs.declared.word.Word.{Word}
 use Rattle.cap_parse_tree.specs.declared.word.Literal.{Literal}
-use Rattle.cap_parse_tree.specs.Tree.{listed_parts, TermTree, ClauseTree, value, load, alloc, cas, result_of, StatementTree, assign, store, call, fork, branch, loop, check, give_back, ElseTree, no_else, else_block, StatementTrees, no_statement, then_statement, BlockTree, block, RegionTree, FunctionTree}
+use Rattle.cap_parse_tree.specs.Tree.{listed_parts, TermTree, ClauseTree, value, load, alloc, cas, faa, result_of, StatementTree, assign, store, call, fork, branch, loop, check, give_back, dispose, ElseTree, no_else, else_block, StatementTrees, no_statement, then_statement, BlockTree, block, RegionTree, FunctionTree}
 use Rattle.cap_resolve_spec.specs.Finding.{wrong_arity, limit, cell_count}
 use Rattle.cap_resolve_spec.specs.Parts.{clause_parts, statement_parts, else_parts, statements_parts, block_parts, destination, invariant, parameters}
 use Rattle.cap_resolve_spec.specs.Names.{NameScope, sorts_of, word_text, parameters_findings, is_among}
@@ -118,6 +118,7 @@ act-fits p rs fs f h n (assign w q (alloc b c m d) e) a =
     let few = cells-fit m (nothing_front (cells_findings m) [] (nothing_front (flat_map cells_findings (m ∷ [])) _ (after-callee (context_of rs fs f) (assign w q (alloc b c m d) e) a.nothing))) in
     (is-local rs fs f w a.local.0, few.0, few.1)
 act-fits p rs fs f h n (assign w q (cas b c t d u k v m) e) a = let vs = statement-values p rs fs f h (assign w q (cas b c t d u k v m) e) a in (is-local rs fs f w a.local.0, vs.0, vs.1.0, vs.1.1.0)
+act-fits p rs fs f h n (assign w q (faa b c t d u m) e) a = let vs = statement-values p rs fs f h (assign w q (faa b c t d u m) e) a in (is-local rs fs f w a.local.0, vs.0, vs.1.0)
 act-fits p rs fs f h n (assign w q (result_of v l) e) a = (is-local rs fs f w a.local.0, call-fits p rs fs f h.functions v (listed_parts l) (nothing_front (callee_findings fs (v, listed_parts l)) [] (nothing_front (flat_map (callee_findings fs) ((v, listed_parts l) ∷ [])) _ (after-names (context_of rs fs f) (assign w q (result_of v l) e) a.nothing))) (statement-values p rs fs f h _ a))
 act-fits p rs fs f h n (store b t c d u e) a = let vs = statement-values p rs fs f h (store b t c d u e) a in (vs.0, vs.1.0)
 act-fits p rs fs f h n (call v l e) a = (tt, call-fits p rs fs f h.functions v (listed_parts l) (nothing_front (callee_findings fs (v, listed_parts l)) [] (nothing_front (flat_map (callee_findings fs) ((v, listed_parts l) ∷ [])) _ (after-names (context_of rs fs f) (call v l e) a.nothing))) (statement-values p rs fs f h _ a))
@@ -127,6 +128,7 @@ act-fits p rs fs f h n (loop b c d e i k) a = ((statement-comparisons p rs fs f 
 act-fits p rs fs f h n (check b c e) a = (statement-comparisons p rs fs f h _ a).0
 act-fits p rs fs f h n (give_back b None e) a = tt
 act-fits p rs fs f h n (give_back b (Some t) e) a = (statement-values p rs fs f h _ a).0
+act-fits p rs fs f h n (dispose b c t d e) a = (statement-values p rs fs f h _ a).0
 
 abbrev AllFit : PlainProgram → PlainFunction → List PlainStatement → Type 0
 AllFit p f ss = AllByRecursion (λ (s : PlainStatement). ActFits p f s.act) ss
@@ -137,6 +139,7 @@ mutual
   inner-fit p rs fs f h n (assign w q (load b t d) e) a = (act-fits p rs fs f h n (assign w q (load b t d) e) a.0, tt)
   inner-fit p rs fs f h n (assign w q (alloc b c m d) e) a = (act-fits p rs fs f h n (assign w q (alloc b c m d) e) a.0, tt)
   inner-fit p rs fs f h n (assign w q (cas b c t d u k v m) e) a = (act-fits p rs fs f h n (assign w q (cas b c t d u k v m) e) a.0, tt)
+  inner-fit p rs fs f h n (assign w q (faa b c t d u m) e) a = (act-fits p rs fs f h n (assign w q (faa b c t d u m) e) a.0, tt)
   inner-fit p rs fs f h n (assign w q (result_of v l) e) a = (act-fits p rs fs f h n (assign w q (result_of v l) e) a.0, tt)
   inner-fit p rs fs f h n (store b t c d u e) a = (act-fits p rs fs f h n (store b t c d u e) a.0, tt)
   inner-fit p rs fs f h n (call v l e) a = (act-fits p rs fs f h n (call v l e) a.0, tt)
@@ -150,6 +153,7 @@ mutual
   inner-fit p rs fs f h n (loop b c d e i k) a = (act-fits p rs fs f h n (loop b c d e i k) a.0, block-fit p rs fs f h (n + 1) k a.1)
   inner-fit p rs fs f h n (check b c e) a = (act-fits p rs fs f h n (check b c e) a.0, tt)
   inner-fit p rs fs f h n (give_back b t e) a = (act-fits p rs fs f h n (give_back b t e) a.0, tt)
+  inner-fit p rs fs f h n (dispose b c t d e) a = (act-fits p rs fs f h n (dispose b c t d e) a.0, tt)
 
   else-fit : (p : PlainProgram) (rs : List RegionTree) (fs : List FunctionTree) (f : FunctionTree) → FunctionReads p rs fs f → (n : ℕ) (e : ElseTree) → AllByRecursion (RightStatement rs fs f) (else_parts e) → AllFit p (function_program rs fs f) (all_statements (else_program (context_of rs fs f) n e))
   else-fit p rs fs f h n no_else a = tt

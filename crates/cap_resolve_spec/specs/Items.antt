@@ -7,8 +7,10 @@ use Rattle.cap_lin.specs.declared.row.Sort.{Sort}
 use Rattle.cap_lin.specs.declared.row.Sort.TheVariants.{Int, Perm}
 use Rattle.cap_galg.specs.Algebras.{PlainAlgebra}
 use Rattle.cap_galg.specs.Algebras as algebra
+use Rattle.cap_parse_tree.specs.declared.assertion.Counted.{Counted}
+use Rattle.cap_parse_tree.specs.declared.assertion.Counted.TheVariants.{At, From}
 use Rattle.cap_parse_tree.specs.declared.word.Word.{Word}
-use Rattle.cap_parse_tree.specs.Tree.{SlotTree, any, is, GuardTree, alone, amount, count, ItemTree, fact, guards, cell, compare, choose, DeclaredTree, unique, divisible, counting, grouped, RegionTree}
+use Rattle.cap_parse_tree.specs.Tree.{SlotTree, any, is, GuardTree, alone, amount, count, ItemTree, fact, guards, cell, compare, choose, DeclaredTree, unique, divisible, counting, indexed, grouped, RegionTree}
 use Rattle.cap_resolve_spec.specs.Finding.{Finding, found_if, unknown_word, twice_word, wrong_arity, wrong_sort, self_fact}
 use Rattle.cap_resolve_spec.specs.Parts.{PlacedItem, term_words, comparison_words, whole_name, held_atoms, atom_word, atom_place, atom_slots, algebra_guards, region_parameters}
 use Rattle.cap_resolve_spec.specs.Names.{KnownName, NameScope, known_as, sort_of, knows, firsts, repeated, is_ret}
@@ -39,11 +41,13 @@ abbrev pub guard_words : DeclaredTree → List Word
 guard_words (unique w) = w ∷ []
 guard_words (divisible p w) = w ∷ []
 guard_words (counting p w q) = w ∷ []
+guard_words (indexed p w q) = w ∷ []
 guard_words (grouped p a q) = []
 
 abbrev pub guard_kind : DeclaredTree → PlainAlgebra
 guard_kind (divisible p w) = algebra.divisible
 guard_kind (counting p w q) = algebra.counting
+guard_kind (indexed p w q) = algebra.indexed
 guard_kind _ = algebra.unique
 
 abbrev pub is_guard : List ℕ → DeclaredTree → Bool
@@ -165,11 +169,22 @@ ret_findings os = map twice_word (filter (λ w. is_ret w.text) (occurrence_words
 
 -- ---- what is wrong in items
 
+-- `at` and `from` are of indices, `src` and `tok` of counts
+abbrev pub counts_indices : Counted → Bool
+counts_indices At = true
+counts_indices From = true
+counts_indices _ = false
+
+abbrev pub has_index : GuardTree → Bool
+has_index (count c k w p s q) = counts_indices c
+has_index _ = false
+
 -- the form of an atom is that of its declaration
 abbrev pub has_form : PlainAlgebra → GuardTree → Bool
 has_form algebra.unique (alone w) = true
 has_form algebra.divisible (amount w p s q) = true
-has_form algebra.counting (count c k w p s q) = true
+has_form algebra.counting (count c k w p s q) = not (counts_indices c)
+has_form algebra.indexed (count c k w p s q) = counts_indices c
 has_form _ _ = false
 
 abbrev pub atom_wanted : Option NumberedRegion → GuardTree → List WantedTerm

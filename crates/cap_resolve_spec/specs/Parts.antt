@@ -5,7 +5,7 @@ use Rattle.std.specs.Str.{bytes_eq}
 use Rattle.cap_syntax.specs.declared.place.Place.{Place}
 use Rattle.cap_parse_tree.specs.declared.word.Word.{Word}
 use Rattle.cap_parse_tree.specs.declared.word.Literal.{Literal}
-use Rattle.cap_parse_tree.specs.Tree.{parts_of, listed_parts, FactorTree, literal, whole_share, named, bracketed, ProductTree, product, FactorTrees, no_factor, times, TermTree, term, ProductTrees, no_product, signed, ComparisonTree, SlotTree, GuardTree, alone, amount, count, HeldTree, bare, in_parentheses, ItemTree, holds, fails, fact, guards, cell, compare, choose, ItemTrees, no_item, and_item, AssertionTree, assertion, SideTree, side, ClauseTree, ValueTree, value, load, alloc, cas, result_of, StatementTree, assign, store, call, fork, branch, loop, check, give_back, ElseTree, no_else, else_block, StatementTrees, no_statement, then_statement, BlockTree, block, DeclaredTree, grouped, DeclaredTrees, no_declared, and_declared, JointTree, joint, JointTrees, no_joint, or_joint, AlgebraTree, algebra, WhenTree, RegionTree, FunctionTree, DeclarationTree, region, function, ProgramTree}
+use Rattle.cap_parse_tree.specs.Tree.{parts_of, listed_parts, FactorTree, literal, whole_share, named, bracketed, ProductTree, product, FactorTrees, no_factor, times, TermTree, term, ProductTrees, no_product, signed, ComparisonTree, SlotTree, GuardTree, alone, amount, count, HeldTree, bare, in_parentheses, ItemTree, holds, fails, fact, guards, cell, compare, choose, ItemTrees, no_item, and_item, AssertionTree, assertion, SideTree, side, ClauseTree, ValueTree, value, load, alloc, cas, faa, result_of, StatementTree, assign, store, call, fork, branch, loop, check, give_back, dispose, ElseTree, no_else, else_block, StatementTrees, no_statement, then_statement, BlockTree, block, DeclaredTree, grouped, DeclaredTrees, no_declared, and_declared, JointTree, joint, JointTrees, no_joint, or_joint, AlgebraTree, algebra, WhenTree, RegionTree, FunctionTree, DeclarationTree, region, function, ProgramTree}
 
 -- ---- terms
 
@@ -238,6 +238,7 @@ value_terms (value t) = t ∷ []
 value_terms (load p t q) = t ∷ []
 value_terms (alloc p q n r) = []
 value_terms (cas p q a c e d f r) = a ∷ e ∷ f ∷ []
+value_terms (faa p q a c e r) = a ∷ e ∷ []
 value_terms (result_of w l) = listed_parts l
 
 -- a statement's own terms, without its comparison, its invariant and its blocks
@@ -247,6 +248,7 @@ statement_terms (store p a q r t e) = a ∷ t ∷ []
 statement_terms (call w l e) = listed_parts l
 statement_terms (fork p w l e) = listed_parts l
 statement_terms (give_back p t e) = option_to_list t
+statement_terms (dispose p q t r e) = t ∷ []
 statement_terms _ = []
 
 abbrev pub statement_comparison : StatementTree → Option ComparisonTree

@@ -14,14 +14,14 @@ use Rattle.cap_prog.specs.declared.assertion.Comp.{Comp}
 use Rattle.cap_prog.specs.declared.assertion.Slot.{Slot}
 use Rattle.cap_prog.specs.declared.assertion.Slot.TheVariants.{Any, Is}
 use Rattle.cap_prog.specs.declared.assertion.Asked.{Asked}
-use Rattle.cap_prog.specs.declared.assertion.Asked.TheVariants.{One, Share, Src, Tok}
+use Rattle.cap_prog.specs.declared.assertion.Asked.TheVariants.{One, Share, Src, Tok, At, From}
 use Rattle.cap_prog.specs.Program.{PlainItem, Items, none, item, append_items, PlainAssertion, PlainCase, PlainAction, PlainRegionType, Label, PlainAct, Block, done, first, append, PlainFunction, PlainProgram}
 use Rattle.cap_prog.specs.Program as plain
 use Rattle.cap_parse_tree.specs.declared.word.Word.{Word}
 use Rattle.cap_parse_tree.specs.declared.term.Relation.{Relation}
 use Rattle.cap_parse_tree.specs.declared.term.Relation.TheVariants.{Equal, Unequal, Less, AtMost, Greater, AtLeast}
-use Rattle.cap_parse_tree.specs.declared.assertion.Counted.TheVariants.{Source, Tokens}
-use Rattle.cap_parse_tree.specs.Tree.{parts_of, listed_parts, TermTree, ComparisonTree, SlotTree, any, is, GuardTree, alone, amount, count, ItemTree, holds, fails, fact, guards, cell, compare, choose, ItemTrees, no_item, and_item, AssertionTree, assertion, SideTree, side, ClauseTree, ValueTree, value, load, alloc, cas, result_of, StatementTree, assign, store, call, fork, branch, loop, check, give_back, ElseTree, no_else, else_block, StatementTrees, no_statement, then_statement, BlockTree, block, DeclaredTree, unique, divisible, counting, grouped, DeclaredTrees, no_declared, and_declared, JointTree, joint, JointTrees, no_joint, or_joint, AlgebraTree, algebra, CaseTree, ActionTree, RegionTree, FunctionTree, ProgramTree}
+use Rattle.cap_parse_tree.specs.declared.assertion.Counted.TheVariants as counted
+use Rattle.cap_parse_tree.specs.Tree.{parts_of, listed_parts, TermTree, ComparisonTree, SlotTree, any, is, GuardTree, alone, amount, count, ItemTree, holds, fails, fact, guards, cell, compare, choose, ItemTrees, no_item, and_item, AssertionTree, assertion, SideTree, side, ClauseTree, ValueTree, value, load, alloc, cas, faa, result_of, StatementTree, assign, store, call, fork, branch, loop, check, give_back, dispose, ElseTree, no_else, else_block, StatementTrees, no_statement, then_statement, BlockTree, block, DeclaredTree, unique, divisible, counting, indexed, grouped, DeclaredTrees, no_declared, and_declared, JointTree, joint, JointTrees, no_joint, or_joint, AlgebraTree, algebra, CaseTree, ActionTree, RegionTree, FunctionTree, ProgramTree}
 use Rattle.cap_resolve_spec.specs.Parts.{term_place, held_atoms, atom_word, atom_place, when_comparisons, statement_parts, block_parts, regions, functions, parameters}
 use Rattle.cap_resolve_spec.specs.Names.{NameScope, variable_of, word_text}
 use Rattle.cap_resolve_spec.specs.Linear.{term_form}
@@ -62,8 +62,10 @@ slot_program scope (is t) = Is (term_form scope t)
 abbrev pub asked_program : NameScope → GuardTree → Asked
 asked_program scope (alone w) = One
 asked_program scope (amount w p s q) = Share (slot_program scope s)
-asked_program scope (count Source k w p s q) = Src (slot_program scope s)
-asked_program scope (count Tokens k w p s q) = Tok (slot_program scope s)
+asked_program scope (count counted.Source k w p s q) = Src (slot_program scope s)
+asked_program scope (count counted.Tokens k w p s q) = Tok (slot_program scope s)
+asked_program scope (count counted.At k w p s q) = At (slot_program scope s)
+asked_program scope (count counted.From k w p s q) = From (slot_program scope s)
 
 -- the number of a guard in its region type, and of a region type: of the first that has the name
 abbrev pub guard_number : NumberedRegion → GuardTree → ℕ
@@ -137,6 +139,7 @@ abbrev mutual
   declared_program (unique w) = algebras.unique
   declared_program (divisible p w) = algebras.divisible
   declared_program (counting p w q) = algebras.counting
+  declared_program (indexed p w q) = algebras.indexed
   declared_program (grouped p a q) = algebra_program a
 
   pub declareds_program : PlainAlgebra → DeclaredTrees → PlainAlgebra
@@ -213,6 +216,7 @@ assign_program g x (load p t q) = plain.read x (body_term g t)
 assign_program g x (alloc p q n e) = plain.alloc x n.value
 assign_program g x (cas p q a c e d f h) =
     plain.cas x (body_term g a) (body_term g e) (body_term g f)
+assign_program g x (faa p q a c e r) = plain.faa x (body_term g a) (body_term g e)
 assign_program g x (result_of w l) =
     plain.call (Some x) (function_number g.functions w.text) (body_terms g (listed_parts l))
 
@@ -226,6 +230,7 @@ statement_place (branch p q c r b e) = p
 statement_place (loop p q c r i b) = p
 statement_place (check p c e) = p
 statement_place (give_back p t e) = p
+statement_place (dispose p q t r e) = p
 
 -- `return;` returns 0
 abbrev pub returned : Context → Option TermTree → Linear
@@ -252,6 +257,7 @@ abbrev mutual
       (block_program g (n + 1) b)
   act_program g n (check p c e) = plain.check (comparison_program g.body c)
   act_program g n (give_back p t e) = plain.give_back (returned g t)
+  act_program g n (dispose p q t r e) = plain.dispose (body_term g t)
 
   pub else_program : Context → ℕ → ElseTree → Block
   else_program g n no_else = done

@@ -1,14 +1,14 @@
 -- What is wrong in a region type.
-use Rattle.std.specs.Prelude.{ℕ, Bool, false, not, ◌&&◌, ◌||◌, List, ◌∷◌, ◌++◌, map, flat_map, filter, Some}
+use Rattle.std.specs.Prelude.{ℕ, Bool, true, false, not, ◌&&◌, ◌||◌, if◌then◌else◌, List, [], ◌∷◌, ◌++◌, map, flat_map, filter, Option, Some}
 use Rattle.cap_lin.specs.declared.row.Sort.TheVariants.{Int}
 use Rattle.cap_prog.specs.WellFormed.{most_atoms}
 use Rattle.cap_parse_tree.specs.declared.word.Word.{Word}
-use Rattle.cap_parse_tree.specs.Tree.{parts_of, CaseTree, ActionTree, RegionTree}
-use Rattle.cap_resolve_spec.specs.Finding.{Finding, guard_count, unknown_word, twice_word}
+use Rattle.cap_parse_tree.specs.Tree.{parts_of, SlotTree, any, is, GuardTree, count, CaseTree, ActionTree, RegionTree}
+use Rattle.cap_resolve_spec.specs.Finding.{Finding, found_if, guard_count, unknown_word, twice_word, wrong_sort}
 use Rattle.cap_resolve_spec.specs.Parts.{term_words, comparison_words, when_comparisons, whole_name, is_word, placed_items, region_parameters}
-use Rattle.cap_resolve_spec.specs.Names.{NameScope, whole_numbers, word_place, repeated, past_variables, past, parameters_findings}
+use Rattle.cap_resolve_spec.specs.Names.{NameScope, knows, whole_numbers, word_place, repeated, past_variables, past, parameters_findings}
 use Rattle.cap_resolve_spec.specs.Terms.{WantedTerm, wanted_as, comparison_wanted, terms_findings}
-use Rattle.cap_resolve_spec.specs.Items.{NumberedRegion, guard_words, region_guards, TypedName, typed, types_told, Occurrence, name_of, is_bound, unbound, occurrences, atom_occurrences, new_names, occurs_among, scope_of, occurrence_words, ret_findings, item_wanted, atom_wanted, item_findings, atom_findings, atoms_twice}
+use Rattle.cap_resolve_spec.specs.Items.{NumberedRegion, guard_words, region_guards, TypedName, typed, types_told, Occurrence, name_of, is_bound, unbound, occurrences, atom_occurrences, new_names, occurs_among, scope_of, occurrence_words, ret_findings, item_wanted, atom_wanted, item_findings, counts_indices, has_index, atom_findings, atoms_twice}
 
 abbrev pub own_parameters : NumberedRegion → List Word
 own_parameters k = region_parameters k.region
@@ -94,18 +94,48 @@ action_occurrences k a =
 abbrev pub action_new : NumberedRegion → ActionTree → List Occurrence
 action_new k a = new_names (parameters_scope k) (action_occurrences k a)
 
+-- the names in an amount or a count, and none of an index
+abbrev pub counted_in : Option NumberedRegion → GuardTree → List Occurrence
+counted_in k g = if has_index g then [] else atom_occurrences false k g
+
+abbrev pub counted_names : NumberedRegion → ActionTree → List Occurrence
+counted_names k a = flat_map (counted_in (Some k)) (parts_of a.guards)
+
 -- a new name must be the whole source, the whole target or a whole amount or count
 abbrev pub is_whole_in : NumberedRegion → ActionTree → Occurrence → Bool
 is_whole_in k a o =
     is_word (name_of o) (whole_name a.source)
     || (is_word (name_of o) (whole_name a.target)
-    || occurs_among (filter is_bound (action_atoms k a)) (name_of o))
+    || occurs_among (filter is_bound (counted_names k a)) (name_of o))
 
 abbrev pub action_known : NumberedRegion → ActionTree → List Occurrence
 action_known k a = filter (is_whole_in k a) (action_new k a)
 
 abbrev pub action_unknown : NumberedRegion → ActionTree → List Occurrence
 action_unknown k a = filter (λ o. not (is_whole_in k a o)) (action_new k a)
+
+-- In an index a new name must be the whole source or the whole target, and `_` is not allowed. The
+-- scope is that of the parameters.
+abbrev pub is_lost : NameScope → Option Word → Option Word → Word → Bool
+is_lost scope source target w =
+    not (knows scope w.text) && not (is_word w.text source || is_word w.text target)
+
+abbrev pub index_findings : NameScope → Option Word → Option Word → Word → SlotTree → List Finding
+index_findings scope source target g (any p) = found_if true g.place wrong_sort
+index_findings scope source target g (is t) =
+    map unknown_word (filter (is_lost scope source target) (term_words t))
+
+-- of an atom; one without an index has none
+abbrev pub indices_findings :
+    NameScope → Option Word → Option Word → GuardTree → List Finding
+indices_findings scope source target (count c k w p s q) =
+    if counts_indices c then index_findings scope source target w s else []
+indices_findings scope source target _ = []
+
+abbrev pub action_indices_findings : NumberedRegion → ActionTree → List Finding
+action_indices_findings k a =
+    flat_map (indices_findings (parameters_scope k) (whole_name a.source) (whole_name a.target))
+    (parts_of a.guards)
 
 abbrev pub action_scope : NumberedRegion → ActionTree → NameScope
 action_scope k a = parameters_scope k ++ scope_of (action_known k a)
@@ -118,12 +148,13 @@ action_wanted k a =
 
 abbrev pub action_findings : NumberedRegion → ActionTree → List Finding
 action_findings k a =
-    map unknown_word (occurrence_words (action_unknown k a))
+    action_indices_findings k a
+    ++ (map unknown_word (occurrence_words (action_unknown k a))
     ++ (ret_findings (action_new k a)
     ++ (past_variables (map word_place (own_parameters k ++ occurrence_words (action_known k a)))
     ++ (flat_map (atom_findings k) (parts_of a.guards)
     ++ (atoms_twice (parts_of a.guards)
-    ++ terms_findings (action_scope k a) (action_wanted k a)))))
+    ++ terms_findings (action_scope k a) (action_wanted k a))))))
 
 -- ---- a region type
 

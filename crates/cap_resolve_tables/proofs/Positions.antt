@@ -5,7 +5,7 @@ use Rattle.std.proofs.lemmas.List.Folds.{find_at}
 use Rattle.std.proofs.lemmas.Option.{slice_get-map, slice_get-get_or}
 use Rattle.cap_lin.specs.declared.row.Sort.TheVariants.{Int}
 use Rattle.cap_galg.specs.Views.{atom_view}
-use Rattle.cap_parse_tree.specs.Tree.{DeclaredTree, unique, divisible, counting, grouped, RegionTree, FunctionTree}
+use Rattle.cap_parse_tree.specs.Tree.{DeclaredTree, unique, divisible, counting, indexed, grouped, RegionTree, FunctionTree}
 use Rattle.cap_resolve_spec.specs.Names.{KnownName, NameScope, known_as, has_name, variable_of}
 use Rattle.cap_resolve_spec.specs.Items.{NumberedRegion, TypedName, is_typed, name_type, type_of, numbered, is_region, region_named, is_guard, guard_kind}
 use Rattle.cap_resolve_spec.specs.Functions.{is_function, function_named}
@@ -36,12 +36,14 @@ guard_named : (x : List ℕ) (d : DeclaredTree) → is_guard x d ≡ has_name x 
 guard_named x (unique w) = or_false (bytes_eq x w.text)
 guard_named x (divisible p w) = or_false (bytes_eq x w.text)
 guard_named x (counting p w q) = or_false (bytes_eq x w.text)
+guard_named x (indexed p w q) = or_false (bytes_eq x w.text)
 guard_named x (grouped p a q) = refl
 
 kind_of_atom : (d : DeclaredTree) → guard_kind d ≡ atom_view (guard_atom d)
 kind_of_atom (unique w) = refl
 kind_of_atom (divisible p w) = refl
 kind_of_atom (counting p w q) = refl
+kind_of_atom (indexed p w q) = refl
 kind_of_atom (grouped p a q) = refl
 
 kinds_seen : (o : Option DeclaredTree) → option_map guard_kind o ≡ option_map atom_view (option_map guard_atom o)

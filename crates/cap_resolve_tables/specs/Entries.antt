@@ -4,7 +4,7 @@ use Rattle.cap_lin.specs.declared.row.Sort.TheVariants.{Int}
 use Rattle.cap_galg.specs.Algebras.{PlainAlgebra}
 use Rattle.cap_galg.specs.declared.algebra.Atom.{Atom}
 use Rattle.cap_galg.specs.declared.algebra.Atom.TheVariants as kinds
-use Rattle.cap_parse_tree.specs.Tree.{DeclaredTree, unique, divisible, counting, grouped, RegionTree}
+use Rattle.cap_parse_tree.specs.Tree.{DeclaredTree, unique, divisible, counting, indexed, grouped, RegionTree}
 use Rattle.cap_resolve_spec.specs.Names.{KnownName, known_as}
 use Rattle.cap_resolve_spec.specs.Items.{is_guard, guard_kind, region_guards}
 
@@ -13,11 +13,13 @@ abbrev pub guard_entry : DeclaredTree → Option KnownName
 guard_entry (unique w) = known_as Int w
 guard_entry (divisible p w) = known_as Int w
 guard_entry (counting p w q) = known_as Int w
+guard_entry (indexed p w q) = known_as Int w
 guard_entry (grouped p a q) = None
 
 abbrev pub guard_atom : DeclaredTree → Atom
 guard_atom (divisible p w) = kinds.Divisible
 guard_atom (counting p w q) = kinds.Counting
+guard_atom (indexed p w q) = kinds.Indexed
 guard_atom _ = kinds.Unique
 
 -- the kind of the guard of this name

@@ -41,11 +41,13 @@ fn amount_sort(kind: Option<Atom>, atom: &GuardAtom) -> Sort
             GuardAtom::Amount(_, _, _, _) => Sort::Perm,
             GuardAtom::Alone(_) | GuardAtom::Count(_, _, _, _, _, _) => Sort::Int,
         },
-        Some(Atom::Unique) | Some(Atom::Counting) | None => Sort::Int,
+        Some(Atom::Unique) | Some(Atom::Counting) | Some(Atom::Indexed) | None => Sort::Int,
     }
 }
 
-fn push_atom<'a>(
+/// Puts the names of an atom behind the occurrences, where its guard is one of the region type, if
+/// there is one.
+pub fn push_atom<'a>(
     alloc: Global,
     list: &mut Vec<Occurrence<'a>>,
     inside: bool,

@@ -1,5 +1,5 @@
 //! The table of region types, in which the first of a name counts.
-ghost use Rattle.std.specs.Prelude.{◌≡◌, map, IfOk, option_map};
+ghost use Rattle.std.specs.Prelude.{◌≡◌, length, map, IfOk, option_map};
 ghost use Rattle.std.specs.List.{position_or_len};
 ghost use Rattle.cap_galg.specs.Views.{atom_view};
 ghost use Rattle.cap_parse_tree.specs.Views.{declared_view, region_view};
@@ -22,7 +22,10 @@ fn guard_known(declared: &Declared) -> Option<Known<'_>>
     ensures { entry_view result ≡ guard_entry (declared_view declared.now) }
 {
     match declared {
-        Declared::Unique(word) | Declared::Divisible(_, word) | Declared::Counting(_, word, _) => {
+        Declared::Unique(word)
+        | Declared::Divisible(_, word)
+        | Declared::Counting(_, word, _)
+        | Declared::Indexed(_, word, _) => {
             Some(Known {
                 name: word.text.as_bytes(),
                 sort: Sort::Int,
@@ -38,6 +41,7 @@ fn guard_atom(declared: &Declared) -> Atom
     match declared {
         Declared::Divisible(_, _) => Atom::Divisible,
         Declared::Counting(_, _, _) => Atom::Counting,
+        Declared::Indexed(_, _, _) => Atom::Indexed,
         Declared::Unique(_) | Declared::Bracketed(_, _, _) => Atom::Unique,
     }
 }
@@ -114,6 +118,13 @@ pub fn region_table<'a>(
 }
 
 impl<'a> RegionTable<'a> {
+    /// The number of region types.
+    pub fn len(&self) -> u32
+        ensures { result ≡ length (regions_of self.now) }
+    {
+        self.names.len()
+    }
+
     /// The number of the region type of this name, or the number of region types where none has it.
     pub fn number(&self, name: &[u8]) -> u32
         ensures { result ≡ type_number (regions_of self.now) name.now }

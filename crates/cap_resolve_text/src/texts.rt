@@ -17,8 +17,7 @@ use cap_resolve_terms::Noted;
 use cap_resolve_units::{note_function, note_region_type};
 use std::alloc::{AllocError, Global};
 
-/// Notes what is wrong in region types. There is an error where memory runs out or the region types
-/// number 2^32, of which there is no table.
+/// Notes what is wrong in region types, of which a table has fewer than 2^32.
 fn note_region_types<'a>(
     noted: &mut Noted<'a>,
     alloc: Global,
@@ -28,12 +27,10 @@ fn note_region_types<'a>(
         (flat_map (region_type_findings (regions_of regions.now))
         (numbered_regions (regions_of regions.now)))) }
 {
+    let _count = regions.len();
     let mut number = 0u32;
     for region in &regions.types {
         note_region_type(noted, alloc, regions, Numbered { number, region })?;
-        if number == u32::MAX {
-            return Err(AllocError);
-        }
         number += 1;
     }
     Ok(())

@@ -1,3 +1,5 @@
 pub mod Composed
 pub mod Same
 mod Joined
+mod Lost
+mod Acting

@@ -10,13 +10,13 @@ use Rattle.cap_resolve_spec.specs.Parts.{placed_items, when_comparisons, whole_n
 use Rattle.cap_resolve_spec.specs.Names.{NameScope, knows, whole_numbers, is_among, is_ret, firsts, word_text, word_place, known_as, past_variables, parameters_findings, repeated, past}
 use Rattle.cap_resolve_spec.specs.Terms.{terms_findings}
 use Rattle.cap_resolve_spec.specs.Items.{NumberedRegion, TypedName, Occurrence, name_of, is_bound, new_names, occurrence_words, ret_findings, atom_findings, atoms_twice}
-use Rattle.cap_resolve_spec.specs.Regions.{own_parameters, own_name, parameters_scope, case_types, assertion_occurrences, case_new, is_bound_in, is_known_in, is_bound_late, case_known, case_unknown, case_scope, case_wanted, case_items_findings, case_findings, action_atoms, action_new, is_whole_in, action_known, action_unknown, action_scope, action_wanted, action_findings, guard_names, region_type_findings}
+use Rattle.cap_resolve_spec.specs.Regions.{own_parameters, own_name, parameters_scope, case_types, assertion_occurrences, case_new, is_bound_in, is_known_in, is_bound_late, case_known, case_unknown, case_scope, case_wanted, case_items_findings, case_findings, action_new, counted_names, is_whole_in, action_known, action_unknown, action_indices_findings, action_scope, action_wanted, action_findings, guard_names, region_type_findings}
 use Rattle.cap_syntax.specs.declared.place.Place.{Place}
 use Rattle.cap_resolve_spec.specs.Functions.{new_findings, items_findings, requires_scope, statements, destinations, is_local, locals, fixed_names, fixed_words, requires_types, requires_new, name_in_body, Context, context_of, is_forbidden, statement_words, unknown_in, callee_findings, cells_findings, statement_wanted, clause_findings, statement_findings, body_findings, function_findings}
 use Rattle.cap_resolve_tables.proofs.Firsts.{known_among, whole_among}
 use Rattle.cap_resolve_scopes.specs.Lists.{bound_entries, is_known_with, is_late_with, is_whole_with, is_known_local, firsts_known, known_entry}
 use Rattle.cap_resolve_findings.specs.Clauses.{is_forbidden_by}
-use Rattle.cap_resolve_units.specs.Parts.{known_part, action_part, atom_names, clause_part, statement_part}
+use Rattle.cap_resolve_units.specs.Parts.{known_part, action_part, amount_names, clause_part, statement_part}
 use Rattle.cap_resolve_units.specs.Bodies.{locals_part, function_part}
 use Rattle.cap_resolve_units.specs.Regions.{one_case_part, one_action_part, region_part}
 
@@ -78,13 +78,14 @@ case_same rs k c =
 
 pub action_same : (k : NumberedRegion) (a : ActionTree) → one_action_part k (own_parameters k) a ≡ action_findings k a
 action_same k a =
-    ap (λ us. (map unknown_word (occurrence_words us) ++ ret_findings (action_new k a)) ++ rest found) unknown
+    ap (λ fs. action_indices_findings k a ++ fs)
+    (ap (λ us. (map unknown_word (occurrence_words us) ++ ret_findings (action_new k a)) ++ rest found) unknown
     ∙ (ap (λ ks. (noted ++ ret_findings (action_new k a)) ++ rest ks) known
     ∙ (append_assoc noted (ret_findings (action_new k a)) (rest (action_known k a))
-    ∙ ap (λ ps. noted ++ (ret_findings (action_new k a) ++ (past_variables ps ++ (flat_map (atom_findings k) (parts_of a.guards) ++ (atoms_twice (parts_of a.guards) ++ terms_findings (action_scope k a) (action_wanted k a)))))) (sym (map-append word_place (own_parameters k) (occurrence_words (action_known k a))))))
+    ∙ ap (λ ps. noted ++ (ret_findings (action_new k a) ++ (past_variables ps ++ (flat_map (atom_findings k) (parts_of a.guards) ++ (atoms_twice (parts_of a.guards) ++ terms_findings (action_scope k a) (action_wanted k a)))))) (sym (map-append word_place (own_parameters k) (occurrence_words (action_known k a)))))))
   where
     bound : NameScope
-    bound = bound_entries (atom_names k (parts_of a.guards))
+    bound = bound_entries (amount_names k (parts_of a.guards))
 
     noted : List Finding
     noted = map unknown_word (occurrence_words (action_unknown k a))
@@ -96,7 +97,7 @@ action_same k a =
     rest ks = action_part k (own_parameters k) ks (parts_of a.guards) a.source a.target (when_comparisons a.when)
 
     same : (o : Occurrence) → is_whole_with bound (whole_name a.source) (whole_name a.target) o ≡ is_whole_in k a o
-    same o = ap (λ b. is_word (name_of o) (whole_name a.source) || (is_word (name_of o) (whole_name a.target) || b)) (known_among (filter is_bound (action_atoms k a)) (name_of o))
+    same o = ap (λ b. is_word (name_of o) (whole_name a.source) || (is_word (name_of o) (whole_name a.target) || b)) (known_among (filter is_bound (counted_names k a)) (name_of o))
 
     known : found ≡ action_known k a
     known = filter_same (is_whole_with bound (whole_name a.source) (whole_name a.target)) (is_whole_in k a) same (action_new k a)

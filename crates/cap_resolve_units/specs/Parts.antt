@@ -9,6 +9,7 @@ use Rattle.cap_resolve_spec.specs.Parts.{PlacedItem, clause_parts, invariant, te
 use Rattle.cap_resolve_spec.specs.Names.{NameScope, whole_numbers, word_place}
 use Rattle.cap_resolve_spec.specs.Terms.{WantedTerm, wanted_as, comparison_wanted, terms_findings}
 use Rattle.cap_resolve_spec.specs.Items.{NumberedRegion, atom_occurrences, unbound, occurrences, new_names, TypedName, types_told, Occurrence, scope_of, occurrence_words, ret_findings, item_findings, item_wanted, atom_findings, atoms_twice, atom_wanted}
+use Rattle.cap_resolve_spec.specs.Regions.{counted_in, indices_findings}
 use Rattle.cap_resolve_scopes.specs.Lists.{bound_entries, is_known_with, is_late_with, is_whole_with}
 use Rattle.cap_resolve_findings.specs.Clauses.{counted_findings, assertion_findings, own_findings}
 
@@ -109,6 +110,10 @@ case_part rs own types parameters state when parts =
 abbrev pub atom_names : NumberedRegion → List GuardTree → List Occurrence
 atom_names k atoms = flat_map (atom_occurrences false (Some k)) atoms
 
+-- the names in amounts and counts, and none of those in indices
+abbrev pub amount_names : NumberedRegion → List GuardTree → List Occurrence
+amount_names k atoms = flat_map (counted_in (Some k)) atoms
+
 abbrev pub action_names :
     NameScope → NumberedRegion → List GuardTree → TermTree → TermTree → List ComparisonTree
     → List Occurrence
@@ -127,15 +132,17 @@ abbrev pub whole_action_of :
     NumberedRegion → List Word → List Occurrence → List GuardTree → TermTree → TermTree
     → List ComparisonTree → List Finding
 whole_action_of k parameters new atoms source target when =
-    action_names_part (bound_entries (atom_names k atoms)) (whole_name source) (whole_name target)
-    new
+    action_names_part (bound_entries (amount_names k atoms)) (whole_name source)
+    (whole_name target) new
     ++ action_part k parameters
-    (filter (is_whole_with (bound_entries (atom_names k atoms)) (whole_name source)
+    (filter (is_whole_with (bound_entries (amount_names k atoms)) (whole_name source)
     (whole_name target)) new) atoms source target when
 
 abbrev pub whole_action_part :
     NumberedRegion → List Word → List GuardTree → TermTree → TermTree → List ComparisonTree
     → List Finding
 whole_action_part k parameters atoms source target when =
-    whole_action_of k parameters
+    flat_map (indices_findings (whole_numbers parameters) (whole_name source) (whole_name target))
+    atoms
+    ++ whole_action_of k parameters
     (action_names (whole_numbers parameters) k atoms source target when) atoms source target when

@@ -10,14 +10,15 @@ ghost use Rattle.cap_resolve_tables.specs.Tables.{numbered_view};
 ghost use Rattle.cap_resolve_tables.specs.Views.{occurrences_view};
 ghost use Rattle.cap_resolve_scopes.specs.Lists.{is_whole_with};
 ghost use Rattle.cap_resolve_units.specs.Parts.{action_names, action_names_part, action_part};
-ghost use Rattle.cap_resolve_units.specs.Parts.{whole_action_part};
+ghost use Rattle.cap_resolve_units.specs.Parts.{whole_action_of, whole_action_part};
 
+use crate::indices::note_indices;
 use crate::regions::note_known_action;
 use cap_parse_tree::{Comparison, GuardAtom, Term, Word};
 use cap_resolve_findings::{note_ret, note_unknown};
 use cap_resolve_parts::whole_name;
 use cap_resolve_scopes::{
-    action_atoms, action_occurrences, bound_scope, known_in_action, unknown_in_action,
+    action_occurrences, bound_scope, counted_names, known_in_action, unknown_in_action,
 };
 use cap_resolve_tables::{Numbered, Occurrence, new_names};
 use cap_resolve_terms::{Noted, Scope};
@@ -90,6 +91,31 @@ fn note_action_of<'a>(
     Ok(())
 }
 
+/// Notes what is wrong in an action whose new names are these, but for its indices.
+fn note_action_with<'a>(
+    noted: &mut Noted<'a>,
+    alloc: Global,
+    region: Numbered<'_, '_>,
+    parameters: &[&'a Word],
+    new: &[Occurrence<'a>],
+    atoms: &[&'a GuardAtom],
+    source: &'a Term,
+    target: &'a Term,
+    when: &[&'a Comparison],
+) -> Result<(), AllocError>
+    ensures { OnOk result (noted_view noted.new ≡ fold note (noted_view noted.old)
+        (whole_action_of (numbered_view region.entry) (words_view parameters.now)
+        (occurrences_view new.now) (guards_view atoms.now) (term_view source.now)
+        (term_view target.now) (comparisons_view when.now))) }
+{
+    let counted = counted_names(alloc, region, atoms)?;
+    let bound = bound_scope(alloc, counted.as_slice())?;
+    note_action_of(
+        noted, alloc, region, parameters, &bound, new, atoms, source, target, when,
+    )?;
+    Ok(())
+}
+
 /// Notes what is wrong in an action, where the scope is that of the parameters.
 pub(crate) fn note_action<'a>(
     noted: &mut Noted<'a>,
@@ -108,12 +134,18 @@ pub(crate) fn note_action<'a>(
         (guards_view atoms.now) (term_view source.now) (term_view target.now)
         (comparisons_view when.now))) }
 {
-    let held = action_atoms(alloc, region, atoms)?;
-    let bound = bound_scope(alloc, held.as_slice())?;
+    note_indices(
+        noted,
+        alloc,
+        scope,
+        whole_name(source),
+        whole_name(target),
+        atoms,
+    )?;
     let new = action_new(alloc, scope, region, atoms, source, target, when)?;
     let names = new.as_slice();
-    note_action_of(
-        noted, alloc, region, parameters, &bound, names, atoms, source, target, when,
+    note_action_with(
+        noted, alloc, region, parameters, names, atoms, source, target, when,
     )?;
     Ok(())
 }

@@ -5,6 +5,7 @@ mod actions;
 mod bodies;
 mod cases;
 mod functions;
+mod indices;
 mod laws;
 mod regions;
 mod types;

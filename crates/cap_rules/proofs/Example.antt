@@ -17,8 +17,8 @@ use Rattle.cap_rules.specs.Rules.{rule}
 use Rattle.cap_rules.proofs.Answering.{answers-succeed}
 use Rattle.cap_rules.specs.Answers.{Subgoals, too_wide, Answer, applies, inapplicable, Ending, passed, refused, stopped, answer_at}
 use Rattle.cap_rules.specs.Valid.{AllDerive, RootDerives, Valid}
-use Rattle.cap_rules.specs.Expected.{ValidExamples, BrokenExamples}
-use Rattle.cap_rules.specs.Example.{empty_program, assert_program, trees_of, leaf, above, once, assert_tree, counter_program, make_tree}
+use Rattle.cap_rules.specs.Expected.{ValidExamples, NeverTaken, BrokenExamples}
+use Rattle.cap_rules.specs.Example.{empty_program, assert_program, trees_of, leaf, above, once, assert_tree, dispose_program, dispose_tree, counter_program, make_tree, tickets_program, tickets_goal, taken_by}
 
 empty-valid : Valid empty_program (trees_of leaf)
 unfolding first_wide
@@ -90,6 +90,26 @@ empty-certificate v =
     contradicted (inl h) = omega arith
     contradicted (inr h) = h.1
 
+-- an attempt without a value never applies
+no-value : (gs : List PlainGoal) (end : Ending) → applies gs ≡ answer_at None end → ⊥
+no-value gs (passed []) e = clash e
+no-value gs (passed (c ∷ cs)) e = clash e
+no-value gs refused e = clash e
+no-value gs (stopped a b) e = wide e
+  where
+    wide : applies gs ≡ too_wide a b → ⊥
+    wide e = cc
+
+no-span : NeverTaken []
+no-span gs a = no-value gs a.0 a.2
+
+span-that-is-not-there : NeverTaken (1 ∷ [])
+span-that-is-not-there gs a = no-value gs a.0 a.2
+
+span-left-over : NeverTaken (0 ∷ 0 ∷ [])
+unfolding same_term
+span-left-over gs a = no-value gs a.0 a.2
+
 pub broken-examples : BrokenExamples
 broken-examples = record {
   no_tree = no-tree;
@@ -98,6 +118,9 @@ broken-examples = record {
   node_left_over = left-over;
   no_certificate = no-certificate;
   empty_certificate = empty-certificate;
+  no_span = no-span;
+  span_that_is_not_there = span-that-is-not-there;
+  span_left_over = span-left-over;
 }
 
 -- ---- the counter
@@ -108,7 +131,25 @@ one_at_most_zero = record { term = record { constant = pos 1; parts = [] }; kind
 abbrev zero_below_zero : Row
 zero_below_zero = record { term = record { constant = pos 0; parts = [] }; kind = Lt; sort = Perm }
 
--- a constant row behind three others contradicts itself
+-- a constant row contradicts itself, alone, behind another, and behind three others
+alone : RefutesLeaf (one_at_most_zero ∷ []) ((0, pos 1) ∷ [])
+unfolding first_wide coefficient Names column_sum column_steps
+alone = record {
+  names = (omega arith, omega arith, omega arith, tt);
+  constant = refl;
+  cancels = λ x. record { narrow = refl; zero_sum = refl };
+  contradicts = inl (omega arith);
+}
+
+behind-one : (a : Row) → RefutesLeaf (a ∷ one_at_most_zero ∷ []) ((1, pos 1) ∷ [])
+unfolding first_wide coefficient Names column_sum column_steps
+behind-one a = record {
+  names = (omega arith, omega arith, omega arith, tt);
+  constant = refl;
+  cancels = λ x. record { narrow = refl; zero_sum = refl };
+  contradicts = inl (omega arith);
+}
+
 at-most-zero : (a b c : Row) → RefutesLeaf (a ∷ b ∷ c ∷ one_at_most_zero ∷ []) ((3, pos 1) ∷ [])
 unfolding first_wide coefficient Names column_sum column_steps
 at-most-zero a b c = record {
@@ -132,9 +173,24 @@ unfolding first_wide merged plus times sums multiples sums_steps plus_steps mult
 make-derives =
     (omega arith, _, (passed [], refl, refl), ((omega arith, _, (passed [], refl, refl), ((omega arith, _, (passed [], refl, refl), ((omega arith, _, (passed [], inl (at-most-zero _ _ _, inl (at-most-zero _ _ _, refl)), refl), ((omega arith, _, (passed [], refl, refl), ((omega arith, _, (passed [], inl (at-most-zero _ _ _, inl (at-most-zero _ _ _, inl (at-most-zero _ _ _, inl (at-most-zero _ _ _, refl)))), refl), ((omega arith, _, (passed [], inl (at-most-zero _ _ _, inl (at-most-zero _ _ _, inl (below-zero _ _ _, inl (below-zero _ _ _, refl)))), refl), tt), tt)), tt)), tt)), tt)), tt)), tt))
 
+dispose-valid : Valid dispose_program (trees_of dispose_tree)
+unfolding first_wide merged plus times sums multiples sums_steps plus_steps multiples_steps times_steps minus_steps above_zero_steps less_steps coefficient same_term merge_rows merge_steps
+dispose-valid = record {
+  narrow = refl;
+  derivations = (tt, (tt, ((omega arith, _, (passed [], refl, refl), ((omega arith, _, (passed [], inl (behind-one _, inl (behind-one _, refl)), refl), ((omega arith, _, (passed [], inl (behind-one _, inl (behind-one _, refl)), refl), ((omega arith, _, (passed [], refl, refl), tt), tt)), tt)), tt)), tt)));
+}
+
+-- ---- a ticket
+
+ticket-taken : Subgoals tickets_program tickets_goal (taken_by (0 ∷ [])) []
+unfolding first_wide merged plus times sums multiples sums_steps plus_steps multiples_steps times_steps minus_steps above_zero_steps less_steps coefficient same_term merge_rows merge_steps
+ticket-taken = (passed [], inl (alone, inl (alone, inl (alone, refl))), refl)
+
 pub valid-examples : ValidExamples
 valid-examples = record {
   empty = empty-valid;
   assertion = assert-valid;
+  disposal = dispose-valid;
   make = make-derives;
+  ticket = ticket-taken;
 }

@@ -1,5 +1,5 @@
 -- Regions are opened, a statement acts on a cell, and the regions are closed by moves.
-use Rattle.std.specs.Prelude.{ℕ, zero, suc, ◌==◌, ◌&&◌, ◌||◌, nat_le, Bool, true, false, if◌then◌else◌, List, [], ◌∷◌, ◌++◌, map, flat_map, filter, length, find, remove, slice_get, slice_set, Option, Some, None}
+use Rattle.std.specs.Prelude.{ℕ, zero, suc, ◌==◌, ◌&&◌, ◌||◌, nat_le, Bool, true, false, not, if◌then◌else◌, List, [], ◌∷◌, ◌++◌, map, flat_map, filter, length, find, remove, slice_get, slice_set, Option, Some, None}
 use Rattle.std.specs.List.{range_with_len}
 use Rattle.cap_lin.specs.Linear.{Linear}
 use Rattle.cap_lin.specs.declared.row.Sort.TheVariants.{Int, Perm}
@@ -10,19 +10,21 @@ use Rattle.cap_gsolve.specs.Pieces.{of_atom}
 use Rattle.cap_prog.specs.declared.assertion.Slot.{Slot}
 use Rattle.cap_prog.specs.declared.assertion.Slot.TheVariants.{Is}
 use Rattle.cap_prog.specs.declared.assertion.Asked.{Asked}
-use Rattle.cap_prog.specs.declared.assertion.Asked.TheVariants.{One, Share, Src, Tok}
-use Rattle.cap_prog.specs.Program.{PlainAct, read, write, cas, PlainCase, PlainAction, PlainRegionType}
+use Rattle.cap_prog.specs.declared.assertion.Asked.TheVariants.{One, Share, Src, Tok, At, From}
+use Rattle.cap_prog.specs.Program.{PlainAct, read, write, cas, faa, dispose, PlainCase, PlainAction, PlainRegionType}
 use Rattle.cap_goal_spec.specs.Terms.{lone_variable, variables_from}
 use Rattle.cap_goal_spec.specs.States.{PlainFact, PlainEnv, PlainState, PlainTask, to_give, to_close, to_rest, PlainGoal, goals_of, with_state}
 use Rattle.cap_goal_spec.specs.Environments.{zero_value, one_value, Reading, settled, open_to, stuck, reading, bind_open, asked_slot, bound, unbound, region_env}
-use Rattle.cap_rules.specs.Attempts.{Attempt, unit, ◌>>=◌, found, not_applicable, prove_that, comparison_row}
-use Rattle.cap_rules.specs.Making.{is_empty, value_here, value_by, determined, rows_by, prove_comparisons, prove_equal, prove_differ, match_reading, fresh, with_sort, with_sorts, with_rows, with_comparison, with_local, with_env, with_fact}
+use Rattle.cap_rules.specs.Attempts.{Attempt, unit, ◌>>=◌, found, need, not_applicable, prove_that, comparison_row}
+use Rattle.cap_rules.specs.Making.{is_empty, sum, value_here, value_by, determined, determined_slot, rows_by, prove_comparisons, prove_equal, prove_differ, match_reading, fresh, with_sort, with_sorts, with_rows, with_comparison, with_local, with_env, with_fact}
 
 -- the address of a heap statement
 abbrev pub address_of : PlainAct → Option Linear
 address_of (read x a) = Some a
 address_of (write a t) = Some a
 address_of (cas x a old new) = Some a
+address_of (faa x a t) = Some a
+address_of (dispose a) = Some a
 address_of _ = None
 
 -- ---- opening
@@ -124,6 +126,11 @@ acted s j c (cas x a old new) = do
   u ← value_here s new
   s'' ← with_comparison s c.1 Unequal e Int
   unit (with_local (with_content s' j c u) x one_value ∷ with_local s'' x zero_value ∷ [])
+acted s j c (faa x a t) = do
+  u ← value_here s t
+  v ← sum c.1 u
+  unit (with_local (with_content s j c v) x c.1 ∷ [])
+acted s j c (dispose a) = unit (record s { cells = remove s.cells j } ∷ [])
 acted s j c _ = not_applicable
 
 -- each opened region is closed, and then all facts are settled
@@ -247,22 +254,71 @@ match_all s f new a env (x ∷ xs) = do
   env' ← match_part s f new a env x
   match_all s f new a env' xs
 
-abbrev pub parts_of : PlainAction → List MovePart
-parts_of a = map (λ g. guard g.0 g.1) a.guards ++ source ∷ target ∷ []
+-- the parts that may bind names: the atoms that aren't indexed, the source and the target
+abbrev pub asks_indices : Asked → Bool
+asks_indices (At x) = true
+asks_indices (From x) = true
+asks_indices asked = false
 
--- the parts that don't wait, then those that did, then the action's comparisons
-abbrev pub prove_action : PlainState → PlainFact → Linear → PlainAction → Attempt (Unit {0})
-prove_action s f new a = do
+abbrev pub is_indexed : ℕ × Asked → Bool
+is_indexed g = asks_indices g.1
+
+abbrev pub parts_of : PlainAction → List MovePart
+parts_of a =
+    map (λ g. guard g.0 g.1) (filter (λ g. not (is_indexed g)) a.guards) ++ source ∷ target ∷ []
+
+abbrev pub indexed_of : PlainAction → List (ℕ × Asked)
+indexed_of a = filter is_indexed a.guards
+
+-- an index is below the end of a span, if that has one
+abbrev pub prove_below : PlainState → Option Linear → Linear → Attempt (Unit {0})
+prove_below s None i = unit tt
+prove_below s (Some e) i = do
+  next ← sum i one_value
+  prove_that s.rows next AtMost e Int
+
+-- one index, or all from one on, out of a span that was held
+abbrev pub prove_within : PlainState → Asked → Form → Linear → Attempt (Unit {0})
+prove_within s (At x) (form.Span a e) i = do
+  _ ← prove_that s.rows a AtMost i Int
+  prove_below s e i
+prove_within s (From x) (form.Span a None) i = prove_that s.rows a AtMost i Int
+prove_within s asked f i = not_applicable
+
+-- each indexed atom is taken out of the piece of its number among those that were held
+abbrev pub match_spans :
+    PlainState → PlainFact → PlainEnv → List (ℕ × Asked) → List ℕ → Attempt (Unit {0})
+match_spans s f env [] [] = unit tt
+match_spans s f env [] (j ∷ js) = not_applicable
+match_spans s f env (g ∷ gs) [] = do
+  i ← determined_slot env (asked_slot g.1)
+  not_applicable
+match_spans s f env (g ∷ gs) (j ∷ js) = do
+  i ← determined_slot env (asked_slot g.1)
+  q ← found (slice_get s.before j)
+  _ ← need (of_atom f.region f.kind g.0 q)
+  _ ← prove_within s g.1 q.form i
+  match_spans s f env gs js
+
+-- the parts that don't wait, then those that did, then the indexed atoms, and the action's
+-- comparisons
+abbrev pub prove_action :
+    PlainState → PlainFact → Linear → PlainAction → List ℕ → Attempt (Unit {0})
+prove_action s f new a spans = do
   m ← match_ready s f new a (region_env f (unbound (length a.names))) [] (parts_of a)
   env ← match_all s f new a m.env m.waiting
+  _ ← match_spans s f env (indexed_of a) spans
   prove_comparisons s.rows env a.when
 
 -- move 0 keeps the state
-abbrev pub prove_move : PlainRegionType → PlainState → PlainFact → Linear → ℕ → Attempt (Unit {0})
-prove_move k s f new zero = prove_equal s new f.state
-prove_move k s f new (suc i) = do
+abbrev pub prove_move :
+    PlainRegionType → PlainState → PlainFact → Linear → ℕ → List ℕ → Attempt (Unit {0})
+prove_move k s f new zero spans = do
+  _ ← need (is_empty spans)
+  prove_equal s new f.state
+prove_move k s f new (suc i) spans = do
   a ← found (slice_get k.actions i)
-  prove_action s f new a
+  prove_action s f new a spans
 
 -- opened region o is closed in a new state
 abbrev pub with_closed : PlainState → ℕ → PlainFact → Linear → Attempt PlainState

@@ -1,17 +1,21 @@
 -- Small programs and their derivations, and broken ones.
-use Rattle.std.specs.Prelude.{ℕ, pos, List, [], ◌∷◌, Option, Some, None}
+use Rattle.std.specs.Prelude.{ℕ, pos, false, List, [], ◌∷◌, Option, Some, None}
 use Rattle.cap_lin.specs.Linear.{Linear, number, variable}
 use Rattle.cap_lin.specs.declared.row.Sort.TheVariants.{Int}
 use Rattle.cap_lin.specs.declared.row.Op.TheVariants.{Le as AtMost}
 use Rattle.cap_farkas.specs.declared.cert.Cert.{Cert}
 use Rattle.cap_farkas.specs.declared.cert.Cert.TheVariants.{Leaf}
-use Rattle.cap_galg.specs.Algebras.{divisible}
+use Rattle.cap_galg.specs.Algebras.{divisible, indexed}
+use Rattle.cap_gsolve.specs.declared.piece.Form.TheVariants.{Span}
+use Rattle.cap_gsolve.specs.Pieces.{piece}
 use Rattle.cap_syntax.specs.declared.place.Place.{Place}
 use Rattle.cap_prog.specs.declared.assertion.Comp.{Comp}
 use Rattle.cap_prog.specs.declared.assertion.Slot.TheVariants.{Any, Is}
-use Rattle.cap_prog.specs.declared.assertion.Asked.TheVariants.{Share}
-use Rattle.cap_prog.specs.Program.{fact, atom, cell, none, item, PlainAssertion, PlainCase, PlainAction, PlainRegionType, Label, set, alloc, check, give_back, Block, done, first, PlainFunction, PlainProgram}
-use Rattle.cap_goal_spec.specs.Choices.{by_set, by_alloc, by_assert, by_return, by_cell, by_region, by_guard, by_create, by_made, PlainTree, node, PlainTrees, no_trees, tree}
+use Rattle.cap_prog.specs.declared.assertion.Asked.TheVariants.{Share, At}
+use Rattle.cap_prog.specs.Program.{fact, atom, cell, none, item, PlainAssertion, PlainCase, PlainAction, PlainRegionType, Label, set, faa, dispose, alloc, check, give_back, Block, done, first, PlainFunction, PlainProgram}
+use Rattle.cap_goal_spec.specs.States.{PlainFact, PlainState, to_shift, PlainGoal, goal}
+use Rattle.cap_goal_spec.specs.Roots.{empty_state}
+use Rattle.cap_goal_spec.specs.Choices.{PlainChoice, by_set, by_alloc, by_assert, by_return, by_act, by_shift, by_cell, by_region, by_guard, by_create, by_made, PlainTree, node, PlainTrees, no_trees, tree}
 
 abbrev pub nowhere : Place
 nowhere = record { line = 1; column = 1 }
@@ -75,6 +79,33 @@ once n = Leaf ((n, pos 1) ∷ [])
 
 abbrev pub assert_tree : List Cert → PlainTree
 assert_tree certs = node (by_assert certs) (above leaf)
+
+-- ---- a cell that is added to and goes
+
+-- function main() { x := alloc(1); v := FAA(x, 1); dispose(x); }
+abbrev pub dispose_body : Block
+dispose_body =
+    first (label 1) (alloc 0 1)
+    (first (label 2) (faa 1 (variable 0) (number (pos 1)))
+    (first (label 3) (dispose (variable 0)) (closing_return 4)))
+
+abbrev pub dispose_program : PlainProgram
+dispose_program = record {
+  regions = [];
+  functions =
+      record (main_with dispose_body) { locals = 2; variables = [] ∷ [] ∷ [] }
+      ∷ [];
+  main = 0;
+}
+
+-- an equality whose two negations contradict themselves behind one row
+abbrev pub equal_certs : List Cert
+equal_certs = once 1 ∷ once 1 ∷ []
+
+abbrev pub dispose_tree : PlainTree
+dispose_tree =
+    node by_alloc (above
+    (node (by_act 0 equal_certs []) (above (node (by_act 0 equal_certs []) (above leaf)))))
 
 -- ---- a counter's region type, and the function that makes one
 
@@ -153,3 +184,45 @@ make_tree =
     (node (by_made []) (above
     (node (by_region 0 four_certs) (above
     (node (by_guard 0 0 four_certs) no_trees))))))))))))
+
+-- ---- a region type of tickets, and a move that takes one
+
+-- region Tickets(r, x) { guards [T]; interpretation { n : x |-> n; } actions { at T[n] : n ~> n +
+-- 1; } }
+abbrev pub take_ticket : PlainAction
+take_ticket = record increment { guards = (0, At (Is (variable 2))) ∷ [] }
+
+abbrev pub tickets_type : PlainRegionType
+tickets_type = record counter_type { algebra = indexed; actions = take_ticket ∷ [] }
+
+abbrev pub tickets_program : PlainProgram
+tickets_program = record { regions = tickets_type ∷ []; functions = []; main = 0 }
+
+abbrev pub next_ticket : Linear
+next_ticket = record { constant = pos 1; parts = (2, pos 1) ∷ [] }
+
+abbrev pub tickets : PlainFact
+tickets = record {
+  region = variable 0;
+  kind = 0;
+  args = variable 1 ∷ [];
+  state = variable 2;
+  loose = false;
+}
+
+-- the region is opened in a state, all tickets from it on are held, and its cell has gone up by 1
+abbrev pub tickets_state : PlainState
+tickets_state = record empty_state {
+  sorts = Int ∷ Int ∷ Int ∷ [];
+  before = piece (variable 0) 0 0 (Span (variable 2) None) ∷ [];
+  opened = tickets ∷ [];
+  envs = (Some (variable 0) ∷ Some (variable 1) ∷ Some next_ticket ∷ []) ∷ [];
+}
+
+-- the case is the first, and the move is the one action
+abbrev pub tickets_goal : PlainGoal
+tickets_goal = goal tickets_state (to_shift 0 0 1 0 1 ∷ [])
+
+-- of the two negations of the target, and of the index's least place
+abbrev pub taken_by : List ℕ → PlainChoice
+taken_by spans = by_shift (once 0 ∷ once 0 ∷ once 0 ∷ []) spans

@@ -11,12 +11,12 @@ use Rattle.cap_prog.specs.declared.assertion.Comp.{Comp}
 use Rattle.cap_prog.specs.declared.assertion.Slot.{Slot}
 use Rattle.cap_prog.specs.declared.assertion.Slot.TheVariants.{Any, Is}
 use Rattle.cap_prog.specs.declared.assertion.Asked.{Asked}
-use Rattle.cap_prog.specs.declared.assertion.Asked.TheVariants.{One, Share, Src, Tok}
+use Rattle.cap_prog.specs.declared.assertion.Asked.TheVariants.{One, Share, Src, Tok, At, From}
 use Rattle.cap_prog.specs.Program.{PlainItem, compare, choose, fact, atom, cell, Items, none, item, append_items, PlainProgram}
 use Rattle.cap_goal_spec.specs.States.{PlainState, PlainTask, to_give, PlainGoal, goals_of}
 use Rattle.cap_goal_spec.specs.Environments.{one_value, term_of, with_name}
 use Rattle.cap_rules.specs.Attempts.{Attempt, unit, ◌>>=◌}
-use Rattle.cap_rules.specs.Making.{value_by, fresh, with_sort, with_comparison, with_cell, env_at, with_env_at, fact_of, with_fact, with_piece, opposite}
+use Rattle.cap_rules.specs.Making.{sum, value_by, fresh, with_sort, with_comparison, with_cell, env_at, with_env_at, fact_of, with_fact, with_piece, opposite}
 
 -- an unbound name gets a fresh variable of the sort that its place wants
 abbrev pub name_as : PlainState → ℕ → Sort → ℕ → Option Linear → Attempt PlainState
@@ -70,6 +70,13 @@ give_form s e (Src x) = do
 give_form s e (Tok x) = do
   g ← give_slot s e Int x
   unit (given g.state (form.Tok g.value))
+give_form s e (At x) = do
+  g ← give_slot s e Int x
+  next ← sum g.value one_value
+  unit (given g.state (form.Span g.value (Some next)))
+give_form s e (From x) = do
+  g ← give_slot s e Int x
+  unit (given g.state (form.Span g.value None))
 
 -- the two sides of a comparison
 abbrev pub give_sides : PlainState → ℕ → Comp → Attempt (Given (Linear × Linear))

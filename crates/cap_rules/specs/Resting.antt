@@ -12,14 +12,14 @@ use Rattle.cap_prog.specs.declared.assertion.Comp.{Comp}
 use Rattle.cap_prog.specs.declared.assertion.Slot.{Slot}
 use Rattle.cap_prog.specs.declared.assertion.Slot.TheVariants.{Any, Is}
 use Rattle.cap_prog.specs.declared.assertion.Asked.{Asked}
-use Rattle.cap_prog.specs.declared.assertion.Asked.TheVariants.{One, Share, Src, Tok}
+use Rattle.cap_prog.specs.declared.assertion.Asked.TheVariants.{One, Share, Src, Tok, At, From}
 use Rattle.cap_prog.specs.Program.{PlainAction, PlainRegionType}
 use Rattle.cap_goal_spec.specs.Terms.{term_over, term_over_steps, variables_from}
 use Rattle.cap_goal_spec.specs.States.{PlainFact, PlainState, with_state}
-use Rattle.cap_goal_spec.specs.Environments.{zero_value}
+use Rattle.cap_goal_spec.specs.Environments.{zero_value, one_value}
 use Rattle.cap_goal_spec.specs.Candidates.{MadeRow, candidates, later_state}
 use Rattle.cap_rules.specs.Attempts.{Attempt, unit, ◌>>=◌, computed, found, need, comparison_row, prove, prove_that}
-use Rattle.cap_rules.specs.Making.{with_sort, with_rows}
+use Rattle.cap_rules.specs.Making.{sum, with_sort, with_rows}
 
 -- ---- an action of the others, at unknown names
 
@@ -52,6 +52,8 @@ ask w One = w
 ask w (Share x) = ask_slot w x
 ask w (Src x) = ask_slot w x
 ask w (Tok x) = ask_slot w x
+ask w (At x) = ask_slot w x
+ask w (From x) = ask_slot w x
 
 abbrev pub ask_all : Names → List (ℕ × Asked) → Names
 ask_all w [] = w
@@ -97,6 +99,13 @@ want_form names x (Src t) = do
 want_form names x (Tok t) = do
   k ← want_slot names x t
   unit (form.Tok k)
+want_form names x (At t) = do
+  i ← want_slot names x t
+  next ← sum i one_value
+  unit (form.Span i (Some next))
+want_form names x (From t) = do
+  i ← want_slot names x t
+  unit (form.Span i None)
 
 abbrev pub want_all : List Linear → Names → List (ℕ × Asked) → Attempt (List (ℕ × Form))
 want_all names w [] = unit []

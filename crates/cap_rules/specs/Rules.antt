@@ -294,14 +294,14 @@ at_close p s o c m any n ts = do
       ∷ ts)
 
 abbrev pub at_shift :
-    PlainProgram → PlainState → ℕ → ℕ → ℕ → ℕ → List PlainTask → Attempt (List PlainGoal)
-at_shift p s o c m e ts = do
+    PlainProgram → PlainState → List ℕ → ℕ → ℕ → ℕ → ℕ → List PlainTask → Attempt (List PlainGoal)
+at_shift p s spans o c m e ts = do
   f ← found (slice_get s.opened o)
   k ← found (slice_get p.regions f.kind)
   x ← found (slice_get k.cases c)
   _ ← prove_comparisons s.rows (env_at s e) x.when
   new ← determined (env_at s e) x.state
-  _ ← prove_move k s f new m
+  _ ← prove_move k s f new m spans
   s' ← with_closed s o f new
   leaves s' ts
 
@@ -349,7 +349,7 @@ at_task p s marks c (to_take (item i more) e left n) ts =
     at_item p s c i (record { items = more; env = e; left = left; statement = n; tasks = ts })
 at_task p s marks by_give (to_give items e n) ts = give p s e n ts items
 at_task p s marks (by_pick o c m) (to_close any n) ts = at_close p s o c m any n ts
-at_task p s marks (by_shift cs) (to_shift o c m e n) ts = at_shift p s o c m e ts
+at_task p s marks (by_shift cs spans) (to_shift o c m e n) ts = at_shift p s spans o c m e ts
 at_task p s marks (by_settle list cs) (to_rest j n) ts = at_settle p s list j n ts
 at_task p s marks (by_keep cs) (to_rest j n) ts = at_keep p s j n ts
 at_task p s marks (by_made cs) (to_make k c e t n) ts = at_made p s k c e t ts

@@ -1,5 +1,5 @@
 -- An assertion is given up: guards are taken out of pieces and converted, and regions are created.
-use Rattle.std.specs.Prelude.{ℕ, zero, suc, ◌+◌, ◌-◌, nat_lt, Bool, if◌then◌else◌, List, [], ◌∷◌, ◌++◌, map, take, drop, find, length, Option, Some, None}
+use Rattle.std.specs.Prelude.{ℕ, zero, suc, ◌+◌, ◌-◌, nat_lt, Bool, true, false, not, ◌&&◌, if◌then◌else◌, List, [], ◌∷◌, ◌++◌, map, take, drop, find, length, Option, Some, None}
 use Rattle.std.specs.List.{list_all, range_with_len}
 use Rattle.cap_lin.specs.Linear.{Linear}
 use Rattle.cap_lin.specs.declared.row.Row.{Row}
@@ -11,11 +11,11 @@ use Rattle.cap_gsolve.specs.declared.piece.Form.TheVariants as form
 use Rattle.cap_gsolve.specs.declared.piece.Piece.{Piece}
 use Rattle.cap_gsolve.specs.Pieces.{piece, same_part, full_forms, full_pieces}
 use Rattle.cap_prog.specs.declared.assertion.Asked.{Asked}
-use Rattle.cap_prog.specs.declared.assertion.Asked.TheVariants.{One, Share, Src, Tok}
+use Rattle.cap_prog.specs.declared.assertion.Asked.TheVariants.{One, Share, Src, Tok, At, From}
 use Rattle.cap_prog.specs.Program.{PlainCase, PlainRegionType, PlainProgram}
-use Rattle.cap_goal_spec.specs.States.{PlainFact, PlainEnv, PlainState}
+use Rattle.cap_goal_spec.specs.States.{PlainFact, PlainEnv, PlainState, longest_list}
 use Rattle.cap_goal_spec.specs.Environments.{zero_value, one_value, Reading, settled, open_to, reading, bind_open, is_bound_by, unbound, region_env}
-use Rattle.cap_rules.specs.Attempts.{Attempt, unit, ◌>>=◌, found, not_applicable, prove_that}
+use Rattle.cap_rules.specs.Attempts.{Attempt, unit, ◌>>=◌, found, need, not_applicable, prove_that}
 use Rattle.cap_rules.specs.Making.{sum, difference, value_by, fresh, with_sort, with_comparison, with_differing, with_env_at, without_first, with_pieces}
 
 -- ---- taking a guard out of a piece
@@ -91,12 +91,55 @@ cut_new_tokens s env m (suc zero) (settled t) = do
   unit (cut env s (form.Src rest ∷ []))
 cut_new_tokens s env m way r = not_applicable
 
+-- a term is at most the end of a span, if that has one
+abbrev pub prove_end : List Row → Option Linear → Linear → Attempt (Unit {0})
+prove_end rows None next = unit tt
+prove_end rows (Some e) next = prove_that rows next AtMost e Int
+
+-- one index out of the indices from a on that are below an end: those before it and those behind it
+-- stay
+abbrev pub cut_index :
+    PlainState → PlainEnv → Linear → Option Linear → ℕ → Reading → Attempt Cut
+cut_index s env a (Some e) zero (settled t) = do
+  i ← value_by env t
+  _ ← prove_that s.rows a Equal i Int
+  next ← sum i one_value
+  _ ← prove_that s.rows e Equal next Int
+  unit (cut env s [])
+cut_index s env a e (suc zero) (settled t) = do
+  i ← value_by env t
+  _ ← prove_that s.rows a AtMost i Int
+  next ← sum i one_value
+  _ ← prove_end s.rows e next
+  _ ← need (nat_lt (length s.guards) longest_list)
+  unit (cut env s (form.Span a (Some i) ∷ form.Span next e ∷ []))
+cut_index s env a e (suc zero) (open_to x) = do
+  next ← sum a one_value
+  _ ← prove_end s.rows e next
+  unit (cut (bind_open env x a) s (form.Span next e ∷ []))
+cut_index s env a e way r = not_applicable
+
+-- all indices from one on, out of all those from a on
+abbrev pub cut_onwards : PlainState → PlainEnv → Linear → ℕ → Reading → Attempt Cut
+cut_onwards s env a zero (open_to x) = unit (cut (bind_open env x a) s [])
+cut_onwards s env a zero (settled t) = do
+  i ← value_by env t
+  _ ← prove_that s.rows a Equal i Int
+  unit (cut env s [])
+cut_onwards s env a (suc zero) (settled t) = do
+  i ← value_by env t
+  _ ← prove_that s.rows a AtMost i Int
+  unit (cut env s (form.Span a (Some i) ∷ []))
+cut_onwards s env a way r = not_applicable
+
 abbrev pub cut_form : PlainState → PlainEnv → Asked → Form → ℕ → Attempt Cut
 cut_form s env One form.One way = cut_one s env way
 cut_form s env (Share x) (form.Share a) way = cut_share s env a way (reading env x)
 cut_form s env (Src x) (form.Src m) way = cut_source s env m way (reading env x)
 cut_form s env (Tok x) (form.Tok m) way = cut_tokens s env m way (reading env x)
 cut_form s env (Tok x) (form.Src m) way = cut_new_tokens s env m way (reading env x)
+cut_form s env (At x) (form.Span a e) way = cut_index s env a e way (reading env x)
+cut_form s env (From x) (form.Span a None) way = cut_onwards s env a way (reading env x)
 cut_form s env asked f way = not_applicable
 
 abbrev pub with_form : Piece → Form → Piece
@@ -156,19 +199,30 @@ other_side x (suc n) = x.left
 abbrev pub side_pieces : Side → Linear → ℕ → List Piece
 side_pieces x r k = map (λ p. piece r k p.0 p.1) (full_forms x.algebra x.atom)
 
+-- whether a form is of indices below an end
+abbrev pub has_end : Form → Bool
+has_end (form.Span a (Some e)) = true
+has_end f = false
+
 abbrev pub prove_full : List Row → Form → Attempt (Unit {0})
 prove_full rows form.One = unit tt
 prove_full rows (form.Share a) = prove_that rows a Equal one_value Perm
 prove_full rows (form.Src m) = prove_that rows m Equal zero_value Int
 prove_full rows (form.Tok m) = not_applicable
+prove_full rows (form.Span a None) = prove_that rows a Equal zero_value Int
+prove_full rows (form.Span a (Some e)) = not_applicable
+
+-- of the part of a full piece, and with no end
+abbrev pub may_be_full : Piece → Piece → Bool
+may_be_full full q = same_part q full && not (has_end q.form)
 
 -- the pieces without these full ones, each of which is there and proved full
 abbrev pub without_full : List Row → List Piece → List Piece → Attempt (List Piece)
 without_full rows ps [] = unit ps
 without_full rows ps (full ∷ more) = do
-  q ← found (find (λ q. same_part q full) ps)
+  q ← found (find (may_be_full full) ps)
   _ ← prove_full rows q.form
-  without_full rows (without_first (λ q. same_part q full) ps) more
+  without_full rows (without_first (may_be_full full) ps) more
 
 -- ---- creating
 

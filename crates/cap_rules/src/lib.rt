@@ -22,14 +22,16 @@ pub fn successes_are_subgoals()
     ensures { SuccessesAreSubgoals }
 {}
 
-/// The derivations of an empty program, of one that asserts `0 <= 1`, and of the body of a function
-/// that makes a region are valid.
+/// The derivations of an empty program, of one that asserts `0 <= 1`, of one that adds to a cell
+/// and disposes of it, and of the body of a function that makes a region are valid, and a move
+/// applies that takes an index out of a span.
 pub fn examples_are_valid()
     ensures { ValidExamples }
 {}
 
 /// Derivations are not valid where a tree is missing, a node is left over, another rule is taken, or a
-/// certificate is missing or empty.
+/// certificate is missing or empty; and no move applies where a span is missing, isn't there, or is
+/// left over.
 pub fn broken_examples_are_not_valid()
     ensures { BrokenExamples }
 {}

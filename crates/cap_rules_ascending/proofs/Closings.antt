@@ -11,20 +11,20 @@ use Rattle.cap_gsolve.specs.declared.piece.Piece.{Piece}
 use Rattle.cap_gsolve.specs.Pieces.{of_atom}
 use Rattle.cap_prog.specs.declared.assertion.Slot.TheVariants.{Is}
 use Rattle.cap_prog.specs.declared.assertion.Asked.{Asked}
-use Rattle.cap_prog.specs.declared.assertion.Asked.TheVariants.{One, Share, Src, Tok}
+use Rattle.cap_prog.specs.declared.assertion.Asked.TheVariants.{One, Share, Src, Tok, At, From}
 use Rattle.cap_prog.specs.Program.{PlainCase, PlainAction, PlainRegionType}
 use Rattle.cap_goal_spec.specs.Terms.{lone_variable, variables_from}
 use Rattle.cap_goal_spec.specs.States.{PlainFact, PlainEnv, PlainState, PlainTask, to_give, goals_of, with_state}
-use Rattle.cap_goal_spec.specs.Environments.{zero_value, one_value, Reading, settled, open_to, stuck, reading, bind_open, bound, unbound, region_env}
-use Rattle.cap_rules.specs.Attempts.{unit, ◌>>=◌, found, comparison_row, prove_that}
-use Rattle.cap_rules.specs.Making.{is_empty, value_here, value_by, determined, rows_by, prove_comparisons, prove_differ, fresh, with_sort, with_sorts, with_rows, with_comparison, with_local, with_env, with_fact}
+use Rattle.cap_goal_spec.specs.Environments.{zero_value, one_value, Reading, settled, open_to, stuck, reading, bind_open, asked_slot, bound, unbound, region_env}
+use Rattle.cap_rules.specs.Attempts.{unit, ◌>>=◌, found, need, not_applicable, comparison_row, prove_that}
+use Rattle.cap_rules.specs.Making.{is_empty, sum, determined_slot, prove_equal, value_here, value_by, determined, rows_by, prove_comparisons, prove_differ, fresh, with_sort, with_sorts, with_rows, with_comparison, with_local, with_env, with_fact}
 use Rattle.cap_rules_ascending.specs.Ascending.{TermAscends, FormAscends, PieceAscends, FactAscends, CellAscends, NameAscends, EnvAscends, StateAscends, TaskAscends, GoalAscends}
 use Rattle.cap_rules_ascending.proofs.Lists.{all-join, all-last, all-set, all-remove, all-find, all-map, all-flat, all-any}
 use Rattle.cap_rules_ascending.proofs.Terms.{bind-ascends, bound-ascends, unbound-ascends, variables-ascend, region-ascends}
-use Rattle.cap_rules_ascending.proofs.Safe.{IsAny, Safe, chain, of-some, of-none, of-found, found-any, if-safe, comparison-safe, prove-that-safe}
-use Rattle.cap_rules_ascending.proofs.Makings.{here-safe, by-safe, determined-safe, rows-by-safe, comparisons-safe, equal-safe, differ-safe, reading-safe, fresh-ascends, with-sort-safe, with-sorts-safe, with-rows-safe, with-comparison-safe, local-ascends, cells-ascend, with-env-safe, facts-ascend, state-ascends, with-fact-safe}
-use Rattle.cap_prog.specs.Program.{PlainAct, read, write, cas}
-use Rattle.cap_rules.specs.Closing.{prove_other, with_opened, case_names, in_case, case_goals, Rival, rivals_from, rivals, loosened, with_mark, with_marks, with_content, acted, closing, source_name, source_env, move_target, MovePart, guard, source, target, waits, match_share, match_source, match_tokens, match_new_tokens, match_form, match_part, Matched, match_ready, match_all, parts_of, prove_action, prove_move, with_closed}
+use Rattle.cap_rules_ascending.proofs.Safe.{IsAny, Safe, chain, of-some, of-none, of-found, found-any, of-get, need-safe, if-safe, comparison-safe, prove-that-safe}
+use Rattle.cap_rules_ascending.proofs.Makings.{sum-safe, here-safe, by-safe, slot-safe, determined-safe, rows-by-safe, comparisons-safe, equal-safe, differ-safe, reading-safe, fresh-ascends, with-sort-safe, with-sorts-safe, with-rows-safe, with-comparison-safe, local-ascends, cells-ascend, with-env-safe, facts-ascend, state-ascends, with-fact-safe}
+use Rattle.cap_prog.specs.Program.{PlainAct, read, write, cas, faa, dispose}
+use Rattle.cap_rules.specs.Closing.{prove_other, with_opened, case_names, in_case, case_goals, Rival, rivals_from, rivals, loosened, with_mark, with_marks, with_content, acted, closing, source_name, source_env, move_target, MovePart, guard, source, target, waits, match_share, match_source, match_tokens, match_new_tokens, match_form, match_part, Matched, match_ready, match_all, parts_of, indexed_of, prove_below, prove_within, match_spans, prove_action, prove_move, with_closed}
 use Rattle.cap_rules_ascending.proofs.Givings.{goals-ascend}
 
 -- ---- opening
@@ -114,6 +114,11 @@ acted-safe s j c (cas x a old new) h k =
     (λ t l. chain (value_here s new) (λ u. with_comparison s c.1 Unequal e Int >>= λ v. unit (with_local (with_content t j c u) x one_value ∷ with_local v x zero_value ∷ [])) (here-safe s new h)
     (λ u m. chain (with_comparison s c.1 Unequal e Int) (λ v. unit (with_local (with_content t j c u) x one_value ∷ with_local v x zero_value ∷ [])) (with-comparison-safe s c.1 Unequal e Int h k.content i)
     (λ v n. of-some (AllByRecursion StateAscends) (with_local (with_content t j c u) x one_value ∷ with_local v x zero_value ∷ []) (local-ascends (with_content t j c u) x one_value (content-ascends t j c u l k m) tt, (local-ascends v x zero_value n tt, tt))))))
+acted-safe s j c (faa x a t) h k =
+    chain (value_here s t) (λ u. sum c.1 u >>= λ v. unit (with_local (with_content s j c v) x c.1 ∷ [])) (here-safe s t h)
+    (λ u i. chain (sum c.1 u) (λ v. unit (with_local (with_content s j c v) x c.1 ∷ [])) (sum-safe c.1 u k.content i)
+    (λ v l. of-some (AllByRecursion StateAscends) (with_local (with_content s j c v) x c.1 ∷ []) (local-ascends (with_content s j c v) x c.1 (content-ascends s j c v h k l) k.content, tt)))
+acted-safe s j c (dispose a) h k = of-some (AllByRecursion StateAscends) (record s { cells = remove s.cells j } ∷ []) (cells-ascend s (remove s.cells j) h (all-remove CellAscends s.cells j h.cells), tt)
 acted-safe s j c a h k = of-none (AllByRecursion StateAscends)
 
 pub closing-ascends : (os : List PlainFact) (n : ℕ) (ts : List PlainTask) → AllByRecursion TaskAscends ts → AllByRecursion TaskAscends (closing os n ts)
@@ -190,14 +195,34 @@ all-match : (s : PlainState) (f : PlainFact) (new : Linear) (a : PlainAction) (e
 all-match s f new a env [] h k g e = of-some EnvAscends env e
 all-match s f new a env (x ∷ xs) h k g e = chain (match_part s f new a env x) (λ v. match_all s f new a v xs) (part-match s f new a env x h k g e) (λ v i. all-match s f new a v xs h k g i)
 
-action-safe : (s : PlainState) (f : PlainFact) (new : Linear) (a : PlainAction) → StateAscends s → FactAscends f → TermAscends new → Safe IsAny (prove_action s f new a)
-action-safe s f new a h k g =
-    chain (match_ready s f new a (region_env f (unbound (length a.names))) [] (parts_of a)) (λ m. match_all s f new a m.env m.waiting >>= λ env. prove_comparisons s.rows env a.when) (ready-match s f new a (region_env f (unbound (length a.names))) [] (parts_of a) h k g (region-ascends f (unbound (length a.names)) k (unbound-ascends (length a.names))))
-    (λ m i. chain (match_all s f new a m.env m.waiting) (λ env. prove_comparisons s.rows env a.when) (all-match s f new a m.env m.waiting h k g i.env) (λ env j. comparisons-safe s.rows env a.when h.rows j))
+below-safe : (s : PlainState) (o : Option Linear) (i : Linear) → StateAscends s → NameAscends o → TermAscends i → Safe IsAny (prove_below s o i)
+below-safe s None i h k g = of-some IsAny tt tt
+below-safe s (Some e) i h k g = chain (sum i one_value) (λ next. prove_that s.rows next AtMost e Int) (sum-safe i one_value g tt) (λ next j. prove-that-safe s.rows next AtMost e Int h.rows j k)
 
-pub move-safe : (k : PlainRegionType) (s : PlainState) (f : PlainFact) (new : Linear) (m : ℕ) → StateAscends s → FactAscends f → TermAscends new → Safe IsAny (prove_move k s f new m)
-move-safe k s f new zero h g e = equal-safe s new f.state h e g.state
-move-safe k s f new (suc i) h g e = chain (found (slice_get k.actions i)) (λ a. prove_action s f new a) (found-any (slice_get k.actions i)) (λ a j. action-safe s f new a h g e)
+within-safe : (s : PlainState) (x : Asked) (f : Form) (i : Linear) → StateAscends s → FormAscends f → TermAscends i → Safe IsAny (prove_within s x f i)
+within-safe s (At x) (form.Span a o) i h k g = chain (prove_that s.rows a AtMost i Int) (λ u. prove_below s o i) (prove-that-safe s.rows a AtMost i Int h.rows k.0 g) (λ u j. below-safe s o i h k.1 g)
+within-safe s (From x) (form.Span a None) i h k g = prove-that-safe s.rows a AtMost i Int h.rows k.0 g
+within-safe s x f i h k g = of-none IsAny
+
+spans-safe : (s : PlainState) (f : PlainFact) (env : PlainEnv) (gs : List (ℕ × Asked)) (js : List ℕ) → StateAscends s → EnvAscends env → Safe IsAny (match_spans s f env gs js)
+spans-safe s f env [] [] h k = of-some IsAny tt tt
+spans-safe s f env [] (j ∷ js) h k = of-none IsAny
+spans-safe s f env (g ∷ gs) [] h k = chain (determined_slot env (asked_slot g.1)) (λ i. not_applicable) (slot-safe env (asked_slot g.1) k) (λ i e. of-none IsAny)
+spans-safe s f env (g ∷ gs) (j ∷ js) h k =
+    chain (determined_slot env (asked_slot g.1)) (λ i. found (slice_get s.before j) >>= λ q. need (of_atom f.region f.kind g.0 q) >>= λ u. prove_within s g.1 q.form i >>= λ v. match_spans s f env gs js) (slot-safe env (asked_slot g.1) k)
+    (λ i e. chain (found (slice_get s.before j)) (λ q. need (of_atom f.region f.kind g.0 q) >>= λ u. prove_within s g.1 q.form i >>= λ v. match_spans s f env gs js) (of-get PieceAscends s.before j h.before)
+    (λ q l. chain (need (of_atom f.region f.kind g.0 q)) (λ u. prove_within s g.1 q.form i >>= λ v. match_spans s f env gs js) (need-safe (of_atom f.region f.kind g.0 q))
+    (λ u m. chain (prove_within s g.1 q.form i) (λ v. match_spans s f env gs js) (within-safe s g.1 q.form i h l.form e) (λ v n. spans-safe s f env gs js h k))))
+
+action-safe : (s : PlainState) (f : PlainFact) (new : Linear) (a : PlainAction) (js : List ℕ) → StateAscends s → FactAscends f → TermAscends new → Safe IsAny (prove_action s f new a js)
+action-safe s f new a js h k g =
+    chain (match_ready s f new a (region_env f (unbound (length a.names))) [] (parts_of a)) (λ m. match_all s f new a m.env m.waiting >>= λ env. match_spans s f env (indexed_of a) js >>= λ u. prove_comparisons s.rows env a.when) (ready-match s f new a (region_env f (unbound (length a.names))) [] (parts_of a) h k g (region-ascends f (unbound (length a.names)) k (unbound-ascends (length a.names))))
+    (λ m i. chain (match_all s f new a m.env m.waiting) (λ env. match_spans s f env (indexed_of a) js >>= λ u. prove_comparisons s.rows env a.when) (all-match s f new a m.env m.waiting h k g i.env)
+    (λ env j. chain (match_spans s f env (indexed_of a) js) (λ u. prove_comparisons s.rows env a.when) (spans-safe s f env (indexed_of a) js h j) (λ u l. comparisons-safe s.rows env a.when h.rows j)))
+
+pub move-safe : (k : PlainRegionType) (s : PlainState) (f : PlainFact) (new : Linear) (m : ℕ) (js : List ℕ) → StateAscends s → FactAscends f → TermAscends new → Safe IsAny (prove_move k s f new m js)
+move-safe k s f new zero js h g e = chain (need (is_empty js)) (λ u. prove_equal s new f.state) (need-safe (is_empty js)) (λ u j. equal-safe s new f.state h e g.state)
+move-safe k s f new (suc i) js h g e = chain (found (slice_get k.actions i)) (λ a. prove_action s f new a js) (found-any (slice_get k.actions i)) (λ a j. action-safe s f new a js h g e)
 
 pub closed-safe : (s : PlainState) (o : ℕ) (f : PlainFact) (new : Linear) → StateAscends s → FactAscends f → TermAscends new → Safe StateAscends (with_closed s o f new)
 closed-safe s o f new h k g =

@@ -12,17 +12,17 @@ use Rattle.cap_prog.specs.declared.assertion.Comp.{Comp}
 use Rattle.cap_prog.specs.declared.assertion.Slot.{Slot}
 use Rattle.cap_prog.specs.declared.assertion.Slot.TheVariants.{Any, Is}
 use Rattle.cap_prog.specs.declared.assertion.Asked.{Asked}
-use Rattle.cap_prog.specs.declared.assertion.Asked.TheVariants.{One, Share, Src, Tok}
+use Rattle.cap_prog.specs.declared.assertion.Asked.TheVariants.{One, Share, Src, Tok, At, From}
 use Rattle.cap_prog.specs.Program.{PlainItem, compare, choose, fact, atom, cell, Items, none, item, append_items, PlainProgram}
 use Rattle.cap_goal_spec.specs.States.{PlainState, PlainTask, to_give, to_take, to_rest, PlainGoal, goal_of, goals_of}
 use Rattle.cap_goal_spec.specs.Environments.{one_value, term_of, with_name}
 use Rattle.cap_rules.specs.Attempts.{unit, ◌>>=◌}
-use Rattle.cap_rules.specs.Making.{value_by, opposite, fresh, with_sort, with_comparison, with_cell, env_at, with_env_at, fact_of, with_fact, with_piece}
+use Rattle.cap_rules.specs.Making.{sum, value_by, opposite, fresh, with_sort, with_comparison, with_cell, env_at, with_env_at, fact_of, with_fact, with_piece}
 use Rattle.cap_rules_ascending.specs.Ascending.{TermAscends, FormAscends, FactAscends, StateAscends, TaskAscends, GoalAscends}
 use Rattle.cap_rules_ascending.proofs.Lists.{IfSome, all-join, all-option}
 use Rattle.cap_rules_ascending.proofs.Terms.{with-name-ascends}
 use Rattle.cap_rules_ascending.proofs.Safe.{Safe, chain, of-some}
-use Rattle.cap_rules_ascending.proofs.Makings.{by-safe, fresh-ascends, with-sort-safe, with-comparison-safe, with-cell-safe, env-at-ascends, env-set-ascends, with-fact-safe, with-piece-safe}
+use Rattle.cap_rules_ascending.proofs.Makings.{sum-safe, by-safe, fresh-ascends, with-sort-safe, with-comparison-safe, with-cell-safe, env-at-ascends, env-set-ascends, with-fact-safe, with-piece-safe}
 use Rattle.cap_rules.specs.Giving.{name_as, name_parts, Given, given, give_term, give_slot, give_slots, give_form, give_sides, give_item, give}
 
 -- goals of tasks
@@ -77,6 +77,10 @@ form-safe s e One h = of-given FormAscends s form.One h tt
 form-safe s e (Share x) h = chain (give_slot s e Perm x) (λ g. unit (given g.state (form.Share g.value))) (slot-safe s e Perm x h) (λ g i. of-given FormAscends g.state (form.Share g.value) i.state i.value)
 form-safe s e (Src x) h = chain (give_slot s e Int x) (λ g. unit (given g.state (form.Src g.value))) (slot-safe s e Int x h) (λ g i. of-given FormAscends g.state (form.Src g.value) i.state i.value)
 form-safe s e (Tok x) h = chain (give_slot s e Int x) (λ g. unit (given g.state (form.Tok g.value))) (slot-safe s e Int x h) (λ g i. of-given FormAscends g.state (form.Tok g.value) i.state i.value)
+form-safe s e (At x) h =
+    chain (give_slot s e Int x) (λ g. sum g.value one_value >>= λ next. unit (given g.state (form.Span g.value (Some next)))) (slot-safe s e Int x h)
+    (λ g i. chain (sum g.value one_value) (λ next. unit (given g.state (form.Span g.value (Some next)))) (sum-safe g.value one_value i.value tt) (λ next j. of-given FormAscends g.state (form.Span g.value (Some next)) i.state (i.value, j)))
+form-safe s e (From x) h = chain (give_slot s e Int x) (λ g. unit (given g.state (form.Span g.value None))) (slot-safe s e Int x h) (λ g i. of-given FormAscends g.state (form.Span g.value None) i.state (i.value, tt))
 
 record SidesAscend (x : Linear × Linear) : Type 0 where
   left : TermAscends x.0

@@ -1,8 +1,9 @@
 -- Terms, rows and changes of states.
 use Rattle.std.proofs.Common.{ℕ, Bool, true, false, List, [], ◌∷◌, ◌++◌, length, Option, Some, None}
-use Rattle.std.specs.Prelude.{slice_get, slice_set, find, if◌then◌else◌, option_map}
+use Rattle.std.specs.Prelude.{slice_get, slice_set, find, if◌then◌else◌, option_map, ◌&&◌}
 use Rattle.std.specs.List.{AllByRecursion, list_any}
 use Rattle.cap_lin.specs.Linear.{Linear, plus, minus}
+use Rattle.cap_lin.specs.Rows.{row_of}
 use Rattle.cap_lin.specs.Steps.{plus_steps, minus_steps}
 use Rattle.cap_lin.specs.declared.row.Row.{Row}
 use Rattle.cap_lin.specs.declared.row.Sort.{Sort}
@@ -11,9 +12,10 @@ use Rattle.cap_lin.specs.declared.row.Op.{Op}
 use Rattle.cap_lin.specs.declared.row.Op.TheVariants.{Eq as Equal, Ne as Unequal, Le as AtMost, Gt as Greater, Ge as AtLeast}
 use Rattle.cap_galg.specs.Algebras.{PlainAlgebra}
 use Rattle.cap_gsolve.specs.declared.piece.Form.{Form}
-use Rattle.cap_gsolve.specs.declared.piece.Form.TheVariants.{One, Share, Src, Tok}
+use Rattle.cap_gsolve.specs.declared.piece.Form.TheVariants.{One, Share, Src, Tok, Span}
 use Rattle.cap_gsolve.specs.declared.piece.Piece.{Piece}
-use Rattle.cap_gsolve.specs.Merge.{false_row, zero_term, one_term, added_rows, combined, combined_rows, lone_rows, form_at, there, place, met_rows, clash, clash_rows, joined, merge_rows, merge_steps}
+use Rattle.cap_gsolve.specs.Pieces.{same_part, has_indices, is_single}
+use Rattle.cap_gsolve.specs.Merge.{false_row, zero_term, one_term, added_rows, combined, combined_rows, lone_rows, end_rows, parted_rows, beside, form_at, there, place, met_rows, clash, clash_rows, joined, merge_rows, merge_steps}
 use Rattle.cap_prog.specs.declared.assertion.Comp.{Comp}
 use Rattle.cap_prog.specs.declared.assertion.Slot.{Slot}
 use Rattle.cap_prog.specs.declared.assertion.Slot.TheVariants.{Any, Is}
@@ -23,7 +25,7 @@ use Rattle.cap_goal_spec.specs.States.{PlainFact, PlainEnv, PlainState, with_sta
 use Rattle.cap_goal_spec.specs.Environments.{is_determined, term_in, term_in_steps, Reading, settled, open_to, stuck, reading}
 use Rattle.cap_rules.specs.Attempts.{unit, ◌>>=◌, computed, found, need, appended, comparison_row, prove, prove_that}
 use Rattle.cap_rules.specs.Making.{sum, difference, in_store, value_here, values_here, row_here, value_by, determined, determined_slot, row_by, rows_by, prove_comparisons, prove_equal, prove_differ, match_reading, match_slot, match_slots, fresh, with_sort, with_sorts, with_row, with_rows, with_comparison, with_differing, with_local, with_destination, with_cell, with_env, env_at, with_env_at, is_of_region, is_of_other_type, without_first, with_equalities, with_same, with_false, with_fact, guards_with, with_piece, with_pieces}
-use Rattle.cap_rules_ascending.specs.Ascending.{TermAscends, RowAscends, FormAscends, PieceAscends, FactAscends, CellAscends, EnvAscends, StateAscends}
+use Rattle.cap_rules_ascending.specs.Ascending.{TermAscends, NameAscends, RowAscends, FormAscends, PieceAscends, FactAscends, CellAscends, EnvAscends, StateAscends}
 use Rattle.cap_rules_ascending.proofs.Lists.{IfSome, all-join, all-get-or, all-set, all-find}
 use Rattle.cap_rules_ascending.proofs.Terms.{variable-ascends, plus-ascends, minus-ascends, over-ascends, row-ascends, in-ascends, bind-ascends}
 use Rattle.cap_rules_ascending.proofs.Safe.{IsAny, Safe, chain, of-some, of-none, of-computed, found-any, need-safe, appended-safe, comparison-safe, prove-safe, prove-that-safe}
@@ -184,11 +186,16 @@ with-fact-safe s f h k =
 pub guards-ascend : (s : PlainState) (guards : List Piece) → StateAscends s → AllByRecursion PieceAscends guards → StateAscends (record s { guards = guards })
 guards-ascend s guards h k = record { rows = h.rows; store = h.store; cells = h.cells; facts = h.facts; guards = k; before = h.before; opened = h.opened; envs = h.envs }
 
+end-ascend : (a : Linear) (e : Option Linear) → TermAscends a → NameAscends e → AllByRecursion RowAscends (end_rows a e)
+end-ascend a None h k = tt
+end-ascend a (Some e) h k = (row-ascends a AtMost e Int h k, tt)
+
 pub added-ascend : (f : Form) → FormAscends f → AllByRecursion RowAscends (added_rows f)
 added-ascend One h = tt
 added-ascend (Share a) h = (row-ascends a Greater zero_term Perm h tt, tt)
 added-ascend (Src n) h = (row-ascends n AtLeast zero_term Int h tt, tt)
 added-ascend (Tok k) h = (row-ascends k AtLeast zero_term Int h tt, tt)
+added-ascend (Span a e) h = (row-ascends a AtLeast zero_term Int h.0 tt, end-ascend a e h.0 h.1)
 
 false-row-ascends : RowAscends false_row
 false-row-ascends = row-ascends zero_term Equal one_term Int tt tt
@@ -198,6 +205,7 @@ lone-ascend One h = tt
 lone-ascend (Share a) h = (row-ascends a AtMost one_term Perm h tt, tt)
 lone-ascend (Src n) h = tt
 lone-ascend (Tok k) h = tt
+lone-ascend (Span a e) h = tt
 
 combined-ascends : (f g : Form) → FormAscends f → FormAscends g → FormAscends (combined f g)
 combined-ascends (Share a) (Share b) h k = plus-ascends a b h k
@@ -231,9 +239,25 @@ clash-ascend : (b : Bool) → AllByRecursion RowAscends (clash_rows b)
 clash-ascend true = (false-row-ascends, tt)
 clash-ascend false = tt
 
+-- of each piece of the part
+pub rows-if : (b : Bool) (rows : List Row) → AllByRecursion RowAscends rows → AllByRecursion RowAscends (if b then rows else [])
+rows-if true rows h = h
+rows-if false rows h = tt
+
+pub beside-ascend : (of : Form → Form → List Row) → ((f g : Form) → FormAscends f → FormAscends g → AllByRecursion RowAscends (of f g)) → (ps : List Piece) (p : Piece) → AllByRecursion PieceAscends ps → PieceAscends p → AllByRecursion RowAscends (beside of ps p)
+beside-ascend of k [] p h g = tt
+beside-ascend of k (q ∷ ps) p h g = all-join RowAscends (if same_part q p then of q.form p.form else []) (beside of ps p) (rows-if (same_part q p) (of q.form p.form) (k q.form p.form h.0.form g.form)) (beside-ascend of k ps p h.1 g)
+
+parted-ascend : (f g : Form) → FormAscends f → FormAscends g → AllByRecursion RowAscends (parted_rows f g)
+parted-ascend (Span a None) (Span b None) h k = (false-row-ascends, tt)
+parted-ascend (Span a None) (Span b (Some d)) h k = rows-if (has_indices b (Some d)) (row_of d AtMost a Int ∷ []) (row-ascends d AtMost a Int k.1 h.0, tt)
+parted-ascend (Span a (Some e)) (Span b None) h k = rows-if (has_indices a (Some e)) (row_of e AtMost b Int ∷ []) (row-ascends e AtMost b Int h.1 k.0, tt)
+parted-ascend (Span a (Some e)) (Span b (Some d)) h k = rows-if (is_single a (Some e) && is_single b (Some d)) (row_of a Unequal b Int ∷ []) (row-ascends a Unequal b Int h.0 k.0, tt)
+parted-ascend f g h k = tt
+
 merge-ascend : (a : PlainAlgebra) (ps : List Piece) (q : Piece) → AllByRecursion PieceAscends ps → PieceAscends q → AllByRecursion RowAscends (merge_rows a ps q)
 unfolding merge_rows
-merge-ascend a ps q h k = all-join RowAscends (added_rows q.form) (met_rows (there ps q) q.form ++ clash_rows (clash a ps q)) (added-ascend q.form k.form) (all-join RowAscends (met_rows (there ps q) q.form) (clash_rows (clash a ps q)) (met-ascend (there ps q) q.form (there-ascends ps q h k) k.form) (clash-ascend (clash a ps q)))
+merge-ascend a ps q h k = all-join RowAscends (added_rows q.form) (met_rows (there ps q) q.form ++ (beside parted_rows ps q ++ clash_rows (clash a ps q))) (added-ascend q.form k.form) (all-join RowAscends (met_rows (there ps q) q.form) (beside parted_rows ps q ++ clash_rows (clash a ps q)) (met-ascend (there ps q) q.form (there-ascends ps q h k) k.form) (all-join RowAscends (beside parted_rows ps q) (clash_rows (clash a ps q)) (beside-ascend parted_rows parted-ascend ps q h k) (clash-ascend (clash a ps q))))
 
 joined-ascend : (ps : List Piece) (q : Piece) (i : ℕ) → AllByRecursion PieceAscends ps → PieceAscends q → AllByRecursion PieceAscends (joined ps q i)
 joined-ascend ps q i h k = all-set PieceAscends ps i _ h (record { region = k.region; form = combined-ascends (form_at ps q i) q.form (form-at-ascends ps q i h k) k.form })

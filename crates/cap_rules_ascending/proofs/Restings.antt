@@ -2,36 +2,37 @@
 use Rattle.std.proofs.Common.{ℕ, ◌+◌, ◌-◌, Bool, true, false, List, [], ◌∷◌, ◌++◌, flat_map, length, Option, Some, None, get_or}
 use Rattle.std.specs.Prelude.{slice_get, slice_set, if◌then◌else◌, nat_le}
 use Rattle.std.specs.List.{AllByRecursion, list_any}
-use Rattle.cap_lin.specs.Linear.{Linear, variable, replaced}
+use Rattle.cap_lin.specs.Linear.{Linear, minus, variable, replaced}
+use Rattle.cap_lin.specs.Rows.{row_of}
 use Rattle.cap_lin.specs.Steps.{replaced_steps}
 use Rattle.cap_lin.specs.declared.row.Row.{Row}
 use Rattle.cap_lin.specs.declared.row.Sort.TheVariants.{Int, Perm}
-use Rattle.cap_lin.specs.declared.row.Op.TheVariants.{Eq as Equal, Le as AtMost}
+use Rattle.cap_lin.specs.declared.row.Op.TheVariants.{Eq as Equal, Ne as Unequal, Le as AtMost, Ge as AtLeast}
 use Rattle.cap_galg.specs.Algebras.{PlainAlgebra}
 use Rattle.cap_gsolve.specs.declared.piece.Form.{Form}
 use Rattle.cap_gsolve.specs.declared.piece.Form.TheVariants as form
 use Rattle.cap_gsolve.specs.declared.piece.Piece.{Piece}
-use Rattle.cap_gsolve.specs.Pieces.{piece}
+use Rattle.cap_gsolve.specs.Pieces.{piece, is_single, of_guards}
 use Rattle.cap_prog.specs.declared.assertion.Comp.{Comp}
 use Rattle.cap_prog.specs.declared.assertion.Slot.{Slot}
 use Rattle.cap_prog.specs.declared.assertion.Slot.TheVariants.{Any, Is}
 use Rattle.cap_prog.specs.declared.assertion.Asked.{Asked}
-use Rattle.cap_prog.specs.declared.assertion.Asked.TheVariants.{One, Share, Src, Tok}
+use Rattle.cap_prog.specs.declared.assertion.Asked.TheVariants.{One, Share, Src, Tok, At, From}
 use Rattle.cap_prog.specs.Program.{PlainCase, PlainAction, PlainRegionType}
 use Rattle.cap_goal_spec.specs.Terms.{term_over, term_over_steps, variables_from}
 use Rattle.cap_goal_spec.specs.States.{PlainFact, PlainState, with_state}
 use Rattle.cap_goal_spec.specs.Environments.{zero_value, one_value, region_env}
 use Rattle.cap_rules.specs.Attempts.{unit, ◌>>=◌, computed, found, need, comparison_row, prove, prove_that}
-use Rattle.cap_rules.specs.Making.{with_sort, with_rows}
+use Rattle.cap_rules.specs.Making.{sum, with_sort, with_rows}
 use Rattle.cap_rules_ascending.specs.Ascending.{TermAscends, RowAscends, FormAscends, PieceAscends, FactAscends, StateAscends}
 use Rattle.cap_rules_ascending.proofs.Lists.{IfSome, all-join, all-cons, all-get-or, all-set, all-flat, all-any}
-use Rattle.cap_rules_ascending.proofs.Terms.{variable-ascends, plus-ascends, over-ascends, replaced-ascends, row-ascends, in-ascends, variables-ascend, region-ascends}
+use Rattle.cap_rules_ascending.proofs.Terms.{variable-ascends, plus-ascends, minus-ascends, over-ascends, replaced-ascends, row-ascends, in-ascends, variables-ascend, region-ascends}
 use Rattle.cap_rules_ascending.proofs.Safe.{IsAny, Safe, chain, of-some, of-computed, of-get, need-safe, comparison-safe, prove-safe, prove-that-safe}
-use Rattle.cap_rules_ascending.proofs.Makings.{with-sort-safe, with-rows-safe, facts-ascend, state-ascends}
+use Rattle.cap_rules_ascending.proofs.Makings.{sum-safe, rows-if, beside-ascend, with-sort-safe, with-rows-safe, facts-ascend, state-ascends}
 use Rattle.std.specs.Prelude.{◌&&◌}
-use Rattle.cap_gsolve.specs.Merge.{there, added_rows}
-use Rattle.cap_gsolve.specs.Compat.{share_there, fits_rows, one_rows, wanted_rows, clashes_some, compat, compat_steps}
-use Rattle.cap_goal_spec.specs.Candidates.{MadeRow, bounds_by, action_bounds, all_candidates, without_repeats, is_made, repeats, later_state, candidates, is_over_params}
+use Rattle.cap_gsolve.specs.Merge.{zero_term, one_term, there, beside}
+use Rattle.cap_gsolve.specs.Compat.{wanted_alone, off_rows, wanted_beside, share_there, fits_rows, one_rows, wanted_rows, clashes_some, compat, compat_steps}
+use Rattle.cap_goal_spec.specs.Candidates.{form_bounds, piece_bounds, MadeRow, bounds_by, action_bounds, all_candidates, without_repeats, is_made, repeats, later_state, candidates, is_over_params}
 use Rattle.cap_rules.specs.Resting.{Names, names_below, ask_slot, ask, ask_all, first_names, action_names, value_over, rows_over, want_slot, want_form, want_all, joined_rows, system, named_candidates, prove_at, prove_closed, prove_stable, with_settled, settle, prove_same, prove_kept, keep}
 use Rattle.cap_rules_ascending.proofs.Makings.{added-ascend, there-ascends}
 
@@ -51,6 +52,8 @@ ask-ascend w One h = h
 ask-ascend w (Share x) h = ask-slot-ascend w x h
 ask-ascend w (Src x) h = ask-slot-ascend w x h
 ask-ascend w (Tok x) h = ask-slot-ascend w x h
+ask-ascend w (At x) h = ask-slot-ascend w x h
+ask-ascend w (From x) h = ask-slot-ascend w x h
 
 ask-all-ascend : (w : Names) (gs : List (ℕ × Asked)) → NamesAscend w → NamesAscend (ask_all w gs)
 ask-all-ascend w [] h = h
@@ -83,6 +86,10 @@ want-form-safe names x One h = of-some FormAscends form.One tt
 want-form-safe names x (Share t) h = chain (want_slot names x t) (λ a. unit (form.Share a)) (want-slot-safe names x t h) (λ a i. of-some FormAscends (form.Share a) i)
 want-form-safe names x (Src t) h = chain (want_slot names x t) (λ a. unit (form.Src a)) (want-slot-safe names x t h) (λ a i. of-some FormAscends (form.Src a) i)
 want-form-safe names x (Tok t) h = chain (want_slot names x t) (λ a. unit (form.Tok a)) (want-slot-safe names x t h) (λ a i. of-some FormAscends (form.Tok a) i)
+want-form-safe names x (At t) h =
+    chain (want_slot names x t) (λ i. sum i one_value >>= λ next. unit (form.Span i (Some next))) (want-slot-safe names x t h)
+    (λ i j. chain (sum i one_value) (λ next. unit (form.Span i (Some next))) (sum-safe i one_value j tt) (λ next k. of-some FormAscends (form.Span i (Some next)) (j, k)))
+want-form-safe names x (From t) h = chain (want_slot names x t) (λ i. unit (form.Span i None)) (want-slot-safe names x t h) (λ i j. of-some FormAscends (form.Span i None) (j, tt))
 
 record WantAscends (w : ℕ × Form) : Type 0 where
   form : FormAscends w.1
@@ -99,6 +106,7 @@ share-there-ascends (Some form.One) h = tt
 share-there-ascends (Some (form.Share a)) h = h
 share-there-ascends (Some (form.Src n)) h = tt
 share-there-ascends (Some (form.Tok k)) h = tt
+share-there-ascends (Some (form.Span a e)) h = tt
 
 fits-ascend : (o : Option Form) (f : Form) → IfSome FormAscends o → FormAscends f → AllByRecursion RowAscends (fits_rows o f)
 fits-ascend o (form.Share e) h k = (row-ascends _ AtMost one_value Perm (plus-ascends e (share_there o) k (share-there-ascends o h)) tt, tt)
@@ -106,12 +114,29 @@ fits-ascend (Some (form.Tok m)) (form.Src n) h k = (row-ascends m AtMost n Int h
 fits-ascend (Some (form.Src m)) (form.Tok n) h k = (row-ascends n AtMost m Int k h, tt)
 fits-ascend o f h k = tt
 
+alone-ascend : (f : Form) → FormAscends f → AllByRecursion RowAscends (wanted_alone f)
+alone-ascend form.One h = tt
+alone-ascend (form.Share a) h = added-ascend (form.Share a) h
+alone-ascend (form.Src n) h = added-ascend (form.Src n) h
+alone-ascend (form.Tok k) h = added-ascend (form.Tok k) h
+alone-ascend (form.Span i e) h = (row-ascends i AtLeast zero_term Int h.0 tt, tt)
+
+off-ascend : (a : Linear) (o : Option Linear) (i : Linear) → TermAscends a → TermAscends i → AllByRecursion RowAscends (off_rows a o i)
+off-ascend a None i h k = (row-ascends i AtMost (minus a one_term) Int k (minus-ascends a one_term h tt), tt)
+off-ascend a (Some e) i h k = rows-if (is_single a (Some e)) (row_of i Unequal a Int ∷ []) (row-ascends i Unequal a Int k h, tt)
+
+beside-wanted-ascend : (f g : Form) → FormAscends f → FormAscends g → AllByRecursion RowAscends (wanted_beside f g)
+beside-wanted-ascend (form.Span a e) (form.Span i d) h k = rows-if (is_single i d) (off_rows a e i) (off-ascend a e i h.0 k.0)
+beside-wanted-ascend f g h k = tt
+
 wanted-ascend : (ps : List Piece) (r : Linear) (k : ℕ) (ws : List (ℕ × Form)) → AllByRecursion PieceAscends ps → TermAscends r → AllByRecursion WantAscends ws → AllByRecursion RowAscends (wanted_rows ps r k ws)
 unfolding wanted_rows
 wanted-ascend ps r k [] h g e = tt
 wanted-ascend ps r k (w ∷ ws) h g e =
-    let t = there ps (piece r k w.0 w.1) in
-    all-join RowAscends (one_rows ps r k w) (wanted_rows ps r k ws) (all-join RowAscends (added_rows w.1) (fits_rows t w.1) (added-ascend w.1 e.0.form) (fits-ascend t w.1 (there-ascends ps (piece r k w.0 w.1) h (record { region = g; form = e.0.form })) e.0.form)) (wanted-ascend ps r k ws h g e.1)
+    let q = piece r k w.0 w.1 in
+    let i : PieceAscends (piece r k w.0 w.1) = record { region = g; form = e.0.form } in
+    all-join RowAscends (one_rows ps r k w) (wanted_rows ps r k ws) (all-join RowAscends (wanted_alone w.1) (fits_rows (there ps q) w.1 ++ beside wanted_beside ps q) (alone-ascend w.1 e.0.form)
+    (all-join RowAscends (fits_rows (there ps q) w.1) (beside wanted_beside ps q) (fits-ascend (there ps q) w.1 (there-ascends ps q h i) e.0.form) (beside-ascend wanted_beside beside-wanted-ascend ps q h i))) (wanted-ascend ps r k ws h g e.1)
 
 compat-if : (b : Bool) (rows : List Row) → AllByRecursion RowAscends rows → IfSome (AllByRecursion RowAscends) (if b then None else Some rows)
 compat-if true rows h = tt
@@ -172,8 +197,15 @@ without-repeats-ascend : (earlier ms : List MadeRow) → AllByRecursion MadeAsce
 without-repeats-ascend earlier [] h = tt
 without-repeats-ascend earlier (m ∷ ms) h = repeats-if (is_made m && list_any (repeats m) earlier) m (without_repeats earlier ms) (without_repeats (m ∷ earlier) ms) h.0 (without-repeats-ascend earlier ms h.1) (without-repeats-ascend (m ∷ earlier) ms h.1)
 
-candidates-ascend : (k : PlainRegionType) (s : PlainState) (f : PlainFact) → FactAscends f → AllByRecursion MadeAscends (candidates k s f)
-candidates-ascend k s f h = without-repeats-ascend [] (all_candidates k f (later_state s)) (all-candidates-ascend k f (later_state s) h (variable-ascends (length s.sorts)))
+form-bounds-ascend : (u : Linear) (f : Form) → TermAscends u → FormAscends f → AllByRecursion MadeAscends (form_bounds u f)
+form-bounds-ascend u (form.Span a e) h k = (record { row = row-ascends a AtMost u Int k.0 h }, (record { row = row-ascends u AtMost a Int h k.0 }, tt))
+form-bounds-ascend u f h k = tt
+
+candidates-ascend : (k : PlainRegionType) (s : PlainState) (f : PlainFact) → FactAscends f → AllByRecursion PieceAscends s.guards → AllByRecursion MadeAscends (candidates k s f)
+candidates-ascend k s f h g =
+    let u = later_state s in
+    let e = variable-ascends (length s.sorts) in
+    without-repeats-ascend [] (all_candidates k f u ++ flat_map (piece_bounds f u) s.guards) (all-join MadeAscends (all_candidates k f u) (flat_map (piece_bounds f u) s.guards) (all-candidates-ascend k f u h e) (all-flat PieceAscends MadeAscends (piece_bounds f u) (λ q i. by-if (of_guards f.region f.kind q) (form_bounds u q.form) (form-bounds-ascend u q.form e i.form)) s.guards g))
 
 named-safe : (low : ℕ) (all : List MadeRow) (is : List ℕ) → AllByRecursion MadeAscends all → Safe (AllByRecursion RowAscends) (named_candidates low all is)
 named-safe low all [] h = of-some (AllByRecursion RowAscends) [] tt
@@ -211,7 +243,7 @@ settled-safe s j f named h g e =
 
 pub settle-safe : (k : PlainRegionType) (s : PlainState) (j : ℕ) (f : PlainFact) (list : List ℕ) → StateAscends s → FactAscends f → Safe StateAscends (settle k s j f list)
 settle-safe k s j f list h g =
-    chain (named_candidates 1 (candidates k s f) list) (λ named. prove_at s s.rows f.state named >>= λ u. prove_stable k s f named k.actions >>= λ v. with_settled s j f named) (named-safe 1 (candidates k s f) list (candidates-ascend k s f g))
+    chain (named_candidates 1 (candidates k s f) list) (λ named. prove_at s s.rows f.state named >>= λ u. prove_stable k s f named k.actions >>= λ v. with_settled s j f named) (named-safe 1 (candidates k s f) list (candidates-ascend k s f g h.guards))
     (λ named i. chain (prove_at s s.rows f.state named) (λ u. prove_stable k s f named k.actions >>= λ v. with_settled s j f named) (at-safe s s.rows f.state named h.rows g.state i)
     (λ u l. chain (prove_stable k s f named k.actions) (λ v. with_settled s j f named) (stable-safe k s f named k.actions h g i) (λ v m. settled-safe s j f named h g i)))
 

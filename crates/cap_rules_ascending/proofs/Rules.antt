@@ -244,16 +244,16 @@ close-safe p s o c m any n ts h g =
     (λ env e. chain (with_env s env) (λ t. leaves t (to_take x.items (length s.envs) (creations any) n ∷ to_shift o c m (length s.envs) n ∷ ts)) (with-env-safe s env h e)
     (λ t z. leaves-safe t (to_take x.items (length s.envs) (creations any) n ∷ to_shift o c m (length s.envs) n ∷ ts) z (tt, (tt, g))))))))
 
-shift-safe : (p : PlainProgram) (s : PlainState) (o c m e : ℕ) (ts : List PlainTask) → StateAscends s → AllByRecursion TaskAscends ts → Safe AreOk (at_shift p s o c m e ts)
-shift-safe p s o c m e ts h g =
+shift-safe : (p : PlainProgram) (s : PlainState) (js : List ℕ) (o c m e : ℕ) (ts : List PlainTask) → StateAscends s → AllByRecursion TaskAscends ts → Safe AreOk (at_shift p s js o c m e ts)
+shift-safe p s js o c m e ts h g =
     let env = env_at s e in
     let v = env-at-ascends s e h in
-    chain (found (slice_get s.opened o)) (λ f. found (slice_get p.regions f.kind) >>= λ k. found (slice_get k.cases c) >>= λ x. prove_comparisons s.rows env x.when >>= λ a. determined env x.state >>= λ new. prove_move k s f new m >>= λ b. with_closed s o f new >>= λ t. leaves t ts) (of-get FactAscends s.opened o h.opened)
-    (λ f i. chain (found (slice_get p.regions f.kind)) (λ k. found (slice_get k.cases c) >>= λ x. prove_comparisons s.rows env x.when >>= λ a. determined env x.state >>= λ new. prove_move k s f new m >>= λ b. with_closed s o f new >>= λ t. leaves t ts) (found-any (slice_get p.regions f.kind))
-    (λ k j. chain (found (slice_get k.cases c)) (λ x. prove_comparisons s.rows env x.when >>= λ a. determined env x.state >>= λ new. prove_move k s f new m >>= λ b. with_closed s o f new >>= λ t. leaves t ts) (found-any (slice_get k.cases c))
-    (λ x l. chain (prove_comparisons s.rows env x.when) (λ a. determined env x.state >>= λ new. prove_move k s f new m >>= λ b. with_closed s o f new >>= λ t. leaves t ts) (comparisons-safe s.rows env x.when h.rows v)
-    (λ a q. chain (determined env x.state) (λ new. prove_move k s f new m >>= λ b. with_closed s o f new >>= λ t. leaves t ts) (determined-safe env x.state v)
-    (λ new z. chain (prove_move k s f new m) (λ b. with_closed s o f new >>= λ t. leaves t ts) (move-safe k s f new m h i z)
+    chain (found (slice_get s.opened o)) (λ f. found (slice_get p.regions f.kind) >>= λ k. found (slice_get k.cases c) >>= λ x. prove_comparisons s.rows env x.when >>= λ a. determined env x.state >>= λ new. prove_move k s f new m js >>= λ b. with_closed s o f new >>= λ t. leaves t ts) (of-get FactAscends s.opened o h.opened)
+    (λ f i. chain (found (slice_get p.regions f.kind)) (λ k. found (slice_get k.cases c) >>= λ x. prove_comparisons s.rows env x.when >>= λ a. determined env x.state >>= λ new. prove_move k s f new m js >>= λ b. with_closed s o f new >>= λ t. leaves t ts) (found-any (slice_get p.regions f.kind))
+    (λ k j. chain (found (slice_get k.cases c)) (λ x. prove_comparisons s.rows env x.when >>= λ a. determined env x.state >>= λ new. prove_move k s f new m js >>= λ b. with_closed s o f new >>= λ t. leaves t ts) (found-any (slice_get k.cases c))
+    (λ x l. chain (prove_comparisons s.rows env x.when) (λ a. determined env x.state >>= λ new. prove_move k s f new m js >>= λ b. with_closed s o f new >>= λ t. leaves t ts) (comparisons-safe s.rows env x.when h.rows v)
+    (λ a q. chain (determined env x.state) (λ new. prove_move k s f new m js >>= λ b. with_closed s o f new >>= λ t. leaves t ts) (determined-safe env x.state v)
+    (λ new z. chain (prove_move k s f new m js) (λ b. with_closed s o f new >>= λ t. leaves t ts) (move-safe k s f new m js h i z)
     (λ b w. chain (with_closed s o f new) (λ t. leaves t ts) (closed-safe s o f new h i z) (λ t r. leaves-safe t ts r g)))))))
 
 rest-safe : (p : PlainProgram) (s : PlainState) (j n : ℕ) (ts : List PlainTask) (o : PlainFact → PlainRegionType → Attempt PlainState) → StateAscends s → AllByRecursion TaskAscends ts → ((f : PlainFact) (k : PlainRegionType) → FactAscends f → Safe StateAscends (o f k)) → Safe AreOk (found (slice_get s.facts j) >>= λ f. found (slice_get p.regions f.kind) >>= λ k. o f k >>= λ t. leaves t (to_rest (j + 1) n ∷ ts))
@@ -289,7 +289,7 @@ task-safe p s marks c (to_turn x (first l a rest)) ts h q k = turn-safe s c x l 
 task-safe p s marks c (to_take (item i more) e left n) ts h q k = item-safe p s c i (record { items = more; env = e; left = left; statement = n; tasks = ts }) h k
 task-safe p s marks by_give (to_give items e n) ts h q k = give-safe p s e n ts items h k
 task-safe p s marks (by_pick o c m) (to_close any n) ts h q k = close-safe p s o c m any n ts h k
-task-safe p s marks (by_shift cs) (to_shift o c m e n) ts h q k = shift-safe p s o c m e ts h k
+task-safe p s marks (by_shift cs js) (to_shift o c m e n) ts h q k = shift-safe p s js o c m e ts h k
 task-safe p s marks (by_settle list cs) (to_rest j n) ts h q k = rest-safe p s j n ts (λ f y. settle y s j f list) h k (λ f y i. settle-safe y s j f list h i)
 task-safe p s marks (by_keep cs) (to_rest j n) ts h q k = rest-safe p s j n ts (λ f y. keep y s j f) h k (λ f y i. keep-safe y s j f h i)
 task-safe p s marks (by_made cs) (to_make y c e t n) ts h q k = made-safe p s y c e t ts h q k

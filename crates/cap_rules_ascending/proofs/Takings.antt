@@ -1,29 +1,29 @@
 -- An assertion is given up.
-use Rattle.std.proofs.Common.{ℕ, zero, suc, ◌+◌, Bool, true, false, List, [], ◌∷◌, ◌++◌, map, drop, take, length, Some, None}
-use Rattle.std.specs.Prelude.{find, if◌then◌else◌}
+use Rattle.std.proofs.Common.{ℕ, zero, suc, ◌+◌, Bool, true, false, List, [], ◌∷◌, ◌++◌, map, drop, take, length, Option, Some, None}
+use Rattle.std.specs.Prelude.{find, nat_lt, if◌then◌else◌}
 use Rattle.std.specs.List.{AllByRecursion, range_with_len}
 use Rattle.cap_lin.specs.Linear.{Linear}
 use Rattle.cap_lin.specs.declared.row.Row.{Row}
 use Rattle.cap_lin.specs.declared.row.Sort.TheVariants.{Int, Perm}
 use Rattle.cap_lin.specs.declared.row.Op.TheVariants.{Eq as Equal, Le as AtMost, Lt as Less, Gt as Greater}
-use Rattle.cap_galg.specs.Algebras.{PlainAlgebra, unique, divisible, counting, product, sum as either, atoms}
+use Rattle.cap_galg.specs.Algebras.{PlainAlgebra, unique, divisible, counting, indexed, product, sum as either, atoms}
 use Rattle.cap_gsolve.specs.declared.piece.Form.{Form}
 use Rattle.cap_gsolve.specs.declared.piece.Form.TheVariants as form
 use Rattle.cap_gsolve.specs.declared.piece.Piece.{Piece}
-use Rattle.cap_gsolve.specs.Pieces.{piece, same_part, full_forms, full_pieces}
+use Rattle.cap_gsolve.specs.Pieces.{piece, full_forms, full_pieces}
 use Rattle.cap_prog.specs.declared.assertion.Asked.{Asked}
-use Rattle.cap_prog.specs.declared.assertion.Asked.TheVariants.{One, Share, Src, Tok}
+use Rattle.cap_prog.specs.declared.assertion.Asked.TheVariants.{One, Share, Src, Tok, At, From}
 use Rattle.cap_prog.specs.Program.{PlainCase, PlainRegionType, PlainProgram}
-use Rattle.cap_goal_spec.specs.States.{PlainFact, PlainEnv, PlainState}
+use Rattle.cap_goal_spec.specs.States.{PlainFact, PlainEnv, PlainState, longest_list}
 use Rattle.cap_goal_spec.specs.Environments.{zero_value, one_value, Reading, settled, open_to, reading, bind_open, is_bound_by, unbound, region_env}
-use Rattle.cap_rules.specs.Attempts.{Attempt, unit, ◌>>=◌, found, prove_that}
+use Rattle.cap_rules.specs.Attempts.{Attempt, unit, ◌>>=◌, found, need, prove_that}
 use Rattle.cap_rules.specs.Making.{sum, difference, value_by, fresh, with_sort, with_comparison, with_differing, without_first, with_pieces}
 use Rattle.cap_rules_ascending.specs.Ascending.{TermAscends, RowAscends, FormAscends, PieceAscends, FactAscends, NameAscends, EnvAscends, StateAscends}
 use Rattle.cap_rules_ascending.proofs.Lists.{all-join, all-take, all-drop, all-find, all-map, all-any}
 use Rattle.cap_rules_ascending.proofs.Terms.{bind-ascends, unbound-ascends, region-ascends}
-use Rattle.cap_rules_ascending.proofs.Safe.{IsAny, Safe, chain, of-some, of-none, of-found, if-safe, prove-that-safe}
+use Rattle.cap_rules_ascending.proofs.Safe.{IsAny, Safe, chain, of-some, of-none, of-found, need-safe, if-safe, prove-that-safe}
 use Rattle.cap_rules_ascending.proofs.Makings.{sum-safe, difference-safe, by-safe, fresh-ascends, with-sort-safe, with-comparison-safe, differing-safe, env-set-ascends, without-first-ascends, guards-ascend, with-pieces-safe}
-use Rattle.cap_rules.specs.Taking.{Cut, cut, cut_one, cut_share, cut_source, cut_tokens, cut_new_tokens, cut_form, with_form, after_cut, Side, side_pieces, prove_full, without_full, with_new_region, binds_all, names_with, case_env}
+use Rattle.cap_rules.specs.Taking.{Cut, cut, cut_one, cut_share, cut_source, cut_tokens, cut_new_tokens, prove_end, cut_index, cut_onwards, may_be_full, cut_form, with_form, after_cut, Side, side_pieces, prove_full, without_full, with_new_region, binds_all, names_with, case_env}
 
 pub record CutAscends (c : Cut) : Type 0 where
   pub env : EnvAscends c.env
@@ -83,12 +83,45 @@ new-tokens-safe s env m (suc zero) (settled t) h k g =
     (λ u j. chain (sum m e) (λ rest. unit (cut env s (form.Src rest ∷ []))) (sum-safe m e g i) (λ rest l. of-cut env s (form.Src rest ∷ []) k h (l, tt))))
 new-tokens-safe s env m w r h k g = of-none CutAscends
 
+end-safe : (rows : List Row) (o : Option Linear) (next : Linear) → AllByRecursion RowAscends rows → NameAscends o → TermAscends next → Safe IsAny (prove_end rows o next)
+end-safe rows None next h k g = of-some IsAny tt tt
+end-safe rows (Some e) next h k g = prove-that-safe rows next AtMost e Int h g k
+
+index-safe : (s : PlainState) (env : PlainEnv) (a : Linear) (o : Option Linear) (w : ℕ) (r : Reading) → StateAscends s → EnvAscends env → TermAscends a → NameAscends o → Safe CutAscends (cut_index s env a o w r)
+index-safe s env a (Some e) zero (settled t) h k g d =
+    chain (value_by env t) (λ i. prove_that s.rows a Equal i Int >>= λ u. sum i one_value >>= λ next. prove_that s.rows e Equal next Int >>= λ v. unit (cut env s [])) (by-safe env t k)
+    (λ i j. chain (prove_that s.rows a Equal i Int) (λ u. sum i one_value >>= λ next. prove_that s.rows e Equal next Int >>= λ v. unit (cut env s [])) (prove-that-safe s.rows a Equal i Int h.rows g j)
+    (λ u l. chain (sum i one_value) (λ next. prove_that s.rows e Equal next Int >>= λ v. unit (cut env s [])) (sum-safe i one_value j tt)
+    (λ next m. chain (prove_that s.rows e Equal next Int) (λ v. unit (cut env s [])) (prove-that-safe s.rows e Equal next Int h.rows d m) (λ v n. of-cut env s [] k h tt))))
+index-safe s env a o (suc zero) (settled t) h k g d =
+    chain (value_by env t) (λ i. prove_that s.rows a AtMost i Int >>= λ u. sum i one_value >>= λ next. prove_end s.rows o next >>= λ v. need (nat_lt (length s.guards) longest_list) >>= λ w. unit (cut env s (form.Span a (Some i) ∷ form.Span next o ∷ []))) (by-safe env t k)
+    (λ i j. chain (prove_that s.rows a AtMost i Int) (λ u. sum i one_value >>= λ next. prove_end s.rows o next >>= λ v. need (nat_lt (length s.guards) longest_list) >>= λ w. unit (cut env s (form.Span a (Some i) ∷ form.Span next o ∷ []))) (prove-that-safe s.rows a AtMost i Int h.rows g j)
+    (λ u l. chain (sum i one_value) (λ next. prove_end s.rows o next >>= λ v. need (nat_lt (length s.guards) longest_list) >>= λ w. unit (cut env s (form.Span a (Some i) ∷ form.Span next o ∷ []))) (sum-safe i one_value j tt)
+    (λ next m. chain (prove_end s.rows o next) (λ v. need (nat_lt (length s.guards) longest_list) >>= λ w. unit (cut env s (form.Span a (Some i) ∷ form.Span next o ∷ []))) (end-safe s.rows o next h.rows d m)
+    (λ v n. chain (need (nat_lt (length s.guards) longest_list)) (λ w. unit (cut env s (form.Span a (Some i) ∷ form.Span next o ∷ []))) (need-safe (nat_lt (length s.guards) longest_list)) (λ w z. of-cut env s (form.Span a (Some i) ∷ form.Span next o ∷ []) k h ((g, j), ((m, d), tt)))))))
+index-safe s env a o (suc zero) (open_to x) h k g d =
+    chain (sum a one_value) (λ next. prove_end s.rows o next >>= λ v. unit (cut (bind_open env x a) s (form.Span next o ∷ []))) (sum-safe a one_value g tt)
+    (λ next m. chain (prove_end s.rows o next) (λ v. unit (cut (bind_open env x a) s (form.Span next o ∷ []))) (end-safe s.rows o next h.rows d m) (λ v n. of-cut (bind_open env x a) s (form.Span next o ∷ []) (bind-ascends env x a k g) h ((m, d), tt)))
+index-safe s env a o w r h k g d = of-none CutAscends
+
+onwards-safe : (s : PlainState) (env : PlainEnv) (a : Linear) (w : ℕ) (r : Reading) → StateAscends s → EnvAscends env → TermAscends a → Safe CutAscends (cut_onwards s env a w r)
+onwards-safe s env a zero (open_to x) h k g = of-cut (bind_open env x a) s [] (bind-ascends env x a k g) h tt
+onwards-safe s env a zero (settled t) h k g =
+    chain (value_by env t) (λ i. prove_that s.rows a Equal i Int >>= λ u. unit (cut env s [])) (by-safe env t k)
+    (λ i j. chain (prove_that s.rows a Equal i Int) (λ u. unit (cut env s [])) (prove-that-safe s.rows a Equal i Int h.rows g j) (λ u l. of-cut env s [] k h tt))
+onwards-safe s env a (suc zero) (settled t) h k g =
+    chain (value_by env t) (λ i. prove_that s.rows a AtMost i Int >>= λ u. unit (cut env s (form.Span a (Some i) ∷ []))) (by-safe env t k)
+    (λ i j. chain (prove_that s.rows a AtMost i Int) (λ u. unit (cut env s (form.Span a (Some i) ∷ []))) (prove-that-safe s.rows a AtMost i Int h.rows g j) (λ u l. of-cut env s (form.Span a (Some i) ∷ []) k h ((g, j), tt)))
+onwards-safe s env a w r h k g = of-none CutAscends
+
 pub cut-form-safe : (s : PlainState) (env : PlainEnv) (x : Asked) (f : Form) (w : ℕ) → StateAscends s → EnvAscends env → FormAscends f → Safe CutAscends (cut_form s env x f w)
 cut-form-safe s env One form.One w h k g = one-safe s env w h k
 cut-form-safe s env (Share x) (form.Share a) w h k g = share-safe s env a w (reading env x) h k g
 cut-form-safe s env (Src x) (form.Src m) w h k g = source-safe s env m w (reading env x) h k g
 cut-form-safe s env (Tok x) (form.Tok m) w h k g = tokens-safe s env m w (reading env x) h k g
 cut-form-safe s env (Tok x) (form.Src m) w h k g = new-tokens-safe s env m w (reading env x) h k g
+cut-form-safe s env (At x) (form.Span a o) w h k g = index-safe s env a o w (reading env x) h k g.0 g.1
+cut-form-safe s env (From x) (form.Span a None) w h k g = onwards-safe s env a w (reading env x) h k g.0
 cut-form-safe s env x f w h k g = of-none CutAscends
 
 pub after-cut-ascends : (e j : ℕ) (q : Piece) (c : Cut) → PieceAscends q → CutAscends c → StateAscends (after_cut e j q c)
@@ -102,6 +135,7 @@ full-forms-ascend : (a : PlainAlgebra) (i : ℕ) → AllByRecursion (λ x. FormA
 full-forms-ascend unique i = (tt, tt)
 full-forms-ascend divisible i = (tt, tt)
 full-forms-ascend counting i = (tt, tt)
+full-forms-ascend indexed i = ((tt, tt), tt)
 full-forms-ascend (product a b) i = all-join (λ x. FormAscends x.1) (full_forms a i) (full_forms b (i + atoms a)) (full-forms-ascend a i) (full-forms-ascend b (i + atoms a))
 full-forms-ascend (either a b) i = full-forms-ascend a i
 
@@ -116,13 +150,15 @@ prove-full-safe rows form.One h k = of-some IsAny tt tt
 prove-full-safe rows (form.Share a) h k = prove-that-safe rows a Equal one_value Perm h k tt
 prove-full-safe rows (form.Src m) h k = prove-that-safe rows m Equal zero_value Int h k tt
 prove-full-safe rows (form.Tok m) h k = of-none IsAny
+prove-full-safe rows (form.Span a None) h k = prove-that-safe rows a Equal zero_value Int h k.0 tt
+prove-full-safe rows (form.Span a (Some e)) h k = of-none IsAny
 
 pub without-full-safe : (rows : List Row) (ps fs : List Piece) → AllByRecursion RowAscends rows → AllByRecursion PieceAscends ps → Safe (AllByRecursion PieceAscends) (without_full rows ps fs)
 without-full-safe rows ps [] h k = of-some (AllByRecursion PieceAscends) ps k
 without-full-safe rows ps (f ∷ fs) h k =
-    chain (found (find (λ q. same_part q f) ps)) (λ q. prove_full rows q.form >>= λ u. without_full rows (without_first (λ q. same_part q f) ps) fs) (of-found PieceAscends (find (λ q. same_part q f) ps) (all-find PieceAscends (λ q. same_part q f) ps k))
-    (λ q i. chain (prove_full rows q.form) (λ u. without_full rows (without_first (λ q. same_part q f) ps) fs) (prove-full-safe rows q.form h i.form)
-    (λ u j. without-full-safe rows (without_first (λ q. same_part q f) ps) fs h (without-first-ascends PieceAscends (λ q. same_part q f) ps k)))
+    chain (found (find (may_be_full f) ps)) (λ q. prove_full rows q.form >>= λ u. without_full rows (without_first (may_be_full f) ps) fs) (of-found PieceAscends (find (may_be_full f) ps) (all-find PieceAscends (may_be_full f) ps k))
+    (λ q i. chain (prove_full rows q.form) (λ u. without_full rows (without_first (may_be_full f) ps) fs) (prove-full-safe rows q.form h i.form)
+    (λ u j. without-full-safe rows (without_first (may_be_full f) ps) fs h (without-first-ascends PieceAscends (may_be_full f) ps k)))
 
 -- ---- creating
 pub new-region-safe : (p : PlainProgram) (s : PlainState) (y : PlainRegionType) (k : ℕ) → StateAscends s → Safe StateAscends (with_new_region p s y k)

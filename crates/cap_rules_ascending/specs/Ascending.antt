@@ -4,7 +4,7 @@ use Rattle.std.specs.List.{AllByRecursion}
 use Rattle.cap_lin.specs.Linear.{Linear, AscendFrom}
 use Rattle.cap_lin.specs.declared.row.Row.{Row}
 use Rattle.cap_gsolve.specs.declared.piece.Form.{Form}
-use Rattle.cap_gsolve.specs.declared.piece.Form.TheVariants.{One, Share, Src, Tok}
+use Rattle.cap_gsolve.specs.declared.piece.Form.TheVariants.{One, Share, Src, Tok, Span}
 use Rattle.cap_gsolve.specs.declared.piece.Piece.{Piece}
 use Rattle.cap_prog.specs.declared.assertion.Comp.{Comp}
 use Rattle.cap_prog.specs.Program.{PlainCase, PlainRegionType, PlainProgram}
@@ -16,11 +16,16 @@ TermAscends t = AscendFrom 0 t.parts
 abbrev pub RowAscends : Row → Type 0
 RowAscends r = TermAscends r.term
 
+abbrev pub NameAscends : Option Linear → Type 0
+NameAscends None = Unit {0}
+NameAscends (Some t) = TermAscends t
+
 abbrev pub FormAscends : Form → Type 0
 FormAscends One = Unit {0}
 FormAscends (Share a) = TermAscends a
 FormAscends (Src n) = TermAscends n
 FormAscends (Tok k) = TermAscends k
+FormAscends (Span a e) = TermAscends a × NameAscends e
 
 pub record PieceAscends (q : Piece) : Type 0 where
   pub region : TermAscends q.region
@@ -34,10 +39,6 @@ pub record FactAscends (f : PlainFact) : Type 0 where
 pub record CellAscends (c : Linear × Linear) : Type 0 where
   pub address : TermAscends c.0
   pub content : TermAscends c.1
-
-abbrev pub NameAscends : Option Linear → Type 0
-NameAscends None = Unit {0}
-NameAscends (Some t) = TermAscends t
 
 abbrev pub EnvAscends : PlainEnv → Type 0
 EnvAscends env = AllByRecursion NameAscends env

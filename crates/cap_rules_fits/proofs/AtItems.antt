@@ -13,7 +13,7 @@ use Rattle.cap_prog.specs.declared.assertion.Comp.{Comp}
 use Rattle.cap_prog.specs.declared.assertion.Slot.{Slot}
 use Rattle.cap_prog.specs.declared.assertion.Slot.TheVariants.{Is}
 use Rattle.cap_prog.specs.declared.assertion.Asked.{Asked}
-use Rattle.cap_prog.specs.declared.assertion.Asked.TheVariants.{One, Share, Src, Tok}
+use Rattle.cap_prog.specs.declared.assertion.Asked.TheVariants.{One, Share, Src, Tok, At, From}
 use Rattle.cap_prog.specs.Program.{PlainItem, compare, choose, fact, atom, cell, Items, item, append_items, PlainCase, PlainRegionType, PlainProgram}
 use Rattle.cap_prog.specs.Scopes.{region_scope}
 use Rattle.cap_prog.specs.WellFormed.{FactFits, CaseFits, RegionFits, IsWellFormed}
@@ -114,6 +114,8 @@ guard-kept p s j (suc (suc (suc way))) n k i asked it r h = piece-kept p s j (su
 guard-kept p s j (suc (suc zero)) n k i One it r h = piece-kept p s j (suc (suc zero)) n k i One it r h
 guard-kept p s j (suc (suc zero)) n k i (Share x) it r h = piece-kept p s j (suc (suc zero)) n k i (Share x) it r h
 guard-kept p s j (suc (suc zero)) n k i (Src x) it r h = piece-kept p s j (suc (suc zero)) n k i (Src x) it r h
+guard-kept p s j (suc (suc zero)) n k i (At x) it r h = piece-kept p s j (suc (suc zero)) n k i (At x) it r h
+guard-kept p s j (suc (suc zero)) n k i (From x) it r h = piece-kept p s j (suc (suc zero)) n k i (From x) it r h
 
 -- ---- converting
 

@@ -9,7 +9,7 @@ use Rattle.cap_lin.specs.declared.row.Sort.TheVariants.{Int}
 use Rattle.cap_lin.specs.declared.row.Op.TheVariants.{Eq as Equal, Ne as Unequal, Ge as AtLeast}
 use Rattle.cap_fm_spec.proofs.Lists.{each-join, each-left, each-right, each-map}
 use Rattle.cap_prog.specs.declared.assertion.Comp.{Comp}
-use Rattle.cap_prog.specs.Program.{PlainAssertion, Label, PlainAct, set, read, write, cas, alloc, call, fork, branch, loop, check, give_back, Block, first, append, PlainFunction, PlainCase, PlainRegionType, PlainProgram}
+use Rattle.cap_prog.specs.Program.{PlainAssertion, Label, PlainAct, set, read, write, cas, faa, dispose, alloc, call, fork, branch, loop, check, give_back, Block, first, append, PlainFunction, PlainCase, PlainRegionType, PlainProgram}
 use Rattle.cap_prog.specs.Parts.{all_items, block_statements, all_statements}
 use Rattle.cap_prog.specs.Scopes.{Scope, hidden, fixed_start, requires_scope, ensures_scope, invariant_scope}
 use Rattle.cap_prog.specs.WellFormed.{ActFits, IsClosingReturn, FunctionFits, CaseFits, RegionFits, IsWellFormed}
@@ -409,6 +409,12 @@ content-fits p s j c t h k g =
     let room = h.room.cells in
     record { fits = with-cells-fit p s (slice_set s.cells j (c.0, t)) h (all-set (CellBelow (count s)) s.cells j (c.0, t) (cells-below p s h) (record { address = k; content = g })) (omega arith); grows = record { sorts = omega arith; store = refl; envs = envs-same s.envs }; opened = refl }
 
+fewer : {A : Type 0} (n : ℕ) (xs : List A) → length (take n xs ++ drop (suc n) xs) ≤ length xs
+fewer zero [] = omega arith
+fewer (suc n) [] = omega arith
+fewer zero (x ∷ xs) = omega arith
+fewer (suc n) (x ∷ xs) = let k = fewer n xs in omega arith
+
 acted-fits : (p : PlainProgram) (s : PlainState) (j : ℕ) (c : Linear × Linear) (a : PlainAct) → StateFits p s → CellBelow (count s) c → Reaches (AllByRecursion (Next p s)) (acted s j c a)
 acted-fits p s j c (read x a) h k = at (AllByRecursion (Next p s)) (with_local s x c.1 ∷ []) (local-fits p s x c.1 h k.content, tt)
 acted-fits p s j c (write a t) h k = chain (value_here s t) (λ u. unit (with_content s j c u ∷ [])) (here-fits p s t h) (λ u i. at (AllByRecursion (Next p s)) (with_content s j c u ∷ []) (content-fits p s j c u h k.address i, tt))
@@ -423,6 +429,16 @@ acted-fits p s j c (cas x a old new) h k =
     let done-v = local-fits p v x zero_value n.fits (zero-below (count v)) in
     at (AllByRecursion (Next p s)) (with_local (with_content t j c u) x one_value ∷ with_local v x zero_value ∷ [])
     (further p s t (with_local (with_content t j c u) x one_value) l (further p t (with_content t j c u) (with_local (with_content t j c u) x one_value) stored done-t), (further p s v (with_local v x zero_value) n done-v, tt))))))
+acted-fits p s j c (faa x a t) h k =
+    chain (value_here s t) (λ u. sum c.1 u >>= λ v. unit (with_local (with_content s j c v) x c.1 ∷ [])) (here-fits p s t h)
+    (λ u i. chain (sum c.1 u) (λ v. unit (with_local (with_content s j c v) x c.1 ∷ [])) (at-computed (IsBelow (count s)) (plus c.1 u) _ (plus-is-below (count s) c.1 u k.content i))
+    (λ v l.
+    let stored = content-fits p s j c v h k.address l in
+    at (AllByRecursion (Next p s)) (with_local (with_content s j c v) x c.1 ∷ []) (further p s (with_content s j c v) (with_local (with_content s j c v) x c.1) stored (local-fits p (with_content s j c v) x c.1 stored.fits k.content), tt)))
+acted-fits p s j c (dispose a) h k =
+    let less = fewer j s.cells in
+    let room = h.room.cells in
+    at (AllByRecursion (Next p s)) (record s { cells = remove s.cells j } ∷ []) (record { fits = with-cells-fit p s (remove s.cells j) h (all-remove (CellBelow (count s)) s.cells j (cells-below p s h)) (omega arith); grows = record { sorts = omega arith; store = refl; envs = envs-same s.envs }; opened = refl }, tt)
 acted-fits p s j c (set x t) h k = nowhere (AllByRecursion (Next p s))
 acted-fits p s j c (alloc x n) h k = nowhere (AllByRecursion (Next p s))
 acted-fits p s j c (call x n args) h k = nowhere (AllByRecursion (Next p s))
@@ -446,6 +462,8 @@ not-closing (set y t) x e h = h
 not-closing (read y a) x e h = h
 not-closing (write a t) x e h = h
 not-closing (cas y a old new) x e h = h
+not-closing (faa y a t) x e h = h
+not-closing (dispose a) x e h = h
 not-closing (alloc y n) x e h = h
 not-closing (call y n args) x e h = h
 not-closing (fork n args) x e h = h

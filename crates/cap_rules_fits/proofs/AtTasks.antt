@@ -10,6 +10,10 @@ use Rattle.cap_lin.specs.Steps.{Step}
 use Rattle.cap_lin.specs.declared.row.Row.{Row}
 use Rattle.cap_lin.specs.declared.row.Sort.TheVariants.{Int}
 use Rattle.cap_lin.specs.declared.row.Op.TheVariants.{Eq as Equal, Le as AtMost}
+use Rattle.cap_gsolve.specs.declared.piece.Form.{Form}
+use Rattle.cap_gsolve.specs.declared.piece.Form.TheVariants.{Span}
+use Rattle.cap_gsolve.specs.declared.piece.Piece.{Piece}
+use Rattle.cap_gsolve.specs.Pieces.{of_guards}
 use Rattle.cap_fm_spec.proofs.Lists.{each-map}
 use Rattle.cap_prog.specs.Program.{item, Label, PlainAct, Block, first, PlainCase, PlainAction, PlainRegionType, PlainProgram}
 use Rattle.cap_prog.specs.WellFormed.{CaseFits, RegionFits, IsWellFormed}
@@ -17,8 +21,8 @@ use Rattle.cap_goal_spec.specs.States.{PlainFact, PlainEnv, PlainState, Home, Pl
 use Rattle.cap_goal_spec.specs.Choices.{PlainChoice, by_absurd, by_give, by_pick, by_shift, by_settle, by_keep, by_made, certs_of}
 use Rattle.cap_goal_spec.specs.Terms.{lone_variable}
 use Rattle.cap_goal_spec.specs.Environments.{region_env, term_in, term_in_steps}
-use Rattle.cap_goal_spec.specs.Candidates.{MadeRow, bounds, is_over_params, bounds_by, action_bounds, all_candidates, is_made, repeats, without_repeats, candidates, later_state}
-use Rattle.cap_goal_spec.specs.Fits.{NameIsBelow, KnownFactFits, StateFits, ItemsFitEnv, CaseEnvFits, TaskFits, WaitingFits, TasksFit}
+use Rattle.cap_goal_spec.specs.Candidates.{MadeRow, bounds, form_bounds, piece_bounds, is_over_params, bounds_by, action_bounds, all_candidates, is_made, repeats, without_repeats, candidates, later_state}
+use Rattle.cap_goal_spec.specs.Fits.{FormIsBelow, PieceFits, NameIsBelow, KnownFactFits, StateFits, ItemsFitEnv, CaseEnvFits, TaskFits, WaitingFits, TasksFit}
 use Rattle.cap_rules.specs.Answers.{marks_of}
 use Rattle.cap_rules.specs.Attempts.{Attempt, unit, ◌>>=◌, computed, found, need, comparison_row}
 use Rattle.cap_rules.specs.Making.{is_empty, env_at, fact_of, prove_comparisons}
@@ -31,7 +35,7 @@ use Rattle.cap_rules_fits.specs.Kept.{ChecksNoMove, ChecksFirst, IsKept, Subgoal
 use Rattle.cap_rules_fits.proofs.Below.{variable-below}
 use Rattle.cap_rules_fits.proofs.Cases.{each-get}
 use Rattle.cap_rules_fits.proofs.Values.{EnvBelow, wider-below, in-below, row-is-below, region-env-below}
-use Rattle.cap_rules_fits.proofs.Growing.{RowsBelow, GuardsFit, with-facts-fit, with-before-fits, with-opened-fit, envs-same, Grows, Next, further}
+use Rattle.cap_rules_fits.proofs.Growing.{RowsBelow, GuardsFit, with-facts-fit, with-before-fits, with-opened-fit, wider-form, envs-same, Grows, Next, further}
 use Rattle.cap_rules_fits.proofs.Makings.{count, determined-fits, with-sort-fits, fresh-below, with-rows-next, with-env-fits, env-at-fits, with-fact-fits, later-facts}
 use Rattle.cap_rules_fits.proofs.Quiet.{Alike, rows-alike, both}
 use Rattle.cap_rules_fits.proofs.Reaching.{IsAny, Reaches, chain, at, nowhere, at-computed, at-found, any, needed, there, each-reaches}
@@ -116,14 +120,14 @@ closed-fits p s o f new h k g =
     by_test u i true = record { each = tt; parted = tt; room = omega arith }
     by_test u i false = record { each = i.before; parted = i.before_parted; room = i.room.before }
 
-shift-kept : (p : PlainProgram) (s : PlainState) (o c m e : ℕ) (ts : List PlainTask) → StateFits p s → AllByRecursion (WaitingFits p s) ts → AllByRecursion ChecksNoMove ts → Reaches (AreKept p) (at_shift p s o c m e ts)
-shift-kept p s o c m e ts h w calm =
+shift-kept : (p : PlainProgram) (s : PlainState) (js : List ℕ) (o c m e : ℕ) (ts : List PlainTask) → StateFits p s → AllByRecursion (WaitingFits p s) ts → AllByRecursion ChecksNoMove ts → Reaches (AreKept p) (at_shift p s js o c m e ts)
+shift-kept p s js o c m e ts h w calm =
     chain _ _ (there (slice_get s.opened o))
     (λ f ef. chain _ _ (any (found (slice_get p.regions f.kind)))
     (λ k a. chain _ _ (any (found (slice_get k.cases c)))
     (λ x b. chain _ _ (any (prove_comparisons s.rows (env_at s e) x.when))
     (λ u d. chain _ _ (determined-fits (count s) (env_at s e) x.state (env-at-fits p s e h))
-    (λ new i. chain _ _ (any (prove_move k s f new m))
+    (λ new i. chain _ _ (any (prove_move k s f new m js))
     (λ v j. chain _ _ (closed-fits p s o f new h (each-get (KnownFactFits p (count s)) s.opened o f h.opened ef) i)
     (λ t l. leaves-kept p t ts l.fits (no-moves-stay p s t ts l.grows calm w) (no-moves-first ts calm))))))))
 
@@ -158,6 +162,18 @@ all-below n k f u h g s i = (
     ),
   ),
 )
+
+form-bounds-below : (n : ℕ) (u : Linear) (f : Form) → IsBelow n u → FormIsBelow n f → AreMadeBelow n (form_bounds u f)
+form-bounds-below n u (Span a None) h k = bounds-below n u [] a h k
+form-bounds-below n u (Span a (Some e)) h k = bounds-below n u [] a h k.0
+form-bounds-below n u f h k = tt
+
+piece-bounds-below : (n : ℕ) (f : PlainFact) (u : Linear) (q : Piece) → IsBelow n u → FormIsBelow n q.form → AreMadeBelow n (piece_bounds f u q)
+piece-bounds-below n f u q h k = by_test (of_guards f.region f.kind q)
+  where
+    by_test : (b : Bool) → AreMadeBelow n (if b then form_bounds u q.form else [])
+    by_test true = form-bounds-below n u q.form h k
+    by_test false = tt
 
 without-repeats-below : (n : ℕ) (earlier ms : List MadeRow) → AreMadeBelow n ms → AreMadeBelow n (without_repeats earlier ms)
 without-repeats-below n earlier [] h = tt
@@ -204,8 +220,11 @@ settled-fits p s j f named h k g =
 settle-fits : (p : PlainProgram) (k : PlainRegionType) (s : PlainState) (j : ℕ) (f : PlainFact) (list : List ℕ) → StateFits p s → KnownFactFits p (count s) f → Reaches (Settles p s) (settle k s j f list)
 settle-fits p k s j f list h g =
     let more : count s ≤ suc (count s) = omega arith in
+    let name = variable-below (suc (count s)) (count s) (omega arith) in
     let wide : (t : Linear) → IsBelow (count s) t → IsBelow (suc (count s)) t = λ t i. wider-below (count s) (suc (count s)) t more i in
-    chain _ _ (named-below (suc (count s)) 1 (candidates k s f) list (without-repeats-below (suc (count s)) [] (all_candidates k f (later_state s)) (all-below (suc (count s)) k f (later_state s) (wide f.region g.region) (each-map _ _ f.args g.args wide) (wide f.state g.state) (variable-below (suc (count s)) (count s) (omega arith)))))
+    chain _ _ (named-below (suc (count s)) 1 (candidates k s f) list (without-repeats-below (suc (count s)) [] (all_candidates k f (later_state s) ++ flat_map (piece_bounds f (later_state s)) s.guards)
+    (all-join _ (all_candidates k f (later_state s)) (flat_map (piece_bounds f (later_state s)) s.guards) (all-below (suc (count s)) k f (later_state s) (wide f.region g.region) (each-map _ _ f.args g.args wide) (wide f.state g.state) name)
+    (all-flat (PieceFits p (count s)) _ (piece_bounds f (later_state s)) (λ q i. piece-bounds-below (suc (count s)) f (later_state s) q name (wider-form (count s) (suc (count s)) q.form more i.form)) s.guards h.guards))))
     (λ named i. chain _ _ (any (prove_at s s.rows f.state named))
     (λ u a. chain _ _ (any (prove_stable k s f named k.actions))
     (λ v b. settled-fits p s j f named h g i)))
@@ -290,7 +309,7 @@ task-kept p s marks c (to_turn home (first l a rest)) ts f h k w d = turn-kept p
 task-kept p s marks c (to_take (item i more) e left n) ts f h k w d = item-kept p s c i (record { items = more; env = e; left = left; statement = n; tasks = ts }) f (record { fits = h; items = k; waiting = w; checks = d })
 task-kept p s marks by_give (to_give items e n) ts f h k w d = give-kept p s e n ts items h k d w
 task-kept p s marks (by_pick o c m) (to_close all n) ts f h k w d = close-kept p s o c m all n ts f h w d
-task-kept p s marks (by_shift cs) (to_shift o c m e n) ts f h k w d = shift-kept p s o c m e ts h w d
+task-kept p s marks (by_shift cs js) (to_shift o c m e n) ts f h k w d = shift-kept p s js o c m e ts h w d
 task-kept p s marks (by_settle list cs) (to_rest j n) ts f h k w d = rest-kept p s j n ts (λ x y. settle y s j x list) h w d (λ x y i. settle-fits p y s j x list h i)
 task-kept p s marks (by_keep cs) (to_rest j n) ts f h k w d = rest-kept p s j n ts (λ x y. keep y s j x) h w d (λ x y i. keep-fits p y s j x h i)
 task-kept p s marks (by_made cs) (to_make y c e t n) ts f h k w d = made-kept p s y c e t n ts f h k w d

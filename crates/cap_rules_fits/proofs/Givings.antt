@@ -2,11 +2,11 @@
 use Rattle.std.proofs.Common.{ℕ, ℤ, suc, List, [], ◌∷◌, ◌++◌, length, Option, Some, None, refl, sym, ap, ◌∙◌, subst}
 use Rattle.std.specs.Prelude.{slice_get, get_or, IsSomeAnd}
 use Rattle.std.specs.List.{AllByRecursion}
-use Rattle.cap_lin.specs.Linear.{Linear, variable, IsBelow}
+use Rattle.cap_lin.specs.Linear.{Linear, variable, plus, IsBelow}
 use Rattle.cap_lin.specs.declared.row.Sort.{Sort}
 use Rattle.cap_lin.specs.declared.row.Sort.TheVariants.{Int, Perm}
 use Rattle.cap_lin.specs.declared.row.Op.TheVariants.{Ge as AtLeast}
-use Rattle.cap_galg.specs.Algebras.{PlainAlgebra, unique, divisible, counting, atom_algebra}
+use Rattle.cap_galg.specs.Algebras.{PlainAlgebra, unique, divisible, counting, indexed, atom_algebra}
 use Rattle.cap_gsolve.specs.declared.piece.Form.{Form}
 use Rattle.cap_gsolve.specs.declared.piece.Form.TheVariants as form
 use Rattle.cap_gsolve.specs.Pieces.{piece}
@@ -16,7 +16,7 @@ use Rattle.cap_prog.specs.declared.assertion.Comp.{Comp}
 use Rattle.cap_prog.specs.declared.assertion.Slot.{Slot}
 use Rattle.cap_prog.specs.declared.assertion.Slot.TheVariants.{Any, Is}
 use Rattle.cap_prog.specs.declared.assertion.Asked.{Asked}
-use Rattle.cap_prog.specs.declared.assertion.Asked.TheVariants.{One, Share, Src, Tok}
+use Rattle.cap_prog.specs.declared.assertion.Asked.TheVariants.{One, Share, Src, Tok, At, From}
 use Rattle.cap_prog.specs.Program.{PlainItem, compare, choose, fact, atom, cell, Items, none, item, append_items, PlainProgram}
 use Rattle.cap_prog.specs.Parts.{side_items, all_items}
 use Rattle.cap_prog.specs.Scopes.{Scope}
@@ -25,15 +25,15 @@ use Rattle.cap_goal_spec.specs.States.{PlainEnv, PlainState, PlainTask, to_give,
 use Rattle.cap_goal_spec.specs.Environments.{one_value, term_of, with_name}
 use Rattle.cap_goal_spec.specs.Fits.{FormIsBelow, KnownFactFits, StateFits, ItemsFitEnv, TaskFits, WaitingFits}
 use Rattle.cap_rules.specs.Attempts.{unit, ◌>>=◌}
-use Rattle.cap_rules.specs.Making.{value_by, opposite, fresh, env_at, with_env_at, fact_of}
+use Rattle.cap_rules.specs.Making.{sum, value_by, opposite, fresh, env_at, with_env_at, fact_of}
 use Rattle.cap_rules.specs.Giving.{name_as, name_parts, Given, given, give_term, give_slot, give_slots, give_form, give_sides, give_item, give}
 use Rattle.cap_rules_fits.specs.Kept.{ChecksNoMove}
 use Rattle.cap_rules_fits.proofs.Wider.{some-weaker}
-use Rattle.cap_rules_fits.proofs.Values.{wider-env, EnvKept, named}
+use Rattle.cap_rules_fits.proofs.Values.{plus-is-below, wider-env, EnvKept, named}
 use Rattle.cap_rules_fits.proofs.Growing.{Next, here, further}
 use Rattle.cap_rules_fits.proofs.Makings.{count, one-below, by-fits, AreValues, with-sort-fits, fresh-below, later-term, later-terms, with-comparison-fits, with-cell-fits, env-at-fits, env-set-fits, with-fact-fits, on}
 use Rattle.cap_rules_fits.proofs.Pieces.{with-piece-fits}
-use Rattle.cap_rules_fits.proofs.Reaching.{Reaches, chain, at}
+use Rattle.cap_rules_fits.proofs.Reaching.{Reaches, chain, at, at-computed}
 use Rattle.cap_rules_fits.proofs.Waiting.{task-stays, no-moves-stay, no-moves-first, AreKept, goals-kept}
 
 -- ---- names get variables
@@ -96,11 +96,24 @@ tokens-takes : (scope : Scope) (a : PlainAlgebra) (x : Slot) (t : Linear) → As
 tokens-takes scope counting x t h = tt
 tokens-takes scope a x t h = absurd h
 
+index-takes : (scope : Scope) (a : PlainAlgebra) (x : Slot) (t : Linear) (o : Option Linear) → AskedFits scope a (At x) → Takes a (form.Span t o)
+index-takes scope indexed x t o h = tt
+index-takes scope a x t o h = absurd h
+
+onwards-takes : (scope : Scope) (a : PlainAlgebra) (x : Slot) (t : Linear) (o : Option Linear) → AskedFits scope a (From x) → Takes a (form.Span t o)
+onwards-takes scope indexed x t o h = tt
+onwards-takes scope a x t o h = absurd h
+
 form-gives : (p : PlainProgram) (s : PlainState) (e : ℕ) (x : Asked) → StateFits p s → Reaches (Gives p s (IsForm x)) (give_form s e x)
 form-gives p s e One h = gives p s s (IsForm One) form.One (here p s h) (record { below = tt; takes = one-takes })
 form-gives p s e (Share x) h = chain _ _ (slot-gives p s e Perm x h) (λ g i. gives p s g.state (IsForm (Share x)) (form.Share g.value) i.next (record { below = i.value; takes = λ scope a k. share-takes scope a x g.value k }))
 form-gives p s e (Src x) h = chain _ _ (slot-gives p s e Int x h) (λ g i. gives p s g.state (IsForm (Src x)) (form.Src g.value) i.next (record { below = i.value; takes = λ scope a k. source-takes scope a x g.value k }))
 form-gives p s e (Tok x) h = chain _ _ (slot-gives p s e Int x h) (λ g i. gives p s g.state (IsForm (Tok x)) (form.Tok g.value) i.next (record { below = i.value; takes = λ scope a k. tokens-takes scope a x g.value k }))
+form-gives p s e (At x) h =
+    chain _ _ (slot-gives p s e Int x h)
+    (λ g i. chain (sum g.value one_value) (λ next. unit (given g.state (form.Span g.value (Some next)))) (at-computed (IsBelow (count g.state)) (plus g.value one_value) _ (plus-is-below (count g.state) g.value one_value i.value (one-below (count g.state))))
+    (λ next j. gives p s g.state (IsForm (At x)) (form.Span g.value (Some next)) i.next (record { below = (i.value, j); takes = λ scope a k. index-takes scope a x g.value (Some next) k })))
+form-gives p s e (From x) h = chain _ _ (slot-gives p s e Int x h) (λ g i. gives p s g.state (IsForm (From x)) (form.Span g.value None) i.next (record { below = i.value; takes = λ scope a k. onwards-takes scope a x g.value None k }))
 
 record AreBelow (n : ℕ) (x : Linear × Linear) : Type 0 where
   left : IsBelow n x.0

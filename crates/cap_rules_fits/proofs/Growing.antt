@@ -1,12 +1,12 @@
 -- States that fit, and what stays of one while it grows.
-use Rattle.std.proofs.Common.{◌≡◌, ◌≤◌, ℕ, zero, suc, List, [], ◌∷◌, ◌++◌, length, Some, refl, ◌∙◌, arith}
+use Rattle.std.proofs.Common.{◌≡◌, ◌≤◌, ℕ, zero, suc, List, [], ◌∷◌, ◌++◌, length, Some, refl, ◌∙◌, arith, None}
 use Rattle.std.specs.Prelude.{slice_get, slice_set, IsSomeAnd}
 use Rattle.std.specs.List.{AllByRecursion}
 use Rattle.cap_lin.specs.Linear.{Linear, IsBelow}
 use Rattle.cap_lin.specs.declared.row.Row.{Row}
 use Rattle.cap_lin.specs.declared.row.Sort.{Sort}
 use Rattle.cap_gsolve.specs.declared.piece.Form.{Form}
-use Rattle.cap_gsolve.specs.declared.piece.Form.TheVariants.{One, Share, Src, Tok}
+use Rattle.cap_gsolve.specs.declared.piece.Form.TheVariants.{One, Share, Src, Tok, Span}
 use Rattle.cap_gsolve.specs.declared.piece.Piece.{Piece}
 use Rattle.cap_fm_spec.proofs.Lists.{each-map}
 use Rattle.cap_prog.specs.Program.{PlainProgram}
@@ -174,6 +174,8 @@ wider-form n m One l h = tt
 wider-form n m (Share a) l h = wider-below n m a l h
 wider-form n m (Src a) l h = wider-below n m a l h
 wider-form n m (Tok a) l h = wider-below n m a l h
+wider-form n m (Span a None) l h = wider-below n m a l h
+wider-form n m (Span a (Some e)) l h = (wider-below n m a l h.0, wider-below n m e l h.1)
 
 pub wider-fact : (p : PlainProgram) (n m : ℕ) (f : PlainFact) → n ≤ m → KnownFactFits p n f → KnownFactFits p m f
 wider-fact p n m f l h = record { region = wider-below n m f.region l h.region; arity = h.arity; args = each-map _ _ f.args h.args (λ t k. wider-below n m t l k); state = wider-below n m f.state l h.state }

@@ -2,7 +2,7 @@
 use Rattle.std.proofs.Common.{List, []}
 use Rattle.std.specs.List.{AllByRecursion}
 use Rattle.cap_fm_spec.proofs.Lists.{each-left, each-right, each-join}
-use Rattle.cap_prog.specs.Program.{Label, PlainAct, set, read, write, cas, alloc, call, fork, branch, loop, check, give_back, Block, done, first, append, PlainFunction, PlainProgram, PlainStatement}
+use Rattle.cap_prog.specs.Program.{Label, PlainAct, set, read, write, cas, faa, dispose, alloc, call, fork, branch, loop, check, give_back, Block, done, first, append, PlainFunction, PlainProgram, PlainStatement}
 use Rattle.cap_prog.specs.Parts.{block_statements, all_statements}
 use Rattle.cap_prog.specs.Scopes.{invariant_scope}
 use Rattle.cap_prog.specs.WellFormed.{ActFits, AssertionFits, IsClosingReturn, EndsInReturn}
@@ -45,6 +45,8 @@ mutual
   act-loops p f (read x a) l b g h k e = tt
   act-loops p f (write a t) l b g h k e = tt
   act-loops p f (cas x a old new) l b g h k e = tt
+  act-loops p f (faa x a t) l b g h k e = tt
+  act-loops p f (dispose a) l b g h k e = tt
   act-loops p f (alloc x n) l b g h k e = tt
   act-loops p f (call x n args) l b g h k e = tt
   act-loops p f (fork n args) l b g h k e = tt

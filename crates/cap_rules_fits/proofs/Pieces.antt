@@ -1,19 +1,21 @@
 -- Guard pieces that are merged fit, and no two of them are of one part.
 use Rattle.std.proofs.Common.{◌≡◌, ◌≤◌, ℕ, List, [], ◌∷◌, ◌++◌, length, Option, Some, None, Bool, true, false, refl, sym, ap, ◌∙◌, subst, arith}
-use Rattle.std.specs.Prelude.{slice_get, IsSomeAnd, ◌||◌}
+use Rattle.std.specs.Prelude.{slice_get, IsSomeAnd, ◌||◌, ◌&&◌, if◌then◌else◌}
 use Rattle.std.specs.List.{AllByRecursion, list_any}
 use Rattle.std.proofs.lemmas.List.{length-set}
 use Rattle.cap_lin.specs.Linear.{Linear, plus, minus, IsBelow}
+use Rattle.cap_lin.specs.Rows.{row_of}
+use Rattle.cap_lin.specs.declared.row.Row.{Row}
 use Rattle.cap_lin.specs.declared.row.Sort.TheVariants.{Int, Perm}
-use Rattle.cap_lin.specs.declared.row.Op.TheVariants.{Eq as Equal, Le as AtMost, Gt as Greater, Ge as AtLeast}
+use Rattle.cap_lin.specs.declared.row.Op.TheVariants.{Eq as Equal, Ne as Unequal, Le as AtMost, Gt as Greater, Ge as AtLeast}
 use Rattle.cap_galg.specs.Algebras.{PlainAlgebra, divisible, counting, atom_algebra}
 use Rattle.cap_gsolve.specs.declared.piece.Form.{Form}
-use Rattle.cap_gsolve.specs.declared.piece.Form.TheVariants.{One, Share, Src, Tok}
+use Rattle.cap_gsolve.specs.declared.piece.Form.TheVariants.{One, Share, Src, Tok, Span}
 use Rattle.cap_gsolve.specs.declared.piece.Piece.{Piece}
-use Rattle.cap_gsolve.specs.Pieces.{same_part}
-use Rattle.cap_gsolve.specs.Merge.{zero_term, one_term, false_row, added_rows, combined, combined_rows, lone_rows, place, there, met_rows, clashes, clash_rows, merged_at, merged, merge_rows, merge_steps}
+use Rattle.cap_gsolve.specs.Pieces.{same_part, joins, is_joined, has_indices, is_single}
+use Rattle.cap_gsolve.specs.Merge.{zero_term, one_term, false_row, added_rows, combined, combined_rows, lone_rows, parted_rows, beside, place, there, met_rows, clashes, clash_rows, merged_at, merged, merge_rows, merge_steps}
 use Rattle.cap_gsolve.specs.Meaning.{Takes, Fits}
-use Rattle.cap_gsolve.proofs.Held.{as_one, merged-same, merged-other, there-same, there-other, IsPart, part-is}
+use Rattle.cap_gsolve.proofs.Held.{as_one, merged-same, merged-other, there-same, there-other, IsPart, part-is, joined-part, joined-form}
 use Rattle.cap_prog.specs.Program.{PlainRegionType, PlainProgram}
 use Rattle.cap_goal_spec.specs.States.{PlainState, longest_list}
 use Rattle.cap_goal_spec.specs.Fits.{FormIsBelow, PieceFits, AreParted, StateFits}
@@ -65,6 +67,8 @@ added-below n One h = tt
 added-below n (Share a) h = (row-is-below n a Greater zero_term Perm h (zero-below n), tt)
 added-below n (Src a) h = (row-is-below n a AtLeast zero_term Int h (zero-below n), tt)
 added-below n (Tok a) h = (row-is-below n a AtLeast zero_term Int h (zero-below n), tt)
+added-below n (Span a None) h = (row-is-below n a AtLeast zero_term Int h (zero-below n), tt)
+added-below n (Span a (Some e)) h = (row-is-below n a AtLeast zero_term Int h.0 (zero-below n), (row-is-below n a AtMost e Int h.0 h.1, tt))
 
 false-below : (n : ℕ) → IsBelow n false_row.term
 false-below n = row-is-below n zero_term Equal one_term Int (zero-below n) (one-below n)
@@ -74,6 +78,7 @@ lone-below n One h = tt
 lone-below n (Share a) h = (row-is-below n a AtMost one_term Perm h (one-below n), tt)
 lone-below n (Src a) h = tt
 lone-below n (Tok a) h = tt
+lone-below n (Span a e) h = tt
 
 combined-rows-below : (n : ℕ) (f g : Form) → FormIsBelow n f → FormIsBelow n g → RowsBelow n (combined_rows f g)
 combined-rows-below n (Share a) (Share b) h k = (row-is-below n (plus a b) AtMost one_term Perm (plus-is-below n a b h k) (one-below n), tt)
@@ -90,22 +95,37 @@ clash-below : (n : ℕ) (b : Bool) → RowsBelow n (clash_rows b)
 clash-below n true = (false-below n, tt)
 clash-below n false = tt
 
+rows-if : (n : ℕ) (b : Bool) (rows : List Row) → RowsBelow n rows → RowsBelow n (if b then rows else [])
+rows-if n true rows h = h
+rows-if n false rows h = tt
+
+parted-below : (n : ℕ) (f g : Form) → FormIsBelow n f → FormIsBelow n g → RowsBelow n (parted_rows f g)
+parted-below n (Span a None) (Span b None) h k = (false-below n, tt)
+parted-below n (Span a None) (Span b (Some d)) h k = rows-if n (has_indices b (Some d)) (row_of d AtMost a Int ∷ []) (row-is-below n d AtMost a Int k.1 h, tt)
+parted-below n (Span a (Some e)) (Span b None) h k = rows-if n (has_indices a (Some e)) (row_of e AtMost b Int ∷ []) (row-is-below n e AtMost b Int h.1 k, tt)
+parted-below n (Span a (Some e)) (Span b (Some d)) h k = rows-if n (is_single a (Some e) && is_single b (Some d)) (row_of a Unequal b Int ∷ []) (row-is-below n a Unequal b Int h.0 k.0, tt)
+parted-below n f g h k = tt
+
+beside-below : (p : PlainProgram) (n : ℕ) (ps : List Piece) (q : Piece) → AllByRecursion (PieceFits p n) ps → FormIsBelow n q.form → RowsBelow n (beside parted_rows ps q)
+beside-below p n [] q h k = tt
+beside-below p n (x ∷ ps) q h k = all-join _ (if same_part x q then parted_rows x.form q.form else []) (beside parted_rows ps q) (rows-if n (same_part x q) (parted_rows x.form q.form) (parted-below n x.form q.form h.0.form k)) (beside-below p n ps q h.1 k)
+
 -- ---- a piece more
 
 there-below : (p : PlainProgram) (n : ℕ) (ps : List Piece) (q : Piece) → AllByRecursion (PieceFits p n) ps → IfSome (FormIsBelow n) (there ps q)
 there-below p n [] q h = tt
-there-below p n (x ∷ ps) q h = by_test (same_part x q) refl (there-below p n ps q h.1)
+there-below p n (x ∷ ps) q h = by_test (joins x q) refl (there-below p n ps q h.1)
   where
     more : (o o' : Option Form) → o ≡ o' → IfSome (FormIsBelow n) o' → IfSome (FormIsBelow n) o
     more o o' e k = subst (IfSome (FormIsBelow n)) (sym e) k
 
-    by_test : (b : Bool) → same_part x q ≡ b → IfSome (FormIsBelow n) (there ps q) → IfSome (FormIsBelow n) (there (x ∷ ps) q)
+    by_test : (b : Bool) → joins x q ≡ b → IfSome (FormIsBelow n) (there ps q) → IfSome (FormIsBelow n) (there (x ∷ ps) q)
     by_test true e r = more (there (x ∷ ps) q) (Some x.form) (there-same x ps q e) h.0.form
     by_test false e r = more (there (x ∷ ps) q) (there ps q) (there-other x ps q e) r
 
 merge-below : (p : PlainProgram) (n : ℕ) (a : PlainAlgebra) (ps : List Piece) (q : Piece) → AllByRecursion (PieceFits p n) ps → FormIsBelow n q.form → RowsBelow n (merge_rows a ps q)
 unfolding merge_rows
-merge-below p n a ps q h k = all-join _ (added_rows q.form) (met_rows (there ps q) q.form ++ clash_rows (clashes a ps q.region q.kind q.atom q.form)) (added-below n q.form k) (all-join _ (met_rows (there ps q) q.form) (clash_rows _) (met-below n (there ps q) q.form (there-below p n ps q h) k) (clash-below n _))
+merge-below p n a ps q h k = all-join _ (added_rows q.form) (met_rows (there ps q) q.form ++ (beside parted_rows ps q ++ clash_rows (clashes a ps q.region q.kind q.atom q.form))) (added-below n q.form k) (all-join _ (met_rows (there ps q) q.form) (beside parted_rows ps q ++ clash_rows (clashes a ps q.region q.kind q.atom q.form)) (met-below n (there ps q) q.form (there-below p n ps q h) k) (all-join _ (beside parted_rows ps q) (clash_rows (clashes a ps q.region q.kind q.atom q.form)) (beside-below p n ps q h k) (clash-below n _)))
 
 -- what fits the region type of one fits that of the other
 one-fits : (p : PlainProgram) (n : ℕ) (x q : Piece) → IsPart x q → PieceFits p n x → PieceFits p n q → PieceFits p n (as_one x q)
@@ -124,19 +144,19 @@ one-fits p n x q e h k = record {
 
 merged-fit : (p : PlainProgram) (n : ℕ) (ps : List Piece) (q : Piece) → AllByRecursion (PieceFits p n) ps → PieceFits p n q → AllByRecursion (PieceFits p n) (merged ps q)
 merged-fit p n [] q h k = (k, tt)
-merged-fit p n (x ∷ ps) q h k = by_test (same_part x q) refl (merged-fit p n ps q h.1 k)
+merged-fit p n (x ∷ ps) q h k = by_test (joins x q) refl (merged-fit p n ps q h.1 k)
   where
     more : (xs ys : List Piece) → xs ≡ ys → AllByRecursion (PieceFits p n) ys → AllByRecursion (PieceFits p n) xs
     more xs ys e g = subst (AllByRecursion (PieceFits p n)) (sym e) g
 
-    by_test : (b : Bool) → same_part x q ≡ b → AllByRecursion (PieceFits p n) (merged ps q) → AllByRecursion (PieceFits p n) (merged (x ∷ ps) q)
-    by_test true e r = more (merged (x ∷ ps) q) (as_one x q ∷ ps) (merged-same x ps q e) (one-fits p n x q (part-is x q e) h.0 k, h.1)
+    by_test : (b : Bool) → joins x q ≡ b → AllByRecursion (PieceFits p n) (merged ps q) → AllByRecursion (PieceFits p n) (merged (x ∷ ps) q)
+    by_test true e r = more (merged (x ∷ ps) q) (as_one x q ∷ ps) (merged-same x ps q e) (one-fits p n x q (part-is x q (joined-part x q e)) h.0 k, h.1)
     by_test false e r = more (merged (x ∷ ps) q) (x ∷ merged ps q) (merged-other x ps q e) (h.0, r)
 
 -- no piece of the part of x is there, nor comes
-none-merged : (x : Piece) (ps : List Piece) (q : Piece) → list_any (same_part x) ps ≡ false → same_part x q ≡ false → list_any (same_part x) (merged ps q) ≡ false
+none-merged : (x : Piece) (ps : List Piece) (q : Piece) → list_any (joins x) ps ≡ false → joins x q ≡ false → list_any (joins x) (merged ps q) ≡ false
 none-merged x [] q h k = rw k refl
-none-merged x (y ∷ ps) q h k = by_test (same_part y q) refl (none-merged x ps q (second (same_part x y) (list_any (same_part x) ps) h) k)
+none-merged x (y ∷ ps) q h k = by_test (joins y q) refl (none-merged x ps q (second (joins x y) (list_any (joins x) ps) h) k)
   where
     first : (a b : Bool) → (a || b) ≡ false → a ≡ false
     first true b e = e
@@ -149,19 +169,27 @@ none-merged x (y ∷ ps) q h k = by_test (same_part y q) refl (none-merged x ps 
     neither : (a b : Bool) → a ≡ false → b ≡ false → (a || b) ≡ false
     neither a b e f = rw (e, f) refl
 
-    by_test : (b : Bool) → same_part y q ≡ b → list_any (same_part x) (merged ps q) ≡ false → list_any (same_part x) (merged (y ∷ ps) q) ≡ false
-    by_test true e r = ap (list_any (same_part x)) (merged-same y ps q e) ∙ neither (same_part x q) (list_any (same_part x) ps) k (second (same_part x y) (list_any (same_part x) ps) h)
-    by_test false e r = ap (list_any (same_part x)) (merged-other y ps q e) ∙ neither (same_part x y) (list_any (same_part x) (merged ps q)) (first (same_part x y) (list_any (same_part x) ps) h) r
+    -- what joins nothing is of another part, since what becomes one with y may become one with its part
+    other : (a b c : Bool) → b ≡ true → (a && b) ≡ false → (a && c) ≡ false
+    other true b c e f = absurd cc
+    other false b c e f = refl
+
+    not-one : joins y q ≡ true → joins x (as_one y q) ≡ false
+    not-one e = other (same_part x q) (is_joined q.form) (is_joined (as_one y q).form) (joined-form y q e) k
+
+    by_test : (b : Bool) → joins y q ≡ b → list_any (joins x) (merged ps q) ≡ false → list_any (joins x) (merged (y ∷ ps) q) ≡ false
+    by_test true e r = ap (list_any (joins x)) (merged-same y ps q e) ∙ neither (joins x (as_one y q)) (list_any (joins x) ps) (not-one e) (second (joins x y) (list_any (joins x) ps) h)
+    by_test false e r = ap (list_any (joins x)) (merged-other y ps q e) ∙ neither (joins x y) (list_any (joins x) (merged ps q)) (first (joins x y) (list_any (joins x) ps) h) r
 
 pub merged-parted : (ps : List Piece) (q : Piece) → AreParted ps → AreParted (merged ps q)
 merged-parted [] q h = (refl, tt)
-merged-parted (x ∷ ps) q h = by_test (same_part x q) refl (merged-parted ps q h.1)
+merged-parted (x ∷ ps) q h = by_test (joins x q) refl (merged-parted ps q h.1)
   where
-    alike : IsPart x q → list_any (same_part x) ps ≡ false → list_any (same_part (as_one x q)) ps ≡ false
+    alike : IsPart x q → list_any (joins x) ps ≡ false → list_any (joins (as_one x q)) ps ≡ false
     alike e f = rw (sym e.region, sym e.kind, sym e.atom) f
 
-    by_test : (b : Bool) → same_part x q ≡ b → AreParted (merged ps q) → AreParted (merged (x ∷ ps) q)
-    by_test true e r = subst AreParted (sym (merged-same x ps q e)) (alike (part-is x q e) h.0, h.1)
+    by_test : (b : Bool) → joins x q ≡ b → AreParted (merged ps q) → AreParted (merged (x ∷ ps) q)
+    by_test true e r = subst AreParted (sym (merged-same x ps q e)) (alike (part-is x q (joined-part x q e)) h.0, h.1)
     by_test false e r = subst AreParted (sym (merged-other x ps q e)) (none-merged x ps q h.0 e, r)
 
 -- ---- in a state

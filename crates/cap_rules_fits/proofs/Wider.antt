@@ -4,13 +4,13 @@ use Rattle.std.specs.Prelude.{slice_get, IsSomeAnd}
 use Rattle.cap_lin.specs.Linear.{Linear}
 use Rattle.cap_lin.specs.declared.row.Sort.{Sort}
 use Rattle.cap_lin.specs.declared.row.Sort.TheVariants.{Int, Perm}
-use Rattle.cap_galg.specs.Algebras.{PlainAlgebra, unique, divisible, counting, atom_algebra}
+use Rattle.cap_galg.specs.Algebras.{PlainAlgebra, unique, divisible, counting, indexed, atom_algebra}
 use Rattle.cap_fm_spec.proofs.Lists.{each-map}
 use Rattle.cap_prog.specs.declared.assertion.Comp.{Comp}
 use Rattle.cap_prog.specs.declared.assertion.Slot.{Slot}
 use Rattle.cap_prog.specs.declared.assertion.Slot.TheVariants.{Any, Is}
 use Rattle.cap_prog.specs.declared.assertion.Asked.{Asked}
-use Rattle.cap_prog.specs.declared.assertion.Asked.TheVariants.{One, Share, Src, Tok}
+use Rattle.cap_prog.specs.declared.assertion.Asked.TheVariants.{One, Share, Src, Tok, At, From}
 use Rattle.cap_prog.specs.Program.{PlainItem, compare, choose, fact, atom, cell, PlainProgram}
 use Rattle.cap_prog.specs.Scopes.{Scope, HasSort, TermFits, SlotFits, CompFits}
 use Rattle.cap_prog.specs.WellFormed.{AskedFits, AtomFits, FactFits, ItemFits}
@@ -42,6 +42,8 @@ asked-wider a b w unique One h = tt
 asked-wider a b w divisible (Share s) h = slot-wider a b w Perm s h
 asked-wider a b w counting (Src s) h = slot-wider a b w Int s h
 asked-wider a b w counting (Tok s) h = slot-wider a b w Int s h
+asked-wider a b w indexed (At s) h = slot-wider a b w Int s h
+asked-wider a b w indexed (From s) h = slot-wider a b w Int s h
 asked-wider a b w _ _ h = absurd h
 
 pub item-wider : (p : PlainProgram) (a b : Scope) → IsWider a b → (i : PlainItem) → ItemFits p a i → ItemFits p b i

@@ -7,12 +7,12 @@ use Rattle.cap_lin.specs.declared.row.Row.{Row}
 use Rattle.cap_lin.specs.declared.row.Sort.{Sort}
 use Rattle.cap_lin.specs.declared.row.Op.{Op}
 use Rattle.cap_farkas.specs.declared.cert.Cert.{Cert}
-use Rattle.cap_prog.specs.Program.{PlainAct, read, write, cas, Label, done, first, none, item, PlainProgram}
+use Rattle.cap_prog.specs.Program.{PlainAct, read, write, cas, faa, dispose, Label, done, first, none, item, PlainProgram}
 use Rattle.cap_goal_spec.specs.States.{PlainFact, PlainState, longest_list, PlainTask, to_run, to_turn, to_take, PlainGoal, goals_of}
 use Rattle.cap_goal_spec.specs.Choices.{by_act, given_marks}
 use Rattle.cap_rules.specs.Attempts.{Event, makes, Attempt, unit, behind, go_on, ◌>>=◌, found, need, not_applicable, appended}
 use Rattle.cap_rules.specs.Answers.{steps_of, owed_lists}
-use Rattle.cap_rules.specs.Making.{value_here, prove_equal, with_row, with_comparison}
+use Rattle.cap_rules.specs.Making.{sum, value_here, prove_equal, with_row, with_comparison}
 use Rattle.cap_rules.specs.Closing.{address_of, rivals, with_marks, acted, closing}
 use Rattle.cap_rules.specs.Rules.{at_act, at_tasks}
 use Rattle.cap_rules_marks.specs.Proven.{zeros}
@@ -56,10 +56,15 @@ silent-comparison s l op r o = search (silent-after, silent-row)
 silent-value : (s : PlainState) (t : Linear) → Silent (value_here s t)
 silent-value s t = search (silent-steps)
 
+silent-sum : (l r : Linear) → Silent (sum l r)
+silent-sum l r = search (silent-steps)
+
 silent-acted : (s : PlainState) (j : ℕ) (c : Linear × Linear) (a : PlainAct) → Silent (acted s j c a)
 silent-acted s j c (read x a) = silent-none _
 silent-acted s j c (write a t) = search (silent-chain, silent-value, silent-none)
 silent-acted s j c (cas x a old new) = search (silent-chain, silent-value, silent-comparison, silent-none)
+silent-acted s j c (faa x a t) = search (silent-chain, silent-value, silent-sum, silent-none)
+silent-acted s j c (dispose a) = silent-none _
 silent-acted s j c a = silent-none None
 
 -- ---- the effect doesn't see sorts and facts
@@ -75,6 +80,8 @@ acted-some s os ps fs gs j c (cas x a old new) = by_room (has_row s) refl
     by_room false e = rw e refl
 acted-some s os ps fs gs j c (read x a) = refl
 acted-some s os ps fs gs j c (write a t) = refl
+acted-some s os ps fs gs j c (faa x a t) = refl
+acted-some s os ps fs gs j c (dispose a) = refl
 acted-some s os ps fs gs j c a = refl
 
 acted-events : (s : PlainState) (os ps : List Sort) (fs gs : List PlainFact) (j : ℕ) (c : Linear × Linear) (a : PlainAct) → (acted (among s os fs) j c a).events ≡ (acted (among s ps gs) j c a).events
@@ -85,6 +92,8 @@ acted-events s os ps fs gs j c (cas x a old new) = by_room (has_row s) refl
     by_room false e = rw e refl
 acted-events s os ps fs gs j c (read x a) = refl
 acted-events s os ps fs gs j c (write a t) = refl
+acted-events s os ps fs gs j c (faa x a t) = refl
+acted-events s os ps fs gs j c (dispose a) = refl
 acted-events s os ps fs gs j c a = refl
 
 value-of : {A : Type 0} (o : Option A) → is_some o ≡ true → (x : A) × (o ≡ Some x)

@@ -7,7 +7,7 @@ use Rattle.std.specs.List.{flat_map}
 use Rattle.std.proofs.lemmas.List.Folds.{find-append}
 use Rattle.std.proofs.lemmas.Grind.{flat_map-append}
 use Rattle.cap_syntax.specs.declared.place.Place.{Place}
-use Rattle.cap_prog.specs.Program.{PlainAct, set, read, write, cas, alloc, call, fork, branch, loop, check, give_back, Block, done, first, append, Label, PlainStatement, PlainFunction, PlainProgram}
+use Rattle.cap_prog.specs.Program.{PlainAct, set, read, write, cas, faa, dispose, alloc, call, fork, branch, loop, check, give_back, Block, done, first, append, Label, PlainStatement, PlainFunction, PlainProgram}
 use Rattle.cap_prog.specs.declared.function.Statement.{Statement}
 use Rattle.cap_prog.specs.Views.{act_view, statement_view, block_view}
 use Rattle.cap_prog.specs.declared.function.Act.TheFolds.{the_lemmas}
@@ -27,6 +27,8 @@ mutual
   act-loops f (read x a) l after = refl
   act-loops f (write a t) l after = refl
   act-loops f (cas x a old new) l after = refl
+  act-loops f (faa x a t) l after = refl
+  act-loops f (dispose a) l after = refl
   act-loops f (alloc x n) l after = refl
   act-loops f (call x g args) l after = refl
   act-loops f (fork g args) l after = refl

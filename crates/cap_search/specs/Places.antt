@@ -1,7 +1,7 @@
 -- The places of the roots of loops, and of statements by their numbers.
 use Rattle.std.specs.Prelude.{ℕ, ◌==◌, List, [], ◌∷◌, ◌++◌, find, option_map, Option}
 use Rattle.cap_syntax.specs.declared.place.Place.{Place}
-use Rattle.cap_prog.specs.Program.{PlainAct, set, read, write, cas, alloc, call, fork, branch, loop, check, give_back, Block, done, first, PlainStatement, PlainFunction}
+use Rattle.cap_prog.specs.Program.{PlainAct, set, read, write, cas, faa, dispose, alloc, call, fork, branch, loop, check, give_back, Block, done, first, PlainStatement, PlainFunction}
 use Rattle.cap_prog.specs.Parts.{block_statements}
 use Rattle.cap_search_spec.specs.Leaves.{first_place}
 
@@ -12,6 +12,8 @@ abbrev mutual
   act_places f (read x a) = []
   act_places f (write a t) = []
   act_places f (cas x a old new) = []
+  act_places f (faa x a t) = []
+  act_places f (dispose a) = []
   act_places f (alloc x n) = []
   act_places f (call x g args) = []
   act_places f (fork g args) = []

@@ -79,7 +79,11 @@ fn leaf_at_statement(statement: &Statement) -> Leaf
             need: Need::Fact,
             item: Some(comparison.place),
         },
-        Act::Read(_, _) | Act::Write(_, _) | Act::Cas(_, _, _, _) => Leaf {
+        Act::Read(_, _)
+        | Act::Write(_, _)
+        | Act::Cas(_, _, _, _)
+        | Act::Faa(_, _, _)
+        | Act::Dispose(_) => Leaf {
             statement: statement.number,
             need: Need::Cell,
             item: Some(statement.place),

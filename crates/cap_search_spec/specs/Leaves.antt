@@ -1,7 +1,7 @@
 -- What a goal lacks for which no choice is offered, and where that is printed.
 use Rattle.std.specs.Prelude.{ℕ, zero, suc, ◌==◌, nat_lt, if◌then◌else◌, List, [], ◌∷◌, map, flat_map, find, slice_get, unwrap_or, option_map, Option, Some, None}
 use Rattle.cap_syntax.specs.declared.place.Place.{Place}
-use Rattle.cap_prog.specs.Program.{PlainItem, compare, choose, fact, atom, cell, Items, none, item, PlainCase, PlainRegionType, Label, PlainAct, read, write, cas, check, first, done, PlainFunction, PlainProgram, PlainStatement}
+use Rattle.cap_prog.specs.Program.{PlainItem, compare, choose, fact, atom, cell, Items, none, item, PlainCase, PlainRegionType, Label, PlainAct, read, write, cas, faa, dispose, check, first, done, PlainFunction, PlainProgram, PlainStatement}
 use Rattle.cap_prog.specs.Parts.{all_statements}
 use Rattle.cap_goal_spec.specs.States.{PlainFact, PlainState, PlainTask, to_run, to_turn, to_give, to_take, to_make, to_close, to_shift, to_rest, PlainGoal}
 use Rattle.cap_goal_spec.specs.Roots.{PlainUnit, region_unit, function_unit, LoopPoint, loops_in}
@@ -34,6 +34,8 @@ leaf_at_act l (check c) = leaf l.number lacks_fact (Some c.place)
 leaf_at_act l (read x a) = leaf l.number lacks_cell (Some l.place)
 leaf_at_act l (write a t) = leaf l.number lacks_cell (Some l.place)
 leaf_at_act l (cas x a old new) = leaf l.number lacks_cell (Some l.place)
+leaf_at_act l (faa x a t) = leaf l.number lacks_cell (Some l.place)
+leaf_at_act l (dispose a) = leaf l.number lacks_cell (Some l.place)
 leaf_at_act l _ = other_leaf l.number
 
 abbrev pub leaf_at_item : ℕ → PlainItem → Leaf

@@ -1,5 +1,5 @@
 -- Bounds by terms over a fact's names.
-use Rattle.std.proofs.Common.{◌≡◌, ℕ, zero, suc, ℤ, ◌+◌, ◌<◌, ◌≤◌, Bool, true, List, [], ◌∷◌, ◌++◌, map, fold, length, drop, get_or, slice_index_or, drop-cons, Some, None, refl, sym, ap, ◌∙◌, arith}
+use Rattle.std.proofs.Common.{◌≡◌, ℕ, zero, suc, ℤ, ◌+◌, ◌<◌, ◌≤◌, Bool, true, false, List, [], ◌∷◌, ◌++◌, map, fold, length, drop, get_or, slice_index_or, drop-cons, Some, None, refl, sym, ap, ◌∙◌, arith}
 use Rattle.std.specs.Prelude.{if◌then◌else◌, slice_get, unwrap_or, Result, Ok, Err, OnOk}
 use Rattle.std.specs.List.{flat_map}
 use Rattle.std.proofs.lemmas.List.{drop_all, map-append}
@@ -11,11 +11,13 @@ use Rattle.cap_lin.specs.declared.row.Op.{Op}
 use Rattle.cap_lin.specs.declared.row.Op.TheVariants.{Le as AtMost}
 use Rattle.cap_lin.specs.declared.row.Sort.TheVariants.{Int}
 use Rattle.cap_lin.proofs.Results.{first-wide, first-narrow}
+use Rattle.cap_gsolve.specs.declared.piece.Piece.{Piece}
+use Rattle.cap_gsolve.specs.Pieces.{of_guards}
 use Rattle.cap_prog.specs.Program.{PlainCase, PlainAction, PlainRegionType}
 use Rattle.cap_goal_spec.specs.Terms.{with_multiples, with_multiples_steps, term_over, term_over_steps}
 use Rattle.cap_goal_spec.specs.States.{PlainFact}
 use Rattle.cap_goal_spec.specs.Environments.{zero_value, bound, bound_term, region_env, term_in}
-use Rattle.cap_goal_spec.specs.Candidates.{MadeRow, made_row, bounds, bounds_by, action_bounds, PlainCandidate, past, candidate_as, candidate_of}
+use Rattle.cap_goal_spec.specs.Candidates.{MadeRow, made_row, bounds, bounds_by, action_bounds, form_bounds, piece_bounds, PlainCandidate, past, candidate_as, candidate_of}
 use Rattle.cap_rules_steps.specs.Places.{term_among}
 use Rattle.cap_lin.specs.Exact.{Explains}
 use Rattle.cap_lin.specs.declared.error.LinError.{LinError}
@@ -95,6 +97,25 @@ added-more g v all all' whole xs i x e h at inv =
 
 pub added-done : {A B : Type 0} (g : B → List MadeRow) (v : A → B) (all whole : List PlainCandidate) (xs : List A) (i : ℕ) → length xs ≤ i → fold added all (map candidate_of (flat_map g (map v (drop i xs)))) ≡ whole → all ≡ whole
 added-done g v all whole xs i h inv = ap (λ l. fold added all (map candidate_of (flat_map g (map v l)))) (sym (drop_all i xs h)) ∙ inv
+
+-- the same of a list that isn't seen by a view
+pub each-more : {A : Type 0} (g : A → List MadeRow) (all all' whole : List PlainCandidate) (xs : List A) (i : ℕ) (x : A) → all' ≡ fold added all (map candidate_of (g x)) → i < length xs → x ≡ slice_index_or xs i x → fold added all (map candidate_of (flat_map g (drop i xs))) ≡ whole → fold added all' (map candidate_of (flat_map g (drop (i + 1) xs))) ≡ whole
+each-more g all all' whole xs i x e h at inv =
+    let rest : List MadeRow = flat_map g (drop (i + 1) xs) in
+    ap (λ l. fold added l (map candidate_of rest)) e
+    ∙ (sym (fold-append added all (map candidate_of (g x)) (map candidate_of rest))
+    ∙ (ap (fold added all) (sym (map-append candidate_of (g x) rest))
+    ∙ (ap (λ l. fold added all (map candidate_of (flat_map g l))) (sym (next xs i x h at)) ∙ inv)))
+
+pub each-done : {A : Type 0} (g : A → List MadeRow) (all whole : List PlainCandidate) (xs : List A) (i : ℕ) → length xs ≤ i → fold added all (map candidate_of (flat_map g (drop i xs))) ≡ whole → all ≡ whole
+each-done g all whole xs i h inv = ap (λ l. fold added all (map candidate_of (flat_map g l))) (sym (drop_all i xs h)) ∙ inv
+
+-- bounds by a piece of the region's guards, and of no other one
+pub of-region : (f : PlainFact) (u : Linear) (q : Piece) (b : Bool) → b ≡ of_guards f.region f.kind q → b ≡ true → piece_bounds f u q ≡ form_bounds u q.form
+of-region f u q b e t = ap (λ (d : Bool). if d then form_bounds u q.form else []) (sym e ∙ t)
+
+pub of-another : (f : PlainFact) (u : Linear) (q : Piece) (b : Bool) → b ≡ of_guards f.region f.kind q → b ≡ false → piece_bounds f u q ≡ []
+of-another f u q b e t = ap (λ (d : Bool). if d then form_bounds u q.form else []) (sym e ∙ t)
 
 -- two after each other
 pub added-two : (all : List PlainCandidate) (xs ys : List MadeRow) → fold added (fold added all (map candidate_of xs)) (map candidate_of ys) ≡ fold added all (map candidate_of (xs ++ ys))

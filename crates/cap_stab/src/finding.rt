@@ -5,6 +5,7 @@ ghost use Rattle.cap_lin.specs.Linear.{variable};
 ghost use Rattle.cap_prog.specs.Views.{case_view, action_view, region_view, program_view};
 ghost use Rattle.cap_goal_spec.specs.States.{longest_list};
 ghost use Rattle.cap_goal_spec.specs.Candidates.{candidate_of, later_state as later_of};
+ghost use Rattle.cap_goal_spec.specs.Candidates.{form_bounds, piece_bounds};
 ghost use Rattle.cap_goal_spec.specs.Fits.{StateFits};
 ghost use Rattle.cap_stab.specs.Finding.{added, bounds_among, action_bounds_among};
 ghost use Rattle.cap_stab.specs.Finding.{candidates_seen, candidates_at};
@@ -12,6 +13,7 @@ ghost use Rattle.cap_stab.specs.Views.{candidates_view};
 
 use crate::candidate::{Candidate, add_bounds, add_bounds_by, add_equal};
 use cap_goal::{Fact, State, copy_terms};
+use cap_gsolve::{Form, Piece};
 use cap_lin::Term;
 use cap_prog::{Action, Case, Program, RegionType};
 use std::alloc::{AllocError, Global};
@@ -80,6 +82,63 @@ fn add_action_bounds(
     Ok(())
 }
 
+// Adds bounds by the first index of a span.
+fn add_form_bounds(
+    alloc: Global,
+    all: &mut Vec<Candidate>,
+    later: &Term,
+    form: &Form,
+) -> Result<(), AllocError>
+    ensures { OnOk result (candidates_view all.new.items
+        ≡ fold added (candidates_view all.old.items)
+        (map candidate_of (form_bounds later.now form.now))) }
+{
+    match form {
+        Form::Span(start, _) => add_bounds(alloc, all, later, start),
+        Form::One => Ok(()),
+        Form::Share(_) => Ok(()),
+        Form::Src(_) => Ok(()),
+        Form::Tok(_) => Ok(()),
+    }
+}
+
+// Adds bounds by the first index of a span of the guards of the fact's region.
+fn add_piece_bounds(
+    alloc: Global,
+    all: &mut Vec<Candidate>,
+    later: &Term,
+    fact: &Fact,
+    piece: &Piece,
+) -> Result<(), AllocError>
+    ensures { OnOk result (candidates_view all.new.items
+        ≡ fold added (candidates_view all.old.items)
+        (map candidate_of (piece_bounds fact.now later.now piece.now))) }
+{
+    if piece.is_of(&fact.region, fact.kind) {
+        add_form_bounds(alloc, all, later, &piece.form)
+    } else {
+        Ok(())
+    }
+}
+
+// Adds bounds by the spans of the guards of the fact's region.
+fn add_span_bounds(
+    alloc: Global,
+    all: &mut Vec<Candidate>,
+    later: &Term,
+    fact: &Fact,
+    pieces: &[Piece],
+) -> Result<(), AllocError>
+    ensures { OnOk result (candidates_view all.new.items
+        ≡ fold added (candidates_view all.old.items) (map candidate_of
+        (flat_map (piece_bounds fact.now later.now) pieces.now))) }
+{
+    for piece in pieces {
+        add_piece_bounds(alloc, all, later, fact, piece)?;
+    }
+    Ok(())
+}
+
 /// The candidates of a fact of a region type, by number from 0, as `candidates` gives them.
 pub fn candidates_of(
     alloc: Global,
@@ -112,15 +171,16 @@ pub fn candidates_of(
         &later,
         &region.actions,
     )?;
+    add_span_bounds(alloc, &mut all, &later, fact, state.guards())?;
     Ok(all)
 }
 
 /// The candidates of a fact of the state, by number from 0: what may be known of the fact's later
 /// state, for which the state's next fresh variable stands. First come the state as it is, and then
 /// bounds, from below and from above: by the state as it is, by the states of cases, and by each
-/// action's source and target, as far as they have no name but the region's parameters. A row that
-/// equals an earlier one in term and kind is left out. `Past` comes exactly where the row leaves
-/// 128 bits.
+/// action's source and target, as far as they have no name but the region's parameters, and by the
+/// first index of each span of the region's guards. A row that equals an earlier one in term and
+/// kind is left out. `Past` comes exactly where the row leaves 128 bits.
 pub fn candidates(
     alloc: Global,
     program: &Program,

@@ -88,6 +88,8 @@ impl Names {
             Asked::Share(slot) => self.ask_slot(alloc, slot),
             Asked::Src(slot) => self.ask_slot(alloc, slot),
             Asked::Tok(slot) => self.ask_slot(alloc, slot),
+            Asked::At(slot) => self.ask_slot(alloc, slot),
+            Asked::From(slot) => self.ask_slot(alloc, slot),
         }
     }
 

@@ -40,7 +40,7 @@ fn numbers(choice: &Choice) -> Option<&[u32]>
         | Choice::Enter(_, _)
         | Choice::Act(_, _, _)
         | Choice::Pick(_, _, _)
-        | Choice::Shift(_)
+        | Choice::Shift(_, _)
         | Choice::Keep(_)
         | Choice::Give
         | Choice::Fact(_)

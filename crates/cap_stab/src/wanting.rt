@@ -4,6 +4,7 @@ ghost use Rattle.cap_rules.specs.Resting.{rows_over as rows_among, want_slot as 
 ghost use Rattle.cap_rules.specs.Resting.{want_form as form_wanted};
 ghost use Rattle.cap_rules_steps.specs.Walks.{Makes, seen};
 ghost use Rattle.cap_stab.specs.Asking.{row_among, wanted_from};
+ghost use Rattle.cap_prog.specs.declared.assertion.Asked.TheVariants as asked_as;
 
 use cap_gsolve::Form;
 use cap_lin::{Row, Term};
@@ -35,7 +36,7 @@ pub(crate) fn rows_over(
     Ok(rows)
 }
 
-// The amount that an action wants; this variable stands for `_`.
+// The amount or index that an action wants; this variable stands for `_`.
 #[tactic(auto, using(cap_rules_steps::proofs::Walking::making))]
 fn want_slot(alloc: Global, names: &[Term], wildcard: u32, slot: &Slot) -> Result<Term, RuleError>
     ensures { Makes result (slot_wanted names.now wildcard slot.now) }
@@ -44,6 +45,17 @@ fn want_slot(alloc: Global, names: &[Term], wildcard: u32, slot: &Slot) -> Resul
         Slot::Any => Ok(Term::var(alloc, wildcard)?),
         Slot::Is(term) => Ok(value_over(alloc, names, term)?),
     }
+}
+
+// One index.
+#[tactic(auto, using(cap_rules_steps::proofs::Walking::making))]
+fn want_index(alloc: Global, names: &[Term], wildcard: u32, slot: &Slot) -> Result<Form, RuleError>
+    ensures { Makes result (form_wanted names.now wildcard (asked_as.At slot.now)) }
+{
+    let index = want_slot(alloc, names, wildcard, slot)?;
+    let one = Term::constant(alloc, 1);
+    let next = index.add(alloc, &one)?;
+    Ok(Form::Span(index, Some(next)))
 }
 
 #[tactic(auto, using(cap_rules_steps::proofs::Walking::making))]
@@ -55,6 +67,8 @@ fn want_form(alloc: Global, names: &[Term], wildcard: u32, asked: &Asked) -> Res
         Asked::Share(slot) => Ok(Form::Share(want_slot(alloc, names, wildcard, slot)?)),
         Asked::Src(slot) => Ok(Form::Src(want_slot(alloc, names, wildcard, slot)?)),
         Asked::Tok(slot) => Ok(Form::Tok(want_slot(alloc, names, wildcard, slot)?)),
+        Asked::At(slot) => want_index(alloc, names, wildcard, slot),
+        Asked::From(slot) => Ok(Form::Span(want_slot(alloc, names, wildcard, slot)?, None)),
     }
 }
 

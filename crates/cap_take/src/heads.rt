@@ -65,7 +65,7 @@ pub(crate) fn rule_of(choice: &Choice) -> Option<Taking>
         | Choice::Enter(_, _)
         | Choice::Act(_, _, _)
         | Choice::Pick(_, _, _)
-        | Choice::Shift(_)
+        | Choice::Shift(_, _)
         | Choice::Settle(_, _)
         | Choice::Keep(_) => None,
     }

@@ -14,6 +14,7 @@ ghost use Rattle.cap_rules_steps.specs.Places.{terms_view};
 ghost use Rattle.cap_rules_steps.specs.Walks.{Makes, giving, seen};
 ghost use Rattle.cap_take_give.specs.Given.{gives, comparison_given, fact_given};
 ghost use Rattle.cap_take_give.specs.Given.{atom_given, cell_given};
+ghost use Rattle.cap_prog.specs.declared.assertion.Asked.TheVariants as asked_as;
 
 use cap_goal::{Env, State};
 use cap_gsolve::{Form, Piece};
@@ -143,6 +144,16 @@ fn give_slots(
     Ok(terms)
 }
 
+// One index is given.
+fn give_index(alloc: Global, state: &mut State, env: u32, slot: &Slot) -> Result<Form, RuleError>
+    ensures { Makes (gives result state.new) (form_given state.old env (asked_as.At slot.now)) }
+{
+    let index = give_slot(alloc, state, env, Sort::Int, slot)?;
+    let step = Term::constant(alloc, 1);
+    let next = index.add(alloc, &step)?;
+    Ok(Form::Span(index, Some(next)))
+}
+
 // How much of a guard is given.
 fn give_form(alloc: Global, state: &mut State, env: u32, asked: &Asked) -> Result<Form, RuleError>
     ensures { Makes (gives result state.new) (form_given state.old env asked.now) }
@@ -152,6 +163,8 @@ fn give_form(alloc: Global, state: &mut State, env: u32, asked: &Asked) -> Resul
         Asked::Share(slot) => Ok(Form::Share(give_slot(alloc, state, env, Sort::Perm, slot)?)),
         Asked::Src(slot) => Ok(Form::Src(give_slot(alloc, state, env, Sort::Int, slot)?)),
         Asked::Tok(slot) => Ok(Form::Tok(give_slot(alloc, state, env, Sort::Int, slot)?)),
+        Asked::At(slot) => give_index(alloc, state, env, slot),
+        Asked::From(slot) => Ok(Form::Span(give_slot(alloc, state, env, Sort::Int, slot)?, None)),
     }
 }
 

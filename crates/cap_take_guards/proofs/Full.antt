@@ -4,14 +4,14 @@ use Rattle.std.proofs.lemmas.List.{map-append, append-nil, drop_all}
 use Rattle.std.specs.Prelude.{Ok, Err, find}
 use Rattle.cap_lin.specs.Linear.{Linear}
 use Rattle.cap_lin.specs.declared.row.Row.{Row}
-use Rattle.cap_galg.specs.Algebras.{PlainAlgebra, unique, divisible, counting, product, sum as either, atoms}
+use Rattle.cap_galg.specs.Algebras.{PlainAlgebra, unique, divisible, counting, indexed, product, sum as either, atoms}
 use Rattle.cap_gsolve.specs.declared.piece.Form.{Form}
 use Rattle.cap_gsolve.specs.declared.piece.Form.TheVariants as form
 use Rattle.cap_gsolve.specs.declared.piece.Piece.{Piece}
-use Rattle.cap_gsolve.specs.Pieces.{piece, same_part, full_forms, full_pieces}
+use Rattle.cap_gsolve.specs.Pieces.{piece, full_forms, full_pieces}
 use Rattle.cap_rules.specs.Attempts.{Attempt, Event, unit, ◌>>=◌, go_on, found}
 use Rattle.cap_rules.specs.Making.{without_first}
-use Rattle.cap_rules.specs.Taking.{prove_full, without_full}
+use Rattle.cap_rules.specs.Taking.{prove_full, may_be_full, without_full}
 use Rattle.cap_rules_steps.specs.Walks.{Claims}
 use Rattle.cap_rules_steps.specs.declared.error.RuleError.{RuleError}
 use Rattle.cap_rules_steps.proofs.Listing.{LeadsClaims}
@@ -35,6 +35,7 @@ moved-forms : (a : PlainAlgebra) (r : Linear) (k i n : ℕ) → map (moved n) (f
 moved-forms unique r k i n = refl
 moved-forms divisible r k i n = refl
 moved-forms counting r k i n = refl
+moved-forms indexed r k i n = refl
 moved-forms (product a b) r k i n =
     let d : i + atoms a + n ≡ i + n + atoms a = omega arith in
     joined r k n (full_forms a i) (full_forms b (i + atoms a)) (full_forms a (i + n)) (full_forms b (i + n + atoms a)) (moved-forms a r k i n) (moved-forms b r k (i + atoms a) n ∙ ap (λ j. formed r k (full_forms b j)) d)
@@ -59,13 +60,15 @@ full-follows rows form.One gone F = record { is = refl }
 full-follows rows (form.Share a) gone F = record { is = ap (λ (es : List Event). record { events = es ++ (F gone).events; value = (F gone).value }) (sym (append-nil (prove_full rows (form.Share a)).events)) }
 full-follows rows (form.Src m) gone F = record { is = ap (λ (es : List Event). record { events = es ++ (F gone).events; value = (F gone).value }) (sym (append-nil (prove_full rows (form.Src m)).events)) }
 full-follows rows (form.Tok m) gone F = record { is = refl }
+full-follows rows (form.Span a None) gone F = record { is = ap (λ (es : List Event). record { events = es ++ (F gone).events; value = (F gone).value }) (sym (append-nil (prove_full rows (form.Span a None)).events)) }
+full-follows rows (form.Span a (Some e)) gone F = record { is = refl }
 
 part-follows : (rows : List Row) (o : Option Piece) (gone : List Piece) (F : List Piece → Attempt (List Piece)) → (found o >>= λ q. prove_full rows q.form >>= λ u. F gone) ≡ go_on (found o >>= λ q. prove_full rows q.form >>= λ u. unit gone).events (found o >>= λ q. prove_full rows q.form >>= λ u. unit gone).value F
 part-follows rows None gone F = refl
 part-follows rows (Some q) gone F = (full-follows rows q.form gone F).is
 
 one-goes : (rows : List Row) (ps : List Piece) (x : Piece) (xs : List Piece) → without_full rows ps (x ∷ xs) ≡ go_on (without_one rows ps x).events (without_one rows ps x).value (λ qs. without_full rows qs xs)
-one-goes rows ps x xs = part-follows rows (find (λ q. same_part q x) ps) (without_first (λ q. same_part q x) ps) (λ qs. without_full rows qs xs)
+one-goes rows ps x xs = part-follows rows (find (may_be_full x) ps) (without_first (may_be_full x) ps) (λ qs. without_full rows qs xs)
 
 unrolled : (rows : List Row) (ps xs : List Piece) (i : ℕ) (x : Piece) → i < length xs → x ≡ get_or xs i x → without_full rows ps (drop i xs) ≡ go_on (without_one rows ps x).events (without_one rows ps x).value (λ qs. without_full rows qs (drop (suc i) xs))
 unrolled rows ps xs i x h e = ap (without_full rows ps) (split-at xs i x h e) ∙ one-goes rows ps x (drop (suc i) xs)

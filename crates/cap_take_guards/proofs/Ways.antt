@@ -1,11 +1,11 @@
 -- Ways in which nothing is taken out of a piece.
-use Rattle.std.proofs.Common.{◌≡◌, ℕ, zero, suc, List, Option, refl}
+use Rattle.std.proofs.Common.{◌≡◌, ℕ, zero, suc, List, Option, Some, None, refl}
 use Rattle.std.specs.Prelude.{Err}
 use Rattle.cap_lin.specs.Linear.{Linear}
 use Rattle.cap_lin.specs.declared.row.Row.{Row}
 use Rattle.cap_goal_spec.specs.States.{PlainEnv, PlainState}
 use Rattle.cap_goal_spec.specs.Environments.{settled, open_to, stuck}
-use Rattle.cap_rules.specs.Taking.{cut_one, cut_share, cut_source, cut_tokens, cut_new_tokens}
+use Rattle.cap_rules.specs.Taking.{cut_one, cut_share, cut_source, cut_tokens, cut_new_tokens, cut_index, cut_onwards}
 use Rattle.cap_rules_steps.specs.Walks.{Makes, Claims}
 use Rattle.cap_rules_steps.specs.declared.error.RuleError.TheVariants.{NotApplicable}
 use Rattle.cap_rules_steps.proofs.Walking.{inapplicable, weaker}
@@ -82,3 +82,41 @@ pub no-new-tokens : (s : PlainState) (env : PlainEnv) (m : Linear) (way : ℕ) (
 no-new-tokens s env m zero ls = weaker _ _ ls inapplicable
 no-new-tokens s env m (suc zero) ls = weaker _ _ ls inapplicable
 no-new-tokens s env m (suc (suc way)) ls = weaker _ _ ls inapplicable
+
+-- ---- indices
+
+pub no-index-by : (s : PlainState) (env : PlainEnv) (a : Linear) (e : Option Linear) (t : Linear) (way : ℕ) (ls : Lists) → (way ≡ 0 → ⊥) → (way ≡ 1 → ⊥) → Claims (Err NotApplicable) ls ls (cut_index s env a e way (settled t))
+no-index-by s env a e t zero ls h k = absurd (h refl)
+no-index-by s env a e t (suc zero) ls h k = absurd (k refl)
+no-index-by s env a None t (suc (suc way)) ls h k = weaker _ _ ls inapplicable
+no-index-by s env a (Some x) t (suc (suc way)) ls h k = weaker _ _ ls inapplicable
+
+pub no-index-as : (s : PlainState) (env : PlainEnv) (a : Linear) (e : Option Linear) (x : Option ℕ) (way : ℕ) (ls : Lists) → (way ≡ 1 → ⊥) → Claims (Err NotApplicable) ls ls (cut_index s env a e way (open_to x))
+no-index-as s env a None x zero ls h = weaker _ _ ls inapplicable
+no-index-as s env a (Some y) x zero ls h = weaker _ _ ls inapplicable
+no-index-as s env a e x (suc zero) ls h = absurd (h refl)
+no-index-as s env a None x (suc (suc way)) ls h = weaker _ _ ls inapplicable
+no-index-as s env a (Some y) x (suc (suc way)) ls h = weaker _ _ ls inapplicable
+
+pub no-index : (s : PlainState) (env : PlainEnv) (a : Linear) (e : Option Linear) (way : ℕ) (ls : Lists) → Claims (Err NotApplicable) ls ls (cut_index s env a e way stuck)
+no-index s env a None zero ls = weaker _ _ ls inapplicable
+no-index s env a None (suc zero) ls = weaker _ _ ls inapplicable
+no-index s env a None (suc (suc way)) ls = weaker _ _ ls inapplicable
+no-index s env a (Some y) zero ls = weaker _ _ ls inapplicable
+no-index s env a (Some y) (suc zero) ls = weaker _ _ ls inapplicable
+no-index s env a (Some y) (suc (suc way)) ls = weaker _ _ ls inapplicable
+
+pub no-onwards-by : (s : PlainState) (env : PlainEnv) (a t : Linear) (way : ℕ) (ls : Lists) → (way ≡ 0 → ⊥) → (way ≡ 1 → ⊥) → Claims (Err NotApplicable) ls ls (cut_onwards s env a way (settled t))
+no-onwards-by s env a t zero ls h k = absurd (h refl)
+no-onwards-by s env a t (suc zero) ls h k = absurd (k refl)
+no-onwards-by s env a t (suc (suc way)) ls h k = weaker _ _ ls inapplicable
+
+pub no-onwards-as : (s : PlainState) (env : PlainEnv) (a : Linear) (x : Option ℕ) (way : ℕ) → (way ≡ 0 → ⊥) → Makes (Err NotApplicable) (cut_onwards s env a way (open_to x))
+no-onwards-as s env a x zero h = absurd (h refl)
+no-onwards-as s env a x (suc zero) h = inapplicable
+no-onwards-as s env a x (suc (suc way)) h = inapplicable
+
+pub no-onwards : (s : PlainState) (env : PlainEnv) (a : Linear) (way : ℕ) (ls : Lists) → Claims (Err NotApplicable) ls ls (cut_onwards s env a way stuck)
+no-onwards s env a zero ls = weaker _ _ ls inapplicable
+no-onwards s env a (suc zero) ls = weaker _ _ ls inapplicable
+no-onwards s env a (suc (suc way)) ls = weaker _ _ ls inapplicable

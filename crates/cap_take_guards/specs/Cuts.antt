@@ -1,12 +1,12 @@
 -- Parts of what is taken out of a piece.
-use Rattle.std.specs.Prelude.{ℕ, ◌+◌, ◌==◌, ◌&&◌, Bool, List, [], ◌++◌, map, take, drop}
+use Rattle.std.specs.Prelude.{ℕ, ◌+◌, ◌==◌, ◌&&◌, Bool, nat_lt, List, [], ◌++◌, length, map, take, drop}
 use Rattle.cap_lin.specs.Linear.{Linear}
 use Rattle.cap_lin.specs.declared.row.Sort.{Sort}
 use Rattle.cap_lin.specs.declared.row.Op.TheVariants.{Eq as Equal}
 use Rattle.cap_gsolve.specs.declared.piece.Form.{Form}
 use Rattle.cap_gsolve.specs.declared.piece.Piece.{Piece}
-use Rattle.cap_goal_spec.specs.States.{PlainEnv, PlainState}
-use Rattle.cap_rules.specs.Attempts.{Attempt, unit, ◌>>=◌, prove_that}
+use Rattle.cap_goal_spec.specs.States.{PlainEnv, PlainState, longest_list}
+use Rattle.cap_rules.specs.Attempts.{Attempt, unit, ◌>>=◌, need, prove_that}
 use Rattle.cap_rules.specs.Making.{value_by}
 use Rattle.cap_rules.specs.Taking.{Cut, cut, with_form}
 
@@ -25,3 +25,7 @@ with_left s j q left =
 -- the piece is of this atom of guards of this type
 abbrev pub is_of_part : Piece → ℕ → ℕ → Bool
 is_of_part q k i = (q.kind == k) && (q.atom == i)
+
+-- one piece more has room
+abbrev pub has_room : PlainState → Attempt (Unit {0})
+has_room s = need (nat_lt (length s.guards) longest_list)

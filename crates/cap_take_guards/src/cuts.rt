@@ -1,9 +1,9 @@
 //! Amounts and counts that are taken out of a piece.
-ghost use Rattle.std.specs.Prelude.{◌≡◌, [], ◌∷◌, IfOk, option_to_list};
+ghost use Rattle.std.specs.Prelude.{◌≡◌, [], ◌∷◌, IfOk};
 ghost use Rattle.cap_goal_spec.specs.Environments.{settled, open_to, bind_open as name_bound};
 ghost use Rattle.cap_rules.specs.Taking.{cut, cut_share, cut_source, cut_tokens, cut_new_tokens};
 ghost use Rattle.cap_rules_steps.specs.Walks.{Makes, Claims, seen};
-ghost use Rattle.cap_take_guards.specs.Views.{cut_view};
+ghost use Rattle.cap_take_guards.specs.Views.{cut_view, left_view};
 ghost use Rattle.cap_take_guards.specs.Cuts.{all_cut};
 
 use cap_goal::{Env, State};
@@ -13,12 +13,20 @@ use cap_rules_steps::{Ledger, RuleError, prove_that, value_by, with_comparison, 
 use cap_take_holdings::bind_open;
 use std::alloc::{AllocError, Global};
 
-/// What a cut comes to: the environment, the state, and what stays of the piece, if something does.
+/// What stays of a piece: nothing, a form, or a form in front of what goes and one behind it.
+#[derive(Drop)]
+pub(crate) enum Left {
+    Nothing,
+    One(Form),
+    Both(Form, Form),
+}
+
+/// What a cut comes to: the environment, the state, and what stays of the piece.
 #[derive(Drop)]
 pub(crate) struct Cut {
     pub(crate) env: Env,
     pub(crate) state: State,
-    pub(crate) left: Option<Form>,
+    pub(crate) left: Left,
 }
 
 /// This stays of the piece, and all else is as it was.
@@ -26,9 +34,9 @@ pub(crate) fn leaving(
     alloc: Global,
     state: &State,
     env: &Env,
-    left: Option<Form>,
+    left: Left,
 ) -> Result<Cut, AllocError>
-    ensures { IfOk result (λ c. cut_view c ≡ cut env.now state.now (option_to_list left)) }
+    ensures { IfOk result (λ c. cut_view c ≡ cut env.now state.now (left_view left)) }
 {
     Ok(Cut {
         env: env.copy(alloc)?,
@@ -37,17 +45,17 @@ pub(crate) fn leaving(
     })
 }
 
-// The name of an open slot gets a term, and this stays of the piece.
-fn naming(
+/// The name of an open slot gets a term, and this stays of the piece.
+pub(crate) fn naming(
     alloc: Global,
     state: State,
     env: &Env,
     name: Option<u32>,
     term: &Term,
-    left: Option<Form>,
+    left: Left,
 ) -> Result<Cut, AllocError>
     ensures { IfOk result (λ c. cut_view c
-        ≡ cut (name_bound env.now name term.now) state (option_to_list left)) }
+        ≡ cut (name_bound env.now name term.now) state (left_view left)) }
 {
     let mut env = env.copy(alloc)?;
     bind_open(alloc, &mut env, name, term)?;
@@ -66,7 +74,7 @@ pub(crate) fn all_named(
         ≡ cut (name_bound env.now name count.now) state.now []) }
 {
     let same = state.copy()?;
-    naming(alloc, same, env, name, count, None)
+    naming(alloc, same, env, name, count, Left::Nothing)
 }
 
 /// All of an amount goes, which is claimed to be what a term stands for.
@@ -84,7 +92,7 @@ pub(crate) fn all_of(
 {
     let value = value_by(alloc, env, term)?;
     prove_that(alloc, ledger, state.rows(), amount, Op::Eq, &value, sort)?;
-    Ok(leaving(alloc, state, env, None)?)
+    Ok(leaving(alloc, state, env, Left::Nothing)?)
 }
 
 /// A part of a share goes, which is claimed to be above 0 and below the share.
@@ -120,7 +128,7 @@ pub(crate) fn part_of_share(
         Sort::Perm,
     )?;
     let rest = amount.minus(alloc, &value)?;
-    Ok(leaving(alloc, state, env, Some(Form::Share(rest)))?)
+    Ok(leaving(alloc, state, env, Left::One(Form::Share(rest)))?)
 }
 
 /// A part of a share goes, which is some fresh amount above 0 and below the share.
@@ -140,7 +148,7 @@ pub(crate) fn some_of_share(
     with_comparison(alloc, &mut next, &some, Op::Gt, &zero, Sort::Perm)?;
     with_comparison(alloc, &mut next, &some, Op::Lt, amount, Sort::Perm)?;
     let rest = amount.minus(alloc, &some)?;
-    Ok(naming(alloc, next, env, name, &some, Some(Form::Share(rest)))?)
+    Ok(naming(alloc, next, env, name, &some, Left::One(Form::Share(rest)))?)
 }
 
 /// A source goes with as many tokens out as a term stands for, which is claimed to be at least as
@@ -167,7 +175,7 @@ pub(crate) fn source_with(
         Sort::Int,
     )?;
     let rest = value.minus(alloc, count)?;
-    Ok(leaving(alloc, state, env, Some(Form::Tok(rest)))?)
+    Ok(leaving(alloc, state, env, Left::One(Form::Tok(rest)))?)
 }
 
 /// Some of the tokens go, which are claimed to be at least 0 and at most all.
@@ -203,7 +211,7 @@ pub(crate) fn part_of_tokens(
         Sort::Int,
     )?;
     let rest = count.minus(alloc, &value)?;
-    Ok(leaving(alloc, state, env, Some(Form::Tok(rest)))?)
+    Ok(leaving(alloc, state, env, Left::One(Form::Tok(rest)))?)
 }
 
 /// New tokens go, which are claimed to be at least 0; the source then has so many more out.
@@ -230,5 +238,5 @@ pub(crate) fn tokens_of_source(
         Sort::Int,
     )?;
     let more = count.add(alloc, &value)?;
-    Ok(leaving(alloc, state, env, Some(Form::Src(more)))?)
+    Ok(leaving(alloc, state, env, Left::One(Form::Src(more)))?)
 }

@@ -11,9 +11,10 @@ ghost use Rattle.cap_take_holdings.specs.Seen.{reading_view};
 ghost use Rattle.cap_take_guards.specs.Views.{cut_view};
 
 use crate::cuts::{
-    Cut, all_named, all_of, leaving, part_of_share, part_of_tokens, some_of_share, source_with,
-    tokens_of_source,
+    Cut, Left, all_named, all_of, leaving, part_of_share, part_of_tokens, some_of_share,
+    source_with, tokens_of_source,
 };
+use crate::spans::{cut_index, cut_onwards};
 use cap_goal::{Env, State};
 use cap_gsolve::Form;
 use cap_lin::{Sort, Term};
@@ -29,7 +30,7 @@ fn cut_one(alloc: Global, state: &State, env: &Env, way: u32) -> Result<Cut, Rul
     ensures { Makes (seen cut_view result) (one_cut state.now env.now way) }
 {
     match way {
-        0 => Ok(leaving(alloc, state, env, None)?),
+        0 => Ok(leaving(alloc, state, env, Left::Nothing)?),
         _ => Err(RuleError::NotApplicable),
     }
 }
@@ -263,6 +264,7 @@ fn one_of(alloc: Global, state: &State, env: &Env, there: &Form, way: u32) -> Re
         Form::Share(_) => Err(RuleError::NotApplicable),
         Form::Src(_) => Err(RuleError::NotApplicable),
         Form::Tok(_) => Err(RuleError::NotApplicable),
+        Form::Span(_, _) => Err(RuleError::NotApplicable),
     }
 }
 
@@ -286,6 +288,7 @@ fn share_of(
         Form::One => Err(RuleError::NotApplicable),
         Form::Src(_) => Err(RuleError::NotApplicable),
         Form::Tok(_) => Err(RuleError::NotApplicable),
+        Form::Span(_, _) => Err(RuleError::NotApplicable),
     }
 }
 
@@ -307,6 +310,7 @@ fn source_of(
         Form::One => Err(RuleError::NotApplicable),
         Form::Share(_) => Err(RuleError::NotApplicable),
         Form::Tok(_) => Err(RuleError::NotApplicable),
+        Form::Span(_, _) => Err(RuleError::NotApplicable),
     }
 }
 
@@ -330,6 +334,65 @@ fn tokens_of(
         }
         Form::One => Err(RuleError::NotApplicable),
         Form::Share(_) => Err(RuleError::NotApplicable),
+        Form::Span(_, _) => Err(RuleError::NotApplicable),
+    }
+}
+
+// An index is asked.
+fn index_of(
+    alloc: Global,
+    ledger: &mut Ledger,
+    state: &State,
+    env: &Env,
+    slot: &Slot,
+    there: &Form,
+    way: u32,
+) -> Result<Cut, RuleError>
+    ensures { Claims (seen cut_view result) ledger.old ledger.new
+        (form_cut state.now env.now (asked_as.At slot.now) there.now way) }
+{
+    match there {
+        Form::Span(start, end) => {
+            cut_index(
+                alloc,
+                ledger,
+                state,
+                env,
+                start,
+                end,
+                way,
+                read_slot(env, slot),
+            )
+        }
+        Form::One => Err(RuleError::NotApplicable),
+        Form::Share(_) => Err(RuleError::NotApplicable),
+        Form::Src(_) => Err(RuleError::NotApplicable),
+        Form::Tok(_) => Err(RuleError::NotApplicable),
+    }
+}
+
+// All indices from one on are asked.
+fn onwards_of(
+    alloc: Global,
+    ledger: &mut Ledger,
+    state: &State,
+    env: &Env,
+    slot: &Slot,
+    there: &Form,
+    way: u32,
+) -> Result<Cut, RuleError>
+    ensures { Claims (seen cut_view result) ledger.old ledger.new
+        (form_cut state.now env.now (asked_as.From slot.now) there.now way) }
+{
+    match there {
+        Form::Span(start, end) => match end {
+            None => cut_onwards(alloc, ledger, state, env, start, way, read_slot(env, slot)),
+            Some(_) => Err(RuleError::NotApplicable),
+        },
+        Form::One => Err(RuleError::NotApplicable),
+        Form::Share(_) => Err(RuleError::NotApplicable),
+        Form::Src(_) => Err(RuleError::NotApplicable),
+        Form::Tok(_) => Err(RuleError::NotApplicable),
     }
 }
 
@@ -351,5 +414,7 @@ pub(crate) fn cut_form(
         Asked::Share(slot) => share_of(alloc, ledger, state, env, slot, there, way),
         Asked::Src(slot) => source_of(alloc, ledger, state, env, slot, there, way),
         Asked::Tok(slot) => tokens_of(alloc, ledger, state, env, slot, there, way),
+        Asked::At(slot) => index_of(alloc, ledger, state, env, slot, there, way),
+        Asked::From(slot) => onwards_of(alloc, ledger, state, env, slot, there, way),
     }
 }

@@ -1,8 +1,8 @@
 //! Full pieces that go.
 ghost use Rattle.std.specs.Prelude.{◌≡◌, ◌<◌, IfOk, OnOk, length, position, remove};
-ghost use Rattle.cap_gsolve.specs.Pieces.{same_part};
 ghost use Rattle.cap_rules.specs.Attempts.{found};
 ghost use Rattle.cap_rules.specs.Taking.{prove_full as full_proved, without_full as all_gone};
+ghost use Rattle.cap_rules.specs.Taking.{has_end as ends, may_be_full as full_perhaps};
 ghost use Rattle.cap_rules_steps.specs.Walks.{Makes, Claims, giving};
 ghost use Rattle.cap_take_guards.specs.Full.{without_one};
 
@@ -12,14 +12,35 @@ use cap_lin::{Op, Row, Sort, Term};
 use cap_rules_steps::{Ledger, RuleError, prove_that};
 use std::alloc::{AllocError, Global};
 
-// The place of the piece of a part, if there is one.
-fn place_of(pieces: &[Piece], piece: &Piece) -> Option<usize>
-    ensures { result ≡ position (λ q. same_part q piece.now) pieces.now }
+// Whether a form is of indices below an end.
+fn has_end(form: &Form) -> bool
+    ensures { result ≡ ends form.now }
 {
-    pieces.iter().position(|there| there.is_part_of(piece))
+    match form {
+        Form::Span(_, Some(_)) => true,
+        Form::Span(_, None) => false,
+        Form::One => false,
+        Form::Share(_) => false,
+        Form::Src(_) => false,
+        Form::Tok(_) => false,
+    }
 }
 
-// Claims that a form is all of its guard. Tokens never are.
+// Whether a piece that is there may be this full one.
+fn may_be_full(full: &Piece, there: &Piece) -> bool
+    ensures { result ≡ full_perhaps full.now there.now }
+{
+    there.is_part_of(full) && !has_end(&there.form)
+}
+
+// The place of the first piece that may be this full one, if there is one.
+fn place_of(pieces: &[Piece], full: &Piece) -> Option<usize>
+    ensures { result ≡ position (full_perhaps full.now) pieces.now }
+{
+    pieces.iter().position(|there| may_be_full(full, there))
+}
+
+// Claims that a form is all of its guard. Tokens never are, nor are indices below an end.
 fn prove_full(
     alloc: Global,
     ledger: &mut Ledger,
@@ -38,6 +59,13 @@ fn prove_full(
             let zero = Term::constant(alloc, 0);
             prove_that(alloc, ledger, rows, count, Op::Eq, &zero, Sort::Int)
         }
+        Form::Span(start, end) => match end {
+            None => {
+                let first = Term::constant(alloc, 0);
+                prove_that(alloc, ledger, rows, start, Op::Eq, &first, Sort::Int)
+            }
+            Some(_) => Err(RuleError::NotApplicable),
+        },
         Form::Tok(_) => Err(RuleError::NotApplicable),
     }
 }

@@ -1,6 +1,7 @@
 //! Guards that are given up.
-ghost use Rattle.std.specs.Prelude.{◌≡◌, ◌<◌, IfOk, length, option_to_list, slice_get};
+ghost use Rattle.std.specs.Prelude.{◌≡◌, ◌<◌, ◌≤◌, ◌⊎◌, [], ◌∷◌, IfOk, length, slice_get};
 ghost use Rattle.cap_goal_spec.specs.Environments.{term_of as term_in_env};
+ghost use Rattle.cap_goal_spec.specs.States.{longest_list};
 ghost use Rattle.cap_rules.specs.Attempts.{found, need};
 ghost use Rattle.cap_rules.specs.Making.{env_at};
 ghost use Rattle.cap_rules.specs.Rules.{at_guard, at_no_tokens, at_piece};
@@ -9,10 +10,10 @@ ghost use Rattle.cap_prog.specs.declared.assertion.Asked.TheVariants as asked_as
 ghost use Rattle.cap_rules_steps.specs.Goals.{goals_view};
 ghost use Rattle.cap_rules_steps.specs.Walks.{Makes, Claims, giving, seen};
 ghost use Rattle.cap_take_items.specs.Views.{remaining_view};
-ghost use Rattle.cap_take_guards.specs.Views.{cut_view, piece_lent, term_lent};
+ghost use Rattle.cap_take_guards.specs.Views.{cut_view, left_view, piece_lent, term_lent};
 ghost use Rattle.cap_take_guards.specs.Cuts.{is_of_part, with_left as left_there};
 
-use crate::cuts::Cut;
+use crate::cuts::{Cut, Left};
 use crate::forms::cut_form;
 use cap_goal::{Env, Goal, State};
 use cap_gsolve::{Form, Piece};
@@ -73,21 +74,44 @@ fn with_form(alloc: Global, piece: &Piece, form: Form) -> Result<Piece, AllocErr
     })
 }
 
+// Two forms stay of the piece of a number.
+fn put_both(
+    alloc: Global,
+    state: &mut State,
+    number: u32,
+    piece: &Piece,
+    front: Form,
+    behind: Form,
+) -> Result<(), AllocError>
+    requires there { number < length state.old.guards }
+    requires room { length state.old.guards < longest_list }
+    ensures { IfOk result (λ _. state.new
+        ≡ left_there state.old number piece.now (front ∷ (behind ∷ []))) }
+{
+    let first = with_form(alloc, piece, front)?;
+    let second = with_form(alloc, piece, behind)?;
+    state.put_guards(number, first)?;
+    let next = number + 1;
+    state.insert_guards(next, second)
+}
+
 // This stays of the piece of a number.
 fn with_left(
     alloc: Global,
     state: &mut State,
     number: u32,
     piece: &Piece,
-    left: Option<Form>,
+    left: Left,
 ) -> Result<(), AllocError>
-    requires { number < length state.old.guards }
+    requires there { number < length state.old.guards }
+    requires room { length (left_view left) ≤ 1 ⊎ length state.old.guards < longest_list }
     ensures { IfOk result (λ _. state.new
-        ≡ left_there state.old number piece.now (option_to_list left)) }
+        ≡ left_there state.old number piece.now (left_view left)) }
 {
     match left {
-        None => state.cut_guards(number),
-        Some(form) => state.put_guards(number, with_form(alloc, piece, form)?),
+        Left::Nothing => state.cut_guards(number),
+        Left::One(form) => state.put_guards(number, with_form(alloc, piece, form)?),
+        Left::Both(front, behind) => put_both(alloc, state, number, piece, front, behind),
     }
 }
 
@@ -99,7 +123,8 @@ fn state_after(
     piece: &Piece,
     cut: Cut,
 ) -> Result<State, AllocError>
-    requires { number < length cut.state.guards }
+    requires there { number < length cut.state.guards }
+    requires room { length (left_view cut.left) ≤ 1 ⊎ length cut.state.guards < longest_list }
     ensures { IfOk result (λ s. s ≡ after_cut env number piece.now (cut_view cut)) }
 {
     let mut next = cut.state;
@@ -213,6 +238,12 @@ pub fn guard<'t, 'a>(
             alloc, ledger, state, number, way, region, kind, atom, asked, rest,
         ),
         Asked::Src(_) => piece(
+            alloc, ledger, state, number, way, region, kind, atom, asked, rest,
+        ),
+        Asked::At(_) => piece(
+            alloc, ledger, state, number, way, region, kind, atom, asked, rest,
+        ),
+        Asked::From(_) => piece(
             alloc, ledger, state, number, way, region, kind, atom, asked, rest,
         ),
     }

@@ -8,6 +8,7 @@ mod forms;
 mod fulls;
 mod guards;
 mod sides;
+mod spans;
 mod sums;
 
 pub use converting::convert;

@@ -39,7 +39,7 @@ fn atom_behind(algebra: &Algebra, first: u32) -> Result<u32, AllocError>
     ensures { IfOk result (λ next. next ≡ first + atoms (algebra_view algebra.now)) }
 {
     match algebra {
-        Algebra::Unique | Algebra::Divisible | Algebra::Counting => {
+        Algebra::Unique | Algebra::Divisible | Algebra::Counting | Algebra::Indexed => {
             first.checked_add(1).ok_or(AllocError)
         }
         Algebra::Pair(a, b) | Algebra::Either(a, b) => atom_behind(b, atom_behind(a, first)?),
@@ -79,7 +79,9 @@ fn walk<'p>(algebra: &'p Algebra, atom: u32, number: u32) -> Result<Walked<'p>, 
     ensures { IfOk result (IsWalked (algebra_view algebra.now) atom number) }
 {
     match algebra {
-        Algebra::Unique | Algebra::Divisible | Algebra::Counting => past_atom(atom, number),
+        Algebra::Unique | Algebra::Divisible | Algebra::Counting | Algebra::Indexed => {
+            past_atom(atom, number)
+        }
         Algebra::Pair(a, b) => match walk(a, atom, number)? {
             Walked::Found(sides) => Ok(Walked::Found(sides)),
             Walked::Past(rest, next) => walk(b, next, rest),

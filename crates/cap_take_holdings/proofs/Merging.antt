@@ -16,7 +16,7 @@ use Rattle.cap_rules_steps.proofs.Walking.{Goes, then_made, unmade, then_narrow,
 use Rattle.cap_rules_steps.specs.Errors.{rule_error}
 use Rattle.cap_lin.specs.declared.error.LinError.{LinError}
 use Rattle.std.proofs.lemmas.List.{append-nil, get_or-set_same}
-use Rattle.cap_gsolve.specs.Pieces.{same_part}
+use Rattle.cap_gsolve.specs.Pieces.{joins}
 use Rattle.cap_gsolve.specs.Merge.{merged_at, form_at, combined}
 use Rattle.cap_take_holdings.specs.Holdings.{with_merged}
 use Rattle.cap_take_holdings.proofs.Places.{place-below}
@@ -78,7 +78,7 @@ pub merged-there : (s t : PlainState) (q m : Piece) (ms : List Piece) (i : ℕ) 
 merged-there s t q m ms i e h k w =
     let new : Piece = record q { form = combined (form_at s.guards q i) q.form } in
     let all : ms ≡ slice_set s.guards i new = h ∙ ap (merged_at s.guards q) e in
-    let below : i < length s.guards = place-below (λ x. same_part x q) s.guards i e in
+    let below : i < length s.guards = place-below (λ x. joins x q) s.guards i e in
     let is : m ≡ new = k ∙ (ap (λ xs. get_or xs i m) all ∙ get_or-set_same s.guards i new m below) in
     let made : Makes (Ok t) (guards_with s.guards q (Some i) >>= λ guards. unit (record s { guards = guards })) = done_as t (record s { guards = slice_set s.guards i new }) (w ∙ ap (λ x. record s { guards = slice_set s.guards i x }) is) in
     subst (λ o. Makes (Ok t) (guards_with s.guards q o >>= λ guards. unit (record s { guards = guards }))) (sym e) made

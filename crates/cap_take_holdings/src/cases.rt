@@ -36,6 +36,8 @@ fn is_asked(name: u64, asked: &Asked) -> bool
         Asked::Share(slot) => is_slot(name, slot),
         Asked::Src(slot) => is_slot(name, slot),
         Asked::Tok(slot) => is_slot(name, slot),
+        Asked::At(slot) => is_slot(name, slot),
+        Asked::From(slot) => is_slot(name, slot),
     }
 }
 

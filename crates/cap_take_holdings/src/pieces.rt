@@ -12,11 +12,14 @@ use cap_prog::Program;
 use cap_rules_steps::{RuleError, region_at, with_rows};
 use std::alloc::{AllocError, Global};
 
-// The place of the piece of a part.
+// The place of the piece with which this one becomes one.
 fn place_of(pieces: &[Piece], piece: &Piece) -> Option<usize>
     ensures { result ≡ place pieces.now piece.now }
 {
-    pieces.iter().position(|there| there.is_part_of(piece))
+    let joined = piece.form.is_joined();
+    pieces
+        .iter()
+        .position(|there| there.is_part_of(piece) && joined)
 }
 
 // Replaces the piece of a place. A place past 32 bits counts as want of memory.

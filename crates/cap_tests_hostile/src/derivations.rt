@@ -260,7 +260,12 @@ const BAD_NODES: &[BadNode] = &[
     ("an argument too few", r#"["assert"]"#),
     ("two arguments too few", r#"["act",0]"#),
     ("arguments in another order", r#"["enter",[],0]"#),
-    ("a list too many", r#"["shift",[],[]]"#),
+    ("a list too many", r#"["keep",[],[]]"#),
+    ("an empty list of pieces", r#"["shift",[],[]]"#),
+    ("a list behind pieces", r#"["shift",[],[0],[]]"#),
+    ("pieces without certificates", r#"["shift",[0]]"#),
+    ("a number for pieces", r#"["shift",[],0]"#),
+    ("a piece past 32 bits", r#"["shift",[],[4294967296]]"#),
     // Numbers.
     ("a fraction, where none is asked", r#"["set",0.5]"#),
     ("a fraction", r#"["create",0.5]"#),

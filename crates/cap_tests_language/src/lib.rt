@@ -1,6 +1,9 @@
-//! Tests of tokens, their classes, printed trees, programs and made texts. It has no other code.
+//! Tests of tokens, their classes, what texts are read as, printed trees, programs and made texts.
+//! It has no other code.
 #![tactic(auto)]
 
+#[cfg(test)]
+mod parse;
 #[cfg(test)]
 mod parse_laws;
 #[cfg(test)]

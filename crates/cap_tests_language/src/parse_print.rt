@@ -60,7 +60,10 @@ fn function(
     };
     let mut declarations = Vec::new(alloc);
     declarations.push(Declaration::Function(function))?;
-    Ok(Tree { declarations })
+    Ok(Tree {
+        header: None,
+        declarations,
+    })
 }
 
 #[test]
@@ -107,6 +110,7 @@ fn ends_no_line_in_parentheses(rt: HostRuntime) -> Result<(), Fail> {
 fn prints_nothing_for_no_declarations(rt: HostRuntime) -> Result<(), Fail> {
     let alloc = rt.alloc();
     let tree = Tree {
+        header: None,
         declarations: Vec::new(alloc),
     };
     let text = print(alloc, &tree)?;

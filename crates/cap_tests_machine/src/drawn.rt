@@ -55,6 +55,22 @@ fn allocates_behind_all_cells(rt: HostRuntime) -> Result<(), Fail> {
     Ok(())
 }
 
+// An address that is disposed of is drawn again, where no greater one is there.
+#[test]
+fn allocates_where_a_cell_was(rt: HostRuntime) -> Result<(), Fail> {
+    let text = drawn(
+        rt.alloc(),
+        "caper 2; function main() { x := alloc(2); dispose(x + 1); y := alloc(1); assert y = x; }",
+        0,
+        1,
+    )?;
+    assert_eq!(rt;
+        text.as_slice(),
+        b"start\nstep 0 1\nstep 0\nstep 0 2\nstep 0\nend\n".as_slice()
+    );
+    Ok(())
+}
+
 #[test]
 fn chooses_threads_by_words(rt: HostRuntime) -> Result<(), Fail> {
     let alloc = rt.alloc();

@@ -1,6 +1,6 @@
 //! Steps of the machine.
 
-use crate::programs::allocating;
+use crate::programs::{allocating, without_parameters};
 use cap_machine::{Entry, Event, Machine, StepError};
 use cap_syntax::Place;
 use std::test::Fail;
@@ -44,5 +44,31 @@ fn allocates_where_nothing_is(rt: HostRuntime) -> Result<(), Fail> {
     };
     assert_eq!(rt; machine.step(alloc, &program, &end), Ok(Event::End(0)));
     assert!(rt; machine.ahead(&program, 0).is_none());
+    Ok(())
+}
+
+// A cell that gets a sum, and is read once it is gone.
+const DISPOSED: &str =
+    "caper 2; function main() { x := alloc(1); v := FAA(x, 3); dispose(x); v := [x]; }";
+
+#[test]
+fn adds_to_a_cell_and_disposes_of_it(rt: HostRuntime) -> Result<(), Fail> {
+    let alloc = rt.alloc();
+    let program = without_parameters(alloc, DISPOSED)?;
+    let mut machine = Machine::start(alloc, &program, &[], &[(3, 8)])?;
+    let placed = Entry {
+        thread: 0,
+        base: Some(5),
+    };
+    assert_eq!(rt; machine.step(alloc, &program, &placed), Ok(Event::Alloc(5)));
+    let next = Entry {
+        thread: 0,
+        base: None,
+    };
+    assert_eq!(rt; machine.step(alloc, &program, &next), Ok(Event::Faa(5, 0)));
+    assert_eq!(rt; machine.top_address(), Some(5));
+    assert_eq!(rt; machine.step(alloc, &program, &next), Ok(Event::Dispose(5)));
+    assert_eq!(rt; machine.top_address(), Some(3));
+    assert_eq!(rt; machine.step(alloc, &program, &next), Ok(Event::Bad(5)));
     Ok(())
 }

@@ -1,9 +1,10 @@
 //! Elements of guard algebras.
 
 use cap_galg::{
-    Algebra, Amount, Atom, Counting, Divisible, Either, Elem, Fraction, Guard, GuardError, Pair,
-    Unique,
+    Algebra, Amount, Atom, Counting, Divisible, Either, Elem, Fraction, Guard, GuardError, Indexed,
+    Pair, Unique,
 };
+use cap_galg_indices::Indices;
 use std::alloc::{AllocError, Global};
 use std::process::Abort;
 use std::test::Fail;
@@ -173,6 +174,41 @@ fn two_of_three_tokens_leave_one_out(rt: HostRuntime) -> Result<(), Fail> {
     Ok(())
 }
 
+// Tickets, of which no two threads hold one.
+#[test]
+fn indices_compose_where_they_differ(rt: HostRuntime) -> Result<(), Fail> {
+    let given: [(&[Part], &str); 6] = [
+        (&[(0, Amount::At(0)), (0, Amount::From(1))], "full"),
+        (&[(0, Amount::At(2)), (0, Amount::From(1))], "nothing"),
+        (&[(0, Amount::At(0)), (0, Amount::From(2))], "part"),
+        (&[(0, Amount::At(2)), (0, Amount::At(2))], "nothing"),
+        (
+            &[(0, Amount::From(2)), (0, Amount::At(1)), (0, Amount::At(0))],
+            "full",
+        ),
+        (
+            &[(0, Amount::At(u64::MAX)), (0, Amount::From(u64::MAX))],
+            "nothing",
+        ),
+    ];
+    words(&rt, rt.alloc(), &Algebra::Indexed, &given)
+}
+
+#[test]
+fn all_indices_are_the_full_element(rt: HostRuntime) -> Result<(), Fail> {
+    let given: [(&[Part], (bool, bool)); 2] = [
+        (&[(0, Amount::At(0)), (0, Amount::From(1))], (true, true)),
+        (&[(0, Amount::From(1))], (false, true)),
+    ];
+    for (parts, want) in given {
+        assert!(rt;
+            are_all(rt.alloc(), &Algebra::Indexed, parts)? == want,
+            "{parts:?}"
+        );
+    }
+    Ok(())
+}
+
 #[test]
 fn a_sum_past_64_bits_is_wide(rt: HostRuntime) -> Result<(), Fail> {
     let alloc = rt.alloc();
@@ -300,6 +336,21 @@ fn a_divisible_part_keeps_its_fraction(rt: HostRuntime) -> Result<(), Fail> {
 }
 
 #[test]
+fn an_indexed_part_keeps_its_indices(rt: HostRuntime) -> Result<(), Fail> {
+    let alloc = rt.alloc();
+    let first = Indexed::new(Indices::at(alloc, 0)?);
+    let rest = Indexed::new(Indices::from(alloc, 1)?);
+    let all = first.compose(alloc, &rest)?.ok_or("disjoint")?;
+    assert!(rt; all.is_full() && !first.is_full() && !rest.is_unit());
+    assert!(rt; first.le(&all) && !all.le(&first));
+    assert!(rt; all.indices().has(7) && !first.indices().has(7));
+    assert!(rt; rest.compose(alloc, &all)?.is_none());
+    let again = rest.copy(alloc)?;
+    assert!(rt; again.le(&rest) && rest.le(&again));
+    Ok(())
+}
+
+#[test]
 fn finds_the_kinds_of_atoms(rt: HostRuntime) -> Result<(), Fail> {
     let alloc = rt.alloc();
     let sum = either(alloc, Algebra::Divisible, Algebra::Counting)?;
@@ -309,6 +360,7 @@ fn finds_the_kinds_of_atoms(rt: HostRuntime) -> Result<(), Fail> {
     assert_eq!(rt; algebra.atom(2), Some(Atom::Counting));
     assert_eq!(rt; algebra.atom(3), None);
     assert!(rt; Amount::Tok(7).fits(Atom::Counting));
+    assert!(rt; Amount::At(7).fits(Atom::Indexed) && !Amount::From(7).fits(Atom::Counting));
     assert!(rt; !share(2, 4).fits(Atom::Divisible));
     assert!(rt; !algebra.accepts(1, share(3, 2)));
     assert!(rt; algebra.are_apart(1, 2) && algebra.are_apart(2, 1));

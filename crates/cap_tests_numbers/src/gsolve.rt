@@ -7,16 +7,18 @@ use cap_lin::{LinError, Row, Term};
 use std::alloc::{AllocError, Global};
 use std::test::Fail;
 
-// The form of a piece, without its amount.
+// The form of a piece, without its amount. A span has so many indices from there on, or all.
 #[derive(Clone, Copy, Debug)]
 enum Shape {
     One,
     Share,
     Src,
     Tok,
+    Span(i128),
+    Onwards,
 }
 
-// An atom, a shape, and the constant and the parts of the amount.
+// An atom, a shape, and the constant and the parts of the amount, or of the start.
 type Part = (u32, Shape, i128, &'static [(u32, i128)]);
 
 const ONE: Part = (0, Shape::One, 0, &[]);
@@ -43,6 +45,26 @@ const OTHER_TOKENS: Part = (0, Shape::Tok, 0, &[(1, 1)]);
 
 const ONE_TOKEN: Part = (0, Shape::Tok, 1, &[]);
 
+const INDEX: Part = (0, Shape::Span(1), 0, &[(0, 1)]);
+
+const OTHER_INDEX: Part = (0, Shape::Span(1), 0, &[(1, 1)]);
+
+const TWO_INDICES: Part = (0, Shape::Span(2), 0, &[(1, 1)]);
+
+const ONWARDS: Part = (0, Shape::Onwards, 0, &[(0, 1)]);
+
+const OTHER_ONWARDS: Part = (0, Shape::Onwards, 0, &[(1, 1)]);
+
+const RIGHT_INDEX: Part = (1, Shape::Span(1), 0, &[(0, 1)]);
+
+const NO_INDEX: Part = (1, Shape::Span(0), 0, &[(0, 1)]);
+
+// The span of so many indices.
+fn span(alloc: Global, start: Term, count: i128) -> Result<Form, LinError> {
+    let end = start.add(alloc, &Term::constant(alloc, count))?;
+    Ok(Form::Span(start, Some(end)))
+}
+
 fn form(alloc: Global, part: Part) -> Result<Form, LinError> {
     let amount = sum(alloc, part.2, part.3)?;
     Ok(match part.1 {
@@ -50,6 +72,8 @@ fn form(alloc: Global, part: Part) -> Result<Form, LinError> {
         Shape::Share => Form::Share(amount),
         Shape::Src => Form::Src(amount),
         Shape::Tok => Form::Tok(amount),
+        Shape::Span(count) => span(alloc, amount, count)?,
+        Shape::Onwards => Form::Span(amount, None),
     })
 }
 
@@ -86,12 +110,24 @@ fn put_amount(
     put_term(alloc, text, amount)
 }
 
+// The end of a span, if it has one.
+fn put_end(alloc: Global, text: &mut String, end: &Option<Term>) -> Result<(), AllocError> {
+    match end {
+        None => Ok(()),
+        Some(end) => put_amount(alloc, text, " below ", end),
+    }
+}
+
 fn put_form(alloc: Global, text: &mut String, form: &Form) -> Result<(), AllocError> {
     match form {
         Form::One => text.push_str("one"),
         Form::Share(amount) => put_amount(alloc, text, "share ", amount),
         Form::Src(out) => put_amount(alloc, text, "source ", out),
         Form::Tok(count) => put_amount(alloc, text, "tokens ", count),
+        Form::Span(start, end) => {
+            put_amount(alloc, text, "from ", start)?;
+            put_end(alloc, text, end)
+        }
     }
 }
 
@@ -159,6 +195,73 @@ fn tokens_that_come_back_were_out(rt: HostRuntime) -> Result<(), Fail> {
     Ok(())
 }
 
+// Two spans without an end never compose, two of one index differ, and an index is below the start
+// of one without an end.
+#[test]
+fn spans_stay_apart(rt: HostRuntime) -> Result<(), Fail> {
+    let given: [(&[Part], Part, &str); 7] = [
+        (&[], ONWARDS, "v9@0.0 from v0; -1*v0 <= 0"),
+        (
+            &[],
+            INDEX,
+            "v9@0.0 from v0 below v0 + 1; -1*v0 <= 0, -1 <= 0",
+        ),
+        (
+            &[OTHER_INDEX],
+            INDEX,
+            "v9@0.0 from v1 below v1 + 1; v9@0.0 from v0 below v0 + 1; \
+-1*v0 <= 0, -1 <= 0, -1*v0 + v1 != 0",
+        ),
+        (
+            &[OTHER_ONWARDS],
+            INDEX,
+            "v9@0.0 from v1; v9@0.0 from v0 below v0 + 1; \
+-1*v0 <= 0, -1 <= 0, v0 + -1*v1 + 1 <= 0",
+        ),
+        (
+            &[OTHER_INDEX],
+            ONWARDS,
+            "v9@0.0 from v1 below v1 + 1; v9@0.0 from v0; -1*v0 <= 0, -1*v0 + v1 + 1 <= 0",
+        ),
+        (
+            &[OTHER_ONWARDS],
+            ONWARDS,
+            "v9@0.0 from v1; v9@0.0 from v0; -1*v0 <= 0, -1 = 0",
+        ),
+        (
+            &[TWO_INDICES],
+            INDEX,
+            "v9@0.0 from v1 below v1 + 2; v9@0.0 from v0 below v0 + 1; -1*v0 <= 0, -1 <= 0",
+        ),
+    ];
+    for (there, new, want) in given {
+        let found = merged(rt.alloc(), &Algebra::Indexed, there, new)?;
+        assert_eq!(rt; found.as_str(), want);
+    }
+    Ok(())
+}
+
+// One index is surely some part of the other side, and a span that ends where it starts is none.
+#[test]
+fn nobody_holds_an_index_of_the_other_side(rt: HostRuntime) -> Result<(), Fail> {
+    let sides = two(rt.alloc(), Algebra::Unique, Algebra::Indexed)?;
+    let given = [
+        (
+            RIGHT_INDEX,
+            "v9@0.0 one; v9@0.1 from v0 below v0 + 1; -1*v0 <= 0, -1 <= 0, -1 = 0",
+        ),
+        (
+            NO_INDEX,
+            "v9@0.0 one; v9@0.1 from v0 below v0; -1*v0 <= 0, 0 <= 0",
+        ),
+    ];
+    for (new, want) in given {
+        let found = merged(rt.alloc(), &sides, &[ONE], new)?;
+        assert_eq!(rt; found.as_str(), want);
+    }
+    Ok(())
+}
+
 // The row -1 = 0 is false.
 #[test]
 fn nobody_holds_a_guard_twice(rt: HostRuntime) -> Result<(), Fail> {
@@ -197,6 +300,13 @@ fn all_of_a_sum_is_all_of_its_left_side(rt: HostRuntime) -> Result<(), Fail> {
     let sides = two(rt.alloc(), Algebra::Divisible, Algebra::Unique)?;
     let found = full(rt.alloc(), &sides)?;
     assert_eq!(rt; found.as_str(), "v9@0.0 share 1; ");
+    Ok(())
+}
+
+#[test]
+fn all_indices_are_those_from_0_on(rt: HostRuntime) -> Result<(), Fail> {
+    let found = full(rt.alloc(), &Algebra::Indexed)?;
+    assert_eq!(rt; found.as_str(), "v9@0.0 from 0; ");
     Ok(())
 }
 
@@ -266,6 +376,22 @@ fn wanted_tokens_and_sources_agree_with_those_there(rt: HostRuntime) -> Result<(
     ];
     for (there, part, want) in given {
         let found = wanted(rt.alloc(), &Algebra::Counting, &[there], &[part])?;
+        assert_eq!(rt; found.as_str(), want);
+    }
+    Ok(())
+}
+
+#[test]
+fn a_wanted_index_is_none_of_those_there(rt: HostRuntime) -> Result<(), Fail> {
+    let given: [(Part, Part, &str); 5] = [
+        (OTHER_INDEX, INDEX, "-1*v0 <= 0, v0 + -1*v1 != 0"),
+        (OTHER_ONWARDS, INDEX, "-1*v0 <= 0, v0 + -1*v1 + 1 <= 0"),
+        (TWO_INDICES, INDEX, "-1*v0 <= 0"),
+        (OTHER_INDEX, ONWARDS, "-1*v0 <= 0"),
+        (OTHER_ONWARDS, ONWARDS, "never"),
+    ];
+    for (there, part, want) in given {
+        let found = wanted(rt.alloc(), &Algebra::Indexed, &[there], &[part])?;
         assert_eq!(rt; found.as_str(), want);
     }
     Ok(())

@@ -53,6 +53,8 @@ fn good_lines(rt: HostRuntime) -> Result<(), Fail> {
         b"[\"absurd\",[\"leaf\",[[1,\"-170141183460469231731687303715884105728\"]]]]".as_slice(),
         b"[\"absurd\",[\"leaf\",[[0,\"1\"],[1,\"-1\"]]]]".as_slice(),
         b"[\"settle\",[3,3,1],[]]".as_slice(),
+        b"[\"shift\",[]]".as_slice(),
+        b"[\"shift\",[[\"leaf\",[]]],[4294967295,0,0]]".as_slice(),
         b"[\"act\",0,[[\"split\",1,[],[]]],[0,[\"leaf\",[]]]]".as_slice(),
     ] {
         assert_eq!(rt; of_line(alloc, line)?, Ok(1));
@@ -82,6 +84,11 @@ fn bad_lines(rt: HostRuntime) -> Result<(), Fail> {
         b"[\"absurd\",[\"leaf\",[[0,1]]]]".as_slice(),
         b"[\"absurd\",[\"leaf\",[[0,\"170141183460469231731687303715884105728\"]]]]".as_slice(),
         b"[\"act\",0,[],[1]]".as_slice(),
+        b"[\"shift\"]".as_slice(),
+        b"[\"shift\",[],[]]".as_slice(),
+        b"[\"shift\",[],0]".as_slice(),
+        b"[\"shift\",[],[0],[]]".as_slice(),
+        b"[\"keep\",[],[0]]".as_slice(),
         b"[\"act\",0,[],[null]]".as_slice(),
         b"{\"set\":1,\"set\":1}".as_slice(),
         b"[\"\xff\"]".as_slice(),
@@ -110,6 +117,7 @@ fn all_choices_are_read(rt: HostRuntime) -> Result<(), Fail> {
 [\"act\",7,[],[0,[\"leaf\",[[4,\"5\"]]]]]
 [\"pick\",1,2,3]
 [\"shift\",[]]
+[\"shift\",[[\"leaf\",[]]],[2,0]]
 [\"settle\",[1,2],[[\"leaf\",[]]]]
 [\"keep\",[]]
 [\"give\"]
@@ -121,9 +129,9 @@ fn all_choices_are_read(rt: HostRuntime) -> Result<(), Fail> {
 [\"convert\",3,0,[]]
 [\"create\",5]
 [\"made\",[]]
-[\"end\",26]
+[\"end\",27]
 "
         .as_slice();
-    assert_eq!(rt; outcome(alloc, text), Ok(26));
+    assert_eq!(rt; outcome(alloc, text), Ok(27));
     Ok(())
 }

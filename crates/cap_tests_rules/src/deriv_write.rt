@@ -6,6 +6,10 @@ use cap_goal::{Bundle, Choice, Node};
 use std::alloc::{AllocError, Global};
 use std::test::Fail;
 
+fn pieces(alloc: Global) -> Result<Vec<u32>, AllocError> {
+    Vec::from_slice(alloc, &[4, 0])
+}
+
 // A node without subtrees.
 fn last(alloc: Global, choice: Choice) -> Node {
     Node {
@@ -33,6 +37,8 @@ fn bundle(alloc: Global) -> Result<Bundle, AllocError> {
     let mut children = Vec::new(alloc);
     children.push(last(alloc, Choice::Absurd(cert(alloc)?)))?;
     children.push(last(alloc, Choice::Act(7, Vec::new(alloc), marks(alloc)?)))?;
+    children.push(last(alloc, Choice::Shift(Vec::new(alloc), Vec::new(alloc))))?;
+    children.push(last(alloc, Choice::Shift(Vec::new(alloc), pieces(alloc)?)))?;
     let mut trees = Vec::new(alloc);
     trees.push(Some(Node {
         choice: Choice::If,
@@ -54,8 +60,10 @@ fn lines_of_three_roots(rt: HostRuntime) -> Result<(), Fail> {
 [\"if\"]
 [\"absurd\",[\"split\",1,[[2,\"-3\"]],[[5,\"-170141183460469231731687303715884105728\"]]]]
 [\"act\",7,[],[0,[\"leaf\",[]]]]
+[\"shift\",[]]
+[\"shift\",[],[4,0]]
 [\"pick\",0,4294967295,1]
-[\"end\",4]
+[\"end\",6]
 "
         )
     );

@@ -16,6 +16,8 @@ mod goal_roots;
 #[cfg(test)]
 mod goals;
 #[cfg(test)]
+mod indices;
+#[cfg(test)]
 mod items;
 #[cfg(test)]
 mod kernel_check;

@@ -122,6 +122,17 @@ fn facts(alloc: Global, text: &mut String, word: &str, all: &[Fact]) -> Result<(
     Ok(())
 }
 
+// The end of a span, if it has one.
+fn below(alloc: Global, text: &mut String, end: &Option<Term>) -> Result<(), AllocError> {
+    match end {
+        None => Ok(()),
+        Some(end) => {
+            text.push_str(" below ")?;
+            term(alloc, text, end)
+        }
+    }
+}
+
 fn form(alloc: Global, text: &mut String, form: &Form) -> Result<(), AllocError> {
     match form {
         Form::One => text.push_str(" one"),
@@ -136,6 +147,11 @@ fn form(alloc: Global, text: &mut String, form: &Form) -> Result<(), AllocError>
         Form::Tok(count) => {
             text.push_str(" tok ")?;
             term(alloc, text, count)
+        }
+        Form::Span(start, end) => {
+            text.push_str(" from ")?;
+            term(alloc, text, start)?;
+            below(alloc, text, end)
         }
     }
 }

@@ -10,3 +10,5 @@ mod closure_decide;
 mod offer;
 #[cfg(test)]
 mod search;
+#[cfg(test)]
+mod shifting;

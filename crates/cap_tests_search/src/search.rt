@@ -105,7 +105,7 @@ fn is_closing(tree: &Option<Node>) -> bool {
         Some(node) => {
             matches!(&node.choice, Choice::Pick(0, 0, 0))
                 && node.children.len() == 1
-                && matches!(&node.children[0].choice, Choice::Shift(_))
+                && matches!(&node.children[0].choice, Choice::Shift(_, _))
         }
         None => false,
     }

@@ -233,7 +233,7 @@ fn says(
 }
 
 // Verifies a text.
-fn verifies(
+pub(crate) fn verifies(
     rt: &impl Abort,
     alloc: Global,
     text: &str,
@@ -244,7 +244,7 @@ fn verifies(
 }
 
 // Replays a text along a schedule.
-fn replays(
+pub(crate) fn replays(
     rt: &impl Abort,
     alloc: Global,
     text: &str,
@@ -261,6 +261,7 @@ fn names_that_are_refused(rt: HostRuntime) -> Result<(), Fail> {
     for (text, written) in [
         ("", "refused 1:1: no main\n"),
         ("function Main() { }\n", "refused 1:1: no main\n"),
+        ("caper 2;\n", "refused 1:1: no main\n"),
         (
             "function main() { x := y; }\n",
             "refused 1:24: unknown name y\n",
@@ -340,7 +341,10 @@ fn least_places(rt: HostRuntime) -> Result<(), Fail> {
             "function main() { x := y; y := ; }\n",
             "refused 1:32: unexpected token\n",
         ),
-        ("caper 2;\n", "refused 1:1: unexpected token\n"),
+        (
+            "caper 3; function main() { x := y; }\n",
+            "refused 1:7: unexpected token\n",
+        ),
         // Names and sorts are found at their places, whatever the cause.
         (
             "function main() { x := 1p; y := z; }\n",

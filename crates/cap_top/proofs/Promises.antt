@@ -4,7 +4,7 @@ use Rattle.cap_io.specs.Files.{Files, content, SeenShelf}
 use Rattle.cap_io.specs.Outside.{SeenSink, longest, Rose, Gains}
 use Rattle.cap_parse_tree.specs.Tree.{ProgramTree}
 use Rattle.cap_parse_tree.specs.Canonical.{canonical_text}
-use Rattle.cap_parse_tree.specs.Texts.{Spells}
+use Rattle.cap_parse_laws.specs.Texts.{Spells}
 use Rattle.cap_top_reading.specs.Refused.{SpellNone, IsRefused, IsTextOf}
 use Rattle.cap_top_reading.specs.declared.refusal.Refusal.{Refusal}
 use Rattle.cap_top_commands.specs.declared.status.Status.{Status}

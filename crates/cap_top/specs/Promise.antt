@@ -6,7 +6,7 @@ use Rattle.cap_io.specs.Files.{Files, content, SeenShelf, HasGiven}
 use Rattle.cap_io.specs.Outside.{SeenSink, longest, Rose, Gains}
 use Rattle.cap_prog.specs.Program.{PlainProgram}
 use Rattle.cap_parse_tree.specs.Tree.{ProgramTree}
-use Rattle.cap_parse_tree.specs.Texts.{Spells}
+use Rattle.cap_parse_laws.specs.Texts.{Spells}
 use Rattle.cap_parse_tree.specs.Canonical.{canonical_text}
 use Rattle.cap_top_reading.specs.Refused.{IsTextOf}
 use Rattle.cap_top_commands.specs.declared.status.Status.{Status}

@@ -7,7 +7,7 @@ use Rattle.cap_gen.specs.Trial.{trial_text}
 use Rattle.cap_goal_spec.specs.Roots.{units}
 use Rattle.cap_parse_tree.specs.Tree.{ProgramTree}
 use Rattle.cap_parse_tree.specs.Canonical.{canonical_text}
-use Rattle.cap_parse_tree.specs.Texts.{Spells}
+use Rattle.cap_parse_laws.specs.Texts.{Spells}
 use Rattle.cap_machine.specs.declared.event.Entry.{Entry}
 use Rattle.cap_machine.specs.Machine.{start}
 use Rattle.cap_replay.specs.declared.playing.End.{End}

@@ -1,7 +1,7 @@
 -- Texts of safe programs.
 use Rattle.std.specs.Prelude.{ℕ, List}
 use Rattle.cap_parse_tree.specs.Tree.{ProgramTree}
-use Rattle.cap_parse_tree.specs.Texts.{Spells}
+use Rattle.cap_parse_laws.specs.Texts.{Spells}
 use Rattle.cap_prog.specs.Program.{PlainProgram}
 use Rattle.cap_resolve_spec.specs.Stands.{Stands}
 use Rattle.cap_machine_accounts.specs.Safety.{Safe}

@@ -1,7 +1,7 @@
 -- Texts of programs that have no start, and what is said of them.
 use Rattle.std.specs.Prelude.{◌≡◌, ℕ, ℤ, true, List, ◌++◌}
 use Rattle.cap_parse_tree.specs.Tree.{ProgramTree}
-use Rattle.cap_parse_tree.specs.Texts.{Spells}
+use Rattle.cap_parse_laws.specs.Texts.{Spells}
 use Rattle.cap_prog.specs.Program.{PlainFunction, PlainProgram}
 use Rattle.cap_resolve_spec.specs.Stands.{Stands}
 use Rattle.cap_machine.specs.Machine.{Heap}

@@ -1,5 +1,5 @@
 -- Bytes are the text of a tree and of a program, or refused.
-use Rattle.std.proofs.Common.{◌≡◌, ◌⊎◌, inl, inr, ℕ, ◌<◌, ◌≤◌, List, [], ◌∷◌, ◌++◌, length, Option, Some, None, refl, ap, subst}
+use Rattle.std.proofs.Common.{◌≡◌, ◌⊎◌, inl, inr, ℕ, ◌<◌, ◌≤◌, List, [], ◌∷◌, ◌++◌, length, Option, Some, None, refl, ap}
 use Rattle.std.proofs.lemmas.Bool.{cases_lt}
 use Rattle.cap_syntax.specs.declared.place.Place.{Place}
 use Rattle.cap_syntax.specs.declared.token.Token.{Token}
@@ -11,7 +11,8 @@ use Rattle.cap_syntax.specs.Refusal.{max_text, IsFirstCause}
 use Rattle.cap_parse_tree.specs.Tree.{ProgramTree}
 use Rattle.cap_parse_tree.specs.Spelling.{spelling}
 use Rattle.cap_parse_tree.specs.Nesting.{Nests}
-use Rattle.cap_parse_tree.specs.Texts.{Spells, IsUnexpectedAt, IsTooDeepAt}
+use Rattle.cap_parse_laws.specs.Versions.{worded}
+use Rattle.cap_parse_laws.specs.Texts.{Spells, IsUnexpectedAt, IsTooDeepAt}
 use Rattle.cap_parse.specs.Parsing.{first_place}
 use Rattle.cap_resolve_spec.specs.Finding as plain
 use Rattle.cap_resolve_spec.specs.Program.{program_of}
@@ -37,7 +38,7 @@ TextsAreReadOrRefused = (bytes : List ℕ) → length bytes ≤ max_text → Hav
 
 abbrev SpellOrGoWrong : List Token → Type 0
 SpellOrGoWrong ts =
-    ((t : ProgramTree) × (ts ≡ spelling t) × Nests t)
+    ((t : ProgramTree) × (worded ts ≡ spelling t) × Nests t)
     ⊎ (((rest : List Token) × IsUnexpectedAt ts rest) ⊎ ((rest : List Token) × IsTooDeepAt ts rest))
 
 abbrev pub TokensSpellOrGoWrong : Type 0
@@ -52,7 +53,7 @@ no-tokens bytes token.OutOfMemory c = absurd c.cause.breaks
 tokens-spell : (bytes : List ℕ) (ts : List Token) → length bytes ≤ max_text → AreTokensOf bytes (ts ++ end_of bytes ∷ [])
     → SpellOrGoWrong ts → SpellOneOrNone bytes
 tokens-spell bytes ts fits are (inl h) =
-    inl (h.0, record { fits = fits; tokens = subst (λ us. AreTokensOf bytes (us ++ end_of bytes ∷ [])) h.1 are; nests = h.2 })
+    inl (h.0, record { fits = fits; tokens = ts; are = are; seen_as = h.1; nests = h.2 })
 tokens-spell bytes ts fits are (inr (inl h)) = inr (
   Unexpected (first_place h.0 (place_of bytes [])),
   record { fits = fits; tokens = ts; are = are; rest = h.0; wrong = h.1; at = refl },

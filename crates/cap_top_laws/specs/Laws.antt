@@ -3,7 +3,7 @@ use Rattle.std.specs.Prelude.{◌≡◌, ◌⊎◌, ℕ, ◌<◌, ◌^◌, true,
 use Rattle.std.specs.List.{AllByRecursion}
 use Rattle.cap_prog.specs.Program.{PlainProgram}
 use Rattle.cap_parse_tree.specs.Tree.{ProgramTree}
-use Rattle.cap_parse_tree.specs.Texts.{Spells}
+use Rattle.cap_parse_laws.specs.Texts.{Spells}
 use Rattle.cap_lin.specs.declared.row.Row.{Row}
 use Rattle.cap_farkas.specs.declared.cert.Cert.{Cert}
 use Rattle.cap_fm_spec.specs.Solving.{RowsAscend}

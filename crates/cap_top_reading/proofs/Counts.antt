@@ -1,5 +1,5 @@
 -- A text has no more tokens than bytes.
-use Rattle.std.proofs.Common.{◌≡◌, ℕ, zero, suc, ◌+◌, ◌<◌, ◌≤◌, Bool, true, false, ◌==◌, if◌then◌else◌, List, [], ◌∷◌, ◌++◌, drop, length, refl, sym, ap, ◌∙◌, arith, length-drop}
+use Rattle.std.proofs.Common.{◌≡◌, ℕ, zero, suc, ◌<◌, ◌≤◌, Bool, true, false, ◌==◌, if◌then◌else◌, List, [], ◌∷◌, drop, length, refl, sym, ap, ◌∙◌, arith, length-drop}
 use Rattle.std.proofs.lemmas.List.{append_cancel_right}
 use Rattle.cap_syntax.specs.declared.token.Token.{Token}
 use Rattle.cap_syntax.specs.declared.token.TokenKind.{TokenKind}
@@ -9,7 +9,8 @@ use Rattle.cap_syntax.specs.Spelling.{IsLongest, spells, keywords, symbols}
 use Rattle.cap_prog.specs.WellFormed.{most_members}
 use Rattle.cap_parse_tree.specs.Tree.{ProgramTree}
 use Rattle.cap_parse_tree.specs.Spelling.{spelling}
-use Rattle.cap_parse_tree.specs.Texts.{Spells}
+use Rattle.cap_parse_laws.specs.Texts.{Spells}
+use Rattle.cap_top_reading.proofs.Viewing.{worded-length}
 
 gap_by : (b : ℕ) (bs : List ℕ) (x y : Bool) → length (past_comment bs) ≤ length bs
     → length (past_gap bs) ≤ length bs
@@ -66,6 +67,8 @@ tokens-le bytes from (t ∷ ts) rest r =
 pub spelled-le : (bytes : List ℕ) (t : ProgramTree) → Spells bytes t
     → length (spelling t) ≤ most_members
 spelled-le bytes t s =
-    let same : spelling t ≡ s.tokens.front =
-    append_cancel_right (spelling t) s.tokens.front (end_of bytes ∷ []) s.tokens.whole in
-    omega (arith, ap length same, tokens-le bytes bytes s.tokens.front [] s.tokens.read, s.fits)
+    let same : s.tokens ≡ s.are.front =
+    append_cancel_right s.tokens s.are.front (end_of bytes ∷ []) s.are.whole in
+    let as_many : length (spelling t) ≡ length s.are.front =
+    ap length (sym s.seen_as) ∙ worded-length s.tokens ∙ ap length same in
+    omega (arith, as_many, tokens-le bytes bytes s.are.front [] s.are.read, s.fits)

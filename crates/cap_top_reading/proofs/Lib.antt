@@ -1,3 +1,4 @@
+mod Viewing
 mod Counts
 mod Causes
 mod Trees

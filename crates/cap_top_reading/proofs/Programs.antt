@@ -1,12 +1,12 @@
 -- The program for which the tree of the bytes stands, and nothing else.
-use Rattle.std.proofs.Common.{◌≡◌, ℕ, List, Option, Some, None, Result, Ok, Err, refl, sym, ap, ◌∙◌, subst}
+use Rattle.std.proofs.Common.{◌≡◌, ℕ, List, Option, Some, None, Ok, Err, refl, sym, ap, ◌∙◌}
 use Rattle.cap_prog.specs.declared.program.Program.{Program}
 use Rattle.cap_prog.specs.Program.{PlainProgram}
 use Rattle.cap_prog.specs.Views.{program_view}
 use Rattle.cap_parse_tree.specs.Tree.{ProgramTree}
 use Rattle.cap_parse_tree.specs.declared.tree.Tree.{Tree}
-use Rattle.cap_parse_tree.specs.Texts.{Spells}
 use Rattle.cap_parse_tree.specs.Views.{tree_view}
+use Rattle.cap_parse_laws.specs.Texts.{Spells}
 use Rattle.cap_resolve_spec.specs.Program.{program_of}
 use Rattle.cap_resolve_spec.specs.Stands.{refusal, Stands}
 use Rattle.cap_resolve.specs.declared.error.ResolveError.{ResolveError}
@@ -14,7 +14,7 @@ use Rattle.cap_resolve.specs.declared.error.ResolveError.TheVariants as error
 use Rattle.cap_resolve.specs.Errors.{error_view, IsResolved}
 use Rattle.cap_top_reading.specs.declared.refusal.Refusal.{Refusal}
 use Rattle.cap_top_reading.specs.declared.refusal.Refusal.TheVariants.{BadByte, LongLiteral, TextTooLong, Unexpected, TooDeep, Unresolved, OutOfMemory}
-use Rattle.cap_top_reading.specs.Refused.{SpellNone, IsUnresolved, IsRefused, IsTextOf}
+use Rattle.cap_top_reading.specs.Refused.{SpellNone, IsRefused, IsTextOf}
 use Rattle.cap_top_reading.specs.Reading.{UnlessMemory, FindsTree, FindsProgram, resolve_refusal}
 use Rattle.cap_resolve_spec.specs.Finding as plain
 use Rattle.cap_resolve_terms.specs.declared.finding.Limit.{Limit}

@@ -9,10 +9,10 @@ use Rattle.cap_syntax.specs.Layout.{end_of, AreTokensOf}
 use Rattle.cap_syntax.specs.Place.{place_of}
 use Rattle.cap_syntax.specs.Refusal.{max_text}
 use Rattle.cap_parse_tree.specs.declared.tree.Tree.{Tree}
-use Rattle.cap_parse_tree.specs.Spelling.{spelling}
-use Rattle.cap_parse_tree.specs.Texts.{IsUnexpectedAt, IsTooDeepAt}
-use Rattle.cap_parse_tree.specs.Views.{tree_view}
-use Rattle.cap_parse.specs.Parsing.{first_place, IsParseOf, IsOnlyParseOf}
+use Rattle.cap_parse_tree.specs.Tree.{ProgramTree}
+use Rattle.cap_parse_laws.specs.Versions.{worded}
+use Rattle.cap_parse_laws.specs.Texts.{Spells, IsUnexpectedAt, IsTooDeepAt}
+use Rattle.cap_parse.specs.Parsing.{first_place, IsTreeOf, IsParseOf, IsOnlyParseOf}
 use Rattle.cap_parse.specs.declared.text.ParseError.{ParseError}
 use Rattle.cap_parse.specs.declared.text.ParseError.TheVariants as parse
 use Rattle.cap_top_reading.specs.declared.refusal.Refusal.{Refusal}
@@ -41,17 +41,18 @@ module _ (bytes : List ℕ) (ts : List Token) (have : HaveTokens bytes ts) where
   wrong_here Wrong p rest w e =
       record { fits = have.fits; tokens = ts; are = have.are; rest = rest; wrong = w; at = e }
 
+  -- a tree that the bytes spell is one of these tokens
+  spelled_here : (u : ProgramTree) → Spells bytes u → IsTreeOf ts u
+  spelled_here u s = (ap worded (have.only s.tokens s.are) ∙ s.seen_as, s.nests)
+
   -- the tree that was read
   pub tree_found : (t : Tree) → IsParseOf ts end (Ok t) → IsOnlyParseOf ts end (Ok t)
       → FindsTree bytes (Ok t)
   tree_found t h o = record {
-    found = record {
-      fits = have.fits;
-      tokens = subst (λ us. AreTokensOf bytes (us ++ end_of bytes ∷ [])) h.0 have.are;
-      nests = h.1;
-    };
+    found =
+        record { fits = have.fits; tokens = ts; are = have.are; seen_as = h.0; nests = h.1 };
     not_found = tt;
-    only_found = λ u s. o.spelled u (have.only (spelling u) s.tokens, s.nests);
+    only_found = λ u s. o.spelled u (spelled_here u s);
     only_caused = by;
   }
     where
@@ -83,7 +84,7 @@ module _ (bytes : List ℕ) (ts : List Token) (have : HaveTokens bytes ts) where
   tree_refused (parse.Unexpected p) h o = record {
     found = tt;
     not_found = wrong_here IsUnexpectedAt p h.0 h.1 h.2;
-    only_found = λ u s. ap parse_refusal (o.spelled u (have.only (spelling u) s.tokens, s.nests));
+    only_found = λ u s. ap parse_refusal (o.spelled u (spelled_here u s));
     only_caused = λ r g. only_this (parse.Unexpected p) r g
         (λ q w. ap parse_refusal (o.unexpected w.rest (same_rest IsUnexpectedAt q w)) ∙ sym (ap Unexpected w.at))
         (λ q w. ap parse_refusal (o.too_deep w.rest (same_rest IsTooDeepAt q w)) ∙ sym (ap TooDeep w.at));
@@ -91,7 +92,7 @@ module _ (bytes : List ℕ) (ts : List Token) (have : HaveTokens bytes ts) where
   tree_refused (parse.TooDeep p) h o = record {
     found = tt;
     not_found = wrong_here IsTooDeepAt p h.0 h.1 h.2;
-    only_found = λ u s. ap parse_refusal (o.spelled u (have.only (spelling u) s.tokens, s.nests));
+    only_found = λ u s. ap parse_refusal (o.spelled u (spelled_here u s));
     only_caused = λ r g. only_this (parse.TooDeep p) r g
         (λ q w. ap parse_refusal (o.unexpected w.rest (same_rest IsUnexpectedAt q w)) ∙ sym (ap Unexpected w.at))
         (λ q w. ap parse_refusal (o.too_deep w.rest (same_rest IsTooDeepAt q w)) ∙ sym (ap TooDeep w.at));
@@ -119,7 +120,7 @@ pub no_tokens : {T : Type 0} (bytes : List ℕ) (d : TokenError) (e : Refusal) �
 no_tokens {T = T} bytes d e same only causes = record {
   found = tt;
   not_found = subst (λ x. UnlessMemory x (SpellNone bytes x)) (sym same) (cause d causes);
-  only_found = λ t s. same ∙ ap token_refusal (only _ s.fits s.tokens);
+  only_found = λ t s. same ∙ ap token_refusal (only _ s.fits s.are);
   only_caused = by;
 }
   where

@@ -9,8 +9,8 @@ use Rattle.cap_resolve.specs.declared.error.ResolveError.TheVariants as resolve
 use Rattle.cap_prog.specs.declared.program.Program.{Program}
 use Rattle.cap_prog.specs.Views.{program_view}
 use Rattle.cap_parse_tree.specs.declared.tree.Tree.{Tree}
-use Rattle.cap_parse_tree.specs.Texts.{Spells}
 use Rattle.cap_parse_tree.specs.Views.{tree_view}
+use Rattle.cap_parse_laws.specs.Texts.{Spells}
 use Rattle.cap_top_reading.specs.declared.refusal.Refusal.{Refusal}
 use Rattle.cap_top_reading.specs.declared.refusal.Refusal.TheVariants.{BadByte, LongLiteral, TextTooLong, Unexpected, TooDeep, Unresolved, OutOfMemory}
 use Rattle.cap_top_reading.specs.Refused.{SpellNone, IsRefused, IsTextOf}

@@ -8,14 +8,14 @@ use Rattle.cap_syntax.specs.Place.{place_of}
 use Rattle.cap_syntax.specs.Refusal.{max_text, IsRefusal}
 use Rattle.cap_prog.specs.Program.{PlainProgram}
 use Rattle.cap_parse_tree.specs.Tree.{ProgramTree}
-use Rattle.cap_parse_tree.specs.Texts.{Spells, IsUnexpectedAt, IsTooDeepAt}
+use Rattle.cap_parse_laws.specs.Texts.{Spells, IsUnexpectedAt, IsTooDeepAt}
 use Rattle.cap_parse.specs.Parsing.{first_place}
 use Rattle.cap_resolve_spec.specs.Finding.{Finding}
 use Rattle.cap_resolve_spec.specs.Stands.{refusal, Stands}
 use Rattle.cap_resolve.specs.declared.error.ResolveError.{ResolveError}
 use Rattle.cap_resolve.specs.Errors.{error_view}
 use Rattle.cap_top_reading.specs.declared.refusal.Refusal.{Refusal}
-use Rattle.cap_top_reading.specs.declared.refusal.Refusal.TheVariants.{BadByte, LongLiteral, TextTooLong, Unexpected, TooDeep, Unresolved, OutOfMemory}
+use Rattle.cap_top_reading.specs.declared.refusal.Refusal.TheVariants.{BadByte, LongLiteral, TextTooLong, Unexpected, TooDeep, Unresolved}
 
 -- the bytes have no tokens, for this cause
 abbrev pub IsTokenRefused : List ℕ → Refusal → Type 0

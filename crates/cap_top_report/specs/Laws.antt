@@ -9,7 +9,7 @@ use Rattle.cap_goal_roots.specs.Units.{HasUnit}
 use Rattle.cap_rules.specs.Valid.{Valid}
 use Rattle.cap_rules_ascending.specs.Ascending.{ProgramAscends}
 use Rattle.cap_search_spec.specs.Laws.{IsProved}
-use Rattle.cap_kernel_nodes.specs.Nodes.{unit_nodes}
+use Rattle.cap_rules_nodes.specs.Nodes.{unit_nodes}
 use Rattle.cap_kernel_nodes.specs.Laws.{UnitDerives}
 use Rattle.cap_core_text.specs.Laws.{NodeHasCores}
 use Rattle.cap_top_report.specs.Found.{found_trees}

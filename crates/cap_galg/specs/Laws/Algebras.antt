@@ -1,21 +1,26 @@
 -- Each guard algebra is lawful.
 use Rattle.std.proofs.Common.{◌≡◌, ℕ, ◌+◌, ◌-◌, ◌*◌, ◌≤◌, ◌<◌, arith, refl, sym, ap, ◌∙◌, subst}
-use Rattle.std.proofs.Common.{inl, inr, Bool, true, false, Some, None, rules}
+use Rattle.std.proofs.Common.{inl, inr, Bool, true, false, Some, None, rules, List}
 use Rattle.std.specs.Prelude.{◌&&◌, if◌then◌else◌}
 use Rattle.std.proofs.lemmas.Bool.{cases_lt}
+use Rattle.cap_galg_indices.specs.Sets.{AreBounds, all_indices, is_empty, is_within, composed}
+use Rattle.cap_galg_indices.specs.Laws.Members.{full-is, all-has, all-ascends, empty-is}
+use Rattle.cap_galg_indices.specs.Laws.Tests.{within-from}
+use Rattle.cap_galg_indices.specs.Laws.Composition.{composed-ascends, within-completes}
+use Rattle.cap_galg_indices.specs.Laws.Composition.{completed-within, composed-unit}
 use Rattle.cap_galg.specs.declared.fraction.Fraction.{Fraction}
 use Rattle.cap_galg.specs.Fractions.{IsShare, crossed}
-use Rattle.cap_galg.specs.Elements.{Element, nothing, one, share, tok, src, both, whole, left}
-use Rattle.cap_galg.specs.Elements.{right, is_unit, is_full, on_left, on_right, bind, compose}
-use Rattle.cap_galg.specs.Elements.{at_most}
-use Rattle.cap_galg.specs.Algebras.{PlainAlgebra, unique, divisible, counting, product, sum, full}
-use Rattle.cap_galg.specs.Algebras.{IsElement, AtMost, Lawful}
+use Rattle.cap_galg.specs.Elements.{Element, nothing, one, share, tok, src, indices, both, whole}
+use Rattle.cap_galg.specs.Elements.{left, right, is_unit, is_full, on_left, on_right, bind}
+use Rattle.cap_galg.specs.Elements.{compose, at_most}
+use Rattle.cap_galg.specs.Algebras.{PlainAlgebra, unique, divisible, counting, indexed, product}
+use Rattle.cap_galg.specs.Algebras.{sum, full, IsElement, AtMost, Lawful}
 use Rattle.cap_galg.specs.Laws.Fractions.{plus-share, le-plus, between, between-share, between-fits}
 use Rattle.cap_galg.specs.Laws.Fractions.{plus-between, one_whole, whole-share, equal}
 use Rattle.cap_galg.specs.Laws.Composition.{true_or_false, le-true, true-le, true-eq, and-true}
 use Rattle.cap_galg.specs.Laws.Composition.{bind-is, if-some, some-same, IsSound, compose-comm}
 use Rattle.cap_galg.specs.Laws.Composition.{compose-nothing, unit-is, not-unit, composed-not-unit}
-use Rattle.cap_galg.specs.Laws.Composition.{full_alone, sound-pair, compose_assoc}
+use Rattle.cap_galg.specs.Laws.Composition.{full_alone, sound-pair, compose_assoc, composed-some}
 
 -- ---- elements of an algebra
 
@@ -25,6 +30,7 @@ sound-of unique one h = tt
 sound-of divisible (share f) h = h
 sound-of counting (tok k) h = h
 sound-of counting (src n) h = tt
+sound-of indexed (indices xs) h = h
 sound-of (product a b) (both x y) h = (sound-of a x h.0, sound-of b y h.1, h.2)
 sound-of (sum a b) whole h = tt
 sound-of (sum a b) (left x) h = (sound-of a x h.0, h.1, h.2)
@@ -51,6 +57,10 @@ closed divisible (share f) (share g) z h k e =
 closed counting (tok i) (tok j) z h k e = subst (IsElement counting) (some-same _ _ e) (let P : 0 < i + j = omega arith in P)
 closed counting (src n) (tok j) z h k e = subst (IsElement counting) (if-some _ _ _ e).1 tt
 closed counting (tok j) (src n) z h k e = subst (IsElement counting) (if-some _ _ _ e).1 tt
+closed indexed (indices xs) (indices ys) z h k e =
+    let r = bind-is (composed xs ys) (λ zs. Some (indices zs)) z e in
+    subst (IsElement indexed) (some-same _ _ r.2)
+    (composed-ascends xs ys r.0 h.0 k.0 r.1, composed-some xs ys r.0 h.0 h.1 r.1)
 closed (product a b) (both u v) (both c d) z h k e =
     let r = bind-is (compose u c) (λ x. bind (compose v d) (λ y. Some (both x y))) z e in
     let s = bind-is (compose v d) (λ y. Some (both r.0 y)) z r.2 in
@@ -69,6 +79,7 @@ pub full-present : (a : PlainAlgebra) → is_unit (full a) ≡ false
 full-present unique = refl
 full-present divisible = refl
 full-present counting = refl
+full-present indexed = refl
 full-present (product a b) = refl
 full-present (sum a b) = refl
 
@@ -76,6 +87,7 @@ pub full-full : (a : PlainAlgebra) → is_full (full a) ≡ true
 full-full unique = refl
 full-full divisible = refl
 full-full counting = refl
+full-full indexed = refl
 full-full (product a b) = rw (full-full a, full-full b) refl
 full-full (sum a b) = refl
 
@@ -83,6 +95,7 @@ pub full-element : (a : PlainAlgebra) → IsElement a (full a)
 full-element unique = tt
 full-element divisible = whole-share
 full-element counting = tt
+full-element indexed = (all-ascends, refl)
 full-element (product a b) = (full-element a, full-element b, ap (λ t. t && is_unit (full b)) (full-present a))
 full-element (sum a b) = tt
 
@@ -92,6 +105,7 @@ full-only unique one h e = refl
 full-only divisible (share f) h e = ap share (one_whole f h.amount.lowest (true-eq _ _ e))
 full-only counting (tok k) h e = cc
 full-only counting (src n) h e = ap src (true-eq _ _ e)
+full-only indexed (indices xs) h e = ap indices (full-is xs e)
 full-only (product a b) (both x y) h e =
     let t = and-true (is_full x) (is_full y) e in
     rw (full-only a x h.0 t.0, full-only b y h.1 t.1) refl
@@ -108,6 +122,7 @@ at_most-self one = refl
 at_most-self (share f) = le-true _ _ (omega arith)
 at_most-self (tok k) = le-true k k (omega arith)
 at_most-self (src n) = le-true n n (omega arith)
+at_most-self (indices xs) = within-from xs xs (λ n i. i)
 at_most-self (both x y) = rw (at_most-self x, at_most-self y) refl
 at_most-self whole = refl
 at_most-self (left x) = at_most-self x
@@ -119,6 +134,7 @@ at_most-full unique one h = refl
 at_most-full divisible (share f) h = let m = h.amount.most in le-true _ _ (omega arith)
 at_most-full counting (tok k) h = refl
 at_most-full counting (src n) h = le-true 0 n (omega arith)
+at_most-full indexed (indices xs) h = within-from xs all_indices (λ n i. all-has n)
 at_most-full (product a b) (both x y) h = rw (at_most-full a x h.0, at_most-full b y h.1) refl
 at_most-full (sum a b) whole h = refl
 at_most-full (sum a b) (left x) h = refl
@@ -143,6 +159,10 @@ at_most-composed (share f) (share g) y p q e = subst (λ w. at_most (share f) w 
 at_most-composed (tok j) (tok k) y p q e = subst (λ w. at_most (tok j) w ≡ true) (some-same _ _ e) (le-true j (j + k) (omega arith))
 at_most-composed (src n) (tok k) y p q e = subst (λ w. at_most (src n) w ≡ true) (if-some _ _ _ e).1 (le-true (n - k) n (omega arith))
 at_most-composed (tok k) (src n) y p q e = subst (λ w. at_most (tok k) w ≡ true) (if-some _ _ _ e).1 refl
+at_most-composed (indices xs) (indices zs) y p q e =
+    let r = bind-is (composed xs zs) (λ ws. Some (indices ws)) y e in
+    subst (λ w. at_most (indices xs) w ≡ true) (some-same _ _ r.2)
+    (completed-within xs r.0 (zs, q.0, r.1))
 at_most-composed (both a b) (both c d) y p q e =
     let r = bind-is (compose a c) (λ x. bind (compose b d) (λ y. Some (both x y))) y e in
     let s = bind-is (compose b d) (λ y. Some (both r.0 y)) y r.2 in
@@ -184,6 +204,17 @@ completes-src n m l = elim (cases_lt m n) [
 completes-out : (k n : ℕ) → AtMost counting (tok k) (src n)
 completes-out k n = (src (n + k), tt, (let t : k ≤ n + k = omega arith in let e : n + k - k ≡ n = omega arith in rw (le-true k (n + k) t, e) refl))
 
+completes-indices : (xs ys : List ℕ) → AreBounds xs → AreBounds ys → is_within xs ys ≡ true
+    → AtMost indexed (indices xs) (indices ys)
+completes-indices xs ys p q e =
+    let c = within-completes xs ys p q e in
+    elim (true_or_false (is_empty c.0)) [
+      | inl t ↦
+          let s : xs ≡ ys = some-same _ _ (sym (composed-unit xs p) ∙ ap (composed xs) (sym (empty-is c.0 t)) ∙ c.2) in
+          completes-self indexed (indices xs) (indices ys) (ap indices s)
+      | inr f ↦ (indices c.0, (c.1, f), ap (λ o. bind o (λ zs. Some (indices zs))) c.2)
+    ]
+
 completes-pair : (a b : PlainAlgebra) (u v c d : Element) → AtMost a u c → AtMost b v d
     → AtMost (product a b) (both u v) (both c d)
 completes-pair a b u v c d p q = elim (true_or_false (is_unit p.0 && is_unit q.0)) [
@@ -199,7 +230,7 @@ completes-pair a b u v c d p q = elim (true_or_false (is_unit p.0 && is_unit q.0
 rest-not-full : (a : PlainAlgebra) (x y z : Element) → IsElement a x → IsElement a z
     → is_unit x ≡ false → compose x z ≡ Some y → is_full z ≡ false
 rest-not-full a x y z h k u e = elim (true_or_false (is_full z)) [
-  | inl t ↦ absurd (let n : None ≡ Some y = sym (compose-comm x z ∙ full_alone z x (sound-of a z k) (sound-of a x h) t u) ∙ e in cc)
+  | inl t ↦ absurd (let n : None ≡ Some y = sym (compose-comm x z (sound-of a x h) (sound-of a z k) ∙ full_alone z x (sound-of a z k) (sound-of a x h) t u) ∙ e in cc)
   | inr f ↦ f
 ]
 
@@ -245,6 +276,7 @@ completes divisible (share f) (share g) h k e = completes-share f g h k (true-le
 completes counting (tok i) (tok j) h k e = completes-tok i j (true-le _ _ e)
 completes counting (tok i) (src n) h k e = completes-out i n
 completes counting (src n) (src m) h k e = completes-src n m (true-le _ _ e)
+completes indexed (indices xs) (indices ys) h k e = completes-indices xs ys h.0 k.0 e
 completes (product a b) (both u v) (both c d) h k e =
     let t = and-true (at_most u c) (at_most v d) e in
     completes-pair a b u v c d (completes a u c h.0 k.0 t.0) (completes b v d h.1 k.1 t.1)
@@ -260,7 +292,7 @@ completes a x y h k e = first_of (cc, search rules)
 pub lawful : (a : PlainAlgebra) → Lawful a
 lawful a = record {
   closed = closed a;
-  commutes = λ x y h k. compose-comm x y;
+  commutes = λ x y h k. compose-comm x y (sound-of a x h) (sound-of a y k);
   associates = λ x y z h k l. compose_assoc x y z (sound-of a x h) (sound-of a y k) (sound-of a z l);
   has_unit = tt;
   unit_neutral = λ x h. compose-nothing x;

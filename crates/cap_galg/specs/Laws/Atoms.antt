@@ -3,9 +3,10 @@ use Rattle.std.proofs.Common.{◌≡◌, ℕ, ◌+◌, ◌-◌, ◌<◌, ◌≤�
 use Rattle.std.proofs.Common.{inr, Bool, true, false}
 use Rattle.std.specs.Prelude.{nat_lt, ◌==◌, ◌&&◌, if◌then◌else◌}
 use Rattle.std.proofs.lemmas.Bool.Decides.{nat_tests}
+use Rattle.cap_galg_indices.specs.Laws.Members.{one-ascends, from-ascends}
 use Rattle.cap_galg.specs.Elements.{Element, nothing, both, is_unit, is_full, on_left, on_right}
-use Rattle.cap_galg.specs.Algebras.{PlainAlgebra, unique, divisible, counting, product, sum}
-use Rattle.cap_galg.specs.Algebras.{IsElement, atoms, atom_algebra, at_atom, atom_element}
+use Rattle.cap_galg.specs.Algebras.{PlainAlgebra, unique, divisible, counting, indexed, product}
+use Rattle.cap_galg.specs.Algebras.{sum, IsElement, atoms, atom_algebra, at_atom, atom_element}
 use Rattle.cap_galg.specs.Algebras.{apart_at_node, are_apart}
 use Rattle.cap_galg.specs.Views.{amount_element, IsAmountOf}
 use Rattle.cap_galg.specs.declared.amount.Amount.{Amount}
@@ -58,6 +59,7 @@ at_atom-part : (a : PlainAlgebra) (i : ℕ) (x : Element) → i < atoms a
 at_atom-part unique i x l h u = record { element = h; some = u }
 at_atom-part divisible i x l h u = record { element = h; some = u }
 at_atom-part counting i x l h u = record { element = h; some = u }
+at_atom-part indexed i x l h u = record { element = h; some = u }
 at_atom-part (product a b) i x l h u =
     product-part a b (at_atom a i x) (at_atom b (i - atoms a) x) (nat_lt i (atoms a))
     (λ e. at_atom-part a i x (true-lt _ _ e) (first-of a b i (nat_lt i (atoms a)) x e h) u)
@@ -81,6 +83,8 @@ amount-element unique part.One h = tt
 amount-element divisible (part.Share f) h = amount-is (f.num == 0) f refl h
 amount-element counting (part.Src n) h = tt
 amount-element counting (part.Tok k) h = tokens-is k
+amount-element indexed (part.At i) h = (one-ascends i, refl)
+amount-element indexed (part.From i) h = (from-ascends i, refl)
 amount-element a m h = absurd h
 
 pub placed-is : (a b : PlainAlgebra) (i : ℕ) (m : Amount) (x y : Element) (u : Bool) → i < atoms a
@@ -121,6 +125,7 @@ pub apart-second : (a : PlainAlgebra) (i j : ℕ) → atoms a ≤ j → are_apar
 apart-second unique i j h = refl
 apart-second divisible i j h = refl
 apart-second counting i j h = refl
+apart-second indexed i j h = refl
 apart-second (product a b) i j h = apart_at_node-second false (are_apart a) (are_apart b) (atoms a) (atoms b) i j h (apart-second b (i - atoms a) (j - atoms a) (omega arith))
 apart-second (sum a b) i j h = apart_at_node-second true (are_apart a) (are_apart b) (atoms a) (atoms b) i j h (apart-second b (i - atoms a) (j - atoms a) (omega arith))
 
@@ -128,5 +133,6 @@ pub apart-first : (a : PlainAlgebra) (i j : ℕ) → atoms a ≤ i → are_apart
 apart-first unique i j h = refl
 apart-first divisible i j h = refl
 apart-first counting i j h = refl
+apart-first indexed i j h = refl
 apart-first (product a b) i j h = apart_at_node-first false (are_apart a) (are_apart b) (atoms a) (atoms b) i j h (apart-first b (i - atoms a) (j - atoms a) (omega arith))
 apart-first (sum a b) i j h = apart_at_node-first true (are_apart a) (are_apart b) (atoms a) (atoms b) i j h (apart-first b (i - atoms a) (j - atoms a) (omega arith))

@@ -1,14 +1,19 @@
 -- Composition of guard elements, whatever their algebra is: it is commutative and associative,
 -- `nothing` is its unit, and what is full composes with nothing else.
 use Rattle.std.proofs.Common.{◌≡◌, ◌≢◌, ℕ, ◌+◌, ◌-◌, ◌*◌, ◌≤◌, ◌<◌, arith, refl, sym, ap, ◌∙◌}
-use Rattle.std.proofs.Common.{subst, ◌⊎◌, inl, inr, Bool, true, false, Option, Some, None}
+use Rattle.std.proofs.Common.{subst, ◌⊎◌, inl, inr, Bool, true, false, Option, Some, None, List, []}
+use Rattle.std.proofs.Common.{option_and_then}
 use Rattle.std.specs.Prelude.{nat_le, ◌==◌, ◌&&◌, if◌then◌else◌}
 use Rattle.std.proofs.lemmas.Bool.{cases_lt}
 use Rattle.std.proofs.lemmas.Bool.Decides.{nat_tests}
+use Rattle.cap_galg_indices.specs.Sets.{AreBounds, all_indices, is_empty, composed}
+use Rattle.cap_galg_indices.specs.Laws.Members.{empty-is, full-is}
+use Rattle.cap_galg_indices.specs.Laws.Composition.{composed-ascends, composed-commutes}
+use Rattle.cap_galg_indices.specs.Laws.Composition.{composed-associates, composed-empty, full-alone}
 use Rattle.cap_galg.specs.declared.fraction.Fraction.{Fraction}
 use Rattle.cap_galg.specs.Fractions.{IsShare, crossed, plus}
-use Rattle.cap_galg.specs.Elements.{Element, nothing, one, share, tok, src, both, whole, left}
-use Rattle.cap_galg.specs.Elements.{right, is_unit, is_full, on_left, on_right, bind, compose}
+use Rattle.cap_galg.specs.Elements.{Element, nothing, one, share, tok, src, indices, both, whole}
+use Rattle.cap_galg.specs.Elements.{left, right, is_unit, is_full, on_left, on_right, bind, compose}
 use Rattle.cap_galg.specs.Laws.Fractions.{plus_comm, plus_assoc, plus-share, three-le, le-three}
 use Rattle.cap_galg.specs.Laws.Fractions.{le-two, crossed3, dens3, product-positive}
 
@@ -65,6 +70,7 @@ some-same x y e = cc
 abbrev pub IsSound : Element → Type 0
 IsSound (share f) = IsShare f
 IsSound (tok k) = 0 < k
+IsSound (indices xs) = AreBounds xs × (is_empty xs ≡ false)
 IsSound (both x y) = IsSound x × IsSound y × ((is_unit x && is_unit y) ≡ false)
 IsSound (left x) = IsSound x × (is_unit x ≡ false) × (is_full x ≡ false)
 IsSound (right y) = IsSound y × (is_unit y ≡ false) × (is_full y ≡ false)
@@ -72,20 +78,23 @@ IsSound _ = Unit {0}
 
 -- ---- commutative, and with a unit
 
-pub compose-comm : (x y : Element) → compose x y ≡ compose y x
-compose-comm nothing nothing = refl
-compose-comm one one = refl
-compose-comm (src n) (src m) = refl
-compose-comm whole whole = refl
-compose-comm (share f) (share g) =
+pub compose-comm : (x y : Element) → IsSound x → IsSound y → compose x y ≡ compose y x
+compose-comm nothing nothing p q = refl
+compose-comm one one p q = refl
+compose-comm (src n) (src m) p q = refl
+compose-comm whole whole p q = refl
+compose-comm (share f) (share g) p q =
     let e : f.num * g.den + g.num * f.den ≡ g.num * f.den + f.num * g.den = omega arith in
     let d : f.den * g.den ≡ g.den * f.den = omega arith in
     rw (e, d) refl
-compose-comm (tok j) (tok k) = let e : j + k ≡ k + j = omega arith in rw e refl
-compose-comm (both a b) (both c d) = rw (compose-comm a c, compose-comm b d) refl
-compose-comm (left x) (left y) = rw (compose-comm x y) refl
-compose-comm (right x) (right y) = rw (compose-comm x y) refl
-compose-comm x y = refl
+compose-comm (tok j) (tok k) p q = let e : j + k ≡ k + j = omega arith in rw e refl
+compose-comm (indices xs) (indices ys) p q =
+    ap (λ o. bind o (λ zs. Some (indices zs))) (composed-commutes xs ys p.0 q.0)
+compose-comm (both a b) (both c d) p q =
+    rw (compose-comm a c p.0 q.0, compose-comm b d p.1 q.1) refl
+compose-comm (left x) (left y) p q = rw (compose-comm x y p.0 q.0) refl
+compose-comm (right x) (right y) p q = rw (compose-comm x y p.0 q.0) refl
+compose-comm x y p q = refl
 
 pub compose-nothing : (x : Element) → compose x nothing ≡ Some x
 compose-nothing nothing = refl
@@ -93,6 +102,7 @@ compose-nothing one = refl
 compose-nothing (share f) = refl
 compose-nothing (tok k) = refl
 compose-nothing (src n) = refl
+compose-nothing (indices xs) = refl
 compose-nothing (both x y) = refl
 compose-nothing whole = refl
 compose-nothing (left x) = refl
@@ -123,6 +133,9 @@ made_of_nothing (share f) (share g) z e u =
 made_of_nothing (tok j) (tok k) z e u = let v : false ≡ true = ap is_unit (some-same _ _ e) ∙ u in cc
 made_of_nothing (src n) (tok k) z e u = let r = if-some _ _ _ e in let v : false ≡ true = ap is_unit r.1 ∙ u in cc
 made_of_nothing (tok k) (src n) z e u = let r = if-some _ _ _ e in let v : false ≡ true = ap is_unit r.1 ∙ u in cc
+made_of_nothing (indices xs) (indices ys) z e u =
+    let r = bind-is (composed xs ys) (λ zs. Some (indices zs)) z e in
+    let v : false ≡ true = ap is_unit (some-same _ _ r.2) ∙ u in cc
 made_of_nothing (both a b) (both c d) z e u =
     let r = bind-is (compose a c) (λ x. bind (compose b d) (λ y. Some (both x y))) z e in
     let s = bind-is (compose b d) (λ y. Some (both r.0 y)) z r.2 in
@@ -144,9 +157,24 @@ composed-not-unit x y z h e = elim (true_or_false (is_unit z)) [
 
 -- ---- what is full composes with nothing else
 
+-- a set that isn't empty has bounds
+pub not-empty : (xs : List ℕ) → is_empty xs ≡ false → xs ≢ []
+not-empty xs n e = let v : true ≡ false = ap is_empty (sym e) ∙ n in cc
+
 pub bind-none : {A B : Type 0} (o : Option A) → ◌≡◌ {A = Option B} (bind o (λ x. None)) None
 bind-none None = refl
 bind-none (Some x) = refl
+
+-- all indices compose with no set that isn't empty
+full-none : (xs ys : List ℕ) → AreBounds ys → is_empty ys ≡ false → xs ≡ all_indices
+    → bind (composed xs ys) (λ zs. Some (indices zs)) ≡ None
+full-none xs ys q n a = none-of (composed xs ys)
+    (λ zs e. not-empty ys n (full-alone ys zs q (ap (λ l. composed l ys) (sym a) ∙ e)))
+  where
+    none-of : (o : Option (List ℕ)) → ((zs : List ℕ) → o ≡ Some zs → ⊥)
+        → bind o (λ zs. Some (indices zs)) ≡ None
+    none-of None h = refl
+    none-of (Some zs) h = absurd (h zs refl)
 
 pub full_alone : (x y : Element) → IsSound x → IsSound y → is_full x ≡ true → is_unit y ≡ false
     → compose x y ≡ None
@@ -160,6 +188,7 @@ full_alone (share f) (share g) p q e u =
 full_alone (tok j) (tok k) p q e u = cc
 full_alone (src n) (tok k) p q e u = let z : n ≡ 0 = true-eq _ _ e in rw (le-false k n (omega arith)) refl
 full_alone (tok k) (src n) p q e u = cc
+full_alone (indices xs) (indices ys) p q e u = full-none xs ys q.0 q.1 (full-is xs e)
 full_alone (both a b) (both c d) p q e u =
     let t = and-true (is_full a) (is_full b) e in
     elim (and-false (is_unit c) (is_unit d) q.2) [
@@ -194,6 +223,14 @@ sound-right : (b : Bool) (z : Element) → is_full z ≡ b → IsSound z → is_
 sound-right true z e h u = tt
 sound-right false z e h u = (h, u, e)
 
+-- a set of which a part isn't empty isn't empty
+pub composed-some : (xs ys zs : List ℕ) → AreBounds xs → is_empty xs ≡ false
+    → composed xs ys ≡ Some zs → is_empty zs ≡ false
+composed-some xs ys zs p n e = elim (true_or_false (is_empty zs)) [
+  | inl t ↦ absurd (not-empty xs n (composed-empty xs ys p (e ∙ ap Some (empty-is zs t))))
+  | inr f ↦ f
+]
+
 pub sound-composed : (x y z : Element) → IsSound x → IsSound y → compose x y ≡ Some z → IsSound z
 sound-composed nothing y z p q e = subst IsSound (some-same _ _ e) q
 sound-composed x nothing z p q e = subst IsSound (some-same _ _ (sym (compose-nothing x) ∙ e)) p
@@ -203,6 +240,10 @@ sound-composed (share f) (share g) z p q e =
 sound-composed (tok j) (tok k) z p q e = subst IsSound (some-same _ _ e) (let P : 0 < j + k = omega arith in P)
 sound-composed (src n) (tok k) z p q e = subst IsSound (if-some _ _ _ e).1 tt
 sound-composed (tok k) (src n) z p q e = subst IsSound (if-some _ _ _ e).1 tt
+sound-composed (indices xs) (indices ys) z p q e =
+    let r = bind-is (composed xs ys) (λ zs. Some (indices zs)) z e in
+    subst IsSound (some-same _ _ r.2)
+    (composed-ascends xs ys r.0 p.0 q.0 r.1, composed-some xs ys r.0 p.0 p.1 r.1)
 sound-composed (both a b) (both c d) z p q e =
     let r = bind-is (compose a c) (λ x. bind (compose b d) (λ y. Some (both x y))) z e in
     let s = bind-is (compose b d) (λ y. Some (both r.0 y)) z r.2 in
@@ -226,9 +267,13 @@ before x o = bind o (λ u. compose x u)
 abbrev pub Assoc : Element → Element → Element → Type 0
 Assoc x y z = and_next (compose x y) z ≡ before x (compose y z)
 
-before-next : (x : Element) (o : Option Element) → before x o ≡ and_next o x
-before-next x None = refl
-before-next x (Some u) = compose-comm x u
+before-next : (x y z : Element) → IsSound x → IsSound y → IsSound z
+    → before x (compose y z) ≡ and_next (compose y z) x
+before-next x y z p q r = go (compose y z) (λ u e. sound-composed y z u q r e)
+  where
+    go : (o : Option Element) → ((u : Element) → o ≡ Some u → IsSound u) → before x o ≡ and_next o x
+    go None h = refl
+    go (Some u) h = compose-comm x u p (h u refl)
 
 bind_last : (o : Option Element) → bind o (λ u. Some u) ≡ o
 bind_last None = refl
@@ -276,7 +321,7 @@ shares-turned f g h p q r =
 
 shares-assoc : (f g h : Fraction) → IsShare f → IsShare g → IsShare h
     → Assoc (share f) (share g) (share h)
-shares-assoc f g h p q r = shares-next f g h p q r ∙ sym (shares-turned f g h p q r) ∙ sym (shares-next g h f q r p) ∙ sym (before-next (share f) (compose (share g) (share h)))
+shares-assoc f g h p q r = shares-next f g h p q r ∙ sym (shares-turned f g h p q r) ∙ sym (shares-next g h f q r p) ∙ sym (before-next (share f) (share g) (share h) p q r)
 
 -- counts: a source with tokens that come one after the other
 src-src : (n k j : ℕ)
@@ -302,6 +347,23 @@ counts-assoc : (n j k : ℕ)
     → and_next (compose (src n) (tok j)) (tok k) ≡ before (src n) (compose (tok j) (tok k))
 counts-assoc n j k = src-src n j k
 
+-- sets of indices
+indices-assoc : (xs ys zs : List ℕ) → AreBounds xs → AreBounds ys → AreBounds zs
+    → Assoc (indices xs) (indices ys) (indices zs)
+indices-assoc xs ys zs p q r =
+    first (composed xs ys) ∙ ap (λ o. bind o (λ ws. Some (indices ws))) (composed-associates xs ys zs p q r)
+    ∙ sym (second (composed ys zs))
+  where
+    first : (o : Option (List ℕ)) → and_next (bind o (λ us. Some (indices us))) (indices zs)
+        ≡ bind (option_and_then (λ u. composed u zs) o) (λ ws. Some (indices ws))
+    first None = refl
+    first (Some us) = refl
+
+    second : (o : Option (List ℕ)) → before (indices xs) (bind o (λ us. Some (indices us)))
+        ≡ bind (option_and_then (λ u. composed xs u) o) (λ ws. Some (indices ws))
+    second None = refl
+    second (Some us) = refl
+
 -- sides of a sum: what a side's elements make and another element, where `mk` makes an element of
 -- the sum
 module _ (w : Element) (e : Element → Element) where
@@ -313,10 +375,10 @@ module _ (w : Element) (e : Element → Element) where
   alone None b f g = refl
   alone (Some z) b f g = elim (is_full z) as (λ t. compose (if t then w else e z) b ≡ None) [ true ↦ g | false ↦ f z ]
 
-  one_side : ((x y : Element) → compose (e x) (e y) ≡ bind (compose x y) (λ z. Some (mk z))) → ((y : Element) → compose w (e y) ≡ None)
+  one_side : ((x y : Element) → compose (e x) (e y) ≡ bind (compose x y) (λ z. Some (mk z))) → ((y : Element) → compose w (e y) ≡ None) → ((x : Element) → compose (e x) w ≡ None)
       → (x y z : Element) → Assoc x y z → ((v : Element) → compose x y ≡ Some v → is_full v ≡ true → compose v z ≡ None) → ((u : Element) → compose y z ≡ Some u → is_full u ≡ true → compose x u ≡ None)
       → Assoc (e x) (e y) (e z)
-  one_side ee we x y z a fv fu = rw (ee x y, ee y z) (go (compose x y) (compose y z) refl refl)
+  one_side ee we ew x y z a fv fu = rw (ee x y, ee y z) (go (compose x y) (compose y z) refl refl)
     where
       first : (v : Element) → compose x y ≡ Some v → compose (mk v) (e z) ≡ bind (compose v z) (λ t. Some (mk t))
       first v h = elim (true_or_false (is_full v)) [
@@ -326,7 +388,7 @@ module _ (w : Element) (e : Element → Element) where
 
       second : (u : Element) → compose y z ≡ Some u → compose (e x) (mk u) ≡ bind (compose x u) (λ t. Some (mk t))
       second u h = elim (true_or_false (is_full u)) [
-        | inl f ↦ ap (λ t. compose (e x) (if t then w else e u)) f ∙ compose-comm (e x) w ∙ we x ∙ sym (ap (λ o. bind o (λ t. Some (mk t))) (fu u h f))
+        | inl f ↦ ap (λ t. compose (e x) (if t then w else e u)) f ∙ ew x ∙ sym (ap (λ o. bind o (λ t. Some (mk t))) (fu u h f))
         | inr f ↦ ap (λ t. compose (e x) (if t then w else e u)) f ∙ ee x u
       ]
 
@@ -367,7 +429,9 @@ full-next x y z v p q r u e f = full_alone v z (sound-composed x y v p q e) r f 
 
 next-full : (x y z u : Element) → IsSound x → IsSound y → IsSound z → is_unit x ≡ false
     → compose y z ≡ Some u → is_full u ≡ true → compose x u ≡ None
-next-full x y z u p q r n e f = compose-comm x u ∙ full_alone u x (sound-composed y z u q r e) p f n
+next-full x y z u p q r n e f =
+    let s = sound-composed y z u q r e in
+    compose-comm x u p s ∙ full_alone u x s p f n
 
 -- elements of two forms never compose, and what elements compose to has their form
 data Form : Type 0 where
@@ -375,6 +439,7 @@ data Form : Type 0 where
   one_form : Form
   share_form : Form
   count_form : Form
+  index_form : Form
   pair_form : Form
   side_form : Form
 
@@ -384,6 +449,7 @@ form one = one_form
 form (share f) = share_form
 form (tok k) = count_form
 form (src n) = count_form
+form (indices xs) = index_form
 form (both x y) = pair_form
 form whole = side_form
 form (left x) = side_form
@@ -394,6 +460,7 @@ same_form unit_form unit_form = true
 same_form one_form one_form = true
 same_form share_form share_form = true
 same_form count_form count_form = true
+same_form index_form index_form = true
 same_form pair_form pair_form = true
 same_form side_form side_form = true
 same_form _ _ = false
@@ -406,6 +473,7 @@ apart (share f) (share g) u v d = cc
 apart (tok j) (tok k) u v d = cc
 apart (src n) (tok k) u v d = cc
 apart (tok k) (src n) u v d = cc
+apart (indices xs) (indices ys) u v d = cc
 apart (both a b) (both c e) u v d = cc
 apart (left x) (left y) u v d = cc
 apart (right x) (right y) u v d = cc
@@ -426,6 +494,8 @@ kept (share f) (share g) z u e = ap form (sym (if-some _ _ _ e).1)
 kept (tok j) (tok k) z u e = ap form (sym (some-same _ _ e))
 kept (src n) (tok k) z u e = ap form (sym (if-some _ _ _ e).1)
 kept (tok k) (src n) z u e = ap form (sym (if-some _ _ _ e).1)
+kept (indices xs) (indices ys) z u e =
+    ap form (sym (some-same _ _ (bind-is (composed xs ys) (λ zs. Some (indices zs)) z e).2))
 kept (both a b) (both c d) z u e =
     let r = bind-is (compose a c) (λ x. bind (compose b d) (λ y. Some (both x y))) z e in
     let s = bind-is (compose b d) (λ y. Some (both r.0 y)) z r.2 in
@@ -448,14 +518,14 @@ none-next : (o : Option Element) (z : Element) → ((v : Element) → o ≡ Some
 none-next None z h = refl
 none-next (Some v) z h = h v refl
 
-mixed : (x y z : Element) → is_unit x ≡ false → is_unit y ≡ false → is_unit z ≡ false
+mixed : (x y z : Element) → IsSound x → IsSound y → is_unit x ≡ false → is_unit y ≡ false → is_unit z ≡ false
     → (same_form (form x) (form y) && same_form (form y) (form z)) ≡ false → Assoc x y z
-mixed x y z u v w d = elim (and-false (same_form (form x) (form y)) (same_form (form y) (form z)) d) [
+mixed x y z p q u v w d = elim (and-false (same_form (form x) (form y)) (same_form (form y) (form z)) d) [
   | inl a ↦
       ap (λ o. and_next o z) (apart x y u v a)
       ∙ sym (none-before x (compose y z) (λ t e. apart x t u (composed-not-unit y z t v e) (ap (same_form (form x)) (kept y z t v e) ∙ a)))
   | inr b ↦
-      none-next (compose x y) z (λ t e. apart t z (composed-not-unit x y t u e) w (ap (λ g. same_form g (form z)) (kept y x t v (compose-comm y x ∙ e)) ∙ b))
+      none-next (compose x y) z (λ t e. apart t z (composed-not-unit x y t u e) w (ap (λ g. same_form g (form z)) (kept y x t v (compose-comm y x q p ∙ e)) ∙ b))
       ∙ sym (ap (λ o. before x o) (apart y z v w b))
 ]
 
@@ -468,13 +538,13 @@ right-next : (x y b : Element) → ((v : Element) → compose (right v) b ≡ No
     → compose whole b ≡ None → and_next (compose (right x) (right y)) b ≡ None
 right-next x y b f g = alone whole right (compose x y) b f g
 
-before-left : (b y z : Element) → ((v : Element) → compose (left v) b ≡ None)
+before-left : (b y z : Element) → IsSound b → IsSound (left y) → IsSound (left z) → ((v : Element) → compose (left v) b ≡ None)
     → compose whole b ≡ None → before b (compose (left y) (left z)) ≡ None
-before-left b y z f g = before-next b (compose (left y) (left z)) ∙ left-next y z b f g
+before-left b y z p q r f g = before-next b (left y) (left z) p q r ∙ left-next y z b f g
 
-before-right : (b y z : Element) → ((v : Element) → compose (right v) b ≡ None)
+before-right : (b y z : Element) → IsSound b → IsSound (right y) → IsSound (right z) → ((v : Element) → compose (right v) b ≡ None)
     → compose whole b ≡ None → before b (compose (right y) (right z)) ≡ None
-before-right b y z f g = before-next b (compose (right y) (right z)) ∙ right-next y z b f g
+before-right b y z p q r f g = before-next b (right y) (right z) p q r ∙ right-next y z b f g
 
 pub compose_assoc : (x y z : Element) → IsSound x → IsSound y → IsSound z → Assoc x y z
 compose_assoc nothing y z p q r = sym (bind_last (compose y z))
@@ -484,30 +554,31 @@ compose_assoc (share f) (share g) (share h) p q r = shares-assoc f g h p q r
 compose_assoc (tok i) (tok j) (tok k) p q r = let e : i + j + k ≡ i + (j + k) = omega arith in rw e refl
 compose_assoc (src n) (tok j) (tok k) p q r = counts-assoc n j k
 compose_assoc (tok j) (src n) (tok k) p q r =
-    src-src n j k ∙ swapped n j k ∙ sym (src-src n k j) ∙ sym (before-next (tok j) (compose (src n) (tok k)))
+    src-src n j k ∙ swapped n j k ∙ sym (src-src n k j) ∙ sym (before-next (tok j) (src n) (tok k) p q r)
 compose_assoc (tok j) (tok k) (src n) p q r =
-    swapped n j k ∙ sym (src-src n k j) ∙ sym (before-next (tok j) (compose (tok k) (src n)))
+    swapped n j k ∙ sym (src-src n k j) ∙ sym (before-next (tok j) (tok k) (src n) p q r)
 compose_assoc (src n) (tok k) (src m) p q r =
-    src-alone n k m ∙ sym (src-alone m k n) ∙ sym (before-next (src n) (compose (tok k) (src m)))
+    src-alone n k m ∙ sym (src-alone m k n) ∙ sym (before-next (src n) (tok k) (src m) p q r)
 compose_assoc (tok k) (src n) (src m) p q r = src-alone n k m
-compose_assoc (src n) (src m) (tok k) p q r = sym (before-next (src n) (compose (src m) (tok k)) ∙ src-alone m k n)
+compose_assoc (src n) (src m) (tok k) p q r = sym (before-next (src n) (src m) (tok k) p q r ∙ src-alone m k n)
+compose_assoc (indices xs) (indices ys) (indices zs) p q r = indices-assoc xs ys zs p.0 q.0 r.0
 compose_assoc (both a b) (both c d) (both i j) p q r =
     pairs-next (compose a c) (compose b d) i j
     ∙ ap (λ o. bind o (λ x. bind (and_next (compose b d) j) (λ y. Some (both x y)))) (compose_assoc a c i p.0 q.0 r.0)
     ∙ ap (λ o. bind (before a (compose c i)) (λ x. bind o (λ y. Some (both x y)))) (compose_assoc b d j p.1 q.1 r.1)
     ∙ sym (before-pairs a b (compose c i) (compose d j))
 compose_assoc (left x) (left y) (left z) p q r =
-    one_side whole left (λ x y. refl) (λ y. refl) x y z (compose_assoc x y z p.0 q.0 r.0) (λ v e f. full-next x y z v p.0 q.0 r.0 r.1 e f) (λ u e f. next-full x y z u p.0 q.0 r.0 p.1 e f)
+    one_side whole left (λ x y. refl) (λ y. refl) (λ x. refl) x y z (compose_assoc x y z p.0 q.0 r.0) (λ v e f. full-next x y z v p.0 q.0 r.0 r.1 e f) (λ u e f. next-full x y z u p.0 q.0 r.0 p.1 e f)
 compose_assoc (right x) (right y) (right z) p q r =
-    one_side whole right (λ x y. refl) (λ y. refl) x y z (compose_assoc x y z p.0 q.0 r.0) (λ v e f. full-next x y z v p.0 q.0 r.0 r.1 e f) (λ u e f. next-full x y z u p.0 q.0 r.0 p.1 e f)
+    one_side whole right (λ x y. refl) (λ y. refl) (λ x. refl) x y z (compose_assoc x y z p.0 q.0 r.0) (λ v e f. full-next x y z v p.0 q.0 r.0 r.1 e f) (λ u e f. next-full x y z u p.0 q.0 r.0 p.1 e f)
 compose_assoc (left x) (left y) (right z) p q r = left-next x y (right z) (λ v. refl) refl
 compose_assoc (left x) (left y) whole p q r = left-next x y whole (λ v. refl) refl
 compose_assoc (right x) (right y) (left z) p q r = right-next x y (left z) (λ v. refl) refl
 compose_assoc (right x) (right y) whole p q r = right-next x y whole (λ v. refl) refl
-compose_assoc (left x) (right y) (right z) p q r = sym (before-right (left x) y z (λ v. refl) refl)
-compose_assoc whole (right y) (right z) p q r = sym (before-right whole y z (λ v. refl) refl)
-compose_assoc (right x) (left y) (left z) p q r = sym (before-left (right x) y z (λ v. refl) refl)
-compose_assoc whole (left y) (left z) p q r = sym (before-left whole y z (λ v. refl) refl)
+compose_assoc (left x) (right y) (right z) p q r = sym (before-right (left x) y z p q r (λ v. refl) refl)
+compose_assoc whole (right y) (right z) p q r = sym (before-right whole y z p q r (λ v. refl) refl)
+compose_assoc (right x) (left y) (left z) p q r = sym (before-left (right x) y z p q r (λ v. refl) refl)
+compose_assoc whole (left y) (left z) p q r = sym (before-left whole y z p q r (λ v. refl) refl)
 compose_assoc (left x) (right y) (left z) p q r = refl
 compose_assoc (left x) (right y) whole p q r = refl
 compose_assoc (left x) whole (left z) p q r = refl
@@ -527,4 +598,4 @@ compose_assoc whole whole (right z) p q r = refl
 compose_assoc whole whole whole p q r = refl
 compose_assoc one one one p q r = refl
 compose_assoc (src n) (src m) (src k) p q r = refl
-compose_assoc x y z p q r = mixed x y z refl refl refl refl
+compose_assoc x y z p q r = mixed x y z p q refl refl refl refl

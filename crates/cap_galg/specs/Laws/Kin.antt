@@ -1,15 +1,17 @@
 -- Parts of one algebra, for each type of parts.
-use Rattle.std.proofs.Common.{◌≡◌, ℕ, arith, refl, subst, sym, true, false, Bool}
+use Rattle.std.proofs.Common.{◌≡◌, ℕ, arith, refl, subst, sym, true, false, Bool, List}
 use Rattle.std.specs.Prelude.{◌==◌, ◌&&◌, if◌then◌else◌}
 use Rattle.std.specs.Coded.{Unit-prop, le_prop}
 use Rattle.std.proofs.Props.{props}
-use Rattle.cap_galg.specs.Elements.{Element, nothing, one, share, tok, src, tokens, amount, both}
-use Rattle.cap_galg.specs.Elements.{whole, left, right, is_unit, is_full, pair_of, in_left}
-use Rattle.cap_galg.specs.Elements.{in_right}
+use Rattle.cap_galg_indices.specs.Sets.{AreBounds, is_empty}
+use Rattle.cap_galg_indices.specs.Laws.Members.{ascend-prop}
+use Rattle.cap_galg.specs.Elements.{Element, nothing, one, share, tok, src, indices, tokens, amount}
+use Rattle.cap_galg.specs.Elements.{index_set, both, whole, left, right, is_unit, is_full, pair_of}
+use Rattle.cap_galg.specs.Elements.{in_left, in_right}
 use Rattle.cap_galg.specs.Fractions.{IsAmount, IsShare}
 use Rattle.cap_galg.specs.declared.fraction.Fraction.{Fraction}
-use Rattle.cap_galg.specs.Algebras.{PlainAlgebra, unique, divisible, counting, product, sum}
-use Rattle.cap_galg.specs.Algebras.{IsElement, AreKin}
+use Rattle.cap_galg.specs.Algebras.{PlainAlgebra, unique, divisible, counting, indexed, product}
+use Rattle.cap_galg.specs.Algebras.{sum, IsElement, AreKin}
 use Rattle.cap_galg.specs.Views.{unique_element, counting_element, side_element, SideKin}
 use Rattle.cap_galg.specs.declared.unique.Unique.{Unique}
 use Rattle.cap_galg.specs.declared.unique.Unique.TheVariants.{Unit as NoPart, One}
@@ -48,6 +50,15 @@ amount-is false f e h = record { amount = h; positive = (let n = false-eq f.num 
 
 pub divisible-kin : (f g : Fraction) → IsAmount f → IsAmount g → AreKin (amount f) (amount g)
 divisible-kin f g h k = (divisible, lawful divisible, amount-is (f.num == 0) f refl h, amount-is (g.num == 0) g refl k)
+
+set-by : (b : Bool) (xs : List ℕ) → is_empty xs ≡ b → AreBounds xs
+    → IsElement indexed (if b then nothing else indices xs)
+set-by true xs e h = tt
+set-by false xs e h = (h, e)
+
+pub indexed-kin : (xs ys : List ℕ) → AreBounds xs → AreBounds ys
+    → AreKin (index_set xs) (index_set ys)
+indexed-kin xs ys h k = (indexed, lawful indexed, set-by (is_empty xs) xs refl h, set-by (is_empty ys) ys refl k)
 
 pair-by : (a b : PlainAlgebra) (x y : Element) (t : Bool) → (is_unit x && is_unit y) ≡ t
     → IsElement a x → IsElement b y → IsElement (product a b) (if t then nothing else both x y)
@@ -121,6 +132,7 @@ element-prop unique one = Unit-prop
 element-prop divisible (share f) = fraction-prop f
 element-prop counting (tok k) = le_prop
 element-prop counting (src n) = Unit-prop
+element-prop indexed (indices xs) = hlevel (props, ascend-prop 0 xs)
 element-prop (product a b) (both x y) = hlevel (props, element-prop a x, element-prop b y)
 element-prop (sum a b) whole = Unit-prop
 element-prop (sum a b) (left x) = hlevel (props, element-prop a x)

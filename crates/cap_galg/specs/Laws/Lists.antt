@@ -20,8 +20,9 @@ regrouped x y z u w p q r e f =
     let s = bind-is (compose y z) (λ t. compose x t) w (sym (compose_assoc x y z p q r) ∙ ap (λ o. bind o (λ t. compose t z)) e ∙ f) in
     record { middle = s.0; inner = s.1; outer = s.2 }
 
-pub swapped : (x y : Element) (o : Option Element) → compose x y ≡ o → compose y x ≡ o
-swapped x y o e = compose-comm y x ∙ e
+pub swapped : (x y : Element) (o : Option Element) → IsSound x → IsSound y → compose x y ≡ o
+    → compose y x ≡ o
+swapped x y o p q e = compose-comm y x q p ∙ e
 
 -- what the first two of three compose to, where the last two compose and then the first
 pub record Grouped (x y z w : Element) : Type 0 where
@@ -32,15 +33,24 @@ pub record Grouped (x y z w : Element) : Type 0 where
 pub grouped : (x y z t w : Element) → IsSound x → IsSound y → IsSound z → compose y z ≡ Some t
     → compose x t ≡ Some w → Grouped x y z w
 grouped x y z t w p q r e f =
-    let s = regrouped z y x t w r q p (swapped y z (Some t) e) (swapped x t (Some w) f) in
-    record { middle = s.middle; inner = swapped y x (Some s.middle) s.inner; outer = swapped z s.middle (Some w) s.outer }
+    let m = sound-composed y z t q r e in
+    let s = regrouped z y x t w r q p (swapped y z (Some t) q r e) (swapped x t (Some w) p m f) in
+    record {
+      middle = s.middle;
+      inner = swapped y x (Some s.middle) q p s.inner;
+      outer = swapped z s.middle (Some w) r (sound-composed y x s.middle q p s.inner) s.outer;
+    }
 
 -- the first and the last of three, then the second
 pub exchanged : (x y z u w : Element) → IsSound x → IsSound y → IsSound z → compose x y ≡ Some u
     → compose u z ≡ Some w → Grouped x z y w
 exchanged x y z u w p q r e f =
-    let s = regrouped y x z u w q p r (swapped x y (Some u) e) f in
-    record { middle = s.middle; inner = s.inner; outer = swapped y s.middle (Some w) s.outer }
+    let s = regrouped y x z u w q p r (swapped x y (Some u) p q e) f in
+    record {
+      middle = s.middle;
+      inner = s.inner;
+      outer = swapped y s.middle (Some w) q (sound-composed x z s.middle p r s.inner) s.outer;
+    }
 
 -- a part of what another element composes with composes with it too
 pub record HasPart (x u : Element) : Type 0 where
@@ -56,7 +66,8 @@ part-meets x u y w p q h e = let s = exchanged x h.rest y u w p h.sound q h.whol
 pub part-later : (x t y u : Element) → IsSound x → IsSound y → HasPart x t → compose y t ≡ Some u
     → HasPart x u
 part-later x t y u p q h e =
-    let s = regrouped x h.rest y t u p h.sound q h.whole (swapped y t (Some u) e) in
+    let s = regrouped x h.rest y t u p h.sound q h.whole
+    (swapped y t (Some u) q (sound-composed x h.rest t p h.sound h.whole) e) in
     record { rest = s.middle; sound = sound-composed h.rest y s.middle h.sound q s.inner; whole = s.outer }
 
 -- ---- lists
@@ -102,7 +113,7 @@ below-both a x y p q s sx sy h j e =
     let sz = sound-of a h.0 h.1 in
     let sw = sound-of a j.0 j.1 in
     let m = regrouped x h.0 q p s sx sz (sound-composed y j.0 q sy sw j.2) h.2 e in
-    let n = regrouped y j.0 h.0 q m.middle sy sw sz j.2 (swapped h.0 q (Some m.middle) m.inner) in
+    let n = regrouped y j.0 h.0 q m.middle sy sw sz j.2 (swapped h.0 q (Some m.middle) sz (sound-composed y j.0 q sy sw j.2) m.inner) in
     let c = closed a j.0 h.0 n.middle j.1 h.1 n.inner in
     let g = grouped x y n.middle m.middle s sx sy (sound-of a n.middle c) n.outer m.outer in
     (g.middle, g.inner, (n.middle, c, g.outer))

@@ -5,8 +5,8 @@ use Rattle.std.proofs.Common.{Some, None}
 use Rattle.std.specs.Prelude.{nat_lt, ◌&&◌, if◌then◌else◌}
 use Rattle.cap_galg.specs.Elements.{Element, nothing, both, whole, left, right, is_unit, is_full}
 use Rattle.cap_galg.specs.Elements.{on_left, on_right, bind, compose}
-use Rattle.cap_galg.specs.Algebras.{PlainAlgebra, unique, divisible, counting, product, sum, atoms}
-use Rattle.cap_galg.specs.Algebras.{at_atom, atom_element, are_apart}
+use Rattle.cap_galg.specs.Algebras.{PlainAlgebra, unique, divisible, counting, indexed, product}
+use Rattle.cap_galg.specs.Algebras.{sum, atoms, at_atom, atom_element, are_apart}
 use Rattle.cap_galg.specs.Laws.Composition.{true_or_false, IsSound, unit-is, compose-comm}
 use Rattle.cap_galg.specs.Laws.Composition.{compose-nothing, composed-not-unit, full_alone}
 
@@ -39,6 +39,7 @@ pub at_atom-some : (a : PlainAlgebra) (i : ℕ) (x : Element) → IsSome x → I
 at_atom-some unique i x p = p
 at_atom-some divisible i x p = p
 at_atom-some counting i x p = p
+at_atom-some indexed i x p = p
 at_atom-some (product a b) i x p = product-some (nat_lt i (atoms a)) (at_atom a i x) (at_atom b (i - atoms a) x) (at_atom-some a i x p) (at_atom-some b (i - atoms a) x p)
 at_atom-some (sum a b) i x p = sum-some (nat_lt i (atoms a)) (at_atom a i x) (at_atom b (i - atoms a) x) (at_atom-some a i x p) (at_atom-some b (i - atoms a) x p)
 
@@ -84,7 +85,7 @@ pub left-both : (s t : Bool) (x y : Element) → is_full x ≡ s → is_full y �
     ≡ bind (compose x y) (λ z. Some (on_left z))
 left-both true true x y e f p q = sym (ap (λ o. bind o (λ z. Some (on_left z))) (full_alone x y p.sound q.sound e q.some))
 left-both true false x y e f p q = sym (ap (λ o. bind o (λ z. Some (on_left z))) (full_alone x y p.sound q.sound e q.some))
-left-both false true x y e f p q = sym (ap (λ o. bind o (λ z. Some (on_left z))) (compose-comm x y ∙ full_alone y x q.sound p.sound f p.some))
+left-both false true x y e f p q = sym (ap (λ o. bind o (λ z. Some (on_left z))) (compose-comm x y p.sound q.sound ∙ full_alone y x q.sound p.sound f p.some))
 left-both false false x y e f p q = refl
 
 pub right-both : (s t : Bool) (x y : Element) → is_full x ≡ s → is_full y ≡ t → IsSome x → IsSome y
@@ -92,7 +93,7 @@ pub right-both : (s t : Bool) (x y : Element) → is_full x ≡ s → is_full y 
     ≡ bind (compose x y) (λ z. Some (on_right z))
 right-both true true x y e f p q = sym (ap (λ o. bind o (λ z. Some (on_right z))) (full_alone x y p.sound q.sound e q.some))
 right-both true false x y e f p q = sym (ap (λ o. bind o (λ z. Some (on_right z))) (full_alone x y p.sound q.sound e q.some))
-right-both false true x y e f p q = sym (ap (λ o. bind o (λ z. Some (on_right z))) (compose-comm x y ∙ full_alone y x q.sound p.sound f p.some))
+right-both false true x y e f p q = sym (ap (λ o. bind o (λ z. Some (on_right z))) (compose-comm x y p.sound q.sound ∙ full_alone y x q.sound p.sound f p.some))
 right-both false false x y e f p q = refl
 
 sum-follows : (t : Bool) (f g : Element → Element) (x y : Element) → IsSome (f x) → IsSome (f y)
@@ -108,6 +109,7 @@ pub at_atom-composed : (a : PlainAlgebra) (i : ℕ) (x y : Element) → IsSome x
 at_atom-composed unique i x y p q = sym (bind-some (compose x y))
 at_atom-composed divisible i x y p q = sym (bind-some (compose x y))
 at_atom-composed counting i x y p q = sym (bind-some (compose x y))
+at_atom-composed indexed i x y p q = sym (bind-some (compose x y))
 at_atom-composed (product a b) i x y p q =
     product-follows (nat_lt i (atoms a)) (λ z. at_atom a i z) (λ z. at_atom b (i - atoms a) z) x y (at_atom-composed a i x y p q) (at_atom-composed b (i - atoms a) x y p q)
 at_atom-composed (sum a b) i x y p q =
@@ -162,13 +164,20 @@ sides-none true false x y = refl
 sides-none false true x y = refl
 sides-none false false x y = refl
 
+sides-none_turned : (s t : Bool) (x y : Element)
+    → compose (if s then whole else right x) (if t then whole else left y) ≡ None
+sides-none_turned true true x y = refl
+sides-none_turned true false x y = refl
+sides-none_turned false true x y = refl
+sides-none_turned false false x y = refl
+
 sum-apart : (s t l r c d : Bool) (x y u v : Element) → (l ≡ true → compose x y ≡ None)
     → (r ≡ true → compose u v ≡ None)
     → (if s then (if t then l else true && c) else (if t then true && d else r)) ≡ true
     → compose (if s then on_left x else on_right u) (if t then on_left y else on_right v) ≡ None
 sum-apart true true l r c d x y u v p q e = left-none (is_full x) (is_full y) x y (p e)
 sum-apart true false l r c d x y u v p q e = sides-none (is_full x) (is_full v) x v
-sum-apart false true l r c d x y u v p q e = compose-comm (on_right u) (on_left y) ∙ sides-none (is_full y) (is_full u) y u
+sum-apart false true l r c d x y u v p q e = sides-none_turned (is_full u) (is_full y) u y
 sum-apart false false l r c d x y u v p q e = right-none (is_full u) (is_full v) u v (q e)
 
 pub apart-never : (a : PlainAlgebra) (i j : ℕ) (x y : Element) → are_apart a i j ≡ true
@@ -176,6 +185,7 @@ pub apart-never : (a : PlainAlgebra) (i j : ℕ) (x y : Element) → are_apart a
 apart-never unique i j x y e = cc
 apart-never divisible i j x y e = cc
 apart-never counting i j x y e = cc
+apart-never indexed i j x y e = cc
 apart-never (product a b) i j x y e =
     product-apart (nat_lt i (atoms a)) (nat_lt j (atoms a)) (are_apart a i j) (are_apart b (i - atoms a) (j - atoms a)) (nat_lt (j - atoms a) (atoms b)) (nat_lt (i - atoms a) (atoms b))
     (at_atom a i x) (at_atom a j y) (at_atom b (i - atoms a) x) (at_atom b (j - atoms a) y)

@@ -8,7 +8,7 @@ use Rattle.cap_parse_laws.specs.declared.class.Class.{Class}
 use Rattle.cap_parse_laws.specs.declared.class.Class.TheVariants as c
 use Rattle.cap_parse_laws.specs.Classes.{are_same}
 use Rattle.cap_parse_laws.specs.Readers.{Fault, unexpected, Outcome, Reader, ◌>>=◌, ahead, next_place, next_word, next_literal, expect, read_name, read_number, no_room, read_opening, read_optional, read_at_most, read_while, read_behind, read_more, read_several, read_listed, read_group}
-use Rattle.cap_parse_laws.specs.Grammar.{factor_by, read_factor, read_product_from, read_product, is_sign, sign_by, read_addend, read_term_from, read_term_with, bracketed_at, read_term, relation_by, read_comparison_from, read_comparison, slot_by, read_slot, amount_by, read_counted, guard_by, read_guard, read_guards, held_by, choice_by, item_from_by, read_fact, named_item_by, item_by, read_item, read_assertion_with, side_at, read_assertion, read_clause, read_terms, read_load, read_alloc, read_cas, named_value_by, value_by, named_statement_by, read_store, read_fork, read_else, read_branch, read_loop, read_check, read_give_back, statement_by, read_statement, read_block_with, block_at, declared_by, read_declared, read_joint, read_algebra_with, grouped_at, read_algebra, read_when, read_optional_when, read_case, read_action, read_head, read_region_body, read_region, read_function, declaration_by, read_declaration}
+use Rattle.cap_parse_laws.specs.Grammar.{factor_by, read_factor, read_product_from, read_product, is_sign, sign_by, read_addend, read_term_from, read_term_with, bracketed_at, read_term, relation_by, read_comparison_from, read_comparison, slot_by, read_slot, amount_by, read_counted, guard_by, read_guard, read_guards, held_by, choice_by, item_from_by, read_fact, named_item_by, item_by, read_item, read_assertion_with, side_at, read_assertion, read_clause, read_terms, read_load, read_alloc, read_cas, read_faa, named_value_by, value_by, named_statement_by, read_store, read_fork, read_else, read_branch, read_loop, read_check, read_give_back, read_dispose, statement_by, read_statement, read_block_with, block_at, declared_by, read_declared, read_joint, read_algebra_with, grouped_at, read_algebra, read_when, read_optional_when, read_case, read_action, read_head, read_region_body, read_region, read_function, declaration_by, read_declaration}
 
 -- fewer tokens are left than so many, if any part was read
 pub record Leaves {A : Type 0} (n : ℕ) (r : Outcome A) : Type 0 where
@@ -220,6 +220,8 @@ guard_by-takes d c.Name ts =
     then (word-takes ts) (λ w i. weaker (omega (arith, i)) (amount_by-keeps d w.0 (ahead w.1) w.1))
 guard_by-takes d c.Source ts = counted-takes d _ ts
 guard_by-takes d c.Tokens ts = counted-takes d _ ts
+guard_by-takes d c.AtIndex ts = counted-takes d _ ts
+guard_by-takes d c.FromIndex ts = counted-takes d _ ts
 guard_by-takes d k ts = fails
 
 pub guard-takes : (d : ℕ) → Takes (read_guard d)
@@ -343,10 +345,20 @@ named_value_by-keeps : (d : ℕ) (w : Word) (k : Class) → Keeps (named_value_b
 named_value_by-keeps d w c.Open ts = then (terms-takes d ts) (λ l i. leaves (omega (arith, i)))
 named_value_by-keeps d w k ts = then (term_from-keeps (bracketed_at d) (bracketed-takes d) None _ ts) (λ t i. leaves i)
 
+faa-takes : (d : ℕ) → Takes (read_faa d)
+faa-takes d ts =
+    then (place-takes ts) (λ p i1.
+    then (opening-takes d c.Open p.1) (λ o i2.
+    then (term-takes o.0.0 o.1) (λ a i3.
+    then (expect-takes c.Comma a.1) (λ m i4.
+    then (term-takes o.0.0 m.1) (λ e i5.
+    then (expect-takes c.Close e.1) (λ q i6. leaves (omega (arith, i1, i2, i3, i4, i5, i6))))))))
+
 value_by-takes : (d : ℕ) (k : Class) → Takes (value_by d k)
 value_by-takes d c.OpenBracket ts = load-takes d ts
 value_by-takes d c.Alloc ts = alloc-takes d ts
 value_by-takes d c.Cas ts = cas-takes d ts
+value_by-takes d c.Faa ts = faa-takes d ts
 value_by-takes d c.Name ts =
     then (word-takes ts) (λ w i. weaker (omega (arith, i)) (named_value_by-keeps d w.0 (ahead w.1) w.1))
 value_by-takes d k ts = then (term-takes d ts) (λ t i. leaves i)
@@ -410,6 +422,14 @@ give_back-takes d ts =
     then (optional-keeps (λ a. not (are_same c.Semicolon a)) (read_term d) (term-keeps d) p.1) (λ t j.
     then (expect-takes c.Semicolon t.1) (λ e l. leaves (omega (arith, i, j, l)))))
 
+dispose-takes : (d : ℕ) → Takes (read_dispose d)
+dispose-takes d ts =
+    then (place-takes ts) (λ p i1.
+    then (opening-takes d c.Open p.1) (λ o i2.
+    then (term-takes o.0.0 o.1) (λ t i3.
+    then (expect-takes c.Close t.1) (λ q i4.
+    then (expect-takes c.Semicolon q.1) (λ e i5. leaves (omega (arith, i1, i2, i3, i4, i5)))))))
+
 statement_by-takes : (blocks : Reader BlockTree) → Takes blocks → (d : ℕ) (k : Class)
     → Takes (statement_by blocks d k)
 statement_by-takes blocks h d c.Name ts =
@@ -420,6 +440,7 @@ statement_by-takes blocks h d c.If ts = branch-takes blocks h d ts
 statement_by-takes blocks h d c.While ts = loop-takes blocks h d ts
 statement_by-takes blocks h d c.Assert ts = check-takes d ts
 statement_by-takes blocks h d c.Return ts = give_back-takes d ts
+statement_by-takes blocks h d c.Dispose ts = dispose-takes d ts
 statement_by-takes blocks h d k ts = fails
 
 statement-takes-with : (blocks : Reader BlockTree) → Takes blocks → (d : ℕ)
@@ -442,49 +463,53 @@ statement-takes d = statement-takes-with (block_at d) (block-takes d) d
 
 -- region types
 
-declared_by-takes : (bracket : Reader DeclaredTree) → Takes bracket → (k : Class)
-    → Takes (declared_by bracket k)
-declared_by-takes bracket h c.Name ts = then (word-takes ts) (λ w i. leaves i)
-declared_by-takes bracket h c.Percent ts =
+declared_by-takes : (d : ℕ) (bracket : Reader DeclaredTree) → Takes bracket → (k : Class)
+    → Takes (declared_by d bracket k)
+declared_by-takes d bracket h c.Name ts = then (word-takes ts) (λ w i. leaves i)
+declared_by-takes d bracket h c.Percent ts =
     then (place-takes ts) (λ p i. then (name-takes p.1) (λ w j. leaves (omega (arith, i, j))))
-declared_by-takes bracket h c.Bar ts =
+declared_by-takes d bracket h c.Bar ts =
     then (place-takes ts) (λ p i.
     then (name-takes p.1) (λ w j.
     then (expect-takes c.Bar w.1) (λ q l. leaves (omega (arith, i, j, l)))))
-declared_by-takes bracket h k ts = h ts
+declared_by-takes d bracket h c.Index ts =
+    then (opening-takes d c.Index ts) (λ o i.
+    then (name-takes o.1) (λ w j.
+    then (expect-takes c.CloseBracket w.1) (λ q l. leaves (omega (arith, i, j, l)))))
+declared_by-takes d bracket h k ts = h ts
 
-declared-takes-with : (bracket : Reader DeclaredTree) → Takes bracket
-    → Takes (read_declared bracket)
-declared-takes-with bracket h ts = declared_by-takes bracket h (ahead ts) ts
+declared-takes-with : (d : ℕ) (bracket : Reader DeclaredTree) → Takes bracket
+    → Takes (read_declared d bracket)
+declared-takes-with d bracket h ts = declared_by-takes d bracket h (ahead ts) ts
 
-joint-takes-with : (bracket : Reader DeclaredTree) → Takes bracket → Takes (read_joint bracket)
-joint-takes-with bracket h ts =
-    then (declared-takes-with bracket h ts) (λ d i.
-    then (more-keeps c.Star (read_declared bracket) (takes-keeps (read_declared bracket) (declared-takes-with bracket h)) d.1) (λ more j.
+joint-takes-with : (d : ℕ) (bracket : Reader DeclaredTree) → Takes bracket → Takes (read_joint d bracket)
+joint-takes-with d bracket h ts =
+    then (declared-takes-with d bracket h ts) (λ x i.
+    then (more-keeps c.Star (read_declared d bracket) (takes-keeps (read_declared d bracket) (declared-takes-with d bracket h)) x.1) (λ more j.
     leaves (omega (arith, i, j))))
 
-algebra_with-takes : (bracket : Reader DeclaredTree) → Takes bracket
-    → Takes (read_algebra_with bracket)
-algebra_with-takes bracket h ts =
-    then (joint-takes-with bracket h ts) (λ x i.
-    then (more-keeps c.Plus (read_joint bracket) (takes-keeps (read_joint bracket) (joint-takes-with bracket h)) x.1) (λ more j.
+algebra_with-takes : (d : ℕ) (bracket : Reader DeclaredTree) → Takes bracket
+    → Takes (read_algebra_with d bracket)
+algebra_with-takes d bracket h ts =
+    then (joint-takes-with d bracket h ts) (λ x i.
+    then (more-keeps c.Plus (read_joint d bracket) (takes-keeps (read_joint d bracket) (joint-takes-with d bracket h)) x.1) (λ more j.
     leaves (omega (arith, i, j))))
 
 grouped-takes : (d : ℕ) → Takes (grouped_at d)
 grouped-takes zero ts = no_room-takes c.Open ts
 grouped-takes (suc d) ts =
     then (expect-takes c.Open ts) (λ p i.
-    then (algebra_with-takes (grouped_at d) (grouped-takes d) p.1) (λ a j.
+    then (algebra_with-takes d (grouped_at d) (grouped-takes d) p.1) (λ a j.
     then (expect-takes c.Close a.1) (λ q l. leaves (omega (arith, i, j, l)))))
 
-pub declared-takes : (d : ℕ) → Takes (read_declared (grouped_at d))
-declared-takes d = declared-takes-with (grouped_at d) (grouped-takes d)
+pub declared-takes : (d : ℕ) → Takes (read_declared d (grouped_at d))
+declared-takes d = declared-takes-with d (grouped_at d) (grouped-takes d)
 
-pub joint-takes : (d : ℕ) → Takes (read_joint (grouped_at d))
-joint-takes d = joint-takes-with (grouped_at d) (grouped-takes d)
+pub joint-takes : (d : ℕ) → Takes (read_joint d (grouped_at d))
+joint-takes d = joint-takes-with d (grouped_at d) (grouped-takes d)
 
 algebra-takes : (d : ℕ) → Takes (read_algebra d)
-algebra-takes d = algebra_with-takes (grouped_at d) (grouped-takes d)
+algebra-takes d = algebra_with-takes d (grouped_at d) (grouped-takes d)
 
 when-takes : (d : ℕ) → Takes (read_when d)
 when-takes d ts =

@@ -30,5 +30,5 @@ returns-in_default c =
     let w = c.args.word.now in
     let ts = c.args.reader.now in
     let n = c.in_default in
-    let same = in_no_row w (rows_of_one ts) (take_by_two w ts) (n.not-absurd, (n.not-assert, (n.not-shift, (n.not-keep, (n.not-fact, (n.not-create, (n.not-made, tt))))))) in
+    let same = in_no_row w (rows_of_one ts) (take_by_two w ts) (n.not-absurd, (n.not-assert, (n.not-keep, (n.not-fact, (n.not-create, (n.not-made, tt)))))) in
     subst (λ (o : Option (PlainChoice × List Token)). Takes choice_view c.by_two.result c.by_two.new.reader o) same c.by_two.ensures

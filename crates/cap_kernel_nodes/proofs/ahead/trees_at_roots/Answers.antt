@@ -2,7 +2,7 @@ use Rattle.std.proofs.Common.{inl, inr}
 use Rattle.std.specs.Iterator.Adapters.{zip_first, zip_second}
 use Rattle.std.specs.Slice.Iter.{iter_rest}
 use Rattle.cap_goal_roots.specs.Views.{roots_view}
-use Rattle.cap_kernel_nodes.specs.Nodes.{all_root_nodes}
+use Rattle.cap_rules_nodes.specs.Nodes.{all_root_nodes}
 use Rattle.cap_kernel_nodes.specs.Views.{trees_lent}
 use Rattle.cap_kernel_nodes.proofs.Stacks.{all-stacked, no-roots, no-trees}
 use Rattle.cap_kernel_nodes.proofs.ahead.trees_at_roots.Goals as goal

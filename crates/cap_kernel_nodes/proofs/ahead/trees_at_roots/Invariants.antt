@@ -4,7 +4,7 @@ use Rattle.std.specs.Slice.Iter.{iter_rest}
 use Rattle.std.specs.Vec.Iter.{into_iter_items}
 use Rattle.cap_prog.specs.Program.{PlainProgram}
 use Rattle.cap_goal_roots.specs.Views.{roots_view}
-use Rattle.cap_kernel_nodes.specs.Nodes.{all_root_nodes}
+use Rattle.cap_rules_nodes.specs.Nodes.{all_root_nodes}
 use Rattle.cap_kernel_nodes.specs.Views.{all_tree_nodes, trees_lent}
 use Rattle.cap_kernel_nodes.proofs.ahead.trees_at_roots.Given as goal
 

@@ -4,7 +4,7 @@ use Rattle.std.specs.Slice.Iter.{iter_rest}
 use Rattle.cap_goal.specs.Trees.{nodes_view}
 use Rattle.cap_goal.specs.Views.{goal_view}
 use Rattle.cap_rules_steps.specs.Goals.{goals_view}
-use Rattle.cap_kernel_nodes.specs.Nodes.{all_nodes_at}
+use Rattle.cap_rules_nodes.specs.Nodes.{all_nodes_at}
 use Rattle.cap_kernel_nodes.proofs.Stacks.{all-stacked, no-goals, no-nodes}
 use Rattle.cap_kernel_nodes.proofs.ahead.trees_beside.Goals as goal
 

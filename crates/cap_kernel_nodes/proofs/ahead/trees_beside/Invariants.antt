@@ -6,7 +6,7 @@ use Rattle.cap_prog.specs.Program.{PlainProgram}
 use Rattle.cap_goal.specs.Trees.{nodes_view}
 use Rattle.cap_goal.specs.Views.{goal_view}
 use Rattle.cap_rules_steps.specs.Goals.{goals_view}
-use Rattle.cap_kernel_nodes.specs.Nodes.{all_nodes_at}
+use Rattle.cap_rules_nodes.specs.Nodes.{all_nodes_at}
 use Rattle.cap_kernel_nodes.specs.Views.{all_tree_nodes}
 use Rattle.cap_kernel_nodes.proofs.ahead.trees_beside.Given as goal
 

@@ -1,4 +1,4 @@
-use Rattle.std.proofs.Common.{◌≡◌, List, sym, ap, subst, ◌∙◌}
+use Rattle.std.proofs.Common.{List, ap, subst, ◌∙◌}
 use Rattle.cap_lin.specs.declared.row.Row.{Row}
 use Rattle.cap_rules_steps.specs.Walks.{Claims, giving}
 use Rattle.cap_offer.specs.Seeking.{sought_address}

@@ -1,10 +1,9 @@
-use Rattle.std.proofs.Common.{◌≡◌, List, [], ◌∷◌, sym, ap, subst, ◌∙◌}
+use Rattle.std.proofs.Common.{List, sym, ap, subst, ◌∙◌}
 use Rattle.std.specs.Prelude.{IfOk}
 use Rattle.cap_prog.specs.Views.{act_view, program_view}
-use Rattle.cap_goal.specs.Views.{goal_view, choice_view}
+use Rattle.cap_goal.specs.Views.{goal_view}
 use Rattle.cap_goal_spec.specs.Choices.{PlainChoice}
 use Rattle.cap_offer_spec.specs.Deciding.{Noted}
-use Rattle.cap_offer_spec.specs.Offering.{at_statement}
 use Rattle.cap_closure_decide.specs.Noting.{Adds}
 use Rattle.cap_offer.specs.Heads.{by_rule}
 use Rattle.cap_offer.specs.Views.{choices_view}

@@ -1,4 +1,4 @@
-use Rattle.std.proofs.Common.{◌≡◌, [], ap, subst}
+use Rattle.std.proofs.Common.{subst}
 use Rattle.std.specs.Prelude.{Option, option_map}
 use Rattle.cap_prog.specs.Views.{act_view, program_view}
 use Rattle.cap_goal.specs.Views.{goal_view, choice_view}

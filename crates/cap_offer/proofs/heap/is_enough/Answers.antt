@@ -1,4 +1,4 @@
-use Rattle.std.proofs.Common.{◌≡◌, List, length, ap, ◌∙◌}
+use Rattle.std.proofs.Common.{List, length, ap, ◌∙◌}
 use Rattle.std.specs.Prelude.{◌==◌}
 use Rattle.cap_goal_spec.specs.States.{PlainFact}
 use Rattle.cap_offer.proofs.Noted.{no-opened}

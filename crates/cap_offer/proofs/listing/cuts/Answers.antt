@@ -1,4 +1,4 @@
-use Rattle.std.proofs.Common.{◌≡◌, [], ◌∷◌, ◌++◌, List, ap, ◌∙◌}
+use Rattle.std.proofs.Common.{[], ◌∷◌, ◌++◌, List, ap, ◌∙◌}
 use Rattle.cap_goal_spec.specs.Choices.{PlainChoice, by_guard}
 use Rattle.cap_offer.specs.Views.{choices_view}
 use Rattle.cap_offer.proofs.Listed.{part-more, two-pushed}

@@ -1,7 +1,6 @@
-use Rattle.std.proofs.Common.{◌≡◌, ℕ, ◌-◌, ◌<◌, ◌≤◌, List, length, nat_le, subst, ◌∙◌, ap}
+use Rattle.std.proofs.Common.{◌-◌, ◌<◌, ◌≤◌, List, length, nat_le, subst, ◌∙◌, ap}
 use Rattle.cap_lin.specs.declared.row.Sort.{Sort}
 use Rattle.cap_goal_spec.specs.States.{longest_list}
-use Rattle.cap_offer_spec.specs.Scanning.{has_room_for}
 use Rattle.cap_offer.proofs.Noted.{room-lacks, room-is}
 use Rattle.cap_offer.proofs.scanning.has_room_for.Goals as goal
 

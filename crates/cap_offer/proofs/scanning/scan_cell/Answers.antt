@@ -1,7 +1,5 @@
 use Rattle.std.proofs.Common.{sym, ap, subst}
 use Rattle.std.specs.Prelude.{IfOk}
-use Rattle.cap_prog.specs.Views.{program_view}
-use Rattle.cap_goal.specs.Views.{goal_view}
 use Rattle.cap_offer_spec.specs.Deciding.{Noted}
 use Rattle.cap_offer_spec.specs.Scanning.{Scan, scanned_cell}
 use Rattle.cap_closure_decide.specs.Noting.{Adds}

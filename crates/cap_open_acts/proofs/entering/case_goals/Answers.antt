@@ -1,7 +1,6 @@
-use Rattle.std.proofs.Common.{◌++◌, arith, ap, sym, ◌∙◌, map}
+use Rattle.std.proofs.Common.{arith}
 use Rattle.std.proofs.lemmas.Result.{err_from_is_err_and}
-use Rattle.cap_prog.specs.Views.{case_view}
-use Rattle.cap_goal.specs.Views.{goal_view, tasks_view}
+use Rattle.cap_goal.specs.Views.{tasks_view}
 use Rattle.cap_rules_steps.proofs.Walking.{done, no_memory}
 use Rattle.cap_open_acts.proofs.Cases.{cases_of, one_case, given, cases_chunk, none-yet}
 use Rattle.cap_open_acts.proofs.Stepping.{chunks-next, chunks-stop, chunks-end}

@@ -9,3 +9,6 @@ returns-in-Share c = rw c.in-Share.is (weaker _ _ _ inapplicable)
 
 pub returns-in-Tok : goal.returns-in-Tok
 returns-in-Tok c = rw c.in-Tok.is (weaker _ _ _ inapplicable)
+
+pub returns-in-Span : goal.returns-in-Span
+returns-in-Span c = rw c.in-Span.is (weaker _ _ _ inapplicable)

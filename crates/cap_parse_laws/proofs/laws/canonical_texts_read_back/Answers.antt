@@ -1,4 +1,4 @@
-use Rattle.cap_parse_laws.proofs.ReadBack.{canonical-again, text-again}
+use Rattle.cap_parse_laws.proofs.Again.{canonical-again, text-again}
 use Rattle.cap_parse_laws.proofs.laws.canonical_texts_read_back.Goals as goal
 
 pub returns-clause-tokens : goal.returns-clause-tokens

@@ -1,11 +1,15 @@
-use Rattle.cap_parse_laws.proofs.Exact.{unexpected-is, is-unexpected, too-deep-is, is-too-deep, one-of-three}
+use Rattle.cap_parse_laws.proofs.Begins.{goes-on}
+use Rattle.cap_parse_laws.proofs.Wrong.{unexpected-exactly, too-deep-exactly, one-of-three}
 use Rattle.cap_parse_laws.proofs.laws.texts_go_wrong_at_one_token.Goals as goal
 
 pub returns-clause-unexpected_exactly : goal.returns-clause-unexpected_exactly
-returns-clause-unexpected_exactly c ts rest = (unexpected-is ts rest, is-unexpected ts rest)
+returns-clause-unexpected_exactly c = unexpected-exactly
 
 pub returns-clause-too_deep_exactly : goal.returns-clause-too_deep_exactly
-returns-clause-too_deep_exactly c ts rest = (too-deep-is ts rest, is-too-deep ts rest)
+returns-clause-too_deep_exactly c = too-deep-exactly
 
 pub returns-clause-one_of_three : goal.returns-clause-one_of_three
 returns-clause-one_of_three c = one-of-three
+
+pub returns-clause-goes_on : goal.returns-clause-goes_on
+returns-clause-goes_on c = goes-on

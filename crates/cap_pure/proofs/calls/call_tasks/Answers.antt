@@ -1,4 +1,3 @@
-use Rattle.std.proofs.Common.{refl}
 use Rattle.cap_pure.proofs.Calling.{pushed}
 use Rattle.cap_pure.proofs.calls.call_tasks.Goals as goal
 

@@ -1,4 +1,4 @@
-use Rattle.std.proofs.Common.{◌≡◌, ◌∙◌, ◌+◌, drop, length, ap, sym, arith, rules}
+use Rattle.std.proofs.Common.{◌≡◌, ◌∙◌, ◌+◌, ◌^◌, drop, length, ap, sym, arith, rules}
 use Rattle.std.proofs.lemmas.Grind.{common_steps, elements}
 use borrow.Author.Rules.{get_or_read}
 use borrow.Author.Tests.{tests}
@@ -12,7 +12,7 @@ use Rattle.cap_resolve_functions.specs.Bodies.{context_seen}
 use Rattle.cap_resolve_functions.proofs.Rests.{statements_view}
 use Rattle.cap_resolve_functions.proofs.Members.{statement_of}
 use Rattle.cap_resolve_functions.proofs.Trees.{view-Block, statements-rest, statements-done}
-use Rattle.cap_resolve_functions.proofs.Blocks.{statement_stays, done_stays, counted_on}
+use Rattle.cap_resolve_functions.proofs.Blocks.{statement_stays, done_stays, counted_on, one_more, first_below}
 use Rattle.cap_resolve_functions.proofs.acts.+acts.Goals as goal
 
 pub build_block-loop-statement-init : goal.build_block-loop-statement-init
@@ -53,14 +53,21 @@ build_block-returns-clause-counted t c =
     let i : c.loop-statement.next + length (statements_parts (statements_view (drop c.loop-statement.statement-index c.deref-statement-items.result.now))) ≡ c.args.next.now + length (block_parts (block_view c.args.block.now)) = c.loop-statement.invariant.counted in
     omega arith
 
--- the statement is less deep than the block, and it is narrow
+pub build_act-advance-requires : goal.build_act-advance-requires
+build_act-advance-requires t c = one_more c.args.next.now (2 ^ 32) (statement_view c.args.statement.now) c.requires.counted
+
+-- the statement is less deep than the block, it is narrow, and its numbers are below the bound
 pub build_block-push_statement-requires : goal.build_block-push_statement-requires
-build_block-push_statement-requires t c = (
-  first_of (
-    search (rules, the_lemmas, get_or_read),
-    grind (the_lemmas, arith, common_steps) steps 2000000,
-    grind (the_lemmas, arith, elements) steps 2000000,
-    search (tests, rules, the_lemmas, get_or_read, common_steps),
-  ),
-  statement_of (context_seen c.args.body.now) c.args.block.now c.deref-statement-items.result.now c.loop-statement.statement-index c.statement-item.result c.statement-item.is c.loop-statement-test.true c.deref-statement-items.ensures.value c.requires,
-)
+build_block-push_statement-requires t c =
+    let r = statements-rest c.deref-statement-items.result.now c.loop-statement.statement-index c.statement-item.result c.loop-statement-test.true c.statement-item.is in (
+      first_of (
+        search (rules, the_lemmas, get_or_read),
+        grind (the_lemmas, arith, common_steps) steps 2000000,
+        grind (the_lemmas, arith, elements) steps 2000000,
+        search (tests, rules, the_lemmas, get_or_read, common_steps),
+      ),
+      (
+        statement_of (context_seen c.args.body.now) c.args.block.now c.deref-statement-items.result.now c.loop-statement.statement-index c.statement-item.result c.statement-item.is c.loop-statement-test.true c.deref-statement-items.ensures.value c.requires.narrow,
+        first_below c.loop-statement.next _ (2 ^ 32) (statement_view c.statement-item.result) (statements_view (drop (c.loop-statement.statement-index + 1) c.deref-statement-items.result.now)) _ r c.loop-statement.invariant.counted c.requires.counted,
+      ),
+    )

@@ -18,4 +18,4 @@ pub build_required-requires : goal.build_required-requires
 build_required-requires c =
     let p : words_view c.as_slice-parameters.result.now ≡ parameters (function_view c.args.function.now) = ap words_view c.as_slice-parameters.ensures.value ∙ c.in_ok-words.ensures in
     let q : parts_view c.as_slice-parts.result.now ≡ clause_parts (function_view c.args.function.now).precondition = ap parts_view c.as_slice-parts.ensures.value ∙ (c.in_ok-listed.ensures ∙ ap clause_parts c.clause_of.ensures) in
-    is_narrow_by (regions_of c.args.regions.now) (functions_of c.args.functions.now) (function_view c.args.function.now) c.requires (words_view c.as_slice-parameters.result.now) (parts_view c.as_slice-parts.result.now) p q
+    is_narrow_by (regions_of c.args.regions.now) (functions_of c.args.functions.now) (function_view c.args.function.now) c.requires.right c.requires.small (words_view c.as_slice-parameters.result.now) (parts_view c.as_slice-parts.result.now) p q

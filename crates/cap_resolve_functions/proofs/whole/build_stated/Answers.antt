@@ -1,4 +1,4 @@
-use Rattle.std.proofs.Common.{◌≡◌, ◌∙◌, sym, ap, subst}
+use Rattle.std.proofs.Common.{◌∙◌, sym, ap, subst}
 use Rattle.cap_parse_tree.specs.Views.{function_view}
 use Rattle.cap_resolve_parts.specs.Views.{words_view, statements_view}
 use Rattle.cap_resolve_tables.specs.Tables.{regions_of, functions_of, typed_names}

@@ -1,4 +1,4 @@
-use Rattle.std.proofs.Common.{◌≡◌, [], flat_map, map, sym, subst, arith}
+use Rattle.std.proofs.Common.{◌≡◌, [], flat_map, sym, subst, arith}
 use Rattle.cap_resolve_spec.specs.Regions.{region_type_findings}
 use Rattle.cap_resolve_tables.specs.Tables.{regions_of}
 use Rattle.cap_resolve_program.proofs.Unrefused.{left, nothing_at}

@@ -12,3 +12,9 @@ returns-in_ok-give_slot-in-Src c = rw c.in-Src.is (then_made _ _ _ _ c.in_ok-giv
 
 pub returns-in_ok-give_slot-in-Tok : goal.returns-in_ok-give_slot-in-Tok
 returns-in_ok-give_slot-in-Tok c = rw c.in-Tok.is (then_made _ _ _ _ c.in_ok-give_slot-in-Tok.ensures (done _))
+
+pub returns-in-At : goal.returns-in-At
+returns-in-At c = rw c.in-At.is c.give_index.ensures
+
+pub returns-in_ok-give_slot-in-From : goal.returns-in_ok-give_slot-in-From
+returns-in_ok-give_slot-in-From c = rw c.in-From.is (then_made _ _ _ _ c.in_ok-give_slot-in-From.ensures (done _))

@@ -16,3 +16,11 @@ returns-in-Src c =
 
 pub returns-in-Tok : goal.returns-in-Tok
 returns-in-Tok c = rw c.in-Tok.is (weaker _ _ _ inapplicable)
+
+pub returns-in-None : goal.returns-in-None
+returns-in-None c =
+    let h = rw c.constant-first.ensures at c.prove_that-in-None.ensures in
+    rw (c.in-Span.is, c.in-None.is) h
+
+pub returns-in-Some : goal.returns-in-Some
+returns-in-Some c = rw (c.in-Span.is, c.in-Some.is) (weaker _ _ _ inapplicable)

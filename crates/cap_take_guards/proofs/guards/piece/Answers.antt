@@ -4,7 +4,7 @@ use Rattle.cap_goal_spec.specs.States.{goals_of}
 use Rattle.cap_take_items.specs.Views.{remaining_view, tasks_ahead}
 use Rattle.cap_rules_steps.proofs.Walking.{made_claims, unmade_claims, claims_then, claims_fail, claims_value, claims_no_value, no_memory_claims, weaker, done_as}
 use Rattle.cap_take_guards.specs.Views.{cut_view}
-use Rattle.cap_take_guards.proofs.Keeping.{cut-keeps}
+use Rattle.cap_take_guards.proofs.Keeping.{cut-keeps, room-there}
 use Rattle.cap_take_guards.proofs.Places.{within}
 use Rattle.cap_take_guards.proofs.guards.piece.Goals as goal
 
@@ -46,13 +46,20 @@ returns-in_err-cut c =
     let m = rw c.in_ok-names.ensures at c.in_err-cut.ensures in
     rw (p.1, p.2) (made_claims _ _ _ _ _ _ c.in_ok-there.ensures (made_claims _ _ _ _ _ _ n (made_claims _ _ _ _ _ _ t (claims_value _ _ _ _ _ _ _ c.in_ok-prove_equal.ensures (claims_fail _ _ _ _ _ m)))))
 
-pub state_after-requires : goal.state_after-requires
-state_after-requires c =
+pub state_after-requires-clause-there : goal.state_after-requires-clause-there
+state_after-requires-clause-there c =
     let a = c.args in
     let q = c.in_ok-there.there.now in
     let e = cut-keeps a.state.now c.in_ok-names.names a.asked.now q.form a.way (cut_view c.in_ok-cut.cut) _ _ c.in_ok-cut.ensures in
     let h : a.number < length a.state.now.guards = within a.state.now.guards a.number q c.in_ok-there.ensures in
-    subst (λ gs. a.number < length gs) (sym e) h
+    subst (λ gs. a.number < length gs) (sym e.0) h
+
+pub state_after-requires-clause-room : goal.state_after-requires-clause-room
+state_after-requires-clause-room c =
+    let a = c.args in
+    let q = c.in_ok-there.there.now in
+    let e = cut-keeps a.state.now c.in_ok-names.names a.asked.now q.form a.way (cut_view c.in_ok-cut.cut) _ _ c.in_ok-cut.ensures in
+    room-there (cut_view c.in_ok-cut.cut) a.state.now.guards e
 
 pub returns-in_err-next : goal.returns-in_err-next
 returns-in_err-next c =

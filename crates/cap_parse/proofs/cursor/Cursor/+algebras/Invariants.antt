@@ -29,16 +29,16 @@ decreases-algebra_in_parentheses l = 7 * l.room + 6
 
 abbrev pub invariant-more_declared-loop-self : goal.invariant-more_declared-loop-self
 invariant-more_declared-loop-self l =
-    with_front (map both_view l.more.items) (read_more Star (read_declared (grouped_at l.room)) l.self.rest.now)
-    ≡ read_more Star (read_declared (grouped_at l.room)) l.fn.self.rest.now
+    with_front (map both_view l.more.items) (read_more Star (read_declared l.room (grouped_at l.room)) l.self.rest)
+    ≡ read_more Star (read_declared l.room (grouped_at l.room)) l.fn.self.rest
 
 abbrev pub decreases-more_declared-loop-self : goal.decreases-more_declared-loop-self
-decreases-more_declared-loop-self l = length l.self.rest.now
+decreases-more_declared-loop-self l = length l.self.rest
 
 abbrev pub invariant-more_joints-loop-self : goal.invariant-more_joints-loop-self
 invariant-more_joints-loop-self l =
-    with_front (map either_view l.more.items) (read_more Plus (read_joint (grouped_at l.room)) l.self.rest.now)
-    ≡ read_more Plus (read_joint (grouped_at l.room)) l.fn.self.rest.now
+    with_front (map either_view l.more.items) (read_more Plus (read_joint l.room (grouped_at l.room)) l.self.rest)
+    ≡ read_more Plus (read_joint l.room (grouped_at l.room)) l.fn.self.rest
 
 abbrev pub decreases-more_joints-loop-self : goal.decreases-more_joints-loop-self
-decreases-more_joints-loop-self l = length l.self.rest.now
+decreases-more_joints-loop-self l = length l.self.rest

@@ -1,4 +1,4 @@
-use Rattle.std.proofs.Common.{rules, refl, not, ap, sym, ◌∙◌, arith}
+use Rattle.std.proofs.Common.{rules, sym, ◌∙◌, arith}
 use Rattle.cap_parse_tree.specs.declared.assertion.Item.TheFolds.{the_lemmas}
 use Rattle.std.proofs.lemmas.Bool.Decides.{nat_tests}
 use Rattle.cap_parse.proofs.Inside.{side-inside}
@@ -12,17 +12,17 @@ use Rattle.cap_parse.proofs.cursor.Cursor.+items.Goals as goal
 
 pub side-returns-then-room-gt0 : goal.side-returns-then-room-gt0
 side-returns-then-room-gt0 t c =
-    rw (side-inside c.args.room c.args.self.now.rest.now (grind (arith, nat_tests, c.if-room-gt0.true)))
+    rw (side-inside c.args.room c.args.self.now.rest (grind (arith, nat_tests, c.if-room-gt0.true)))
     c.in_braces.ensures
 
 pub more_items-loop-self-preserved : goal.more_items-loop-self-preserved
 more_items-loop-self-preserved t c =
     rw c.in_ok-push.ensures.items
     (more-pushed And (read_item (side_at c.args.room) c.args.room) and_view (item-takes c.args.room) (λ e. cc) c.loop-self.more.items _ c.in_ok-place.place (item_view c.in_ok-item.item)
-    c.loop-self.self.rest.now c.next_place.new.self.rest.now c.item.new.self.rest.now (read_more And (read_item (side_at c.args.room) c.args.room) c.args.self.now.rest.now)
+    c.loop-self.self.rest c.next_place.new.self.rest c.item.new.self.rest (read_more And (read_item (side_at c.args.room) c.args.room) c.args.self.now.rest)
     (search (rules, the_lemmas)) (sym c.is_ahead.ensures ∙ c.loop-self-test.true) c.in_ok-place.ensures c.in_ok-item.ensures c.loop-self.invariant)
 
 pub more_items-loop-self-smaller : goal.more_items-loop-self-smaller
 more_items-loop-self-smaller t c =
-    more-smaller And (read_item (side_at c.args.room) c.args.room) (item-takes c.args.room) c.loop-self.self.rest.now c.next_place.new.self.rest.now c.item.new.self.rest.now c.in_ok-place.place (item_view c.in_ok-item.item)
+    more-smaller And (read_item (side_at c.args.room) c.args.room) (item-takes c.args.room) c.loop-self.self.rest c.next_place.new.self.rest c.item.new.self.rest c.in_ok-place.place (item_view c.in_ok-item.item)
     (sym c.is_ahead.ensures ∙ c.loop-self-test.true) c.in_ok-place.ensures c.in_ok-item.ensures

@@ -32,8 +32,8 @@ decreases-statements_in_braces l = 8 * l.room + 7
 
 abbrev pub invariant-statements-loop-self : goal.invariant-statements-loop-self
 invariant-statements-loop-self l =
-    with_front (map statement_view l.statements.items) (read_until CloseBrace (read_statement (block_at l.room) l.room) l.self.rest.now)
-    ≡ read_until CloseBrace (read_statement (block_at l.room) l.room) l.fn.self.rest.now
+    with_front (map statement_view l.statements.items) (read_until CloseBrace (read_statement (block_at l.room) l.room) l.self.rest)
+    ≡ read_until CloseBrace (read_statement (block_at l.room) l.room) l.fn.self.rest
 
 abbrev pub decreases-statements-loop-self : goal.decreases-statements-loop-self
-decreases-statements-loop-self l = length l.self.rest.now
+decreases-statements-loop-self l = length l.self.rest

@@ -35,16 +35,16 @@ decreases-in_parentheses l = 9 * l.room + 8
 
 abbrev pub invariant-times-loop-self : goal.invariant-times-loop-self
 invariant-times-loop-self l =
-    with_front (map times_view l.times.items) (read_more Star (read_factor (bracketed_at l.room)) l.self.rest.now)
-    ≡ read_more Star (read_factor (bracketed_at l.room)) l.fn.self.rest.now
+    with_front (map times_view l.times.items) (read_more Star (read_factor (bracketed_at l.room)) l.self.rest)
+    ≡ read_more Star (read_factor (bracketed_at l.room)) l.fn.self.rest
 
 abbrev pub decreases-times-loop-self : goal.decreases-times-loop-self
-decreases-times-loop-self l = length l.self.rest.now
+decreases-times-loop-self l = length l.self.rest
 
 abbrev pub invariant-addends-loop-self : goal.invariant-addends-loop-self
 invariant-addends-loop-self l =
-    with_front (map addend_view l.addends.items) (read_while is_sign (read_addend (bracketed_at l.room)) l.self.rest.now)
-    ≡ read_while is_sign (read_addend (bracketed_at l.room)) l.fn.self.rest.now
+    with_front (map addend_view l.addends.items) (read_while is_sign (read_addend (bracketed_at l.room)) l.self.rest)
+    ≡ read_while is_sign (read_addend (bracketed_at l.room)) l.fn.self.rest
 
 abbrev pub decreases-addends-loop-self : goal.decreases-addends-loop-self
-decreases-addends-loop-self l = length l.self.rest.now
+decreases-addends-loop-self l = length l.self.rest

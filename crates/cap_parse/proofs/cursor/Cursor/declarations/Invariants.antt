@@ -8,8 +8,8 @@ use Rattle.cap_parse.proofs.cursor.Cursor.declarations.Given as goal
 
 abbrev pub invariant-loop-self : goal.invariant-loop-self
 invariant-loop-self l =
-    with_front (map declaration_view l.declarations.items) (read_until End (read_declaration l.room) l.self.rest.now)
-    ≡ read_until End (read_declaration l.room) l.fn.self.rest.now
+    with_front (map declaration_view l.declarations.items) (read_until End (read_declaration l.room) l.self.rest)
+    ≡ read_until End (read_declaration l.room) l.fn.self.rest
 
 abbrev pub decreases-loop-self : goal.decreases-loop-self
-decreases-loop-self l = length l.self.rest.now
+decreases-loop-self l = length l.self.rest

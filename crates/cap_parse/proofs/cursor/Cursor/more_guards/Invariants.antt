@@ -8,8 +8,8 @@ use Rattle.cap_parse.proofs.cursor.Cursor.more_guards.Given as goal
 
 abbrev pub invariant-loop-self : goal.invariant-loop-self
 invariant-loop-self l =
-    with_front (map (behind_view guard_view) l.more.items) (read_more Star (read_guard l.room) l.self.rest.now)
-    ≡ read_more Star (read_guard l.room) l.fn.self.rest.now
+    with_front (map (behind_view guard_view) l.more.items) (read_more Star (read_guard l.room) l.self.rest)
+    ≡ read_more Star (read_guard l.room) l.fn.self.rest
 
 abbrev pub decreases-loop-self : goal.decreases-loop-self
-decreases-loop-self l = length l.self.rest.now
+decreases-loop-self l = length l.self.rest

@@ -1,4 +1,4 @@
-use Rattle.std.proofs.Common.{rules, refl, not, ap, sym, ◌∙◌, arith}
+use Rattle.std.proofs.Common.{refl, sym, ◌∙◌}
 use Rattle.cap_parse_tree.specs.Views.{behind_view, term_view}
 use Rattle.cap_parse_laws.specs.Grammar.{read_term}
 use Rattle.cap_parse_laws.specs.Readers.{read_more}
@@ -11,10 +11,10 @@ pub loop-self-preserved : goal.loop-self-preserved
 loop-self-preserved c =
     rw c.in_ok-push.ensures.items
     (more-pushed Comma (read_term c.args.room) (behind_view term_view) (term-takes c.args.room) (λ e. cc) c.loop-self.more.items (c.in_ok-comma.comma, c.in_ok-term.term) c.in_ok-comma.comma (term_view c.in_ok-term.term)
-    c.loop-self.self.rest.now c.next_place.new.self.rest.now c.term.new.self.rest.now (read_more Comma (read_term c.args.room) c.args.self.now.rest.now)
+    c.loop-self.self.rest c.next_place.new.self.rest c.term.new.self.rest (read_more Comma (read_term c.args.room) c.args.self.now.rest)
     refl (sym c.is_ahead.ensures ∙ c.loop-self-test.true) c.in_ok-comma.ensures c.in_ok-term.ensures c.loop-self.invariant)
 
 pub loop-self-smaller : goal.loop-self-smaller
 loop-self-smaller c =
-    more-smaller Comma (read_term c.args.room) (term-takes c.args.room) c.loop-self.self.rest.now c.next_place.new.self.rest.now c.term.new.self.rest.now c.in_ok-comma.comma (term_view c.in_ok-term.term)
+    more-smaller Comma (read_term c.args.room) (term-takes c.args.room) c.loop-self.self.rest c.next_place.new.self.rest c.term.new.self.rest c.in_ok-comma.comma (term_view c.in_ok-term.term)
     (sym c.is_ahead.ensures ∙ c.loop-self-test.true) c.in_ok-comma.ensures c.in_ok-term.ensures

@@ -1,0 +1,8 @@
+use Rattle.std.proofs.Common.{arith}
+use Rattle.cap_take_guards.proofs.Ways.{no-index-by}
+use Rattle.cap_take_guards.proofs.spans.index_by.Goals as goal
+
+pub returns-in_default : goal.returns-in_default
+returns-in_default c =
+    let a = c.args in
+    no-index-by a.state.now a.env.now a.start.now a.end.now a.term.now a.way a.ledger.now (λ e. omega arith) (λ e. omega arith)
