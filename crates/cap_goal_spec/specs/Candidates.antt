@@ -1,13 +1,13 @@
 -- What may be known of a fact's state after steps of others.
 use Rattle.std.specs.Prelude.{◌&&◌, Bool, nat_lt, is_none, if◌then◌else◌, List, [], ◌∷◌, ◌++◌, flat_map, length, ℤ, Option, Some, None}
 use Rattle.std.specs.List.{list_any, list_all}
-use Rattle.cap_lin.specs.Linear.{Linear, variable}
-use Rattle.cap_lin.specs.Steps.{Step, first_wide}
-use Rattle.cap_lin.specs.Rows.{row_of, row_of_steps}
-use Rattle.cap_lin.specs.declared.row.Row.{Row}
-use Rattle.cap_lin.specs.declared.row.Sort.TheVariants.{Int}
-use Rattle.cap_lin.specs.declared.row.Op.{Op}
-use Rattle.cap_lin.specs.declared.row.Op.TheVariants.{Eq as Equal, Le as AtMost}
+use Rattle.cap_fm_spec.specs.cap_lin.Linear.{Linear, variable}
+use Rattle.cap_fm_spec.specs.cap_lin.Steps.{Step, first_wide}
+use Rattle.cap_fm_spec.specs.cap_lin.Rows.{row_of, row_of_steps}
+use Rattle.cap_fm_spec.specs.cap_lin.declared.row.Row.{Row}
+use Rattle.cap_fm_spec.specs.cap_lin.declared.row.Sort.TheVariants.{Int}
+use Rattle.cap_fm_spec.specs.cap_lin.declared.row.Op.{Op}
+use Rattle.cap_fm_spec.specs.cap_lin.declared.row.Op.TheVariants.{Eq as Equal, Le as AtMost}
 use Rattle.cap_fm_spec.specs.Rows.{same_row}
 use Rattle.cap_gsolve.specs.declared.piece.Form.{Form}
 use Rattle.cap_gsolve.specs.declared.piece.Form.TheVariants.{Span}

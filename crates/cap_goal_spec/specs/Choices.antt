@@ -1,6 +1,6 @@
 -- Which rule is taken at a goal, and trees of choices.
 use Rattle.std.specs.Prelude.{ℕ, List, [], ◌∷◌, ◌++◌, Option, Some, None}
-use Rattle.cap_farkas.specs.declared.cert.Cert.{Cert}
+use Rattle.cap_fm_spec.specs.cap_farkas.declared.cert.Cert.{Cert}
 
 -- numbers are of cells, facts, pieces, opened regions, cases, sums and candidates from 0, and of
 -- moves: 0 for none, else an action from 1; a shift names a piece for each indexed atom of its

@@ -1,8 +1,8 @@
 -- What the names of assertions stand for.
 use Rattle.std.specs.Prelude.{ℕ, ◌+◌, Bool, false, ◌==◌, ◌||◌, if◌then◌else◌, is_some, List, ◌∷◌, ◌++◌, map, length, replicate, slice_get, slice_set, unwrap_or, pos, Option, Some, None}
 use Rattle.std.specs.List.{list_all, list_any}
-use Rattle.cap_lin.specs.Linear.{Linear, number}
-use Rattle.cap_lin.specs.Steps.{Step}
+use Rattle.cap_fm_spec.specs.cap_lin.Linear.{Linear, number}
+use Rattle.cap_fm_spec.specs.cap_lin.Steps.{Step}
 use Rattle.cap_prog.specs.declared.assertion.Slot.{Slot}
 use Rattle.cap_prog.specs.declared.assertion.Slot.TheVariants.{Any, Is}
 use Rattle.cap_prog.specs.declared.assertion.Asked.{Asked}

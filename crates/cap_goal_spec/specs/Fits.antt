@@ -2,7 +2,7 @@
 -- the state.
 use Rattle.std.specs.Prelude.{◌≡◌, ℕ, suc, ◌+◌, ◌≤◌, false, List, [], ◌∷◌, length, slice_get, Option, Some, None, IsSomeAnd}
 use Rattle.std.specs.List.{AllByRecursion, list_any}
-use Rattle.cap_lin.specs.Linear.{Linear, IsBelow}
+use Rattle.cap_fm_spec.specs.cap_lin.Linear.{Linear, IsBelow}
 use Rattle.cap_gsolve.specs.declared.piece.Form.{Form}
 use Rattle.cap_gsolve.specs.declared.piece.Form.TheVariants.{One, Share, Src, Tok, Span}
 use Rattle.cap_gsolve.specs.declared.piece.Piece.{Piece}

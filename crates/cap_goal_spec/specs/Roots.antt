@@ -1,11 +1,11 @@
 -- The goals from which the trees of a unit grow, and the results on the way to them.
 use Rattle.std.specs.Prelude.{ℕ, ◌+◌, ◌-◌, Bool, true, false, if◌then◌else◌, List, [], ◌∷◌, ◌++◌, length, map, flat_map, replicate, slice_get, Option, Some, None}
 use Rattle.std.specs.List.{range_with_len}
-use Rattle.cap_lin.specs.Linear.{Linear, variable}
-use Rattle.cap_lin.specs.Steps.{Step}
-use Rattle.cap_lin.specs.Rows.{row_of, row_of_steps}
-use Rattle.cap_lin.specs.declared.row.Row.{Row}
-use Rattle.cap_lin.specs.declared.row.Sort.TheVariants.{Int}
+use Rattle.cap_fm_spec.specs.cap_lin.Linear.{Linear, variable}
+use Rattle.cap_fm_spec.specs.cap_lin.Steps.{Step}
+use Rattle.cap_fm_spec.specs.cap_lin.Rows.{row_of, row_of_steps}
+use Rattle.cap_fm_spec.specs.cap_lin.declared.row.Row.{Row}
+use Rattle.cap_fm_spec.specs.cap_lin.declared.row.Sort.TheVariants.{Int}
 use Rattle.cap_prog.specs.declared.assertion.Comp.{Comp}
 use Rattle.cap_prog.specs.Program.{Items, PlainAssertion, PlainCase, PlainRegionType, Label, PlainAct, set, read, write, cas, faa, dispose, alloc, call, fork, branch, loop, check, give_back, Block, done, first, append, PlainFunction, PlainProgram}
 use Rattle.cap_prog.specs.Scopes.{region_sorts}

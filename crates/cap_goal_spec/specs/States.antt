@@ -1,8 +1,8 @@
 -- Symbolic states, and goals: a state with the tasks that are to be done from it.
 use Rattle.std.specs.Prelude.{ℕ, ◌==◌, Bool, false, if◌then◌else◌, List, [], ◌∷◌, length, option_to_list, Option, Some, None}
-use Rattle.cap_lin.specs.Linear.{Linear}
-use Rattle.cap_lin.specs.declared.row.Row.{Row}
-use Rattle.cap_lin.specs.declared.row.Sort.{Sort}
+use Rattle.cap_fm_spec.specs.cap_lin.Linear.{Linear}
+use Rattle.cap_fm_spec.specs.cap_lin.declared.row.Row.{Row}
+use Rattle.cap_fm_spec.specs.cap_lin.declared.row.Sort.{Sort}
 use Rattle.cap_gsolve.specs.declared.piece.Piece.{Piece}
 use Rattle.cap_prog.specs.Program.{Items, none, Block}
 

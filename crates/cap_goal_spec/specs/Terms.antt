@@ -1,7 +1,7 @@
 -- Terms with terms in the place of their variables, and the results on the way to them.
 use Rattle.std.specs.Prelude.{ℕ, zero, suc, ℤ, pos, List, [], ◌∷◌, ◌++◌, ◌&&◌, if◌then◌else◌, Option, Some, None}
-use Rattle.cap_lin.specs.Linear.{Linear, number, variable, plus, times, is_zero, same_number}
-use Rattle.cap_lin.specs.Steps.{Step, plus_steps, times_steps}
+use Rattle.cap_fm_spec.specs.cap_lin.Linear.{Linear, number, variable, plus, times, is_zero, same_number}
+use Rattle.cap_fm_spec.specs.cap_lin.Steps.{Step, plus_steps, times_steps}
 
 -- a sum, and to it the multiple of each variable's term, in order: first the multiple is made, and
 -- then the sum

@@ -14,9 +14,9 @@ use Rattle.cap_lin.specs.declared.row.Sort.TheVariants.{Int}
 use Rattle.cap_lin.specs.declared.row.Op.TheVariants.{Eq as Equal, Ne as Unequal}
 use Rattle.cap_lin.proofs.Results.{narrow-left, first_wide-nil}
 use Rattle.cap_farkas.specs.declared.cert.Cert.{Cert}
-use Rattle.cap_prog.specs.Program.{PlainAct, read, write, cas, faa, dispose, Label}
-use Rattle.cap_goal_spec.specs.States.{PlainFact, PlainState, longest_list, PlainTask, PlainGoal, goals_of}
-use Rattle.cap_goal_spec.specs.Choices.{given_marks}
+use Rattle.cap_rules.specs.cap_prog.Program.{PlainAct, read, write, cas, faa, dispose, Label}
+use Rattle.cap_rules.specs.cap_goal_spec.States.{PlainFact, PlainState, longest_list, PlainTask, PlainGoal, goals_of}
+use Rattle.cap_rules.specs.cap_goal_spec.Choices.{given_marks}
 use Rattle.cap_rules.specs.Attempts.{Claim, proved, owed, Event, makes, claims, Attempt, unit, ◌>>=◌, found, comparison_row}
 use Rattle.cap_rules.specs.Answers.{claims_of, steps_of, owed_lists}
 use Rattle.cap_rules.specs.Making.{value_here, prove_equal, prove_differ, fresh, with_sort}

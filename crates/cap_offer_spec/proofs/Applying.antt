@@ -11,9 +11,9 @@ use Rattle.cap_farkas.specs.declared.cert.Cert.{Cert}
 use Rattle.cap_farkas.specs.Refutes.{Refutes}
 use Rattle.cap_fm_spec.specs.Solving.{RowsAscend}
 use Rattle.cap_fm_spec.proofs.Certified.{certified as cert-refutes}
-use Rattle.cap_prog.specs.Program.{PlainItem, compare, choose, fact, atom, cell, none, item, PlainAct, set, read, write, cas, faa, dispose, alloc, call, fork, branch, loop, check, give_back, done as ended, first, PlainRegionType, PlainProgram}
-use Rattle.cap_goal_spec.specs.States.{PlainFact, PlainState, longest_list, PlainTask, to_run, to_turn, to_give, to_take, to_make, to_close, to_shift, to_rest, PlainGoal, goals_of}
-use Rattle.cap_goal_spec.specs.Choices.{PlainChoice, given_marks, by_absurd, by_clash, by_set, by_alloc, by_assert, by_if, by_loop, by_turn, by_call, by_fork, by_return, by_enter, by_act, by_pick, by_shift, by_settle, by_keep, by_give, by_fact, by_cases, by_cell, by_region, by_guard, by_convert, by_create, by_made, certs_of, with_certs}
+use Rattle.cap_rules.specs.cap_prog.Program.{PlainItem, compare, choose, fact, atom, cell, none, item, PlainAct, set, read, write, cas, faa, dispose, alloc, call, fork, branch, loop, check, give_back, done as ended, first, PlainRegionType, PlainProgram}
+use Rattle.cap_rules.specs.cap_goal_spec.States.{PlainFact, PlainState, longest_list, PlainTask, to_run, to_turn, to_give, to_take, to_make, to_close, to_shift, to_rest, PlainGoal, goals_of}
+use Rattle.cap_rules.specs.cap_goal_spec.Choices.{PlainChoice, given_marks, by_absurd, by_clash, by_set, by_alloc, by_assert, by_if, by_loop, by_turn, by_call, by_fork, by_return, by_enter, by_act, by_pick, by_shift, by_settle, by_keep, by_give, by_fact, by_cases, by_cell, by_region, by_guard, by_convert, by_create, by_made, certs_of, with_certs}
 use Rattle.cap_rules.specs.Attempts.{Attempt, ◌>>=◌, found, not_applicable}
 use Rattle.cap_rules.specs.Answers.{Answer, applies, inapplicable, too_wide, marks_of, full_marks, steps_of, owed_lists, proofs, proofs_of}
 use Rattle.cap_rules.proofs.Answering.{succeeds-answer}

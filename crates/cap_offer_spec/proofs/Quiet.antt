@@ -8,15 +8,15 @@ use Rattle.cap_lin.specs.declared.row.Sort.{Sort}
 use Rattle.cap_lin.specs.declared.row.Sort.TheVariants.{Int}
 use Rattle.cap_lin.specs.declared.row.Op.{Op}
 use Rattle.cap_lin.specs.declared.row.Op.TheVariants.{Eq as Equal, Ne as Unequal}
-use Rattle.cap_gsolve.specs.declared.piece.Piece.{Piece}
-use Rattle.cap_prog.specs.declared.assertion.Comp.{Comp}
-use Rattle.cap_prog.specs.declared.assertion.Slot.{Slot}
-use Rattle.cap_prog.specs.declared.assertion.Slot.TheVariants.{Any, Is}
-use Rattle.cap_prog.specs.declared.assertion.Asked.{Asked}
-use Rattle.cap_prog.specs.declared.assertion.Asked.TheVariants.{One, Share, Src, Tok, At, From}
-use Rattle.cap_prog.specs.Program.{PlainItem, compare, choose, fact, atom, cell, Items, none, item, PlainCase, PlainRegionType, PlainProgram}
-use Rattle.cap_goal_spec.specs.States.{PlainFact, PlainEnv, PlainState, PlainTask}
-use Rattle.cap_goal_spec.specs.Environments.{term_of, unbound, region_env}
+use Rattle.cap_rules.specs.cap_gsolve.declared.piece.Piece.{Piece}
+use Rattle.cap_rules.specs.cap_prog.declared.assertion.Comp.{Comp}
+use Rattle.cap_rules.specs.cap_prog.declared.assertion.Slot.{Slot}
+use Rattle.cap_rules.specs.cap_prog.declared.assertion.Slot.TheVariants.{Any, Is}
+use Rattle.cap_rules.specs.cap_prog.declared.assertion.Asked.{Asked}
+use Rattle.cap_rules.specs.cap_prog.declared.assertion.Asked.TheVariants.{One, Share, Src, Tok, At, From}
+use Rattle.cap_rules.specs.cap_prog.Program.{PlainItem, compare, choose, fact, atom, cell, Items, none, item, PlainCase, PlainRegionType, PlainProgram}
+use Rattle.cap_rules.specs.cap_goal_spec.States.{PlainFact, PlainEnv, PlainState, PlainTask}
+use Rattle.cap_rules.specs.cap_goal_spec.Environments.{term_of, unbound, region_env}
 use Rattle.cap_rules.specs.Attempts.{Event, makes, claims, Attempt, unit, behind, go_on, ◌>>=◌, need, each, appended}
 use Rattle.cap_rules.specs.Answers.{claims_of}
 use Rattle.cap_rules.specs.Making.{value_here, values_here, row_here, value_by, determined, determined_slot, row_by, rows_by, with_sort, with_sorts, with_row, with_rows, with_comparison, with_differing, with_cell, with_env, env_at, with_equalities, with_same, with_false, with_fact, guards_with, with_piece, with_pieces}

@@ -3,11 +3,11 @@
 use Rattle.std.proofs.Common.{◌≡◌, ℕ, zero, suc, Bool, List, [], ◌∷◌, Option, Some, None, refl}
 use Rattle.cap_lin.specs.Linear.{Linear}
 use Rattle.cap_farkas.specs.declared.cert.Cert.{Cert}
-use Rattle.cap_prog.specs.Program.{PlainItem, compare, choose, fact, atom, cell, Items, none, item, Label, PlainAct, set, alloc, call, fork, branch, loop, check, give_back, Block, done, first, append, PlainFunction, PlainProgram}
-use Rattle.cap_prog.specs.declared.assertion.Comp.{Comp}
-use Rattle.cap_prog.specs.declared.assertion.Slot.{Slot}
-use Rattle.cap_goal_spec.specs.States.{PlainState, Home, PlainTask, to_run, to_turn, to_give, to_take, to_make, to_close, to_shift, to_rest, PlainGoal}
-use Rattle.cap_goal_spec.specs.Choices.{PlainChoice, by_clash, by_set, by_alloc, by_assert, by_if, by_loop, by_turn, by_call, by_fork, by_return, by_enter, by_act, by_pick, by_shift, by_settle, by_keep, by_give, by_fact, by_cases, by_cell, by_region, by_guard, by_convert, by_create, by_made, with_certs}
+use Rattle.cap_rules.specs.cap_prog.Program.{PlainItem, compare, choose, fact, atom, cell, Items, none, item, Label, PlainAct, set, alloc, call, fork, branch, loop, check, give_back, Block, done, first, append, PlainFunction, PlainProgram}
+use Rattle.cap_rules.specs.cap_prog.declared.assertion.Comp.{Comp}
+use Rattle.cap_rules.specs.cap_prog.declared.assertion.Slot.{Slot}
+use Rattle.cap_rules.specs.cap_goal_spec.States.{PlainState, Home, PlainTask, to_run, to_turn, to_give, to_take, to_make, to_close, to_shift, to_rest, PlainGoal}
+use Rattle.cap_rules.specs.cap_goal_spec.Choices.{PlainChoice, by_clash, by_set, by_alloc, by_assert, by_if, by_loop, by_turn, by_call, by_fork, by_return, by_enter, by_act, by_pick, by_shift, by_settle, by_keep, by_give, by_fact, by_cases, by_cell, by_region, by_guard, by_convert, by_create, by_made, with_certs}
 use Rattle.cap_rules.specs.Rules.{at_task, at_tasks, rule, branches, called, with_new_cells, at_create, at_close, Remaining}
 use Rattle.cap_offer_spec.proofs.Quiet.{Quiet, chain, after-steps, of-none, need-quiet, value-quiet, values-quiet, row-quiet, row-by-quiet, slot-quiet, slots-quiet, sort-quiet, with-row-quiet, comparison-quiet, cell-quiet, env-quiet, give-quiet, case-env-quiet, new-region-quiet, target-quiet}
 

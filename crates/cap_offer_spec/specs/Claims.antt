@@ -3,8 +3,8 @@
 use Rattle.std.specs.Prelude.{ℕ, List}
 use Rattle.cap_lin.specs.Linear.{Linear}
 use Rattle.cap_lin.specs.declared.row.Row.{Row}
-use Rattle.cap_prog.specs.Program.{PlainAct, PlainAction, PlainRegionType}
-use Rattle.cap_goal_spec.specs.States.{PlainFact, PlainState}
+use Rattle.cap_rules.specs.cap_prog.Program.{PlainAct, PlainAction, PlainRegionType}
+use Rattle.cap_rules.specs.cap_goal_spec.States.{PlainFact, PlainState}
 use Rattle.cap_rules.specs.Attempts.{Attempt, ◌>>=◌, found}
 use Rattle.cap_rules.specs.Making.{value_here, determined, prove_equal, env_at}
 use Rattle.cap_rules.specs.Closing.{address_of}

@@ -3,9 +3,9 @@ use Rattle.std.specs.Prelude.{ℕ, zero, suc, ◌==◌, Bool, true, false, List,
 use Rattle.cap_lin.specs.declared.row.Row.{Row}
 use Rattle.cap_farkas.specs.declared.cert.Cert.{Cert}
 use Rattle.cap_fm_spec.specs.Events.{wide}
-use Rattle.cap_prog.specs.Program.{PlainAction, PlainRegionType}
-use Rattle.cap_goal_spec.specs.States.{PlainFact, PlainState}
-use Rattle.cap_goal_spec.specs.Candidates.{MadeRow, candidates, PlainCandidate, known, past, candidate_of}
+use Rattle.cap_rules.specs.cap_prog.Program.{PlainAction, PlainRegionType}
+use Rattle.cap_rules.specs.cap_goal_spec.States.{PlainFact, PlainState}
+use Rattle.cap_rules.specs.cap_goal_spec.Candidates.{MadeRow, candidates, PlainCandidate, known, past, candidate_of}
 use Rattle.cap_rules.specs.Resting.{prove_at, settle, keep}
 use Rattle.cap_offer_spec.specs.Claims.{keeps_after}
 use Rattle.cap_offer_spec.specs.Deciding.{Noted, done, note, ◌>>=◌, certified, succeeds}

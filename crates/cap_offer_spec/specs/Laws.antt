@@ -6,9 +6,9 @@ use Rattle.cap_lin.specs.declared.row.Row.{Row}
 use Rattle.cap_farkas.specs.declared.cert.Cert.{Cert}
 use Rattle.cap_fm_spec.specs.Events.{first_limit}
 use Rattle.cap_fm_spec.specs.Solving.{RowsAscend, solved}
-use Rattle.cap_prog.specs.Program.{PlainProgram}
-use Rattle.cap_goal_spec.specs.States.{PlainGoal}
-use Rattle.cap_goal_spec.specs.Choices.{PlainChoice, certs_of}
+use Rattle.cap_rules.specs.cap_prog.Program.{PlainProgram}
+use Rattle.cap_rules.specs.cap_goal_spec.States.{PlainGoal}
+use Rattle.cap_rules.specs.cap_goal_spec.Choices.{PlainChoice, certs_of}
 use Rattle.cap_rules.specs.Answers.{marks_of, steps_of, owed_lists, Subgoals}
 use Rattle.cap_rules.specs.Rules.{rule}
 use Rattle.cap_offer_spec.specs.Members.{IsOneOf}

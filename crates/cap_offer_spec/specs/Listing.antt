@@ -3,9 +3,9 @@
 use Rattle.std.specs.Prelude.{ℕ, suc, ◌+◌, ◌-◌, ◌&&◌, Bool, nat_lt, nat_le, if◌then◌else◌, List, [], ◌∷◌, ◌++◌, map, flat_map, length, reverse, slice_get, Option, Some, None}
 use Rattle.std.specs.List.{range_with_len}
 use Rattle.cap_galg.specs.Algebras.{atoms}
-use Rattle.cap_prog.specs.Program.{PlainAct, set, alloc, call, fork, branch, loop, check, give_back, PlainRegionType, PlainProgram}
-use Rattle.cap_goal_spec.specs.States.{PlainFact, PlainState}
-use Rattle.cap_goal_spec.specs.Choices.{PlainChoice, by_clash, by_set, by_alloc, by_assert, by_if, by_loop, by_call, by_fork, by_return, by_enter, by_pick, by_region, by_guard, by_convert, by_create}
+use Rattle.cap_rules.specs.cap_prog.Program.{PlainAct, set, alloc, call, fork, branch, loop, check, give_back, PlainRegionType, PlainProgram}
+use Rattle.cap_rules.specs.cap_goal_spec.States.{PlainFact, PlainState}
+use Rattle.cap_rules.specs.cap_goal_spec.Choices.{PlainChoice, by_clash, by_set, by_alloc, by_assert, by_if, by_loop, by_call, by_fork, by_return, by_enter, by_pick, by_region, by_guard, by_convert, by_create}
 use Rattle.cap_rules.specs.Taking.{Side, Sides, sum_count, sum_in}
 
 -- the numbers below n

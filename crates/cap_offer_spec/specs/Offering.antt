@@ -1,9 +1,9 @@
 -- The choices that are offered at a goal, in order, and what is noted while they are decided.
 use Rattle.std.specs.Prelude.{ℕ, Bool, true, false, is_some, ◌&&◌, List, [], ◌∷◌, ◌++◌, slice_get, option_map, option_to_list, Option, Some, None}
 use Rattle.cap_lin.specs.Linear.{Linear}
-use Rattle.cap_prog.specs.Program.{PlainItem, compare, choose, fact, atom, cell, item, PlainAct, read, write, cas, faa, dispose, first, PlainRegionType, PlainProgram}
-use Rattle.cap_goal_spec.specs.States.{PlainFact, PlainState, PlainTask, to_run, to_turn, to_give, to_take, to_make, to_close, to_shift, to_rest, PlainGoal}
-use Rattle.cap_goal_spec.specs.Choices.{PlainChoice, by_absurd, by_turn, by_settle, by_keep, by_give, by_fact, by_cases, by_made}
+use Rattle.cap_rules.specs.cap_prog.Program.{PlainItem, compare, choose, fact, atom, cell, item, PlainAct, read, write, cas, faa, dispose, first, PlainRegionType, PlainProgram}
+use Rattle.cap_rules.specs.cap_goal_spec.States.{PlainFact, PlainState, PlainTask, to_run, to_turn, to_give, to_take, to_make, to_close, to_shift, to_rest, PlainGoal}
+use Rattle.cap_rules.specs.cap_goal_spec.Choices.{PlainChoice, by_absurd, by_turn, by_settle, by_keep, by_give, by_fact, by_cases, by_made}
 use Rattle.cap_rules.specs.Making.{is_empty}
 use Rattle.cap_offer_spec.specs.Deciding.{clean, Outcome, Noted, done, ◌>>=◌, decided}
 use Rattle.cap_offer_spec.specs.Claims.{has_address, has_item_address}

@@ -5,9 +5,9 @@ use Rattle.cap_lin.specs.Linear.{Linear}
 use Rattle.cap_lin.specs.declared.row.Row.{Row}
 use Rattle.cap_farkas.specs.declared.cert.Cert.{Cert}
 use Rattle.cap_fm_spec.specs.Events.{wide}
-use Rattle.cap_prog.specs.Program.{PlainProgram}
-use Rattle.cap_goal_spec.specs.States.{PlainState, longest_list, PlainGoal}
-use Rattle.cap_goal_spec.specs.Choices.{PlainChoice, by_act, by_cell, with_certs}
+use Rattle.cap_rules.specs.cap_prog.Program.{PlainProgram}
+use Rattle.cap_rules.specs.cap_goal_spec.States.{PlainState, longest_list, PlainGoal}
+use Rattle.cap_rules.specs.cap_goal_spec.Choices.{PlainChoice, by_act, by_cell, with_certs}
 use Rattle.cap_rules.specs.Attempts.{Attempt}
 use Rattle.cap_rules.specs.Answers.{Answer, applies, inapplicable, too_wide, proofs}
 use Rattle.cap_offer_spec.specs.Deciding.{Noted, done, note, ◌>>=◌, decided_all, decided_each, certified_by, succeeds}

@@ -1,11 +1,11 @@
 -- The spans that an offered `shift` names: for each indexed atom of the action the first piece, in
 -- order, of which it is proved.
 use Rattle.std.specs.Prelude.{ℕ, zero, suc, Bool, true, false, List, [], ◌∷◌, slice_get, option_map, Option, Some, None}
-use Rattle.cap_gsolve.specs.declared.piece.Piece.{Piece}
-use Rattle.cap_prog.specs.declared.assertion.Asked.{Asked}
-use Rattle.cap_prog.specs.Program.{PlainCase, PlainAction, PlainRegionType, PlainProgram}
-use Rattle.cap_goal_spec.specs.States.{PlainFact, PlainEnv, PlainState}
-use Rattle.cap_goal_spec.specs.Choices.{PlainChoice, by_shift}
+use Rattle.cap_rules.specs.cap_gsolve.declared.piece.Piece.{Piece}
+use Rattle.cap_rules.specs.cap_prog.declared.assertion.Asked.{Asked}
+use Rattle.cap_rules.specs.cap_prog.Program.{PlainCase, PlainAction, PlainRegionType, PlainProgram}
+use Rattle.cap_rules.specs.cap_goal_spec.States.{PlainFact, PlainEnv, PlainState}
+use Rattle.cap_rules.specs.cap_goal_spec.Choices.{PlainChoice, by_shift}
 use Rattle.cap_farkas.specs.declared.cert.Cert.{Cert}
 use Rattle.cap_rules.specs.Answers.{owed_lists, proofs_of}
 use Rattle.cap_rules.specs.Making.{env_at}

@@ -2,10 +2,10 @@
 use Rattle.std.specs.Prelude.{ℕ, List, [], ◌∷◌, length}
 use Rattle.cap_lin.specs.Linear.{Linear}
 use Rattle.cap_lin.specs.declared.row.Row.{Row}
-use Rattle.cap_prog.specs.declared.assertion.Asked.{Asked}
-use Rattle.cap_prog.specs.Program.{PlainCase, PlainAction}
-use Rattle.cap_goal_spec.specs.States.{PlainFact, PlainEnv, PlainState}
-use Rattle.cap_goal_spec.specs.Environments.{asked_slot, unbound, region_env}
+use Rattle.cap_rules.specs.cap_prog.declared.assertion.Asked.{Asked}
+use Rattle.cap_rules.specs.cap_prog.Program.{PlainCase, PlainAction}
+use Rattle.cap_rules.specs.cap_goal_spec.States.{PlainFact, PlainEnv, PlainState}
+use Rattle.cap_rules.specs.cap_goal_spec.Environments.{asked_slot, unbound, region_env}
 use Rattle.cap_rules.specs.Attempts.{Attempt, unit, ◌>>=◌}
 use Rattle.cap_rules.specs.Answers.{Answer, applies}
 use Rattle.cap_rules.specs.Making.{determined, determined_slot, prove_comparisons}

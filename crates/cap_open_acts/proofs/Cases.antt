@@ -2,11 +2,11 @@
 use Rattle.std.proofs.Common.{◌≡◌, ℕ, List, [], ◌∷◌, map, length, refl}
 use Rattle.cap_prog.specs.declared.region.Case.{Case}
 use Rattle.cap_prog.specs.Views.{case_view}
-use Rattle.cap_goal_spec.specs.States.{PlainFact, PlainState, PlainTask, to_give, PlainGoal, goals_of}
+use Rattle.cap_rules_steps.specs.cap_goal_spec.States.{PlainFact, PlainState, PlainTask, to_give, PlainGoal, goals_of}
 use Rattle.cap_goal.specs.declared.goal.Goal.{Goal}
 use Rattle.cap_goal.specs.Views.{goal_view}
-use Rattle.cap_rules.specs.Attempts.{Attempt}
-use Rattle.cap_rules.specs.Closing.{in_case, case_goals}
+use Rattle.cap_rules_steps.specs.cap_rules.Attempts.{Attempt}
+use Rattle.cap_rules_steps.specs.cap_rules.Closing.{in_case, case_goals}
 use Rattle.cap_rules_steps.proofs.Walking.{LeadsBehind}
 use Rattle.cap_open_acts.proofs.Stepping.{Chunks}
 

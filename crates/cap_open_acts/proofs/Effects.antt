@@ -6,9 +6,9 @@ use Rattle.cap_rules_steps.specs.declared.error.RuleError.{RuleError}
 use Rattle.std.proofs.lemmas.List.{append-nil}
 use Rattle.cap_lin.specs.Linear.{Linear}
 use Rattle.cap_prog.specs.Program.{PlainAct, set, read, write, cas, faa, dispose, alloc, call, fork, branch, loop, check, give_back}
-use Rattle.cap_goal_spec.specs.States.{PlainState}
-use Rattle.cap_rules.specs.Attempts.{Event, Attempt}
-use Rattle.cap_rules.specs.Closing.{acted}
+use Rattle.cap_rules_steps.specs.cap_goal_spec.States.{PlainState}
+use Rattle.cap_rules_steps.specs.cap_rules.Attempts.{Event, Attempt}
+use Rattle.cap_rules_steps.specs.cap_rules.Closing.{acted}
 use Rattle.cap_open_acts.specs.Acts.{heap_act_of, heap_acted_if}
 use Rattle.cap_open_acts.specs.Steps.{disposed}
 

@@ -3,7 +3,7 @@ use Rattle.std.proofs.Common.{◌≡◌, ℕ, suc, Bool, true, List, ◌∷◌, 
 use Rattle.std.proofs.lemmas.List.{get_or-map, length-map}
 use Rattle.std.proofs.lemmas.Option.{slice_get_past, slice_get-get_or}
 use Rattle.std.specs.Prelude.{Ok, Err, slice_get, find}
-use Rattle.cap_rules.specs.Attempts.{found}
+use Rattle.cap_rules_steps.specs.cap_rules.Attempts.{found}
 use Rattle.cap_rules_steps.specs.Walks.{Makes}
 use Rattle.cap_rules_steps.specs.declared.error.RuleError.TheVariants.{NotApplicable}
 use Rattle.cap_rules_steps.proofs.Walking.{there, lacking, split-at}

@@ -7,11 +7,11 @@ use Rattle.std.proofs.lemmas.List.Concat.{flat_map-cons}
 use Rattle.std.specs.Prelude.{◌==◌, Ok, Err, if◌then◌else◌, flat_map, replicate, nat_lt, slice_get}
 use Rattle.cap_lin.specs.declared.row.Row.{Row}
 use Rattle.cap_lin.specs.declared.row.Sort.{Sort}
-use Rattle.cap_goal_spec.specs.States.{PlainFact, PlainState, longest_list}
-use Rattle.cap_goal_spec.specs.Environments.{zero_value}
-use Rattle.cap_rules.specs.Attempts.{Attempt, unit, go_on, need, found, ◌>>=◌}
-use Rattle.cap_rules.specs.Making.{prove_differ, with_sort}
-use Rattle.cap_rules.specs.Closing.{of_type, prove_other, Rival, rivals_from, with_mark, with_marks}
+use Rattle.cap_rules_steps.specs.cap_goal_spec.States.{PlainFact, PlainState, longest_list}
+use Rattle.cap_rules_steps.specs.cap_goal_spec.Environments.{zero_value}
+use Rattle.cap_rules_steps.specs.cap_rules.Attempts.{Attempt, unit, go_on, need, found, ◌>>=◌}
+use Rattle.cap_rules_steps.specs.cap_rules.Making.{prove_differ, with_sort}
+use Rattle.cap_rules_steps.specs.cap_rules.Closing.{of_type, prove_other, Rival, rivals_from, with_mark, with_marks}
 use Rattle.cap_open_acts.specs.declared.marking.Rival as code
 use Rattle.cap_open_acts.specs.Views.{rival_view, rivals_view}
 use Rattle.cap_open_acts.specs.Steps.{one_other, rival_of}

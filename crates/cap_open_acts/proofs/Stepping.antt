@@ -3,7 +3,7 @@ use Rattle.std.proofs.Common.{◌≡◌, ℕ, suc, ◌+◌, List, [], ◌∷◌,
 use Rattle.std.proofs.lemmas.List.{drop_all, append_assoc, append-nil}
 use Rattle.std.specs.Prelude.{Ok, Err, Result}
 use Rattle.cap_lin.specs.declared.row.Row.{Row}
-use Rattle.cap_rules.specs.Attempts.{Attempt, unit, go_on}
+use Rattle.cap_rules_steps.specs.cap_rules.Attempts.{Attempt, unit, go_on}
 use Rattle.cap_rules_steps.specs.Walks.{Makes, Claims}
 use Rattle.cap_rules_steps.specs.declared.error.RuleError.{RuleError}
 use Rattle.cap_rules_steps.proofs.Listing.{LeadsClaims}

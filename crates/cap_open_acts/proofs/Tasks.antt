@@ -7,8 +7,8 @@ use Rattle.cap_prog.specs.declared.assertion.Item.{Item}
 use Rattle.cap_prog.specs.declared.assertion.Item.TheFolds.{the_lemmas}
 use Rattle.cap_prog.specs.Program.{Items, none, item, items_of, append_items}
 use Rattle.cap_prog.specs.Views.{item_view, items_view}
-use Rattle.cap_goal_spec.specs.States.{PlainFact, PlainTask, to_close, to_rest}
-use Rattle.cap_rules.specs.Closing.{closing}
+use Rattle.cap_rules_steps.specs.cap_goal_spec.States.{PlainFact, PlainTask, to_close, to_rest}
+use Rattle.cap_rules_steps.specs.cap_rules.Closing.{closing}
 use Rattle.cap_goal.specs.declared.task.Task.{Task}
 use Rattle.cap_goal.specs.declared.task.Task.TheVariants.{Rest, Close}
 use Rattle.cap_goal.specs.Views.{items_in, task_view, tasks_view}

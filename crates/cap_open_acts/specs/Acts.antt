@@ -2,9 +2,9 @@
 use Rattle.std.specs.Prelude.{ℕ, List, [], ◌∷◌, Option, Some, None}
 use Rattle.cap_lin.specs.Linear.{Linear}
 use Rattle.cap_prog.specs.Program.{PlainAct, read, write, cas, faa, dispose}
-use Rattle.cap_goal_spec.specs.States.{PlainState}
-use Rattle.cap_rules.specs.Attempts.{Attempt, unit, ◌>>=◌, not_applicable}
-use Rattle.cap_rules.specs.Making.{with_local}
+use Rattle.cap_rules_steps.specs.cap_goal_spec.States.{PlainState}
+use Rattle.cap_rules_steps.specs.cap_rules.Attempts.{Attempt, unit, ◌>>=◌, not_applicable}
+use Rattle.cap_rules_steps.specs.cap_rules.Making.{with_local}
 use Rattle.cap_open_acts.specs.declared.acting.HeapAct.{HeapAct}
 use Rattle.cap_open_acts.specs.declared.acting.HeapAct.TheVariants.{Read, Write, Cas, Faa, Dispose}
 use Rattle.cap_open_acts.specs.Steps.{written, swapped, added, disposed}

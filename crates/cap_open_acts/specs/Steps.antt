@@ -4,11 +4,11 @@ use Rattle.cap_lin.specs.Linear.{Linear}
 use Rattle.cap_lin.specs.declared.row.Sort.TheVariants.{Int}
 use Rattle.cap_lin.specs.declared.row.Op.TheVariants.{Eq as Equal, Ne as Unequal}
 use Rattle.cap_prog.specs.Program.{PlainAct, PlainCase, PlainProgram}
-use Rattle.cap_goal_spec.specs.States.{PlainFact, PlainEnv, PlainState, PlainTask, PlainGoal, goals_of}
-use Rattle.cap_goal_spec.specs.Environments.{zero_value, one_value}
-use Rattle.cap_rules.specs.Attempts.{Attempt, unit, ◌>>=◌, found, need}
-use Rattle.cap_rules.specs.Making.{is_empty, sum, value_here, determined, rows_by, prove_equal, prove_differ, with_comparison, with_rows, with_local, with_env}
-use Rattle.cap_rules.specs.Closing.{address_of, of_type, prove_other, with_opened, case_goals, Rival, rivals, with_marks, with_content, acted, closing}
+use Rattle.cap_rules_steps.specs.cap_goal_spec.States.{PlainFact, PlainEnv, PlainState, PlainTask, PlainGoal, goals_of}
+use Rattle.cap_rules_steps.specs.cap_goal_spec.Environments.{zero_value, one_value}
+use Rattle.cap_rules_steps.specs.cap_rules.Attempts.{Attempt, unit, ◌>>=◌, found, need}
+use Rattle.cap_rules_steps.specs.cap_rules.Making.{is_empty, sum, value_here, determined, rows_by, prove_equal, prove_differ, with_comparison, with_rows, with_local, with_env}
+use Rattle.cap_rules_steps.specs.cap_rules.Closing.{address_of, of_type, prove_other, with_opened, case_goals, Rival, rivals, with_marks, with_content, acted, closing}
 
 -- the region is another than an opened one, where they are of one type
 abbrev pub one_other : PlainState → PlainFact → PlainFact → Attempt (Unit {0})

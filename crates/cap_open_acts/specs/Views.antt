@@ -3,8 +3,8 @@
 use Rattle.std.specs.Prelude.{List, ◌∷◌, map, option_to_list}
 use Rattle.std.specs.Borrow.{Bor}
 use Rattle.cap_lin.specs.Linear.{Linear}
-use Rattle.cap_goal_spec.specs.States.{PlainFact, PlainState}
-use Rattle.cap_rules.specs.Closing as closing
+use Rattle.cap_rules_steps.specs.cap_goal_spec.States.{PlainFact, PlainState}
+use Rattle.cap_rules_steps.specs.cap_rules.Closing as closing
 use Rattle.cap_open_acts.specs.declared.marking.Rival.{Rival}
 use Rattle.cap_open_acts.specs.declared.acting.Outcomes.{Outcomes}
 

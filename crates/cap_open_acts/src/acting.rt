@@ -1,14 +1,14 @@
 //! A statement acts on a cell.
 ghost use Rattle.std.specs.Prelude.{◌≡◌, ◌++◌, [], ◌∷◌, IfOk, OnOk, flat_map, map, option_map};
 ghost use Rattle.cap_lin.specs.Linear.{number};
-ghost use Rattle.cap_goal_spec.specs.Environments.{zero_value, one_value};
+ghost use Rattle.cap_rules_steps.specs.cap_goal_spec.Environments.{zero_value, one_value};
 ghost use Rattle.cap_prog.specs.Views.{act_view};
 ghost use Rattle.cap_goal.specs.Views.{goal_view, tasks_view};
-ghost use Rattle.cap_goal_spec.specs.Fits.{HasRoom};
-ghost use Rattle.cap_goal_spec.specs.States.{goals_of};
-ghost use Rattle.cap_rules.specs.Closing.{acted as states_after, closing, rivals as rivals_of};
-ghost use Rattle.cap_rules.specs.Closing.{with_content as with_content_of, with_marks as marked_by};
-ghost use Rattle.cap_rules.specs.Making.{with_comparison, with_local as with_local_of};
+ghost use Rattle.cap_rules_steps.specs.cap_goal_spec.Fits.{HasRoom};
+ghost use Rattle.cap_rules_steps.specs.cap_goal_spec.States.{goals_of};
+ghost use Rattle.cap_rules_steps.specs.cap_rules.Closing.{acted as states_after, closing, rivals as rivals_of};
+ghost use Rattle.cap_rules_steps.specs.cap_rules.Closing.{with_content as with_content_of, with_marks as marked_by};
+ghost use Rattle.cap_rules_steps.specs.cap_rules.Making.{with_comparison, with_local as with_local_of};
 ghost use Rattle.cap_rules_steps.specs.Goals.{goals_view};
 ghost use Rattle.cap_rules_steps.specs.Walks.{Makes, Claims, seen};
 ghost use Rattle.cap_open_acts.specs.Steps.{act_at, added, disposed, written, swapped, swapped_by};

@@ -1,7 +1,7 @@
 //! What is to be done after a statement.
 ghost use Rattle.std.specs.Prelude.{◌≡◌, IfOk};
 ghost use Rattle.cap_goal.specs.Views.{tasks_view};
-ghost use Rattle.cap_rules.specs.Closing.{closing};
+ghost use Rattle.cap_rules_steps.specs.cap_rules.Closing.{closing};
 
 use cap_goal::{Fact, Task};
 use cap_rules_steps::copy_tasks;

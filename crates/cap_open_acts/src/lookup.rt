@@ -1,8 +1,8 @@
 //! Parts of a state by their numbers, and the address of a statement.
 ghost use Rattle.std.specs.Prelude.{◌≡◌, slice_get, option_copied};
 ghost use Rattle.cap_prog.specs.Views.{act_view};
-ghost use Rattle.cap_rules.specs.Attempts.{found};
-ghost use Rattle.cap_rules.specs.Closing.{address_of};
+ghost use Rattle.cap_rules_steps.specs.cap_rules.Attempts.{found};
+ghost use Rattle.cap_rules_steps.specs.cap_rules.Closing.{address_of};
 ghost use Rattle.cap_rules_steps.specs.Walks.{Makes, seen};
 ghost use Rattle.cap_open_acts.specs.Views.{fact_lent, cell_lent, term_lent};
 

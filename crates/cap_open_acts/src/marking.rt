@@ -1,11 +1,11 @@
 //! Facts beside opened regions of their types: other regions, or loose from now on.
 ghost use Rattle.std.specs.Prelude.{◌≡◌, ◌++◌, ◌≤◌, length, map, true, false, OnOk, IfOk};
 ghost use Rattle.std.specs.Prelude.{slice_set, replicate, flat_map};
-ghost use Rattle.cap_goal_spec.specs.States.{longest_list};
-ghost use Rattle.cap_goal_spec.specs.Fits.{HasRoom};
-ghost use Rattle.cap_rules.specs.Closing.{rivals_from, rivals as rivals_of};
-ghost use Rattle.cap_rules.specs.Closing.{loosened as loosened_fact};
-ghost use Rattle.cap_rules.specs.Closing.{with_mark as marked_state, with_marks as marked_states};
+ghost use Rattle.cap_rules_steps.specs.cap_goal_spec.States.{longest_list};
+ghost use Rattle.cap_rules_steps.specs.cap_goal_spec.Fits.{HasRoom};
+ghost use Rattle.cap_rules_steps.specs.cap_rules.Closing.{rivals_from, rivals as rivals_of};
+ghost use Rattle.cap_rules_steps.specs.cap_rules.Closing.{loosened as loosened_fact};
+ghost use Rattle.cap_rules_steps.specs.cap_rules.Closing.{with_mark as marked_state, with_marks as marked_states};
 ghost use Rattle.cap_rules_steps.specs.Walks.{Makes, Claims, giving};
 ghost use Rattle.cap_open_acts.specs.Steps.{rival_of};
 ghost use Rattle.cap_open_acts.specs.Views.{rival_view, rivals_view};

@@ -2,10 +2,10 @@
 use Rattle.std.proofs.Common.{◌≡◌, ◌⊎◌, inl, inr, ℤ, ◌+ℤ◌, ◌*ℤ◌, Bool, true, false, List, [], ◌∷◌, ◌++◌, Option, Some, None, refl, sym, ap, subst, ◌∙◌}
 use Rattle.std.specs.Prelude.{if◌then◌else◌}
 use Rattle.std.specs.List.{AllZip}
-use Rattle.cap_lin.specs.Steps.{Step, sum_of, product_of, fits, first_wide}
-use Rattle.cap_lin.specs.declared.row.Row.{Row}
-use Rattle.cap_farkas.specs.declared.cert.Cert.{Cert}
-use Rattle.cap_farkas.specs.Refutes.{Refutes}
+use Rattle.cap_goal_spec.specs.cap_lin.Steps.{Step, sum_of, product_of, fits, first_wide}
+use Rattle.cap_goal_spec.specs.cap_lin.declared.row.Row.{Row}
+use Rattle.cap_goal_spec.specs.cap_farkas.declared.cert.Cert.{Cert}
+use Rattle.cap_goal_spec.specs.cap_farkas.Refutes.{Refutes}
 use Rattle.cap_rules.specs.Attempts.{Claim, owed, Event, makes, claims, Attempt}
 use Rattle.cap_rules.specs.Answers.{Answer, applies, inapplicable, too_wide, answer_or, steps_of, claims_of, owed_lists, Ending, passed, refused, stopped, Refuting, Within, Ends, answer_at, Answers}
 use Rattle.cap_rules.specs.Laws.{Succeeds}

@@ -1,15 +1,15 @@
 -- The examples' derivations, by computation.
 use Rattle.std.proofs.Common.{◌≡◌, ◌⊎◌, inl, inr, ℕ, ◌≤◌, ◌<◌, ℤ, pos, List, [], ◌∷◌, Option, Some, None, refl, sym, ap, subst, ◌∙◌, arith}
-use Rattle.cap_lin.specs.Linear.{merged, plus, times, sums, multiples, coefficient, same_term}
-use Rattle.cap_lin.specs.Steps.{first_wide, sums_steps, plus_steps, multiples_steps, times_steps, minus_steps}
-use Rattle.cap_lin.specs.Rows.{above_zero_steps, less_steps}
-use Rattle.cap_lin.specs.declared.row.Row.{Row}
-use Rattle.cap_lin.specs.declared.row.Kind.TheVariants.{Le, Lt}
-use Rattle.cap_lin.specs.declared.row.Sort.TheVariants.{Int, Perm}
-use Rattle.cap_farkas.specs.Farkas.{Names, column_sum, column_steps, HasStrict, RefutesLeaf}
-use Rattle.cap_gsolve.specs.Merge.{merge_rows, merge_steps}
+use Rattle.cap_goal_spec.specs.cap_lin.Linear.{merged, plus, times, sums, multiples, coefficient, same_term}
+use Rattle.cap_goal_spec.specs.cap_lin.Steps.{first_wide, sums_steps, plus_steps, multiples_steps, times_steps, minus_steps}
+use Rattle.cap_goal_spec.specs.cap_lin.Rows.{above_zero_steps, less_steps}
+use Rattle.cap_goal_spec.specs.cap_lin.declared.row.Row.{Row}
+use Rattle.cap_goal_spec.specs.cap_lin.declared.row.Kind.TheVariants.{Le, Lt}
+use Rattle.cap_goal_spec.specs.cap_lin.declared.row.Sort.TheVariants.{Int, Perm}
+use Rattle.cap_goal_spec.specs.cap_farkas.Farkas.{Names, column_sum, column_steps, HasStrict, RefutesLeaf}
+use Rattle.cap_goal_spec.specs.cap_gsolve.Merge.{merge_rows, merge_steps}
 use Rattle.std.specs.Prelude.{slice_get, unwrap_or, ◌<ℤ◌}
-use Rattle.cap_farkas.specs.declared.cert.Cert.TheVariants.{Leaf}
+use Rattle.cap_goal_spec.specs.cap_farkas.declared.cert.Cert.TheVariants.{Leaf}
 use Rattle.cap_goal_spec.specs.States.{PlainGoal, goal}
 use Rattle.cap_goal_spec.specs.Choices.{by_set, by_assert, by_return, node, no_trees}
 use Rattle.cap_goal_spec.specs.Roots.{empty_state, roots, function_unit}

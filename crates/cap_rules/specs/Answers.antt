@@ -1,10 +1,10 @@
 -- What a choice answers at a goal: its subgoals, or the first failure.
 use Rattle.std.specs.Prelude.{◌≡◌, ◌⊎◌, ℤ, Bool, true, is_some, List, [], ◌∷◌, map, flat_map, Option, Some, None}
-use Rattle.cap_lin.specs.Steps.{Step, first_wide}
-use Rattle.cap_lin.specs.declared.row.Row.{Row}
-use Rattle.cap_farkas.specs.declared.cert.Cert.{Cert}
-use Rattle.cap_farkas.specs.Refutes.{Refutes}
-use Rattle.cap_prog.specs.Program.{PlainProgram}
+use Rattle.cap_goal_spec.specs.cap_lin.Steps.{Step, first_wide}
+use Rattle.cap_goal_spec.specs.cap_lin.declared.row.Row.{Row}
+use Rattle.cap_goal_spec.specs.cap_farkas.declared.cert.Cert.{Cert}
+use Rattle.cap_goal_spec.specs.cap_farkas.Refutes.{Refutes}
+use Rattle.cap_goal_spec.specs.cap_prog.Program.{PlainProgram}
 use Rattle.cap_goal_spec.specs.States.{PlainState, PlainGoal}
 use Rattle.cap_goal_spec.specs.Choices.{PlainChoice, by_act, certs_of}
 use Rattle.cap_rules.specs.Attempts.{Claim, owed, Event, makes, claims, Attempt}

@@ -1,12 +1,12 @@
 -- An attempt to take a rule: what it meets on its way, in order, and what it comes to.
 use Rattle.std.specs.Prelude.{Bool, true, false, nat_lt, List, [], ◌∷◌, ◌++◌, map, length, Option, Some, None}
-use Rattle.cap_lin.specs.Linear.{Linear}
-use Rattle.cap_lin.specs.Steps.{Step}
-use Rattle.cap_lin.specs.Rows.{row_of, row_of_steps, negations, negations_steps}
-use Rattle.cap_lin.specs.Solves.{HasNone, Proves}
-use Rattle.cap_lin.specs.declared.row.Row.{Row}
-use Rattle.cap_lin.specs.declared.row.Sort.{Sort}
-use Rattle.cap_lin.specs.declared.row.Op.{Op}
+use Rattle.cap_goal_spec.specs.cap_lin.Linear.{Linear}
+use Rattle.cap_goal_spec.specs.cap_lin.Steps.{Step}
+use Rattle.cap_goal_spec.specs.cap_lin.Rows.{row_of, row_of_steps, negations, negations_steps}
+use Rattle.cap_goal_spec.specs.cap_lin.Solves.{HasNone, Proves}
+use Rattle.cap_goal_spec.specs.cap_lin.declared.row.Row.{Row}
+use Rattle.cap_goal_spec.specs.cap_lin.declared.row.Sort.{Sort}
+use Rattle.cap_goal_spec.specs.cap_lin.declared.row.Op.{Op}
 use Rattle.cap_goal_spec.specs.States.{longest_list}
 
 -- what a rule asks to be proved: that no valuation solves the rows, or that they prove a row

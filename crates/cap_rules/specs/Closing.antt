@@ -1,17 +1,17 @@
 -- Regions are opened, a statement acts on a cell, and the regions are closed by moves.
 use Rattle.std.specs.Prelude.{ℕ, zero, suc, ◌==◌, ◌&&◌, ◌||◌, nat_le, Bool, true, false, not, if◌then◌else◌, List, [], ◌∷◌, ◌++◌, map, flat_map, filter, length, find, remove, slice_get, slice_set, Option, Some, None}
 use Rattle.std.specs.List.{range_with_len}
-use Rattle.cap_lin.specs.Linear.{Linear}
-use Rattle.cap_lin.specs.declared.row.Sort.TheVariants.{Int, Perm}
-use Rattle.cap_lin.specs.declared.row.Op.TheVariants.{Eq as Equal, Ne as Unequal, Le as AtMost, Gt as Greater, Ge as AtLeast}
-use Rattle.cap_gsolve.specs.declared.piece.Form.{Form}
-use Rattle.cap_gsolve.specs.declared.piece.Form.TheVariants as form
-use Rattle.cap_gsolve.specs.Pieces.{of_atom}
-use Rattle.cap_prog.specs.declared.assertion.Slot.{Slot}
-use Rattle.cap_prog.specs.declared.assertion.Slot.TheVariants.{Is}
-use Rattle.cap_prog.specs.declared.assertion.Asked.{Asked}
-use Rattle.cap_prog.specs.declared.assertion.Asked.TheVariants.{One, Share, Src, Tok, At, From}
-use Rattle.cap_prog.specs.Program.{PlainAct, read, write, cas, faa, dispose, PlainCase, PlainAction, PlainRegionType}
+use Rattle.cap_goal_spec.specs.cap_lin.Linear.{Linear}
+use Rattle.cap_goal_spec.specs.cap_lin.declared.row.Sort.TheVariants.{Int, Perm}
+use Rattle.cap_goal_spec.specs.cap_lin.declared.row.Op.TheVariants.{Eq as Equal, Ne as Unequal, Le as AtMost, Gt as Greater, Ge as AtLeast}
+use Rattle.cap_goal_spec.specs.cap_gsolve.declared.piece.Form.{Form}
+use Rattle.cap_goal_spec.specs.cap_gsolve.declared.piece.Form.TheVariants as form
+use Rattle.cap_goal_spec.specs.cap_gsolve.Pieces.{of_atom}
+use Rattle.cap_goal_spec.specs.cap_prog.declared.assertion.Slot.{Slot}
+use Rattle.cap_goal_spec.specs.cap_prog.declared.assertion.Slot.TheVariants.{Is}
+use Rattle.cap_goal_spec.specs.cap_prog.declared.assertion.Asked.{Asked}
+use Rattle.cap_goal_spec.specs.cap_prog.declared.assertion.Asked.TheVariants.{One, Share, Src, Tok, At, From}
+use Rattle.cap_goal_spec.specs.cap_prog.Program.{PlainAct, read, write, cas, faa, dispose, PlainCase, PlainAction, PlainRegionType}
 use Rattle.cap_goal_spec.specs.Terms.{lone_variable, variables_from}
 use Rattle.cap_goal_spec.specs.States.{PlainFact, PlainEnv, PlainState, PlainTask, to_give, to_close, to_rest, PlainGoal, goals_of, with_state}
 use Rattle.cap_goal_spec.specs.Environments.{zero_value, one_value, Reading, settled, open_to, stuck, reading, bind_open, asked_slot, bound, unbound, region_env}

@@ -1,18 +1,18 @@
 -- Small programs and their derivations, and broken ones.
 use Rattle.std.specs.Prelude.{ℕ, pos, false, List, [], ◌∷◌, Option, Some, None}
-use Rattle.cap_lin.specs.Linear.{Linear, number, variable}
-use Rattle.cap_lin.specs.declared.row.Sort.TheVariants.{Int}
-use Rattle.cap_lin.specs.declared.row.Op.TheVariants.{Le as AtMost}
-use Rattle.cap_farkas.specs.declared.cert.Cert.{Cert}
-use Rattle.cap_farkas.specs.declared.cert.Cert.TheVariants.{Leaf}
-use Rattle.cap_galg.specs.Algebras.{divisible, indexed}
-use Rattle.cap_gsolve.specs.declared.piece.Form.TheVariants.{Span}
-use Rattle.cap_gsolve.specs.Pieces.{piece}
-use Rattle.cap_syntax.specs.declared.place.Place.{Place}
-use Rattle.cap_prog.specs.declared.assertion.Comp.{Comp}
-use Rattle.cap_prog.specs.declared.assertion.Slot.TheVariants.{Any, Is}
-use Rattle.cap_prog.specs.declared.assertion.Asked.TheVariants.{Share, At}
-use Rattle.cap_prog.specs.Program.{fact, atom, cell, none, item, PlainAssertion, PlainCase, PlainAction, PlainRegionType, Label, set, faa, dispose, alloc, check, give_back, Block, done, first, PlainFunction, PlainProgram}
+use Rattle.cap_goal_spec.specs.cap_lin.Linear.{Linear, number, variable}
+use Rattle.cap_goal_spec.specs.cap_lin.declared.row.Sort.TheVariants.{Int}
+use Rattle.cap_goal_spec.specs.cap_lin.declared.row.Op.TheVariants.{Le as AtMost}
+use Rattle.cap_goal_spec.specs.cap_farkas.declared.cert.Cert.{Cert}
+use Rattle.cap_goal_spec.specs.cap_farkas.declared.cert.Cert.TheVariants.{Leaf}
+use Rattle.cap_goal_spec.specs.cap_galg.Algebras.{divisible, indexed}
+use Rattle.cap_goal_spec.specs.cap_gsolve.declared.piece.Form.TheVariants.{Span}
+use Rattle.cap_goal_spec.specs.cap_gsolve.Pieces.{piece}
+use Rattle.cap_goal_spec.specs.cap_syntax.declared.place.Place.{Place}
+use Rattle.cap_goal_spec.specs.cap_prog.declared.assertion.Comp.{Comp}
+use Rattle.cap_goal_spec.specs.cap_prog.declared.assertion.Slot.TheVariants.{Any, Is}
+use Rattle.cap_goal_spec.specs.cap_prog.declared.assertion.Asked.TheVariants.{Share, At}
+use Rattle.cap_goal_spec.specs.cap_prog.Program.{fact, atom, cell, none, item, PlainAssertion, PlainCase, PlainAction, PlainRegionType, Label, set, faa, dispose, alloc, check, give_back, Block, done, first, PlainFunction, PlainProgram}
 use Rattle.cap_goal_spec.specs.States.{PlainFact, PlainState, to_shift, PlainGoal, goal}
 use Rattle.cap_goal_spec.specs.Roots.{empty_state}
 use Rattle.cap_goal_spec.specs.Choices.{PlainChoice, by_set, by_alloc, by_assert, by_return, by_act, by_shift, by_cell, by_region, by_guard, by_create, by_made, PlainTree, node, PlainTrees, no_trees, tree}

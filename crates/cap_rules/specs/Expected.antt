@@ -1,6 +1,6 @@
 -- Which trees and moves of the examples are valid, and which aren't.
 use Rattle.std.specs.Prelude.{ℕ, List, [], ◌∷◌, slice_get, unwrap_or, Option, Some, None}
-use Rattle.cap_farkas.specs.declared.cert.Cert.TheVariants.{Leaf}
+use Rattle.cap_goal_spec.specs.cap_farkas.declared.cert.Cert.TheVariants.{Leaf}
 use Rattle.cap_goal_spec.specs.States.{PlainGoal}
 use Rattle.cap_goal_spec.specs.Choices.{by_set, by_return, PlainTree, node, no_trees}
 use Rattle.cap_goal_spec.specs.Roots.{roots, function_unit}

@@ -1,18 +1,18 @@
 -- An assertion is given: its names get variables, and its items are assumed.
 use Rattle.std.specs.Prelude.{ℕ, ℤ, List, [], ◌∷◌, ◌++◌, Option, Some, None}
-use Rattle.cap_lin.specs.Linear.{Linear, variable}
-use Rattle.cap_lin.specs.declared.row.Sort.{Sort}
-use Rattle.cap_lin.specs.declared.row.Sort.TheVariants.{Int, Perm}
-use Rattle.cap_lin.specs.declared.row.Op.TheVariants.{Ge as AtLeast}
-use Rattle.cap_gsolve.specs.declared.piece.Form.{Form}
-use Rattle.cap_gsolve.specs.declared.piece.Form.TheVariants as form
-use Rattle.cap_gsolve.specs.Pieces.{piece}
-use Rattle.cap_prog.specs.declared.assertion.Comp.{Comp}
-use Rattle.cap_prog.specs.declared.assertion.Slot.{Slot}
-use Rattle.cap_prog.specs.declared.assertion.Slot.TheVariants.{Any, Is}
-use Rattle.cap_prog.specs.declared.assertion.Asked.{Asked}
-use Rattle.cap_prog.specs.declared.assertion.Asked.TheVariants.{One, Share, Src, Tok, At, From}
-use Rattle.cap_prog.specs.Program.{PlainItem, compare, choose, fact, atom, cell, Items, none, item, append_items, PlainProgram}
+use Rattle.cap_goal_spec.specs.cap_lin.Linear.{Linear, variable}
+use Rattle.cap_goal_spec.specs.cap_lin.declared.row.Sort.{Sort}
+use Rattle.cap_goal_spec.specs.cap_lin.declared.row.Sort.TheVariants.{Int, Perm}
+use Rattle.cap_goal_spec.specs.cap_lin.declared.row.Op.TheVariants.{Ge as AtLeast}
+use Rattle.cap_goal_spec.specs.cap_gsolve.declared.piece.Form.{Form}
+use Rattle.cap_goal_spec.specs.cap_gsolve.declared.piece.Form.TheVariants as form
+use Rattle.cap_goal_spec.specs.cap_gsolve.Pieces.{piece}
+use Rattle.cap_goal_spec.specs.cap_prog.declared.assertion.Comp.{Comp}
+use Rattle.cap_goal_spec.specs.cap_prog.declared.assertion.Slot.{Slot}
+use Rattle.cap_goal_spec.specs.cap_prog.declared.assertion.Slot.TheVariants.{Any, Is}
+use Rattle.cap_goal_spec.specs.cap_prog.declared.assertion.Asked.{Asked}
+use Rattle.cap_goal_spec.specs.cap_prog.declared.assertion.Asked.TheVariants.{One, Share, Src, Tok, At, From}
+use Rattle.cap_goal_spec.specs.cap_prog.Program.{PlainItem, compare, choose, fact, atom, cell, Items, none, item, append_items, PlainProgram}
 use Rattle.cap_goal_spec.specs.States.{PlainState, PlainTask, to_give, PlainGoal, goals_of}
 use Rattle.cap_goal_spec.specs.Environments.{one_value, term_of, with_name}
 use Rattle.cap_rules.specs.Attempts.{Attempt, unit, ◌>>=◌}

@@ -2,10 +2,10 @@
 -- first.
 use Rattle.std.specs.Prelude.{◌≡◌, List, Some, None}
 use Rattle.std.specs.List.{AllZip}
-use Rattle.cap_lin.specs.Steps.{first_wide}
-use Rattle.cap_farkas.specs.declared.cert.Cert.{Cert}
-use Rattle.cap_farkas.specs.Refutes.{Refutes}
-use Rattle.cap_prog.specs.Program.{PlainProgram}
+use Rattle.cap_goal_spec.specs.cap_lin.Steps.{first_wide}
+use Rattle.cap_goal_spec.specs.cap_farkas.declared.cert.Cert.{Cert}
+use Rattle.cap_goal_spec.specs.cap_farkas.Refutes.{Refutes}
+use Rattle.cap_goal_spec.specs.cap_prog.Program.{PlainProgram}
 use Rattle.cap_goal_spec.specs.States.{PlainGoal}
 use Rattle.cap_goal_spec.specs.Choices.{PlainChoice, certs_of}
 use Rattle.cap_rules.specs.Attempts.{Attempt}

@@ -1,19 +1,19 @@
 -- Terms, rows, and changes of states.
 use Rattle.std.specs.Prelude.{ℕ, Bool, true, false, List, [], ◌∷◌, length, get_or, slice_set, slice_get, find, Option, Some, None, not, ◌==◌, ◌&&◌, if◌then◌else◌}
 use Rattle.std.specs.List.{list_any}
-use Rattle.cap_lin.specs.Linear.{Linear, variable, same_term, plus, minus}
-use Rattle.cap_lin.specs.Steps.{plus_steps, minus_steps}
-use Rattle.cap_lin.specs.declared.row.Row.{Row}
-use Rattle.cap_lin.specs.declared.row.Sort.{Sort}
-use Rattle.cap_lin.specs.declared.row.Sort.TheVariants.{Int}
-use Rattle.cap_lin.specs.declared.row.Op.{Op}
-use Rattle.cap_lin.specs.declared.row.Op.TheVariants.{Eq as Equal, Ne as Unequal, Le as AtMost, Lt as Less, Gt as Greater, Ge as AtLeast}
-use Rattle.cap_gsolve.specs.declared.piece.Piece.{Piece}
-use Rattle.cap_gsolve.specs.Merge.{place, joined, merge_rows, merge_steps}
-use Rattle.cap_prog.specs.declared.assertion.Comp.{Comp}
-use Rattle.cap_prog.specs.declared.assertion.Slot.{Slot}
-use Rattle.cap_prog.specs.declared.assertion.Slot.TheVariants.{Any, Is}
-use Rattle.cap_prog.specs.Program.{PlainProgram}
+use Rattle.cap_goal_spec.specs.cap_lin.Linear.{Linear, variable, same_term, plus, minus}
+use Rattle.cap_goal_spec.specs.cap_lin.Steps.{plus_steps, minus_steps}
+use Rattle.cap_goal_spec.specs.cap_lin.declared.row.Row.{Row}
+use Rattle.cap_goal_spec.specs.cap_lin.declared.row.Sort.{Sort}
+use Rattle.cap_goal_spec.specs.cap_lin.declared.row.Sort.TheVariants.{Int}
+use Rattle.cap_goal_spec.specs.cap_lin.declared.row.Op.{Op}
+use Rattle.cap_goal_spec.specs.cap_lin.declared.row.Op.TheVariants.{Eq as Equal, Ne as Unequal, Le as AtMost, Lt as Less, Gt as Greater, Ge as AtLeast}
+use Rattle.cap_goal_spec.specs.cap_gsolve.declared.piece.Piece.{Piece}
+use Rattle.cap_goal_spec.specs.cap_gsolve.Merge.{place, joined, merge_rows, merge_steps}
+use Rattle.cap_goal_spec.specs.cap_prog.declared.assertion.Comp.{Comp}
+use Rattle.cap_goal_spec.specs.cap_prog.declared.assertion.Slot.{Slot}
+use Rattle.cap_goal_spec.specs.cap_prog.declared.assertion.Slot.TheVariants.{Any, Is}
+use Rattle.cap_goal_spec.specs.cap_prog.Program.{PlainProgram}
 use Rattle.cap_goal_spec.specs.Terms.{term_over, term_over_steps}
 use Rattle.cap_goal_spec.specs.States.{PlainFact, PlainEnv, PlainState}
 use Rattle.cap_goal_spec.specs.Environments.{zero_value, one_value, is_determined, term_in, term_in_steps, Reading, settled, open_to, stuck, reading, bind_open}

@@ -1,19 +1,19 @@
 -- A fact is settled: what is then known of its state stays true whatever the others do.
 use Rattle.std.specs.Prelude.{ℕ, ◌+◌, ◌-◌, ℤ, nat_le, List, [], ◌∷◌, ◌++◌, length, get_or, slice_get, slice_set, Option, Some, None}
-use Rattle.cap_lin.specs.Linear.{Linear, variable, replaced}
-use Rattle.cap_lin.specs.Steps.{replaced_steps}
-use Rattle.cap_lin.specs.declared.row.Row.{Row}
-use Rattle.cap_lin.specs.declared.row.Sort.TheVariants.{Int}
-use Rattle.cap_lin.specs.declared.row.Op.TheVariants.{Eq as Equal}
-use Rattle.cap_gsolve.specs.declared.piece.Form.{Form}
-use Rattle.cap_gsolve.specs.declared.piece.Form.TheVariants as form
-use Rattle.cap_gsolve.specs.Compat.{compat, compat_steps}
-use Rattle.cap_prog.specs.declared.assertion.Comp.{Comp}
-use Rattle.cap_prog.specs.declared.assertion.Slot.{Slot}
-use Rattle.cap_prog.specs.declared.assertion.Slot.TheVariants.{Any, Is}
-use Rattle.cap_prog.specs.declared.assertion.Asked.{Asked}
-use Rattle.cap_prog.specs.declared.assertion.Asked.TheVariants.{One, Share, Src, Tok, At, From}
-use Rattle.cap_prog.specs.Program.{PlainAction, PlainRegionType}
+use Rattle.cap_goal_spec.specs.cap_lin.Linear.{Linear, variable, replaced}
+use Rattle.cap_goal_spec.specs.cap_lin.Steps.{replaced_steps}
+use Rattle.cap_goal_spec.specs.cap_lin.declared.row.Row.{Row}
+use Rattle.cap_goal_spec.specs.cap_lin.declared.row.Sort.TheVariants.{Int}
+use Rattle.cap_goal_spec.specs.cap_lin.declared.row.Op.TheVariants.{Eq as Equal}
+use Rattle.cap_goal_spec.specs.cap_gsolve.declared.piece.Form.{Form}
+use Rattle.cap_goal_spec.specs.cap_gsolve.declared.piece.Form.TheVariants as form
+use Rattle.cap_goal_spec.specs.cap_gsolve.Compat.{compat, compat_steps}
+use Rattle.cap_goal_spec.specs.cap_prog.declared.assertion.Comp.{Comp}
+use Rattle.cap_goal_spec.specs.cap_prog.declared.assertion.Slot.{Slot}
+use Rattle.cap_goal_spec.specs.cap_prog.declared.assertion.Slot.TheVariants.{Any, Is}
+use Rattle.cap_goal_spec.specs.cap_prog.declared.assertion.Asked.{Asked}
+use Rattle.cap_goal_spec.specs.cap_prog.declared.assertion.Asked.TheVariants.{One, Share, Src, Tok, At, From}
+use Rattle.cap_goal_spec.specs.cap_prog.Program.{PlainAction, PlainRegionType}
 use Rattle.cap_goal_spec.specs.Terms.{term_over, term_over_steps, variables_from}
 use Rattle.cap_goal_spec.specs.States.{PlainFact, PlainState, with_state}
 use Rattle.cap_goal_spec.specs.Environments.{zero_value, one_value}

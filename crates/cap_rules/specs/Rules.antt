@@ -1,15 +1,15 @@
 -- The 26 rules: what a choice makes of a goal. Each is said by the head of the goal's tasks; what
 -- has no line here doesn't apply.
 use Rattle.std.specs.Prelude.{ℕ, zero, suc, ◌+◌, ◌-◌, ◌==◌, ◌&&◌, Bool, true, false, not, is_none, nat_lt, List, [], ◌∷◌, ◌++◌, length, flat_map, take, drop, remove, slice_get, pos, Option, Some, None}
-use Rattle.cap_lin.specs.Linear.{Linear, number, variable}
-use Rattle.cap_lin.specs.declared.row.Sort.TheVariants.{Int}
-use Rattle.cap_lin.specs.declared.row.Op.TheVariants.{Ge as AtLeast}
-use Rattle.cap_prog.specs.declared.assertion.Comp.{Comp}
-use Rattle.cap_prog.specs.declared.assertion.Slot.{Slot}
-use Rattle.cap_prog.specs.declared.assertion.Slot.TheVariants.{Is}
-use Rattle.cap_prog.specs.declared.assertion.Asked.{Asked}
-use Rattle.cap_prog.specs.declared.assertion.Asked.TheVariants.{Tok}
-use Rattle.cap_prog.specs.Program.{PlainItem, compare, choose, fact, atom, cell, Items, item, append_items, Label, PlainAct, set, alloc, call, fork, branch, loop, check, give_back, Block, first, append, PlainFunction, PlainProgram}
+use Rattle.cap_goal_spec.specs.cap_lin.Linear.{Linear, number, variable}
+use Rattle.cap_goal_spec.specs.cap_lin.declared.row.Sort.TheVariants.{Int}
+use Rattle.cap_goal_spec.specs.cap_lin.declared.row.Op.TheVariants.{Ge as AtLeast}
+use Rattle.cap_goal_spec.specs.cap_prog.declared.assertion.Comp.{Comp}
+use Rattle.cap_goal_spec.specs.cap_prog.declared.assertion.Slot.{Slot}
+use Rattle.cap_goal_spec.specs.cap_prog.declared.assertion.Slot.TheVariants.{Is}
+use Rattle.cap_goal_spec.specs.cap_prog.declared.assertion.Asked.{Asked}
+use Rattle.cap_goal_spec.specs.cap_prog.declared.assertion.Asked.TheVariants.{Tok}
+use Rattle.cap_goal_spec.specs.cap_prog.Program.{PlainItem, compare, choose, fact, atom, cell, Items, item, append_items, Label, PlainAct, set, alloc, call, fork, branch, loop, check, give_back, Block, first, append, PlainFunction, PlainProgram}
 use Rattle.cap_goal_spec.specs.States.{PlainEnv, PlainState, Home, PlainTask, to_run, to_turn, to_give, to_take, to_make, to_close, to_shift, to_rest, PlainGoal, goals_of}
 use Rattle.cap_goal_spec.specs.Choices.{PlainChoice, by_absurd, by_clash, by_set, by_alloc, by_assert, by_if, by_loop, by_turn, by_call, by_fork, by_return, by_enter, by_act, by_pick, by_shift, by_settle, by_keep, by_give, by_fact, by_cases, by_cell, by_region, by_guard, by_convert, by_create, by_made}
 use Rattle.cap_goal_spec.specs.Environments.{zero_value, one_value, term_of, bound, unbound, callee_env, own_env}

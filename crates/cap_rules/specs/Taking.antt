@@ -1,18 +1,18 @@
 -- An assertion is given up: guards are taken out of pieces and converted, and regions are created.
 use Rattle.std.specs.Prelude.{ℕ, zero, suc, ◌+◌, ◌-◌, nat_lt, Bool, true, false, not, ◌&&◌, if◌then◌else◌, List, [], ◌∷◌, ◌++◌, map, take, drop, find, length, Option, Some, None}
 use Rattle.std.specs.List.{list_all, range_with_len}
-use Rattle.cap_lin.specs.Linear.{Linear}
-use Rattle.cap_lin.specs.declared.row.Row.{Row}
-use Rattle.cap_lin.specs.declared.row.Sort.TheVariants.{Int, Perm}
-use Rattle.cap_lin.specs.declared.row.Op.TheVariants.{Eq as Equal, Le as AtMost, Lt as Less, Gt as Greater}
-use Rattle.cap_galg.specs.Algebras.{PlainAlgebra, product, sum as either, atoms}
-use Rattle.cap_gsolve.specs.declared.piece.Form.{Form}
-use Rattle.cap_gsolve.specs.declared.piece.Form.TheVariants as form
-use Rattle.cap_gsolve.specs.declared.piece.Piece.{Piece}
-use Rattle.cap_gsolve.specs.Pieces.{piece, same_part, full_forms, full_pieces}
-use Rattle.cap_prog.specs.declared.assertion.Asked.{Asked}
-use Rattle.cap_prog.specs.declared.assertion.Asked.TheVariants.{One, Share, Src, Tok, At, From}
-use Rattle.cap_prog.specs.Program.{PlainCase, PlainRegionType, PlainProgram}
+use Rattle.cap_goal_spec.specs.cap_lin.Linear.{Linear}
+use Rattle.cap_goal_spec.specs.cap_lin.declared.row.Row.{Row}
+use Rattle.cap_goal_spec.specs.cap_lin.declared.row.Sort.TheVariants.{Int, Perm}
+use Rattle.cap_goal_spec.specs.cap_lin.declared.row.Op.TheVariants.{Eq as Equal, Le as AtMost, Lt as Less, Gt as Greater}
+use Rattle.cap_goal_spec.specs.cap_galg.Algebras.{PlainAlgebra, product, sum as either, atoms}
+use Rattle.cap_goal_spec.specs.cap_gsolve.declared.piece.Form.{Form}
+use Rattle.cap_goal_spec.specs.cap_gsolve.declared.piece.Form.TheVariants as form
+use Rattle.cap_goal_spec.specs.cap_gsolve.declared.piece.Piece.{Piece}
+use Rattle.cap_goal_spec.specs.cap_gsolve.Pieces.{piece, same_part, full_forms, full_pieces}
+use Rattle.cap_goal_spec.specs.cap_prog.declared.assertion.Asked.{Asked}
+use Rattle.cap_goal_spec.specs.cap_prog.declared.assertion.Asked.TheVariants.{One, Share, Src, Tok, At, From}
+use Rattle.cap_goal_spec.specs.cap_prog.Program.{PlainCase, PlainRegionType, PlainProgram}
 use Rattle.cap_goal_spec.specs.States.{PlainFact, PlainEnv, PlainState, longest_list}
 use Rattle.cap_goal_spec.specs.Environments.{zero_value, one_value, Reading, settled, open_to, reading, bind_open, is_bound_by, unbound, region_env}
 use Rattle.cap_rules.specs.Attempts.{Attempt, unit, ◌>>=◌, found, need, not_applicable, prove_that}

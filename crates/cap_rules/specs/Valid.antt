@@ -2,8 +2,8 @@
 -- trees of its subgoals.
 use Rattle.std.specs.Prelude.{◌≡◌, ℕ, suc, ◌≤◌, List, [], ◌∷◌, Option, Some, None}
 use Rattle.std.specs.List.{AllZip}
-use Rattle.cap_lin.specs.Steps.{first_wide}
-use Rattle.cap_prog.specs.Program.{PlainProgram}
+use Rattle.cap_goal_spec.specs.cap_lin.Steps.{first_wide}
+use Rattle.cap_goal_spec.specs.cap_prog.Program.{PlainProgram}
 use Rattle.cap_goal_spec.specs.States.{PlainGoal}
 use Rattle.cap_goal_spec.specs.Choices.{PlainChoice, PlainTree, node, PlainTrees, no_trees, tree}
 use Rattle.cap_goal_spec.specs.Roots.{all_roots, all_roots_steps}

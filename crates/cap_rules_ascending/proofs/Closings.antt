@@ -13,9 +13,9 @@ use Rattle.cap_prog.specs.declared.assertion.Slot.TheVariants.{Is}
 use Rattle.cap_prog.specs.declared.assertion.Asked.{Asked}
 use Rattle.cap_prog.specs.declared.assertion.Asked.TheVariants.{One, Share, Src, Tok, At, From}
 use Rattle.cap_prog.specs.Program.{PlainCase, PlainAction, PlainRegionType}
-use Rattle.cap_goal_spec.specs.Terms.{lone_variable, variables_from}
-use Rattle.cap_goal_spec.specs.States.{PlainFact, PlainEnv, PlainState, PlainTask, to_give, goals_of, with_state}
-use Rattle.cap_goal_spec.specs.Environments.{zero_value, one_value, Reading, settled, open_to, stuck, reading, bind_open, asked_slot, bound, unbound, region_env}
+use Rattle.cap_rules.specs.cap_goal_spec.Terms.{lone_variable, variables_from}
+use Rattle.cap_rules.specs.cap_goal_spec.States.{PlainFact, PlainEnv, PlainState, PlainTask, to_give, goals_of, with_state}
+use Rattle.cap_rules.specs.cap_goal_spec.Environments.{zero_value, one_value, Reading, settled, open_to, stuck, reading, bind_open, asked_slot, bound, unbound, region_env}
 use Rattle.cap_rules.specs.Attempts.{unit, ◌>>=◌, found, need, not_applicable, comparison_row, prove_that}
 use Rattle.cap_rules.specs.Making.{is_empty, sum, determined_slot, prove_equal, value_here, value_by, determined, rows_by, prove_comparisons, prove_differ, fresh, with_sort, with_sorts, with_rows, with_comparison, with_local, with_env, with_fact}
 use Rattle.cap_rules_ascending.specs.Ascending.{TermAscends, FormAscends, PieceAscends, FactAscends, CellAscends, NameAscends, EnvAscends, StateAscends, TaskAscends, GoalAscends}

@@ -14,8 +14,8 @@ use Rattle.cap_prog.specs.declared.assertion.Slot.TheVariants.{Any, Is}
 use Rattle.cap_prog.specs.declared.assertion.Asked.{Asked}
 use Rattle.cap_prog.specs.declared.assertion.Asked.TheVariants.{One, Share, Src, Tok, At, From}
 use Rattle.cap_prog.specs.Program.{PlainItem, compare, choose, fact, atom, cell, Items, none, item, append_items, PlainProgram}
-use Rattle.cap_goal_spec.specs.States.{PlainState, PlainTask, to_give, to_take, to_rest, PlainGoal, goal_of, goals_of}
-use Rattle.cap_goal_spec.specs.Environments.{one_value, term_of, with_name}
+use Rattle.cap_rules.specs.cap_goal_spec.States.{PlainState, PlainTask, to_give, to_take, to_rest, PlainGoal, goal_of, goals_of}
+use Rattle.cap_rules.specs.cap_goal_spec.Environments.{one_value, term_of, with_name}
 use Rattle.cap_rules.specs.Attempts.{unit, ◌>>=◌}
 use Rattle.cap_rules.specs.Making.{sum, value_by, opposite, fresh, with_sort, with_comparison, with_cell, env_at, with_env_at, fact_of, with_fact, with_piece}
 use Rattle.cap_rules_ascending.specs.Ascending.{TermAscends, FormAscends, FactAscends, StateAscends, TaskAscends, GoalAscends}

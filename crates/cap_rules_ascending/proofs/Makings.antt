@@ -20,9 +20,9 @@ use Rattle.cap_prog.specs.declared.assertion.Comp.{Comp}
 use Rattle.cap_prog.specs.declared.assertion.Slot.{Slot}
 use Rattle.cap_prog.specs.declared.assertion.Slot.TheVariants.{Any, Is}
 use Rattle.cap_prog.specs.Program.{PlainProgram}
-use Rattle.cap_goal_spec.specs.Terms.{term_over, term_over_steps}
-use Rattle.cap_goal_spec.specs.States.{PlainFact, PlainEnv, PlainState, with_state}
-use Rattle.cap_goal_spec.specs.Environments.{is_determined, term_in, term_in_steps, Reading, settled, open_to, stuck, reading}
+use Rattle.cap_rules.specs.cap_goal_spec.Terms.{term_over, term_over_steps}
+use Rattle.cap_rules.specs.cap_goal_spec.States.{PlainFact, PlainEnv, PlainState, with_state}
+use Rattle.cap_rules.specs.cap_goal_spec.Environments.{is_determined, term_in, term_in_steps, Reading, settled, open_to, stuck, reading}
 use Rattle.cap_rules.specs.Attempts.{unit, ◌>>=◌, computed, found, need, appended, comparison_row, prove, prove_that}
 use Rattle.cap_rules.specs.Making.{sum, difference, in_store, value_here, values_here, row_here, value_by, determined, determined_slot, row_by, rows_by, prove_comparisons, prove_equal, prove_differ, match_reading, match_slot, match_slots, fresh, with_sort, with_sorts, with_row, with_rows, with_comparison, with_differing, with_local, with_destination, with_cell, with_env, env_at, with_env_at, is_of_region, is_of_other_type, without_first, with_equalities, with_same, with_false, with_fact, guards_with, with_piece, with_pieces}
 use Rattle.cap_rules_ascending.specs.Ascending.{TermAscends, NameAscends, RowAscends, FormAscends, PieceAscends, FactAscends, CellAscends, EnvAscends, StateAscends}

@@ -19,9 +19,9 @@ use Rattle.cap_prog.specs.declared.assertion.Slot.TheVariants.{Any, Is}
 use Rattle.cap_prog.specs.declared.assertion.Asked.{Asked}
 use Rattle.cap_prog.specs.declared.assertion.Asked.TheVariants.{One, Share, Src, Tok, At, From}
 use Rattle.cap_prog.specs.Program.{PlainCase, PlainAction, PlainRegionType}
-use Rattle.cap_goal_spec.specs.Terms.{term_over, term_over_steps, variables_from}
-use Rattle.cap_goal_spec.specs.States.{PlainFact, PlainState, with_state}
-use Rattle.cap_goal_spec.specs.Environments.{zero_value, one_value, region_env}
+use Rattle.cap_rules.specs.cap_goal_spec.Terms.{term_over, term_over_steps, variables_from}
+use Rattle.cap_rules.specs.cap_goal_spec.States.{PlainFact, PlainState, with_state}
+use Rattle.cap_rules.specs.cap_goal_spec.Environments.{zero_value, one_value, region_env}
 use Rattle.cap_rules.specs.Attempts.{unit, ◌>>=◌, computed, found, need, comparison_row, prove, prove_that}
 use Rattle.cap_rules.specs.Making.{sum, with_sort, with_rows}
 use Rattle.cap_rules_ascending.specs.Ascending.{TermAscends, RowAscends, FormAscends, PieceAscends, FactAscends, StateAscends}
@@ -32,7 +32,7 @@ use Rattle.cap_rules_ascending.proofs.Makings.{sum-safe, rows-if, beside-ascend,
 use Rattle.std.specs.Prelude.{◌&&◌}
 use Rattle.cap_gsolve.specs.Merge.{zero_term, one_term, there, beside}
 use Rattle.cap_gsolve.specs.Compat.{wanted_alone, off_rows, wanted_beside, share_there, fits_rows, one_rows, wanted_rows, clashes_some, compat, compat_steps}
-use Rattle.cap_goal_spec.specs.Candidates.{form_bounds, piece_bounds, MadeRow, bounds_by, action_bounds, all_candidates, without_repeats, is_made, repeats, later_state, candidates, is_over_params}
+use Rattle.cap_rules.specs.cap_goal_spec.Candidates.{form_bounds, piece_bounds, MadeRow, bounds_by, action_bounds, all_candidates, without_repeats, is_made, repeats, later_state, candidates, is_over_params}
 use Rattle.cap_rules.specs.Resting.{Names, names_below, ask_slot, ask, ask_all, first_names, action_names, value_over, rows_over, want_slot, want_form, want_all, joined_rows, system, named_candidates, prove_at, prove_closed, prove_stable, with_settled, settle, prove_same, prove_kept, keep}
 use Rattle.cap_rules_ascending.proofs.Makings.{added-ascend, there-ascends}
 

@@ -5,10 +5,10 @@ use Rattle.std.specs.List.{AllByRecursion}
 use Rattle.cap_lin.specs.Linear.{Linear}
 use Rattle.cap_prog.specs.declared.assertion.Comp.{Comp}
 use Rattle.cap_prog.specs.Program.{Items, PlainCase, PlainRegionType, PlainFunction, PlainProgram, done}
-use Rattle.cap_goal_spec.specs.Terms.{variables_from}
-use Rattle.cap_goal_spec.specs.States.{PlainEnv, PlainState, PlainTask, to_run, to_turn, to_give, to_take, to_close, to_rest, PlainGoal, goal_of}
-use Rattle.cap_goal_spec.specs.Environments.{zero_value, bound, unbound}
-use Rattle.cap_goal_spec.specs.Roots.{PlainUnit, region_unit, function_unit, written_row, case_state, case_root, Knows, at_entry, at_exit, at_loop, home_of, root_locals, root_result, root_env, root_store, root_state, stability, from_given, LoopPoint, loops_in, loop_roots, region_roots, optional_roots, roots, units}
+use Rattle.cap_rules.specs.cap_goal_spec.Terms.{variables_from}
+use Rattle.cap_rules.specs.cap_goal_spec.States.{PlainEnv, PlainState, PlainTask, to_run, to_turn, to_give, to_take, to_close, to_rest, PlainGoal, goal_of}
+use Rattle.cap_rules.specs.cap_goal_spec.Environments.{zero_value, bound, unbound}
+use Rattle.cap_rules.specs.cap_goal_spec.Roots.{PlainUnit, region_unit, function_unit, written_row, case_state, case_root, Knows, at_entry, at_exit, at_loop, home_of, root_locals, root_result, root_env, root_store, root_state, stability, from_given, LoopPoint, loops_in, loop_roots, region_roots, optional_roots, roots, units}
 use Rattle.cap_rules_ascending.specs.Ascending.{TermAscends, RowAscends, NameAscends, EnvAscends, StateAscends, TaskAscends, GoalAscends, CompAscends, CaseAscends, TypeAscends, ProgramAscends}
 use Rattle.cap_rules_ascending.specs.Laws.{RootAscends, RootsAscend}
 use Rattle.cap_rules_ascending.proofs.Lists.{IfSome, all-join, all-get, all-map, all-flat, all-any}

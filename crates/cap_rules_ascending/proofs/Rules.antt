@@ -11,8 +11,8 @@ use Rattle.cap_prog.specs.declared.assertion.Slot.TheVariants.{Is}
 use Rattle.cap_prog.specs.declared.assertion.Asked.{Asked}
 use Rattle.cap_prog.specs.declared.assertion.Asked.TheVariants.{Tok}
 use Rattle.cap_prog.specs.Program.{PlainItem, compare, choose, fact, atom, cell, Items, item, append_items, PlainRegionType, PlainProgram}
-use Rattle.cap_goal_spec.specs.States.{PlainFact, PlainEnv, PlainState, PlainTask, to_run, to_turn, to_give, to_take, to_make, to_close, to_shift, to_rest, PlainGoal, goals_of}
-use Rattle.cap_goal_spec.specs.Environments.{zero_value, one_value, term_of, bound, unbound}
+use Rattle.cap_rules.specs.cap_goal_spec.States.{PlainFact, PlainEnv, PlainState, PlainTask, to_run, to_turn, to_give, to_take, to_make, to_close, to_shift, to_rest, PlainGoal, goals_of}
+use Rattle.cap_rules.specs.cap_goal_spec.Environments.{zero_value, one_value, term_of, bound, unbound}
 use Rattle.cap_rules.specs.Attempts.{Attempt, unit, ◌>>=◌, found, need, each, prove}
 use Rattle.cap_rules.specs.Making.{sum, value_here, determined, prove_comparisons, prove_equal, opposite, fresh, with_sort, with_row, with_comparison, with_local, with_cell, with_env, env_at, with_env_at, fact_of, with_fact, with_pieces}
 use Rattle.cap_rules_ascending.specs.Ascending.{TermAscends, PieceAscends, FactAscends, CellAscends, NameAscends, EnvAscends, StateAscends, TaskAscends, GoalAscends}
@@ -22,9 +22,9 @@ use Rattle.cap_rules_ascending.proofs.Safe.{IsAny, Safe, chain, of-some, of-none
 use Rattle.cap_rules_ascending.proofs.Makings.{sum-safe, here-safe, determined-safe, comparisons-safe, equal-safe, fresh-ascends, with-sort-safe, with-row-safe, with-comparison-safe, local-ascends, cells-ascend, with-cell-safe, with-env-safe, env-at-ascends, env-set-ascends, with-fact-safe, guards-ascend, with-pieces-safe}
 use Rattle.std.specs.Prelude.{◌==◌, ◌&&◌, not}
 use Rattle.cap_prog.specs.Program.{Label, PlainAct, set, alloc, call, fork, branch, loop, check, give_back, Block, first, append, PlainFunction}
-use Rattle.cap_goal_spec.specs.States.{Home}
-use Rattle.cap_goal_spec.specs.Choices.{PlainChoice, by_absurd, by_clash, by_set, by_alloc, by_assert, by_if, by_loop, by_turn, by_call, by_fork, by_return, by_enter, by_act, by_pick, by_shift, by_settle, by_keep, by_give, by_fact, by_cases, by_cell, by_region, by_guard, by_convert, by_create, by_made, certs_of}
-use Rattle.cap_goal_spec.specs.Environments.{callee_env, own_env}
+use Rattle.cap_rules.specs.cap_goal_spec.States.{Home}
+use Rattle.cap_rules.specs.cap_goal_spec.Choices.{PlainChoice, by_absurd, by_clash, by_set, by_alloc, by_assert, by_if, by_loop, by_turn, by_call, by_fork, by_return, by_enter, by_act, by_pick, by_shift, by_settle, by_keep, by_give, by_fact, by_cases, by_cell, by_region, by_guard, by_convert, by_create, by_made, certs_of}
+use Rattle.cap_rules.specs.cap_goal_spec.Environments.{callee_env, own_env}
 use Rattle.cap_rules.specs.Answers.{marks_of}
 use Rattle.cap_rules.proofs.Answering.{answers-succeed}
 use Rattle.cap_rules.specs.Making.{values_here, row_here, row_by, determined_slot, match_slot, match_slots, with_destination}

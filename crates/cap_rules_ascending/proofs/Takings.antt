@@ -14,8 +14,8 @@ use Rattle.cap_gsolve.specs.Pieces.{piece, full_forms, full_pieces}
 use Rattle.cap_prog.specs.declared.assertion.Asked.{Asked}
 use Rattle.cap_prog.specs.declared.assertion.Asked.TheVariants.{One, Share, Src, Tok, At, From}
 use Rattle.cap_prog.specs.Program.{PlainCase, PlainRegionType, PlainProgram}
-use Rattle.cap_goal_spec.specs.States.{PlainFact, PlainEnv, PlainState, longest_list}
-use Rattle.cap_goal_spec.specs.Environments.{zero_value, one_value, Reading, settled, open_to, reading, bind_open, is_bound_by, unbound, region_env}
+use Rattle.cap_rules.specs.cap_goal_spec.States.{PlainFact, PlainEnv, PlainState, longest_list}
+use Rattle.cap_rules.specs.cap_goal_spec.Environments.{zero_value, one_value, Reading, settled, open_to, reading, bind_open, is_bound_by, unbound, region_env}
 use Rattle.cap_rules.specs.Attempts.{Attempt, unit, ◌>>=◌, found, need, prove_that}
 use Rattle.cap_rules.specs.Making.{sum, difference, value_by, fresh, with_sort, with_comparison, with_differing, without_first, with_pieces}
 use Rattle.cap_rules_ascending.specs.Ascending.{TermAscends, RowAscends, FormAscends, PieceAscends, FactAscends, NameAscends, EnvAscends, StateAscends}

@@ -13,9 +13,9 @@ use Rattle.cap_lin.specs.declared.row.Op.{Op}
 use Rattle.cap_lin.specs.declared.row.Op.TheVariants.{Eq as Equal, Ne as Unequal, Le as AtMost, Lt as Less, Gt as Greater, Ge as AtLeast}
 use Rattle.cap_lin.proofs.Ascend.{sum-ascends, multiple-ascends, without-ascends}
 use Rattle.cap_prog.specs.Program.{PlainFunction}
-use Rattle.cap_goal_spec.specs.Terms.{with_multiples, term_over, variables_from}
-use Rattle.cap_goal_spec.specs.States.{PlainFact, PlainEnv, Home}
-use Rattle.cap_goal_spec.specs.Environments.{term_of, bound_term, term_in, with_name, bind_open, bound, unbound, callee_env, own_env, region_env}
+use Rattle.cap_rules.specs.cap_goal_spec.Terms.{with_multiples, term_over, variables_from}
+use Rattle.cap_rules.specs.cap_goal_spec.States.{PlainFact, PlainEnv, Home}
+use Rattle.cap_rules.specs.cap_goal_spec.Environments.{term_of, bound_term, term_in, with_name, bind_open, bound, unbound, callee_env, own_env, region_env}
 use Rattle.cap_rules_ascending.specs.Ascending.{TermAscends, RowAscends, NameAscends, EnvAscends, FactAscends}
 use Rattle.cap_rules_ascending.proofs.Lists.{IfSome, all-join, all-cons, all-get, all-set}
 

@@ -8,7 +8,7 @@ use Rattle.cap_gsolve.specs.declared.piece.Form.TheVariants.{One, Share, Src, To
 use Rattle.cap_gsolve.specs.declared.piece.Piece.{Piece}
 use Rattle.cap_prog.specs.declared.assertion.Comp.{Comp}
 use Rattle.cap_prog.specs.Program.{PlainCase, PlainRegionType, PlainProgram}
-use Rattle.cap_goal_spec.specs.States.{PlainFact, PlainEnv, PlainState, PlainTask, to_run, to_turn, to_give, to_take, to_make, to_close, to_shift, to_rest, PlainGoal}
+use Rattle.cap_rules.specs.cap_goal_spec.States.{PlainFact, PlainEnv, PlainState, PlainTask, to_run, to_turn, to_give, to_take, to_make, to_close, to_shift, to_rest, PlainGoal}
 
 abbrev pub TermAscends : Linear → Type 0
 TermAscends t = AscendFrom 0 t.parts

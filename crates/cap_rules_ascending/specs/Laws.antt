@@ -3,9 +3,9 @@ use Rattle.std.specs.Prelude.{Bool, List, Option, Some, None}
 use Rattle.std.specs.List.{AllByRecursion}
 use Rattle.cap_fm_spec.specs.Solving.{RowsAscend}
 use Rattle.cap_prog.specs.Program.{PlainProgram}
-use Rattle.cap_goal_spec.specs.States.{PlainGoal}
-use Rattle.cap_goal_spec.specs.Choices.{PlainChoice}
-use Rattle.cap_goal_spec.specs.Roots.{all_roots}
+use Rattle.cap_rules.specs.cap_goal_spec.States.{PlainGoal}
+use Rattle.cap_rules.specs.cap_goal_spec.Choices.{PlainChoice}
+use Rattle.cap_rules.specs.cap_goal_spec.Roots.{all_roots}
 use Rattle.cap_rules.specs.Answers.{owed_lists, Subgoals}
 use Rattle.cap_rules.specs.Rules.{rule}
 use Rattle.cap_rules_ascending.specs.Ascending.{GoalAscends, ProgramAscends}

@@ -6,7 +6,7 @@ use Rattle.std.proofs.lemmas.List.{length-reverse, length-map, map-append, take_
 use Rattle.cap_prog.specs.declared.function.Statement.{Statement}
 use Rattle.cap_prog.specs.Program.{Block, done, first, append}
 use Rattle.cap_prog.specs.Views.{statement_view, block_view}
-use Rattle.cap_goal_spec.specs.States.{PlainState, PlainTask, goal, goal_of, goals_of}
+use Rattle.cap_rules.specs.cap_goal_spec.States.{PlainState, PlainTask, goal, goal_of, goals_of}
 use Rattle.cap_goal.specs.Views.{block_in, task_view, tasks_view, goal_view}
 use Rattle.cap_goal.specs.declared.task.Task.{Task}
 use Rattle.cap_goal.specs.declared.goal.Goal.{Goal}

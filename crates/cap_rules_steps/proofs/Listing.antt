@@ -6,8 +6,8 @@ use Rattle.cap_lin.specs.Exact.{Explains}
 use Rattle.cap_lin.specs.Linear.{Linear}
 use Rattle.cap_lin.specs.Steps.{first_wide}
 use Rattle.cap_lin.specs.declared.error.LinError.{LinError}
-use Rattle.cap_goal_spec.specs.Terms.{term_over, term_over_steps}
-use Rattle.cap_goal_spec.specs.States.{PlainState, PlainEnv, PlainFact}
+use Rattle.cap_rules.specs.cap_goal_spec.Terms.{term_over, term_over_steps}
+use Rattle.cap_rules.specs.cap_goal_spec.States.{PlainState, PlainEnv, PlainFact}
 use Rattle.cap_rules.specs.Attempts.{Attempt, unit, found, prove, go_on, ◌>>=◌}
 use Rattle.cap_rules.specs.Making.{in_store, values_here, row_by, rows_by, prove_comparisons, with_comparison, with_differing}
 use Rattle.cap_rules_steps.specs.Errors.{rule_error}

@@ -6,7 +6,7 @@ use Rattle.cap_lin.specs.Steps.{Step, first_wide, plus_steps, times_steps}
 use Rattle.cap_lin.specs.declared.error.LinError.{LinError}
 use Rattle.cap_lin.proofs.Results.{first-narrow, explains_same, explains_first}
 use Rattle.std.proofs.lemmas.List.{append_assoc}
-use Rattle.cap_goal_spec.specs.Terms.{with_multiples, with_multiples_steps}
+use Rattle.cap_rules.specs.cap_goal_spec.Terms.{with_multiples, with_multiples_steps}
 
 abbrev pub no_part : ℕ × ℤ
 no_part = (0, pos 0)

@@ -5,10 +5,10 @@ use Rattle.cap_prog.specs.Program.{PlainFunction}
 use Rattle.cap_prog.specs.Views.{assertion_view}
 use Rattle.cap_prog.specs.declared.assertion.Assertion.{Assertion}
 use Rattle.cap_prog.specs.declared.assertion.Item.TheFolds.{the_lemmas}
-use Rattle.cap_goal_spec.specs.States.{PlainEnv, Home}
-use Rattle.cap_goal_spec.specs.Environments.{bound, unbound, callee_env, own_env}
+use Rattle.cap_rules.specs.cap_goal_spec.States.{PlainEnv, Home}
+use Rattle.cap_rules.specs.cap_goal_spec.Environments.{bound, unbound, callee_env, own_env}
 use Rattle.cap_lin.specs.Linear.{Linear, variable}
-use Rattle.cap_goal_spec.specs.Terms.{variables_from}
+use Rattle.cap_rules.specs.cap_goal_spec.Terms.{variables_from}
 
 pub variables-last : (x n : ℕ) → variables_from x (suc n) ≡ variables_from x n ++ variable (x + n) ∷ []
 variables-last x zero = rw add-zero refl

@@ -4,7 +4,7 @@ use Rattle.std.specs.Borrow.{Bor}
 use Rattle.cap_prog.specs.declared.function.Statement.{Statement}
 use Rattle.cap_prog.specs.Program.{Block, done, first}
 use Rattle.cap_prog.specs.Views.{statement_view}
-use Rattle.cap_goal_spec.specs.States.{PlainState, PlainTask, PlainGoal, goal}
+use Rattle.cap_rules.specs.cap_goal_spec.States.{PlainState, PlainTask, PlainGoal, goal}
 use Rattle.cap_goal.specs.Views.{is_done, goal_view, block_in}
 use Rattle.std.specs.Global.{Vec}
 use Rattle.cap_goal.specs.declared.goal.Goal.{Goal}

@@ -8,7 +8,7 @@ use Rattle.cap_prog.specs.declared.function.Function.{Function}
 use Rattle.cap_prog.specs.declared.region.RegionType.{RegionType}
 use Rattle.cap_prog.specs.Program.{PlainFunction, PlainRegionType}
 use Rattle.cap_prog.specs.Views.{function_view, region_view}
-use Rattle.cap_goal_spec.specs.Environments.{zero_value}
+use Rattle.cap_rules.specs.cap_goal_spec.Environments.{zero_value}
 
 -- 0 past the end
 abbrev pub term_among : List Linear → ℕ → Linear

@@ -2,8 +2,8 @@
 ghost use Rattle.std.specs.Prelude.{◌≡◌};
 ghost use Rattle.std.specs.Option.{option_copied};
 ghost use Rattle.cap_lin.specs.Exact.{IsExact};
-ghost use Rattle.cap_goal_spec.specs.Environments.{zero_value, term_of, bound_term, is_determined};
-ghost use Rattle.cap_goal_spec.specs.Environments.{term_in, term_in_steps};
+ghost use Rattle.cap_rules.specs.cap_goal_spec.Environments.{zero_value, term_of, bound_term, is_determined};
+ghost use Rattle.cap_rules.specs.cap_goal_spec.Environments.{term_in, term_in_steps};
 ghost use Rattle.cap_rules.specs.Making.{determined, determined_slot, row_by, rows_by};
 ghost use Rattle.cap_rules.specs.Making.{prove_comparisons};
 ghost use Rattle.cap_rules_steps.specs.Places.{rows_view};

@@ -1,7 +1,7 @@
 //! Environments of calls and of functions at home.
 ghost use Rattle.std.specs.Prelude.{◌≡◌, ◌++◌, IfOk, OnOk, MatchResult};
-ghost use Rattle.cap_goal_spec.specs.Terms.{variables_from};
-ghost use Rattle.cap_goal_spec.specs.Environments.{bound, unbound, callee_env, own_env};
+ghost use Rattle.cap_rules.specs.cap_goal_spec.Terms.{variables_from};
+ghost use Rattle.cap_rules.specs.cap_goal_spec.Environments.{bound, unbound, callee_env, own_env};
 ghost use Rattle.cap_prog.specs.Views.{function_view};
 ghost use Rattle.cap_goal.specs.Views.{home_view};
 

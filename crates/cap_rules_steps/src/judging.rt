@@ -1,7 +1,7 @@
 //! What certificates make of a rule's claims.
 ghost use Rattle.std.specs.Prelude.{◌≡◌, ◌<◌, List, [], length, slice_get, Some};
 ghost use Rattle.std.specs.Bool.{MatchBool};
-ghost use Rattle.cap_goal_spec.specs.States.{PlainGoal};
+ghost use Rattle.cap_rules.specs.cap_goal_spec.States.{PlainGoal};
 ghost use Rattle.cap_rules.specs.Attempts.{Attempt};
 ghost use Rattle.cap_rules_steps.specs.Goals.{goals_view};
 ghost use Rattle.cap_goal.specs.Views.{certs_in};

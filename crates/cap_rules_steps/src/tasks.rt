@@ -1,6 +1,6 @@
 //! Tasks once more, and goals of them.
 ghost use Rattle.std.specs.Prelude.{◌≡◌, ◌++◌, ℕ, map, IfOk, OnOk, length};
-ghost use Rattle.cap_goal_spec.specs.States.{PlainState, goal_of, goals_of};
+ghost use Rattle.cap_rules.specs.cap_goal_spec.States.{PlainState, goal_of, goals_of};
 ghost use Rattle.cap_goal.specs.Views.{goal_view, task_view, tasks_view};
 ghost use Rattle.cap_rules_steps.specs.Goals.{goal_at, head_is_done};
 

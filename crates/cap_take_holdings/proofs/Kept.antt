@@ -9,10 +9,10 @@ use Rattle.cap_lin.specs.declared.row.Sort.{Sort}
 use Rattle.cap_lin.specs.declared.row.Sort.TheVariants.{Int}
 use Rattle.cap_lin.specs.declared.row.Op.{Op}
 use Rattle.cap_lin.specs.declared.row.Op.TheVariants.{Eq as Equal}
-use Rattle.cap_goal_spec.specs.States.{PlainFact, PlainState, longest_list}
-use Rattle.cap_goal_spec.specs.Environments.{zero_value, one_value}
-use Rattle.cap_rules.specs.Attempts.{Attempt, Event, unit, ◌>>=◌, go_on, need, appended}
-use Rattle.cap_rules.specs.Making.{with_row, with_comparison, with_equalities, with_same, with_false, with_fact, without_first, is_of_region, is_of_other_type}
+use Rattle.cap_rules_steps.specs.cap_goal_spec.States.{PlainFact, PlainState, longest_list}
+use Rattle.cap_rules_steps.specs.cap_goal_spec.Environments.{zero_value, one_value}
+use Rattle.cap_rules_steps.specs.cap_rules.Attempts.{Attempt, Event, unit, ◌>>=◌, go_on, need, appended}
+use Rattle.cap_rules_steps.specs.cap_rules.Making.{with_row, with_comparison, with_equalities, with_same, with_false, with_fact, without_first, is_of_region, is_of_other_type}
 use Rattle.cap_rules_steps.specs.Walks.{Makes}
 use Rattle.cap_rules_steps.specs.declared.error.RuleError.{RuleError}
 use Rattle.cap_rules_steps.proofs.Walking.{then_made, unmade}

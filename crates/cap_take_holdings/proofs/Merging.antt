@@ -7,9 +7,9 @@ use Rattle.cap_lin.specs.declared.row.Row.{Row}
 use Rattle.cap_gsolve.specs.declared.piece.Piece.{Piece}
 use Rattle.cap_gsolve.specs.Merge.{place, merged, merge_rows, merge_steps}
 use Rattle.cap_prog.specs.Program.{PlainRegionType, PlainProgram}
-use Rattle.cap_goal_spec.specs.States.{PlainState}
-use Rattle.cap_rules.specs.Attempts.{Attempt, Event, unit, ◌>>=◌, go_on, behind, found, computed}
-use Rattle.cap_rules.specs.Making.{with_piece, with_pieces, with_rows, guards_with}
+use Rattle.cap_rules_steps.specs.cap_goal_spec.States.{PlainState}
+use Rattle.cap_rules_steps.specs.cap_rules.Attempts.{Attempt, Event, unit, ◌>>=◌, go_on, behind, found, computed}
+use Rattle.cap_rules_steps.specs.cap_rules.Making.{with_piece, with_pieces, with_rows, guards_with}
 use Rattle.cap_rules_steps.specs.Walks.{Makes}
 use Rattle.cap_rules_steps.specs.declared.error.RuleError.{RuleError}
 use Rattle.cap_rules_steps.proofs.Walking.{Goes, then_made, unmade, then_narrow, wide, then_value, no_value, done_as}

@@ -9,8 +9,8 @@ use Rattle.cap_prog.specs.declared.assertion.Item.{Item}
 use Rattle.cap_prog.specs.declared.assertion.Item.TheFolds.{the_lemmas}
 use Rattle.cap_prog.specs.Program.{items_of}
 use Rattle.cap_prog.specs.Views.{item_view, items_view}
-use Rattle.cap_goal_spec.specs.States.{PlainEnv}
-use Rattle.cap_goal_spec.specs.Environments.{is_bound_by}
+use Rattle.cap_rules_steps.specs.cap_goal_spec.States.{PlainEnv}
+use Rattle.cap_rules_steps.specs.cap_goal_spec.Environments.{is_bound_by}
 
 pub items-seen : (a : Assertion) → items_view a ≡ items_of (map item_view a.items.items)
 items-seen a = search (rules, the_lemmas)

@@ -7,8 +7,8 @@ use Rattle.std.proofs.lemmas.Option.{slice_get_past, slice_get-get_or}
 use Rattle.std.proofs.lemmas.Bool.Decides.{nat_tests}
 use Rattle.cap_lin.specs.Linear.{same_term}
 use Rattle.cap_lin.specs.Laws.Sameness.{same_term-only}
-use Rattle.cap_goal_spec.specs.States.{PlainFact}
-use Rattle.cap_rules.specs.Making.{without_first, is_of_region, is_of_other_type}
+use Rattle.cap_rules_steps.specs.cap_goal_spec.States.{PlainFact}
+use Rattle.cap_rules_steps.specs.cap_rules.Making.{without_first, is_of_region, is_of_other_type}
 use Rattle.cap_take_holdings.specs.Holdings.{without_place}
 
 some-if : (b : Bool) (n i : ℕ) → cond b (Some n) None ≡ Some i → (b ≡ true) × (n ≡ i)

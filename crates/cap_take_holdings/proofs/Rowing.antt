@@ -5,9 +5,9 @@ use Rattle.std.specs.Prelude.{Ok, Err}
 use Rattle.cap_lin.specs.Linear.{Linear}
 use Rattle.cap_lin.specs.declared.row.Sort.TheVariants.{Int}
 use Rattle.cap_lin.specs.declared.row.Op.TheVariants.{Eq as Equal}
-use Rattle.cap_goal_spec.specs.States.{PlainState}
-use Rattle.cap_rules.specs.Attempts.{Attempt, go_on}
-use Rattle.cap_rules.specs.Making.{with_comparison, with_equalities}
+use Rattle.cap_rules_steps.specs.cap_goal_spec.States.{PlainState}
+use Rattle.cap_rules_steps.specs.cap_rules.Attempts.{Attempt, go_on}
+use Rattle.cap_rules_steps.specs.cap_rules.Making.{with_comparison, with_equalities}
 use Rattle.cap_rules_steps.specs.Walks.{Makes}
 use Rattle.cap_rules_steps.specs.declared.error.RuleError.{RuleError}
 use Rattle.cap_rules_steps.proofs.Walking.{Leads, then_made, unmade, done, split-at}

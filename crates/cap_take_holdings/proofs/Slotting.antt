@@ -6,10 +6,10 @@ use Rattle.cap_lin.specs.Linear.{Linear}
 use Rattle.cap_lin.specs.declared.row.Row.{Row}
 use Rattle.cap_prog.specs.declared.assertion.Slot.{Slot}
 use Rattle.cap_prog.specs.declared.assertion.Slot.TheVariants.{Any}
-use Rattle.cap_goal_spec.specs.States.{PlainEnv}
-use Rattle.cap_goal_spec.specs.Environments.{zero_value}
-use Rattle.cap_rules.specs.Attempts.{Attempt, go_on}
-use Rattle.cap_rules.specs.Making.{match_slot, match_slots}
+use Rattle.cap_rules_steps.specs.cap_goal_spec.States.{PlainEnv}
+use Rattle.cap_rules_steps.specs.cap_goal_spec.Environments.{zero_value}
+use Rattle.cap_rules_steps.specs.cap_rules.Attempts.{Attempt, go_on}
+use Rattle.cap_rules_steps.specs.cap_rules.Making.{match_slot, match_slots}
 use Rattle.cap_rules_steps.specs.Walks.{Claims}
 use Rattle.cap_rules_steps.specs.declared.error.RuleError.{RuleError}
 use Rattle.cap_rules_steps.specs.declared.error.RuleError.TheVariants.{NotApplicable}

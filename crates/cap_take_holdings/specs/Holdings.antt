@@ -5,10 +5,10 @@ use Rattle.cap_lin.specs.Linear.{Linear}
 use Rattle.cap_gsolve.specs.declared.piece.Piece.{Piece}
 use Rattle.cap_gsolve.specs.Merge.{place}
 use Rattle.cap_prog.specs.Program.{PlainCase, PlainRegionType}
-use Rattle.cap_goal_spec.specs.States.{PlainFact, PlainEnv, PlainState}
-use Rattle.cap_goal_spec.specs.Environments.{is_bound_by}
-use Rattle.cap_rules.specs.Attempts.{Attempt, unit, ◌>>=◌, appended}
-use Rattle.cap_rules.specs.Making.{guards_with}
+use Rattle.cap_rules_steps.specs.cap_goal_spec.States.{PlainFact, PlainEnv, PlainState}
+use Rattle.cap_rules_steps.specs.cap_goal_spec.Environments.{is_bound_by}
+use Rattle.cap_rules_steps.specs.cap_rules.Attempts.{Attempt, unit, ◌>>=◌, appended}
+use Rattle.cap_rules_steps.specs.cap_rules.Making.{guards_with}
 
 -- a fact more, as the last
 abbrev pub with_last_fact : PlainState → PlainFact → Attempt PlainState

@@ -3,7 +3,7 @@ use Rattle.std.specs.Prelude.{List, map}
 use Rattle.std.specs.Borrow.{Bor}
 use Rattle.cap_lin.specs.Linear.{Linear}
 use Rattle.cap_prog.specs.declared.assertion.Slot.{Slot}
-use Rattle.cap_goal_spec.specs.Environments.{Reading, settled, open_to, stuck}
+use Rattle.cap_rules_steps.specs.cap_goal_spec.Environments.{Reading, settled, open_to, stuck}
 use Rattle.cap_take_holdings.specs.declared.matching.Reading as code
 
 abbrev pub slots_view : List (Bor Slot) → List Slot

@@ -2,7 +2,7 @@
 use Rattle.std.proofs.Common.{◌≡◌, ℕ, List, Some, sym, ap, ◌∙◌, ◌<◌, ◌≤◌, length, get_or}
 use Rattle.std.proofs.lemmas.Option.{slice_get_past, slice_get-get_or}
 use Rattle.std.specs.Prelude.{Ok, Err, slice_get}
-use Rattle.cap_rules.specs.Attempts.{found}
+use Rattle.cap_rules_steps.specs.cap_rules.Attempts.{found}
 use Rattle.cap_rules_steps.specs.Walks.{Makes}
 use Rattle.cap_rules_steps.specs.declared.error.RuleError.TheVariants.{NotApplicable}
 use Rattle.cap_rules_steps.proofs.Walking.{there, lacking}

@@ -7,7 +7,7 @@ use Rattle.cap_prog.specs.declared.assertion.Item.{Item}
 use Rattle.cap_prog.specs.declared.assertion.Item.TheFolds.{the_lemmas}
 use Rattle.cap_prog.specs.Program.{Items, none, item, items_of, append_items}
 use Rattle.cap_prog.specs.Views.{item_view, items_view}
-use Rattle.cap_goal_spec.specs.States.{PlainGoal}
+use Rattle.cap_rules_steps.specs.cap_goal_spec.States.{PlainGoal}
 use Rattle.cap_goal.specs.declared.task.Task.{Task}
 use Rattle.cap_goal.specs.declared.goal.Goal.{Goal}
 use Rattle.cap_goal.specs.Views.{items_in, task_view, tasks_view, goal_view}

@@ -4,10 +4,10 @@ use Rattle.std.specs.Borrow.{Bor}
 use Rattle.cap_prog.specs.declared.assertion.Item.{Item}
 use Rattle.cap_prog.specs.Program.{PlainItem, Items, none, item, append_items}
 use Rattle.cap_prog.specs.Views.{item_view}
-use Rattle.cap_goal_spec.specs.States.{PlainTask, to_take}
+use Rattle.cap_rules_steps.specs.cap_goal_spec.States.{PlainTask, to_take}
 use Rattle.cap_goal.specs.declared.task.Items as code_items
 use Rattle.cap_goal.specs.Views.{items_in, tasks_view}
-use Rattle.cap_rules.specs.Rules.{Remaining}
+use Rattle.cap_rules_steps.specs.cap_rules.Rules.{Remaining}
 use Rattle.cap_take_items.specs.declared.remaining.Remaining as code
 
 abbrev pub remaining_view : code.Remaining → Remaining

@@ -3,7 +3,7 @@ ghost use Rattle.std.specs.Prelude.{◌≡◌, [], IfOk, map};
 ghost use Rattle.cap_prog.specs.Program.{none, item as first_item, append_items};
 ghost use Rattle.cap_prog.specs.Views.{item_view, items_view};
 ghost use Rattle.cap_goal.specs.Views.{items_in, goal_view, tasks_view};
-ghost use Rattle.cap_goal_spec.specs.States.{goals_of};
+ghost use Rattle.cap_rules_steps.specs.cap_goal_spec.States.{goals_of};
 ghost use Rattle.cap_take_items.specs.Views.{remaining_view, with_items, tasks_ahead, side_tasks};
 ghost use Rattle.cap_take_items.specs.Views.{tasks_with};
 

@@ -12,9 +12,9 @@ use Rattle.cap_top_commands.specs.declared.status.Status.TheVariants.{Good, Bad,
 use Rattle.cap_prog.specs.Program.{PlainProgram}
 use Rattle.cap_replay.specs.declared.playing.End.{End}
 use Rattle.cap_replay.specs.declared.playing.End.TheVariants as ends
-use Rattle.cap_kernel_check.specs.declared.error.CheckError.{CheckError}
+use Rattle.cap_top_commands.specs.cap_kernel_check.declared.error.CheckError.{CheckError}
 use Rattle.cap_deriv_write.specs.Written.{derivation_text}
-use Rattle.cap_top_report.specs.Found.{found_trees}
+use Rattle.cap_top_commands.specs.cap_top_report.Found.{found_trees}
 use Rattle.cap_top_commands.specs.Derivations.{SaysLines, IsDerivation, IsChecked}
 use Rattle.cap_top_commands.specs.Startless.{SaysEmpty, IsStartlessText}
 use Rattle.cap_top_commands.specs.Answers.{Fetched, held, unread, long, After, ByOne, SaysCause, SaysRefusal, IsVerified, IsTrial, IsStray, IsStrayed, IsCored, drawn_output, IsOnly, FaultsAlong, StraysFault, SafeTextsHaveNoStray, IsDerived, IsShown, IsPlayed, IsOutput, IsOnlyOutput, Agree, GoodAnswersAreSafe, GoodTrialsAreSafe, AcceptedAreSafe, DerivedAreAccepted, EmptyAnswersHaveNoStart}
@@ -23,8 +23,8 @@ use Rattle.cap_gen_schedules.specs.Drawn.{seeded, first_fault}
 use Rattle.cap_gen_schedules.specs.Laws.{AsksForNothing, SafeProgramsHaveNone}
 use Rattle.cap_machine.specs.declared.event.Entry.{Entry}
 use Rattle.cap_goal_spec.specs.Roots.{units}
-use Rattle.cap_top_report.specs.Report.{proved_count, report_text, all_proved, is_good}
-use Rattle.cap_top_report.specs.Cores.{cores_text}
+use Rattle.cap_top_commands.specs.cap_top_report.Report.{proved_count, report_text, all_proved, is_good}
+use Rattle.cap_top_commands.specs.cap_top_report.Cores.{cores_text}
 use Rattle.cap_top_words.specs.Meaning.{PlainCommand, verify, derive, check, show, replay, trial, stray, core, default_budget}
 use Rattle.cap_top_commands.specs.Commands.{files_of}
 use Rattle.cap_top_commands.specs.Output.{Output, usage_output, unreadable_output, long_output, refusal_output, report_output, derivation_output, long_derivation_output, bad_derivation_output, judged_output, judged_status, tree_output, schedule_output, run_output, trial_output, no_start_output, report_status, end_status}

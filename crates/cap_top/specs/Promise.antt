@@ -12,8 +12,8 @@ use Rattle.cap_top_reading.specs.Refused.{IsTextOf}
 use Rattle.cap_top_commands.specs.declared.status.Status.{Status}
 use Rattle.cap_top_commands.specs.declared.status.Status.TheVariants.{Good, Bad, Refused, NoMemory, NotEnabled, Wide}
 use Rattle.cap_replay.specs.declared.playing.End.{End}
-use Rattle.cap_top_report.specs.Report.{is_good}
-use Rattle.cap_top_report.specs.Found.{found_trees}
+use Rattle.cap_top_commands.specs.cap_top_report.Report.{is_good}
+use Rattle.cap_top_commands.specs.cap_top_report.Found.{found_trees}
 use Rattle.cap_deriv_write.specs.Written.{derivation_text}
 use Rattle.cap_top_commands.specs.Good.{IsGood, IsAccepted}
 use Rattle.cap_top_commands.specs.Needed.{TellsCores}

@@ -6,8 +6,8 @@ use Rattle.cap_deriv.specs.Told.{most_nodes}
 use Rattle.cap_deriv_write.specs.Preorder.{choices_of_roots}
 use Rattle.cap_deriv_write.specs.Spelled.{AreBundle, DerivationLines, HaveNoSpaces}
 use Rattle.cap_deriv_write.specs.Written.{derivation_text}
-use Rattle.cap_top_report.specs.Found.{found_trees}
-use Rattle.cap_top_report.specs.Report.{is_good, report_text}
+use Rattle.cap_top_commands.specs.cap_top_report.Found.{found_trees}
+use Rattle.cap_top_commands.specs.cap_top_report.Report.{is_good, report_text}
 use Rattle.cap_io.specs.Outside.{longest}
 use Rattle.cap_top_commands.specs.Derivations.{HaveText, IsDerivation}
 use Rattle.cap_top_commands.specs.Output.{Output, report_output, derivation_output, long_derivation_output}

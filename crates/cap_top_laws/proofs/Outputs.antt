@@ -5,11 +5,11 @@ use Rattle.cap_parse_tree.specs.Canonical.{canonical_text}
 use Rattle.cap_prog.specs.Program.{PlainProgram}
 use Rattle.cap_gen.specs.Trial.{trial_text}
 use Rattle.cap_goal_spec.specs.Roots.{units}
-use Rattle.cap_top_report.specs.Report.{proved_count, is_good, report_text}
-use Rattle.cap_top_report.specs.Cores.{cores_text}
+use Rattle.cap_top_commands.specs.cap_top_report.Report.{proved_count, is_good, report_text}
+use Rattle.cap_top_commands.specs.cap_top_report.Cores.{cores_text}
 use Rattle.cap_gen_schedules.specs.Drawn.{seeded, first_fault}
 use Rattle.cap_gen_schedules.specs.Laws.{AsksForNothing}
-use Rattle.cap_top_reading.specs.Refused.{IsTextOf}
+use Rattle.cap_top_commands.specs.cap_top_reading.Refused.{IsTextOf}
 use Rattle.cap_top_commands.specs.Answers.{Fetched, held, unread, long, After, IsVerified, IsTrial, IsStray, IsStrayed, IsCored, drawn_output, IsDerived, IsShown, IsReplayed, IsJudged, ByTwo}
 use Rattle.cap_top_commands.specs.Output.{Output, usage_output, unreadable_output, long_output, refusal_output, report_output, tree_output, trial_output, no_start_output}
 use Rattle.cap_top_words.specs.Meaning.{verify, derive, check, show, replay, trial, stray, core, default_budget}

@@ -20,12 +20,12 @@ use Rattle.cap_resolve_spec.specs.Stands.{refusal}
 use Rattle.cap_resolve_terms.specs.declared.finding.Limit.{Limit}
 use Rattle.cap_resolve_terms.specs.declared.finding.Limit.TheVariants as limits
 use Rattle.cap_resolve_terms.specs.Views.{limit_view}
-use Rattle.cap_resolve.specs.declared.error.ResolveError.{ResolveError}
-use Rattle.cap_resolve.specs.declared.error.ResolveError.TheVariants as error
-use Rattle.cap_resolve.specs.Errors.{finding_at, error_view}
-use Rattle.cap_top_reading.specs.declared.refusal.Refusal.{Refusal}
-use Rattle.cap_top_reading.specs.declared.refusal.Refusal.TheVariants.{BadByte, LongLiteral, TextTooLong, Unexpected, TooDeep, Unresolved, OutOfMemory}
-use Rattle.cap_top_reading.specs.Refused.{SpellNone, IsRefused}
+use Rattle.cap_top_commands.specs.cap_resolve.declared.error.ResolveError.{ResolveError}
+use Rattle.cap_top_commands.specs.cap_resolve.declared.error.ResolveError.TheVariants as error
+use Rattle.cap_top_commands.specs.cap_resolve.Errors.{finding_at, error_view}
+use Rattle.cap_top_commands.specs.cap_top_reading.declared.refusal.Refusal.{Refusal}
+use Rattle.cap_top_commands.specs.cap_top_reading.declared.refusal.Refusal.TheVariants.{BadByte, LongLiteral, TextTooLong, Unexpected, TooDeep, Unresolved, OutOfMemory}
+use Rattle.cap_top_commands.specs.cap_top_reading.Refused.{SpellNone, IsRefused}
 use Rattle.cap_top_laws.specs.Laws.{SpellOneOrNone, AreTextOrRefused, BytesAreReadOrRefused}
 
 -- ---- a tree

@@ -11,10 +11,10 @@ use Rattle.cap_offer_spec.specs.Laws.{IsDecided}
 use Rattle.cap_deriv_write.specs.Bounds.{IsCert, IsChoice}
 use Rattle.cap_deriv_write.specs.Preorder.{choices_of_roots}
 use Rattle.cap_io.specs.Files.{Files, content}
-use Rattle.cap_top_reading.specs.declared.refusal.Refusal.{Refusal}
-use Rattle.cap_top_reading.specs.Refused.{SpellNone, IsRefused, IsTextOf}
-use Rattle.cap_top_report.specs.Report.{is_good}
-use Rattle.cap_top_report.specs.Found.{found_trees}
+use Rattle.cap_top_commands.specs.cap_top_reading.declared.refusal.Refusal.{Refusal}
+use Rattle.cap_top_commands.specs.cap_top_reading.Refused.{SpellNone, IsRefused, IsTextOf}
+use Rattle.cap_top_commands.specs.cap_top_report.Report.{is_good}
+use Rattle.cap_top_commands.specs.cap_top_report.Found.{found_trees}
 use Rattle.cap_top_commands.specs.Answers.{held, IsPlayed}
 use Rattle.cap_top_commands.specs.Derivations.{IsDerivation, IsChecked}
 use Rattle.cap_top_commands.specs.Output.{Output}

@@ -11,7 +11,7 @@ use Rattle.cap_rules_ascending.specs.Laws.{RootAscends, RootsAscend}
 use Rattle.cap_search_spec.specs.Laws.{FoundAreFirst, IsProved}
 use Rattle.cap_search_spec.proofs.Lawful.{of-verdict, roots-derive}
 use Rattle.cap_search.proofs.Searchable.{unit-each}
-use Rattle.cap_kernel_nodes.specs.Laws.{UnitDerives}
+use Rattle.cap_core_text.specs.cap_kernel_nodes.Laws.{UnitDerives}
 use Rattle.cap_core_text.specs.Laws.{ProofsHaveCores}
 use Rattle.cap_top_report.specs.Laws.{ProvedDerive, ProvedHaveCores}
 

@@ -10,7 +10,7 @@ use Rattle.cap_rules.specs.Valid.{Valid}
 use Rattle.cap_rules_ascending.specs.Ascending.{ProgramAscends}
 use Rattle.cap_search_spec.specs.Laws.{IsProved}
 use Rattle.cap_rules_nodes.specs.Nodes.{unit_nodes}
-use Rattle.cap_kernel_nodes.specs.Laws.{UnitDerives}
+use Rattle.cap_core_text.specs.cap_kernel_nodes.Laws.{UnitDerives}
 use Rattle.cap_core_text.specs.Laws.{NodeHasCores}
 use Rattle.cap_top_report.specs.Found.{found_trees}
 use Rattle.cap_top_report.specs.Report.{all_proved}

@@ -1,8 +1,8 @@
 use Rattle.std.proofs.Common.{refl, List, ap, ◌∙◌}
 use Rattle.std.specs.Prelude.{flat_map}
 use Rattle.cap_goal.specs.Views.{tasks_view}
-use Rattle.cap_goal_spec.specs.States.{PlainFact, goals_of}
-use Rattle.cap_rules.specs.Closing.{closing}
+use Rattle.cap_rules_steps.specs.cap_goal_spec.States.{PlainFact, goals_of}
+use Rattle.cap_rules_steps.specs.cap_rules.Closing.{closing}
 use Rattle.cap_open_acts.specs.Views.{outcomes_view}
 use Rattle.std.proofs.lemmas.Result.{err_from_is_err_and}
 use Rattle.cap_rules_steps.proofs.Walking.{made_claims, unmade_claims, claims_then, claims_fail, claims_value, claims_no_value, narrow_claims, wide_claims, no_memory_claims, weaker, done_as}

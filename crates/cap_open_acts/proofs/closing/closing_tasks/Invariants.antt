@@ -1,7 +1,7 @@
 use Rattle.std.proofs.Common.{◌≡◌, ◌++◌, map, drop, true}
 use Rattle.cap_goal.specs.Views.{tasks_view}
-use Rattle.cap_goal_spec.specs.States.{to_close}
-use Rattle.cap_rules.specs.Closing.{closing}
+use Rattle.cap_rules_steps.specs.cap_goal_spec.States.{to_close}
+use Rattle.cap_rules_steps.specs.cap_rules.Closing.{closing}
 use Rattle.cap_open_acts.proofs.closing.closing_tasks.Given as goal
 
 abbrev pub invariant-loop-region : goal.invariant-loop-region

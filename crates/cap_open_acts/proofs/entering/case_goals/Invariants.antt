@@ -1,7 +1,7 @@
 use Rattle.std.proofs.Common.{map, drop}
 use Rattle.cap_prog.specs.Views.{case_view}
 use Rattle.cap_goal.specs.Views.{goal_view, tasks_view}
-use Rattle.cap_rules.specs.Closing.{case_goals}
+use Rattle.cap_rules_steps.specs.cap_rules.Closing.{case_goals}
 use Rattle.cap_rules_steps.proofs.Walking.{LeadsBehind}
 use Rattle.cap_open_acts.proofs.entering.case_goals.Given as goal
 

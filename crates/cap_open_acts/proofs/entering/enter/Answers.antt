@@ -1,7 +1,7 @@
 use Rattle.std.proofs.lemmas.Result.{err_from_is_err_and}
 use Rattle.cap_rules_steps.proofs.Walking.{made_claims, unmade_claims, claims_then, claims_fail, no_memory_claims, weaker}
 use Rattle.std.proofs.Common.{◌<◌, ◌≤◌, ◌≡◌, length, arith, ap}
-use Rattle.cap_goal_spec.specs.States.{PlainFact}
+use Rattle.cap_rules_steps.specs.cap_goal_spec.States.{PlainFact}
 use Rattle.cap_open_acts.proofs.Regions.{few-opened, many-opened, fact-exists}
 use Rattle.cap_open_acts.proofs.entering.enter.Goals as goal
 

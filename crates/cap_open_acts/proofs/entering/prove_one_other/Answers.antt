@@ -1,5 +1,5 @@
 use Rattle.std.proofs.Common.{ap}
-use Rattle.cap_goal_spec.specs.States.{PlainFact}
+use Rattle.cap_rules_steps.specs.cap_goal_spec.States.{PlainFact}
 use Rattle.cap_open_acts.proofs.Regions.{other-skipped}
 use Rattle.cap_open_acts.proofs.entering.prove_one_other.Goals as goal
 

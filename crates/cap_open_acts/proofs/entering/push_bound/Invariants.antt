@@ -1,5 +1,5 @@
 use Rattle.std.proofs.Common.{◌≡◌, ◌++◌, drop}
-use Rattle.cap_goal_spec.specs.Environments.{bound}
+use Rattle.cap_rules_steps.specs.cap_goal_spec.Environments.{bound}
 use Rattle.cap_open_acts.proofs.entering.push_bound.Given as goal
 
 abbrev pub invariant-loop-term : goal.invariant-loop-term

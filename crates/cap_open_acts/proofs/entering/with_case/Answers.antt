@@ -2,7 +2,7 @@ use Rattle.std.proofs.Common.{ap}
 use Rattle.std.proofs.lemmas.Result.{err_from_is_err_and}
 use Rattle.cap_rules_steps.proofs.Walking.{then_made, unmade}
 use Rattle.std.proofs.Common.{◌≡◌}
-use Rattle.cap_goal_spec.specs.States.{PlainFact}
+use Rattle.cap_rules_steps.specs.cap_goal_spec.States.{PlainFact}
 use Rattle.cap_open_acts.proofs.entering.with_case.Goals as goal
 
 pub returns-in_err-term : goal.returns-in_err-term

@@ -1,6 +1,6 @@
 use Rattle.std.proofs.Common.{◌≡◌, ◌++◌, drop}
 use Rattle.std.specs.Prelude.{flat_map}
-use Rattle.cap_rules.specs.Closing.{rivals_from}
+use Rattle.cap_rules_steps.specs.cap_rules.Closing.{rivals_from}
 use Rattle.cap_open_acts.specs.Views.{rivals_view}
 use Rattle.cap_open_acts.proofs.marking.pairs_of.Given as goal
 

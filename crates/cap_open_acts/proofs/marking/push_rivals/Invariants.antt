@@ -1,5 +1,5 @@
 use Rattle.std.proofs.Common.{◌≡◌, ◌++◌, drop}
-use Rattle.cap_rules.specs.Closing.{rivals_from}
+use Rattle.cap_rules_steps.specs.cap_rules.Closing.{rivals_from}
 use Rattle.cap_open_acts.specs.Views.{rivals_view}
 use Rattle.cap_open_acts.proofs.marking.push_rivals.Given as goal
 

@@ -1,5 +1,5 @@
 use Rattle.std.proofs.Common.{drop}
-use Rattle.cap_rules.specs.Closing.{with_marks}
+use Rattle.cap_rules_steps.specs.cap_rules.Closing.{with_marks}
 use Rattle.cap_rules_steps.proofs.Listing.{LeadsClaims}
 use Rattle.cap_open_acts.specs.Views.{rivals_view}
 use Rattle.cap_open_acts.proofs.marking.with_marks.Given as goal

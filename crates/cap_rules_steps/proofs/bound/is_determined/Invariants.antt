@@ -1,7 +1,7 @@
 use Rattle.std.proofs.Common.{◌≡◌, drop}
 use Rattle.std.specs.Prelude.{is_some}
 use Rattle.std.specs.List.{list_all}
-use Rattle.cap_goal_spec.specs.Environments.{term_of, is_determined}
+use Rattle.cap_rules.specs.cap_goal_spec.Environments.{term_of, is_determined}
 use Rattle.cap_rules_steps.proofs.bound.is_determined.Given as goal
 
 abbrev pub invariant-loop-part : goal.invariant-loop-part

@@ -4,7 +4,7 @@ use Rattle.std.proofs.lemmas.Int.{to_z-of_z}
 use Rattle.std.proofs.lemmas.Result.{err_from_is_err_and}
 use mir.Val.{SFits}
 use mir.Syntax.{w128}
-use Rattle.cap_goal_spec.specs.Environments.{bound_term}
+use Rattle.cap_rules.specs.cap_goal_spec.Environments.{bound_term}
 use Rattle.cap_lin.proofs.Results.{first_wide-nil}
 use Rattle.cap_rules_steps.proofs.Multiples.{no_part, IsPart, part-fails, part-term, part-narrow}
 use Rattle.cap_rules_steps.proofs.bound.value_by.Goals as goal

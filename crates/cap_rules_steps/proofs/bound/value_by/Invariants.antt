@@ -1,7 +1,7 @@
 use Rattle.std.proofs.Common.{◌≡◌, drop}
 use Rattle.cap_lin.specs.Steps.{first_wide}
-use Rattle.cap_goal_spec.specs.Terms.{with_multiples, with_multiples_steps, term_over, term_over_steps}
-use Rattle.cap_goal_spec.specs.Environments.{bound_term, term_in, term_in_steps}
+use Rattle.cap_rules.specs.cap_goal_spec.Terms.{with_multiples, with_multiples_steps, term_over, term_over_steps}
+use Rattle.cap_rules.specs.cap_goal_spec.Environments.{bound_term, term_in, term_in_steps}
 use Rattle.cap_rules_steps.proofs.bound.value_by.Given as goal
 
 -- what is left to be added comes to the same as the whole

@@ -1,5 +1,5 @@
 use Rattle.std.proofs.Common.{arith, ap}
-use Rattle.cap_goal_spec.specs.States.{PlainFact}
+use Rattle.cap_rules.specs.cap_goal_spec.States.{PlainFact}
 use Rattle.std.proofs.lemmas.Result.{err_from_is_err_and}
 use Rattle.cap_rules_steps.proofs.Walking.{goes_on, fails_at, ends, done}
 use Rattle.cap_rules_steps.proofs.Listing.{differing, differs, differing_goes}

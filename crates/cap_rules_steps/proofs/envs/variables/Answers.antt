@@ -1,6 +1,6 @@
 use Rattle.std.proofs.Common.{arith, ap, ◌++◌, ◌∷◌, [], add-one}
 use Rattle.cap_lin.specs.Linear.{variable}
-use Rattle.cap_goal_spec.specs.Terms.{variables_from}
+use Rattle.cap_rules.specs.cap_goal_spec.Terms.{variables_from}
 use Rattle.cap_rules_steps.proofs.Naming.{variables-last}
 use Rattle.cap_rules_steps.proofs.envs.variables.Goals as goal
 

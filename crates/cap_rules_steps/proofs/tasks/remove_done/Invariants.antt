@@ -1,6 +1,6 @@
 use Rattle.std.proofs.Common.{◌≡◌, length}
 use Rattle.std.specs.Vec.{vec_len}
-use Rattle.cap_goal_spec.specs.States.{PlainState, goal_of}
+use Rattle.cap_rules.specs.cap_goal_spec.States.{PlainState, goal_of}
 use Rattle.cap_goal.specs.Views.{tasks_view}
 use Rattle.cap_rules_steps.proofs.tasks.remove_done.Given as goal
 

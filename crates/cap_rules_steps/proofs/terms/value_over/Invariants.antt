@@ -1,6 +1,6 @@
 use Rattle.std.proofs.Common.{◌≡◌, drop}
 use Rattle.cap_lin.specs.Steps.{first_wide}
-use Rattle.cap_goal_spec.specs.Terms.{with_multiples, with_multiples_steps, term_over, term_over_steps}
+use Rattle.cap_rules.specs.cap_goal_spec.Terms.{with_multiples, with_multiples_steps, term_over, term_over_steps}
 use Rattle.cap_rules_steps.specs.Places.{term_among}
 use Rattle.cap_rules_steps.proofs.terms.value_over.Given as goal
 

@@ -1,5 +1,5 @@
 use Rattle.std.proofs.Common.{arith, ap, sym, ◌∙◌}
-use Rattle.cap_goal_spec.specs.Environments.{is_bound_by}
+use Rattle.cap_rules_steps.specs.cap_goal_spec.Environments.{is_bound_by}
 use Rattle.cap_prog.specs.Views.{items_view}
 use Rattle.cap_take_holdings.proofs.Names.{all-next}
 use Rattle.cap_take_holdings.proofs.cases.binds_all.Goals as goal

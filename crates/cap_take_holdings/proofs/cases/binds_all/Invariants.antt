@@ -1,6 +1,6 @@
 use Rattle.std.proofs.Common.{◌≡◌, ◌+◌, ◌-◌, length}
 use Rattle.std.specs.List.{list_all, range_with_len}
-use Rattle.cap_goal_spec.specs.Environments.{is_bound_by}
+use Rattle.cap_rules_steps.specs.cap_goal_spec.Environments.{is_bound_by}
 use Rattle.cap_prog.specs.Views.{items_view}
 use Rattle.cap_take_holdings.proofs.cases.binds_all.Given as goal
 

@@ -1,5 +1,5 @@
 use Rattle.std.proofs.Common.{◌≡◌, drop}
-use Rattle.cap_goal_spec.specs.Environments.{is_bound_by}
+use Rattle.cap_rules_steps.specs.cap_goal_spec.Environments.{is_bound_by}
 use Rattle.cap_prog.specs.Views.{items_view}
 use Rattle.cap_take_holdings.proofs.Names.{bound-from}
 use Rattle.cap_take_holdings.proofs.cases.is_bound_by.Given as goal

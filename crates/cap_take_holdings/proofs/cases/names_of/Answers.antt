@@ -1,6 +1,6 @@
 use Rattle.std.proofs.Common.{arith, None}
 use Rattle.std.specs.Prelude.{if◌then◌else◌}
-use Rattle.cap_goal_spec.specs.Environments.{is_bound_by}
+use Rattle.cap_rules_steps.specs.cap_goal_spec.Environments.{is_bound_by}
 use Rattle.cap_prog.specs.Views.{items_view}
 use Rattle.cap_take_holdings.proofs.Names.{names-next}
 use Rattle.cap_take_holdings.proofs.cases.names_of.Goals as goal

@@ -1,7 +1,7 @@
 use Rattle.std.proofs.Common.{◌≡◌, ◌+◌, ◌-◌, ◌++◌, length, map}
 use Rattle.std.specs.Prelude.{if◌then◌else◌, Option, None}
 use Rattle.std.specs.List.{range_with_len}
-use Rattle.cap_goal_spec.specs.Environments.{is_bound_by}
+use Rattle.cap_rules_steps.specs.cap_goal_spec.Environments.{is_bound_by}
 use Rattle.cap_prog.specs.Views.{items_view}
 use Rattle.cap_take_holdings.proofs.cases.names_of.Given as goal
 

@@ -1,7 +1,7 @@
 use Rattle.std.proofs.Common.{sym, ◌∙◌}
 use Rattle.cap_rules_steps.proofs.Walking.{done}
 use Rattle.cap_take_holdings.proofs.Places.{found-none, found-some}
-use Rattle.cap_rules.specs.Making.{is_of_region}
+use Rattle.cap_rules_steps.specs.cap_rules.Making.{is_of_region}
 use Rattle.cap_take_holdings.proofs.facts.equate.Goals as goal
 
 pub returns-in-None : goal.returns-in-None

@@ -1,6 +1,6 @@
 use Rattle.std.proofs.lemmas.Result.{err_from_is_err_and}
 use Rattle.std.proofs.Common.{ap}
-use Rattle.cap_goal_spec.specs.States.{PlainFact}
+use Rattle.cap_rules_steps.specs.cap_goal_spec.States.{PlainFact}
 use Rattle.cap_rules_steps.proofs.Walking.{then_made, unmade}
 use Rattle.cap_take_holdings.proofs.facts.with_equal.Goals as goal
 

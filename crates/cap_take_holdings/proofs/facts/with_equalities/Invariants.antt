@@ -1,5 +1,5 @@
 use Rattle.std.proofs.Common.{drop}
-use Rattle.cap_rules.specs.Making.{with_equalities}
+use Rattle.cap_rules_steps.specs.cap_rules.Making.{with_equalities}
 use Rattle.cap_rules_steps.proofs.Walking.{Leads}
 use Rattle.cap_take_holdings.proofs.facts.with_equalities.Given as goal
 

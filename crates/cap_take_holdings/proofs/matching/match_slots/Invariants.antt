@@ -1,5 +1,5 @@
 use Rattle.std.proofs.Common.{drop}
-use Rattle.cap_rules.specs.Making.{match_slots}
+use Rattle.cap_rules_steps.specs.cap_rules.Making.{match_slots}
 use Rattle.cap_rules_steps.proofs.Listing.{LeadsClaims}
 use Rattle.cap_take_holdings.specs.Seen.{slots_view, lent_terms}
 use Rattle.cap_take_holdings.proofs.matching.match_slots.Given as goal

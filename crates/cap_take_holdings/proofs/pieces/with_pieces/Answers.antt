@@ -1,7 +1,7 @@
 use Rattle.std.proofs.Common.{arith}
 use Rattle.std.proofs.lemmas.Result.{err_from_is_err_and}
 use Rattle.cap_prog.specs.Views.{program_view}
-use Rattle.cap_rules.specs.Making.{with_piece, with_pieces}
+use Rattle.cap_rules_steps.specs.cap_rules.Making.{with_piece, with_pieces}
 use Rattle.cap_rules_steps.proofs.Walking.{goes_on, fails_at, ends, done}
 use Rattle.cap_take_holdings.proofs.Merging.{pieces_go}
 use Rattle.cap_take_holdings.proofs.pieces.with_pieces.Goals as goal

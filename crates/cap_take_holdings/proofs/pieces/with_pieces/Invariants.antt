@@ -1,6 +1,6 @@
 use Rattle.std.proofs.Common.{drop}
 use Rattle.cap_prog.specs.Views.{program_view}
-use Rattle.cap_rules.specs.Making.{with_pieces}
+use Rattle.cap_rules_steps.specs.cap_rules.Making.{with_pieces}
 use Rattle.cap_rules_steps.proofs.Walking.{Leads}
 use Rattle.cap_take_holdings.proofs.pieces.with_pieces.Given as goal
 
