@@ -1,6 +1,6 @@
 -- By what the items of an assertion are met when they are taken, and which variables that gives when
 -- they are given again.
-use Rattle.std.specs.Prelude.{ℕ, zero, suc, ◌+◌, ◌-◌, ℤ, pos, negsuc, Bool, true, false, if◌then◌else◌, is_some, List, [], ◌∷◌, ◌++◌, map, slice_set, Option, Some, None}
+use Rattle.std.specs.Prelude.{ℕ, ℤ, pos, negsuc, if◌then◌else◌, is_some, List, [], ◌∷◌, ◌++◌, slice_set, Option, Some, None}
 use Rattle.std.specs.FinMap.{insert}
 use Rattle.cap_rules.specs.cap_goal_spec.cap_lin.Linear.{Linear}
 use Rattle.cap_rules.specs.cap_goal_spec.cap_galg.Fractions.{lowest}
@@ -16,7 +16,7 @@ use Rattle.cap_rules.specs.cap_goal_spec.cap_prog.declared.assertion.Asked.TheVa
 use Rattle.cap_rules.specs.cap_goal_spec.cap_prog.Program.{PlainItem, compare, choose, fact, atom, cell, Items, none, item, append_items, PlainProgram}
 use Rattle.cap_rules.specs.cap_goal_spec.Terms.{lone_variable}
 use Rattle.cap_rules.specs.cap_goal_spec.States.{PlainEnv, PlainState}
-use Rattle.cap_rules.specs.cap_goal_spec.Environments.{zero_value, term_of, with_name, Reading, settled, open_to, stuck}
+use Rattle.cap_rules.specs.cap_goal_spec.Environments.{zero_value, term_of, with_name, Reading, settled, open_to}
 use Rattle.cap_galg_indices.specs.Sets.{one_index, indices_from, index_range}
 use Rattle.cap_machine_accounts.specs.Parts.{Guard, join, atom_guard, Part, no_part, guard_at, with_guard}
 use Rattle.cap_machine_accounts.specs.Assertions.{NameValue, a_number, a_fraction}

@@ -1,5 +1,5 @@
 -- The text of a run with its accounts: who owns what at its start and after each of its steps.
-use Rattle.std.specs.Prelude.{ℕ, suc, Bool, true, false, List, [], ◌∷◌, ◌++◌, codes, Option, Some, None}
+use Rattle.std.specs.Prelude.{ℕ, suc, Bool, true, false, List, [], ◌∷◌, codes, Option, Some, None}
 use Rattle.std.specs.FinMap.{from_entries}
 use Rattle.cap_rules.specs.cap_goal_spec.cap_prog.Program.{PlainProgram}
 use Rattle.cap_rules.specs.cap_goal_spec.Choices.{PlainTree}

@@ -1,7 +1,7 @@
 -- A step of the track beside a step of the machine.
-use Rattle.std.specs.Prelude.{ℕ, zero, suc, ◌+◌, ◌*◌, ℤ, pos, Bool, true, false, ◌==◌, ◌&&◌, List, [], ◌∷◌, ◌++◌, map, flat_map, take, drop, length, position, slice_get, slice_set, unwrap_or, option_map, Option, Some, None}
-use Rattle.std.specs.List.{list_all, zip}
-use Rattle.std.specs.Prelude.{is_some, if◌then◌else◌}
+use Rattle.std.specs.Prelude.{ℕ, suc, ◌+◌, ◌*◌, ℤ, pos, Bool, true, false, ◌==◌, List, [], ◌∷◌, ◌++◌, map, flat_map, take, drop, length, position, slice_get, slice_set, unwrap_or, Option, Some, None}
+use Rattle.std.specs.List.{list_all}
+use Rattle.std.specs.Prelude.{if◌then◌else◌}
 use Rattle.cap_rules.specs.cap_goal_spec.cap_lin.Linear.{same_number}
 use Rattle.cap_rules.specs.cap_goal_spec.cap_prog.Program.{Block, done, PlainFunction, PlainProgram}
 use Rattle.cap_rules.specs.cap_goal_spec.cap_prog.Scopes.{fixed_start}
@@ -11,9 +11,8 @@ use Rattle.cap_rules.specs.cap_goal_spec.Roots.{PlainUnit, region_unit, function
 use Rattle.cap_machine.specs.declared.event.Event.{Event}
 use Rattle.cap_machine.specs.declared.event.Event.TheVariants.{Set, Read, Write, Cas, Faa, Dispose, Alloc, Call, Fork, Branch, Assert, Return, End}
 use Rattle.cap_machine.specs.Machine.{Frame, Configuration, top_frame}
-use Rattle.cap_machine_accounts.specs.Parts.{no_part, Region}
+use Rattle.cap_machine_accounts.specs.Parts.{no_part}
 use Rattle.cap_machine_accounts.specs.Assertions.{NameValue, a_number}
-use Rattle.cap_machine_accounts.specs.Accounts.{Held}
 use Rattle.cap_outline_spec.specs.Standing.{first_number}
 use Rattle.cap_owners_spec.specs.Traced.{Traced, traced, untold, ◌>>=◌, found}
 use Rattle.cap_owners_spec.specs.Track.{Fill, Place, TrackedRegion, Given, TrackedFrame, Track, tracked_at}

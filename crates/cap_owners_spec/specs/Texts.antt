@@ -1,16 +1,16 @@
 -- The text of an account.
-use Rattle.std.specs.Prelude.{ℕ, suc, ◌+◌, ℤ, pos, negsuc, List, [], ◌∷◌, ◌++◌, map, reverse, drop, flat_map, codes, slice_get, option_map, Option, Some, None}
+use Rattle.std.specs.Prelude.{ℕ, suc, ◌+◌, ℤ, pos, negsuc, List, [], ◌∷◌, ◌++◌, map, reverse, drop, flat_map, codes, slice_get, Option, Some, None}
 use Rattle.std.specs.List.{join_by, zip}
 use Rattle.std.specs.Fmt.{decimal, signed_decimal}
 use Rattle.std.specs.FinMap.{entries}
 use Rattle.cap_rules.specs.cap_goal_spec.cap_galg.declared.fraction.Fraction.{Fraction}
 use Rattle.cap_rules.specs.cap_goal_spec.cap_galg.Fractions.{lowest}
-use Rattle.cap_rules.specs.cap_goal_spec.cap_galg.Elements.{Element, nothing, one, share, tok, src, indices, both, whole, left, right}
+use Rattle.cap_rules.specs.cap_goal_spec.cap_galg.Elements.{Element, one, share, tok, src, indices, both, whole, left, right}
 use Rattle.cap_rules.specs.cap_goal_spec.cap_galg.Algebras.{PlainAlgebra, product, sum, full, atoms}
 use Rattle.cap_rules.specs.cap_goal_spec.cap_prog.Program.{Name, PlainFunction, PlainProgram}
 use Rattle.cap_rules.specs.cap_goal_spec.cap_prog.Scopes.{fixed_start}
 use Rattle.cap_machine.specs.Machine.{Frame, Thread, Configuration}
-use Rattle.cap_machine_accounts.specs.Parts.{Guard, algebra_of, Part, Region}
+use Rattle.cap_machine_accounts.specs.Parts.{Guard, algebra_of, Part}
 use Rattle.cap_machine_accounts.specs.Assertions.{NameValue, a_number, a_fraction}
 use Rattle.cap_machine_accounts.specs.Accounts.{Held, OwnedRegion, Account}
 use Rattle.cap_outline_spec.specs.Texts.{type_name, atom_name}

@@ -4,7 +4,6 @@ use Rattle.cap_rules.specs.cap_goal_spec.cap_lin.Linear.{same_number}
 use Rattle.cap_rules.specs.cap_goal_spec.States.{PlainGoal}
 use Rattle.cap_rules.specs.cap_goal_spec.Choices.{PlainTree}
 use Rattle.cap_machine.specs.declared.event.Event.{Event}
-use Rattle.cap_machine_accounts.specs.Parts.{Part}
 use Rattle.cap_machine_accounts.specs.Assertions.{NameValue}
 use Rattle.cap_machine_accounts.specs.Accounts.{Held, OwnedRegion, Account}
 

@@ -1,6 +1,6 @@
 -- Walks through trees of a derivation, along what a run brings: which child each node leads to, and
 -- the values of the variables that are new there.
-use Rattle.std.specs.Prelude.{ℕ, zero, suc, ◌+◌, ◌-◌, ℤ, pos, ◌+ℤ◌, int_lt, Bool, true, false, ◌&&◌, if◌then◌else◌, is_none, List, [], ◌∷◌, ◌++◌, map, take, drop, length, slice_get, slice_set, get_or, unwrap_or, option_map, Option, Some, None}
+use Rattle.std.specs.Prelude.{ℕ, zero, suc, ◌-◌, ℤ, pos, ◌+ℤ◌, int_lt, Bool, true, false, ◌&&◌, if◌then◌else◌, is_none, List, [], ◌∷◌, ◌++◌, map, take, drop, length, slice_get, slice_set, unwrap_or, Option, Some, None}
 use Rattle.std.specs.List.{zip}
 use Rattle.std.specs.FinMap.{insert}
 use Rattle.cap_rules.specs.cap_goal_spec.cap_lin.Linear.{Linear, variable, same_number}
@@ -9,25 +9,22 @@ use Rattle.cap_rules.specs.cap_goal_spec.cap_prog.declared.assertion.Slot.{Slot}
 use Rattle.cap_rules.specs.cap_goal_spec.cap_prog.declared.assertion.Slot.TheVariants.{Is}
 use Rattle.cap_rules.specs.cap_goal_spec.cap_prog.declared.assertion.Asked.{Asked}
 use Rattle.cap_rules.specs.cap_goal_spec.cap_prog.declared.assertion.Asked.TheVariants.{Share, Tok}
-use Rattle.cap_rules.specs.cap_goal_spec.cap_gsolve.declared.piece.Form.{Form}
 use Rattle.cap_rules.specs.cap_goal_spec.cap_gsolve.declared.piece.Form.TheVariants as form
-use Rattle.cap_rules.specs.cap_goal_spec.cap_gsolve.declared.piece.Piece.{Piece}
-use Rattle.cap_rules.specs.cap_goal_spec.cap_prog.Program.{PlainItem, compare, choose, fact, atom, cell, Items, none, item, append_items, PlainAct, set, read, write, cas, faa, dispose, alloc, call, fork, branch, loop, check, give_back, Block, done, first, PlainRegionType, PlainProgram}
+use Rattle.cap_rules.specs.cap_goal_spec.cap_prog.Program.{PlainItem, compare, choose, fact, atom, cell, Items, none, item, append_items, PlainAct, set, alloc, call, fork, branch, loop, check, give_back, first, PlainProgram}
 use Rattle.cap_rules.specs.cap_goal_spec.Terms.{lone_variable}
 use Rattle.cap_rules.specs.cap_goal_spec.States.{PlainFact, PlainEnv, PlainState, PlainTask, to_run, to_turn, to_give, to_take, to_make, to_close, to_shift, to_rest, PlainGoal, goals_of}
-use Rattle.cap_rules.specs.cap_goal_spec.Choices.{PlainChoice, by_set, by_alloc, by_assert, by_if, by_loop, by_turn, by_call, by_fork, by_return, by_enter, by_act, by_pick, by_shift, by_settle, by_keep, by_give, by_fact, by_cases, by_cell, by_region, by_guard, by_convert, by_create, by_made, PlainTree, node, PlainTrees, no_trees, tree}
+use Rattle.cap_rules.specs.cap_goal_spec.Choices.{PlainChoice, by_set, by_alloc, by_assert, by_if, by_loop, by_turn, by_call, by_fork, by_return, by_enter, by_act, by_pick, by_shift, by_settle, by_keep, by_give, by_fact, by_cases, by_cell, by_region, by_guard, by_convert, by_create, by_made, PlainTree, node, PlainTrees, tree}
 use Rattle.cap_rules.specs.cap_goal_spec.Environments.{Reading, open_to, reading, asked_slot}
 use Rattle.cap_rules.specs.Making.{is_empty, in_store, env_at}
 use Rattle.cap_rules.specs.Closing.{Rival, rivals}
 use Rattle.cap_rules_nodes.specs.Nodes.{goals_left}
 use Rattle.cap_machine.specs.declared.event.Event.{Event}
 use Rattle.cap_machine.specs.declared.event.Event.TheVariants.{Cas, Alloc, Branch}
-use Rattle.cap_machine_accounts.specs.Parts.{atom_guard, Part, no_part, Region}
+use Rattle.cap_machine_accounts.specs.Parts.{atom_guard, Part, no_part}
 use Rattle.cap_machine_accounts.specs.Assertions.{NameValue, a_number}
-use Rattle.cap_machine_accounts.specs.Accounts.{OwnedRegion}
-use Rattle.cap_owners_spec.specs.Traced.{Traced, traced, past_width, untold, ◌>>=◌, found, each, value_at, number_of, number_in, holds_by}
+use Rattle.cap_owners_spec.specs.Traced.{Traced, traced, past_width, untold, ◌>>=◌, found, number_of, number_in, holds_by}
 use Rattle.cap_owners_spec.specs.Track.{Fill, Place, TrackedRegion, tracked_at}
-use Rattle.cap_owners_spec.specs.Filling.{with_more, names_in, met, met_by_term, all_met, atom_met, asked_element, Giving, Parting, parting, give_all}
+use Rattle.cap_owners_spec.specs.Filling.{with_more, names_in, met, all_met, atom_met, asked_element, Giving, Parting, parting, give_all}
 
 -- ---- where a walk is
 

@@ -1,0 +1,4 @@
+mod Runs
+mod Steps
+mod Meetings
+mod Starts

@@ -1,0 +1,25 @@
+//! What the text of a run with its accounts promises. Laws alone, each the contract of a function that
+//! does nothing.
+#![tactic(auto)]
+
+ghost use Rattle.cap_owners_laws.specs.Laws.{RunsAreTheMachines, StartsAreExact, OthersKeep};
+
+/// A law: the text goes along the machine's own run. Each step has the line that it has in a replay,
+/// and behind it one account of the configuration that the step leaves; the run ends where the
+/// machine's does, unless it ends before as too wide or as not told of.
+pub fn runs_are_the_machines()
+    ensures { RunsAreTheMachines }
+{}
+
+/// A law: a first track comes only where the arguments and the heap are a start of main, by the
+/// values that its fixed names get, and its account is the first one of such a run; and a start is
+/// refused only where it is none, whatever values the fixed names have.
+pub fn starts_are_exact()
+    ensures { StartsAreExact }
+{}
+
+/// A law: a step leaves the frames of all other threads as they are, with what they own and the values
+/// of their fixed names; and those below the stepping one, but for the caller at a return.
+pub fn others_keep()
+    ensures { OthersKeep }
+{}
