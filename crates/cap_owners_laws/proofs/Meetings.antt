@@ -1,9 +1,9 @@
 -- What main requires, met by arguments and a heap item by item, is met by just the values that are
 -- found on the way.
 use Rattle.std.proofs.Common.{◌≡◌, ◌≢◌, ◌⊎◌, inl, inr, ℕ, zero, suc, ◌<◌, ℤ, pos, negsuc, ◌+ℤ◌, ◌*ℤ◌, ◌≤ℤ◌, ◌<ℤ◌, Bool, true, false, List, [], ◌∷◌, ◌++◌, map, length, Option, Some, None, refl, sym, ap, subst, ◌∙◌, arith}
-use Rattle.std.specs.Prelude.{◌&&◌, ◌==◌, if◌then◌else◌, is_some, unwrap_or, int_lt, slice_get, slice_set, get_or}
+use Rattle.std.specs.Prelude.{◌&&◌, ◌==◌, if◌then◌else◌, is_some, int_lt, slice_get, slice_set, get_or}
 use Rattle.std.specs.List.{list_all, AllByRecursion}
-use Rattle.std.specs.FinMap.{get, remove, empty}
+use Rattle.std.specs.FinMap.{get, remove}
 use Rattle.std.proofs.lemmas.Int.{ints}
 use Rattle.std.proofs.lemmas.Bool.Decides.{nat_tests}
 use Rattle.std.proofs.lemmas.Option.{slice_get_within, unwrap_or-slice_get}
@@ -24,16 +24,15 @@ use Rattle.cap_rules.specs.cap_goal_spec.cap_syntax.declared.place.Place.{Place}
 use Rattle.cap_rules.specs.cap_goal_spec.cap_prog.Program.{PlainItem, compare, choose, fact, atom, cell, Items, none, item, PlainProgram}
 use Rattle.cap_rules.specs.cap_goal_spec.Terms.{lone_part, lone_variable}
 use Rattle.cap_rules.specs.cap_goal_spec.States.{PlainEnv}
-use Rattle.cap_rules.specs.cap_goal_spec.Environments.{zero_value, term_of, is_determined, with_name, Reading, settled, open_to, stuck, read_name, reading}
+use Rattle.cap_rules.specs.cap_goal_spec.Environments.{zero_value, term_of, is_determined, with_name, settled, open_to, read_name, reading}
 use Rattle.cap_rules.specs.Making.{opposite}
-use Rattle.cap_machine.specs.Machine.{Heap, compared}
+use Rattle.cap_machine.specs.Machine.{compared}
 use Rattle.cap_machine.specs.Results.{are_narrow}
 use Rattle.cap_machine_accounts.specs.Parts.{Part, Region}
-use Rattle.cap_machine_accounts.specs.Assertions.{NameValue, a_number, a_fraction, CompHolds, SlotIs, Takes, TakesAll}
+use Rattle.cap_machine_accounts.specs.Assertions.{NameValue, a_number, a_fraction, SlotIs, Takes, TakesAll}
 use Rattle.cap_machine_accounts.specs.Safety.{whole_part}
-use Rattle.cap_account_resources.proofs.Order.{met-relates, unmet-relates, not-both, same-int, other-int, same-refl}
+use Rattle.cap_account_resources.proofs.Order.{met-relates, unmet-relates, not-both, same-int, other-int}
 use Rattle.cap_owners_spec.specs.Traced.{Traced, traced, past_width, untold, ◌>>=◌, computed, over, value_at, number_of, valuation, number_in}
-use Rattle.cap_owners_spec.specs.Track.{Fill}
 use Rattle.cap_owners_spec.specs.Start.{Meeting, known_number, compared_shares, compared_by, known_holds, names_cell, meets_slot, meets_cell, meets_if, meets_item, meets_all}
 
 -- ---- what comes of a part of a step, if anything
@@ -86,7 +85,8 @@ parts-agree :
 unfolding parts_value
 parts-agree env n k f [] h = refl
 parts-agree env n k f (p ∷ ps) h =
-    let b = both-true (is_some (term_of env p.0)) (list_all (λ q. is_some (term_of env q.0)) ps) h in
+    let b =
+    both-true (is_some (term_of env p.0)) (list_all (λ q. is_some (term_of env q.0)) ps) h in
     let i = f p.0 b.0 in
     let j = parts-agree env n k f ps b.1 in
     ap (λ z. p.1 *ℤ z +ℤ parts_value n ps) i ∙ ap (λ z. p.1 *ℤ k p.0 +ℤ z) j
@@ -190,7 +190,7 @@ share-amount :
 unfolding amount parts_value
 share-amount v t e =
     let i : parts_value v.fraction.numerator t.parts ≡ pos 0 =
-            ap (parts_value v.fraction.numerator) e in
+    ap (parts_value v.fraction.numerator) e in
     omega (arith, ints, i)
 
 shares-by :
@@ -254,8 +254,8 @@ extends-both m m' m'' e f = record {
 earlier : (m m' : Meeting) (v : Valuation) → Extends m m' → Agrees m' v → Agrees m v
 earlier m m' v e h = λ x b. h x (e.bound x b) ∙ ap number_of (e.same x b)
 
--- what is taken out of the whole heap leaves just what the meeting leaves, by just those values with
--- which it agrees
+-- what is taken out of the whole heap leaves just what the meeting leaves, by just those values
+-- with which it agrees
 pub record Meets (T' : Valuation → Part → Part → Type 0) (m m' : Meeting) : Type 0 where
   pub extends : Extends m m'
   pub fits : Fits m'
@@ -302,6 +302,7 @@ lone-part c (p ∷ []) y e = by_test (is_zero c && same_number p.1 (pos 1)) refl
     zero-is (pos zero) e = refl
     zero-is (pos (suc n)) e = absurd (cc)
     zero-is (negsuc n) e = absurd (cc)
+
     by_test :
         (b : Bool) → (is_zero c && same_number p.1 (pos 1)) ≡ b →
         (if b then Some p.0 else None) ≡ Some y →
@@ -314,7 +315,9 @@ lone-part c (p ∷ []) y e = by_test (is_zero c && same_number p.1 (pos 1)) refl
     by_test false f e = absurd (cc)
 
 lone-is : (t : Linear) (y : ℕ) → lone_variable t ≡ Some y → IsLone t y
-lone-is t y e = let l = lone-part t.constant t.parts y e in record { zero_constant = l.0; parts = l.1 }
+lone-is t y e =
+    let l = lone-part t.constant t.parts y e in
+    record { zero_constant = l.0; parts = l.1 }
 
 lone-value : (n : ℕ → ℤ) (t : Linear) (y : ℕ) → IsLone t y → value n t ≡ n y
 unfolding value parts_value
@@ -329,7 +332,7 @@ lone-unbound :
     Bound env y → ⊥
 lone-unbound env t y h e b =
     let i : is_determined env t ≡ (is_some (term_of env y) && true) =
-            ap (list_all (λ p. is_some (term_of env p.0))) h.parts in
+    ap (list_all (λ p. is_some (term_of env p.0))) h.parts in
     let j : (is_some (term_of env y) && true) ≡ true = ap (λ z. z && true) b in
     cc
 
@@ -349,7 +352,8 @@ whole-set :
     (vs : List NameValue) (y : ℕ) (w z : ℤ) → slice_get vs y ≡ Some (a_number w) →
     map is_whole (slice_set vs y (a_number z)) ≡ map is_whole vs
 whole-set [] y w z e = refl
-whole-set (v ∷ vs) zero w z e = ap (λ b. b ∷ map is_whole vs) (sym (ap is_whole (some-same v (a_number w) e)))
+whole-set (v ∷ vs) zero w z e =
+    ap (λ b. b ∷ map is_whole vs) (sym (ap is_whole (some-same v (a_number w) e)))
 whole-set (v ∷ vs) (suc y) w z e = ap (λ bs. is_whole v ∷ bs) (whole-set vs y w z e)
 
 shares-set :
@@ -446,16 +450,19 @@ module _ (p : PlainProgram) (place : Place) (a : Linear) (x : Slot) (m : Meeting
       extends = e;
       fits = f;
       sound = λ v h.
-          (let k = earlier m m' v e h in
-          (record {
-            number = z;
-            positive = subst (λ y. pos 0 <ℤ y) (sym (i v k)) positive;
-            is_cell = ap (get m.heap) (i v k) ∙ g;
-            content_is = sound v h;
-          }, ap whole_part (same ∙ ap (remove m.heap) (sym (i v k)))));
-      unique = λ v h r t.
-          (unique v h (subst (SlotIs v x) (is-content v t.0.number h t.0.is_cell) t.0.content_is),
-          t.1 ∙ ap whole_part (ap (remove m.heap) (i v h) ∙ sym same));
+          (let k = earlier m m' v e h in (
+            record {
+              number = z;
+              positive = subst (λ y. pos 0 <ℤ y) (sym (i v k)) positive;
+              is_cell = ap (get m.heap) (i v k) ∙ g;
+              content_is = sound v h;
+            },
+            ap whole_part (same ∙ ap (remove m.heap) (sym (i v k))),
+          ));
+      unique = λ v h r t. (
+        unique v h (subst (SlotIs v x) (is-content v t.0.number h t.0.is_cell) t.0.content_is),
+        t.1 ∙ ap whole_part (ap (remove m.heap) (i v h) ∙ sym same),
+      );
     }
 
     slot-refused :
@@ -575,7 +582,7 @@ module _ (p : PlainProgram) where
       (meets_cell n o (λ z. meets_slot (reading m.env x) z (record m { heap = remove m.heap n })))
   cell-met place a x m f n i None g = λ v r h t.
       (let e : get m.heap n ≡ Some t.0.number =
-               ap (get m.heap) (sym (i v h)) ∙ t.0.is_cell in
+      ap (get m.heap) (sym (i v h)) ∙ t.0.is_cell in
       absurd (none-is t.0.number (sym g ∙ e)))
     where
       none-is : (z : ℤ) → None ≡ Some z → ⊥

@@ -1,26 +1,26 @@
 -- A first track comes just where the arguments and the heap are a start of main.
-use Rattle.std.proofs.Common.{◌≡◌, ◌≢◌, ℕ, zero, suc, ◌+◌, ◌-◌, ℤ, pos, ◌*ℤ◌, Bool, true, false, List, [], ◌∷◌, ◌++◌, map, length, take, drop, Option, Some, None, refl, sym, ap, subst, ◌∙◌, arith}
-use Rattle.std.specs.Prelude.{is_some, slice_get, replicate}
+use Rattle.std.proofs.Common.{◌≡◌, ℕ, zero, suc, ◌+◌, ℤ, pos, ◌*ℤ◌, List, [], ◌∷◌, ◌++◌, map, length, take, drop, Option, Some, None, refl, sym, ap, subst, ◌∙◌, arith}
+use Rattle.std.specs.Prelude.{slice_get, replicate}
 use Rattle.std.specs.List.{AllByRecursion, take-map, drop-map}
 use Rattle.cap_rules.specs.cap_goal_spec.cap_lin.Linear.{Linear}
-use Rattle.cap_rules.specs.cap_goal_spec.cap_lin.Values.{Valuation, denominator}
+use Rattle.cap_rules.specs.cap_goal_spec.cap_lin.Values.{Valuation}
 use Rattle.cap_rules.specs.cap_goal_spec.cap_lin.declared.row.Sort.{Sort}
 use Rattle.cap_rules.specs.cap_goal_spec.cap_lin.declared.row.Sort.TheVariants.{Int, Perm}
 use Rattle.cap_rules.specs.cap_goal_spec.cap_prog.Program.{PlainFunction}
 use Rattle.cap_rules.specs.cap_goal_spec.cap_prog.Scopes.{fixed_start}
-use Rattle.cap_rules.specs.cap_goal_spec.Environments.{zero_value, term_of, unbound}
+use Rattle.cap_rules.specs.cap_goal_spec.Environments.{zero_value, unbound}
 use Rattle.cap_machine.specs.Machine.{Heap, IsPositive}
 use Rattle.cap_rules.specs.cap_goal_spec.Roots.{function_unit}
 use Rattle.cap_machine_accounts.specs.Parts.{Part, no_part}
 use Rattle.cap_machine_accounts.specs.Assertions.{NameValue, a_number, a_fraction, ValuesFit, IsNamed, AreNamed, AreWhole, TakesAll}
 use Rattle.cap_machine_accounts.specs.Safety.{whole_part, first_account, Start}
-use Rattle.cap_owners_spec.specs.Traced.{Traced, traced, past_width, untold, ◌>>=◌, found, over, value_at, number_of, numerator_of, valuation}
+use Rattle.cap_owners_spec.specs.Traced.{traced, ◌>>=◌, found, over, value_at, number_of, numerator_of, valuation}
 use Rattle.cap_owners_spec.specs.Track.{Place, TrackedFrame, Track, account_of}
 use Rattle.cap_owners_spec.specs.Steps.{Proved, root_at, begins_at, fixed_values, requires_root, body_root}
 use Rattle.cap_owners_spec.specs.Start.{Meeting, meets_all, unset, first_meeting, main_track, track_by, first_track}
 use Rattle.cap_owners_laws.specs.Laws.{IsMet, IsUnmet}
 use Rattle.cap_owners_laws.proofs.Steps.{was-traced, traced-same}
-use Rattle.cap_owners_laws.proofs.Meetings.{On, Bound, Agrees, is_whole, IsOver, Fits, Meets, Result, all-met}
+use Rattle.cap_owners_laws.proofs.Meetings.{On, Bound, is_whole, IsOver, Fits, Meets, Result, all-met}
 
 -- ---- lists
 
@@ -59,17 +59,19 @@ are-named :
     (v : Valuation) (x : ℕ) (ys : List NameValue) →
     ((j : ℕ) (y : NameValue) → slice_get ys j ≡ Some y → IsNamed v (x + j) y) → AreNamed v x ys
 are-named v x [] f = tt
-are-named v x (y ∷ ys) f =
-    (subst (λ n. IsNamed v n y) (omega arith) (f 0 y refl),
-    are-named v (suc x) ys (λ j z e. subst (λ n. IsNamed v n z) (omega arith) (f (suc j) z e)))
+are-named v x (y ∷ ys) f = (
+  subst (λ n. IsNamed v n y) (omega arith) (f 0 y refl),
+  are-named v (suc x) ys (λ j z e. subst (λ n. IsNamed v n z) (omega arith) (f (suc j) z e)),
+)
 
 are-whole :
     (v : Valuation) (x : ℕ) (zs : List ℤ) →
     ((j : ℕ) (z : ℤ) → slice_get zs j ≡ Some z → v.whole (x + j) ≡ z) → AreWhole v x zs
 are-whole v x [] f = tt
-are-whole v x (z ∷ zs) f =
-    (subst (λ n. v.whole n ≡ z) (omega arith) (f 0 z refl),
-    are-whole v (suc x) zs (λ j y e. subst (λ n. v.whole n ≡ y) (omega arith) (f (suc j) y e)))
+are-whole v x (z ∷ zs) f = (
+  subst (λ n. v.whole n ≡ z) (omega arith) (f 0 z refl),
+  are-whole v (suc x) zs (λ j y e. subst (λ n. v.whole n ≡ y) (omega arith) (f (suc j) y e)),
+)
 
 whole-in :
     (v : Valuation) (x : ℕ) (zs : List ℤ) (j : ℕ) (z : ℤ) → AreWhole v x zs →
@@ -205,7 +207,7 @@ module _ (d : Proved) (main : PlainFunction) (args : List ℤ) (heap : Heap)
       ≡ (meets_all main.requires before >>= track_by d main args heap)
   track-is =
       ap (λ o. found o >>= λ f.
-          (meets_all f.requires (first_meeting f args heap) >>= track_by d f args heap)) is_main
+      (meets_all f.requires (first_meeting f args heap) >>= track_by d f args heap)) is_main
 
   fits-before : Fits before
   fits-before = length-args args main.locals main.fixed
@@ -265,10 +267,10 @@ module _ (d : Proved) (main : PlainFunction) (args : List ℤ) (heap : Heap)
     seat = q;
     values = map a_number args ++ fixed_values main m.fill;
     given = Some (record {
-        stability = root_at d (function_unit d.program.main) requires_root;
-        values = map a_number args ++ fixed_values main m.fill;
-        fill = m.fill;
-      });
+      stability = root_at d (function_unit d.program.main) requires_root;
+      values = map a_number args ++ fixed_values main m.fill;
+      fill = m.fill;
+    });
     since = [];
     awaited = 0;
   }
@@ -281,7 +283,7 @@ module _ (d : Proved) (main : PlainFunction) (args : List ℤ) (heap : Heap)
       f.held.fixed ≡ fixed_values main m.fill
   fixed-kept m f e =
       let w = was-traced (found (root_at d (function_unit d.program.main) body_root))
-              (λ q. traced (begun m q)) f e in
+      (λ q. traced (begun m q)) f e in
       ap (λ g. g.held.fixed) (sym (traced-same (begun m w.0) f w.2))
 
   met-track :
@@ -291,12 +293,14 @@ module _ (d : Proved) (main : PlainFunction) (args : List ℤ) (heap : Heap)
   met-track positive k None e t = absurd (cc)
   met-track positive k (Some m) e t =
       let w = was-traced
-              (begins_at d d.program.main requires_root body_root
-              (map a_number args ++ fixed_values main m.fill) (fixed_values main m.fill) m.fill [])
-              (λ f. traced (Some (main_track heap f))) (Some k) t in
-      let i : main_track heap w.0 ≡ k = some-track (main_track heap w.0) k w.2 in
-      (fixed_values main m.fill, start-of positive m (met-by (Some m) e),
-      sym (ap account_of i) ∙ ap (first_account heap) (fixed-kept m w.0 w.1))
+      (begins_at d d.program.main requires_root body_root
+      (map a_number args ++ fixed_values main m.fill) (fixed_values main m.fill) m.fill [])
+      (λ f. traced (Some (main_track heap f))) (Some k) t in
+      let i : main_track heap w.0 ≡ k = some-track (main_track heap w.0) k w.2 in (
+        fixed_values main m.fill,
+        start-of positive m (met-by (Some m) e),
+        sym (ap account_of i) ∙ ap (first_account heap) (fixed-kept m w.0 w.1),
+      )
     where
       some-track : (x y : Track) → traced (Some x) ≡ traced (Some y) → x ≡ y
       some-track x y e = cc
@@ -313,9 +317,9 @@ module _ (d : Proved) (main : PlainFunction) (args : List ℤ) (heap : Heap)
       s.meets.met.1
   unmet-track (Some m) e t =
       let w = was-traced
-              (begins_at d d.program.main requires_root body_root
-              (map a_number args ++ fixed_values main m.fill) (fixed_values main m.fill) m.fill [])
-              (λ f. traced (Some (main_track heap f))) None t in
+      (begins_at d d.program.main requires_root body_root
+      (map a_number args ++ fixed_values main m.fill) (fixed_values main m.fill) m.fill [])
+      (λ f. traced (Some (main_track heap f))) None t in
       absurd (not-none (main_track heap w.0) w.2)
     where
       not-none : (x : Track) → traced (Some x) ≡ traced None → ⊥
@@ -326,11 +330,11 @@ module _ (d : Proved) (main : PlainFunction) (args : List ℤ) (heap : Heap)
       IsMet d args heap main k
   met-start positive k e =
       let w = was-traced (meets_all main.requires before) (track_by d main args heap) (Some k)
-              (sym track-is ∙ e) in
+      (sym track-is ∙ e) in
       met-track positive k w.0 w.1 w.2
 
   pub unmet-start : first_track d args heap ≡ traced None → IsUnmet d args heap main
   unmet-start e =
       let w = was-traced (meets_all main.requires before) (track_by d main args heap) None
-              (sym track-is ∙ e) in
+      (sym track-is ∙ e) in
       unmet-track w.0 w.1 w.2

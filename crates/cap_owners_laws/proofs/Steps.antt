@@ -1,11 +1,11 @@
 -- What a step of a track leaves as it is.
-use Rattle.std.proofs.Common.{◌≡◌, ℕ, zero, suc, List, [], ◌∷◌, ◌++◌, Option, Some, None, refl, sym, ap, subst, ◌∙◌}
+use Rattle.std.proofs.Common.{◌≡◌, ℕ, zero, suc, List, [], ◌∷◌, ◌++◌, Option, Some, None, refl, ap, subst}
 use Rattle.std.specs.Prelude.{◌≢◌, slice_get, slice_set}
 use Rattle.cap_machine.specs.declared.event.Event.{Event}
 use Rattle.cap_machine.specs.Machine.{Frame, Configuration, top_frame}
 use Rattle.cap_owners_spec.specs.Traced.{Traced, traced, past_width, untold, ◌>>=◌}
 use Rattle.cap_owners_spec.specs.Track.{TrackedFrame, Track}
-use Rattle.cap_owners_spec.specs.Steps.{Proved, Spot, Moved, moved, new_thread, after_move, followed, follow}
+use Rattle.cap_owners_spec.specs.Steps.{Proved, Scene, Moved, moved, new_thread, after_move, followed, follow}
 
 -- what comes to something went through something
 pub was-traced :
@@ -36,8 +36,8 @@ in-front (x ∷ xs) ys zero y e = e
 in-front (x ∷ xs) ys (suc i) y e = in-front xs ys i y e
 
 module _ (d : Proved) (k k' : Track) (thread : ℕ) (event : Event) (after : Configuration) where
-  abbrev spot : Frame → TrackedFrame → List TrackedFrame → Spot
-  spot m top below = record {
+  abbrev scene : Frame → TrackedFrame → List TrackedFrame → Scene
+  scene m top below = record {
     frame = m;
     after = after;
     thread = thread;
@@ -53,7 +53,7 @@ module _ (d : Proved) (k k' : Track) (thread : ℕ) (event : Event) (after : Con
   kept-by (Some m) None e = absurd (cc)
   kept-by (Some m) (Some []) e = absurd (cc)
   kept-by (Some m) (Some (top ∷ below)) e =
-      let w = was-traced (moved d (spot m top below) event) (λ x. traced (after_move k thread x)) k' e in
+      let w = was-traced (moved d (scene m top below) event) (λ x. traced (after_move k thread x)) k' e in
       (w.0, traced-same (after_move k thread w.0) k' w.2)
 
 pub others-keep :
@@ -63,7 +63,7 @@ pub others-keep :
     slice_get k'.threads i ≡ Some fs
 others-keep d k k' thread event before after e i fs ne h =
     let w = kept-by d k k' thread event after (top_frame (slice_get before.threads thread))
-            (slice_get k.threads thread) e in
+    (slice_get k.threads thread) e in
     subst (λ t. slice_get t.threads i ≡ Some fs) w.1
     (in-front (slice_set k.threads thread w.0.frames) (new_thread w.0.forked) i fs
     (other-set k.threads thread i w.0.frames fs ne h))

@@ -1,7 +1,6 @@
 -- What holds of the text of a run with its accounts, of its start and of a step of its track.
-use Rattle.std.specs.Prelude.{◌≡◌, ◌≢◌, ◌⊎◌, ℕ, suc, ℤ, Bool, true, false, List, [], ◌∷◌, length, slice_get, Option, Some, None}
+use Rattle.std.specs.Prelude.{◌≡◌, ◌≢◌, ◌⊎◌, ℕ, suc, ℤ, Bool, true, false, List, [], ◌∷◌, length, slice_get, Some, None}
 use Rattle.cap_rules.specs.cap_goal_spec.cap_prog.Program.{PlainFunction, PlainProgram}
-use Rattle.cap_rules.specs.cap_goal_spec.Choices.{PlainTree}
 use Rattle.cap_machine.specs.declared.event.Entry.{Entry}
 use Rattle.cap_machine.specs.declared.event.Event.{Event}
 use Rattle.cap_machine.specs.Machine.{Heap, Configuration, Outcome, next, fault, disabled, step, IsPositive}

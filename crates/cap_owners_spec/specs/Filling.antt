@@ -1,5 +1,5 @@
--- By what the items of an assertion are met when they are taken, and which variables that gives when
--- they are given again.
+-- By what the items of an assertion are met when they are taken, and which values that brings when
+-- they are given.
 use Rattle.std.specs.Prelude.{ℕ, ℤ, pos, negsuc, if◌then◌else◌, is_some, List, [], ◌∷◌, ◌++◌, slice_set, Option, Some, None}
 use Rattle.std.specs.FinMap.{insert}
 use Rattle.cap_rules.specs.cap_goal_spec.cap_lin.Linear.{Linear}
@@ -212,10 +212,10 @@ pub record Parting : Type 0 where
 abbrev pub parting : Items → Option Parting
 parting none = None
 parting (item (choose c a b) more) = Some (record {
-      condition = c;
-      holding = append_items a more;
-      failing = append_items b more;
-    })
+  condition = c;
+  holding = append_items a more;
+  failing = append_items b more;
+})
 parting (item i more) = parting more
 
 -- up to the first conditional, with its comparison

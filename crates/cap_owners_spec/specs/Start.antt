@@ -44,9 +44,9 @@ known_holds m c = compared_by c.sort m c
 -- a name that has no value yet, and is one of a whole number, gets that of the cell
 abbrev pub names_cell : Option NameValue → ℕ → ℤ → Meeting → Traced (Option Meeting)
 names_cell (Some (a_number y)) x z m = traced (Some (record m {
-          env = with_name m.env x zero_value;
-          fill = record m.fill { names = slice_set m.fill.names x (a_number z) };
-        }))
+  env = with_name m.env x zero_value;
+  fill = record m.fill { names = slice_set m.fill.names x (a_number z) };
+}))
 names_cell o x z m = untold
 
 abbrev pub meets_slot : Reading → ℤ → Meeting → Traced (Option Meeting)
@@ -54,8 +54,8 @@ meets_slot (settled t) z m = do
   y ← number_in m.fill.names t
   traced (if same_number y z then Some m else None)
 meets_slot (open_to None) z m = traced (Some (record m {
-          fill = record m.fill { wildcards = m.fill.wildcards ++ a_number z ∷ [] };
-        }))
+  fill = record m.fill { wildcards = m.fill.wildcards ++ a_number z ∷ [] };
+}))
 meets_slot (open_to (Some x)) z m = names_cell (slice_get m.fill.names x) x z m
 meets_slot stuck z m = untold
 

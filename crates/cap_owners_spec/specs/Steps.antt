@@ -15,7 +15,7 @@ use Rattle.cap_machine_accounts.specs.Parts.{no_part}
 use Rattle.cap_machine_accounts.specs.Assertions.{NameValue, a_number}
 use Rattle.cap_outline_spec.specs.Standing.{first_number}
 use Rattle.cap_owners_spec.specs.Traced.{Traced, traced, untold, ◌>>=◌, found}
-use Rattle.cap_owners_spec.specs.Track.{Fill, Place, TrackedRegion, Given, TrackedFrame, Track, tracked_at}
+use Rattle.cap_owners_spec.specs.Track.{Fill, Place, TrackedRegion, GivenAssertion, TrackedFrame, Track, tracked_at}
 use Rattle.cap_owners_spec.specs.Filling.{part_held}
 use Rattle.cap_owners_spec.specs.Walks.{Taking, Walk, nothing_taken, Interpreted, Interpreting, Halt, stands, leaves, walk_from}
 
@@ -90,13 +90,13 @@ taken_in_end (leaves w) = do
   traced t.fill
 
 -- what was given is given again through its stability tree, as it was met when it was handed over
-abbrev pub filled_again : Proved → List TrackedRegion → Given → Option Place → Traced Fill
+abbrev pub filled_again : Proved → List TrackedRegion → GivenAssertion → Option Place → Traced Fill
 filled_again d rs g None = traced g.fill
 filled_again d rs g (Some q) =
     walk_from none_entered d.program false q
     (beginning rs g.values (nothing_taken ∷ []) (Some g.fill) []) >>= taken_in_end
 
-abbrev pub fill_now : Proved → List TrackedRegion → Option Given → Traced (Option Fill)
+abbrev pub fill_now : Proved → List TrackedRegion → Option GivenAssertion → Traced (Option Fill)
 fill_now d rs None = traced None
 fill_now d rs (Some g) = do
   f ← if is_current rs g.fill then traced g.fill else filled_again d rs g g.stability
@@ -153,17 +153,17 @@ abbrev pub begins_at :
 begins_at d n stability root vs fixed fill since = do
   q ← found (root_at d (function_unit n) root)
   traced (record {
-        held = record { part = no_part; fixed = fixed };
-        seat = q;
-        values = vs;
-        given = Some (record {
-            stability = root_at d (function_unit n) stability;
-            values = vs;
-            fill = fill;
-          });
-        since = since;
-        awaited = 0;
-      })
+    held = record { part = no_part; fixed = fixed };
+    seat = q;
+    values = vs;
+    given = Some (record {
+      stability = root_at d (function_unit n) stability;
+      values = vs;
+      fill = fill;
+    });
+    since = since;
+    awaited = 0;
+  })
 
 -- the fixed names' values among those of `requires`
 abbrev pub fixed_values : PlainFunction → Fill → List NameValue
@@ -204,7 +204,7 @@ pub record Moved : Type 0 where
 
 -- what is known before a step: the machine's frame, the configuration that the step leaves, the
 -- stepping thread, its frame and those below, and the regions
-pub record Spot : Type 0 where
+pub record Scene : Type 0 where
   pub frame : Frame
   pub after : Configuration
   pub thread : ℕ
@@ -212,30 +212,33 @@ pub record Spot : Type 0 where
   pub below : List TrackedFrame
   pub regions : List TrackedRegion
 
-abbrev pub walk_of : Proved → Bool → Spot → Event → Traced Halt
+abbrev pub walk_of : Proved → Bool → Scene → Event → Traced Halt
 walk_of d seating s event = frame_walk d seating s.regions s.top (s.top.since ++ event ∷ [])
 
 -- a seat to which the frame came, and the walk there
 abbrev pub seated : TrackedFrame → Halt → Traced (TrackedFrame × Walk)
 seated f (leaves w) = untold
-seated f (stands q w) = traced (record f {
-      seat = q;
-      values = w.values;
-      given = None;
-      since = [];
-      awaited = w.awaited;
-    }, w)
+seated f (stands q w) = traced (
+  record f {
+    seat = q;
+    values = w.values;
+    given = None;
+    since = [];
+    awaited = w.awaited;
+  },
+  w,
+)
 
 -- on in its tree, where others see nothing
-abbrev pub goes_on : Proved → Spot → Event → Traced Moved
-goes_on d s event = do
+abbrev pub stays_seated : Proved → Scene → Event → Traced Moved
+stays_seated d s event = do
   h ← walk_of d false s event
   f ← owning d (record s.top { since = s.top.since ++ event ∷ [] }) h
   traced (record { frames = f ∷ s.below; forked = None; regions = s.regions })
 
 -- a heap statement: regions are entered and closed
-abbrev pub touches : Proved → Spot → Event → Traced Moved
-touches d s event = do
+abbrev pub takes_seat : Proved → Scene → Event → Traced Moved
+takes_seat d s event = do
   h ← walk_of d true s event
   x ← seated s.top h
   f ← standing d x.1.regions x.0
@@ -247,7 +250,7 @@ pub record Handed : Type 0 where
   pub callee : TrackedFrame
   pub regions : List TrackedRegion
 
-abbrev pub hands_over : Proved → Spot → Event → Option Frame → Traced Handed
+abbrev pub hands_over : Proved → Scene → Event → Option Frame → Traced Handed
 hands_over d s event m = do
   h ← walk_of d true s event
   x ← seated s.top h
@@ -257,13 +260,13 @@ hands_over d s event m = do
   callee ← standing d x.1.regions begun
   traced (record { caller = caller; callee = callee; regions = x.1.regions })
 
-abbrev pub calls : Proved → Spot → Traced Moved
-calls d s = do
+abbrev pub tracks_call : Proved → Scene → Traced Moved
+tracks_call d s = do
   x ← hands_over d s Call (top_frame (slice_get s.after.threads s.thread))
   traced (record { frames = x.callee ∷ x.caller ∷ s.below; forked = None; regions = x.regions })
 
-abbrev pub forks : Proved → Spot → ℕ → Traced Moved
-forks d s k = do
+abbrev pub tracks_fork : Proved → Scene → ℕ → Traced Moved
+tracks_fork d s k = do
   x ← hands_over d s (Fork k) (top_frame (slice_get s.after.threads k))
   traced (record { frames = x.caller ∷ s.below; forked = Some x.callee; regions = x.regions })
 
@@ -275,53 +278,53 @@ ended_walk (leaves w) = do
   traced (t.fill, w)
 
 -- the caller has the result, and is given what the callee promised
-abbrev pub received : Proved → Spot → ℤ → TrackedFrame → Fill → TrackedFrame
+abbrev pub received : Proved → Scene → ℤ → TrackedFrame → Fill → TrackedFrame
 received d s v c x = record c {
   values = slice_set c.values c.awaited (a_number v);
   given = Some (record {
-      stability = root_at d (function_unit s.frame.function) ensures_root;
-      values = map a_number s.frame.arguments ++ (s.top.held.fixed ++ a_number v ∷ []);
-      fill = x;
-    });
+    stability = root_at d (function_unit s.frame.function) ensures_root;
+    values = map a_number s.frame.arguments ++ (s.top.held.fixed ++ a_number v ∷ []);
+    fill = x;
+  });
 }
 
 abbrev pub gives_result :
-    Proved → Spot → ℤ → List TrackedFrame → Fill × Walk → Traced (List TrackedFrame)
+    Proved → Scene → ℤ → List TrackedFrame → Fill × Walk → Traced (List TrackedFrame)
 gives_result d s v [] x = traced []
 gives_result d s v (c ∷ below) x = do
   f ← standing d x.1.regions (received d s v c x.0)
   traced (f ∷ below)
 
-abbrev pub returns : Proved → Spot → Event → ℤ → Traced Moved
-returns d s event v = do
+abbrev pub tracks_return : Proved → Scene → Event → ℤ → Traced Moved
+tracks_return d s event v = do
   h ← walk_of d false s event
   x ← ended_walk h
   fs ← gives_result d s v s.below x
   traced (record { frames = fs; forked = None; regions = x.1.regions })
 
 -- a loop's tree begins behind the end of another one
-abbrev pub branches : Proved → Spot → Event → Halt → Traced Moved
-branches d s event (stands q w) = goes_on d s event
-branches d s event (leaves w) = do
+abbrev pub tracks_branch : Proved → Scene → Event → Halt → Traced Moved
+tracks_branch d s event (stands q w) = stays_seated d s event
+tracks_branch d s event (leaves w) = do
   x ← ended_walk (leaves w)
   begun ← looping d s.frame s.top event x.0
   f ← standing d w.regions begun
   traced (record { frames = f ∷ s.below; forked = None; regions = w.regions })
 
-abbrev pub moved : Proved → Spot → Event → Traced Moved
-moved d s (Set v) = goes_on d s (Set v)
-moved d s (Alloc base) = goes_on d s (Alloc base)
-moved d s Assert = goes_on d s Assert
-moved d s (Branch taken) = walk_of d false s (Branch taken) >>= branches d s (Branch taken)
-moved d s (Read a v) = touches d s (Read a v)
-moved d s (Write a v) = touches d s (Write a v)
-moved d s (Cas a swapped) = touches d s (Cas a swapped)
-moved d s (Faa a v) = touches d s (Faa a v)
-moved d s (Dispose a) = touches d s (Dispose a)
-moved d s Call = calls d s
-moved d s (Fork k) = forks d s k
-moved d s (Return v) = returns d s (Return v) v
-moved d s (End v) = returns d s (End v) v
+abbrev pub moved : Proved → Scene → Event → Traced Moved
+moved d s (Set v) = stays_seated d s (Set v)
+moved d s (Alloc base) = stays_seated d s (Alloc base)
+moved d s Assert = stays_seated d s Assert
+moved d s (Branch taken) = walk_of d false s (Branch taken) >>= tracks_branch d s (Branch taken)
+moved d s (Read a v) = takes_seat d s (Read a v)
+moved d s (Write a v) = takes_seat d s (Write a v)
+moved d s (Cas a swapped) = takes_seat d s (Cas a swapped)
+moved d s (Faa a v) = takes_seat d s (Faa a v)
+moved d s (Dispose a) = takes_seat d s (Dispose a)
+moved d s Call = tracks_call d s
+moved d s (Fork k) = tracks_fork d s k
+moved d s (Return v) = tracks_return d s (Return v) v
+moved d s (End v) = tracks_return d s (End v) v
 moved d s event = untold
 
 abbrev pub new_thread : Option TrackedFrame → List (List TrackedFrame)
@@ -339,13 +342,13 @@ abbrev pub followed :
     Traced Track
 followed d k thread event after (Some m) (Some (top ∷ below)) = do
   x ← moved d (record {
-          frame = m;
-          after = after;
-          thread = thread;
-          top = top;
-          below = below;
-          regions = k.regions;
-        })
+    frame = m;
+    after = after;
+    thread = thread;
+    top = top;
+    below = below;
+    regions = k.regions;
+  })
       event
   traced (after_move k thread x)
 followed d k thread event after m fs = untold

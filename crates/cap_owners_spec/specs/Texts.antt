@@ -41,8 +41,8 @@ own_texts n (tok k) = (codes "tok " ++ (n ++ in_brackets (decimal k))) ∷ []
 own_texts n (indices bounds) = interval_texts n bounds
 own_texts n x = []
 
--- the atoms of an algebra that have something of an element, the first of which has number i. All of
--- a sum is all of its left side
+-- the atoms of an algebra that have something of an element, the first of which has number i. All
+-- of a sum is all of its left side
 abbrev pub atom_texts : (ℕ → Name) → PlainAlgebra → ℕ → Element → List (List ℕ)
 atom_texts names (product a b) i (both x y) =
     atom_texts names a i x ++ atom_texts names b (i + atoms a) y
@@ -60,7 +60,8 @@ all_of ts = join_by (λ t. t) (codes " * ") ts
 abbrev pub guard_text : PlainProgram → ℤ × Guard → List ℕ
 guard_text p q =
     signed_decimal q.0
-    ++ (codes "@" ++ all_of (atom_texts (atom_name p q.1.kind) (algebra_of p q.1.kind) 0 q.1.element))
+    ++ (codes "@"
+    ++ all_of (atom_texts (atom_name p q.1.kind) (algebra_of p q.1.kind) 0 q.1.element))
 
 -- ---- parts
 

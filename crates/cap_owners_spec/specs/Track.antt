@@ -1,4 +1,4 @@
--- The track of a run: of each region and of each frame what it owns, and by what a derivation says it.
+-- The track of a run: of each region and of each frame what it owns, and how a derivation says it.
 use Rattle.std.specs.Prelude.{ℕ, ℤ, List, map, find, Option}
 use Rattle.cap_rules.specs.cap_goal_spec.cap_lin.Linear.{same_number}
 use Rattle.cap_rules.specs.cap_goal_spec.States.{PlainGoal}
@@ -25,22 +25,22 @@ pub record TrackedRegion : Type 0 where
   pub case : ℕ
   pub fill : Fill
 
--- what a frame was given: the stability of the assertion, with values of what is known there, and by
--- what the assertion was met
-pub record Given : Type 0 where
+-- what a frame was given: the stability of the assertion, with values of what is known there, and
+-- by what the assertion was met
+pub record GivenAssertion : Type 0 where
   pub stability : Option Place
   pub values : List NameValue
   pub fill : Fill
 
--- A frame has a seat: the node to which its last step led that others could see, or where it
--- begins, before its facts are settled, with values of the variables there. What it was given since,
--- and its own steps since, lead from the seat to where it stands. A frame that waits for a result
--- has a variable for it.
+-- A frame has a seat: the node to which its last heap statement, call or fork led, before its facts
+-- are settled, or the root where it begins, with values of the variables there. What it was given
+-- since, and its own steps since, lead from the seat to where it stands. A frame that waits for a
+-- result has a variable for it.
 pub record TrackedFrame : Type 0 where
   pub held : Held
   pub seat : Place
   pub values : List NameValue
-  pub given : Option Given
+  pub given : Option GivenAssertion
   pub since : List Event
   pub awaited : ℕ
 

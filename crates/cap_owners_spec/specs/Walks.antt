@@ -34,8 +34,8 @@ pub record Taking : Type 0 where
   pub part : Part
 
 -- The values of the variables; the regions by now, and the number of the next one; what is taken,
--- the innermost first; by what the next items that are given are met; the frame's own steps that are
--- still to come; and the variable of the result of the last call.
+-- the innermost first; by what the next items that are given are met; the frame's own steps that
+-- are still to come; and the variable of the result of the last call.
 pub record Walk : Type 0 where
   pub values : List NameValue
   pub regions : List TrackedRegion
@@ -46,11 +46,11 @@ pub record Walk : Type 0 where
   pub awaited : ℕ
 
 -- the child that is gone to, by its number, if the choice leaves one, and the walk there
-pub data Passage : Type 0 where
-  passes : Option ℕ → Walk → Passage
+pub data Descent : Type 0 where
+  descends : Option ℕ → Walk → Descent
 
-abbrev pub on : ℕ → Walk → Traced Passage
-on i w = traced (passes (Some i) w)
+abbrev pub on : ℕ → Walk → Traced Descent
+on i w = traced (descends (Some i) w)
 
 -- with values of new variables
 abbrev pub bringing : Walk → List NameValue → Walk
@@ -85,21 +85,21 @@ taken_at s e w = do
   traced (record t { fill = record t.fill { names = names } })
 
 -- the item goes, met by this
-abbrev pub goes_met : Walk → Taking → Fill → Traced Passage
+abbrev pub goes_met : Walk → Taking → Fill → Traced Descent
 goes_met w t f = on 0 (with_top w (record t { fill = f }))
 
-abbrev pub pass_cell : PlainState → PlainEnv → ℕ → Slot → Taking → Walk → Traced Passage
+abbrev pub pass_cell : PlainState → PlainEnv → ℕ → Slot → Taking → Walk → Traced Descent
 pass_cell s env j x t w = do
   c ← found (slice_get s.cells j)
   a ← number_in w.values c.0
   z ← number_in w.values c.1
   on 0 (with_top w (record {
-        fill = met (reading env x) (a_number z) t.fill;
-        part = record t.part { cells = insert t.part.cells a z };
-      }))
+    fill = met (reading env x) (a_number z) t.fill;
+    part = record t.part { cells = insert t.part.cells a z };
+  }))
 
 abbrev pub pass_region :
-    PlainState → PlainEnv → ℕ → ℕ → List Slot → Slot → Taking → Walk → Traced Passage
+    PlainState → PlainEnv → ℕ → ℕ → List Slot → Slot → Taking → Walk → Traced Descent
 pass_region s env j r args x t w = do
   f ← found (slice_get s.facts j)
   n ← number_in w.values f.region
@@ -114,7 +114,7 @@ new_share (Share x) (open_to o) v = v ∷ []
 new_share asked r v = []
 
 abbrev pub pass_piece :
-    PlainProgram → PlainState → PlainEnv → ℕ → ℕ → ℕ → Asked → Taking → Walk → Traced Passage
+    PlainProgram → PlainState → PlainEnv → ℕ → ℕ → ℕ → Asked → Taking → Walk → Traced Descent
 pass_piece p s env j k i asked t w = do
   q ← found (slice_get s.guards j)
   n ← number_in w.values q.region
@@ -126,7 +126,7 @@ pass_piece p s env j k i asked t w = do
 
 -- way 2 takes no token
 abbrev pub pass_guard :
-    PlainProgram → PlainState → PlainEnv → ℕ → ℕ → ℕ → ℕ → Asked → Taking → Walk → Traced Passage
+    PlainProgram → PlainState → PlainEnv → ℕ → ℕ → ℕ → ℕ → Asked → Taking → Walk → Traced Descent
 pass_guard p s env j (suc (suc zero)) k i (Tok x) t w = goes_met w t t.fill
 pass_guard p s env j way k i asked t w = pass_piece p s env j k i asked t w
 
@@ -137,17 +137,18 @@ side_child true (g ∷ gs) = Some 0
 side_child false gs = Some (length gs)
 
 -- the next region gets its number, and its case is taken
-abbrev pub pass_create : Walk → Traced Passage
-pass_create w = on 0 (taking (record (bringing w (a_number w.next ∷ [])) { next = w.next +ℤ pos 1 }))
+abbrev pub pass_create : Walk → Traced Descent
+pass_create w =
+    on 0 (taking (record (bringing w (a_number w.next ∷ [])) { next = w.next +ℤ pos 1 }))
 
 -- an item, which other ones follow
 abbrev pub pass_item :
     PlainProgram → PlainState → PlainChoice → PlainItem → Items → ℕ → ℕ → ℕ → List PlainTask →
-    Taking → Walk → Traced Passage
+    Taking → Walk → Traced Descent
 pass_item p s (by_fact cs) (compare c) more e left n ts t w = goes_met w t t.fill
 pass_item p s by_cases (choose c a b) more e left n ts t w = do
   b ← holds_by t.fill.names c
-  traced (passes (side_child b (goals_of s (to_take (append_items a more) e left n ∷ ts)))
+  traced (descends (side_child b (goals_of s (to_take (append_items a more) e left n ∷ ts)))
       (with_top w t))
 pass_item p s (by_cell j cs) (cell place a x) more e left n ts t w =
     pass_cell s (env_at s e) j x t w
@@ -181,7 +182,7 @@ firmed (f ∷ fs) n z vs = do
 
 -- region o is closed: it has what was taken, in the case's state by the case's names
 abbrev pub pass_shift :
-    PlainProgram → PlainState → ℕ → ℕ → ℕ → Taking → Walk → Traced Passage
+    PlainProgram → PlainState → ℕ → ℕ → ℕ → Taking → Walk → Traced Descent
 pass_shift p s o c e t w = do
   f ← found (slice_get s.opened o)
   k ← found (slice_get p.regions f.kind)
@@ -192,18 +193,18 @@ pass_shift p s o c e t w = do
   z ← number_in names x.state
   vs ← firmed s.facts n z w.values
   on 0 (record w {
-        values = vs;
-        taken = drop 1 w.taken;
-        regions = with_region (record {
-              owned = record { region = record r.owned.region { state = z }; part = t.part };
-              case = c;
-              fill = record t.fill { names = names };
-            }) w.regions;
-      })
+    values = vs;
+    taken = drop 1 w.taken;
+    regions = with_region (record {
+      owned = record { region = record r.owned.region { state = z }; part = t.part };
+      case = c;
+      fill = record t.fill { names = names };
+    }) w.regions;
+  })
 
 -- a region is made
 abbrev pub pass_made :
-    PlainProgram → PlainState → ℕ → ℕ → ℕ → Linear → Taking → Walk → Traced Passage
+    PlainProgram → PlainState → ℕ → ℕ → ℕ → Linear → Taking → Walk → Traced Descent
 pass_made p s k c e u t w = do
   y ← found (slice_get p.regions k)
   x ← found (slice_get y.cases c)
@@ -211,24 +212,24 @@ pass_made p s k c e u t w = do
   names ← names_in w.values (env_at s e)
   z ← number_in names x.state
   on 0 (record w {
-        taken = drop 1 w.taken;
-        regions = with_region (record {
-              owned = record {
-                region = record {
-                  number = n;
-                  kind = k;
-                  args = map number_of (take (y.params - 1) (drop 1 names));
-                  state = z;
-                };
-                part = t.part;
-              };
-              case = c;
-              fill = record t.fill { names = names };
-            }) w.regions;
-      })
+    taken = drop 1 w.taken;
+    regions = with_region (record {
+      owned = record {
+        region = record {
+          number = n;
+          kind = k;
+          args = map number_of (take (y.params - 1) (drop 1 names));
+          state = z;
+        };
+        part = t.part;
+      };
+      case = c;
+      fill = record t.fill { names = names };
+    }) w.regions;
+  })
 
 -- the state in which the region is by now
-abbrev pub pass_settle : PlainState → ℕ → Walk → Traced Passage
+abbrev pub pass_settle : PlainState → ℕ → Walk → Traced Descent
 pass_settle s j w = do
   f ← found (slice_get s.facts j)
   n ← number_in w.values f.region
@@ -243,7 +244,7 @@ pub record Interpreted : Type 0 where
 abbrev pub Interpreting : Type 0
 Interpreting = List TrackedRegion → TrackedRegion → Traced Interpreted
 
-abbrev pub pass_enter : Interpreting → PlainProgram → PlainState → ℕ → Walk → Traced Passage
+abbrev pub pass_enter : Interpreting → PlainProgram → PlainState → ℕ → Walk → Traced Descent
 pass_enter enter p s i w = do
   f ← found (slice_get s.facts i)
   k ← found (slice_get p.regions f.kind)
@@ -286,18 +287,18 @@ result_for s (Some x) w = do
   traced (a_number z)
 
 -- what a callee requires is to be taken
-abbrev pub pass_callee : PlainState → Option ℕ → Walk → Traced Passage
+abbrev pub pass_callee : PlainState → Option ℕ → Walk → Traced Descent
 pass_callee s x w = do
   v ← result_for s x w
   on 0 (taking (record (bringing w (v ∷ [])) {
-          fill = None;
-          taken = [];
-          awaited = length w.values;
-        }))
+    fill = None;
+    taken = [];
+    awaited = length w.values;
+  }))
 
 -- a statement, by the event of its step
 abbrev pub pass_statement :
-    PlainState → PlainChoice → PlainAct → Event → Walk → Traced Passage
+    PlainState → PlainChoice → PlainAct → Event → Walk → Traced Descent
 pass_statement s by_set (set x t) event w = on 0 w
 pass_statement s by_alloc (alloc x n) (Alloc base) w = on 0 (bringing w (a_number base ∷ []))
 pass_statement s (by_assert cs) (check c) event w = on 0 w
@@ -314,11 +315,11 @@ pass_statement s c a event w = untold
 
 -- the step is not to come again
 abbrev pub pass_event :
-    PlainState → PlainChoice → PlainAct → List Event → Walk → Traced Passage
+    PlainState → PlainChoice → PlainAct → List Event → Walk → Traced Descent
 pass_event s c a [] w = untold
 pass_event s c a (event ∷ more) w = pass_statement s c a event (record w { events = more })
 
-abbrev pub pass_turn : List Event → Walk → Traced Passage
+abbrev pub pass_turn : List Event → Walk → Traced Descent
 pass_turn (Branch taken ∷ more) w = on (taken_side taken) (record w { events = more })
 pass_turn es w = untold
 
@@ -334,27 +335,27 @@ left_fill items f g =
     if no_items items then None else Some (record f { wildcards = g.wildcards })
 
 abbrev pub pass_parting :
-    PlainState → ℕ → ℕ → List PlainTask → Fill → Giving → Walk → Option Parting → Traced Passage
+    PlainState → ℕ → ℕ → List PlainTask → Fill → Giving → Walk → Option Parting → Traced Descent
 pass_parting s e n ts f g w None = on 0 (record (bringing w g.new) { fill = None })
 pass_parting s e n ts f g w (Some x) = do
   b ← holds_by f.names x.condition
-  traced (passes (side_child b (goals_of s (to_give x.holding e n ∷ ts)))
+  traced (descends (side_child b (goals_of s (to_give x.holding e n ∷ ts)))
       (record (bringing w g.new) {
-          fill = left_fill (if b then x.holding else x.failing) f g;
-        }))
+        fill = left_fill (if b then x.holding else x.failing) f g;
+      }))
 
-abbrev pub pass_give : PlainState → Items → ℕ → ℕ → List PlainTask → Walk → Traced Passage
+abbrev pub pass_give : PlainState → Items → ℕ → ℕ → List PlainTask → Walk → Traced Descent
 pass_give s items e n ts w = do
   f ← found w.fill
   let g = give_all f.names items
-        (record { env = env_at s e; new = []; wildcards = f.wildcards }) in
+      (record { env = env_at s e; new = []; wildcards = f.wildcards }) in
       pass_parting s e n ts f g w (parting items)
 
 -- ---- a node
 
 abbrev pub pass_task :
     Interpreting → PlainProgram → PlainState → PlainChoice → PlainTask → List PlainTask → Walk →
-    Traced Passage
+    Traced Descent
 pass_task enter p s (by_enter i cs) (to_run h b) ts w = pass_enter enter p s i w
 pass_task enter p s c (to_run h (first l a rest)) ts w = pass_event s c a w.events w
 pass_task enter p s by_turn (to_turn h b) ts w = pass_turn w.events w
@@ -374,7 +375,7 @@ pass_task enter p s (by_keep cs) (to_rest j n) ts w = on 0 w
 pass_task enter p s c t ts w = untold
 
 abbrev pub pass_tasks :
-    Interpreting → PlainProgram → PlainState → PlainChoice → List PlainTask → Walk → Traced Passage
+    Interpreting → PlainProgram → PlainState → PlainChoice → List PlainTask → Walk → Traced Descent
 pass_tasks enter p s c [] w = untold
 pass_tasks enter p s c (t ∷ ts) w = pass_task enter p s c t ts w
 
@@ -411,13 +412,13 @@ abbrev mutual
 
   -- to the child of this number; where there is none, the tree ends
   pub walk_below :
-      Interpreting → PlainProgram → Bool → PlainTrees → List PlainGoal → Traced Passage →
+      Interpreting → PlainProgram → Bool → PlainTrees → List PlainGoal → Traced Descent →
       Traced Halt
-  walk_below enter p seating (tree t ts) (g ∷ gs) (traced (passes (Some zero) w)) =
+  walk_below enter p seating (tree t ts) (g ∷ gs) (traced (descends (Some zero) w)) =
       walk enter p seating t g w
-  walk_below enter p seating (tree t ts) (g ∷ gs) (traced (passes (Some (suc i)) w)) =
-      walk_below enter p seating ts gs (traced (passes (Some i) w))
-  walk_below enter p seating ts gs (traced (passes i w)) = traced (leaves w)
+  walk_below enter p seating (tree t ts) (g ∷ gs) (traced (descends (Some (suc i)) w)) =
+      walk_below enter p seating ts gs (traced (descends (Some i) w))
+  walk_below enter p seating ts gs (traced (descends i w)) = traced (leaves w)
   walk_below enter p seating ts gs past_width = past_width
   walk_below enter p seating ts gs untold = untold
 
