@@ -1,4 +1,5 @@
-mod Runs
-mod Steps
 mod Meetings
+mod Steps
+mod Fitting
+mod Runs
 mod Starts

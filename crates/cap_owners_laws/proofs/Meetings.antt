@@ -60,7 +60,7 @@ on-computed :
 on-computed P z steps h =
     on-if P (are_narrow steps) (traced z) past_width (λ e. h) (λ e. tt)
 
-on-map :
+pub on-map :
     {A : Type 0} (P Q : A → Type 0) (o : Traced A) → ((x : A) → P x → Q x) → On P o → On Q o
 on-map P Q (traced x) f h = f x h
 on-map P Q past_width f h = tt

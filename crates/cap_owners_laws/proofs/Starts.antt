@@ -1,6 +1,6 @@
 -- A first track comes just where the arguments and the heap are a start of main.
 use Rattle.std.proofs.Common.{◌≡◌, ℕ, zero, suc, ◌+◌, ℤ, pos, ◌*ℤ◌, List, [], ◌∷◌, ◌++◌, map, length, take, drop, Option, Some, None, refl, sym, ap, subst, ◌∙◌, arith}
-use Rattle.std.specs.Prelude.{slice_get, replicate}
+use Rattle.std.specs.Prelude.{slice_get, replicate, option_map, option_to_list}
 use Rattle.std.specs.List.{AllByRecursion, take-map, drop-map}
 use Rattle.cap_rules.specs.cap_goal_spec.cap_lin.Linear.{Linear}
 use Rattle.cap_rules.specs.cap_goal_spec.cap_lin.Values.{Valuation}
@@ -9,7 +9,7 @@ use Rattle.cap_rules.specs.cap_goal_spec.cap_lin.declared.row.Sort.TheVariants.{
 use Rattle.cap_rules.specs.cap_goal_spec.cap_prog.Program.{PlainFunction}
 use Rattle.cap_rules.specs.cap_goal_spec.cap_prog.Scopes.{fixed_start}
 use Rattle.cap_rules.specs.cap_goal_spec.Environments.{zero_value, unbound}
-use Rattle.cap_machine.specs.Machine.{Heap, IsPositive}
+use Rattle.cap_machine.specs.Machine.{Heap, new_frame, start, IsPositive}
 use Rattle.cap_rules.specs.cap_goal_spec.Roots.{function_unit}
 use Rattle.cap_machine_accounts.specs.Parts.{Part, no_part}
 use Rattle.cap_machine_accounts.specs.Assertions.{NameValue, a_number, a_fraction, ValuesFit, IsNamed, AreNamed, AreWhole, TakesAll}
@@ -18,7 +18,7 @@ use Rattle.cap_owners_spec.specs.Traced.{traced, ◌>>=◌, found, over, value_a
 use Rattle.cap_owners_spec.specs.Track.{Place, TrackedFrame, Track, account_of}
 use Rattle.cap_owners_spec.specs.Steps.{Proved, root_at, begins_at, fixed_values, requires_root, body_root}
 use Rattle.cap_owners_spec.specs.Start.{Meeting, meets_all, unset, first_meeting, main_track, track_by, first_track}
-use Rattle.cap_owners_laws.specs.Laws.{IsMet, IsUnmet}
+use Rattle.cap_owners_laws.specs.Laws.{FitsThreads, IsMet, IsUnmet}
 use Rattle.cap_owners_laws.proofs.Steps.{was-traced, traced-same}
 use Rattle.cap_owners_laws.proofs.Meetings.{On, Bound, is_whole, IsOver, Fits, Meets, Result, all-met}
 
@@ -286,6 +286,12 @@ module _ (d : Proved) (main : PlainFunction) (args : List ℤ) (heap : Heap)
       (λ q. traced (begun m q)) f e in
       ap (λ g. g.held.fixed) (sym (traced-same (begun m w.0) f w.2))
 
+  one-frame : map length (start d.program args heap).threads ≡ 1 ∷ []
+  one-frame =
+      ap (λ o. map length
+      (option_to_list (option_map (λ f. new_frame d.program.main f args None) o) ∷ []))
+      is_main
+
   met-track :
       IsPositive heap → (k : Track) → (o : Option Meeting) →
       meets_all main.requires before ≡ traced o → track_by d main args heap o ≡ traced (Some k) →
@@ -300,6 +306,7 @@ module _ (d : Proved) (main : PlainFunction) (args : List ℤ) (heap : Heap)
         fixed_values main m.fill,
         start-of positive m (met-by (Some m) e),
         sym (ap account_of i) ∙ ap (first_account heap) (fixed-kept m w.0 w.1),
+        subst (FitsThreads (start d.program args heap)) i (sym one-frame),
       )
     where
       some-track : (x y : Track) → traced (Some x) ≡ traced (Some y) → x ≡ y

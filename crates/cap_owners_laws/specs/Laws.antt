@@ -1,9 +1,9 @@
 -- What holds of the text of a run with its accounts, of its start and of a step of its track.
-use Rattle.std.specs.Prelude.{◌≡◌, ◌≢◌, ◌⊎◌, ℕ, suc, ℤ, Bool, true, false, List, [], ◌∷◌, length, slice_get, Some, None}
+use Rattle.std.specs.Prelude.{◌≡◌, ◌≢◌, ◌⊎◌, ℕ, suc, ℤ, Bool, true, false, List, [], ◌∷◌, map, length, slice_get, Some, None}
 use Rattle.cap_rules.specs.cap_goal_spec.cap_prog.Program.{PlainFunction, PlainProgram}
 use Rattle.cap_machine.specs.declared.event.Entry.{Entry}
 use Rattle.cap_machine.specs.declared.event.Event.{Event}
-use Rattle.cap_machine.specs.Machine.{Heap, Configuration, Outcome, next, fault, disabled, step, IsPositive}
+use Rattle.cap_machine.specs.Machine.{Heap, Configuration, Outcome, next, fault, disabled, step, start, IsPositive}
 use Rattle.cap_machine.specs.Ready.{ahead}
 use Rattle.cap_machine.specs.Results.{entry_steps, are_narrow}
 use Rattle.cap_machine_accounts.specs.Assertions.{NameValue}
@@ -18,7 +18,15 @@ use Rattle.cap_owners_spec.specs.Start.{first_track}
 use Rattle.cap_owners_spec.specs.Texts.{account_text}
 use Rattle.cap_owners_spec.specs.Owners.{owned_from}
 
+-- the track has a frame for each of the machine's
+abbrev pub FitsThreads : Configuration → Track → Type 0
+FitsThreads c k = map length k.threads ≡ map length c.threads
+
 -- ---- the run
+
+-- the account says of each frame of the configuration what it has
+abbrev pub HasFrames : Configuration → Account → Type 0
+HasFrames c a = map length a.threads ≡ map length c.threads
 
 -- behind a step comes an account of the configuration that it leaves, and then what is shown of the
 -- run from there; or its number is too wide, or the derivation doesn't tell of it
@@ -27,7 +35,7 @@ abbrev pub IsStepShown :
 IsStepShown p number line More after r =
     (r ≡ ends (Wide number))
     ⊎ ((r ≡ ends (Stopped number))
-    ⊎ ((a : Account) × (more : RunText) × More more
+    ⊎ ((a : Account) × (more : RunText) × HasFrames after a × More more
     × (r ≡ in_front line (in_front (account_text p after a) more))))
 
 abbrev pub IsOutcomeShown :
@@ -49,10 +57,10 @@ ShowsRun p n c (e ∷ es) r =
     (step_line (suc n) e.thread (ahead c e.thread))
     (λ after more. ShowsRun p (suc n) after es more) (step p c e) r
 
--- whatever the derivation
+-- whatever the derivation, from a track that fits the configuration
 abbrev pub RunsAreTheMachines : Type 0
 RunsAreTheMachines =
-    (d : Proved) (n : ℕ) (c : Configuration) (es : List Entry) (k : Track) →
+    (d : Proved) (n : ℕ) (c : Configuration) (es : List Entry) (k : Track) → FitsThreads c k →
     ShowsRun d.program n c es (owned_from d n c es k)
 
 -- ---- the start
@@ -62,6 +70,7 @@ IsMet d args heap main k =
     (fixed : List NameValue)
     × Start d.program main args heap fixed
     × (account_of k ≡ first_account heap fixed)
+    × FitsThreads (start d.program args heap) k
 
 abbrev pub IsUnmet : Proved → List ℤ → Heap → PlainFunction → Type 0
 IsUnmet d args heap main = (fixed : List NameValue) → ¬ Start d.program main args heap fixed

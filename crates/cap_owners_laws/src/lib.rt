@@ -5,15 +5,15 @@
 ghost use Rattle.cap_owners_laws.specs.Laws.{RunsAreTheMachines, StartsAreExact, OthersKeep};
 
 /// A law: the text goes along the machine's own run. Each step has the line that it has in a replay,
-/// and behind it one account of the configuration that the step leaves; the run ends where the
-/// machine's does, unless it ends before as too wide or as not told of.
+/// and behind it one account, which says of each frame that there is after the step what it has; the
+/// run ends where the machine's does, unless it ends before as too wide or as not told of.
 pub fn runs_are_the_machines()
     ensures { RunsAreTheMachines }
 {}
 
 /// A law: a first track comes only where the arguments and the heap are a start of main, by the
-/// values that its fixed names get, and its account is the first one of such a run; and a start is
-/// refused only where it is none, whatever values the fixed names have.
+/// values that its fixed names get, and its account is the first one of such a run, of one frame; and
+/// a start is refused only where it is none, whatever values the fixed names have.
 pub fn starts_are_exact()
     ensures { StartsAreExact }
 {}

@@ -8,13 +8,13 @@ use Rattle.cap_rules.specs.cap_goal_spec.cap_farkas.declared.cert.Cert.{Cert}
 use Rattle.cap_rules.specs.cap_goal_spec.cap_prog.declared.assertion.Slot.{Slot}
 use Rattle.cap_rules.specs.cap_goal_spec.cap_prog.declared.assertion.Slot.TheVariants.{Is}
 use Rattle.cap_rules.specs.cap_goal_spec.cap_prog.declared.assertion.Asked.{Asked}
-use Rattle.cap_rules.specs.cap_goal_spec.cap_prog.declared.assertion.Asked.TheVariants.{Share, Tok}
+use Rattle.cap_rules.specs.cap_goal_spec.cap_prog.declared.assertion.Asked.TheVariants.{One, Share, Tok}
 use Rattle.cap_rules.specs.cap_goal_spec.cap_gsolve.declared.piece.Form.TheVariants as form
 use Rattle.cap_rules.specs.cap_goal_spec.cap_prog.Program.{PlainItem, compare, choose, fact, atom, cell, Items, none, item, append_items, PlainAct, set, alloc, call, fork, branch, loop, check, give_back, first, PlainProgram}
 use Rattle.cap_rules.specs.cap_goal_spec.Terms.{lone_variable}
 use Rattle.cap_rules.specs.cap_goal_spec.States.{PlainFact, PlainEnv, PlainState, PlainTask, to_run, to_turn, to_give, to_take, to_make, to_close, to_shift, to_rest, PlainGoal, goals_of}
 use Rattle.cap_rules.specs.cap_goal_spec.Choices.{PlainChoice, by_set, by_alloc, by_assert, by_if, by_loop, by_turn, by_call, by_fork, by_return, by_enter, by_act, by_pick, by_shift, by_settle, by_keep, by_give, by_fact, by_cases, by_cell, by_region, by_guard, by_convert, by_create, by_made, PlainTree, node, PlainTrees, tree}
-use Rattle.cap_rules.specs.cap_goal_spec.Environments.{Reading, open_to, reading, asked_slot}
+use Rattle.cap_rules.specs.cap_goal_spec.Environments.{zero_value, Reading, settled, open_to, reading, asked_slot}
 use Rattle.cap_rules.specs.Making.{is_empty, in_store, env_at}
 use Rattle.cap_rules.specs.Closing.{Rival, rivals}
 use Rattle.cap_rules_nodes.specs.Nodes.{goals_left}
@@ -108,6 +108,11 @@ pass_region s env j r args x t w = do
       (f.region ∷ (f.args ++ f.state ∷ [])) t.fill
   goes_met w t (record f' { facts = f'.facts ++ (n, z) ∷ [] })
 
+-- a unique guard has no slot that is open
+abbrev pub asked_reading : PlainEnv → Asked → Reading
+asked_reading env One = settled zero_value
+asked_reading env asked = reading env (asked_slot asked)
+
 -- half of a share is a new variable
 abbrev pub new_share : Asked → Reading → NameValue → List NameValue
 new_share (Share x) (open_to o) v = v ∷ []
@@ -118,11 +123,11 @@ abbrev pub pass_piece :
 pass_piece p s env j k i asked t w = do
   q ← found (slice_get s.guards j)
   n ← number_in w.values q.region
-  v ← atom_met w.values t.fill.names q.form (reading env (asked_slot asked))
+  v ← atom_met w.values t.fill.names q.form (asked_reading env asked)
   y ← asked_element asked v
   part ← with_more t.part n (atom_guard p k i y)
-  on 0 (with_top (bringing w (new_share asked (reading env (asked_slot asked)) v))
-      (record { fill = met (reading env (asked_slot asked)) v t.fill; part = part }))
+  on 0 (with_top (bringing w (new_share asked (asked_reading env asked) v))
+      (record { fill = met (asked_reading env asked) v t.fill; part = part }))
 
 -- way 2 takes no token
 abbrev pub pass_guard :
