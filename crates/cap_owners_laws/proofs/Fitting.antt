@@ -193,7 +193,7 @@ on-any (traced x) = tt
 on-any past_width = tt
 on-any untold = tt
 
-on-after :
+pub on-after :
     {A B : Type 0} (Q : B → Type 0) (o : Traced A) (f : A → Traced B) →
     ((x : A) → On Q (f x)) → On Q (o >>= f)
 on-after Q o f h = on-bind (λ x. Unit {0}) Q o f (on-any o) (λ x u. h x)

@@ -3,3 +3,4 @@ mod Steps
 mod Fitting
 mod Runs
 mod Starts
+mod Naming

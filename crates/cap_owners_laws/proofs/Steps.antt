@@ -28,7 +28,7 @@ other-set (z ∷ xs) zero (suc i) x y ne e = e
 other-set (z ∷ xs) (suc n) zero x y ne e = e
 other-set (z ∷ xs) (suc n) (suc i) x y ne e = other-set xs n i x y (λ q. ne (ap suc q)) e
 
-in-front :
+pub in-front :
     {A : Type 0} (xs ys : List A) (i : ℕ) (y : A) → slice_get xs i ≡ Some y →
     slice_get (xs ++ ys) i ≡ Some y
 in-front [] ys i y e = absurd (cc)

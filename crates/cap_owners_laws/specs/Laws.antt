@@ -3,6 +3,7 @@ use Rattle.std.specs.Prelude.{◌≡◌, ◌≢◌, ◌⊎◌, ℕ, suc, ℤ, Bo
 use Rattle.cap_rules.specs.cap_goal_spec.cap_prog.Program.{PlainFunction, PlainProgram}
 use Rattle.cap_machine.specs.declared.event.Entry.{Entry}
 use Rattle.cap_machine.specs.declared.event.Event.{Event}
+use Rattle.cap_machine.specs.declared.event.Event.TheVariants.{Call, Return, End}
 use Rattle.cap_machine.specs.Machine.{Heap, Configuration, Outcome, next, fault, disabled, step, start, IsPositive}
 use Rattle.cap_machine.specs.Ready.{ahead}
 use Rattle.cap_machine.specs.Results.{entry_steps, are_narrow}
@@ -91,3 +92,34 @@ OthersKeep =
     follow d k thread event before after ≡ traced k' →
     (i : ℕ) (fs : List TrackedFrame) → i ≢ thread → slice_get k.threads i ≡ Some fs →
     slice_get k'.threads i ≡ Some fs
+
+-- the fixed names have the same values
+abbrev pub SameNames : TrackedFrame → TrackedFrame → Type 0
+SameNames f g = g.held.fixed ≡ f.held.fixed
+
+-- the top frame stays, or the caller does, on those below it
+abbrev pub StaysOn : TrackedFrame → List TrackedFrame → List TrackedFrame → Type 0
+StaysOn f below fs = (g : TrackedFrame) × (fs ≡ g ∷ below) × SameNames f g
+
+abbrev pub ReturnsTo : List TrackedFrame → List TrackedFrame → Type 0
+ReturnsTo [] fs = fs ≡ []
+ReturnsTo (c ∷ below) fs = StaysOn c below fs
+
+-- what the step makes of the frames of its thread
+abbrev pub FramesGo : Event → TrackedFrame → List TrackedFrame → List TrackedFrame → Type 0
+FramesGo Call top below fs =
+    (callee : TrackedFrame) × (caller : TrackedFrame) × (fs ≡ callee ∷ (caller ∷ below))
+    × SameNames top caller
+FramesGo (Return v) top below fs = ReturnsTo below fs
+FramesGo (End v) top below fs = ReturnsTo below fs
+FramesGo event top below fs = StaysOn top below fs
+
+abbrev pub FramesKeep : Type 0
+FramesKeep =
+    (d : Proved) (k k' : Track) (thread : ℕ) (event : Event) (before after : Configuration) →
+    follow d k thread event before after ≡ traced k' →
+    (top : TrackedFrame) (below : List TrackedFrame) →
+    slice_get k.threads thread ≡ Some (top ∷ below) →
+    (fs : List TrackedFrame)
+    × (slice_get k'.threads thread ≡ Some fs)
+    × FramesGo event top below fs

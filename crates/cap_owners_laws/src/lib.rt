@@ -2,7 +2,7 @@
 //! does nothing.
 #![tactic(auto)]
 
-ghost use Rattle.cap_owners_laws.specs.Laws.{RunsAreTheMachines, StartsAreExact, OthersKeep};
+ghost use Rattle.cap_owners_laws.specs.Laws.{RunsAreTheMachines, StartsAreExact, OthersKeep, FramesKeep};
 
 /// A law: the text goes along the machine's own run. Each step has the line that it has in a replay,
 /// and behind it one account, which says of each frame that there is after the step what it has; the
@@ -19,7 +19,14 @@ pub fn starts_are_exact()
 {}
 
 /// A law: a step leaves the frames of all other threads as they are, with what they own and the values
-/// of their fixed names; and those below the stepping one, but for the caller at a return.
+/// of their fixed names.
 pub fn others_keep()
     ensures { OthersKeep }
+{}
+
+/// A law: of its own thread a step leaves the frames below the stepping one as they are, but for the
+/// caller at a return; that one, and a stepping frame that stays, keep the values of their fixed
+/// names.
+pub fn frames_keep()
+    ensures { FramesKeep }
 {}
