@@ -96,7 +96,8 @@ module _ (s : Spot) where
       IsCounted s (machine.forks s rest n args o)
   counted-fork rest n args None = tt
   counted-fork rest n args (Some f) =
-      map-more (slice_set s.configuration.threads s.thread (machine.with_rest s.frame rest ∷ s.below))
+      map-more
+      (slice_set s.configuration.threads s.thread (machine.with_rest s.frame rest ∷ s.below))
       ((machine.new_frame n f args None ∷ []) ∷ [])
       ∙ ap (λ ns. ns ++ 1 ∷ []) (set-counts (machine.with_rest s.frame rest ∷ s.below))
 
@@ -301,7 +302,8 @@ module _ (d : Proved) (s : Scene) (k : Track) where
   moved-set n new x h =
       map-more (slice_set k.threads s.thread x.frames) (new_thread x.forked)
       ∙ (ap (λ ns. ns ++ map length (new_thread x.forked))
-      (map-set k.threads s.thread x.frames ∙ ap (slice_set (map length k.threads) s.thread) h.frames)
+      (map-set k.threads s.thread x.frames
+      ∙ ap (slice_set (map length k.threads) s.thread) h.frames)
       ∙ ap (λ ns. slice_set (map length k.threads) s.thread n ++ ns) h.forked)
 
   moved-one :

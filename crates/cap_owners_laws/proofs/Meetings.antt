@@ -432,7 +432,8 @@ module _ (m : Meeting) (y : ℕ) (w z : ℤ) (fits : Fits m)
 
 -- ---- a cell
 
-module _ (p : PlainProgram) (place : Place) (a : Linear) (x : Slot) (m : Meeting) (fits : Fits m) where
+module _ (p : PlainProgram) (place : Place) (a : Linear) (x : Slot) (m : Meeting)
+    (fits : Fits m) where
   abbrev Cell : Valuation → Part → Part → Type 0
   Cell v q r = Takes p [] v (cell place a x) q r
 
@@ -483,7 +484,9 @@ module _ (p : PlainProgram) (place : Place) (a : Linear) (m : Meeting) (fits : F
   any-met : On (Holding Any) (meets_slot (open_to None) z gone)
   any-met =
       slot-met p place a Any m fits n z i g positive
-      (record gone { fill = record m.fill { wildcards = m.fill.wildcards ++ a_number z ∷ [] } }) refl
+      (record gone {
+        fill = record m.fill { wildcards = m.fill.wildcards ++ a_number z ∷ [] };
+      }) refl
       (record { bound = λ x b. b; same = λ x b. refl; kinds = refl; shares = λ h. h }) fits
       (λ v h. tt) (λ v h s. h)
 
@@ -499,7 +502,8 @@ module _ (p : PlainProgram) (place : Place) (a : Linear) (m : Meeting) (fits : F
       (λ v h s. other-int y z e (sym (j v h) ∙ s))
 
   settled-met :
-      (t : Linear) → is_determined m.env t ≡ true → On (Holding (Is t)) (meets_slot (settled t) z gone)
+      (t : Linear) → is_determined m.env t ≡ true →
+      On (Holding (Is t)) (meets_slot (settled t) z gone)
   settled-met t e =
       on-bind (IsNumber m t) (Holding (Is t)) (number_in m.fill.names t)
       (λ y. traced (if same_number y z then Some gone else None)) (number-is m t e)

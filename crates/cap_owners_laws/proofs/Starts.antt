@@ -24,7 +24,9 @@ use Rattle.cap_owners_laws.proofs.Meetings.{On, Bound, is_whole, IsOver, Fits, M
 
 -- ---- lists
 
-value-in : (vs : List NameValue) (j : ℕ) (y : NameValue) → slice_get vs j ≡ Some y → value_at vs j ≡ y
+value-in :
+    (vs : List NameValue) (j : ℕ) (y : NameValue) → slice_get vs j ≡ Some y →
+    value_at vs j ≡ y
 value-in [] j y e = absurd (cc)
 value-in (v ∷ vs) zero y e = cc
 value-in (v ∷ vs) (suc j) y e = value-in vs j y e
@@ -144,7 +146,9 @@ over-args :
 over-args [] ys h = h
 over-args (z ∷ args) ys h = (tt, over-args args ys h)
 
-length-unset : (os : List Sort) → length (map unset os) ≡ length (replicate {A = Option Linear} (length os) None)
+length-unset :
+    (os : List Sort) →
+    length (map unset os) ≡ length (replicate {A = Option Linear} (length os) None)
 length-unset [] = refl
 length-unset (o ∷ os) = ap suc (length-unset os)
 
@@ -213,13 +217,16 @@ module _ (d : Proved) (main : PlainFunction) (args : List ℤ) (heap : Heap)
   fits-before = length-args args main.locals main.fixed
 
   over-before : AllByRecursion IsOver before.fill.names
-  over-before = over-args args rest (over-same main.locals (map unset main.fixed) (over-unset main.fixed))
+  over-before =
+      over-args args rest
+      (over-same main.locals (map unset main.fixed) (over-unset main.fixed))
 
   abbrev Taken : Valuation → Part → Part → Type 0
   Taken v q r = TakesAll d.program [] v main.requires q r
 
   met-by : (o : Option Meeting) → meets_all main.requires before ≡ traced o → Result Taken before o
-  met-by o e = subst (On (Result Taken before)) e (all-met d.program main.requires before fits-before)
+  met-by o e =
+      subst (On (Result Taken before)) e (all-met d.program main.requires before fits-before)
 
   fixed-kinds :
       (m : Meeting) → map is_whole m.fill.names ≡ map is_whole before.fill.names →
@@ -232,7 +239,9 @@ module _ (d : Proved) (main : PlainFunction) (args : List ℤ) (heap : Heap)
       ∙ (take-map is_whole (length main.fixed) (drop (fixed_start main) before.fill.names)
       ∙ ap (map is_whole) unset-left))))
     where
-      unset-left : take (length main.fixed) (drop (fixed_start main) before.fill.names) ≡ map unset main.fixed
+      unset-left :
+          take (length main.fixed) (drop (fixed_start main) before.fill.names)
+          ≡ map unset main.fixed
       unset-left =
           ap (λ n. take (length main.fixed) (drop (n + main.locals) before.fill.names)) (sym arity)
           ∙ (ap (take (length main.fixed)) (drop-args args main.locals rest

@@ -53,7 +53,8 @@ module _ (d : Proved) (k k' : Track) (thread : ℕ) (event : Event) (after : Con
   kept-by (Some m) None e = absurd (cc)
   kept-by (Some m) (Some []) e = absurd (cc)
   kept-by (Some m) (Some (top ∷ below)) e =
-      let w = was-traced (moved d (scene m top below) event) (λ x. traced (after_move k thread x)) k' e in
+      let w = was-traced (moved d (scene m top below) event)
+      (λ x. traced (after_move k thread x)) k' e in
       (w.0, traced-same (after_move k thread w.0) k' w.2)
 
 pub others-keep :
