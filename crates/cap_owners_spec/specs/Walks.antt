@@ -9,7 +9,6 @@ use Rattle.cap_rules.specs.cap_goal_spec.cap_prog.declared.assertion.Slot.{Slot}
 use Rattle.cap_rules.specs.cap_goal_spec.cap_prog.declared.assertion.Slot.TheVariants.{Is}
 use Rattle.cap_rules.specs.cap_goal_spec.cap_prog.declared.assertion.Asked.{Asked}
 use Rattle.cap_rules.specs.cap_goal_spec.cap_prog.declared.assertion.Asked.TheVariants.{One, Share, Tok}
-use Rattle.cap_rules.specs.cap_goal_spec.cap_gsolve.declared.piece.Form.TheVariants as form
 use Rattle.cap_rules.specs.cap_goal_spec.cap_prog.Program.{PlainItem, compare, choose, fact, atom, cell, Items, none, item, append_items, PlainAct, set, alloc, call, fork, branch, loop, check, give_back, first, PlainProgram}
 use Rattle.cap_rules.specs.cap_goal_spec.Terms.{lone_variable}
 use Rattle.cap_rules.specs.cap_goal_spec.States.{PlainFact, PlainEnv, PlainState, PlainTask, to_run, to_turn, to_give, to_take, to_make, to_close, to_shift, to_rest, PlainGoal, goals_of}
