@@ -4,3 +4,4 @@ mod Fitting
 mod Runs
 mod Starts
 mod Naming
+mod Examples

@@ -30,7 +30,7 @@ abbrev pub HasFrames : Configuration → Account → Type 0
 HasFrames c a = map length a.threads ≡ map length c.threads
 
 -- behind a step comes an account of the configuration that it leaves, and then what is shown of the
--- run from there; or its number is too wide, or the derivation doesn't tell of it
+-- run from there; or the run ends, as too wide or as not told of
 abbrev pub IsStepShown :
     PlainProgram → ℕ → List ℕ → (RunText → Type 0) → Configuration → RunText → Type 0
 IsStepShown p number line More after r =

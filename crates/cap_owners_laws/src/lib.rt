@@ -2,6 +2,7 @@
 //! does nothing.
 #![tactic(auto)]
 
+ghost use Rattle.cap_owners_laws.specs.Examples.{GuardExamples, StartExamples};
 ghost use Rattle.cap_owners_laws.specs.Laws.{RunsAreTheMachines, StartsAreExact, OthersKeep, FramesKeep};
 
 /// A law: the text goes along the machine's own run. Each step has the line that it has in a replay,
@@ -29,4 +30,15 @@ pub fn others_keep()
 /// names.
 pub fn frames_keep()
     ensures { FramesKeep }
+{}
+
+/// Examples of texts: a product with an amount, a source and tokens, a set of indices, both sides of a
+/// sum and all of one, and shares of names in lowest terms.
+pub fn guards_are_shown()
+    ensures { GuardExamples }
+{}
+
+/// Examples of starts: an argument that main's `requires` excludes, and one at which it is too wide.
+pub fn starts_are_refused()
+    ensures { StartExamples }
 {}
