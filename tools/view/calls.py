@@ -61,9 +61,14 @@ def read(path):
 
 def write(path, text):
     """Writes a text to a file."""
+    write_bytes(path, text.encode())
+
+
+def write_bytes(path, data):
+    """Writes bytes to a file."""
     try:
-        with open(path, "w", encoding="utf-8", newline="") as file:
-            file.write(text)
+        with open(path, "wb") as file:
+            file.write(data)
     except OSError:
         raise Ends(UNWRITABLE, f"cannot write {path}") from None
 

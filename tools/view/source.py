@@ -1,69 +1,71 @@
-"""The text of a program, read as far as a run needs it: the functions with their statements and places.
+"""The text of a program: its region types, and its functions with their contracts, statements and places.
 
 These are both versions of the language (docs/LANGUAGE.md, "Texts"): a text of the second one begins with `caper 2;`.
-What a run doesn't look at is skipped: region types, contracts and invariants. A text that caper takes is read; what
-isn't known here is refused by `Strange`, with its place. Columns count bytes, so a text is looked at byte by byte."""
+A text that caper takes is read; what isn't known here is refused by `Strange`, with its place. Columns count bytes, so
+a text is looked at byte by byte."""
 
-import re
 from dataclasses import dataclass, field
 
-TOKEN = re.compile(
-    r"[A-Za-z][A-Za-z0-9_]*|1p|[0-9]+|_|:=|!=|<=|>=|\|->|&\*&|~>|[(){}\[\],;:=<>+\-*%@?|]"
-)
-BLANK = re.compile(r"(?:[ \t\r\n]+|//[^\n]*)+")
-KEYWORDS = (
-    "region function requires ensures guards interpretation actions when fork if else while invariant assert return"
-    " alloc CAS true false src tok"
-).split()
-# The further keywords of a text of the second version.
-SECOND = "FAA dispose at from".split()
-OPEN, CLOSE = "([{", ")]}"
-COMPARISONS = ("=", "!=", "<", "<=", ">", ">=")
-
-
-class Strange(Exception):
-    """A text that isn't known here, with its place."""
-
-    def __init__(self, place, why):
-        self.place = place
-        super().__init__(f"{place[0]}:{place[1]}: {why}")
-
-
-@dataclass
-class Token:
-    """A token with its place, from 1."""
-
-    text: str
-    line: int
-    column: int
+from asserted import Assertions, names_of
+from tokens import Strange
 
 
 @dataclass
 class Statement:
-    """A statement: its place, its kind with what that needs, and its head by pieces of lines: line, from, to."""
+    """A statement: its place, its kind with what that needs, its head by pieces of lines (line, from, to), and its
+    first byte. A loop has the items of its invariant, the bytes of that clause, and those of its block's braces; an
+    assertion the place of its comparison, its first byte, and the one behind it."""
 
     place: tuple
     kind: str
     parts: tuple
     head: list
+    start: int
+    invariant: list = field(default_factory=list)
+    clause: tuple = (0, 0)
+    block: tuple = (0, 0)
+    asserts: tuple = None
 
 
 @dataclass
 class Function:
-    """A function: its parameters, the destinations of its body, and the body with the return at its end."""
+    """A function: its parameters, the destinations of its body, and the body with the return at its end; the items of
+    its contract with their texts, its first byte and the one behind it, and the bytes behind and before its braces."""
 
     name: str
     parameters: list
     locals: list = field(default_factory=list)
     body: list = field(default_factory=list)
+    requires: list = field(default_factory=list)
+    ensures: list = field(default_factory=list)
+    requires_text: str = ""
+    ensures_text: str = ""
+    start: int = 0
+    end: int = 0
+    body_start: int = 0
+    body_end: int = 0
+
+    def statements(self):
+        """All statements, in the order of the text."""
+        yield from walk(self.body)
+
+    def loops(self):
+        """The loops, in the order of the text."""
+        return [it for it in self.statements() if it.kind == "while"]
+
+    def fixed(self):
+        """The names that `requires` brings in."""
+        return [it for it in names_of(self.requires) if it not in self.parameters]
 
 
 @dataclass
 class Program:
-    """The functions of a text, of each name the first, and its lines as they are shown."""
+    """The functions and region types of a text, of each name the first, its lines as they are shown, and the text."""
 
     functions: dict
     lines: list
+    regions: dict
+    text: str
 
     def words_of(self, statement):
         """A statement's head as one line."""
@@ -71,141 +73,34 @@ class Program:
 
     def statements(self):
         """All statements, in the order of the text."""
-
-        def walk(block):
-            for it in block:
-                yield it
-                for part in it.parts:
-                    if isinstance(part, list) and part and isinstance(part[0], Statement):
-                        yield from walk(part)
-
         for function in self.functions.values():
-            yield from walk(function.body)
+            yield from function.statements()
+
+    def pieces(self, start, end):
+        """The pieces of lines between two bytes, without the blanks round them."""
+        pieces, line, column = [], self.text.count("\n", 0, start) + 1, start - self.text.rfind("\n", 0, start)
+        for part in self.text[start:end].split("\n"):
+            if part.strip():
+                pieces.append((line, column + len(part) - len(part.lstrip()), column + len(part.rstrip())))
+            line, column = line + 1, 1
+        return pieces
 
 
-def tokens_of(text):
-    """The tokens of a text, in which each character is a byte."""
-    at, line, begins, tokens = 0, 1, 0, []
-    while True:
-        blank = BLANK.match(text, at)
-        if blank:
-            feeds = blank[0].count("\n")
-            if feeds:
-                line, begins = line + feeds, text.rindex("\n", at, blank.end()) + 1
-            at = blank.end()
-        if at == len(text):
-            return [*tokens, Token("", line, at - begins + 1)]
-        found = TOKEN.match(text, at)
-        if not found:
-            raise Strange((line, at - begins + 1), "no token that is known")
-        tokens.append(Token(found[0], line, at - begins + 1))
-        at = found.end()
+def walk(block):
+    """All statements of a block, in the order of the text."""
+    for it in block:
+        yield it
+        for part in it.parts:
+            if isinstance(part, list) and part and isinstance(part[0], Statement):
+                yield from walk(part)
 
 
-class Reader:
-    """The tokens of a text, one after the other."""
+class Reader(Assertions):
+    """Reads functions."""
 
     def __init__(self, text):
-        self.tokens, self.at, self.destinations, self.keywords = tokens_of(text), 0, [], KEYWORDS
-
-    def version(self):
-        """Passes over the words of the second version, where the text begins with them."""
-        if self.ahead() == "caper":
-            for word in ("caper", "2", ";"):
-                self.take(word)
-            self.keywords = KEYWORDS + SECOND
-
-    def ahead(self, more=0):
-        """The text of a token that comes."""
-        return self.tokens[min(self.at + more, len(self.tokens) - 1)].text
-
-    def place(self):
-        """The place of the next token."""
-        return self.tokens[self.at].line, self.tokens[self.at].column
-
-    def take(self, *wanted):
-        """The next token's text, which is one of these where some are given."""
-        text = self.ahead()
-        if text == "" or (wanted and text not in wanted):
-            raise Strange(self.place(), f"{text or 'the end'!r} where {' or '.join(wanted) or 'more'} is expected")
-        self.at += 1
-        return text
-
-    def name(self):
-        """The next token, a name."""
-        if not re.match("[A-Za-z]", self.ahead()) or self.ahead() in self.keywords:
-            raise Strange(self.place(), f"{self.ahead()!r} is no name")
-        return self.take()
-
-    def skip(self, last):
-        """Passes over tokens up to this one, which stands in no bracket."""
-        depth = 0
-        while depth or self.ahead() != last:
-            text = self.take()
-            depth += (text in OPEN) - (text in CLOSE)
-        self.take()
-
-    def head_from(self, first):
-        """The pieces of lines of the tokens from this one to the one that was taken last."""
-        pieces = {}
-        for token in self.tokens[first : self.at]:
-            start, _ = pieces.get(token.line, (token.column, None))
-            pieces[token.line] = start, token.column + len(token.text)
-        return [(line, start, end) for line, (start, end) in sorted(pieces.items())]
-
-    # ---- terms: a term is a list of a sign and a list of factors, each a number, a name or a term
-
-    def term(self):
-        """A term."""
-        sign = -1 if self.ahead() == "-" else 1
-        if sign < 0:
-            self.take()
-        term = [(sign, self.product())]
-        while self.ahead() in ("+", "-"):
-            sign = 1 if self.take() == "+" else -1
-            term.append((sign, self.product()))
-        return term
-
-    def product(self):
-        """The factors of a product."""
-        factors = [self.factor()]
-        while self.ahead() == "*":
-            self.take()
-            factors.append(self.factor())
-        return factors
-
-    def factor(self):
-        """A number, a name, or a term in parentheses."""
-        if self.ahead() == "(":
-            self.take()
-            term = self.term()
-            self.take(")")
-            return term
-        return self.number() if self.ahead().isdigit() else self.name()
-
-    def number(self):
-        """The next token, a number."""
-        if not self.ahead().isdigit():
-            raise Strange(self.place(), f"{self.ahead()!r} is no number")
-        return int(self.take().lstrip("0") or "0")
-
-    def comparison(self):
-        """A comparison."""
-        left = self.term()
-        return self.take(*COMPARISONS), left, self.term()
-
-    def arguments(self):
-        """Terms in parentheses."""
-        self.take("(")
-        terms = []
-        while self.ahead() != ")":
-            if terms:
-                self.take(",")
-            terms.append(self.term())
-        self.take(")")
-        return terms
-
-    # ---- statements
+        super().__init__(text)
+        self.destinations = []
 
     def block(self):
         """The statements of a block, up to its last brace, which stays."""
@@ -246,7 +141,7 @@ class Reader:
             if len(terms) != 2:
                 raise Strange(place, "FAA has two terms")
             return "faa", tuple(terms)
-        if self.ahead(1) == "(" and self.ahead() not in self.keywords and re.match("[A-Za-z]", self.ahead()):
+        if self.ahead(1) == "(" and self.is_name():
             return "call", (self.name(), self.arguments())
         return "set", (self.term(),)
 
@@ -284,49 +179,56 @@ class Reader:
 
     def statement(self):
         """A statement."""
-        first, place, kind = self.at, self.place(), self.ahead()
+        first, place, start, kind = self.at, self.place(), self.begin(), self.ahead()
         if kind not in ("if", "while"):
+            second = self.tokens[self.at + 1]
             kind, parts = self.simple()
+            asserts = (second.line, second.column), second.at, self.ended()
             self.take(";")
-            return Statement(place, kind, parts, self.head_from(first))
+            return Statement(place, kind, parts, self.head_from(first), start, asserts=asserts)
         self.take()
         self.take("(")
         condition = self.comparison()
         self.take(")")
-        head = self.head_from(first)
-        if kind == "while" and self.ahead() == "invariant":
-            self.skip(";")
-        block, other = self.inner(), []
+        head, invariant, clause = self.head_from(first), [], self.ended()
+        if kind == "while":
+            invariant, _ = self.clause("invariant")
+        clause, brace = (clause, self.ended()), self.begin()
+        block, last, other = self.inner(), self.ended() - 1, []
         if kind == "if" and self.ahead() == "else":
             self.take()
             other = self.inner()
-        return Statement(place, kind, (condition, block, other), head)
+        return Statement(place, kind, (condition, block, other), head, start, invariant, clause, (brace, last))
+
+    def clause(self, word):
+        """The items behind a word, and their text, where it stands here."""
+        if self.ahead() != word:
+            return [], ""
+        self.take()
+        first = self.begin()
+        items = self.assertion()
+        text = self.since(first)
+        self.take(";")
+        return items, text
 
     def function(self):
         """A function."""
-        self.take("function")
-        function = Function(self.name(), [])
+        start, _ = self.begin(), self.take("function")
+        function = Function(self.name(), [], start=start)
         self.take("(")
-        while self.ahead() != ")":
-            if function.parameters:
-                self.take(",")
-            function.parameters.append(self.name())
+        if self.ahead() != ")":
+            function.parameters = self.listed(self.name)
         self.take(")")
-        for clause in ("requires", "ensures"):
-            if self.ahead() == clause:
-                self.skip(";")
-        self.destinations = []
-        body, first, place = self.block(), self.at, self.place()
+        function.requires, function.requires_text = self.clause("requires")
+        function.ensures, function.ensures_text = self.clause("ensures")
+        self.destinations, function.body_start = [], self.tokens[self.at].end
+        body, first, place, function.body_end = self.block(), self.at, self.place(), self.begin()
         self.take("}")
-        function.body = [*body, Statement(place, "return", ([(1, [0])],), self.head_from(first))]
+        last = Statement(place, "return", ([(1, [0])],), self.head_from(first), function.body_end)
+        function.body = [*body, last]
         function.locals = [it for it in self.destinations if it not in function.parameters]
+        function.end = self.ended()
         return function
-
-    def region(self):
-        """Passes over a region type."""
-        self.take("region")
-        self.skip("{")
-        self.skip("}")
 
 
 def shown(line):
@@ -338,14 +240,15 @@ def shown(line):
 def program_of(data):
     """The program that bytes spell."""
     text = data.decode("latin-1")
-    reader, functions = Reader(text), {}
+    reader, functions, regions = Reader(text), {}, {}
     reader.version()
     while reader.ahead():
         if reader.ahead() == "region":
-            reader.region()
+            region = reader.region()
+            regions.setdefault(region.name, region)
         else:
             function = reader.function()
             functions.setdefault(function.name, function)
     if "main" not in functions:
         raise Strange((1, 1), "no main")
-    return Program(functions, [shown(it) for it in text.split("\n")])
+    return Program(functions, [shown(it) for it in text.split("\n")], regions, text)

@@ -1,5 +1,5 @@
-"""Texts that caper prints, read by the grammar of each: schedules, what `replay`, `stray` and `verify` say, and
-refusals. The grammars are here in one place; LINE stands for its end by a line feed, NUMBER is decimal without
+"""Texts that caper prints, read by the grammar of each: schedules, what `replay`, `stray`, `verify`, `derive` and
+`outline` say, and refusals. The grammars are here in one place; LINE stands for its end by a line feed, NUMBER is decimal without
 leading zeros, with `-` where it may be negative, and within 128 signed bits.
 
     schedule = "start" { NUMBER } LINE { "cell" ADDRESS NUMBER LINE } { "step" THREAD [ NUMBER ] LINE } "end" LINE
@@ -12,14 +12,32 @@ leading zeros, with `-` where it may be negative, and within 128 signed bits.
     KIND     = "region" | "function"
     VERDICT  = "proved" | "spent" N | "deep 1000" | "wide" NUMBER NUMBER | "rows 4096" | "open" L:C "needs" WANT L:C
     WANT     = "fact" | "cell" | "region" | "guard" | "move" | "state"
+    nodes    = "[" """ "caper" """ ",1," T "]" LINE { NODE LINE } "[" """ "end" """ "," N "]" LINE | verdicts
+             | "derivation too long" LINE
+    NODE     = a line of JSON: an array of a rule's word and its arguments
+    outline  = { "function" NAME LINE { "at" L:C LINE { state LINE } } } | "rejected node" K LINE
+             | "rejected shape" K LINE | refusal
+    state    = "state rows [" ROWS "] store [" STORE "] cells [" CELLS "] facts [" FACTS "] guards [" GUARDS "]", of
+               each any number, with "; " between two
+    ROWS     = TERM ( " <= 0" | " < 0" | " = 0" | " != 0" )
+    STORE    = NAME " = " TERM
+    CELLS    = TERM " |-> " TERM
+    FACTS    = NAME "(" TERM { ", " TERM } "; " TERM ")"
+    GUARDS   = TERM "@" ( NAME [ "[" TERM "]" ] | ( "src " | "tok " ) NAME "[" TERM "]" | NAME "{" TERM ".." [ TERM ] "}" )
+    TERM     = "0" | PART { " + " PART }, the constant if it isn't 0, then NUMBER "*v" K by ascending K
     refusal  = "refused start" | "refused" L:C: CAUSE | "refused schedule line" K
-             | "refused schedule: more than 100000 entries" | "refused: file too long" | "cannot read" FILE, one LINE
+             | "refused schedule: more than 100000 entries" | "refused: file too long" | "cannot read" FILE
+             | "refused derivation line" K | "refused derivation: no end"
+             | "refused derivation: more than 1000000 nodes", one LINE
+    usage    = "usage: caper" and the words of all commands, with " | " between two, one LINE
 
 What a text says has to fit together too: addresses ascend, steps are counted from 1, a thread that steps has begun
-and has not ended, a run that stopped ends with its fault, the verdicts are as many as the last line counts.
+and has not ended, a run that stopped ends with its fault, the verdicts are as many as the last line counts, and so are
+the nodes of a derivation.
 
 A text that is none of these is refused by `Unknown`, which names the text, the line and what was not known there."""
 
+import json
 import re
 from dataclasses import dataclass, field
 
@@ -45,6 +63,12 @@ EVENTS = {
     "failed": "",
 }
 FAULTS = ("fault", "failed")
+NAME = "[A-Za-z][A-Za-z0-9_]*"
+# The words of the rules (docs/RULES.md).
+RULES = (
+    "absurd clash set alloc assert if loop turn call fork return enter act pick shift settle keep give fact cases cell"
+    " region guard convert create made"
+).split()
 VERDICTS = [
     r"proved",
     r"spent [1-9][0-9]*",
@@ -75,6 +99,8 @@ REFUSALS = [
     (r"refused schedule line [1-9][0-9]*", 2),
     (r"refused schedule: more than 100000 entries", 2),
     (r"refused: file too long", 2),
+    (r"refused derivation line [1-9][0-9]*", 2),
+    (r"refused derivation: (no end|more than 1000000 nodes)", 2),
     (r"cannot read .+", 4),
 ]
 
@@ -139,6 +165,82 @@ class Verdicts:
     units: list
     empty: bool
     proved: int
+
+
+@dataclass(frozen=True)
+class Open:
+    """An `open` verdict: the place of the statement, what it needs, and the place of the item."""
+
+    statement: tuple
+    need: str
+    item: tuple
+
+
+@dataclass
+class Derivation:
+    """The trees of a derivation, those without nodes among them, by their number, and the nodes, a list of a rule's
+    word and its arguments each."""
+
+    trees: int
+    nodes: list
+
+
+@dataclass(frozen=True)
+class Term:
+    """A linear term: its constant, and the coefficients of its variables, ascending, none of them 0."""
+
+    constant: int
+    parts: tuple
+
+
+@dataclass(frozen=True)
+class Row:
+    """A row: a term, and how it is to 0: `<=`, `<`, `=` or `!=`."""
+
+    term: Term
+    kind: str
+
+
+@dataclass(frozen=True)
+class Fact:
+    """A fact: its type, its region, its further arguments and its state."""
+
+    type: str
+    region: Term
+    arguments: tuple
+    state: Term
+
+
+@dataclass(frozen=True)
+class Guard:
+    """A guard that is held: its region, its kind (`` unique, `share`, `src`, `tok`, `span`), its name, and its amount, or
+    where its span begins, and where it ends, which is None without an end."""
+
+    region: Term
+    kind: str
+    name: str
+    amount: Term = None
+    last: Term = None
+
+
+@dataclass(frozen=True)
+class State:
+    """What is known at a statement: rows, values by name, cells, facts and guards."""
+
+    rows: tuple
+    store: tuple
+    cells: tuple
+    facts: tuple
+    guards: tuple
+
+
+@dataclass
+class Point:
+    """A statement of an outline: its function, its place, and the states of the nodes that stand there, in preorder."""
+
+    function: str
+    place: tuple
+    states: list
 
 
 class Lines:
@@ -363,3 +465,157 @@ def verdicts(text):
         lines.wrong(f"the verdicts are {proved} of {len(units)} proved")
     lines.finish()
     return Verdicts(units, empty, proved)
+
+
+def open_of(verdict):
+    """What an `open` verdict says, or None for another one."""
+    words = verdict.split(" ")
+    return Open(place_of(words[1]), words[3], place_of(words[4])) if words[0] == "open" else None
+
+
+def lacks(text, command):
+    """Whether a text is the usage line of a caper that doesn't have this command."""
+    found = re.fullmatch(r"usage: caper ([^\n]*)\n", text)
+    return bool(found) and all(it.split(" ")[0] != command for it in found[1].split(" | "))
+
+
+# ---- derivations
+
+
+def json_of(lines):
+    """The array that the next line spells, which begins with a word."""
+    try:
+        array = json.loads(lines.take())
+    except ValueError:
+        lines.wrong("no JSON")
+    if not (isinstance(array, list) and array and isinstance(array[0], str)):
+        lines.wrong("no array with a word")
+    return array
+
+
+def derivation(text):
+    """What `derive` says: a derivation, verdicts, or a refusal. A derivation that is too long is None."""
+    if text == "derivation too long\n":
+        return None
+    if not text.startswith("["):
+        return verdicts(text)
+    lines, nodes = Lines("derive", text), []
+    first = json_of(lines)
+    if first[:2] != ["caper", 1] or len(first) != 3 or not isinstance(first[2], int):
+        lines.wrong("no first line of a derivation")
+    while (array := json_of(lines))[0] != "end":
+        if array[0] not in RULES:
+            lines.wrong(f"no rule that is known: {array[0]}")
+        nodes.append(array)
+    if array != ["end", len(nodes)]:
+        lines.wrong(f"the nodes are {len(nodes)} here")
+    lines.finish()
+    return Derivation(first[2], nodes)
+
+
+# ---- outlines
+
+
+def term_of(lines, text):
+    """The term that a text spells."""
+    constant, parts = 0, []
+    for number, part in enumerate(text.split(" + ")):
+        found = re.fullmatch(r"(-?[1-9][0-9]*)\*v(0|[1-9][0-9]*)", part)
+        if found:
+            parts.append((int(found[2]), int(found[1])))
+        elif number == 0 and count_of(part.removeprefix("-")) is not None and part != "-0" and (part != "0" or text == "0"):
+            constant = int(part)
+        else:
+            lines.wrong(f"no term: {text}")
+    if any(a[0] >= b[0] for a, b in zip(parts, parts[1:])):
+        lines.wrong(f"the variables of {text} don't ascend")
+    return Term(constant, tuple(parts))
+
+
+def row_of(lines, text):
+    """The row that a text spells."""
+    found = re.fullmatch(r"(.*) (<=|<|=|!=) 0", text)
+    if not found:
+        lines.wrong(f"no row: {text}")
+    return Row(term_of(lines, found[1]), found[2])
+
+
+def value_of(lines, text):
+    """The name and the term that a text spells."""
+    found = re.fullmatch(rf"({NAME}) = (.*)", text)
+    if not found:
+        lines.wrong(f"no value of a name: {text}")
+    return found[1], term_of(lines, found[2])
+
+
+def held_of(lines, text):
+    """The address and the value of the cell that a text spells."""
+    address, arrow, value = text.partition(" |-> ")
+    if not arrow:
+        lines.wrong(f"no cell: {text}")
+    return term_of(lines, address), term_of(lines, value)
+
+
+def fact_of(lines, text):
+    """The fact that a text spells."""
+    found = re.fullmatch(rf"({NAME})\(([^;]*); ([^;]*)\)", text)
+    if not found:
+        lines.wrong(f"no fact: {text}")
+    region, *arguments = [term_of(lines, it) for it in found[2].split(", ")]
+    return Fact(found[1], region, tuple(arguments), term_of(lines, found[3]))
+
+
+def guard_of(lines, text):
+    """The guard that a text spells."""
+    region, _, atom = text.partition("@")
+    found = re.fullmatch(rf"(?:(src|tok) )?({NAME})(?:\[(.*)\]|{{(.*)\.\.(.*)}})?", atom)
+    if not found or (found[1] and found[3] is None):
+        lines.wrong(f"no guard: {text}")
+    of, name = term_of(lines, region), found[2]
+    if found[4] is not None:
+        return Guard(of, "span", name, term_of(lines, found[4]), term_of(lines, found[5]) if found[5] else None)
+    if found[3] is not None:
+        return Guard(of, found[1] or "share", name, term_of(lines, found[3]))
+    return Guard(of, "", name)
+
+
+def state_of(lines):
+    """The state that the next line spells."""
+    parts = [rf"{kind} \[([^\[\]]*(?:\[[^\]]*\][^\[\]]*)*)\]" for kind in STATE]
+    found = re.fullmatch("state " + " ".join(parts), lines.take())
+    if not found:
+        lines.wrong("no state")
+    return State(
+        *(
+            tuple(reader(lines, it) for it in (FACTS_APART if kind == "facts" else APART).split(group) if it)
+            for (kind, reader), group in zip(STATE.items(), found.groups())
+        )
+    )
+
+
+APART = re.compile("; ")
+# A fact has a semicolon of its own, inside its parentheses.
+FACTS_APART = re.compile(r"(?<=\)); ")
+STATE = {"rows": row_of, "store": value_of, "cells": held_of, "facts": fact_of, "guards": guard_of}
+
+
+def outline(text):
+    """What `outline` says: the points of all functions, or a refusal."""
+    refused = refusal_of(text)
+    if refused:
+        return refused
+    if re.fullmatch(r"rejected (node|shape) [1-9][0-9]*\n", text):
+        return Refusal(text[:-1], 1)
+    lines, points, function = Lines("outline", text), [], None
+    while lines.more():
+        if lines.ahead().startswith("state ") and points and points[-1].function == function:
+            points[-1].states.append(state_of(lines))
+            continue
+        word, _, rest = lines.take().partition(" ")
+        if word == "function" and re.fullmatch(NAME, rest):
+            function = rest
+        elif word == "at" and function and place_of(rest):
+            points.append(Point(function, place_of(rest), []))
+        else:
+            lines.wrong("no line of an outline in its place")
+    return points
