@@ -87,6 +87,19 @@ def put(text):
         raise Ends(UNWRITABLE, "cannot write the output") from None
 
 
+def deliver(text, files):
+    """Writes a text to the first of these files, or on standard output where there is none."""
+    if files:
+        write(files[0], text)
+    else:
+        put(text)
+
+
+def shown_name(path):
+    """A file's name without its folder, as a page may have it."""
+    return os.fsencode(os.path.basename(path)).decode("utf-8", errors="replace")
+
+
 def options_of(words, options):
     """The words that are no options, and the values of the options, `--name VALUE` or `--name=VALUE`, each once."""
     files, values, words = [], {}, list(words)

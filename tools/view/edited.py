@@ -72,7 +72,7 @@ class Caper:
     """A caper with a room for files."""
 
     def __init__(self, program, room):
-        self.program, self.room = program, room
+        self.program, self.room, self.said = program, room, {}
 
     def file(self, name, text):
         """Writes a file of the room."""
@@ -81,11 +81,13 @@ class Caper:
         return path
 
     def verdicts(self, text):
-        """What `verify` says of a text."""
-        said = texts.verdicts(call(self.program, "verify", self.file("text.cap", text))[0])
-        if isinstance(said, texts.Refusal):
-            raise Ends(NO_ANSWER, f"a changed text is refused: {said.line}")
-        return said
+        """What `verify` says of a text, which is asked once."""
+        if text not in self.said:
+            said = texts.verdicts(call(self.program, "verify", self.file("text.cap", text))[0])
+            if isinstance(said, texts.Refusal):
+                raise Ends(NO_ANSWER, f"a changed text is refused: {said.line}")
+            self.said[text] = said
+        return self.said[text]
 
     def asked(self, command, *words):
         """What a command says that a caper may lack."""
@@ -100,13 +102,14 @@ class Caper:
         found = texts.derivation(said)
         return (found, said) if isinstance(found, texts.Derivation) else None
 
-    def trees(self, text):
+    def trees(self, text, is_outlined=True):
         """The trees of a text's derivation, or None where not all is proved."""
-        found = self.derivation(text)
+        found, points = self.derivation(text), None
         if found is None:
             return None
-        said = self.asked("outline", self.file("text.cap", text), self.file("text.proof", found[1]))
-        points = texts.outline(said)
+        if is_outlined:
+            said = self.asked("outline", self.file("text.cap", text), self.file("text.proof", found[1]))
+            points = texts.outline(said)
         if isinstance(points, texts.Refusal):
             raise Ends(NO_ANSWER, f"outline says {points.line!r} of what derive writes")
         return Trees(program_of(text.encode("latin-1")), found[0], points)
@@ -144,10 +147,20 @@ def alone(program, function):
     kept = [function, *(program.functions[it] for it in called)]
     assertions = [items for it in kept for items in (it.requires, it.ensures)]
     types = types_of(program, assertions + [it.invariant for it in function.loops()])
+    edits = [(it.body_start, it.body_end, f" {CUT}") for it in kept[1:]]
+    return edits + without(program, types, [it.name for it in kept])
+
+
+def alone_type(program, region):
+    """Edits that leave of a program a region type, and those of which it speaks."""
+    types = types_of(program, [case.items for case in region.cases])
+    return without(program, types | {region.name}, [])
+
+
+def without(program, types, functions):
+    """Edits that leave of a program these region types and functions, and a `main`."""
     edits = [(it.start, it.end, "") for it in program.regions.values() if it.name not in types]
     for it in program.functions.values():
-        if it.name in called:
-            edits.append((it.body_start, it.body_end, f" {CUT}"))
-        elif it is not function:
+        if it.name not in functions:
             edits.append((it.start, it.end, "function main() { }" if it.name == "main" else ""))
     return edits

@@ -5,42 +5,19 @@ the run comes to. A heap cell has two lines, its value and its owner; nothing te
 empty (`owners` of `page_of`). The table alone is what is printed, and needs no script. The script marks a row, and
 what the threads stand at after it: keys and clicks move it."""
 
-import base64
-import hashlib
-import json
 from dataclasses import dataclass
 from html import escape
 
+from frame import COLOURS, colour, document, tag
 from machine import Differs, Machine
 from texts import FAULTS, place_text
 
 # A page of more cells than so many is refused.
 CELLS = 100000
-COLOURS = 8
 # With more threads than so many their columns are narrow.
 MANY = 4
 
 STYLE = """
-:root { color-scheme: light dark; --back: #ffffff; --panel: #f6f7f9; --text: #1b1f24; --dim: #6a737d; --line: #d8dce1;
-  --mark: #fff3bf; --fault: #c8102e; --t0: #1f5fbf; --t1: #a84a00; --t2: #1a7a37; --t3: #7b3fd0; --t4: #0b7285;
-  --t5: #9a2a7b; --t6: #6b5b00; --t7: #4a5560; }
-@media (prefers-color-scheme: dark) {
-  :root { --back: #15181c; --panel: #1d2126; --text: #e4e7eb; --dim: #98a2ad; --line: #363c44; --mark: #463c12;
-    --fault: #ff7a85; --t0: #7fb0ff; --t1: #f0a566; --t2: #77d08f; --t3: #c3a0ff; --t4: #66cadd; --t5: #f09ad6;
-    --t6: #d6c562; --t7: #b4bec8; } }
-.t0 { --c: var(--t0); } .t1 { --c: var(--t1); } .t2 { --c: var(--t2); } .t3 { --c: var(--t3); }
-.t4 { --c: var(--t4); } .t5 { --c: var(--t5); } .t6 { --c: var(--t6); } .t7 { --c: var(--t7); }
-* { box-sizing: border-box; }
-body { margin: 0; background: var(--back); color: var(--text); font: 14px/1.35 system-ui, sans-serif; height: 100vh;
-  display: flex; flex-direction: column; overflow: hidden; }
-code, .cell, .source, th.at { font-family: ui-monospace, "DejaVu Sans Mono", Menlo, Consolas, monospace; }
-header { padding: 10px 16px 8px; border-bottom: 1px solid var(--line); flex: none; }
-h1 { font-size: 16px; margin: 0; }
-h1 span { font-weight: normal; color: var(--dim); }
-header p { margin: 2px 0 0; color: var(--dim); }
-header .bad { color: var(--fault); font-weight: 600; }
-kbd { font: 12px ui-monospace, "DejaVu Sans Mono", monospace; border: 1px solid var(--line); border-radius: 3px;
-  padding: 0 4px; background: var(--panel); }
 main { flex: 1; min-height: 0; display: grid; grid-template-columns: fit-content(calc(100vw - 34em)) minmax(0, 1fr);
   grid-template-rows: minmax(0, 1fr); }
 .strip { overflow: auto; scroll-padding: 60px 8px 16px 64px; }
@@ -266,17 +243,6 @@ def columns_of(rows):
     return sorted(addresses), firsts
 
 
-def tag(name, text, names="", **more):
-    """An element. The text is HTML, what else it has is not."""
-    had = "".join(f' {key.replace("_", "-")}="{escape(str(it))}"' for key, it in [("class", names), *more.items()] if it)
-    return f"<{name}{had}>{text}</{name}>"
-
-
-def colour(thread):
-    """The class with a thread's colour."""
-    return f"t{thread % COLOURS}"
-
-
 def cell_of(row, address, first, owner):
     """A heap cell: its value after the step, how the step touched it, and its owner: a text and a thread or none."""
     names = ["cell"] + ["first"] * first
@@ -366,17 +332,11 @@ def end_of(run):
 
 
 def data_of(rows):
-    """What the script needs, as JSON that can stand in a page."""
+    """What the script needs."""
     steps = [None] + [
         {"thread": it.step.thread, "place": place_text(it.step.place), "fault": it.step.event in FAULTS} for it in rows[1:]
     ]
-    text = json.dumps({"colours": COLOURS, "changes": [it.states for it in rows], "steps": steps}, separators=(",", ":"))
-    return text.replace("<", "\\u003c").replace(">", "\\u003e").replace("&", "\\u0026")
-
-
-def digest(text):
-    """What a page's policy calls an inline text."""
-    return f"'sha256-{base64.b64encode(hashlib.sha256(text.encode()).digest()).decode()}'"
+    return {"colours": COLOURS, "changes": [it.states for it in rows], "steps": steps}
 
 
 def page_of(program, schedule, run, names, owners=None):
@@ -403,15 +363,10 @@ def page_of(program, schedule, run, names, owners=None):
         + tag("tfoot", tag("tr", tag("td", escape(said), colspan=1 + threads + len(addresses)))),
         "many" if threads > MANY else "",
     )
-    policy = f"default-src 'none'; style-src {digest(STYLE)}; script-src {digest(SCRIPT)}"
-    return (
-        '<!DOCTYPE html>\n<html lang="en">\n<head>\n<meta charset="utf-8">\n'
-        f'<meta http-equiv="Content-Security-Policy" content="{escape(policy, quote=False)}">\n'
-        '<meta name="viewport" content="width=device-width, initial-scale=1">\n'
-        f"<title>{escape(title)}</title>\n<style>{STYLE}</style>\n</head>\n<body>\n"
+    body = (
         f"<header><h1>{escape(names[0])} <span>along {escape(names[1])}</span></h1>\n"
         f"{tag('p', escape(said), 'bad' if bad else '')}\n{tag('p', keys, 'keys')}</header>\n"
         f"<main>\n{tag('div', table, 'strip')}\n"
-        f'<aside>\n<section id="threads" aria-label="threads"></section>\n{source_of(program)}\n</aside>\n</main>\n'
-        f'<script type="application/json" id="data">{data_of(rows)}</script>\n<script>{SCRIPT}</script>\n</body>\n</html>\n'
+        f'<aside>\n<section id="threads" aria-label="threads"></section>\n{source_of(program)}\n</aside>\n</main>'
     )
+    return document(title, STYLE, body, data_of(rows), SCRIPT)

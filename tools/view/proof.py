@@ -4,7 +4,7 @@ path it was come to.
 A derivation's lines are its nodes in preorder, and say how many subgoals a node has only by what its goal is. So the
 tasks of each goal are followed here, as docs/RULES.md says them ("States, tasks and goals"), and of its state as much as
 that takes: the facts, the opened regions, and what names of regions stand for. At a statement the facts come from the
-outline. Both texts have to fit together at each node, or `Apart` says where they don't."""
+outline, where there is one. The texts have to fit together at each node, or `Apart` says where they don't."""
 
 from dataclasses import dataclass, field, replace
 
@@ -23,14 +23,16 @@ class Apart(Exception):
 
 @dataclass
 class Node:
-    """A node: its rule with its arguments, its parent's number or None, its tree's number, the statement at which it
-    stands, the outline's state there where it has one, and what the rule speaks of, in words."""
+    """A node: its rule with its arguments, its parent's number or None, its tree's number, the statement at which its
+    task arose, whether its goal stands there with no region opened, the outline's state there, what the rule speaks of,
+    in words, and which of its parent's subgoals it is."""
 
     rule: str
     arguments: list
     parent: int
     tree: int
     statement: object = None
+    stands: bool = False
     state: object = None
     about: str = ""
     side: str = ""
@@ -99,14 +101,12 @@ def told(items):
 
 
 class Trees:
-    """The trees of a derivation."""
+    """The trees of a derivation, with the states of an outline where there is one."""
 
-    def __init__(self, program, derivation, points):
-        self.program, self.derivation = program, derivation
+    def __init__(self, program, derivation, points=None):
+        self.program, self.derivation, self.is_outlined = program, derivation, points is not None
         self.nodes, self.trees, self.fresh = [], [], 0
-        self.states = {}
-        for point in points:
-            self.states[point.function, point.place] = list(reversed(point.states))
+        self.states = {(it.function, it.place): list(reversed(it.states)) for it in points or []}
         self.unit = None
         for region in program.regions.values():
             self.of_region(region)
@@ -222,7 +222,8 @@ class Trees:
         if task[0] in ("run", "turn"):
             node.statement = task[1][0]
             goal = replace(goal, statement=node.statement)
-            if not goal.known.opened:
+            node.stands = not goal.known.opened
+            if node.stands and self.is_outlined:
                 goal = self.at_state(goal, node)
         if rule == "absurd":
             return []

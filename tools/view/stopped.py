@@ -11,7 +11,7 @@ from dataclasses import dataclass, field
 
 import texts
 from asserted import sole_name
-from edited import CUT, Edited, alone, facts_of, types_of
+from edited import CUT, Edited, Lacking, alone, facts_of, types_of
 from proof import action_text
 from rows import linear_of, linear_text, number
 from states import readable
@@ -61,11 +61,13 @@ class Stop:
 
 @dataclass
 class Stuck:
-    """A unit that is open: its kind and name, its verdict, and where it stops, the place that caper says first."""
+    """A unit that is open: its kind and name, its verdict, where it stops, the place that caper says first, and the edits
+    with which all else of it is proved, or None."""
 
     unit: tuple
     verdict: str
     stops: list
+    edits: list = None
 
 
 @dataclass
@@ -89,6 +91,7 @@ class Unit:
     def __init__(self, caper, program, unit):
         self.caper, self.program, self.unit = caper, program, unit
         self.function = program.functions.get(unit[1]) if unit[0] == "function" else None
+        self.edits = None
 
     def verdict(self, edits):
         """What caper says of the unit in a changed text, its places as in the program, and the changed text."""
@@ -174,14 +177,15 @@ class Unit:
             return stops + ways.unstable
         needed = self.needed(ways)
         ways.cuts = [it for it in ways.cuts if it in needed or (it.open == first and not any(it.open == first for it in needed))]
-        states = self.states_at(ways)
+        self.edits = ways.edits()
+        states, why = self.told_states(ways)
         if states is None:
-            stops[0].notes.append(f"what holds here can't be told: {self.unproved(ways)}")
-            return stops + ways.unstable
+            stops[0].notes.append(f"what holds here can't be told: {why}")
+            return stops + [self.stop(it) for it in further(ways.cuts, first)] + ways.unstable
         states = self.parted(first, ways, states)
+        self.edits = ways.edits()
+        stops += [self.stop(it) for it in further(ways.cuts, first)]
         for cut, some in zip(ways.cuts, states):
-            if cut.open not in [it.open for it in stops]:
-                stops.append(self.stop(cut.open))
             if some:
                 next(it for it in stops if it.open == cut.open).states.append((cut.label, some))
         rest = [it for it in ways.cuts if it.open != first]
@@ -204,6 +208,14 @@ class Unit:
                         return found
             cut.condition = ""
         return states
+
+    def told_states(self, ways):
+        """The states at cuts, or None and why they can't be told."""
+        try:
+            states = self.states_at(ways)
+        except Lacking as it:
+            return None, str(it)
+        return states, self.unproved(ways) if states is None else ""
 
     def unproved(self, ways):
         """What beside the unit isn't proved, in words."""
@@ -262,7 +274,13 @@ class Unit:
             return Stuck(self.unit, verdict, [stop])
         if stop.stands.where in ("contract", "case"):
             return Stuck(self.unit, verdict, [self.stable(stop)])
-        return Stuck(self.unit, verdict, self.body(found))
+        stops = self.body(found)
+        return Stuck(self.unit, verdict, stops, self.edits)
+
+
+def further(cuts, first):
+    """The answers of cuts but the first, each once."""
+    return [it for it in dict.fromkeys(cut.open for cut in cuts) if it != first]
 
 
 def edits_of(cuts):

@@ -4,6 +4,8 @@ from texts import place_text
 from words import OTHERS
 
 GROUPS = ("numbers", "cells", "regions", "guards")
+# What a state says of a comparison that is asserted there, if one is.
+KNOWS = {None: "", True: ", in which it follows", False: ", in which it doesn't follow"}
 
 
 def marked(program, label, pieces):
@@ -38,8 +40,7 @@ def states_lines(label, states):
     lines, where = [], f"at S, {label}" if label else "at S"
     for number, state in enumerate(states, 1):
         which = where if len(states) == 1 else f"{where}, state {number} of {len(states)}"
-        knows = {None: "", True: ", in which it follows", False: ", in which it doesn't follow"}[state.knows]
-        lines += [f"  {which}{knows}:", *state_lines(state)]
+        lines += [f"  {which}{KNOWS[state.knows]}:", *state_lines(state)]
     return lines
 
 
