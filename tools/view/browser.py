@@ -137,6 +137,11 @@ class Browser:
         self.ask("Input.dispatchKeyEvent", type="keyDown", key=name, **more)
         self.ask("Input.dispatchKeyEvent", type="keyUp", key=name, **more)
 
+    def click(self, x, y):
+        """Clicks at a point of the window."""
+        for kind in ("mousePressed", "mouseReleased"):
+            self.ask("Input.dispatchMouseEvent", type=kind, x=x, y=y, button="left", clickCount=1)
+
     def value(self, expression):
         """The value of an expression in the page."""
         it = self.ask("Runtime.evaluate", expression=expression, returnByValue=True)

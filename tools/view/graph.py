@@ -1,26 +1,31 @@
 """The graph of a region type as SVG: a box for each case with what it owns, an arrow for each action between two cases
 that it may lead from and to, with its guards."""
 
+import math
 from html import escape
 
 from frame import colour, tag
 from proof import action_text
-from rows import Line, Linear, contradict, linear_of, number
+from rows import Line, Linear, contradict, linear_of, number, settled
 
 # Sizes: of a character, a line of text, the room round a box, and between two lanes of arrows.
-CHARACTER, LINE, ROOM, LANE = 7.3, 17, 14, 16
+CHARACTER, HEIGHT, ROOM, LANE = 7.3, 17, 14, 16
 WIDEST = 64
 
 
-def conditions(comparisons, variable):
-    """Comparisons as lines."""
-    lines = []
-    for sign, left, right in comparisons:
-        term = linear_of(left, variable).plus(linear_of(right, variable), -1)
-        if sign in (">", ">="):
-            sign, term = sign.replace(">", "<"), term.times(-1)
-        lines.append(Line(term.plus(Linear.of(1)), "<=") if sign == "<" else Line(term, sign))
-    return lines
+def line_of(comparison, variable, is_whole):
+    """A comparison as a line, of whole numbers or perhaps of shares."""
+    sign, left, right = comparison
+    term = linear_of(left, variable).plus(linear_of(right, variable), -1)
+    if sign in (">", ">="):
+        sign, term = sign.replace(">", "<"), term.times(-1)
+    return Line(term.plus(Linear.of(1)), "<=") if sign == "<" and is_whole else Line(term, sign)
+
+
+def in_case(case, variable):
+    """What numbers tell of a case: its conditions, and the comparisons of its assertion."""
+    compared = [it.parts for it in case.items if it.kind == "comparison"]
+    return [line_of(it, variable, True) for it in case.conditions] + [line_of(it, variable, False) for it in compared]
 
 
 def leads(region, action, source, target):
@@ -29,11 +34,18 @@ def leads(region, action, source, target):
     def named(mark):
         return lambda name: number(name if name in region.parameters else f"{mark}{name}")
 
-    lines = conditions(action.conditions, named("a "))
+    lines = [line_of(it, named("a "), True) for it in action.conditions]
     for case, term, mark in ((source, action.source, "s "), (target, action.target, "t ")):
         state = linear_of(case.state, named(mark)).plus(linear_of(term, named("a ")), -1)
-        lines += [Line(state, "="), *conditions(case.conditions, named(mark))]
-    return not contradict(lines)
+        lines += [Line(state, "="), *in_case(case, named(mark))]
+    return not contradict(lines) and not is_fractional(lines)
+
+
+def is_fractional(lines):
+    """Whether an equality of whole numbers has fractions alone as solutions."""
+    left, _ = settled([it for it in lines if it.kind == "="], str)
+    parts = [(it.term.constant, [coefficient for _, coefficient in it.term.parts]) for it in left if it.kind == "="]
+    return any(constant % math.gcd(*some) for constant, some in parts if some)
 
 
 def arrows_of(region):
@@ -76,9 +88,9 @@ def text_at(x, y, text, names=""):
 
 def box_of(lines, top, width):
     """A case's box, and its height."""
-    height = LINE * len(lines) + ROOM
+    height = HEIGHT * len(lines) + ROOM
     shape = tag("rect", "", x="1", y=f"{top:.0f}", width=f"{width:.0f}", height=f"{height:.0f}", rx="6")
-    said = [text_at(10, top + LINE * (at + 1), it, "" if at else "state") for at, it in enumerate(lines)]
+    said = [text_at(10, top + HEIGHT * (at + 1), it, "" if at else "state") for at, it in enumerate(lines)]
     return tag("g", shape + "".join(said), "box"), height
 
 
@@ -102,25 +114,40 @@ def graph_of(program, region):
         shapes.append(shape)
         spans.append((top, height))
         top += height + 22
-    ends = [[] for _ in boxes]
+    heights = ends_of(arrows, spans)
+    labels, bottom = labels_of(arrows, heights)
+    right = width + 40 + LANE * len(arrows)
+    for key, (action, _, _) in enumerate(arrows):
+        lane, ends = width + 30 + LANE * (key + 1), [(width + 1, heights[key, it]) for it in (0, 1)]
+        shapes.append(arrow_of(action, *ends, lane, (right, labels[key]), action_text(region.actions[action])))
+    longest = max([len(action_text(region.actions[action])) for action, _, _ in arrows] + [0])
+    return figure_of(region, "".join(shapes), right + longest * CHARACTER + 8, max(top, bottom + 10))
+
+
+def ends_of(arrows, spans):
+    """At which height each arrow begins and ends, by its number and 0 or 1: at a case's box one below the other."""
+    ends, heights = [[] for _ in spans], {}
     for at, (_, source, target) in enumerate(arrows):
         ends[source].append((at, 0))
         ends[target].append((at, 1))
-    heights = {}
     for (begin, height), some in zip(spans, ends):
         for at, key in enumerate(sorted(some)):
             heights[key] = begin + height * (at + 1) / (len(some) + 1)
+    return heights
+
+
+def labels_of(arrows, heights):
+    """At which height the label of each arrow stands, one below the other, and where the last one does."""
     labels, bottom = {}, 0
     for key in sorted(range(len(arrows)), key=lambda it: heights[it, 0] + heights[it, 1]):
-        bottom = max(bottom + LINE, (heights[key, 0] + heights[key, 1]) / 2 + 4)
+        bottom = max(bottom + HEIGHT, (heights[key, 0] + heights[key, 1]) / 2 + 4)
         labels[key] = bottom
-    right = width + 40 + LANE * len(arrows)
-    for key, (action, _, _) in enumerate(arrows):
-        lane = width + 30 + LANE * (key + 1)
-        places = (width + 1, heights[key, 0]), (width + 1, heights[key, 1])
-        shapes.append(arrow_of(action, *places, lane, (right, labels[key]), action_text(region.actions[action])))
-    longest = max([len(action_text(region.actions[action])) for action, _, _ in arrows] + [0])
-    size = right + longest * CHARACTER + 8, max(top, bottom + 10)
+    return labels, bottom
+
+
+def figure_of(region, shapes, width, height):
+    """A region type's figure."""
     title = f"{region.name}({', '.join(region.parameters)}), guards {region.guards}"
-    picture = tag("svg", "".join(shapes), viewBox=f"0 0 {size[0]:.0f} {size[1]:.0f}", width=f"{size[0]:.0f}", height=f"{size[1]:.0f}", role="img", aria_label=title)
+    size = {"width": f"{width:.0f}", "height": f"{height:.0f}"}
+    picture = tag("svg", shapes, viewBox=f"0 0 {width:.0f} {height:.0f}", **size, role="img", aria_label=title)
     return tag("figure", tag("figcaption", tag("code", escape(title))) + picture, "graph", data_region=region.name)

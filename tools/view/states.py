@@ -1,6 +1,6 @@
 """A state of an outline as a person reads it: in groups, with names for its variables, and without what is needless.
 
-A variable is named as the parameters are, as the fixed names of `requires`, as the store has it, then by what the region
+Parameters and locals are variables, equal to what the store has. A variable is named as the parameters are, as the fixed names of `requires`, as the store has it, then by what the region
 type says in its place: its parameters, and the names that its cases and actions have for the whole state. What a cell
 holds is named by its address in brackets. What stands in one place alone, and of which nothing is known, is `_`."""
 
@@ -23,6 +23,11 @@ class Readable:
     guards: list = field(default_factory=list)
     impossible: bool = False
     knows: object = None
+
+
+def stored(name):
+    """The variable of a parameter or a local."""
+    return f"={name}"
 
 
 def linear(term):
@@ -68,13 +73,15 @@ class Reading:
         before = 0 if is_body else len(function.locals)
         first = len(function.parameters) + before
         self.fixed = {first + at: name for at, name in enumerate(function.fixed())}
-        self.store = [(name, linear(it)) for name, it in state.store]
+        self.store = [(name, number(stored(name))) for name, _ in state.store]
+        lines += [Line(linear(it).plus(number(stored(name)), -1), "=") for name, it in state.store]
         self.cells = [(linear(a), linear(b)) for a, b in state.cells]
         self.facts = [(it.type, linear(it.region), [linear(a) for a in it.arguments], linear(it.state)) for it in state.facts]
         self.guards = [
             (linear(it.region), it.kind, it.name, it.amount and linear(it.amount), it.last and linear(it.last))
             for it in state.guards
         ]
+        self.order = {stored(name): at for at, (name, _) in enumerate(state.store)}
         self.impossible = are_impossible(lines, self.shares)
         lines, self.told = settled(lines, self.rank)
         self.replace_told()
@@ -88,9 +95,9 @@ class Reading:
 
     def rank(self, name):
         """How soon a variable is put in for others: those last that are named well."""
-        for at, (_, term) in enumerate(self.store):
-            if term.sole() == name:
-                return 0 if at < len(self.function.parameters) else 2, at
+        if name in self.order:
+            at = self.order[name]
+            return 0 if at < len(self.function.parameters) else 2, at
         if name in self.fixed:
             return 1, name
         return (3 if name in self.visible() else 4), name

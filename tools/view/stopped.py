@@ -192,7 +192,7 @@ class Unit:
         if not stops[0].states:
             stops[0].notes.append("what holds here can't be told: what is told next stands before it")
         elif not ways.unstable and self.verdict([*ways.base, *edits_of(rest)])[0] == "proved":
-            stops[0].notes.append("this was reached, and is not what is lacking: without what is told next all is proved")
+            stops[0].notes.append("this is not what is lacking: with only what is told next cut off, all is proved")
         return stops + ways.unstable
 
     def parted(self, first, ways, states):
