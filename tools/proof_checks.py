@@ -117,13 +117,16 @@ def check_outline(checks, path, derived, said):
     checks.same(f"{name}: rules", [it.rule for it in trees.nodes], re.findall(r'(?m)^\["(\w+)"', derived)[1:-1])
     checks.same(f"{name}: trees", len(trees.trees), derivation.trees)
     checks.same(f"{name}: states", sum(it.state is not None for it in trees.nodes), said.count("\nstate "))
-    stands = [(it.parent, it.tree, it.stands, it.about, it.side) for it in trees.nodes]
-    blind = Trees(source, derivation)
-    checks.same(f"{name}: trees without the outline", [(it.parent, it.tree, it.stands, it.about, it.side) for it in blind.nodes], stands)
+    checks.same(f"{name}: trees without the outline", shapes(Trees(source, derivation)), shapes(trees))
     for it in trees.nodes:
         if it.stands and it.rule not in ("absurd", "turn"):
             wanted = {"loop": ("while",), "if": ("if",), "call": ("call",), "fork": ("fork",), "return": ("return",)}.get(it.rule)
             checks.true(f"{name}: {it.rule} stands at its statement", wanted is None or it.statement.kind in wanted)
+
+
+def shapes(trees):
+    """What is known of nodes beside their states."""
+    return [(it.parent, it.tree, it.stands, it.about, it.side) for it in trees.nodes]
 
 
 def check_wrong_outlines(checks):
@@ -187,7 +190,8 @@ def check_rows(checks):
         (["-1:p <", "-1:p <="], "p", "p", ["-1:p <"]),
         (["0 <=", "-3 <=", "1 !="], "x", "", []),
     ]:
-        checks.same(f"what is left of {said}", shown([line(it) for it in said], set(names), set(shares)), [line(it) for it in wanted])
+        left = shown([line(it) for it in said], set(names), set(shares))
+        checks.same(f"what is left of {said}", left, [line(it) for it in wanted])
     for said, wanted_lines, told in [
         (["-1:x 1:y =", "-3 1:y <="], ["-3 1:x <="], [("y", "1:x")]),
         (["-2 1:y ="], [], [("y", "2")]),
@@ -326,7 +330,8 @@ def check_part(checks, name, path, unit, part):
             checks.same(f"{name}: the column of {label}", len(mark[2]) + 1, column)
             if label == "I":
                 marked = source[row - 1][column - 1 : column - 1 + len(mark[3])]
-                checks.true(f"{name}: what is lacking is named", "".join(marked.split()) in "".join(part.split("docs/")[0].split("`")[1::2]).replace(" ", ""))
+                named = "".join(part.split("docs/")[0].split("`")[1::2])
+                checks.true(f"{name}: what is lacking is named", "".join(marked.split()) in "".join(named.split()))
     has_more = re.search(r"(?m)^  at S|breaks it$|^  (what holds here can't|no action)", part)
     checks.true(f"{name}: states, an action, or why not", has_more)
     groups = re.findall(r"(?m)^    (numbers|cells|regions|guards) ", part)
@@ -504,7 +509,8 @@ def check_proof(checks, name, path, text, verdicts, found):
     arrows = sum(map(counted_arrows, source.regions.values()))
     checks.same(f"{name}: arrows", page.count.get(("g", "arrow"), 0), arrows)
     units = verdicts.splitlines()[:-1]
-    checks.same(f"{name}: verdicts", page.count.get(("code", "verdict"), 0), sum(it.startswith(("region ", "function ")) for it in units))
+    count = sum(it.startswith(("region ", "function ")) for it in units)
+    checks.same(f"{name}: verdicts", page.count.get(("code", "verdict"), 0), count)
     checks.same(f"{name}: units that are proved", page.count.get(("code", "proved"), 0), verdicts.count(": proved\n"))
     is_open = verdicts.count(": open ")
     checks.same(f"{name}: units that are open", page.count.get(("article", "stuck"), 0), is_open)
@@ -593,7 +599,7 @@ def check_clicks(checks, it, room):
     it.open(f"{room}/lock-wrong.cap.html")
     checks.same("an open page begins at S", (it.value(MARKED), it.value(SHOWN)), ("28:3", "28:3"))
     checks.same("I is marked", it.value("document.querySelector('.lacking').textContent"), "r@UNLOCK")
-    checks.true("what is stuck is said", "`r@UNLOCK`" in it.value("document.querySelector('.stuck').innerText"))
+    checks.true("what is stuck is said", "given r@UNLOCK" in it.value("document.querySelector('.stuck').innerText"))
     it.scripts(False)
     it.open(f"{room}/lock.cap.html")
     checks.same("without scripts all states are there", it.value(SHOWN).count(","), it.value("document.querySelectorAll('.states').length") - 1)

@@ -6,26 +6,19 @@ from html import escape
 
 from frame import colour, tag
 from proof import action_text
-from rows import Line, Linear, contradict, linear_of, number, settled
+from rows import Line, contradict, line_of, linear_of, number, settled
 
 # Sizes: of a character, a line of text, the room round a box, and between two lanes of arrows.
 CHARACTER, HEIGHT, ROOM, LANE = 7.3, 17, 14, 16
 WIDEST = 64
 
 
-def line_of(comparison, variable, is_whole):
-    """A comparison as a line, of whole numbers or perhaps of shares."""
-    sign, left, right = comparison
-    term = linear_of(left, variable).plus(linear_of(right, variable), -1)
-    if sign in (">", ">="):
-        sign, term = sign.replace(">", "<"), term.times(-1)
-    return Line(term.plus(Linear.of(1)), "<=") if sign == "<" and is_whole else Line(term, sign)
-
-
 def in_case(case, variable):
     """What numbers tell of a case: its conditions, and the comparisons of its assertion."""
+    amounts = [it.parts[3] for it in case.items if it.kind == "atom" and it.parts[1] == "share" and it.parts[3] is not None]
+    shares = {name for it in amounts for name in linear_of(it, variable).names()}
     compared = [it.parts for it in case.items if it.kind == "comparison"]
-    return [line_of(it, variable, True) for it in case.conditions] + [line_of(it, variable, False) for it in compared]
+    return [line_of(it, variable, shares) for it in case.conditions + compared]
 
 
 def leads(region, action, source, target):
@@ -34,7 +27,7 @@ def leads(region, action, source, target):
     def named(mark):
         return lambda name: number(name if name in region.parameters else f"{mark}{name}")
 
-    lines = [line_of(it, named("a "), True) for it in action.conditions]
+    lines = [line_of(it, named("a "), ()) for it in action.conditions]
     for case, term, mark in ((source, action.source, "s "), (target, action.target, "t ")):
         state = linear_of(case.state, named(mark)).plus(linear_of(term, named("a ")), -1)
         lines += [Line(state, "="), *in_case(case, named(mark))]

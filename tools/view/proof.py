@@ -6,7 +6,7 @@ tasks of each goal are followed here, as docs/RULES.md says them ("States, tasks
 that takes: the facts, the opened regions, and what names of regions stand for. At a statement the facts come from the
 outline, where there is one. The texts have to fit together at each node, or `Apart` says where they don't."""
 
-from dataclasses import dataclass, field, replace
+from dataclasses import dataclass, replace
 
 from asserted import sole_name
 
@@ -132,7 +132,7 @@ class Trees:
         """The trees of a function."""
         self.unit = "function", function.name
         for word, items in (("requires", function.requires), ("ensures", function.ensures)):
-            self.stable(function, f"{word} is stable", items, word == "requires")
+            self.stable(function, f"{word} is stable", items)
         self.function = function
         fixed = self.numbered(len(function.parameters), function.fixed())
         known, number = Known().begun({**self.numbered(0, function.parameters), **fixed})
@@ -140,7 +140,7 @@ class Trees:
         self.tree("the body", Goal(known, tasks, None), is_body=True)
         rests = dict(self.rests(function.body, None))
         for loop in function.loops():
-            self.stable(function, "the invariant is stable", loop.invariant, False, loop)
+            self.stable(function, "the invariant is stable", loop.invariant, loop)
             names = self.loop_names(function)
             known, number = Known().begun(names)
             tasks = (("give", told(loop.invariant), number), (("turn", (loop, rests[id(loop)])), None))
@@ -166,14 +166,11 @@ class Trees:
         """What names of a function stand for at the head of a loop."""
         return self.numbered(0, [*function.parameters, *function.locals, *function.fixed()])
 
-    def stable(self, function, of, items, is_requires, loop=None):
+    def stable(self, function, of, items, loop=None):
         """The tree of an assertion's stability."""
-        fixed = function.fixed()
-        free = {it: self.new() for it in function.parameters + function.locals + fixed}
-        known, number = Known().begun(free)
-        known, other = known.begun({} if not is_requires else free)
-        if not is_requires:
-            known = known.bound(other, free)
+        names = {it: self.new() for it in function.parameters + function.locals + function.fixed()}
+        known, number = Known().begun(names)
+        known, other = known.begun(names)
         tasks = (("give", told(items), number), (("rest", 0), (("take", told(items), other), None)))
         self.tree(of, Goal(known, tasks, None), loop)
 

@@ -129,7 +129,8 @@ def kinds_of(program):
     found, at, text = [], 0, program.text
     words = KEYWORDS + (SECOND if is_second(text) else [])
     for it in tokens_of(text):
-        found += [(at + comment.start(), at + comment.end(), "comment") for comment in re.finditer(r"//[^\n]*", text[at : it.at])]
+        comments = re.finditer(r"//[^\n]*", text[at : it.at])
+        found += [(at + one.start(), at + one.end(), "comment") for one in comments]
         at = it.end
         if it.text in words:
             found.append((it.at, it.end, "keyword"))
@@ -158,7 +159,7 @@ def marks_of(program, stucks):
     return marks
 
 
-def coloured(text, line, marks, start, end):
+def coloured(text, marks, start, end):
     """Columns of a line as HTML, in spans by their classes."""
     edges = {start, end} | {it for first, last, _ in marks for it in (first, last) if start < it < end}
     html, edges = "", sorted(edges)
@@ -181,15 +182,27 @@ def source_of(program, stucks, chips):
             break
         html, at, mine = "", 1, marks.get(number, [])
         for start, end, place in sorted(pieces.get(number, [])):
-            html += coloured(text, number, mine, at, start)
-            html += tag("span", coloured(text, number, mine, start, end), "statement", data_place=place, tabindex=0)
+            html += coloured(text, mine, at, start)
+            html += tag("span", coloured(text, mine, start, end), "statement", data_place=place, tabindex="0")
             at = end
-        html += coloured(text, number, mine, at, max(at, len(text) + 1))
-        lines.append(tag("div", chips.get(number, tag("span", "", "chip")) + tag("span", str(number), "number") + tag("code", html)))
+        html += coloured(text, mine, at, max(at, len(text) + 1))
+        chip = chips.get(number, tag("span", "", "chip"))
+        lines.append(tag("div", chip + tag("span", str(number), "number") + tag("code", html)))
     return tag("section", "\n".join(lines), "source", aria_label="source")
 
 
 # ---- the panel
+
+
+def code_of(text, names=""):
+    """A text as code."""
+    return tag("code", escape(text), names)
+
+
+def region_of(region):
+    """A fact, and what its cases would own that may be meant."""
+    fact, cases = region
+    return code_of(fact) + "".join(code_of(text, "case") for _, text in cases)
 
 
 def group_of(name, lines):
@@ -202,11 +215,7 @@ def groups_of(state):
     html = ""
     for name in GROUPS:
         found = getattr(state, name)
-        if name == "regions":
-            lines = [tag("code", escape(fact)) + "".join(tag("code", escape(text), "case") for _, text in cases) for fact, cases in found]
-        else:
-            lines = [tag("code", escape(it)) for it in found]
-        html += group_of(name, lines)
+        html += group_of(name, map(region_of if name == "regions" else code_of, found))
     return tag("dl", html)
 
 
@@ -238,14 +247,19 @@ def states_of(program, gathered, statement):
     return tag("section", html, "states", data_place=place_text(place), id=f"at-{place[0]}-{place[1]}")
 
 
+def quoted(text):
+    """A sentence, with what stands in backquotes as code."""
+    return re.sub("`([^`]*)`", r"<code>\1</code>", escape(text))
+
+
 def stop_of(stop):
     """What is lacking at one place; states of a loop that stand at its statement for two causes."""
     html = ""
     if stop.said:
-        html += tag("p", tag("span", escape(stop.said), "said"))
+        html += tag("p", quoted(stop.said))
         html += tag("p", escape(f'docs/ANSWERS.md, "{stop.section}"'), "note")
     html += "".join(
-        tag("p", tag("code", escape(f"{place_text(it.action.place)} {it.text()}")) + " breaks it:", "break")
+        tag("p", quoted(f"{place_text(it.action.place)} {it.text()} breaks it:"), "break")
         + tag("ul", "".join(tag("li", tag("code", escape(f"{fact}: from {a} to {b}"))) for fact, a, b in it.moves))
         for it in stop.breaks
     )
@@ -322,7 +336,7 @@ def data_of(program, gathered, stucks):
 
 def page_of(program, verdicts, stucks, gathered, name):
     """The page of a proof. The name is that of the file."""
-    said = f"{verdicts.proved} of {len(verdicts.units)} proved" + (", nothing meets main's precondition" if verdicts.empty else "")
+    said = f"{verdicts.proved} of {len(verdicts.units)} proved" + ", nothing meets main's precondition" * verdicts.empty
     bad = verdicts.empty or verdicts.proved < len(verdicts.units)
     keys = (
         "A click on a statement, or <kbd>j</kbd> and <kbd>k</kbd>, shows what holds in front of it. Red: the statement at which"
@@ -331,9 +345,9 @@ def page_of(program, verdicts, stucks, gathered, name):
     panel = "".join(map(stuck_of, stucks))
     panel += "".join(tag("p", escape(it), "note") for it in gathered.notes)
     panel += "\n".join(states_of(program, gathered, it) for it in program.statements())
-    panel += tag("h2", "units and their rules") + verdicts_of(program, verdicts, gathered)
     panel += "".join(tag("h2", "region types") for _ in list(program.regions)[:1])
     panel += "\n".join(graph_of(program, it) for it in program.regions.values())
+    panel += tag("h2", "units and their rules") + verdicts_of(program, verdicts, gathered)
     body = (
         f"<header><h1>{escape(name)} {tag('span', escape(said), 'bad' if bad else '')}</h1>\n{tag('p', keys, 'keys')}</header>\n"
         f"<main>\n{source_of(program, stucks, chips_of(program, verdicts))}\n{tag('aside', panel)}\n</main>"

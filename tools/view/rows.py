@@ -243,6 +243,16 @@ def linear_of(term, variable):
     return total
 
 
+def line_of(comparison, variable, shares):
+    """A comparison of a program's text as a line, of whole numbers where it has none of these variables."""
+    sign, left, right = comparison
+    term = linear_of(left, variable).plus(linear_of(right, variable), -1)
+    if sign in (">", ">="):
+        sign, term = sign.replace(">", "<"), term.times(-1)
+    is_whole = not any(it in shares for it in term.names())
+    return Line(term.plus(Linear.of(1)), "<=") if sign == "<" and is_whole else Line(term, sign)
+
+
 def linear_text(term, name_of):
     """A term as it is shown: what is added first, and a number last where a name is before it."""
     parts = [(coefficient, name_of(name)) for name, coefficient in term.parts]

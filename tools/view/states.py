@@ -1,13 +1,15 @@
 """A state of an outline as a person reads it: in groups, with names for its variables, and without what is needless.
 
-Parameters and locals are variables, equal to what the store has. A variable is named as the parameters are, as the fixed names of `requires`, as the store has it, then by what the region
-type says in its place: its parameters, and the names that its cases and actions have for the whole state. What a cell
-holds is named by its address in brackets. What stands in one place alone, and of which nothing is known, is `_`."""
+Parameters and locals are variables, equal to what the store has. A variable is named as the parameters are, as the fixed
+names of `requires`, as the locals, then by what the region type says in its place: its parameters, and the names that its
+cases and actions have for the whole state. What a cell holds is named by its address in brackets. What stands in one
+place alone, and of which nothing is known, is `_`."""
 
 from dataclasses import dataclass, field
 
-from asserted import slots_of, sole_name
-from rows import Line, Linear, are_impossible, contradict, follows, linear_of, linear_text, number, settled, shares_of, shown
+from asserted import sole_name
+from rows import Line, Linear, are_impossible, contradict, follows, line_of, linear_of, linear_text, number, settled
+from rows import shares_of, shown
 
 OPPOSITE = {"=": "!=", "!=": "=", "<": ">=", ">=": "<", ">": "<=", "<=": ">"}
 
@@ -273,22 +275,16 @@ class Instance:
         if name not in self.names:
             new = f"?{name}{len(self.reading.names.by)}"
             self.reading.names.by[new] = self.reading.names.free(name)
-            self.names[name] = Linear(Linear.of(0).constant, ((new, 1),))
+            self.names[name] = number(new)
         return self.names[name]
 
     def linear(self, term):
-        """A term of the text. At most one factor of a product has names."""
+        """A term of the text."""
         return linear_of(term, self.variable)
 
     def line(self, comparison):
-        """A comparison as a line, as if of whole numbers."""
-        sign, left, right = comparison
-        term = self.linear(left).plus(self.linear(right), -1)
-        if sign in (">", ">="):
-            sign, term = sign.replace(">", "<"), term.times(-1)
-        if sign == "<" and not self.reading.shares & set(term.names()):
-            return Line(term.plus(Linear.of(1)), "<=")
-        return Line(term, sign)
+        """A comparison as a line."""
+        return line_of(comparison, self.variable, self.reading.shares)
 
     def slot(self, slot):
         """A slot as it is shown."""

@@ -12,8 +12,7 @@ leading zeros, with `-` where it may be negative, and within 128 signed bits.
     KIND     = "region" | "function"
     VERDICT  = "proved" | "spent" N | "deep 1000" | "wide" NUMBER NUMBER | "rows 4096" | "open" L:C "needs" WANT L:C
     WANT     = "fact" | "cell" | "region" | "guard" | "move" | "state"
-    nodes    = "[" """ "caper" """ ",1," T "]" LINE { NODE LINE } "[" """ "end" """ "," N "]" LINE | verdicts
-             | "derivation too long" LINE
+    nodes    = '["caper",1,' T "]" LINE { NODE LINE } '["end",' N "]" LINE | "derivation too long" LINE | verdicts
     NODE     = a line of JSON: an array of a rule's word and its arguments
     outline  = { "function" NAME LINE { "at" L:C LINE { state LINE } } } | "rejected node" K LINE
              | "rejected shape" K LINE | refusal
