@@ -4,8 +4,10 @@ import glob
 import itertools
 import json
 import os
+import random
 import re
 import tempfile
+from fractions import Fraction
 
 from view_checks import TOP, Elements, check_lines, short, text_of, tool
 
@@ -18,6 +20,7 @@ from machine import holds, value
 from proof import Trees
 from rows import Line, Linear, settled, shown
 from source import program_of
+from states import Reading, linear
 from tokens import tokens_of
 
 WITHOUT = "this caper has no command outline"
@@ -119,9 +122,52 @@ def check_outline(checks, path, derived, said):
     checks.same(f"{name}: states", sum(it.state is not None for it in trees.nodes), said.count("\nstate "))
     checks.same(f"{name}: trees without the outline", shapes(Trees(source, derivation)), shapes(trees))
     for it in trees.nodes:
+        if it.state is not None:
+            check_reading(checks, name, source, trees, it)
         if it.stands and it.rule not in ("absurd", "turn"):
             wanted = {"loop": ("while",), "if": ("if",), "call": ("call",), "fork": ("fork",), "return": ("return",)}.get(it.rule)
             checks.true(f"{name}: {it.rule} stands at its statement", wanted is None or it.statement.kind in wanted)
+
+
+# So many values of its variables are tried for a state.
+TRIES = 40
+
+
+def check_reading(checks, name, source, trees, node):
+    """Tries values: those that meet a state's rows meet what is shown of it, and the other way round where no variable was
+    left out."""
+    reading = Reading(source, trees.function_of(node), node.state, trees.is_body(node))
+    if reading.impossible:
+        return
+    before = [(linear(it.term), it.kind) for it in node.state.rows]
+    after = [(it.term, it.kind) for it in reading.lines]
+    told = dict(reading.told)
+    names = {x for it in [*(it for it, _ in before), *told.values()] for x in it.names()}
+    free = sorted(names - set(told), key=str)
+    kept = {x for it, _ in after for x in it.names()} | reading.visible()
+    draw, wrong = random.Random(str(node.state)), []
+    for _ in range(TRIES):
+        values = {it: draw.choice(SHARES if it in reading.shares else NUMBERS) for it in free}
+        for variable, term in reversed(reading.told):
+            values[variable] = valued(term, values)
+        first, then = meets(before, values), meets(after, values)
+        if first != then and (first or kept >= set(free)):
+            wrong.append(values)
+    checks.same(f"{name}: what is shown at {node.statement.place}", wrong[:1], [])
+
+
+SHARES, NUMBERS = [Fraction(it, 4) for it in range(1, 5)], range(-1, 5)
+
+
+def valued(term, values):
+    """A term's value; a variable of which nothing is said is 0."""
+    return term.constant + sum(coefficient * values.get(name, 0) for name, coefficient in term.parts)
+
+
+def meets(rows, values):
+    """Whether values meet rows."""
+    found = [(valued(term, values), kind) for term, kind in rows]
+    return all({"<=": it <= 0, "<": it < 0, "=": it == 0, "!=": it != 0}[kind] for it, kind in found)
 
 
 def shapes(trees):
@@ -251,7 +297,7 @@ OTHERS = {
     "callee": (
         "region R(r, x) { guards G; interpretation { n : x |-> n; } actions { G : n ~> n + 1; } }\n"
         "function g(x) requires R(r, x; 0); { }\nfunction main() { x := alloc(1); g(x); assert x = 0; }\n",
-        ["function g: open", "`G : n ~> n + 1` of `R` breaks it", "from 0 to 1", "function main", "can't be told", "function g is not proved"],
+        ["function g: open", "`G : n ~> n + 1` of `R` breaks it", "from 0 to 1", "function main", "can't be told: the contract of g is not proved"],
     ),
     "both": (
         "region R(r, x) { guards G * H; interpretation { n : x |-> n; } actions { G : 0 ~> 1; H : 0 ~> 2 when 0 = 0; } }\n"
@@ -592,6 +638,9 @@ def check_clicks(checks, it, room):
     for key, place in [("j", "23:16"), ("k", "23:3"), ("ArrowUp", "22:3"), ("Home", "17:3"), ("End", "37:1"), ("j", "37:1")]:
         it.key(key)
         checks.same(f"after {key}", (it.value(MARKED), it.value(SHOWN)), (place, place))
+    it.value("document.querySelector('.statement[data-place=\"31:12\"]').focus()")
+    it.key("Enter")
+    checks.same("after Enter", it.value(SHOWN), "31:12")
     click(it, "28:3")
     checks.true("the write of unlock has its guard", "r@UNLOCK" in it.value(SAID))
     it.open(f"{room}/lock.cap.html", "#at-31-12")

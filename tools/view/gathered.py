@@ -79,7 +79,8 @@ class Gatherer:
             edits = self.edits(unit, verdict)
             trees, edited = (None, None) if edits is None else self.trees(edits)
             if trees is None:
-                self.found.notes.append(f"no states of {unit[0]} {unit[1]}: it is {verdict}")
+                why = f"it is {verdict}" if verdict != "proved" else "what it calls or speaks of is not proved, or nothing meets it"
+                self.found.notes.append(f"no states of {unit[0]} {unit[1]}: {why}")
             else:
                 self.add(trees, edited, unit)
         return self.found
@@ -111,8 +112,7 @@ class Gatherer:
             self.found.count += 1
             if self.found.count > MOST:
                 raise TooMany(f"a page has at most {MOST} states, and these are more")
-            function, asserted = trees.program.functions[unit[1]], self.asserted.get(place)
-            state = readable(trees.program, function, node.state, trees.is_body(node), asserted)
+            state = readable(trees, node, self.asserted.get(place))
             if state.impossible:
                 self.found.impossible[place] = self.found.impossible.get(place, 0) + 1
                 return

@@ -464,6 +464,10 @@ class Trees:
 
     # ---- what is asked
 
+    def function_of(self, node):
+        """The function of a node's tree."""
+        return self.program.functions[self.trees[node.tree].unit[1]]
+
     def is_body(self, node):
         """Whether a node is in the tree of a body."""
         return self.trees[node.tree].is_body

@@ -110,6 +110,7 @@ document.addEventListener("click", function (event) {
 });
 document.addEventListener("keydown", function (event) {
   if (event.ctrlKey || event.metaKey || event.altKey) return;
+  if (event.key === "Enter" && event.target.matches(".statement")) show(event.target.dataset.place);
   const at = places.indexOf(now);
   const to = {j: at + 1, k: at - 1, ArrowDown: at + 1, ArrowUp: at - 1, Home: 0, End: places.length - 1}[event.key];
   if (to === undefined || event.target.matches("summary")) return;

@@ -327,9 +327,9 @@ class Instance:
         return f"{self.comparison(item.parts[0])} ? {{ {self.items(then)} }} : {{ {self.items(other)} }}"
 
 
-def readable(program, function, state, is_body, asserted=None):
-    """A state as a person reads it, and whether a comparison follows there that is asserted."""
-    reading = Reading(program, function, state, is_body)
+def readable(trees, node, asserted=None):
+    """A node's state as a person reads it, and whether a comparison follows there that is asserted."""
+    reading = Reading(trees.program, trees.function_of(node), node.state, trees.is_body(node))
     found = reading.readable()
     found.knows = None if asserted is None else reading.knows(asserted)
     return found

@@ -156,11 +156,10 @@ class Unit:
         trees = self.caper.trees(edited.text)
         if trees is None:
             return None
-        function, found = trees.program.functions[self.unit[1]], []
+        found = []
         for cut in ways.cuts:
             nodes = [it for it in trees.nodes if is_at(edited, trees, it, self.unit, cut.at)]
-            asserted = self.asserted(cut.open)
-            states = [readable(trees.program, function, it.state, trees.is_body(it), asserted) for it in nodes]
+            states = [readable(trees, it, self.asserted(cut.open)) for it in nodes]
             found.append([it for at, it in enumerate(states) if not it.impossible and it not in states[:at]])
         return found
 
@@ -220,8 +219,9 @@ class Unit:
     def unproved(self, ways):
         """What beside the unit isn't proved, in words."""
         units = self.caper.verdicts(Edited(self.program.text, ways.edits()).text).units
-        left = [f"{kind} {name}" for kind, name, verdict in units if verdict != "proved"]
-        return f"{', '.join(left)} is not proved" if left else "nothing meets the precondition of main"
+        left = [(kind, name) for kind, name, verdict in units if verdict != "proved"]
+        said = [f"the contract of {name} is" if kind == "function" else f"region {name} is" for kind, name in left]
+        return " not proved, ".join(said) + " not proved" if said else "nothing meets the precondition of main"
 
     # ---- assertions that aren't stable
 
