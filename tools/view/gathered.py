@@ -7,6 +7,7 @@ from dataclasses import dataclass, field
 
 from edited import Edited, Lacking, alone, alone_type
 from states import readable
+from stopped import wanted_at
 
 # More states than so many are not shown.
 MOST = 4000
@@ -45,7 +46,7 @@ class Gatherer:
     def __init__(self, caper, program, verdicts, stucks):
         self.caper, self.program, self.verdicts = caper, program, verdicts
         self.stucks = {it.unit: it for it in stucks}
-        self.found, self.asserted = Gathered(), asserted_of(stucks)
+        self.found, self.wanted = Gathered(), wanted_of(stucks)
 
     def trees(self, edits):
         """The trees of a changed text, and the text."""
@@ -112,22 +113,16 @@ class Gatherer:
             self.found.count += 1
             if self.found.count > MOST:
                 raise TooMany(f"a page has at most {MOST} states, and these are more")
-            state = readable(trees, node, self.asserted.get(place))
+            state = readable(trees, node, self.wanted.get(place))
             if state.impossible:
                 self.found.impossible[place] = self.found.impossible.get(place, 0) + 1
                 return
         self.found.states.setdefault(place, []).append(Here(number, unit, state))
 
 
-def asserted_of(stucks):
-    """The comparisons of assertions that are lacking, by place."""
-    stops = [stop for stuck in stucks for stop in stuck.stops if stop.open.need == "fact"]
-    return {it.open.statement: it.stands.at.parts[0] for it in stops if is_assertion(it)}
-
-
-def is_assertion(stop):
-    """Whether what lacks something is an assertion."""
-    return stop.stands is not None and stop.stands.where == "statement" and stop.stands.at.kind == "assert"
+def wanted_of(stucks):
+    """What statements that lack something want of a state by themselves, by place."""
+    return {stop.open.statement: wanted_at(stop) for stuck in stucks for stop in stuck.stops}
 
 
 def rule_text(node):

@@ -10,7 +10,7 @@ from html import escape
 from frame import document, tag
 from graph import graph_of
 from texts import place_text
-from told import GROUPS, KNOWS, other_lines
+from told import GROUPS, HAS, other_lines
 from tokens import KEYWORDS, SECOND, tokens_of
 from words import OTHERS
 
@@ -222,15 +222,15 @@ def groups_of(state):
 
 def state_of(here, at, count):
     """A state at a statement."""
-    title = numbered(at, count) + (KNOWS[here.state.knows] if here.state else "")
+    title = numbered(at, count) + HAS[here.state.has] if here.state else numbered(at, count, "way")
     path = tag("details", tag("summary", "rules that lead here") + tag("ol", "", "path"), data_node=str(here.node))
     said = groups_of(here.state) if here.state else ""
     return tag("article", tag("h3", escape(title)) + said + path, "state")
 
 
-def numbered(at, count):
+def numbered(at, count, what="state"):
     """A state's name among so many."""
-    return f"state {at} of {count}" if count > 1 else "state"
+    return f"{what} {at} of {count}" if count > 1 else what
 
 
 def states_of(program, gathered, statement):

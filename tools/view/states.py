@@ -16,15 +16,15 @@ OPPOSITE = {"=": "!=", "!=": "=", "<": ">=", ">=": "<", ">": "<=", "<=": ">"}
 
 @dataclass
 class Readable:
-    """A state in groups, each a list of lines; a region's line has further ones, of its cases that may be meant. `knows`
-    says whether what is asserted there follows."""
+    """A state in groups, each a list of lines; a region's line has further ones, of its cases that may be meant. `has`
+    says of a need there whether the state has what is wanted."""
 
     numbers: list = field(default_factory=list)
     cells: list = field(default_factory=list)
     regions: list = field(default_factory=list)
     guards: list = field(default_factory=list)
     impossible: bool = False
-    knows: object = None
+    has: tuple = None
 
 
 def stored(name):
@@ -237,6 +237,11 @@ class Reading:
         line = Instance(self, dict(self.store)).line(comparison)
         return follows(self.lines, line, self.shares)
 
+    def holds(self, address):
+        """Whether a cell is held at an address of the text."""
+        at = Instance(self, dict(self.store)).linear(address)
+        return any(follows(self.lines, Line(at.plus(it, -1), "="), self.shares) for it, _ in self.cells)
+
     # ---- cases
 
     def cases_of(self, fact):
@@ -327,9 +332,12 @@ class Instance:
         return f"{self.comparison(item.parts[0])} ? {{ {self.items(then)} }} : {{ {self.items(other)} }}"
 
 
-def readable(trees, node, asserted=None):
-    """A node's state as a person reads it, and whether a comparison follows there that is asserted."""
+def readable(trees, node, wanted=None):
+    """A node's state as a person reads it, and whether it has what is wanted there: `fact` with a comparison, or `cell` with
+    an address."""
     reading = Reading(trees.program, trees.function_of(node), node.state, trees.is_body(node))
     found = reading.readable()
-    found.knows = None if asserted is None else reading.knows(asserted)
+    if wanted is not None:
+        need, term = wanted
+        found.has = (need, reading.knows(term) if need == "fact" else reading.holds(term))
     return found

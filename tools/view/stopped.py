@@ -159,14 +159,9 @@ class Unit:
         found = []
         for cut in ways.cuts:
             nodes = [it for it in trees.nodes if is_at(edited, trees, it, self.unit, cut.at)]
-            states = [readable(trees, it, self.asserted(cut.open)) for it in nodes]
+            states = [readable(trees, it, wanted_at(self.stop(cut.open))) for it in nodes]
             found.append([it for at, it in enumerate(states) if not it.impossible and it not in states[:at]])
         return found
-
-    def asserted(self, found):
-        """The comparison of an assertion that lacks it, or None."""
-        statement = stands_of(self.program, self.unit, found.statement).at
-        return statement.parts[0] if statement.kind == "assert" and found.need == "fact" else None
 
     def body(self, first):
         """Where a body stops, the place that caper says first."""
@@ -276,6 +271,16 @@ class Unit:
             return Stuck(self.unit, verdict, [self.stable(stop)])
         stops = self.body(found)
         return Stuck(self.unit, verdict, stops, self.edits)
+
+
+def wanted_at(stop):
+    """What a statement wants of a state by itself: an assertion its comparison, an access its cell; or None."""
+    if stop.stands is None or stop.asked is None or stop.asked.where != "statement":
+        return None
+    kind, parts = stop.stands.at.kind, stop.stands.at.parts
+    if kind == "assert":
+        return "fact", parts[0]
+    return ("cell", parts[0 if kind in ("write", "dispose") else 1]) if stop.open.need == "cell" else None
 
 
 def further(cuts, first):

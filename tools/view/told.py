@@ -4,8 +4,14 @@ from texts import place_text
 from words import OTHERS
 
 GROUPS = ("numbers", "cells", "regions", "guards")
-# What a state says of a comparison that is asserted there, if one is.
-KNOWS = {None: "", True: ", in which it follows", False: ", in which it doesn't follow"}
+# What is said of a state that was asked whether it has what is wanted.
+HAS = {
+    None: "",
+    ("fact", True): ", in which it follows",
+    ("fact", False): ", in which it doesn't follow",
+    ("cell", True): ", in which it is held",
+    ("cell", False): ", in which it isn't held",
+}
 
 
 def marked(program, label, pieces):
@@ -40,7 +46,7 @@ def states_lines(label, states):
     lines, where = [], f"at S, {label}" if label else "at S"
     for number, state in enumerate(states, 1):
         which = where if len(states) == 1 else f"{where}, state {number} of {len(states)}"
-        lines += [f"  {which}{KNOWS[state.knows]}:", *state_lines(state)]
+        lines += [f"  {which}{HAS[state.has]}:", *state_lines(state)]
     return lines
 
 
