@@ -4,7 +4,9 @@ use Rattle.std.specs.declared.alloc.AllocError.{AllocError}
 use Rattle.cap_prog.specs.declared.program.Program.{Program}
 use Rattle.cap_prog.specs.Views.{program_view}
 use Rattle.cap_parse_laws.specs.Texts.{Spells}
+use Rattle.cap_parse_tree.specs.Canonical.{canonical_text}
 use Rattle.cap_parse_tree.specs.Views.{tree_view}
+use Rattle.cap_parse_tree.specs.declared.tree.Tree.{Tree}
 use Rattle.cap_top_reading.specs.declared.refusal.Refusal.{Refusal}
 use Rattle.cap_top_reading.specs.declared.refusal.Refusal.TheVariants.{BadByte, LongLiteral, TextTooLong, Unexpected, TooDeep, Unresolved, OutOfMemory}
 use Rattle.cap_top_reading.specs.Reading.{UnlessMemory, IsFound, FindsTree, FindsProgram}
@@ -16,7 +18,7 @@ use Rattle.cap_top_report.specs.declared.counts.Counts.{Counts}
 use Rattle.cap_top_report.specs.Report.{proved_count, report_text, is_good}
 use Rattle.cap_top_report.specs.Views.{IsCountOf, IsReportOf}
 use Rattle.cap_top_commands.specs.declared.output.Output as code
-use Rattle.cap_top_commands.specs.Output.{Output, refusal_output, report_output, trial_output}
+use Rattle.cap_top_commands.specs.Output.{Output, refusal_output, report_output, trial_output, tree_output}
 use Rattle.cap_top_commands.specs.Answers.{SaysCause, SaysOf, IsVerified, IsTried, IsTrial, IsCanonical, IsShown, IsOnly}
 use Rattle.cap_top_words.specs.Meaning.{default_budget}
 use Rattle.cap_top_commands.specs.Report.{IsReport}
@@ -127,6 +129,14 @@ trial_answers n e (Ok o) f h =
 trial_answers n e (Err a) f h = tt
 
 -- ---- show
+
+pub show_prints : (bytes : List ℕ) (tree : Tree) (text : List ℕ) → FindsTree bytes (Ok tree)
+    → text ≡ canonical_text (tree_view tree) → IsOnly (IsShown bytes) (tree_output text)
+show_prints bytes tree text f h =
+    let said = found_says tree_view (Spells bytes) (SpellNone bytes) IsCanonical tree (tree_output text) f
+    (one_only (IsCanonical (tree_view tree)) (tree_output text) (tree_output (canonical_text (tree_view tree)))
+    (λ q e. e) refl (ap tree_output h)) in
+    record { said = said.said; only = said.only }
 
 pub show_answers : (bytes : List ℕ) (e : Refusal) (r : Result code.Output AllocError)
     → FindsTree bytes (Err e) → AnswersRefusal e r
