@@ -1,6 +1,6 @@
 //! The pieces that an offered move names for its indexed atoms.
 
-use cap_goal::{Choice, Env, Fact, Goal, State, Task};
+use cap_goal::{Choice, Env, Fact, Goal, LONGEST_LIST, State, Task};
 use cap_gsolve::{Form, Piece};
 use cap_lin::{LinError, Sort, Term};
 use cap_offer::{Offers, offered};
@@ -74,6 +74,15 @@ fn names(alloc: Global, state: i128) -> Result<Env, LinError> {
     Ok(Env { terms })
 }
 
+// Adds a piece that was held before.
+fn hold(alloc: Global, state: &mut State, held: &Held) -> Result<(), LinError> {
+    let piece = piece(alloc, held)?;
+    if state.before().len() < LONGEST_LIST {
+        state.add_before(piece)?;
+    }
+    Ok(())
+}
+
 // The region is opened in state 5, and these pieces were held before.
 fn opened_with(alloc: Global, new: i128, held: &[Held]) -> Result<State, LinError> {
     let mut state = State::new(alloc)?;
@@ -81,7 +90,7 @@ fn opened_with(alloc: Global, new: i128, held: &[Held]) -> Result<State, LinErro
     state.add_opened(in_five(alloc)?)?;
     state.add_envs(names(alloc, new)?)?;
     for one in held {
-        state.add_before(piece(alloc, one)?)?;
+        hold(alloc, &mut state, one)?;
     }
     Ok(state)
 }
