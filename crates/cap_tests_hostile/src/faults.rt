@@ -63,6 +63,7 @@ const READS: &[Read] = &[
     ("derive, 1", &[1], "derive f", EMPTY, ReadFault, NO_F),
     ("show, 1", &[1], "show f", EMPTY, ReadFault, NO_F),
     ("check, 1", &[1], "check f s", EMPTY, ReadFault, NO_F),
+    ("outline, 1", &[1], "outline f s", EMPTY, ReadFault, NO_F),
     ("replay, 1", &[1], "replay f s", EMPTY, ReadFault, NO_F),
     ("usage, 1", &[1], "verify f s", EMPTY, Usage, USAGE),
     (
@@ -76,11 +77,20 @@ const READS: &[Read] = &[
     // The second fetch fails.
     ("verify, 2", &[2], "verify f", EMPTY, Good, PROVED),
     ("check, 2", &[2], "check f s", EMPTY, ReadFault, NO_S),
+    ("outline, 2", &[2], "outline f s", EMPTY, ReadFault, NO_S),
     ("replay, 2", &[2], "replay f s", EMPTY, ReadFault, NO_S),
     (
         "check of no program, 2",
         &[2],
         "check f s",
+        b"",
+        Refused,
+        NO_MAIN,
+    ),
+    (
+        "outline of no program, 2",
+        &[2],
+        "outline f s",
         b"",
         Refused,
         NO_MAIN,
@@ -103,6 +113,14 @@ const READS: &[Read] = &[
         Refused,
         b"refused derivation line 1\n",
     ),
+    (
+        "outline, 3",
+        &[3],
+        "outline f s",
+        EMPTY,
+        Refused,
+        b"refused derivation line 1\n",
+    ),
     // Files that the shelf lacks.
     ("verify, no first", &[], "verify g", EMPTY, ReadFault, NO_G),
     ("derive, no first", &[], "derive g", EMPTY, ReadFault, NO_G),
@@ -117,6 +135,14 @@ const READS: &[Read] = &[
         NO_G,
     ),
     ("check, no second", &[], "check f h", EMPTY, ReadFault, NO_H),
+    (
+        "outline, no second",
+        &[],
+        "outline f h",
+        EMPTY,
+        ReadFault,
+        NO_H,
+    ),
     (
         "replay, no second",
         &[],
@@ -140,6 +166,14 @@ const READS: &[Read] = &[
         "check of no program",
         &[],
         "check f h",
+        b"",
+        Refused,
+        NO_MAIN,
+    ),
+    (
+        "outline of no program",
+        &[],
+        "outline f h",
         b"",
         Refused,
         NO_MAIN,
@@ -243,7 +277,14 @@ fn is_too_long(rt: &impl Abort, alloc: Global, words: &str) -> Result<(), Fail> 
 
 #[test]
 fn long_files_of_each_command(rt: HostRuntime) -> Result<(), Fail> {
-    for words in ["verify f", "derive f", "check f s", "show f", "replay f s"] {
+    for words in [
+        "verify f",
+        "derive f",
+        "check f s",
+        "show f",
+        "replay f s",
+        "outline f s",
+    ] {
         is_too_long(&rt, rt.alloc(), words)?;
     }
     Ok(())

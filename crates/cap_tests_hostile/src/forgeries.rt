@@ -25,17 +25,30 @@ type Forged = (
     &'static str,
 );
 
+// The commands that say the same of a derivation that is judged so: one that is not accepted has no
+// outline.
+fn judges(status: Status) -> &'static [&'static str] {
+    if status == Good {
+        &["check f s"]
+    } else {
+        &["check f s", "outline f s"]
+    }
+}
+
 fn ends_so(rt: &impl Abort, alloc: Global, row: &Forged) -> Result<(), Fail> {
     let (name, text, lines, status, written) = *row;
-    let run = Run {
-        name,
-        words: "check f s",
-        text: &[Once(text)],
-        other: &[Once(lines.as_bytes())],
-        status,
-        written: &[Once(written.as_bytes())],
-    };
-    meets(rt, alloc, &run)
+    for words in judges(status) {
+        let run = Run {
+            name,
+            words,
+            text: &[Once(text)],
+            other: &[Once(lines.as_bytes())],
+            status,
+            written: &[Once(written.as_bytes())],
+        };
+        meets(rt, alloc, &run)?;
+    }
+    Ok(())
 }
 
 fn all_end_so(rt: &impl Abort, alloc: Global, rows: &[Forged]) -> Result<(), Fail> {
@@ -595,15 +608,18 @@ fn forged(alloc: Global, node: usize, instead: &'static str) -> Result<Vec<Piece
 fn node_ends_so(rt: &impl Abort, alloc: Global, row: &Node) -> Result<(), Fail> {
     let (name, node, instead, status, written) = *row;
     let lines = forged(alloc, node, instead)?;
-    let run = Run {
-        name,
-        words: "check f s",
-        text: &[Once(CELLS)],
-        other: lines.as_slice(),
-        status,
-        written: &[Once(written.as_bytes())],
-    };
-    meets(rt, alloc, &run)
+    for words in judges(status) {
+        let run = Run {
+            name,
+            words,
+            text: &[Once(CELLS)],
+            other: lines.as_slice(),
+            status,
+            written: &[Once(written.as_bytes())],
+        };
+        meets(rt, alloc, &run)?;
+    }
+    Ok(())
 }
 
 fn all_nodes_end_so(rt: &impl Abort, alloc: Global, rows: &[Node]) -> Result<(), Fail> {

@@ -4,6 +4,8 @@
 #[cfg(test)]
 mod io;
 #[cfg(test)]
+mod outlines;
+#[cfg(test)]
 mod second;
 #[cfg(test)]
 mod top;

@@ -7,7 +7,7 @@ use std::process::Abort;
 use std::test::Fail;
 
 const USAGE: &str =
-    "usage: caper verify FILE [--budget N] | derive FILE [--budget N] | check FILE DERIVATION | replay FILE SCHEDULE | show FILE | trial N | stray FILE N M | core FILE\n";
+    "usage: caper verify FILE [--budget N] | derive FILE [--budget N] | check FILE DERIVATION | replay FILE SCHEDULE | show FILE | trial N | outline FILE DERIVATION | stray FILE N M | core FILE\n";
 
 const PROVED: &str = "function main: proved\nproved 1 of 1\n";
 
@@ -188,7 +188,7 @@ ended 9
 ";
 
 // A shelf of the files `f` and `s` of these texts.
-fn shelf(alloc: Global, text: &str, schedule: &str) -> Result<MemoryShelf, AllocError> {
+pub(crate) fn shelf(alloc: Global, text: &str, schedule: &str) -> Result<MemoryShelf, AllocError> {
     let mut files = Vec::new(alloc);
     for (name, text) in [("f", text), ("s", schedule)] {
         let bytes = Vec::from_slice(alloc, text.as_bytes())?;
@@ -198,7 +198,7 @@ fn shelf(alloc: Global, text: &str, schedule: &str) -> Result<MemoryShelf, Alloc
 }
 
 // The words of a line, cut at its blanks; none where it is empty.
-fn words_of(alloc: Global, line: &str) -> Result<Vec<String>, AllocError> {
+pub(crate) fn words_of(alloc: Global, line: &str) -> Result<Vec<String>, AllocError> {
     let mut words = Vec::new(alloc);
     if !line.is_empty() {
         for word in line.split(' ') {
@@ -210,7 +210,7 @@ fn words_of(alloc: Global, line: &str) -> Result<Vec<String>, AllocError> {
 
 // Runs the words of a line over a shelf of the files `f` and `s`, and compares the status and all that
 // is written. Want of memory is handed on, and then nothing may be written.
-fn says(
+pub(crate) fn says(
     rt: &impl Abort,
     alloc: Global,
     line: &str,
@@ -702,6 +702,10 @@ fn words_that_are_no_command(rt: HostRuntime) -> Result<(), Fail> {
         "trial 01",
         "trial 51",
         "trial 2 --budget 1",
+        "outline f",
+        "outline f s s",
+        "outline f -s",
+        "outline f s --budget 1",
         "core",
         "core f s",
         "core f --budget 1",

@@ -79,6 +79,20 @@ fn words_that_are_other_commands(rt: HostRuntime) -> Result<(), Fail> {
         ("trial 1", Command::Trial { number: 1 }),
         ("trial -- 50", Command::Trial { number: 50 }),
         (
+            "outline a b",
+            Command::Outline {
+                file: "a",
+                derivation: "b",
+            },
+        ),
+        (
+            "outline a -- -b",
+            Command::Outline {
+                file: "a",
+                derivation: "-b",
+            },
+        ),
+        (
             "stray a 0 1",
             Command::Stray {
                 file: "a",
@@ -149,6 +163,10 @@ fn words_that_are_none(rt: HostRuntime) -> Result<(), Fail> {
         "trial 51",
         "trial -1",
         "trial 1 2",
+        "outline a",
+        "outline a b c",
+        "outline a -b",
+        "outline a b --budget 1",
         "stray a 1",
         "stray a 1 0",
         "stray a 1 1001",

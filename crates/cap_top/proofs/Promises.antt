@@ -25,17 +25,18 @@ use Rattle.cap_machine.specs.declared.event.Entry.{Entry}
 use Rattle.cap_goal_spec.specs.Roots.{units}
 use Rattle.cap_top_commands.specs.cap_top_report.Report.{proved_count, report_text, all_proved, is_good}
 use Rattle.cap_top_commands.specs.cap_top_report.Cores.{cores_text}
-use Rattle.cap_top_words.specs.Meaning.{PlainCommand, verify, derive, check, show, replay, trial, stray, core, default_budget}
+use Rattle.cap_top_words.specs.Meaning.{PlainCommand, verify, derive, check, show, replay, trial, outline, stray, core, default_budget}
 use Rattle.cap_top_commands.specs.Commands.{files_of}
-use Rattle.cap_top_commands.specs.Output.{Output, usage_output, unreadable_output, long_output, refusal_output, report_output, derivation_output, long_derivation_output, bad_derivation_output, judged_output, judged_status, tree_output, schedule_output, run_output, trial_output, no_start_output, report_status, end_status}
+use Rattle.cap_top_commands.specs.Output.{Output, usage_output, unreadable_output, long_output, refusal_output, report_output, derivation_output, long_derivation_output, bad_derivation_output, judged_output, judged_status, outline_output, tree_output, schedule_output, run_output, trial_output, no_start_output, report_status, end_status}
 use Rattle.cap_top_commands.specs.Good.{IsProvedText}
 use Rattle.cap_top_commands.specs.Needed.{TellsCores, CoresAreTold}
+use Rattle.cap_top_commands.specs.Outlines.{IsOutline, CheckedAreOutlined, OutlinesAreTold}
 use Rattle.cap_top_commands.specs.SafeText.{IsSafeText}
 use Rattle.cap_top_laws.specs.Given.{given_by, AreGiven}
 use Rattle.cap_top.specs.Reads.{IsFetched, AreFetched, AreRead}
 use Rattle.cap_top.specs.Run.{IsSaid, IsRun}
 use Rattle.cap_top.specs.Verified.{IsRead, VerifiesFile}
-use Rattle.cap_top.specs.Promise.{AreBothRead, ProvesFile, FailsFile, DerivesFile, ChecksFiles, IsShownAs, ShowsFile, StraysFile, CoresFile, HoldsSafe, EndsRun, ReplaysFiles, Ends, NoFault, Says, SaysOutput, AnswersFiles, HoldsGood, HoldAccepted, HoldsTree, IsTextFor, Refuses, IsOneOf, ReadFails}
+use Rattle.cap_top.specs.Promise.{AreBothRead, ProvesFile, FailsFile, DerivesFile, ChecksFiles, OutlinesFiles, IsShownAs, ShowsFile, StraysFile, CoresFile, HoldsSafe, EndsRun, ReplaysFiles, Ends, NoFault, Says, SaysOutput, AnswersFiles, HoldsGood, HoldAccepted, HoldsTree, IsTextFor, Refuses, IsOneOf, ReadFails}
 use Rattle.cap_top.proofs.Reading.{held-given, were-given, agree-given, first-given, given-held, given-unread}
 
 -- ---- the statuses of outputs
@@ -123,6 +124,10 @@ checked_answers : (p : PlainProgram) (bytes : List ℕ) (o : Output) → IsCheck
 checked_answers p bytes o (inl k) = answer_as o (bad_derivation_output k.error) k.whole tt
 checked_answers p bytes o (inr k) = answer_as o (judged_output k.answer) k.whole (judged_answers k.answer)
 
+outline_answers : (p : PlainProgram) (bytes : List ℕ) (o : Output) → IsOutline p bytes o → IsAnswer o.status
+outline_answers p bytes o (inl k) = answer_as o (outline_output _) k.whole tt
+outline_answers p bytes o (inr k) = checked_answers p bytes o k.checked
+
 shown_answers : (bytes : List ℕ) (o : Output) → IsShown bytes o → IsAnswer o.status
 shown_answers bytes o (inl c) = cause_answers (SpellNone bytes) o c
 shown_answers bytes o (inr s) = answer_as o (tree_output (canonical_text s.thing)) s.said tt
@@ -169,6 +174,13 @@ module _ (shelf shelf_now : SeenShelf) where
       (after_ended (IsChecked h.program) (checked_answers h.program) s y o h.said)
   settled (check name s) [] o f h = absurd h
   settled (check name s) (x ∷ (y ∷ (z ∷ zs))) o f h = absurd h
+  settled (outline name s) (x ∷ []) o f h =
+      settled_by (Some (outline name s)) name x o.status (inl refl) f.0 (after_ended SaysRefusal (λ bytes q c. cause_answers (IsRefused bytes) q c) name x o h)
+  settled (outline name s) (x ∷ (y ∷ [])) o f h =
+      settled_by (Some (outline name s)) s y o.status (inr (inl refl)) f.1.0
+      (after_ended (IsOutline h.program) (outline_answers h.program) s y o h.said)
+  settled (outline name s) [] o f h = absurd h
+  settled (outline name s) (x ∷ (y ∷ (z ∷ zs))) o f h = absurd h
   settled (show name) (x ∷ []) o f h =
       settled_by (Some (show name)) name x o.status (inl refl) f.0 (after_ended IsShown shown_answers name x o h)
   settled (show name) [] o f h = absurd h
@@ -416,6 +428,39 @@ module _ (shelf shelf_now : SeenShelf) (file derivation : List ℕ) (o : Output)
   accepted_by safe [] f h e = absurd h
   accepted_by safe (x ∷ (y ∷ (z ∷ zs))) f h e = absurd h
 
+-- ---- outlines
+
+module _ (shelf shelf_now : SeenShelf) (sink sink_now : SeenSink) (file derivation : List ℕ) (o : Output) where
+  outlined_late : OutlinesAreTold → (bytes : List ℕ) (p : PlainProgram) (x y : Fetched) → x ≡ held bytes
+      → IsTextOf bytes p → AreRead shelf shelf_now (file ∷ (derivation ∷ [])) (x ∷ (y ∷ []))
+      → After derivation y (IsOutline p) o → o.status ≡ Good → Gains sink.written sink_now.written o.text
+      → OutlinesFiles shelf shelf_now file derivation sink sink_now
+  outlined_late told bytes p x (held lines) gave t f h e g = record {
+    bytes = bytes;
+    lines = lines;
+    read = both-read shelf shelf_now file derivation bytes lines x gave f;
+    text = o.text;
+    outlined = told bytes lines p o t h e;
+    gains = g;
+  }
+  outlined_late told bytes p x unread gave t f h e g =
+      let k : ReadFault ≡ Good = sym (same_status o (unreadable_output derivation) h) ∙ e in absurd cc
+  outlined_late told bytes p x long gave t f h e g =
+      let k : Refused ≡ Good = sym (same_status o long_output h) ∙ e in absurd cc
+
+  outlined_by : OutlinesAreTold → (got : List Fetched) → AreRead shelf shelf_now (file ∷ (derivation ∷ [])) got
+      → IsOutput (Some (outline file derivation)) got o → o.status ≡ Good → Gains sink.written sink_now.written o.text
+      → OutlinesFiles shelf shelf_now file derivation sink sink_now
+  outlined_by told (x ∷ (y ∷ [])) f h e g =
+      outlined_late told h.bytes h.program x y h.gave h.text_of_it f h.said e g
+  outlined_by told (held bytes ∷ []) f h e g =
+      let k : Refused ≡ Good = sym (same_status o (refusal_output h.cause) h.whole) ∙ e in absurd cc
+  outlined_by told (unread ∷ []) f h e g =
+      let k : ReadFault ≡ Good = sym (same_status o (unreadable_output file) h) ∙ e in absurd cc
+  outlined_by told (long ∷ []) f h e g = let k : Refused ≡ Good = sym (same_status o long_output h) ∙ e in absurd cc
+  outlined_by told [] f h e g = absurd h
+  outlined_by told (x ∷ (y ∷ (z ∷ zs))) f h e g = absurd h
+
 -- ---- replays
 
 module _ (shelf shelf_now : SeenShelf) (sink sink_now : SeenSink) (file schedule : List ℕ) where
@@ -599,6 +644,18 @@ module _ (command : Option PlainCommand) (shelf shelf_now : SeenShelf) (sink sin
           (subst (λ x. IsOutput x said.got o) t said.output.said) (sym p.0 ∙ e)
       by (inl (o, said, inr p)) = let f : WriteFault ≡ Good = sym p.0 ∙ e in absurd cc
 
+  pub outlined_run : OutlinesAreTold → (file derivation : List ℕ) → command ≡ Some (outline file derivation) → status ≡ Good
+      → OutlinesFiles shelf shelf_now file derivation sink sink_now
+  outlined_run told file derivation t e = by run
+    where
+      by : Runs → OutlinesFiles shelf shelf_now file derivation sink sink_now
+      by (inr m) = let f : NoMemory ≡ Good = sym m.0 ∙ e in absurd cc
+      by (inl (o, said, inl p)) =
+          outlined_by shelf shelf_now sink sink_now file derivation o told said.got
+          (subst (λ x. AreRead shelf shelf_now (files_of x) said.got) t said.read)
+          (subst (λ x. IsOutput x said.got o) t said.output.said) (sym p.0 ∙ e) p.1
+      by (inl (o, said, inr p)) = let f : WriteFault ≡ Good = sym p.0 ∙ e in absurd cc
+
   pub shown_run : (name : List ℕ) → command ≡ Some (show name) → status ≡ Good → ShowsFile shelf shelf_now name sink sink_now
   shown_run name t e = by run
     where
@@ -774,6 +831,27 @@ module _ (files : Files) (command : Option PlainCommand) (shelf shelf_now : Seen
       (subst (λ x. AreGiven files (files_of x) got) (sym t) given)
       (subst (λ x. IsOutput x got o) (sym t) is))
 
+  outlines_told : CheckedAreOutlined → (file derivation : List ℕ) → command ≡ Some (outline file derivation)
+      → HoldAccepted file derivation files → (status ≡ Good) ⊎ (status ≡ NoMemory)
+  outlines_told outlines file derivation t h =
+      let k = outlines h.program h.lines (judged_output (Ok h.accepted.nodes)) h.accepted.checked.said in
+      let got : List Fetched = held h.bytes ∷ (held h.lines ∷ []) in
+      let given : AreGiven files (file ∷ (derivation ∷ [])) got = (
+        held-given (content files file) h.bytes h.held (short h.bytes h.text_of_it.tree h.text_of_it.spelled),
+        (held-given (content files derivation) h.lines h.lines_held h.short, tt),
+      ) in
+      let is : IsOutput (Some (outline file derivation)) got k.0 = record {
+        bytes = h.bytes;
+        gave = refl;
+        program = h.program;
+        text_of_it = record { tree = h.text_of_it.tree; spelled = h.text_of_it.spelled; stands = h.text_of_it.stands };
+        said = k.1;
+      } in
+      good_status k.0 k.2
+      (each_told got k.0
+      (subst (λ x. AreGiven files (files_of x) got) (sym t) given)
+      (subst (λ x. IsOutput x got k.0) (sym t) is))
+
   -- ---- what is said of bytes that are no text for the command
 
   -- what is said of a file that gives such bytes, or more than a file may have
@@ -853,6 +931,15 @@ module _ (files : Files) (command : Option PlainCommand) (shelf shelf_now : Seen
       let g : given_by (Some bytes) ≡ held h.bytes = first_gives file name (s ∷ []) names x (y ∷ []) e bytes c f ∙ h.gave in
       let same : bytes ≡ h.bytes = given-held bytes h.bytes g in
       absurd (n (h.program, subst (λ b. IsTextOf b h.program) (sym same) h.text_of_it))
+  refused_output (outline file s) name names bytes (x ∷ []) o e c n f h =
+      refused_after SaysRefusal file bytes x o (λ k. refused_cause (IsRefused bytes) o k)
+      (first_gives file name (s ∷ []) names x [] e bytes c f) h
+  refused_output (outline file s) name names bytes (x ∷ (y ∷ [])) o e c n f h =
+      let g : given_by (Some bytes) ≡ held h.bytes = first_gives file name (s ∷ []) names x (y ∷ []) e bytes c f ∙ h.gave in
+      let same : bytes ≡ h.bytes = given-held bytes h.bytes g in
+      absurd (n (h.program, subst (λ b. IsTextOf b h.program) (sym same) h.text_of_it))
+  refused_output (outline file s) name names bytes [] o e c n f h = absurd h
+  refused_output (outline file s) name names bytes (x ∷ (y ∷ (z ∷ zs))) o e c n f h = absurd h
   refused_output (stray file number count) name names bytes (x ∷ []) o e c n f h =
       refused_after (IsStrayed number count) file bytes x o
       (refused_strayed number count bytes o (λ p t. n (p, t)))
@@ -915,6 +1002,12 @@ module _ (command : Option PlainCommand) (shelf shelf_now : SeenShelf) (sink sin
   accepts_run = over (λ files. (file derivation : List ℕ) → command ≡ Some (check file derivation)
       → HoldAccepted file derivation files → (status ≡ Good) ⊎ (status ≡ NoMemory))
       (λ files e n. accepts_told files command shelf shelf_now e sink sink_now status run n.0 n.1)
+
+  pub outlines_run : CheckedAreOutlined → Over (λ files. (file derivation : List ℕ) → command ≡ Some (outline file derivation)
+      → HoldAccepted file derivation files → (status ≡ Good) ⊎ (status ≡ NoMemory))
+  outlines_run outlines = over (λ files. (file derivation : List ℕ) → command ≡ Some (outline file derivation)
+      → HoldAccepted file derivation files → (status ≡ Good) ⊎ (status ≡ NoMemory))
+      (λ files e n. outlines_told files command shelf shelf_now e sink sink_now status run n.0 n.1 outlines)
 
   pub spares_run : SafeProgramsHaveNone → Over (λ files. (name : List ℕ) (number count : ℕ)
       → command ≡ Some (stray name number count) → HoldsSafe name files → (status ≡ Good) ⊎ (status ≡ NoMemory))

@@ -6,10 +6,11 @@ use Rattle.cap_io.specs.Outside.{longest, counted, IsCounted, Rose}
 use Rattle.cap_prog.specs.Program.{PlainProgram}
 use Rattle.cap_top_reading.specs.Refused.{IsTextOf}
 use Rattle.cap_top_commands.specs.declared.output.Output as code
-use Rattle.cap_top_commands.specs.Answers.{Fetched, held, unread, long, After, SaysRefusal, IsPlayed, IsReplayed, IsJudged, ByTwo, IsOutput, IsOnly, IsOnlyOutput, IsOnlyTextOf, Agree}
+use Rattle.cap_top_commands.specs.Answers.{Fetched, held, unread, long, After, SaysRefusal, IsPlayed, IsReplayed, IsJudged, IsOutlined, ByTwo, IsOutput, IsOnly, IsOnlyOutput, IsOnlyTextOf, Agree}
 use Rattle.cap_top_commands.specs.Derivations.{IsChecked}
+use Rattle.cap_top_commands.specs.Outlines.{IsOutline}
 use Rattle.cap_top_commands.specs.Output.{Output, unreadable_output, long_output}
-use Rattle.cap_top_words.specs.Meaning.{PlainCommand, check, replay}
+use Rattle.cap_top_words.specs.Meaning.{PlainCommand, check, replay, outline}
 use Rattle.cap_top_commands.specs.Commands.{files_of}
 use Rattle.cap_top_commands.specs.Views.{output_view}
 use Rattle.cap_top_commands.specs.declared.beginning.Begun.{Begun}
@@ -120,6 +121,15 @@ checking file derivation = record {
   early = λ x o h. let k = early_only file (IsJudged derivation) x o h in record { said = k.said; only = k.only };
   late = λ bytes y p o t h.
       let k = late_only file (IsJudged derivation) bytes y p o t (record { said = h.said; only = h.only }) in
+      record { said = k.said; only = k.only };
+}
+
+pub outlining : (file derivation : List ℕ) → Answering (outline file derivation) file derivation IsOutline
+outlining file derivation = record {
+  files = refl;
+  early = λ x o h. let k = early_only file (IsOutlined derivation) x o h in record { said = k.said; only = k.only };
+  late = λ bytes y p o t h.
+      let k = late_only file (IsOutlined derivation) bytes y p o t (record { said = h.said; only = h.only }) in
       record { said = k.said; only = k.only };
 }
 

@@ -17,11 +17,12 @@ use Rattle.cap_top_commands.specs.cap_top_report.Found.{found_trees}
 use Rattle.cap_deriv_write.specs.Written.{derivation_text}
 use Rattle.cap_top_commands.specs.Good.{IsGood, IsAccepted}
 use Rattle.cap_top_commands.specs.Needed.{TellsCores}
+use Rattle.cap_top_commands.specs.Outlines.{TellsOutline}
 use Rattle.cap_top_commands.specs.SafeText.{IsSafeText}
 use Rattle.cap_gen_schedules.specs.Laws.{AsksForNothing}
 use Rattle.cap_top_commands.specs.Startless.{SaysEmpty, IsStartlessText}
 use Rattle.cap_top_commands.specs.Answers.{Fetched, IsPlayedAs, IsOutput, AreAccepted, FaultsAlong}
-use Rattle.cap_top_words.specs.Meaning.{PlainCommand, verify, derive, check, show, replay, trial, stray, core}
+use Rattle.cap_top_words.specs.Meaning.{PlainCommand, verify, derive, check, show, replay, trial, outline, stray, core}
 use Rattle.cap_top_commands.specs.Commands.{files_of}
 use Rattle.cap_top_commands.specs.Output.{Output, end_status}
 use Rattle.cap_top.specs.Verified.{IsRead}
@@ -81,6 +82,17 @@ pub record ChecksFiles (shelf shelf_now : SeenShelf) (file derivation : List ℕ
   pub lines : List ℕ
   pub read : AreBothRead shelf shelf_now file bytes derivation lines
   pub accepted : IsAccepted bytes lines
+
+-- The bytes that the first file gave are the text of a safe program, those of the second the lines of
+-- a valid derivation of it, and the sink has gained its outline: the states that hold in each run.
+pub record OutlinesFiles (shelf shelf_now : SeenShelf) (file derivation : List ℕ)
+    (sink sink_now : SeenSink) : Type 0 where
+  pub bytes : List ℕ
+  pub lines : List ℕ
+  pub read : AreBothRead shelf shelf_now file bytes derivation lines
+  pub text : List ℕ
+  pub outlined : TellsOutline bytes lines text
+  pub gains : Gains sink.written sink_now.written text
 
 -- the bytes spell a tree, of which this is the canonical text
 pub record IsShownAs (bytes text : List ℕ) : Type 0 where
@@ -216,6 +228,7 @@ IsTextFor (check name derivation) bytes = (p : PlainProgram) × IsTextOf bytes p
 IsTextFor (show name) bytes = (t : ProgramTree) × Spells bytes t
 IsTextFor (replay name schedule) bytes = (p : PlainProgram) × IsTextOf bytes p
 IsTextFor (trial n) bytes = Unit {0}
+IsTextFor (outline name derivation) bytes = (p : PlainProgram) × IsTextOf bytes p
 IsTextFor (stray name number count) bytes = (p : PlainProgram) × IsTextOf bytes p
 IsTextFor (core name) bytes = (p : PlainProgram) × IsTextOf bytes p
 

@@ -4,6 +4,7 @@ ghost use Rattle.cap_prog.specs.Views.{program_view};
 ghost use Rattle.cap_top_commands.specs.Answers.{After, IsVerified, IsDerived, IsShown};
 ghost use Rattle.cap_top_commands.specs.Answers.{IsPlayed, IsStrayed, IsCored, IsOnly};
 ghost use Rattle.cap_top_commands.specs.Derivations.{IsChecked};
+ghost use Rattle.cap_top_commands.specs.Outlines.{IsOutline};
 ghost use Rattle.cap_top_commands.specs.Views.{output_view};
 ghost use Rattle.cap_io.specs.Files.{HasGiven};
 ghost use Rattle.cap_io.specs.Outside.{IsCounted};
@@ -12,7 +13,9 @@ ghost use Rattle.cap_top.specs.Views.{fetched_view, BeginsAfter};
 
 use cap_io::{FetchError, Shelf};
 use cap_prog::Program;
-use cap_top_commands::{Begun, Output, begin, check, core, derive, play, show, stray, verify};
+use cap_top_commands::{
+    Begun, Output, begin, check, core, derive, outline, play, show, stray, verify,
+};
 use std::alloc::{AllocError, Global};
 
 /// What a file gave: its bytes, nothing, or more bytes than a file may have.
@@ -103,6 +106,24 @@ pub(crate) fn check_file<'a>(
 {
     match file {
         Fetched::Held(bytes) => check(alloc, program, bytes.as_slice()),
+        Fetched::Unread => Ok(Output::Unreadable(name)),
+        Fetched::Long => Ok(Output::TooLong),
+    }
+}
+
+/// What is said of the outline of a derivation whose file gave this.
+pub(crate) fn outline_file<'a>(
+    alloc: Global,
+    program: &Program,
+    name: &'a str,
+    file: Fetched,
+) -> Result<Output<'a>, AllocError>
+    ensures { IfOk result (λ o.
+        IsOnly (After name.now (fetched_view file) (IsOutline (program_view program.now)))
+        (output_view o)) }
+{
+    match file {
+        Fetched::Held(bytes) => outline(alloc, program, bytes.as_slice()),
         Fetched::Unread => Ok(Output::Unreadable(name)),
         Fetched::Long => Ok(Output::TooLong),
     }

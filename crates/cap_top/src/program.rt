@@ -2,7 +2,7 @@
 ghost use Rattle.std.specs.Prelude.{◌≡◌, ◌⊎◌, ℕ, List, IfOk, IfSome, Some, None};
 ghost use Rattle.cap_io.specs.Outside.{Rose};
 ghost use Rattle.cap_top_words.specs.Meaning.{verify, derive, check, show, replay, trial};
-ghost use Rattle.cap_top_words.specs.Meaning.{stray, core, default_budget};
+ghost use Rattle.cap_top_words.specs.Meaning.{outline, stray, core, default_budget};
 ghost use Rattle.cap_gen.specs.Trial.{trial_text};
 ghost use Rattle.cap_top_commands.specs.Answers.{IsVerified, IsDerived};
 ghost use Rattle.cap_top_commands.specs.Commands.{meant_by};
@@ -14,21 +14,21 @@ ghost use Rattle.cap_top_commands.specs.declared.status.Status.TheVariants.{Writ
 ghost use Rattle.cap_top.specs.Verified.{VerifiesFile};
 ghost use Rattle.cap_top.specs.Promise.{ProvesFile, FailsFile};
 ghost use Rattle.cap_top.specs.Promise.{DerivesFile, ChecksFiles, ShowsFile};
-ghost use Rattle.cap_top.specs.Promise.{StraysFile, CoresFile, HoldsSafe};
+ghost use Rattle.cap_top.specs.Promise.{OutlinesFiles, StraysFile, CoresFile, HoldsSafe};
 ghost use Rattle.cap_top.specs.Promise.{EndsRun, ReplaysFiles, Ends, NoFault, AnswersFiles};
 ghost use Rattle.cap_top.specs.Promise.{HoldsGood, HoldAccepted, HoldsTree, Refuses, ReadFails};
 ghost use Rattle.cap_top.specs.Run.{IsSaid, IsRun};
 
 use crate::fetching::{
-    begin_file, check_file, core_file, derive_file, fetch, play_file, show_file, stray_file,
-    verify_file,
+    begin_file, check_file, core_file, derive_file, fetch, outline_file, play_file, show_file,
+    stray_file, verify_file,
 };
 use cap_gen_schedules::safe_programs_have_none;
 use cap_io::{Shelf, Sink};
 use cap_top_commands::{
-    Begun, Output, Status, accepted_are_safe, cores_are_told, derived_are_accepted,
-    empty_answers_have_no_start, good_answers_are_safe, good_trials_are_safe,
-    safe_texts_have_no_stray, strays_fault, trial,
+    Begun, Output, Status, accepted_are_safe, checked_are_outlined, cores_are_told,
+    derived_are_accepted, empty_answers_have_no_start, good_answers_are_safe, good_trials_are_safe,
+    outlines_are_told, safe_texts_have_no_stray, strays_fault, trial,
 };
 use cap_top_words::{Command, read_command};
 use std::alloc::{AllocError, Global};
@@ -76,6 +76,27 @@ fn check_files<'a, S: Shelf>(
     }
 }
 
+/// What is said of an outline: the files are read as those of a derivation that is judged.
+fn outline_files<'a, S: Shelf>(
+    alloc: Global,
+    shelf: &mut S,
+    file: &'a str,
+    derivation: &'a str,
+) -> Result<Output<'a>, AllocError>
+    ensures kept { (S.seen shelf.new).holds ≡ (S.seen shelf.old).holds }
+    ensures said { IfOk result (λ o. IsSaid (S.seen shelf.old) (S.seen shelf.new)
+        (Some (outline file.now derivation.now)) (output_view o)) }
+{
+    let fetched = fetch(shelf, file)?;
+    match begin_file(alloc, file, fetched)? {
+        Begun::Said(output) => Ok(output),
+        Begun::Program(program) => {
+            let fetched = fetch(shelf, derivation)?;
+            outline_file(alloc, &program, derivation, fetched)
+        }
+    }
+}
+
 /// What is said for these words: each file is read in the order of the words.
 fn respond<'a, S: Shelf>(
     alloc: Global,
@@ -102,6 +123,9 @@ fn respond<'a, S: Shelf>(
         }
         Some(Command::Replay { file, schedule }) => replay_files(alloc, shelf, file, schedule),
         Some(Command::Trial { number }) => trial(alloc, number),
+        Some(Command::Outline { file, derivation }) => {
+            outline_files(alloc, shelf, file, derivation)
+        }
         Some(
             Command::Stray {
                 file,
@@ -190,6 +214,15 @@ pub fn run<S: Shelf, K: Sink>(
         → meant_by words.now ≡ Some (check file derivation) → result ≡ Good
         → ChecksFiles (S.seen shelf.old) (S.seen shelf.new) file derivation }
 
+    // Where `outline` ends well, the derivation that was given is valid, and the sink has gained its
+    // outline. Each run of the program, from each start, of every length and along every schedule,
+    // has accounts as those of a safe program, by which, whenever a thread comes to a statement,
+    // one of the states at the statement holds of its frame.
+    ensures outlined { (file derivation : List ℕ)
+        → meant_by words.now ≡ Some (outline file derivation) → result ≡ Good
+        → OutlinesFiles (S.seen shelf.old) (S.seen shelf.new) file derivation
+        (K.seen sink.old) (K.seen sink.new) }
+
     // Where `show` ends well, the text that was given is shown: the canonical one of its tree.
     ensures shown { (name : List ℕ) → meant_by words.now ≡ Some (show name) → result ≡ Good
         → ShowsFile (S.seen shelf.old) (S.seen shelf.new) name
@@ -223,8 +256,9 @@ pub fn run<S: Shelf, K: Sink>(
     ensures kept { (S.seen shelf.new).holds ≡ (S.seen shelf.old).holds }
 
     // Where no fault comes the files give an output, the one that is said, and no other, unless
-    // memory runs out: a program all of which is proved is told so, the text of a tree is shown,
-    // no schedule is found of a safe program, and what is no text is refused.
+    // memory runs out: a program all of which is proved is told so, the text of a tree is shown, a
+    // derivation that `check` accepts is accepted and has an outline, no schedule is found of a
+    // safe program, and what is no text is refused.
     ensures answers { IfSome (S.seen shelf.old).holds (λ files.
         NoFault (S.seen shelf.old) (S.seen shelf.new) (K.seen sink.old) (K.seen sink.new)
         → AnswersFiles (meant_by words.now) files (K.seen sink.old) (K.seen sink.new) result) }
@@ -242,6 +276,10 @@ pub fn run<S: Shelf, K: Sink>(
     ensures accepts { IfSome (S.seen shelf.old).holds (λ files.
         NoFault (S.seen shelf.old) (S.seen shelf.new) (K.seen sink.old) (K.seen sink.new)
         → (file derivation : List ℕ) → meant_by words.now ≡ Some (check file derivation)
+        → HoldAccepted file derivation files → (result ≡ Good) ⊎ (result ≡ NoMemory)) }
+    ensures outlines { IfSome (S.seen shelf.old).holds (λ files.
+        NoFault (S.seen shelf.old) (S.seen shelf.new) (K.seen sink.old) (K.seen sink.new)
+        → (file derivation : List ℕ) → meant_by words.now ≡ Some (outline file derivation)
         → HoldAccepted file derivation files → (result ≡ Good) ⊎ (result ≡ NoMemory)) }
     ensures spares { IfSome (S.seen shelf.old).holds (λ files.
         NoFault (S.seen shelf.old) (S.seen shelf.new) (K.seen sink.old) (K.seen sink.new)
@@ -272,5 +310,7 @@ pub fn run<S: Shelf, K: Sink>(
     safe_texts_have_no_stray();
     safe_programs_have_none();
     cores_are_told();
+    outlines_are_told();
+    checked_are_outlined();
     perform(alloc, words, shelf, sink)
 }

@@ -64,6 +64,19 @@ whole-told bytes trees cs h = ap (λ o. error_of (end_of_opening o)) h ∙ ap er
 no-memory : (bytes : List ℕ) (e : DerivError) → IsBadDerivation bytes e → e ≡ OutOfMemory → ⊥
 no-memory bytes e h m = subst (IsBadDerivation bytes) m h
 
+same-trees : (a b : ℕ) (s t : Told) → opening_told a s ≡ opening_told b t → a ≡ b
+same-trees a b s t h = cc
+
+same-told : (a b : ℕ) (s t : Told) → opening_told a s ≡ opening_told b t → s ≡ t
+same-told a b s t h = cc
+
+-- the choices of lines are one list
+pub one_list : (bytes : List ℕ) (a b : ℕ) (cs ds : List PlainChoice) → told_by_bytes bytes ≡ opening_told a (choices_told cs all_told)
+    → told_by_bytes bytes ≡ opening_told b (choices_told ds all_told) → cs ≡ ds
+one_list bytes a b cs ds h k =
+    let e = same-told a b (choices_told cs all_told) (choices_told ds all_told) (sym h ∙ k) in
+    sym (in-told cs) ∙ (ap choices_in e ∙ in-told ds)
+
 module _ (p : PlainProgram) (bytes : List ℕ) where
   apart : {A : Type 0} (trees : ℕ) (cs : List PlainChoice) (e : DerivError)
       → told_by_bytes bytes ≡ opening_told trees (choices_told cs all_told) → IsBadDerivation bytes e → A
@@ -77,12 +90,6 @@ module _ (p : PlainProgram) (bytes : List ℕ) where
       by q (inl k) = ap bad_derivation_output (sym (is-error bytes e h) ∙ is-error bytes k.error k.bad) ∙ sym k.whole
       by q (inr k) = apart k.trees k.choices e k.told h
 
-  same-trees : (a b : ℕ) (s t : Told) → opening_told a s ≡ opening_told b t → a ≡ b
-  same-trees a b s t h = cc
-
-  same-told : (a b : ℕ) (s t : Told) → opening_told a s ≡ opening_told b t → s ≡ t
-  same-told a b s t h = cc
-
   pub judged_only : JudgementsAreOne → (trees : ℕ) (cs : List PlainChoice) (r : Result ℕ CheckError)
       → told_by_bytes bytes ≡ opening_told trees (choices_told cs all_told) → Judged p trees cs r
       → IsOnly (IsChecked p bytes) (judged_output r)
@@ -94,12 +101,16 @@ module _ (p : PlainProgram) (bytes : List ℕ) where
       by : (q : Output) → IsChecked p bytes q → judged_output r ≡ q
       by q (inl k) = apart trees cs k.error h k.bad
       by q (inr k) =
-          let e = sym k.told ∙ h in
-          let ts = same-trees k.trees trees (choices_told k.choices all_told) (choices_told cs all_told) e in
-          let ds = same-told k.trees trees (choices_told k.choices all_told) (choices_told cs all_told) e in
-          let same : k.choices ≡ cs = sym (in-told k.choices) ∙ (ap choices_in ds ∙ in-told cs) in
+          let ts = same-trees k.trees trees (choices_told k.choices all_told) (choices_told cs all_told) (sym k.told ∙ h) in
+          let same : k.choices ≡ cs = one_list bytes k.trees trees k.choices cs k.told h in
           let k' : Judged p trees cs k.answer = subst (λ n. Judged p n cs k.answer) ts (subst (λ xs. Judged p k.trees xs k.answer) same k.judged) in
           ap judged_output (one p trees cs r k.answer j k') ∙ sym k.whole
+
+  -- what is said of lines is nothing else
+  pub checked_only : JudgementsAreOne → (o : Output) → IsChecked p bytes o → IsOnly (IsChecked p bytes) o
+  checked_only one o (inl k) = subst (IsOnly (IsChecked p bytes)) (sym k.whole) (bad_only k.error k.bad)
+  checked_only one o (inr k) =
+      subst (IsOnly (IsChecked p bytes)) (sym k.whole) (judged_only one k.trees k.choices k.answer k.told k.judged)
 
 -- ---- the judge follows the lines
 
@@ -141,7 +152,7 @@ module _ (p : PlainProgram) (bytes : List ℕ) where
   bad_first OutOfMemory h m = absurd (m refl)
 
   -- what is said of bad lines, unless memory is short
-  abbrev SaysBad : DerivError → Result code.Output AllocError → Type 0
+  abbrev pub SaysBad : DerivError → Result code.Output AllocError → Type 0
   SaysBad e r = MatchResult r (λ o. (output_view o ≡ bad_derivation_output e) × (e ≢ OutOfMemory)) (λ _. e ≡ OutOfMemory)
 
   says_bad : (e : DerivError) (r : Result code.Output AllocError) → SaysBad e r → (e ≢ OutOfMemory → IsBadDerivation bytes e)

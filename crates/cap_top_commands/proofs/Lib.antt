@@ -8,4 +8,5 @@ mod Following
 mod Deriving
 mod Accepting
 mod Coring
+mod Outlines
 pub mod Strays

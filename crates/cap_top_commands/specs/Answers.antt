@@ -26,9 +26,10 @@ use Rattle.cap_top_commands.specs.declared.status.Status.TheVariants.{Good, Bad}
 use Rattle.cap_top_commands.specs.Good.{IsGood, IsProvedText, IsAccepted}
 use Rattle.cap_top_commands.specs.SafeText.{IsSafeText}
 use Rattle.cap_top_commands.specs.Startless.{SaysEmpty, IsStartlessText}
-use Rattle.cap_top_words.specs.Meaning.{PlainCommand, verify, derive, check, show, replay, trial, stray, core, default_budget}
+use Rattle.cap_top_words.specs.Meaning.{PlainCommand, verify, derive, check, show, replay, trial, outline, stray, core, default_budget}
 use Rattle.cap_top_commands.specs.Report.{IsReport, IsCoresReport}
 use Rattle.cap_top_commands.specs.Derivations.{IsDerivation, IsChecked}
+use Rattle.cap_top_commands.specs.Outlines.{IsOutline}
 use Rattle.cap_top_commands.specs.Output.{Output, usage_output, unreadable_output, long_output, refusal_output, tree_output, schedule_output, run_output, judged_output, trial_output, no_start_output, stray_output, no_stray_output}
 
 -- ---- by the bytes of a text
@@ -178,6 +179,10 @@ IsReplayed name p x o = After name x (IsPlayed p) o
 abbrev pub IsJudged : List ℕ → PlainProgram → Fetched → Output → Type 0
 IsJudged name p x o = After name x (IsChecked p) o
 
+-- what is said of its outline once the derivation's file gave this
+abbrev pub IsOutlined : List ℕ → PlainProgram → Fetched → Output → Type 0
+IsOutlined name p x o = After name x (IsOutline p) o
+
 -- no file is read
 abbrev pub ByNone : (Output → Type 0) → List Fetched → Output → Type 0
 ByNone IsSaid [] o = IsSaid o
@@ -195,6 +200,7 @@ IsOutput (Some (check file derivation)) = ByTwo file (IsJudged derivation)
 IsOutput (Some (show file)) = ByOne file IsShown
 IsOutput (Some (replay file schedule)) = ByTwo file (IsReplayed schedule)
 IsOutput (Some (trial n)) = ByNone (IsTrial n)
+IsOutput (Some (outline file derivation)) = ByTwo file (IsOutlined derivation)
 IsOutput (Some (stray file number count)) = ByOne file (IsStrayed number count)
 IsOutput (Some (core file)) = ByOne file IsCored
 

@@ -9,6 +9,7 @@ pub mod Good
 pub mod Startless
 pub mod Answers
 pub mod Needed
+pub mod Outlines
 pub mod Views
 pub mod Beginning
 pub use Rattle.cap_kernel_check.specs as cap_kernel_check

@@ -23,7 +23,7 @@ pub record Output : Type 0 where
 
 abbrev pub usage_line : List ℕ
 usage_line =
-    codes "usage: caper verify FILE [--budget N] | derive FILE [--budget N] | check FILE DERIVATION | replay FILE SCHEDULE | show FILE | trial N | stray FILE N M | core FILE\n"
+    codes "usage: caper verify FILE [--budget N] | derive FILE [--budget N] | check FILE DERIVATION | replay FILE SCHEDULE | show FILE | trial N | outline FILE DERIVATION | stray FILE N M | core FILE\n"
 
 abbrev pub usage_output : Output
 usage_output = record { status = Usage; text = usage_line }
@@ -93,6 +93,10 @@ judged_line (Err judge.OutOfMemory) = []
 
 abbrev pub judged_output : Result ℕ CheckError → Output
 judged_output r = record { status = judged_status r; text = judged_line r }
+
+-- the states at each statement
+abbrev pub outline_output : List ℕ → Output
+outline_output text = record { status = Good; text = text }
 
 -- ---- of a schedule
 

@@ -2,8 +2,8 @@
 use Rattle.cap_top_reading.specs.declared.refusal.Refusal.{Refusal}
 use Rattle.cap_top_reading.specs.declared.refusal.Refusal.TheVariants.{OutOfMemory}
 use Rattle.cap_top_commands.specs.declared.output.Output as code
-use Rattle.cap_top_commands.specs.declared.output.Output.TheVariants.{Usage, Unreadable, TooLong, Refused, Reported, Derived, DerivedTooLong, BadDerivation, Judged, Shown, BadSchedule, Played, Tried, NoStart, Stray, NoStray}
-use Rattle.cap_top_commands.specs.Output.{Output, usage_output, unreadable_output, long_output, refusal_output, report_output, derivation_output, long_derivation_output, bad_derivation_output, judged_output, tree_output, schedule_output, run_output, trial_output, no_start_output, stray_output, no_stray_output}
+use Rattle.cap_top_commands.specs.declared.output.Output.TheVariants.{Usage, Unreadable, TooLong, Refused, Reported, Derived, DerivedTooLong, BadDerivation, Judged, Outlined, Shown, BadSchedule, Played, Tried, NoStart, Stray, NoStray}
+use Rattle.cap_top_commands.specs.Output.{Output, usage_output, unreadable_output, long_output, refusal_output, report_output, derivation_output, long_derivation_output, bad_derivation_output, judged_output, outline_output, tree_output, schedule_output, run_output, trial_output, no_start_output, stray_output, no_stray_output}
 
 abbrev pub output_view : code.Output → Output
 output_view Usage = usage_output
@@ -15,6 +15,7 @@ output_view (Derived text) = derivation_output text.items
 output_view DerivedTooLong = long_derivation_output
 output_view (BadDerivation e) = bad_derivation_output e
 output_view (Judged r) = judged_output r
+output_view (Outlined text) = outline_output text.items
 output_view (Shown text) = tree_output text.items
 output_view (BadSchedule e) = schedule_output e
 output_view (Played p) = run_output p.text.items p.end

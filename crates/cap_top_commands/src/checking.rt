@@ -18,7 +18,7 @@ use cap_prog::Program;
 use std::alloc::{AllocError, Global};
 
 /// What is said of bytes that are no derivation's lines, unless for want of memory.
-fn bad_lines<'a>(error: DerivError) -> Result<Output<'a>, AllocError>
+pub(crate) fn bad_lines<'a>(error: DerivError) -> Result<Output<'a>, AllocError>
     ensures { MatchResult result
         (λ o. (output_view o ≡ bad_derivation_output error) × (error ≢ OutOfMemory))
         (λ _. error ≡ OutOfMemory) }

@@ -1,11 +1,12 @@
 //! Laws: a good answer means a safe program, `check` accepts what `derive` writes, a program that is
-//! said to have an empty precondition has no start, a schedule that is drawn ends in a fault, and
-//! the rows that a proof is said to need are needed.
+//! said to have an empty precondition has no start, a schedule that is drawn ends in a fault, the rows
+//! that a proof is said to need are needed, and the states of an outline hold in every run.
 ghost use Rattle.cap_top_commands.specs.Answers.{AcceptedAreSafe, DerivedAreAccepted};
 ghost use Rattle.cap_top_commands.specs.Answers.{GoodAnswersAreSafe, GoodTrialsAreSafe};
 ghost use Rattle.cap_top_commands.specs.Answers.{EmptyAnswersHaveNoStart, IsVerified, IsDerived};
 ghost use Rattle.cap_top_commands.specs.Answers.{SafeTextsHaveNoStray, StraysFault};
 ghost use Rattle.cap_top_commands.specs.Needed.{CoresAreTold};
+ghost use Rattle.cap_top_commands.specs.Outlines.{CheckedAreOutlined, OutlinesAreTold};
 
 use cap_account::derivations_are_sound;
 use cap_deriv_write::readings_are_lines;
@@ -13,6 +14,7 @@ use cap_gen_schedules::{
     found_schedules_are_read_back, found_schedules_fault, safe_programs_have_none,
 };
 use cap_kernel_check::{judged_are_valid, judgements_are_one};
+use cap_outline_laws::derivations_outline;
 use cap_search_starts::empty_starts_are_none;
 use cap_top_reading::programs_of_texts_are_well_formed;
 use cap_top_report::{found_trees_are_valid, proved_have_cores};
@@ -90,5 +92,23 @@ pub fn cores_are_told()
 {
     good_answers_are_safe();
     proved_have_cores();
+    programs_of_texts_are_well_formed();
+}
+
+/// A law: `outline` says something of all lines of which `check` does, and with the same status.
+pub fn checked_are_outlined()
+    ensures { CheckedAreOutlined }
+{
+    judged_are_valid();
+}
+
+/// A law: what `outline` says of a text's program with a good status is the outline of a valid
+/// derivation, whose states hold in every run of that program.
+pub fn outlines_are_told()
+    ensures { OutlinesAreTold }
+{
+    derivations_are_sound();
+    derivations_outline();
+    readings_are_lines();
     programs_of_texts_are_well_formed();
 }

@@ -7,6 +7,7 @@ mod checking;
 mod cores;
 mod derivation;
 mod laws;
+mod outlining;
 mod output;
 mod replaying;
 mod status;
@@ -19,9 +20,11 @@ pub use checking::check;
 pub use cores::core;
 pub use derivation::derive;
 pub use laws::{
-    accepted_are_safe, cores_are_told, derived_are_accepted, empty_answers_have_no_start,
-    good_answers_are_safe, good_trials_are_safe, safe_texts_have_no_stray, strays_fault,
+    accepted_are_safe, checked_are_outlined, cores_are_told, derived_are_accepted,
+    empty_answers_have_no_start, good_answers_are_safe, good_trials_are_safe, outlines_are_told,
+    safe_texts_have_no_stray, strays_fault,
 };
+pub use outlining::outline;
 pub use output::Output;
 pub use replaying::play;
 pub use status::Status;

@@ -26,6 +26,8 @@ pub enum Output<'a> {
     DerivedTooLong,
     BadDerivation(DerivError),
     Judged(Result<u64, CheckError>),
+    /// The states of an accepted derivation at each statement.
+    Outlined(Vec<u8>),
     Shown(Vec<u8>),
     BadSchedule(ScheduleError),
     Played(Played),
@@ -41,7 +43,7 @@ pub enum Output<'a> {
 
 /// The command line, for words that are none.
 const USAGE: &str =
-    "usage: caper verify FILE [--budget N] | derive FILE [--budget N] | check FILE DERIVATION | replay FILE SCHEDULE | show FILE | trial N | stray FILE N M | core FILE\n";
+    "usage: caper verify FILE [--budget N] | derive FILE [--budget N] | check FILE DERIVATION | replay FILE SCHEDULE | show FILE | trial N | outline FILE DERIVATION | stray FILE N M | core FILE\n";
 
 /// The status of a run that ends so.
 fn end_status(end: End) -> Status
@@ -122,6 +124,7 @@ impl<'a> Output<'a> {
             Output::BadDerivation(_) => Status::Refused,
             Output::Judged(Ok(_)) => Status::Good,
             Output::Judged(Err(_)) => Status::Bad,
+            Output::Outlined(_) => Status::Good,
             Output::Shown(_) => Status::Good,
             Output::BadSchedule(_) => Status::Refused,
             Output::Played(played) => end_status(played.end),
@@ -153,6 +156,7 @@ impl<'a> Output<'a> {
             )?.into_bytes()),
             Output::BadDerivation(error) => derivation_text(alloc, error),
             Output::Judged(answer) => judged_text(alloc, answer),
+            Output::Outlined(text) => Ok(text),
             Output::Shown(text) => Ok(text),
             Output::BadSchedule(error) => schedule_text(alloc, error),
             Output::Played(played) => Ok(played.text),

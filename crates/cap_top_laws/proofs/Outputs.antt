@@ -10,9 +10,10 @@ use Rattle.cap_top_commands.specs.cap_top_report.Cores.{cores_text}
 use Rattle.cap_gen_schedules.specs.Drawn.{seeded, first_fault}
 use Rattle.cap_gen_schedules.specs.Laws.{AsksForNothing}
 use Rattle.cap_top_commands.specs.cap_top_reading.Refused.{IsTextOf}
-use Rattle.cap_top_commands.specs.Answers.{Fetched, held, unread, long, After, IsVerified, IsTrial, IsStray, IsStrayed, IsCored, drawn_output, IsDerived, IsShown, IsReplayed, IsJudged, ByTwo}
+use Rattle.cap_top_commands.specs.Answers.{Fetched, held, unread, long, After, IsVerified, IsTrial, IsStray, IsStrayed, IsCored, drawn_output, IsDerived, IsShown, IsReplayed, IsJudged, IsOutlined, ByTwo}
+use Rattle.cap_top_commands.specs.Outlines.{IsOutline, CheckedAreOutlined}
 use Rattle.cap_top_commands.specs.Output.{Output, usage_output, unreadable_output, long_output, refusal_output, report_output, tree_output, trial_output, no_start_output}
-use Rattle.cap_top_words.specs.Meaning.{verify, derive, check, show, replay, trial, stray, core, default_budget}
+use Rattle.cap_top_words.specs.Meaning.{verify, derive, check, show, replay, trial, outline, stray, core, default_budget}
 use Rattle.cap_top_commands.proofs.Strays.{asks-or}
 use Rattle.cap_top_laws.specs.Given.{given_by, AreGiven}
 use Rattle.cap_top_laws.specs.Laws.{SpellOneOrNone, AreTextOrRefused, BytesAreReadOrRefused, SchedulesAreAnswered, LinesAreAnswered, FoundHaveLines, DerivationsAreAnswered, OutputsExist}
@@ -104,12 +105,18 @@ module _ (files : Files) (first second : List ℕ) (IsSaid : PlainProgram → Fe
 -- ---- a command
 
 module _ (texts : BytesAreReadOrRefused) (schedules : SchedulesAreAnswered) (lines : LinesAreAnswered)
-    (derivations : DerivationsAreAnswered) where
+    (derivations : DerivationsAreAnswered) (outlines : CheckedAreOutlined) where
   replayed : (name : List ℕ) (p : PlainProgram) (y : Fetched) → (o : Output) × IsReplayed name p y o
   replayed name p y = after-one _ name y (λ bytes e. schedules p bytes)
 
   judged : (name : List ℕ) (p : PlainProgram) (y : Fetched) → (o : Output) × IsJudged name p y o
   judged name p y = after-one _ name y (λ bytes e. lines p bytes)
+
+  outlined : (name : List ℕ) (p : PlainProgram) (y : Fetched) → (o : Output) × IsOutlined name p y o
+  outlined name p y = after-one (IsOutline p) name y (λ bytes e.
+      let s = lines p bytes in
+      let t = outlines p bytes s.0 s.1 in
+      (t.0, t.1))
 
   pub output-exists : OutputsExist
   output-exists None files h = record { got = []; given = tt; said = usage_output; output = refl }
@@ -134,6 +141,9 @@ module _ (texts : BytesAreReadOrRefused) (schedules : SchedulesAreAnswered) (lin
       record { got = x ∷ []; given = (refl, tt); said = s.0; output = s.1 }
   output-exists (Some (check file second)) files h =
       let t = after-two files file second (IsJudged second) texts.programs (judged second) (given_by (content files file)) refl in
+      record { got = t.got; given = t.given; said = t.said; output = t.output }
+  output-exists (Some (outline file second)) files h =
+      let t = after-two files file second (IsOutlined second) texts.programs (outlined second) (given_by (content files file)) refl in
       record { got = t.got; given = t.given; said = t.said; output = t.output }
   output-exists (Some (show file)) files h =
       let x = given_by (content files file) in

@@ -3,7 +3,7 @@ use Rattle.std.proofs.Common.{◌≡◌, ◌∙◌, ◌↔◌, ℕ, Bool, cond, 
 use Rattle.std.specs.Prelude.{find, option_and_then, option_map}
 use Rattle.std.specs.Str.{bytes_eq}
 use Rattle.cap_top_words.specs.Number.{number_within}
-use Rattle.cap_top_words.specs.Meaning.{Arguments, Signature, PlainCommand, CommandWord, arguments_of, budget_of, file_and_budget, check, command_of, default_budget, derive, signature_of, signatures, one_operand, replay, show, trial, two_operands, three_operands, verify, stray, stray_of, core}
+use Rattle.cap_top_words.specs.Meaning.{Arguments, Signature, PlainCommand, CommandWord, arguments_of, budget_of, file_and_budget, check, command_of, default_budget, derive, signature_of, signatures, one_operand, replay, show, trial, outline, two_operands, three_operands, verify, stray, stray_of, core}
 use Rattle.cap_top_words.specs.Writing.{HasArguments, IsBudget, IsNumber, IsWritten, budgets_of, operands_of}
 use Rattle.cap_top_words.proofs.Classes.{same_bytes}
 use Rattle.cap_top_words.proofs.Writings.{number_read, number_written, arguments_read, words_written}
@@ -120,7 +120,13 @@ rows = (
         two_row (codes "replay") replay (λ a b budgets operands is none. (refl, is, none)),
         (
           file_row (codes "show") show (λ file budgets operands is none. (refl, is, none)),
-          (trial_row, (stray_row, (file_row (codes "core") core (λ file budgets operands is none. (refl, is, none)), tt))),
+          (
+            trial_row,
+            (
+              two_row (codes "outline") outline (λ a b budgets operands is none. (refl, is, none)),
+              (stray_row, (file_row (codes "core") core (λ file budgets operands is none. (refl, is, none)), tt)),
+            ),
+          ),
         ),
       ),
     ),
@@ -178,6 +184,7 @@ form_read (check file derivation) name budgets operands h = rw (h.0, h.1, h.2) r
 form_read (replay file schedule) name budgets operands h = rw (h.0, h.1, h.2) refl
 form_read (show file) name budgets operands h = rw (h.0, h.1, h.2) refl
 form_read (trial n) name budgets operands h = rw (h.0, h.1.1, h.2) (ap (option_map trial) (number_read 1 50 h.1.0 n (omega arith) h.1.2))
+form_read (outline file derivation) name budgets operands h = rw (h.0, h.1, h.2) refl
 form_read (stray file n m) name budgets operands h = rw (h.0, h.1.2, h.2) (stray_read file h.1.0 h.1.1 n m h.1.3 h.1.4)
 form_read (core file) name budgets operands h = rw (h.0, h.1, h.2) refl
 

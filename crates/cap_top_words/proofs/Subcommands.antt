@@ -7,7 +7,7 @@ use Rattle.clap.specs.Walk.{Rule, arg_by_long, arg_by_short, nothing_held, walk_
 use Rattle.clap.specs.Simple.{Shape, built, filled_from, new_shape}
 use Rattle.clap.specs.Faults.{defaults_fault}
 use Rattle.cap_top_words.specs.Number.{number_within}
-use Rattle.cap_top_words.specs.Meaning.{Signature, signatures, PlainCommand, CommandWord, arguments_of, file_and_budget, one_operand, two_operands, three_operands, stray_of, verify, derive, check, replay, show, trial, core}
+use Rattle.cap_top_words.specs.Meaning.{Signature, signatures, PlainCommand, CommandWord, arguments_of, file_and_budget, one_operand, two_operands, three_operands, stray_of, verify, derive, check, replay, show, trial, outline, core}
 use Rattle.cap_top_words.specs.Parser.{RowReader, file_and_budget_in, budgeted_rules, caper_app, one_operand_in, operand_rules, row_readers, three_operands_in, two_operands_in}
 use Rattle.cap_top_words.proofs.Classes.{WordClasses, equal_bytes}
 use Rattle.cap_top_words.proofs.Leaf.{HasOption, has, lacks, leaf, run}
@@ -240,6 +240,7 @@ all =
     ∷ two_subcommand (codes "replay") refl (codes "file") (codes "schedule") refl refl replay
     ∷ one_subcommand (codes "show") refl (codes "file") (λ file. Some (show file))
     ∷ one_subcommand (codes "trial") refl (codes "number") (λ n. option_map trial (number_within 1 50 n))
+    ∷ two_subcommand (codes "outline") refl (codes "file") (codes "derivation") refl refl outline
     ∷ stray_subcommand
     ∷ one_subcommand (codes "core") refl (codes "file") (λ file. Some (core file))
     ∷ []

@@ -17,6 +17,7 @@ pub data PlainCommand : Type 0 where
   replay : CommandWord → CommandWord → PlainCommand
   show : CommandWord → PlainCommand
   trial : ℕ → PlainCommand
+  outline : CommandWord → CommandWord → PlainCommand
   stray : CommandWord → ℕ → ℕ → PlainCommand
   core : CommandWord → PlainCommand
 
@@ -116,6 +117,7 @@ signatures =
     ∷ (codes "replay", two_operands replay)
     ∷ (codes "show", one_operand (λ file. Some (show file)))
     ∷ (codes "trial", one_operand (λ n. option_map trial (number_within 1 50 n)))
+    ∷ (codes "outline", two_operands outline)
     ∷ (codes "stray", three_operands stray_of)
     ∷ (codes "core", one_operand (λ file. Some (core file)))
     ∷ []

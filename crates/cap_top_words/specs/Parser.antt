@@ -9,7 +9,8 @@ use Rattle.clap.specs.declared.builder.command.Command.{Command}
 use Rattle.clap.specs.declared.builder.command.Command.TheViews.{out-Command}
 use Rattle.cap_top_words.specs.Number.{number_within}
 use Rattle.cap_top_words.specs.Meaning.{PlainCommand, CommandWord, default_budget}
-use Rattle.cap_top_words.specs.Meaning.{verify, derive, check, replay, show, trial, core, stray_of}
+use Rattle.cap_top_words.specs.Meaning.{verify, derive, check, replay, show, trial, outline, core}
+use Rattle.cap_top_words.specs.Meaning.{stray_of}
 
 -- ---- `-` alone, which `clap` takes for an operand
 
@@ -46,6 +47,7 @@ subcommands =
     ∷ (codes "replay", operand_rules (codes "file" ∷ codes "schedule" ∷ []))
     ∷ (codes "show", operand_rules (codes "file" ∷ []))
     ∷ (codes "trial", operand_rules (codes "number" ∷ []))
+    ∷ (codes "outline", operand_rules (codes "file" ∷ codes "derivation" ∷ []))
     ∷ (codes "stray", operand_rules (codes "file" ∷ codes "number" ∷ codes "count" ∷ []))
     ∷ (codes "core", operand_rules (codes "file" ∷ []))
     ∷ []
@@ -110,6 +112,7 @@ row_readers =
       codes "trial",
       one_operand_in (codes "number") (λ n. option_map trial (number_within 1 50 n)),
     )
+    ∷ (codes "outline", two_operands_in (codes "file") (codes "derivation") outline)
     ∷ (codes "stray", three_operands_in (codes "file") (codes "number") (codes "count") stray_of)
     ∷ (codes "core", one_operand_in (codes "file") (λ file. Some (core file)))
     ∷ []

@@ -1,9 +1,9 @@
 -- What a command of the code is to the definition.
 use Rattle.cap_top_words.specs.declared.command.Command.{Command}
 use Rattle.cap_top_words.specs.declared.command.Command.TheVariants.{Verify, Derive, Check, Replay}
-use Rattle.cap_top_words.specs.declared.command.Command.TheVariants.{Show, Trial, Stray, Core}
+use Rattle.cap_top_words.specs.declared.command.Command.TheVariants.{Show, Trial, Outline, Stray, Core}
 use Rattle.cap_top_words.specs.Meaning.{PlainCommand, verify, derive, check, replay, show, trial}
-use Rattle.cap_top_words.specs.Meaning.{stray, core}
+use Rattle.cap_top_words.specs.Meaning.{outline, stray, core}
 
 abbrev pub command_view : Command → PlainCommand
 command_view (Verify file budget) = verify file.now budget
@@ -12,5 +12,6 @@ command_view (Check file derivation) = check file.now derivation.now
 command_view (Replay file schedule) = replay file.now schedule.now
 command_view (Show file) = show file.now
 command_view (Trial number) = trial number
+command_view (Outline file derivation) = outline file.now derivation.now
 command_view (Stray file number count) = stray file.now number count
 command_view (Core file) = core file.now

@@ -33,6 +33,12 @@ pub enum Command<'a> {
     Trial {
         number: u32,
     },
+    /// Judges the derivation in a file for the program in another and, where it is accepted, writes
+    /// the states in which its proofs have the program at each statement.
+    Outline {
+        file: &'a str,
+        derivation: &'a str,
+    },
     /// Draws so many schedules of the program in a file from the number, and writes the first that
     /// ends in a fault. The number is from 0 to 18,446,744,073,709,551,615, and the count of the
     /// schedules from 1 to 1,000.

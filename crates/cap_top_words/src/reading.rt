@@ -81,6 +81,10 @@ fn command<'a>(name: &str, matches: &ArgMatches<'a>) -> Option<Command<'a>>
         "trial" => Some(Command::Trial {
             number: number(value(matches, "number")?, 1, MAX_TRIAL)? as u32,
         }),
+        "outline" => Some(Command::Outline {
+            file: value(matches, "file")?,
+            derivation: value(matches, "derivation")?,
+        }),
         "stray" => Some(Command::Stray {
             file: value(matches, "file")?,
             number: number(value(matches, "number")?, 0, u64::MAX)?,
