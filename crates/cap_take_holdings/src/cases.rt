@@ -2,8 +2,10 @@
 ghost use Rattle.std.specs.Prelude.{◌≡◌, ◌==◌, ◌||◌, ◌++◌, IfOk, OnOk, None, if◌then◌else◌};
 ghost use Rattle.std.specs.List.{list_any};
 ghost use Rattle.cap_prog.specs.Views.{item_view, items_view, case_view, region_view};
-ghost use Rattle.cap_rules_steps.specs.cap_goal_spec.Environments.{bound, is_slot as slot_names, binds as item_binds};
-ghost use Rattle.cap_rules_steps.specs.cap_goal_spec.Environments.{asked_slot as slot_of, is_bound_by as bound_by};
+ghost use Rattle.cap_rules_steps.specs.cap_goal_spec.Environments.{bound, is_slot as slot_names};
+ghost use Rattle.cap_rules_steps.specs.cap_goal_spec.Environments.{binds as item_binds};
+ghost use Rattle.cap_rules_steps.specs.cap_goal_spec.Environments.{asked_slot as slot_of};
+ghost use Rattle.cap_rules_steps.specs.cap_goal_spec.Environments.{is_bound_by as bound_by};
 ghost use Rattle.cap_rules_steps.specs.cap_goal_spec.Environments.{region_env as env_of_region};
 ghost use Rattle.cap_rules_steps.specs.cap_rules.Taking.{binds_all as binds_each};
 ghost use Rattle.cap_take_holdings.specs.Holdings.{names_given};

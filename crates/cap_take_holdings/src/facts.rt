@@ -2,8 +2,10 @@
 ghost use Rattle.std.specs.Prelude.{◌≡◌, ◌<◌, IfOk, IfSome, Some, length, position, find};
 ghost use Rattle.std.specs.List.{list_any};
 ghost use Rattle.cap_rules_steps.specs.cap_rules.Making.{fact_of as plain_fact};
-ghost use Rattle.cap_rules_steps.specs.cap_rules.Making.{is_of_region as of_region, is_of_other_type};
-ghost use Rattle.cap_rules_steps.specs.cap_rules.Making.{with_equalities as equated, with_same, with_false};
+ghost use Rattle.cap_rules_steps.specs.cap_rules.Making.{is_of_region as of_region};
+ghost use Rattle.cap_rules_steps.specs.cap_rules.Making.{is_of_other_type};
+ghost use Rattle.cap_rules_steps.specs.cap_rules.Making.{with_equalities as equated, with_same};
+ghost use Rattle.cap_rules_steps.specs.cap_rules.Making.{with_false};
 ghost use Rattle.cap_rules_steps.specs.cap_rules.Making.{with_fact as fact_added};
 ghost use Rattle.cap_rules_steps.specs.Walks.{Makes, giving};
 ghost use Rattle.cap_take_holdings.specs.Holdings.{with_last_fact, without_place};

@@ -1,10 +1,12 @@
 //! Slots of assertions against terms.
 ghost use Rattle.std.specs.Prelude.{◌≡◌, IfOk};
 ghost use Rattle.cap_rules_steps.specs.cap_goal_spec.Terms.{lone_variable};
-ghost use Rattle.cap_rules_steps.specs.cap_goal_spec.Environments.{with_name, settled, reading as slot_reading};
+ghost use Rattle.cap_rules_steps.specs.cap_goal_spec.Environments.{with_name, settled};
+ghost use Rattle.cap_rules_steps.specs.cap_goal_spec.Environments.{reading as slot_reading};
 ghost use Rattle.cap_rules_steps.specs.cap_goal_spec.Environments.{bind_open as name_bound};
 ghost use Rattle.cap_rules_steps.specs.cap_rules.Making.{match_reading as reading_matched};
-ghost use Rattle.cap_rules_steps.specs.cap_rules.Making.{match_slot as slot_matched, match_slots as slots_matched};
+ghost use Rattle.cap_rules_steps.specs.cap_rules.Making.{match_slot as slot_matched};
+ghost use Rattle.cap_rules_steps.specs.cap_rules.Making.{match_slots as slots_matched};
 ghost use Rattle.cap_prog.specs.declared.assertion.Slot.TheVariants.{Is};
 ghost use Rattle.cap_rules_steps.specs.Walks.{Claims, giving};
 ghost use Rattle.cap_take_holdings.specs.Seen.{slots_view, lent_terms, reading_view};

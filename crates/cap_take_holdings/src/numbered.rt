@@ -1,7 +1,8 @@
 //! Environments by their numbers.
 ghost use Rattle.std.specs.Prelude.{◌≡◌, [], IfOk};
 ghost use Rattle.cap_rules_steps.specs.cap_rules.Making.{env_at as env_in, row_by as row_in};
-ghost use Rattle.cap_rules_steps.specs.cap_rules.Making.{determined as determined_in, determined_slot as slot_in};
+ghost use Rattle.cap_rules_steps.specs.cap_rules.Making.{determined as determined_in};
+ghost use Rattle.cap_rules_steps.specs.cap_rules.Making.{determined_slot as slot_in};
 ghost use Rattle.cap_rules_steps.specs.cap_rules.Making.{prove_comparisons as comparisons_proved};
 ghost use Rattle.cap_rules_steps.specs.Walks.{Makes, Claims, giving};
 

@@ -2,7 +2,8 @@
 ghost use Rattle.std.specs.Prelude.{◌≡◌, ◌<◌, IfOk, length, slice_set};
 ghost use Rattle.cap_prog.specs.Views.{program_view};
 ghost use Rattle.cap_gsolve.specs.Merge.{merged as all_merged, place};
-ghost use Rattle.cap_rules_steps.specs.cap_rules.Making.{with_piece as piece_added, with_pieces as pieces_added};
+ghost use Rattle.cap_rules_steps.specs.cap_rules.Making.{with_piece as piece_added};
+ghost use Rattle.cap_rules_steps.specs.cap_rules.Making.{with_pieces as pieces_added};
 ghost use Rattle.cap_rules_steps.specs.Walks.{Makes, giving};
 ghost use Rattle.cap_take_holdings.specs.Holdings.{with_merged, with_last_piece};
 
