@@ -8,7 +8,9 @@ use std::test::Fail;
 
 /// The line for words that are no command.
 pub const USAGE: &[u8] =
-    b"usage: caper verify FILE [--budget N] | derive FILE [--budget N] | check FILE DERIVATION | replay FILE SCHEDULE | show FILE | trial N | outline FILE DERIVATION | stray FILE N M | core FILE\n";
+    b"usage: caper verify FILE [--budget N] | derive FILE [--budget N] | check FILE DERIVATION | \
+    replay FILE SCHEDULE | show FILE | trial N | outline FILE DERIVATION | \
+    stray FILE N M | core FILE\n";
 
 /// Some of a text.
 #[derive(Clone, Copy)]

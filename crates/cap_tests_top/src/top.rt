@@ -7,7 +7,9 @@ use std::process::Abort;
 use std::test::Fail;
 
 const USAGE: &str =
-    "usage: caper verify FILE [--budget N] | derive FILE [--budget N] | check FILE DERIVATION | replay FILE SCHEDULE | show FILE | trial N | outline FILE DERIVATION | stray FILE N M | core FILE\n";
+    "usage: caper verify FILE [--budget N] | derive FILE [--budget N] | check FILE DERIVATION | \
+    replay FILE SCHEDULE | show FILE | trial N | outline FILE DERIVATION | \
+    stray FILE N M | core FILE\n";
 
 const PROVED: &str = "function main: proved\nproved 1 of 1\n";
 

@@ -43,7 +43,9 @@ pub enum Output<'a> {
 
 /// The command line, for words that are none.
 const USAGE: &str =
-    "usage: caper verify FILE [--budget N] | derive FILE [--budget N] | check FILE DERIVATION | replay FILE SCHEDULE | show FILE | trial N | outline FILE DERIVATION | stray FILE N M | core FILE\n";
+    "usage: caper verify FILE [--budget N] | derive FILE [--budget N] | check FILE DERIVATION | \
+    replay FILE SCHEDULE | show FILE | trial N | outline FILE DERIVATION | \
+    stray FILE N M | core FILE\n";
 
 /// The status of a run that ends so.
 fn end_status(end: End) -> Status
