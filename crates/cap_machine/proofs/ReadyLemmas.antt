@@ -1,6 +1,6 @@
 -- Which statement is ready, and when none is.
 use Rattle.std.proofs.Common.{◌≡◌, ◌∙◌, ap, sym, refl, subst, rules, ℕ, zero, suc, ◌+◌, ◌-◌, ◌<◌, ◌≤◌, Bool, true, false, cond, not, ◌&&◌, List, [], ◌∷◌, ◌++◌, map, get_or, length, length-set, length-append, arith}
-use Rattle.std.specs.Prelude.{ℤ, pos, ◌≤ℤ◌, int_le, ◌+ℤ◌, slice_get, slice_set, Option, Some, None, is_none, is_some, option_map, MatchOption, IsTrue, IsSomeAnd, Result, Ok, Err, ◌↔◌}
+use Rattle.std.specs.Prelude.{ℤ, pos, ◌≤ℤ◌, int_le, ◌+ℤ◌, slice_get, slice_set, Option, Some, None, is_none, is_some, option_map, unwrap_or, MatchOption, IsTrue, IsSomeAnd, Result, Ok, Err, ◌↔◌}
 use Rattle.std.specs.Global.{Vec}
 use Rattle.std.specs.Option.{SomeIff}
 use Rattle.std.specs.Result.{OkIff, result_unwrap_or}
@@ -160,6 +160,10 @@ stop_is m b e = e
 pub running_shows : (p : PlainProgram) (m : Machine) (n : ℕ) (o : Option (Vec code.Frame)) → o ≡ slice_get m.threads.items n → top_frame (option_map (λ (t : Vec code.Frame). thread_view p t.items) o) ≡ running (configuration p m) n
 unfolding configuration
 running_shows p m n o e = ap (λ u. top_frame (option_map (λ (t : Vec code.Frame). thread_view p t.items) u)) e ∙ sym (ap top_frame (get_map (λ (t : Vec code.Frame). thread_view p t.items) m.threads.items n))
+
+pub frames_show : (p : PlainProgram) (m : Machine) (n : ℕ) (o : Option (Vec code.Frame)) → o ≡ slice_get m.threads.items n → unwrap_or (option_map (λ (t : Vec code.Frame). thread_view p t.items) o) [] ≡ unwrap_or (slice_get (configuration p m).threads n) []
+unfolding configuration
+frames_show p m n o e = ap (λ u. unwrap_or (option_map (λ (t : Vec code.Frame). thread_view p t.items) u) []) e ∙ sym (ap (λ u. unwrap_or u []) (get_map (λ (t : Vec code.Frame). thread_view p t.items) m.threads.items n))
 
 pub placed_at : (p : PlainProgram) (m : Machine) (n : ℕ) (t : Vec code.Frame) → Some t ≡ slice_get m.threads.items n → AllArePlaced p m → ArePlaced p t.items
 unfolding AllArePlaced

@@ -18,7 +18,7 @@ use std::alloc::{AllocError, Global};
 /// A function that runs: its number, what it was given, its parameters and locals, its place in the
 /// function's body, and the local of its caller that gets the result.
 #[derive(Debug, Drop)]
-pub(crate) struct Frame {
+pub struct Frame {
     pub(crate) function: u32,
     pub(crate) arguments: Vec<i128>,
     pub(crate) store: Vec<i128>,
@@ -55,6 +55,27 @@ impl Frame {
             next: 0,
             destination,
         })
+    }
+
+    /// The number of its function. It takes no memory.
+    pub fn function(&self) -> u32
+        ensures { (p : PlainProgram) → result ≡ (frame_view p self.now).function }
+    {
+        self.function
+    }
+
+    /// Lends what the function was given. It takes no memory.
+    pub fn arguments(&self) -> &[i128]
+        ensures { (p : PlainProgram) → result.now ≡ (frame_view p self.now).arguments }
+    {
+        &self.arguments
+    }
+
+    /// Lends the values of its parameters, and then of its locals. It takes no memory.
+    pub fn store(&self) -> &[i128]
+        ensures { (p : PlainProgram) → result.now ≡ (frame_view p self.now).store }
+    {
+        &self.store
     }
 
     // The body of the frame's function.

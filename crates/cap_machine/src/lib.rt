@@ -13,5 +13,6 @@ mod step;
 mod thread;
 
 pub use event::{Ahead, Entry, Event, StepError};
+pub use frame::Frame;
 pub use laws::{enabled_entries_step, faults_are_exact, starts_fit, steps_keep_fit};
 pub use machine::Machine;

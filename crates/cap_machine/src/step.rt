@@ -1,13 +1,14 @@
 //! One step, and what there is to see before it.
 ghost use Rattle.std.specs.Prelude.{◌≡◌, ◌↔◌, ◌<◌, ◌≤◌, ◌-◌};
-ghost use Rattle.std.specs.Prelude.{◌^◌, false, suc, length, slice_get};
+ghost use Rattle.std.specs.Prelude.{[], ◌^◌, false, suc, length, slice_get, unwrap_or};
 ghost use Rattle.std.specs.Prelude.{None, Err, MatchOption, option_map, option_copied, IfSome};
 ghost use Rattle.cap_prog.specs.Program.{PlainProgram};
 ghost use Rattle.cap_prog.specs.Views.{program_view, statement_view, act_view};
 ghost use Rattle.cap_machine.specs.declared.event.StepError.TheVariants.{NotEnabled};
 ghost use Rattle.cap_machine.specs.Cells.{IsTop};
 ghost use Rattle.cap_machine.specs.Laws.{running};
-ghost use Rattle.cap_machine.specs.View.{configuration, frame_view, IsPlaced, AllArePlaced, RunsProgram};
+ghost use Rattle.cap_machine.specs.View.{configuration, frame_view, thread_view, IsPlaced};
+ghost use Rattle.cap_machine.specs.View.{AllArePlaced, RunsProgram};
 ghost use Rattle.cap_machine.specs.View.{Steps, is_enabled};
 ghost use Rattle.cap_machine.specs.Ready.{IsReady, ahead, cells_of as the_cells_of};
 
@@ -172,6 +173,18 @@ impl Machine {
             place: statement.place,
             cells: cells_of(&statement.act),
         })
+    }
+
+    /// Lends the frames of a thread, the top one last; there are none where there is no such thread.
+    /// Threads are counted from 0. It takes no memory.
+    pub fn frames(&self, thread: u32) -> &[Frame]
+        ensures { (p : PlainProgram) → thread_view p result.now
+            ≡ unwrap_or (slice_get (configuration p self.now).threads thread) [] }
+    {
+        match thread_at(&self.threads, thread) {
+            None => &[],
+            Some(frames) => frames,
+        }
     }
 
     /// The number of threads, those that have ended included. It takes no memory.

@@ -9,5 +9,5 @@ mod reading;
 
 pub use entries::{Schedule, fits};
 pub use laws::written_schedules_are_read_back;
-pub use playing::{End, Played, replay};
+pub use playing::{End, Played, last_line, push_step, replay};
 pub use reading::{ScheduleError, read_schedule};

@@ -81,7 +81,8 @@ fn head_text(alloc: Global, number: u64, thread: u32, place: Place) -> Result<St
     Ok(text)
 }
 
-fn last_line(alloc: Global, end: End) -> Result<String, AllocError>
+/// The last line of a run, which says how it ends. The only error is want of memory.
+pub fn last_line(alloc: Global, end: End) -> Result<String, AllocError>
     ensures { IfOk result (λ text. string_bytes text ≡ the_last_line end) }
 {
     match end {
@@ -92,8 +93,9 @@ fn last_line(alloc: Global, end: End) -> Result<String, AllocError>
     }
 }
 
-// Writes the line of a step, by what was ahead of its thread.
-fn push_step(
+/// Writes the line of a step: its number from 1, its thread, and the place of what was ahead of it
+/// and what it did. The only error is want of memory.
+pub fn push_step(
     alloc: Global,
     text: &mut Vec<u8>,
     number: u64,
