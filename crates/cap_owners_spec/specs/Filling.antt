@@ -1,10 +1,10 @@
 -- By what the items of an assertion are met when they are taken, and which values that brings when
 -- they are given.
-use Rattle.std.specs.Prelude.{ℕ, ℤ, pos, negsuc, if◌then◌else◌, is_some, List, [], ◌∷◌, ◌++◌, slice_set, Option, Some, None}
+use Rattle.std.specs.Prelude.{ℕ, ◌^◌, nat_lt, Bool, true, ◌&&◌, ℤ, pos, negsuc, if◌then◌else◌, is_some, List, [], ◌∷◌, ◌++◌, slice_set, Option, Some, None}
 use Rattle.std.specs.FinMap.{insert}
 use Rattle.cap_rules.specs.cap_goal_spec.cap_lin.Linear.{Linear}
 use Rattle.cap_rules.specs.cap_goal_spec.cap_galg.Fractions.{lowest}
-use Rattle.cap_rules.specs.cap_goal_spec.cap_galg.Elements.{Element, one, share, src, tokens, indices, index_set}
+use Rattle.cap_rules.specs.cap_goal_spec.cap_galg.Elements.{Element, one, share, tok, src, both, left, right, tokens, indices, index_set}
 use Rattle.cap_rules.specs.cap_goal_spec.cap_gsolve.declared.piece.Form.{Form}
 use Rattle.cap_rules.specs.cap_goal_spec.cap_gsolve.declared.piece.Form.TheVariants as form
 use Rattle.cap_rules.specs.cap_goal_spec.cap_gsolve.declared.piece.Piece.{Piece}
@@ -20,7 +20,7 @@ use Rattle.cap_rules.specs.cap_goal_spec.Environments.{zero_value, term_of, with
 use Rattle.cap_galg_indices.specs.Sets.{one_index, indices_from, index_range}
 use Rattle.cap_machine_accounts.specs.Parts.{Guard, join, atom_guard, Part, no_part, guard_at, with_guard}
 use Rattle.cap_machine_accounts.specs.Assertions.{NameValue, a_number, a_fraction}
-use Rattle.cap_owners_spec.specs.Traced.{Traced, traced, untold, ◌>>=◌, found, each, over, a_share, value_at, number_in, amount_in, half_of}
+use Rattle.cap_owners_spec.specs.Traced.{Traced, traced, past_width, untold, ◌>>=◌, found, each, over, a_share, value_at, number_in, amount_in, half_of}
 use Rattle.cap_owners_spec.specs.Track.{Fill}
 
 -- ---- guards
@@ -60,10 +60,27 @@ asked_element (At x) (a_number z) = counted (λ i. indices (one_index i)) z
 asked_element (From x) (a_number z) = counted (λ i. indices (indices_from i)) z
 asked_element asked v = untold
 
+-- Counts of tokens stay within 128 unsigned bits. Nothing else of a guard needs a bound: shares are
+-- at most 1, and sets of indices have bounds that are narrow terms, or one more.
+abbrev pub counts_fit : Element → Bool
+counts_fit (tok k) = nat_lt k (2 ^ 128)
+counts_fit (both x y) = counts_fit x && counts_fit y
+counts_fit (left x) = counts_fit x
+counts_fit (right y) = counts_fit y
+counts_fit x = true
+
+abbrev pub fitting : Option Guard → Traced (Option Guard)
+fitting None = traced None
+fitting (Some g) = if counts_fit g.element then traced (Some g) else past_width
+
+-- what two guards of a region compose to
+abbrev pub joined : Option Guard → Option Guard → Traced (Option Guard)
+joined g h = found (join g h) >>= fitting
+
 -- the part with one guard more of a region
 abbrev pub with_more : Part → ℤ → Option Guard → Traced Part
 with_more q n g = do
-  h ← found (join (guard_at q n) g)
+  h ← joined (guard_at q n) g
   traced (with_guard q n h)
 
 -- ---- what a state holds

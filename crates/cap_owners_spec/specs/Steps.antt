@@ -16,7 +16,7 @@ use Rattle.cap_machine_accounts.specs.Assertions.{NameValue, a_number}
 use Rattle.cap_outline_spec.specs.Standing.{first_number}
 use Rattle.cap_owners_spec.specs.Traced.{Traced, traced, untold, ◌>>=◌, found}
 use Rattle.cap_owners_spec.specs.Track.{Fill, Place, TrackedRegion, GivenAssertion, TrackedFrame, Track, tracked_at}
-use Rattle.cap_owners_spec.specs.Filling.{part_held}
+use Rattle.cap_owners_spec.specs.Filling.{with_cells, part_held}
 use Rattle.cap_owners_spec.specs.Walks.{Taking, Walk, nothing_taken, Interpreted, Interpreting, Halt, stands, leaves, walk_from}
 
 -- a program with a tree for each of its roots
@@ -144,6 +144,13 @@ owning d f (stands q w) = do
 abbrev pub standing : Proved → List TrackedRegion → TrackedFrame → Traced TrackedFrame
 standing d rs f = frame_walk d false rs f f.since >>= owning d f
 
+-- where no heap is touched it keeps its part, with the cells that its state has by now
+abbrev pub keeping : Proved → TrackedFrame → Halt → Traced TrackedFrame
+keeping d f (leaves w) = untold
+keeping d f (stands q w) = do
+  part ← with_cells w.values f.held.part q.goal.state.cells
+  traced (record f { held = record f.held { part = part } })
+
 -- ---- where a frame begins
 
 -- at a root behind whose assertion, which is given, it stands; variables have these values
@@ -233,7 +240,7 @@ seated f (stands q w) = traced (
 abbrev pub stays_seated : Proved → Scene → Event → Traced Moved
 stays_seated d s event = do
   h ← walk_of d false s event
-  f ← owning d (record s.top { since = s.top.since ++ event ∷ [] }) h
+  f ← keeping d (record s.top { since = s.top.since ++ event ∷ [] }) h
   traced (record { frames = f ∷ s.below; forked = None; regions = s.regions })
 
 -- a heap statement: regions are entered and closed
