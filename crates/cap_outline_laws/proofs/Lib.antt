@@ -1,5 +1,5 @@
-mod Listed
-mod Cells
-mod Guards
-mod Sitting
+pub mod Listed
+pub mod Cells
+pub mod Guards
+pub mod Sitting
 mod Outlined

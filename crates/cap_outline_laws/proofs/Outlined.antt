@@ -97,7 +97,7 @@ module _ (p : PlainProgram) (trees : List (Option PlainTree)) where
       let n = s.1.at_node in
       node-stands (HoldsOf p (table a) t.frame t.held) t.held a s.0 t.frame s.1.tree k e n (
         n.v,
-        holds-at these a s.0 t.frame t.held s.1.tree
+        holds-at these a s.0 t.frame t.held (running t.frame.rest) s.1.tree
             (top-guards p a i t.held hs.0 valid.guards_fit hs.1) n,
       )
 

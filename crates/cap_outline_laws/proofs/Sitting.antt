@@ -1,14 +1,14 @@
 -- The state of the node at which a frame sits holds of it.
-use Rattle.std.proofs.Common.{◌≡◌, ℕ, zero, suc, ℤ, List, [], ◌∷◌, map, refl, sym, ap, ◌∙◌, subst, Option, Some, None, Bool, true, false}
+use Rattle.std.proofs.Common.{◌≡◌, ℕ, zero, suc, List, [], ◌∷◌, map, refl, sym, ap, ◌∙◌, subst, Option, Some, None}
 use Rattle.std.specs.Prelude.{slice_get, flat_map}
 use Rattle.std.specs.List.{AllByRecursion}
 use Rattle.cap_lin.specs.Values.{Valuation, value}
 use Rattle.cap_prog.specs.Program.{PlainFunction, PlainProgram}
-use Rattle.cap_goal_spec.specs.States.{PlainFact}
+use Rattle.cap_goal_spec.specs.States.{PlainFact, Home, PlainTask}
 use Rattle.cap_goal_spec.specs.Choices.{PlainTree}
 use Rattle.cap_machine.specs.Machine.{Frame}
 use Rattle.cap_machine_accounts.specs.Parts.{Guard, IsGuard, Part, guard_at}
-use Rattle.cap_machine_accounts.specs.Accounts.{Held, OwnedRegion, table_of, GuardsFit, parts, Account, IsValidAccount, table}
+use Rattle.cap_machine_accounts.specs.Accounts.{Held, OwnedRegion, table_of, GuardsFit, parts, Account, table}
 use Rattle.cap_account_resources.specs.Parts.{Known, known_as}
 use Rattle.cap_account_resources.proofs.Lists.{some-same, none-some, all-first, all-second}
 use Rattle.cap_account_states.proofs.Backed.{IsFirm}
@@ -16,11 +16,9 @@ use Rattle.cap_account_states.proofs.Checked.{Checked}
 use Rattle.cap_account_states.proofs.Facts.{FactHolds, StateHolds}
 use Rattle.cap_account_states.proofs.Meets.{solves}
 use Rattle.cap_account_steps.proofs.Frames.{Node}
-use Rattle.cap_account_steps.proofs.Stores.{running}
 use Rattle.cap_account.proofs.Drawn.{region-there}
 use Rattle.cap_account.proofs.Parts.{AreGuards}
 use Rattle.cap_account.proofs.Stocked.{part_stock, owners, table_by, account_table}
-use Rattle.cap_outline_spec.specs.Standing.{Standing}
 use Rattle.cap_outline_laws.specs.Holding.{IsEntry, HoldsAt}
 use Rattle.cap_outline_laws.proofs.Cells.{cells-there, cells-differ}
 use Rattle.cap_outline_laws.proofs.Guards.{guards-within}
@@ -85,11 +83,11 @@ top-guards p a i h hs all e n = by (guard_at h.part n) refl
 -- ---- the state
 
 pub holds-at :
-    (p : Checked) (a : Account) (fn : PlainFunction) (f : Frame) (h : Held) (t : PlainTree) →
-    AreGuards p.program h.part →
-    (n : Node p (part_stock h.part) (account_table a) fn h.fixed f (running f.rest) t) →
+    (p : Checked) (a : Account) (fn : PlainFunction) (f : Frame) (h : Held)
+    (tasks : Home → List PlainTask) (t : PlainTree) → AreGuards p.program h.part →
+    (n : Node p (part_stock h.part) (account_table a) fn h.fixed f tasks t) →
     HoldsAt p.program (table a) (record { home = n.home; state = n.state }) f h n.v
-holds-at p a fn f h t guards n = record {
+holds-at p a fn f h tasks t guards n = record {
   whole = n.grounded.meets.sorted;
   solves = solves [] n.v n.state n.grounded.meets;
   store = n.store.store;

@@ -13,7 +13,7 @@ use Rattle.cap_machine.specs.Machine.{Heap, Frame, Thread, Configuration, Outcom
 use Rattle.cap_owners_spec.specs.Traced.{Traced, traced, past_width, untold, ◌>>=◌}
 use Rattle.cap_owners_spec.specs.Track.{Fill, TrackedFrame, Track}
 use Rattle.cap_owners_spec.specs.Walks.{Walk, Halt, stands, leaves}
-use Rattle.cap_owners_spec.specs.Steps.{Proved, Moved, Scene, new_thread, after_move, owning, standing, walk_of, seated, looping, ended_walk, hands_over, gives_result, stays_seated, takes_seat, tracks_call, tracks_fork, tracks_return, tracks_branch, moved, followed, follow, received}
+use Rattle.cap_owners_spec.specs.Steps.{Proved, Moved, Scene, new_thread, after_move, standing, keeping, walk_of, seated, looping, ended_walk, hands_over, gives_result, stays_seated, takes_seat, tracks_call, tracks_fork, tracks_return, tracks_branch, moved, followed, follow, received}
 use Rattle.cap_owners_laws.specs.Laws.{FitsThreads}
 use Rattle.cap_owners_laws.proofs.Meetings.{On, on-bind, on-map}
 use Rattle.cap_owners_laws.proofs.Steps.{was-traced, traced-same}
@@ -209,10 +209,10 @@ module _ (d : Proved) (s : Scene) where
       (event : Event) → On (HasMoved (suc (length s.below)) []) (stays_seated d s event)
   seated-counts event =
       on-after (HasMoved (suc (length s.below)) []) (walk_of d false s event)
-      (λ h. owning d (record s.top { since = s.top.since ++ event ∷ [] }) h >>= λ f.
+      (λ h. keeping d (record s.top { since = s.top.since ++ event ∷ [] }) h >>= λ f.
       traced (record { frames = f ∷ s.below; forked = None; regions = s.regions }))
       (λ h. on-after (HasMoved (suc (length s.below)) [])
-      (owning d (record s.top { since = s.top.since ++ event ∷ [] }) h)
+      (keeping d (record s.top { since = s.top.since ++ event ∷ [] }) h)
       (λ f. traced (record { frames = f ∷ s.below; forked = None; regions = s.regions }))
       (λ f. record { frames = refl; forked = refl }))
 

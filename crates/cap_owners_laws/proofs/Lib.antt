@@ -5,3 +5,4 @@ mod Runs
 mod Starts
 mod Naming
 mod Examples
+mod Shown

@@ -9,9 +9,9 @@ use Rattle.cap_machine.specs.declared.event.Event.TheVariants.{Set, Read, Write,
 use Rattle.cap_machine.specs.Machine.{Frame, Configuration, top_frame}
 use Rattle.cap_owners_spec.specs.Traced.{Traced, traced, ◌>>=◌, found}
 use Rattle.cap_owners_spec.specs.Track.{Fill, TrackedRegion, TrackedFrame, Track}
-use Rattle.cap_owners_spec.specs.Filling.{part_held}
+use Rattle.cap_owners_spec.specs.Filling.{with_cells, part_held}
 use Rattle.cap_owners_spec.specs.Walks.{Taking, Walk, Halt, stands, leaves}
-use Rattle.cap_owners_spec.specs.Steps.{Proved, Moved, Scene, Handed, invariant_root, frame_walk, owning, standing, walk_of, seated, callee_of, loop_number, begins_at, root_at, looping, ended_walk, hands_over, gives_result, stays_seated, takes_seat, tracks_call, tracks_fork, tracks_return, tracks_branch, moved, new_thread, after_move, followed, follow, received}
+use Rattle.cap_owners_spec.specs.Steps.{Proved, Moved, Scene, Handed, invariant_root, frame_walk, owning, standing, keeping, walk_of, seated, callee_of, loop_number, begins_at, root_at, looping, ended_walk, hands_over, gives_result, stays_seated, takes_seat, tracks_call, tracks_fork, tracks_return, tracks_branch, moved, new_thread, after_move, followed, follow, received}
 use Rattle.cap_owners_laws.specs.Laws.{SameNames, StaysOn, ReturnsTo, FramesGo}
 use Rattle.cap_owners_laws.proofs.Meetings.{On, on-bind}
 use Rattle.cap_owners_laws.proofs.Fitting.{on-after}
@@ -22,6 +22,12 @@ module _ (d : Proved) where
   owning-names f (leaves w) = tt
   owning-names f (stands q w) =
       on-after (SameNames f) (part_held d.program q.goal.state w.values)
+      (λ part. traced (record f { held = record f.held { part = part } })) (λ part. refl)
+
+  keeping-names : (f : TrackedFrame) (h : Halt) → On (SameNames f) (keeping d f h)
+  keeping-names f (leaves w) = tt
+  keeping-names f (stands q w) =
+      on-after (SameNames f) (with_cells w.values f.held.part q.goal.state.cells)
       (λ part. traced (record f { held = record f.held { part = part } })) (λ part. refl)
 
   standing-names :
@@ -77,12 +83,12 @@ module _ (d : Proved) (s : Scene) where
   seated-stay : (event : Event) → On Stays (stays_seated d s event)
   seated-stay event =
       on-after Stays (walk_of d false s event)
-      (λ h. owning d (record s.top { since = s.top.since ++ event ∷ [] }) h >>= λ f.
+      (λ h. keeping d (record s.top { since = s.top.since ++ event ∷ [] }) h >>= λ f.
       traced (record { frames = f ∷ s.below; forked = None; regions = s.regions }))
       (λ h. on-bind (SameNames s.top) Stays
-      (owning d (record s.top { since = s.top.since ++ event ∷ [] }) h)
+      (keeping d (record s.top { since = s.top.since ++ event ∷ [] }) h)
       (λ f. traced (record { frames = f ∷ s.below; forked = None; regions = s.regions }))
-      (owning-names d (record s.top { since = s.top.since ++ event ∷ [] }) h)
+      (keeping-names d (record s.top { since = s.top.since ++ event ∷ [] }) h)
       (λ f e. (f, refl, e)))
 
   seat-stay : (event : Event) → On Stays (takes_seat d s event)

@@ -9,6 +9,7 @@ ghost use Rattle.cap_owners_laws.specs.Laws.{
   RunsAreTheMachines,
   StartsAreExact,
 };
+ghost use Rattle.cap_owners_laws.specs.Owned.{OwnedRunsAreShown};
 
 /// A law: the text goes along the machine's own run. Each step has the line that it has in a
 /// replay, and behind it one account, which says of each frame that there is after the step what it
@@ -35,6 +36,13 @@ pub fn others_keep()
 /// fixed names.
 pub fn frames_keep()
     ensures { FramesKeep }
+{}
+
+/// A law: where each run has valid accounts that follow one another, and each start is told of, the
+/// text shows just these, behind the line of each step, and ends where the machine does or where a
+/// number leaves its bounds; and it is none only where the schedule's start is none.
+pub fn owned_runs_are_shown()
+    ensures { OwnedRunsAreShown }
 {}
 
 /// Examples of texts: a product with an amount, a source and tokens, a set of indices, both sides of

@@ -1,0 +1,89 @@
+-- By what the items of an assertion are met, where they are drawn out of a part.
+use Rattle.std.proofs.Common.{◌≡◌, inl, inr, ℤ, pos, List, [], ◌∷◌, ◌++◌, Some}
+use Rattle.std.specs.Prelude.{option_map}
+use Rattle.cap_lin.specs.Values.{Valuation}
+use Rattle.cap_prog.specs.declared.assertion.Slot.{Slot}
+use Rattle.cap_prog.specs.declared.assertion.Slot.TheVariants.{Any, Is}
+use Rattle.cap_prog.specs.declared.assertion.Asked.{Asked}
+use Rattle.cap_prog.specs.declared.assertion.Asked.TheVariants.{One, Share, Src, Tok, At, From}
+use Rattle.cap_prog.specs.Program.{PlainItem, compare, choose, fact, atom, cell, Items, none, item, PlainProgram}
+use Rattle.cap_galg.specs.Elements.{Element}
+use Rattle.cap_machine_accounts.specs.Assertions.{NameValue, a_number}
+use Rattle.cap_account_resources.specs.Parts.{known_as, Table}
+use Rattle.cap_account_resources.proofs.Stocks.{Stock}
+use Rattle.cap_account_states.proofs.Wants.{Wants}
+use Rattle.cap_account_assertions.proofs.Asserted.{Draws, DrawsAll}
+use Rattle.cap_owners_spec.specs.Traced.{a_share, valuation}
+use Rattle.cap_owners_spec.specs.Track.{Fill, TrackedRegion, tracked_at}
+
+-- ---- what is drawn
+
+-- the value of a slot `_`
+abbrev pub slot_met : Slot → ℤ → List NameValue
+slot_met Any z = a_number z ∷ []
+slot_met (Is t) z = []
+
+abbrev pub slots_met : List Slot → List ℤ → List NameValue
+slots_met (x ∷ xs) (z ∷ zs) = slot_met x z ++ slots_met xs zs
+slots_met xs zs = []
+
+abbrev pub share_met : Slot → ℤ → List NameValue
+share_met Any n = a_share n ∷ []
+share_met (Is t) n = []
+
+abbrev pub asked_met : (a : Valuation) (asked : Asked) (x : Element) → Wants a asked x → List NameValue
+asked_met a One x h = []
+asked_met a (Share s) x h = share_met s h.1
+asked_met a (Src s) x h = slot_met s (pos h.0)
+asked_met a (Tok s) x h = slot_met s (pos h.0)
+asked_met a (At s) x h = slot_met s (pos h.0)
+asked_met a (From s) x h = slot_met s (pos h.0)
+
+module _ (p : PlainProgram) (T : Table) (a : Valuation) where
+  -- the values of all `_`, in order
+  abbrev mutual
+    pub item_met : (i : PlainItem) (q r : Stock) → Draws p T a i q r → List NameValue
+    item_met (compare c) q r d = []
+    item_met (choose c x y) q r (inl d) = items_met x q r d.1
+    item_met (choose c x y) q r (inr d) = items_met y q r d.1
+    item_met (fact place n k args s) q r d = slots_met args d.0.0 ++ slot_met s d.0.1
+    item_met (atom place n k i asked) q r d = asked_met a asked d.1.element d.1.wanted
+    item_met (cell place x s) q r d = slot_met s d.0
+
+    pub items_met : (xs : Items) (q r : Stock) → DrawsAll p T a xs q r → List NameValue
+    items_met none q r d = []
+    items_met (item i more) q r d = item_met i q d.0 d.1 ++ items_met more d.0 r d.2
+
+  -- the regions of all facts, with their states
+  abbrev mutual
+    pub item_told : (i : PlainItem) (q r : Stock) → Draws p T a i q r → List (ℤ × ℤ)
+    item_told (compare c) q r d = []
+    item_told (choose c x y) q r (inl d) = items_told x q r d.1
+    item_told (choose c x y) q r (inr d) = items_told y q r d.1
+    item_told (fact place n k args s) q r d = (a.whole n, d.0.1) ∷ []
+    item_told (atom place n k i asked) q r d = []
+    item_told (cell place x s) q r d = []
+
+    pub items_told : (xs : Items) (q r : Stock) → DrawsAll p T a xs q r → List (ℤ × ℤ)
+    items_told none q r d = []
+    items_told (item i more) q r d = item_told i q d.0 d.1 ++ items_told more d.0 r d.2
+
+-- ---- by what it is met
+
+-- the items are drawn at the values of the fill's names, out of a part; what they are met by is the
+-- fill
+pub record IsMetBy (p : PlainProgram) (T : Table) (a : Valuation) (items : Items) (q r : Stock)
+    (d : DrawsAll p T a items q r) (f : Fill) : Type 0 where
+  pub names : a ≡ valuation f.names
+  pub wildcards : items_met p T a items q r d ≡ f.wildcards
+  pub facts : items_told p T a items q r d ≡ f.facts
+
+-- ---- tables
+
+-- the regions of a track are those of the table
+abbrev pub Tells : List TrackedRegion → Table → Type 0
+Tells rs T =
+    (n : ℤ) →
+    option_map (λ r. known_as r.owned.region.kind r.owned.region.args (Some r.owned.region.state))
+    (tracked_at rs n)
+    ≡ T n

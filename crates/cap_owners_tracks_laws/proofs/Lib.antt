@@ -1,0 +1,4 @@
+pub mod Tied
+pub mod Steps
+pub mod Runs
+pub mod Saying

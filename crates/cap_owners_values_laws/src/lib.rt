@@ -1,0 +1,2 @@
+//! The values of a track as values of terms, guards and states. Lemmas alone.
+#![tactic(auto)]
