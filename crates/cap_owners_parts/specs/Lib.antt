@@ -1,0 +1,4 @@
+pub mod Codes
+pub mod Composed
+pub mod Lines
+pub mod Views
