@@ -24,7 +24,7 @@ use std::alloc::{AllocError, Global};
 
 /// The goals at the roots of a unit, no term of which leaves 128 bits. The only error is want of
 /// memory.
-pub(crate) fn roots_of<'a>(
+pub fn roots_of<'a>(
     alloc: Global,
     program: &'a Program,
     unit: Unit,
@@ -110,7 +110,8 @@ pub(crate) fn all_roots<'a>(
 
 /// What a node's choice leaves of its goal. It proves what its rule owes, so the only error is want
 /// of memory.
-pub(crate) fn goals_left<'a>(
+#[inline(never)]
+pub fn goals_left<'a>(
     alloc: Global,
     program: &'a Program,
     goal: &Goal<'a>,

@@ -1,0 +1,4 @@
+pub mod Gathered
+pub mod Places
+pub mod Proven
+pub mod Views
