@@ -112,6 +112,34 @@ class Elements(html.parser.HTMLParser):
         self.said(names, data)
 
 
+class Page(Elements):
+    """The elements of a page of a run: its rows and cells, its source, and what it says of owners are kept."""
+
+    def __init__(self, text):
+        self.rows, self.source, self.says = [], [], None
+        super().__init__(text)
+
+    def begun(self, name, had):
+        """A row, a cell, or a line of the source."""
+        if name == "tr":
+            self.rows.append((had, []))
+        if name in ("td", "th"):
+            self.rows[-1][1].append((name, had, []))
+        if name == "div" and "source" in self.classes():
+            self.source.append("")
+        if name == "p" and had.get("class") == "says":
+            self.says = ""
+
+    def said(self, names, data):
+        """What stands in a cell or in a line of the source."""
+        if "td" in names or "th" in names:
+            self.rows[-1][1][-1][2].append(data)
+        if "code" in names and "source" in self.classes():
+            self.source[-1] += data
+        if "says" in self.classes():
+            self.says += data
+
+
 def check_lines(checks, name, path, source):
     """Compares the source of a page, line by line, with a file."""
     lines = [it.rstrip("\r") for it in read(path).decode("utf-8", errors="replace").split("\n")]

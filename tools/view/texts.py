@@ -1,6 +1,6 @@
-"""Texts that caper prints, read by the grammar of each: schedules, what `replay`, `stray`, `verify`, `derive` and
-`outline` say, and refusals. The grammars are here in one place; LINE stands for its end by a line feed, NUMBER is decimal without
-leading zeros, with `-` where it may be negative, and within 128 signed bits.
+"""Texts that caper prints, read by the grammar of each: schedules, what `replay`, `stray`, `verify`, `derive`,
+`outline` and `owners` say, and refusals. The grammars are here in one place; LINE stands for its end by a line feed,
+NUMBER is decimal without leading zeros, with `-` where it may be negative, and within 128 signed bits.
 
     schedule = "start" { NUMBER } LINE { "cell" ADDRESS NUMBER LINE } { "step" THREAD [ NUMBER ] LINE } "end" LINE
     stray    = schedule | "stray: none in" COUNT LINE | refusal
@@ -24,6 +24,15 @@ leading zeros, with `-` where it may be negative, and within 128 signed bits.
     FACTS    = NAME "(" TERM { ", " TERM } "; " TERM ")"
     GUARDS   = TERM "@" ( NAME [ "[" TERM "]" ] | ( "src " | "tok " ) NAME "[" TERM "]" | NAME "{" TERM ".." [ TERM ] "}" )
     TERM     = "0" | PART { " + " PART }, the constant if it isn't 0, then NUMBER "*v" K by ascending K
+    owners   = "start" LINE account { K THREAD L:C EVENT LINE account } last LINE | "start" LINE "wide 0" LINE
+             | "rejected node" K LINE | "rejected shape" K LINE | refusal; it never stops at a fault
+    account  = { "region" N NAME "(" [ A { ", " A } "; " ] S "): " PART LINE } { frame LINE }
+    frame    = "thread" THREAD "frame" F ": " PART [ " with " NAME " = " VALUE { ", " NAME " = " VALUE } ]
+    PART     = "nothing" | HELD { ", " HELD }, cells by ascending address, then guards by ascending region
+    HELD     = ADDRESS " |-> " V | N "@" ATOM { " * " ATOM }
+    ATOM     = NAME | NAME "[" SHARE "]" | ( "src " | "tok " ) NAME "[" N "]" | NAME "{" N ".." [ N ] "}"
+    SHARE    = N "/" N, in lowest terms, above 0 and at most 1
+    VALUE    = NUMBER | SHARE
     refusal  = "refused start" | "refused" L:C: CAUSE | "refused schedule line" K
              | "refused schedule: more than 100000 entries" | "refused: file too long" | "cannot read" FILE
              | "refused derivation line" K | "refused derivation: no end"
@@ -32,13 +41,15 @@ leading zeros, with `-` where it may be negative, and within 128 signed bits.
 
 What a text says has to fit together too: addresses ascend, steps are counted from 1, a thread that steps has begun
 and has not ended, a run that stopped ends with its fault, the verdicts are as many as the last line counts, and so are
-the nodes of a derivation.
+the nodes of a derivation. The regions of an account ascend, and its frames are those of ascending threads, each from 0.
 
 A text that is none of these is refused by `Unknown`, which names the text, the line and what was not known there."""
 
 import json
+import math
 import re
 from dataclasses import dataclass, field
+from fractions import Fraction
 
 WIDTH = 2**127
 THREADS = 2**32
@@ -213,7 +224,8 @@ class Fact:
 @dataclass(frozen=True)
 class Guard:
     """A guard that is held: its region, its kind (`` unique, `share`, `src`, `tok`, `span`), its name, and its amount, or
-    where its span begins, and where it ends, which is None without an end."""
+    where its span begins, and where it ends, which is None without an end. In an outline these are terms, in an account
+    numbers."""
 
     region: Term
     kind: str
@@ -240,6 +252,75 @@ class Point:
     function: str
     place: tuple
     states: list
+
+
+@dataclass(frozen=True)
+class Part:
+    """What a region or a frame owns: cells as pairs of address and value, and guards, those of one region together."""
+
+    cells: tuple
+    guards: tuple
+
+    def said(self):
+        """The part as it is printed."""
+        held = [f"{address} |-> {value}" for address, value in self.cells]
+        for number in dict.fromkeys(it.region for it in self.guards):
+            held.append(f"{number}@" + " * ".join(atom_text(it) for it in self.guards if it.region == number))
+        return ", ".join(held) or "nothing"
+
+
+@dataclass(frozen=True)
+class Shared:
+    """A region of an account: its number, its type, its further arguments, its state, and its part."""
+
+    number: int
+    type: str
+    arguments: tuple
+    state: int
+    part: Part
+
+    def said(self):
+        """The region without its part, as it is printed."""
+        arguments = ", ".join(map(str, self.arguments))
+        return f"region {self.number} {self.type}({arguments}{'; ' if arguments else ''}{self.state})"
+
+
+@dataclass(frozen=True)
+class Owning:
+    """A frame of an account: its thread, its number from the bottom, its part, and its fixed names with their values."""
+
+    thread: int
+    frame: int
+    part: Part
+    names: tuple
+
+    def said(self):
+        """The fixed names as they are printed."""
+        return ", ".join(f"{name} = {value_text(value)}" for name, value in self.names)
+
+
+@dataclass(frozen=True)
+class Account:
+    """An account of a configuration: its regions, and its frames."""
+
+    regions: tuple
+    frames: tuple
+
+    def text(self):
+        """The lines of the account."""
+        lines = [f"{it.said()}: {it.part.said()}" for it in self.regions]
+        for it in self.frames:
+            said = f" with {it.said()}" if it.names else ""
+            lines.append(f"thread {it.thread} frame {it.frame}: {it.part.said()}{said}")
+        return "".join(f"{it}\n" for it in lines)
+
+
+@dataclass
+class Owned:
+    """A run with its accounts: that of the start, and the one after each step."""
+
+    run: Replay
+    accounts: list
 
 
 class Lines:
@@ -425,6 +506,11 @@ def replay(text):
             lines.take()
             lines.wrong("a step behind a fault")
         steps.append(step_of(lines, len(steps) + 1, running))
+    return finished(lines, steps)
+
+
+def finished(lines, steps):
+    """The run of these steps, which ends with the next line."""
     end, _, count = lines.take().rpartition(" ")
     wanted = {"ended": len(steps), "stopped": len(steps), "not enabled": len(steps) + 1, "wide": len(steps) + 1}
     if end not in wanted:
@@ -598,12 +684,17 @@ FACTS_APART = re.compile(r"(?<=\)); ")
 STATE = {"rows": row_of, "store": value_of, "cells": held_of, "facts": fact_of, "guards": guard_of}
 
 
+def is_rejected(text):
+    """Whether a text says that a derivation isn't accepted."""
+    return bool(re.fullmatch(r"rejected (node|shape) [1-9][0-9]*\n", text))
+
+
 def outline(text):
     """What `outline` says: the points of all functions, or a refusal."""
     refused = refusal_of(text)
     if refused:
         return refused
-    if re.fullmatch(r"rejected (node|shape) [1-9][0-9]*\n", text):
+    if is_rejected(text):
         return Refusal(text[:-1], 1)
     lines, points, function = Lines("outline", text), [], None
     while lines.more():
@@ -618,3 +709,147 @@ def outline(text):
         else:
             lines.wrong("no line of an outline in its place")
     return points
+
+
+# ---- accounts
+
+
+def share_of(word):
+    """The fraction that a word spells, or None."""
+    numerator, slash, denominator = word.partition("/")
+    over, under = count_of(numerator), count_of(denominator)
+    if not (slash and over and under and over <= under and math.gcd(over, under) == 1):
+        return None
+    return Fraction(over, under)
+
+
+def share_text(share):
+    """A fraction as it is printed."""
+    return f"{share.numerator}/{share.denominator}"
+
+
+def value_text(value):
+    """The value of a fixed name as it is printed."""
+    return share_text(value) if isinstance(value, Fraction) else str(value)
+
+
+def atom_text(guard):
+    """A guard of an account as it is printed behind its region."""
+    if guard.kind == "span":
+        return f"{guard.name}{{{guard.amount}..{'' if guard.last is None else guard.last}}}"
+    if guard.kind == "share":
+        return f"{guard.name}[{share_text(guard.amount)}]"
+    return f"{guard.kind} {guard.name}[{guard.amount}]" if guard.kind else guard.name
+
+
+def atom_of(lines, region, text):
+    """The guard of a region that a text spells."""
+    found = re.fullmatch(rf"(?:(src|tok) )?({NAME})(?:\[([^\]]*)\]|{{([^.]*)\.\.([^}}]*)}})?", text)
+    if not found or (found[1] and found[3] is None):
+        lines.wrong(f"no guard: {text}")
+    kind, name, amount, first, last = found.groups()
+    if first is not None:
+        ends = count_of(first), count_of(last) if last else None
+        if ends[0] is None or (last and (ends[1] is None or ends[1] <= ends[0])):
+            lines.wrong(f"no span: {text}")
+        return Guard(region, "span", name, *ends)
+    if amount is None:
+        return Guard(region, "", name)
+    value = count_of(amount) if kind else share_of(amount)
+    if value is None:
+        lines.wrong(f"no amount: {text}")
+    return Guard(region, kind or "share", name, value)
+
+
+def part_of(lines, text):
+    """The part that a text spells."""
+    cells, guards = [], []
+    for held in [] if text == "nothing" else text.split(", "):
+        address, arrow, value = held.partition(" |-> ")
+        if arrow:
+            cells.append((number_of(address), number_of(value)))
+            if None in cells[-1] or cells[-1][0] < 1 or guards or (len(cells) > 1 and cells[-2][0] >= cells[-1][0]):
+                lines.wrong(f"no cell in its place: {held}")
+            continue
+        word, at, atoms = held.partition("@")
+        region = count_of(word)
+        if not at or not region or (guards and guards[-1].region >= region):
+            lines.wrong(f"no guards in their place: {held}")
+        guards += [atom_of(lines, region, it) for it in atoms.split(" * ")]
+    return Part(tuple(cells), tuple(guards))
+
+
+def shared_of(lines):
+    """The region that the next line spells, with its part."""
+    found = re.fullmatch(rf"region ([0-9]+) ({NAME})\((?:([^;)]*); )?([^;)]*)\): (.*)", lines.take())
+    if not found:
+        lines.wrong("no region")
+    number, state = count_of(found[1]), number_of(found[4])
+    arguments = tuple(number_of(it) for it in found[3].split(", ")) if found[3] is not None else ()
+    if not number or state is None or None in arguments:
+        lines.wrong("no number, arguments and state of a region")
+    return Shared(number, found[2], arguments, state, part_of(lines, found[5]))
+
+
+def owning_of(lines):
+    """The frame that the next line spells, with its part and its fixed names."""
+    found = re.fullmatch(r"thread ([0-9]+) frame ([0-9]+): (.*?)(?: with (.*))?", lines.take())
+    thread, frame = (thread_of(found[1]), count_of(found[2])) if found else (None, None)
+    if thread is None or frame is None:
+        lines.wrong("no frame")
+    names = []
+    for it in found[4].split(", ") if found[4] is not None else []:
+        name, equals, word = it.partition(" = ")
+        value = number_of(word) if "/" not in word else share_of(word)
+        if not equals or not re.fullmatch(NAME, name) or value is None:
+            lines.wrong(f"no value of a name: {it}")
+        names.append((name, value))
+    return Owning(thread, frame, part_of(lines, found[3]), tuple(names))
+
+
+def account_of(lines):
+    """The account that the next lines spell."""
+    regions, frames = [], []
+    while (lines.ahead() or "").startswith("region "):
+        regions.append(shared_of(lines))
+        if len(regions) > 1 and regions[-2].number >= regions[-1].number:
+            lines.wrong("the numbers of regions ascend")
+    while (lines.ahead() or "").startswith("thread "):
+        it, before = owning_of(lines), frames[-1] if frames else None
+        frames.append(it)
+        if it.frame != (before.frame + 1 if before and before.thread == it.thread else 0):
+            lines.wrong("the frames of a thread are counted from 0")
+        if before and before.thread > it.thread:
+            lines.wrong("the threads ascend")
+    return Account(tuple(regions), tuple(frames))
+
+
+def owners(text):
+    """What `owners` says: a run with its accounts, or a refusal."""
+    refused = refusal_of(text)
+    if refused:
+        return refused
+    if is_rejected(text):
+        return Refusal(text[:-1], 1)
+    lines, steps, running = Lines("owners", text), [], [True]
+    if lines.take() != "start":
+        lines.wrong("no `start`")
+    if lines.ahead() == "wide 0":
+        lines.take()
+        lines.finish()
+        return Owned(Replay([], "wide", 0), [])
+    accounts = [account_of(lines)]
+    while re.match(r"[0-9]", lines.ahead() or ""):
+        steps.append(step_of(lines, len(steps) + 1, running))
+        if steps[-1].event in FAULTS:
+            lines.wrong("a fault, which a proved program doesn't come to")
+        accounts.append(account_of(lines))
+    return Owned(finished(lines, steps), accounts)
+
+
+def owners_text(it):
+    """The canonical text of a run with its accounts."""
+    text = "start\n" + "".join(account.text() for account in it.accounts[:1])
+    for step, account in zip(it.run.steps, it.accounts[1:]):
+        text += f"{step.number} {step.thread} {place_text(step.place)} {step.said()}\n{account.text()}"
+    return f"{text}{it.run.end} {it.run.count}\n"
