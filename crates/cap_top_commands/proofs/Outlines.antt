@@ -27,6 +27,13 @@ use Rattle.cap_top_commands.proofs.Accepting.{ReadingsAreLines}
 use Rattle.cap_top_commands.proofs.Following.{one_list, bad_only, judged_only, checked_only, SaysBad}
 use Rattle.cap_top_commands.proofs.Good.{TextsAreFormed, safe_text, same_status}
 
+-- what is read to its end is bad where it is said to be
+pub bad_whole : (bytes : List ℕ) (e : DerivError) → ReadsWhole (Err e) (told_by_bytes bytes) → e ≢ OutOfMemory → IsBadDerivation bytes e
+bad_whole bytes (BadLine n) h m = h
+bad_whole bytes Unended h m = h
+bad_whole bytes TooMany h m = h
+bad_whole bytes OutOfMemory h m = absurd (m refl)
+
 module _ (p : PlainProgram) (bytes : List ℕ) where
   -- the bytes are lines of so many trees with these choices
   abbrev pub TellsChoices : ℕ → List PlainChoice → Type 0
@@ -88,18 +95,12 @@ module _ (p : PlainProgram) (bytes : List ℕ) where
       (unaccepted_only judged one (judged_output (Err e)) k.said (λ f. let g : Bad ≡ Good = f in cc))
   says_fault judged one n cs e (Err a) told j h = tt
 
-  bad_whole : (e : DerivError) → ReadsWhole (Err e) (told_by_bytes bytes) → e ≢ OutOfMemory → IsBadDerivation bytes e
-  bad_whole (BadLine n) h m = h
-  bad_whole Unended h m = h
-  bad_whole TooMany h m = h
-  bad_whole OutOfMemory h m = absurd (m refl)
-
   pub says_bad_lines : JudgedAreValid → JudgementsAreOne → (e : DerivError) (r : Result code.Output AllocError)
       → ReadsWhole (Err e) (told_by_bytes bytes) → SaysBad p bytes e r
       → IfOk r (λ o. IsOnly (IsOutline p bytes) (output_view o))
   says_bad_lines judged one e (Ok o) f h =
       subst (IsOnly (IsOutline p bytes)) (sym h.0)
-      (unaccepted_only judged one (bad_derivation_output e) (bad_only p bytes e (bad_whole e f h.1)).said
+      (unaccepted_only judged one (bad_derivation_output e) (bad_only p bytes e (bad_whole bytes e f h.1)).said
       (λ k. let g : Refused ≡ Good = k in cc))
   says_bad_lines judged one e (Err a) f h = tt
 

@@ -18,7 +18,8 @@ use Rattle.cap_replay.specs.declared.reading.ScheduleError.TheVariants.{BadLine}
 use Rattle.cap_replay.specs.Reading.{Progress, read, IsReadAs}
 use Rattle.cap_replay.specs.RunText.{RunText, run_from, run_text, played_view}
 use Rattle.cap_top_commands.specs.declared.output.Output as code
-use Rattle.cap_top_commands.specs.Answers.{IsPlayed, IsPlayedAs, IsBadSchedule, TakesArguments, run_along, IsOnly, IsOnlyTextOf}
+use Rattle.cap_top_commands.specs.Answers.{IsOnly, IsOnlyTextOf}
+use Rattle.cap_top_commands.specs.Schedules.{IsPlayed, IsPlayedAs, IsBadSchedule, TakesArguments, run_along}
 use Rattle.cap_top_commands.specs.Output.{Output, refusal_output, schedule_output, run_output}
 use Rattle.cap_top_commands.specs.Beginning.{IsOnlyRefusal}
 use Rattle.cap_top_commands.specs.Views.{output_view, IsCause}
