@@ -4,7 +4,7 @@ ghost use Rattle.std.specs.Prelude.{length, filter_map, OnOk, OnErr, IfOk};
 ghost use Rattle.cap_parse_tree.specs.Views.{factor_view, product_view, term_view};
 ghost use Rattle.cap_resolve_spec.specs.Names.{variable_of, whole_numbers};
 ghost use Rattle.cap_resolve_spec.specs.Parts.{named_word, factor_leaves, product_leaves, term_words};
-ghost use Rattle.cap_resolve_spec.specs.Linear.{with_names};
+ghost use Rattle.cap_resolve_forms.specs.Numbered.{unless_too_many};
 
 use cap_lin::Sort;
 use cap_parse_tree::{Factor, Product, Term};
@@ -31,32 +31,32 @@ impl<'s, 'a> Model for Names<'s, 'a> {
 }
 
 impl<'s, 'a> Names<'s, 'a> {
-    /// The variables of a scope alone. It takes no memory.
+    /// The variables of a scope alone, fewer than 2^32. It takes no memory.
     pub fn of_scope(alloc: Global, scope: &'s Scope<'a>) -> Names<'s, 'a>
+        requires { length scope.now < 2 ^ 32 }
         ensures { result ≡ scope.now ++ [] }
     {
-        let _count = scope.len();
         Names {
             scope,
             own: Scope::new(alloc),
         }
     }
 
-    /// The variables of a scope, and one for each name of a term. There is an error where memory
-    /// runs out, or the variables number 2^32.
+    /// The variables of a scope, and one for each name of a term; none where there are 2^32 or more.
+    /// There is an error where memory runs out.
     pub fn with_names(
         alloc: Global,
         scope: &'s Scope<'a>,
         term: &'a Term,
-    ) -> Result<Names<'s, 'a>, AllocError>
-        ensures { IfOk result (λ n. n ≡ with_names scope.now (term_view term.now)) }
+    ) -> Result<Option<Names<'s, 'a>>, AllocError>
+        ensures { IfOk result (λ n. n ≡ unless_too_many scope.now (term_view term.now)) }
     {
         let mut own = Scope::new(alloc);
         push_names(&mut own, term)?;
-        if scope.len() as u64 + own.len() as u64 > u32::MAX as u64 {
-            return Err(AllocError);
+        if scope.len() as u128 + own.len() as u128 > u32::MAX as u128 {
+            return Ok(None);
         }
-        Ok(Names { scope, own })
+        Ok(Some(Names { scope, own }))
     }
 
     /// The number of the variable that a name stands for, or the number of variables where it is
@@ -65,9 +65,9 @@ impl<'s, 'a> Names<'s, 'a> {
         ensures { result ≡ variable_of self.now name.now }
     {
         if self.scope.knows(name) {
-            self.scope.number(name)
+            self.scope.variable(name)
         } else {
-            self.scope.len() + self.own.number(name)
+            self.scope.len() as u32 + self.own.variable(name)
         }
     }
 }

@@ -1,6 +1,7 @@
 //! Whether a term's form stays within 128 bits, and all that is wrong in a term.
-ghost use Rattle.std.specs.Prelude.{◌≡◌, fold, OnOk, IfOk};
+ghost use Rattle.std.specs.Prelude.{◌≡◌, ◌<◌, ◌^◌, fold, is_some, length, OnOk, IfOk};
 ghost use Rattle.cap_lin.specs.Exact.{IsExact};
+ghost use Rattle.cap_lin.specs.Steps.{first_wide};
 ghost use Rattle.cap_parse_tree.specs.Views.{term_view};
 ghost use Rattle.cap_resolve_spec.specs.Finding.{note, found_if, limit, width};
 ghost use Rattle.cap_resolve_spec.specs.Linear.{term_form, term_steps, is_wide as leaves_bits};
@@ -20,6 +21,7 @@ use std::alloc::{AllocError, Global};
 /// counts as 0, and each name that is not known as the variable behind the last. Wide has the first
 /// result on the way, from the left to the right, that leaves 128 bits.
 pub fn linear(alloc: Global, scope: &Scope<'_>, term: &Term) -> Result<Linear, LinError>
+    requires { length scope.now < 2 ^ 32 }
     ensures { IsExact result (term_steps scope.now (term_view term.now))
         (term_form scope.now (term_view term.now)) }
 {
@@ -27,20 +29,32 @@ pub fn linear(alloc: Global, scope: &Scope<'_>, term: &Term) -> Result<Linear, L
     form(alloc, &names, term)
 }
 
-/// Whether some result on the way to a term's linear form leaves 128 bits, where each name that is
-/// not known is a variable of its own.
-pub fn is_wide<'a>(alloc: Global, scope: &Scope<'a>, term: &'a Term) -> Result<bool, AllocError>
-    ensures { IfOk result (λ wide. wide ≡ leaves_bits scope.now (term_view term.now)) }
+fn has_wide_result(alloc: Global, names: &Names<'_, '_>, term: &Term) -> Result<bool, AllocError>
+    ensures { IfOk result
+        (λ wide. wide ≡ is_some (first_wide (term_steps names.now (term_view term.now)))) }
 {
-    let names = Names::with_names(alloc, scope, term)?;
-    match form(alloc, &names, term) {
+    match form(alloc, names, term) {
         Ok(_) => Ok(false),
         Err(LinError::Wide(_, _)) => Ok(true),
         Err(LinError::OutOfMemory) => Err(AllocError),
     }
 }
 
-/// Notes a term of which some result on the way to its linear form leaves 128 bits.
+/// Whether some result on the way to a term's linear form leaves 128 bits, where each name that is
+/// not known is a variable of its own, or there are 2^32 variables or more. There is an error where
+/// memory runs out.
+pub fn is_wide<'a>(alloc: Global, scope: &Scope<'a>, term: &'a Term) -> Result<bool, AllocError>
+    ensures { IfOk result (λ wide. wide ≡ leaves_bits scope.now (term_view term.now)) }
+{
+    let numbered = Names::with_names(alloc, scope, term)?;
+    match numbered {
+        None => Ok(true),
+        Some(names) => has_wide_result(alloc, &names, term),
+    }
+}
+
+/// Notes a term of which some result on the way to its linear form leaves 128 bits, or that has
+/// 2^32 variables or more.
 pub(crate) fn note_width<'a>(
     noted: &mut Noted<'_>,
     alloc: Global,

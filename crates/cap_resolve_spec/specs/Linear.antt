@@ -1,5 +1,5 @@
 -- The linear form of a term, the results on the way to it, and the term's value as it is written.
-use Rattle.std.specs.Prelude.{ℕ, ℤ, pos, ◌+ℤ◌, ◌*ℤ◌, neg_ℤ, Bool, is_some, List, [], ◌++◌, Option, Some, None}
+use Rattle.std.specs.Prelude.{ℕ, ◌^◌, nat_le, ℤ, pos, ◌+ℤ◌, ◌*ℤ◌, neg_ℤ, Bool, ◌||◌, is_some, List, [], ◌++◌, length, Option, Some, None}
 use Rattle.cap_syntax.specs.declared.place.Place.{Place}
 use Rattle.cap_lin.specs.Linear.{Linear, number, variable, plus, negative, minus}
 use Rattle.cap_lin.specs.Linear.{times as multiple}
@@ -103,9 +103,14 @@ abbrev mutual
 abbrev pub with_names : NameScope → TermTree → NameScope
 with_names scope t = scope ++ whole_numbers (term_words t)
 
--- some result on the way leaves 128 bits
+-- there are 2^32 variables or more, as in no text
+abbrev pub has_too_many : NameScope → TermTree → Bool
+has_too_many scope t = nat_le (2 ^ 32) (length (with_names scope t))
+
+-- some result on the way leaves 128 bits, or the variables' numbers leave 32
 abbrev pub is_wide : NameScope → TermTree → Bool
-is_wide scope t = is_some (first_wide (term_steps (with_names scope t) t))
+is_wide scope t =
+    has_too_many scope t || is_some (first_wide (term_steps (with_names scope t) t))
 
 -- ---- the value of a term as it is written, where `1p` is 1
 
