@@ -4,7 +4,6 @@ says which)."""
 import os
 import random
 import re
-import tempfile
 
 from view_checks import TOP, Page, short, text_of, tool
 
@@ -14,7 +13,7 @@ from browser import Browser
 from calls import call, read
 from drawn import schedule_of
 from machine import Differs
-from proof_checks import examples
+from proof_checks import examples, told_by
 from source import program_of
 
 COLOURED = re.compile(r"by-([tg])([0-9]+)")
@@ -29,13 +28,8 @@ def lacks_owners(program):
 
 def owned_text(program, path, schedule, room):
     """What `owners` says of a program along a schedule, or None where it isn't proved."""
-    said, status = call(program, "derive", path)
-    if status:
-        return None
-    with tempfile.NamedTemporaryFile("w", dir=room, encoding="utf-8") as file:
-        file.write(said)
-        file.flush()
-        return call(program, "owners", path, file.name, schedule)[0]
+    told = told_by(program, "owners", path, room, schedule)
+    return told and told[1]
 
 
 # ---- texts

@@ -88,15 +88,20 @@ def spelled(points):
     return "".join(f"{it}\n" for it in lines)
 
 
-def outlined(program, path, room):
-    """A derivation and its outline as texts, or None where not all is proved."""
+def told_by(program, command, path, room, *more):
+    """A derivation and what a command says by it, or None where not all is proved."""
     said, status = call(program, "derive", path)
     if status:
         return None
     with tempfile.NamedTemporaryFile("w", dir=room, encoding="utf-8") as file:
         file.write(said)
         file.flush()
-        return said, call(program, "outline", path, file.name)[0]
+        return said, call(program, command, path, file.name, *more)[0]
+
+
+def outlined(program, path, room):
+    """A derivation and its outline as texts, or None where not all is proved."""
+    return told_by(program, "outline", path, room)
 
 
 def check_states(checks, program, pool, room):
