@@ -133,8 +133,8 @@ fn add_intervals(
     name: &[u8],
     bounds: &[u128],
 ) -> Result<(), AllocError>
-    ensures { OnOk result
-        (map (λ t. t.items) texts.new.items ≡ map (λ t. t.items) texts.old.items ++ interval_texts name.now bounds.now) }
+    ensures { OnOk result (map (λ t. t.items) texts.new.items
+        ≡ map (λ t. t.items) texts.old.items ++ interval_texts name.now bounds.now) }
 {
     let mut at = 0;
     while at < bounds.len() {

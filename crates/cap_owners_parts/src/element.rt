@@ -17,8 +17,8 @@ use std::alloc::{AllocError, Global};
 /// All shares are over this.
 pub(crate) const OVER: u128 = 1 << 63;
 
-/// An element of the guards of a region type: cap_galg's elements have counts and indices of 64 bits,
-/// and those of a track are values of terms.
+/// An element of the guards of a region type: cap_galg's elements have counts and indices of 64
+/// bits, and those of a track are values of terms.
 #[derive(Debug, Drop)]
 pub(crate) enum Element {
     Nothing,
@@ -206,8 +206,8 @@ impl Element {
     }
 }
 
-// The pair of what two parts compose to. Where one part is not told of, the pair is not, even if the
-// other one is past 128 bits.
+// The pair of what two parts compose to. Where one part is not told of, the pair is not, even if
+// the other one is past 128 bits.
 fn pair_of(
     alloc: Global,
     first: Result<Element, TraceError>,

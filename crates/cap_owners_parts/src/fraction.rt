@@ -31,7 +31,8 @@ pub(crate) fn push_fraction(
     text: &mut Vec<u8>,
     numerator: u128,
 ) -> Result<(), AllocError>
-    ensures { OnOk result (text.new.items ≡ text.old.items ++ fraction_text (lowest numerator over)) }
+    ensures { OnOk result
+        (text.new.items ≡ text.old.items ++ fraction_text (lowest numerator over)) }
 {
     let divisor = common_divisor(numerator, OVER);
     push_count(alloc, text, numerator / divisor)?;

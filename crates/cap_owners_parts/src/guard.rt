@@ -62,8 +62,8 @@ fn guard_of(kind: u32, element: Element) -> Option<Guard>
     Some(Guard { kind, element })
 }
 
-/// What a guard that is held, if one is, and an element of a type's guards compose to. `Untold` comes
-/// where they don't, and `PastWidth` where they do and a count leaves 128 bits.
+/// What a guard that is held, if one is, and an element of a type's guards compose to. `Untold`
+/// comes where they don't, and `PastWidth` where they do and a count leaves 128 bits.
 pub(crate) fn join(
     alloc: Global,
     held: Option<&Guard>,

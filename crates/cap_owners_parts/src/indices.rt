@@ -8,9 +8,9 @@ use crate::merge::union;
 use std::alloc::{AllocError, Global};
 use std::marker::Model;
 
-/// A set of indices that is finite or lacks finitely many, by its bounds: from the first on an index
-/// is in the set, from the second on it isn't, and so on. Indices are whole numbers of a track, so
-/// that cap_galg_indices' sets, which are made of 64 bits, do not serve.
+/// A set of indices that is finite or lacks finitely many, by its bounds: from the first on an
+/// index is in the set, from the second on it isn't, and so on. Indices are whole numbers of a
+/// track, so that cap_galg_indices' sets, which are made of 64 bits, do not serve.
 #[derive(Debug, Drop)]
 pub(crate) struct Indices {
     bounds: Vec<u128>,

@@ -15,8 +15,8 @@ use cap_owners_values::{TraceError, Value, Values};
 use cap_prog::Asked;
 use std::alloc::{AllocError, Global};
 
-/// The element of a form, by the values of variables. `PastWidth` comes where a term leaves 128 bits,
-/// and `Untold` where an amount, a count or an index is negative.
+/// The element of a form, by the values of variables. `PastWidth` comes where a term leaves 128
+/// bits, and `Untold` where an amount, a count or an index is negative.
 pub(crate) fn form_element(
     alloc: Global,
     form: &Form,
@@ -41,8 +41,8 @@ pub(crate) fn form_element(
     }
 }
 
-/// The element that is asked for, by the value at which it is met. `Untold` comes where that is none
-/// of what is asked for, or negative.
+/// The element that is asked for, by the value at which it is met. `Untold` comes where that is
+/// none of what is asked for, or negative.
 pub(crate) fn asked_element(
     alloc: Global,
     asked: &Asked,

@@ -78,10 +78,10 @@ impl Part {
         Ok(())
     }
 
-    /// Puts what is asked of a region's guard in, by the value at which it is met: the number of the
-    /// region, its type, the atom. `PastWidth` comes where a count leaves 128 bits, and `Untold` where
-    /// the value is none of what is asked or does not go with what the part has of the region's
-    /// guards. After an error the part is lost.
+    /// Puts what is asked of a region's guard in, by the value at which it is met: the number of
+    /// the region, its type, the atom. `PastWidth` comes where a count leaves 128 bits, and
+    /// `Untold` where the value is none of what is asked or does not go with what the part has of
+    /// the region's guards. After an error the part is lost.
     pub fn put_asked(
         &mut self,
         alloc: Global,
@@ -99,9 +99,9 @@ impl Part {
         self.put_atom(alloc, program, region, kind, atom, element)
     }
 
-    /// Puts an element of one atom of a region's guards in. `PastWidth` comes where a count leaves 128
-    /// bits, and `Untold` where the element does not go with what the part has of the region's guards.
-    /// After an error the part is lost.
+    /// Puts an element of one atom of a region's guards in. `PastWidth` comes where a count leaves
+    /// 128 bits, and `Untold` where the element does not go with what the part has of the region's
+    /// guards. After an error the part is lost.
     pub(crate) fn put_atom(
         &mut self,
         alloc: Global,

@@ -22,7 +22,8 @@ use cap_prog::Program;
 use std::alloc::{AllocError, Global};
 use std::collections::BTreeMap;
 
-/// Writes a part: its cells by their addresses, and then its guards by the numbers of their regions.
+/// Writes a part: its cells by their addresses, and then its guards by the numbers of their
+/// regions.
 pub fn push_part(
     alloc: Global,
     text: &mut Vec<u8>,

@@ -1,6 +1,7 @@
 -- Chains of `?`: how the contract `Traces` goes along `>>=`. Where a call answers an error, `stops`
 -- gives the error for all that stands behind it; where it answers Ok, `goes` gives what remains, and
--- `goes_on` the whole from the rest. `handed_on` is the error of a `?`, for `rw` at its goal.
+-- `goes_on` the whole from the rest. The error that a `?`
+-- hands on is had by `err_from_is_err_and`, for `rw` at its goal (`Values/holds` shows all three).
 use Rattle.std.proofs.Common.{◌≡◌, Result, Ok, Err, ap}
 use Rattle.cap_owners_spec.specs.Traced.{Traced, ◌>>=◌}
 use Rattle.cap_owners_values.specs.declared.error.TraceError.{TraceError}

@@ -124,16 +124,16 @@ impl Values {
         Ok(Values { values })
     }
 
-    /// The value of a term of whole numbers, in which a share counts as 0. `PastWidth` comes where a
-    /// product or a partial sum leaves 128 bits, and no other error. It takes no memory.
+    /// The value of a term of whole numbers, in which a share counts as 0. `PastWidth` comes where
+    /// a product or a partial sum leaves 128 bits, and no other error. It takes no memory.
     pub fn number_in(&self, term: &Term) -> Result<i128, TraceError>
         ensures { Traces result (λ z. z) (number_in self.now term.now) }
     {
         self.total(Sort::Int, term.constant_part(), term.parts())
     }
 
-    /// The value of a term of shares, as a numerator over 2^63. `PastWidth` comes where a product or a
-    /// partial sum leaves 128 bits, and no other error. It takes no memory.
+    /// The value of a term of shares, as a numerator over 2^63. `PastWidth` comes where a product
+    /// or a partial sum leaves 128 bits, and no other error. It takes no memory.
     pub fn amount_in(&self, term: &Term) -> Result<i128, TraceError>
         ensures { Traces result (λ z. z) (amount_in self.now term.now) }
     {
