@@ -1,7 +1,7 @@
 //! The regions of a track.
 ghost use Rattle.std.specs.Bool.{MatchBool};
 ghost use Rattle.std.specs.Prelude.{◌≡◌, ◌<◌, IfOk, OnErr, OnOk, length, slice_index_or, pos};
-ghost use Rattle.std.specs.Prelude.{option_copied, []};
+ghost use Rattle.std.specs.Prelude.{option_copied, slice_get, []};
 ghost use Rattle.cap_owners_spec.specs.Steps.{is_current, is_in_state};
 ghost use Rattle.cap_owners_spec.specs.Track.{tracked_at};
 ghost use Rattle.cap_owners_spec.specs.Walks.{with_region};
@@ -132,6 +132,16 @@ impl Regions {
             (HasAt number (numbers self.now) place → ⊥) }
     {
         place < self.regions.len() && self.number_at(place) == number
+    }
+
+    /// The region at a place from 0 in the order of numbers, if there is one. It takes no memory.
+    pub fn get(&self, place: usize) -> Option<&TrackedRegion>
+        ensures { option_copied result ≡ slice_get self.now place }
+    {
+        match self.regions.get(place) {
+            None => None,
+            Some(region) => Some(region),
+        }
     }
 
     /// The region of this number, if there is one. It takes no memory.

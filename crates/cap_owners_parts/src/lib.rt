@@ -16,6 +16,6 @@ mod part;
 mod text;
 
 pub use guard::Guard;
-pub use held::part_held;
+pub use held::{part_held, put_cells};
 pub use part::Part;
 pub use text::{push_part, push_value};

@@ -99,6 +99,9 @@ reads-good n p (l ∷ ls) h = then-good (take_line n p l) (λ q. read_from (suc 
 begins-good : Keeps begins
 begins-good = record { cells = tt; last = refl; entries = omega arith }
 
+pub read_ascends : (bytes : List ℕ) (p : Progress) → read bytes ≡ Ok p → AscendsFrom (pos 0) p.heap
+read_ascends bytes p e = let k : Keeps p = subst Good e (reads-good 1 begins (lines_of (pieces 10 bytes)) begins-good) in k.cells
+
 pub addresses_ascend : (bytes : List ℕ) (r : Result Schedule ScheduleError) → IsReadAs r (read bytes) → IfOk r (λ s. AscendsFrom (pos 0) s.heap.items)
 addresses_ascend bytes r h = go r (read bytes) h (reads-good 1 begins (lines_of (pieces 10 bytes)) begins-good)
   where
