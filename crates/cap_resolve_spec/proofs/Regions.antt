@@ -49,7 +49,7 @@ comparisons-fit scope (c ∷ cs) a e = (
 names-sorts : (k : NumberedRegion) (os : List Occurrence) → sorts_of (parameters_scope k ++ scope_of os) ≡ sorted.whole_numbers (length (own_parameters k)) ++ known (occurrence_sorts os)
 names-sorts k os = sorts-whole (own_parameters k) (scope_of os) ∙ ap (λ ss. sorted.whole_numbers (length (own_parameters k)) ++ ss) (sorts-last os)
 
-names-count : (k : NumberedRegion) (os : List Occurrence) → past_variables (map word_place (own_parameters k ++ occurrence_words os)) ≡ [] → length (own_parameters k) + length (occurrence_sorts os) ≤ most_variables
+pub names-count : (k : NumberedRegion) (os : List Occurrence) → past_variables (map word_place (own_parameters k ++ occurrence_words os)) ≡ [] → length (own_parameters k) + length (occurrence_sorts os) ≤ most_variables
 names-count k os e =
     let h = within-limit (map word_place (own_parameters k ++ occurrence_words os)) e in
     let n : length (map word_place (own_parameters k ++ occurrence_words os)) ≡ length (own_parameters k) + length (occurrence_sorts os) =

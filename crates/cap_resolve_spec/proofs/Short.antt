@@ -1,23 +1,23 @@
 -- The lists of region types and functions are short, where the tree has no more tokens than a text may have.
-use Rattle.std.proofs.Common.{◌≡◌, ℕ, ◌+◌, ◌<◌, ◌≤◌, codes, List, [], ◌∷◌, length, filter_map, Option, Some, None, sym, subst, arith}
+use Rattle.std.proofs.Common.{◌≡◌, ℕ, ◌+◌, ◌<◌, ◌≤◌, ◌^◌, codes, List, [], ◌∷◌, length, filter_map, Option, Some, None, sym, subst, arith, length-append}
 use Rattle.std.specs.List.{AllByRecursion}
 use Rattle.cap_syntax.specs.declared.token.Token.{Token}
 use Rattle.cap_prog.specs.Program.{none, PlainAct, Block, done, first, append, PlainStatement}
 use Rattle.cap_prog.specs.Parts.{all_statements, block_statements, blocks, block_length}
 use Rattle.cap_prog.specs.WellFormed.{most_members}
-use Rattle.cap_parse_tree.specs.Tree.{value, load, alloc, cas, faa, result_of, StatementTree, assign, store, call, fork, branch, loop, check, give_back, dispose, ElseTree, no_else, else_block, StatementTrees, no_statement, then_statement, BlockTree, block, unique, divisible, counting, indexed, grouped, DeclaredTrees, no_declared, and_declared, joint, JointTrees, no_joint, or_joint, algebra, WhenTree, CaseTree, ActionTree, RegionTree, FunctionTree, DeclarationTree, region, function, ProgramTree}
+use Rattle.cap_parse_tree.specs.Tree.{value, load, alloc, cas, faa, result_of, StatementTree, assign, store, call, fork, branch, loop, check, give_back, dispose, ElseTree, no_else, else_block, StatementTrees, no_statement, then_statement, BlockTree, block, DeclaredTree, unique, divisible, counting, indexed, grouped, DeclaredTrees, no_declared, and_declared, JointTree, joint, JointTrees, no_joint, or_joint, AlgebraTree, algebra, WhenTree, CaseTree, ActionTree, RegionTree, FunctionTree, DeclarationTree, region, function, ProgramTree}
 use Rattle.cap_parse_tree.specs.Tokens.{symbol, keyword}
 use Rattle.cap_parse_tree.specs.Spelling.{spell_all, spell_option, spell_listed, spell_group, spell_name, spell_term, spell_comparison, spell_guard, spell_assertion, spell_clause, spell_value, spell_statement, spell_else, spell_statements, spell_block, spell_declared, spell_declareds, spell_joint, spell_joints, spell_algebra, spell_when, spell_case, spell_action, spell_region, spell_function, spell_declaration, spell_header, spelling}
-use Rattle.cap_resolve_spec.specs.Parts.{when_comparisons, statement_parts, else_parts, statements_parts, block_parts, invariant, region_in, function_in, regions, functions}
-use Rattle.cap_resolve_spec.specs.Items.{NumberedRegion}
+use Rattle.cap_resolve_spec.specs.Parts.{when_comparisons, statement_parts, else_parts, statements_parts, block_parts, declared_guards, declareds_guards, joint_guards, joints_guards, algebra_guards, invariant, region_in, function_in, regions, functions}
+use Rattle.cap_resolve_spec.specs.Items.{NumberedRegion, region_guards}
 use Rattle.cap_resolve_spec.specs.Functions.{Context, context_of, clause_types, clause_scope, requires_types, requires_scope}
 use Rattle.cap_resolve_spec.specs.Regions.{case_types, case_scope}
 use Rattle.cap_resolve_spec.specs.Program.{new_assertion, act_program, else_program, statements_program, block_program, closing_return, block_end}
-use Rattle.cap_resolve_spec.proofs.Every.{each_append}
+use Rattle.cap_resolve_spec.proofs.Every.{each_append, each_weaker}
 use Rattle.cap_resolve_spec.proofs.Regions.{ItemsShort, CaseShort, ActionShort, RegionShort}
 use Rattle.cap_resolve_spec.proofs.Bodies.{all_statements-append}
 use Rattle.cap_resolve_spec.proofs.Statements.{FunctionShort}
-use Rattle.cap_resolve_spec.proofs.Tokens.{Adds, term-adds, comparison-adds, guard-adds, name-adds, several-add, option-adds, listed-adds, group-add, clause-adds, clause-items, assertion-items, assertion-adds}
+use Rattle.cap_resolve_spec.proofs.Tokens.{Adds, all-add, term-adds, comparison-adds, guard-adds, name-adds, several-add, option-adds, listed-adds, group-add, clause-adds, clause-items, assertion-items, assertion-adds}
 
 -- ---- statements
 
@@ -293,6 +293,30 @@ region-short rs k ts h =
       action_count = omega (arith, group-add (codes "actions") spell_action action-adds r.actions (after_actions r ts));
     }
 
+-- ---- how many guards
+
+mutual
+  declared-guards : (d : DeclaredTree) (ts : List Token) → length (declared_guards d) + length ts ≤ length (spell_declared d ts)
+  declared-guards (unique w) ts = omega arith
+  declared-guards (divisible p w) ts = omega arith
+  declared-guards (counting p w q) ts = omega arith
+  declared-guards (indexed p w q) ts = omega arith
+  declared-guards (grouped p a q) ts = omega (arith, algebra-guards a (symbol (codes ")") q ∷ ts))
+
+  declareds-guards : (ds : DeclaredTrees) (ts : List Token) → length (declareds_guards ds) + length ts ≤ length (spell_declareds ds ts)
+  declareds-guards no_declared ts = omega arith
+  declareds-guards (and_declared p d ds) ts = omega (arith, length-append (declared_guards d) (declareds_guards ds), declared-guards d (spell_declareds ds ts), declareds-guards ds ts)
+
+  joint-guards : (j : JointTree) (ts : List Token) → length (joint_guards j) + length ts ≤ length (spell_joint j ts)
+  joint-guards (joint d ds) ts = omega (arith, length-append (declared_guards d) (declareds_guards ds), declared-guards d (spell_declareds ds ts), declareds-guards ds ts)
+
+  joints-guards : (js : JointTrees) (ts : List Token) → length (joints_guards js) + length ts ≤ length (spell_joints js ts)
+  joints-guards no_joint ts = omega arith
+  joints-guards (or_joint p j js) ts = omega (arith, length-append (joint_guards j) (joints_guards js), joint-guards j (spell_joints js ts), joints-guards js ts)
+
+  algebra-guards : (a : AlgebraTree) (ts : List Token) → length (algebra_guards a) + length ts ≤ length (spell_algebra a ts)
+  algebra-guards (algebra j js) ts = omega (arith, length-append (joint_guards j) (joints_guards js), joint-guards j (spell_joints js ts), joints-guards js ts)
+
 -- ---- the whole
 
 -- a region type or function with all that it spells
@@ -335,3 +359,40 @@ regions-short t h = short-regions t.declarations [] (declarations-short t h)
 
 pub functions-short : (t : ProgramTree) → length (spelling t) ≤ most_members → AllByRecursion IsShortFunction (functions t)
 functions-short t h = short-functions t.declarations [] (declarations-short t h)
+
+-- ---- how many region types, functions and guards
+
+declaration-adds : Adds spell_declaration
+declaration-adds (region r) ts = region-adds r ts
+declaration-adds (function f) ts = function-adds [] [] f ts
+
+few-declarations : (t : ProgramTree) → length (spelling t) ≤ most_members → length t.declarations ≤ most_members
+few-declarations t h = omega (arith, declarations-short t h, all-add spell_declaration declaration-adds t.declarations [])
+
+regions-among : (ds : List DeclarationTree) → length (filter_map region_in ds) ≤ length ds
+regions-among [] = omega arith
+regions-among (region r ∷ ds) = omega (arith, regions-among ds)
+regions-among (function f ∷ ds) = omega (arith, regions-among ds)
+
+functions-among : (ds : List DeclarationTree) → length (filter_map function_in ds) ≤ length ds
+functions-among [] = omega arith
+functions-among (region r ∷ ds) = omega (arith, functions-among ds)
+functions-among (function f ∷ ds) = omega (arith, functions-among ds)
+
+pub few-regions : (t : ProgramTree) → length (spelling t) ≤ most_members → length (regions t) < 2 ^ 32
+few-regions t h = omega (arith, few-declarations t h, regions-among t.declarations)
+
+pub few-functions : (t : ProgramTree) → length (spelling t) ≤ most_members → length (functions t) < 2 ^ 32
+few-functions t h = omega (arith, few-declarations t h, functions-among t.declarations)
+
+guards-within : (r : RegionTree) (ts : List Token) → length (spell_region r ts) ≤ most_members → length (region_guards r) < 2 ^ 32
+guards-within r ts h =
+    omega (
+      arith,
+      h,
+      several-add (codes ",") spell_name name-adds r.parameters (after_parameters r ts),
+      algebra-guards r.algebra (after_algebra r ts),
+    )
+
+pub few-guards : (t : ProgramTree) → length (spelling t) ≤ most_members → AllByRecursion (λ (r : RegionTree). length (region_guards r) < 2 ^ 32) (regions t)
+few-guards t h = each_weaker IsShortRegion (λ (r : RegionTree). length (region_guards r) < 2 ^ 32) (λ r s. guards-within r s.behind s.short) (regions t) (regions-short t h)
