@@ -1,10 +1,10 @@
 //! The linear forms of terms, and the terms whose numbers leave 128 bits.
 #![tactic(auto)]
 
+mod exact;
 mod forms;
+mod long;
 mod names;
 mod widths;
 
-pub use forms::form;
-pub use names::Names;
 pub use widths::{is_wide, linear, note_term};

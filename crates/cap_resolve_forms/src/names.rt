@@ -1,6 +1,5 @@
 //! Names by their variables, as a linear form asks for them.
-ghost use Rattle.std.specs.Prelude.{◌≡◌, ◌+◌, ◌<◌, ◌^◌, [], ◌++◌};
-ghost use Rattle.std.specs.Prelude.{length, filter_map, OnOk, OnErr, IfOk};
+ghost use Rattle.std.specs.Prelude.{◌≡◌, [], ◌++◌, filter_map, OnOk, IfOk};
 ghost use Rattle.cap_parse_tree.specs.Views.{factor_view, product_view, term_view};
 ghost use Rattle.cap_resolve_spec.specs.Names.{variable_of, whole_numbers};
 ghost use Rattle.cap_resolve_spec.specs.Parts.{named_word, factor_leaves, product_leaves, term_words};
@@ -14,28 +13,25 @@ use std::marker::Model;
 
 /// The variables of a scope, and behind them a variable for each name of a term.
 #[derive(Drop)]
-pub struct Names<'s, 'a> {
+pub(crate) struct Names<'s, 'a> {
     scope: &'s Scope<'a>,
     own: Scope<'a>,
 }
 
 impl<'s, 'a> Model for Names<'s, 'a> {
-    ghost use Rattle.std.specs.Prelude.{◌+◌, ◌<◌, ◌^◌, ◌++◌, length};
+    ghost use Rattle.std.specs.Prelude.{◌++◌};
     ghost use Rattle.cap_resolve_spec.specs.Names.{NameScope};
 
     ghost Value = { NameScope };
 
     ghost view = { λ n. n.scope.now ++ n.own };
-
-    ghost invariant = { λ n. length n.scope.now + length n.own < 2 ^ 32 };
 }
 
 impl<'s, 'a> Names<'s, 'a> {
     /// The variables of a scope alone. It takes no memory.
-    pub fn of_scope(alloc: Global, scope: &'s Scope<'a>) -> Names<'s, 'a>
+    pub(crate) fn of_scope(alloc: Global, scope: &'s Scope<'a>) -> Names<'s, 'a>
         ensures { result ≡ scope.now ++ [] }
     {
-        let _count = scope.len();
         Names {
             scope,
             own: Scope::new(alloc),
@@ -43,8 +39,8 @@ impl<'s, 'a> Names<'s, 'a> {
     }
 
     /// The variables of a scope, and one for each name of a term. There is an error where memory
-    /// runs out, or the variables number 2^32.
-    pub fn with_names(
+    /// runs out.
+    pub(crate) fn with_names(
         alloc: Global,
         scope: &'s Scope<'a>,
         term: &'a Term,
@@ -53,21 +49,18 @@ impl<'s, 'a> Names<'s, 'a> {
     {
         let mut own = Scope::new(alloc);
         push_names(&mut own, term)?;
-        if scope.len() as u64 + own.len() as u64 > u32::MAX as u64 {
-            return Err(AllocError);
-        }
         Ok(Names { scope, own })
     }
 
     /// The number of the variable that a name stands for, or the number of variables where it is
     /// not known.
-    pub fn number(&self, name: &[u8]) -> u32
+    pub(crate) fn number(&self, name: &[u8]) -> u128
         ensures { result ≡ variable_of self.now name.now }
     {
         if self.scope.knows(name) {
-            self.scope.number(name)
+            self.scope.number(name) as u128
         } else {
-            self.scope.len() + self.own.number(name)
+            self.scope.len() as u128 + self.own.number(name) as u128
         }
     }
 }

@@ -1,5 +1,5 @@
 //! Whether a term's form stays within 128 bits, and all that is wrong in a term.
-ghost use Rattle.std.specs.Prelude.{◌≡◌, fold, OnOk, IfOk};
+ghost use Rattle.std.specs.Prelude.{◌≡◌, ◌<◌, ◌^◌, fold, length, OnOk, IfOk};
 ghost use Rattle.cap_lin.specs.Exact.{IsExact};
 ghost use Rattle.cap_parse_tree.specs.Views.{term_view};
 ghost use Rattle.cap_resolve_spec.specs.Finding.{note, found_if, limit, width};
@@ -9,6 +9,7 @@ ghost use Rattle.cap_resolve_spec.specs.Terms.{wanted_as, term_findings};
 ghost use Rattle.cap_resolve_terms.specs.Views.{noted_view};
 
 use crate::forms::form;
+use crate::long::LongForm;
 use crate::names::Names;
 use cap_lin::{LinError, Sort, Term as Linear};
 use cap_parse_tree::Term;
@@ -20,6 +21,7 @@ use std::alloc::{AllocError, Global};
 /// counts as 0, and each name that is not known as the variable behind the last. Wide has the first
 /// result on the way, from the left to the right, that leaves 128 bits.
 pub fn linear(alloc: Global, scope: &Scope<'_>, term: &Term) -> Result<Linear, LinError>
+    requires { length scope.now < 2 ^ 32 }
     ensures { IsExact result (term_steps scope.now (term_view term.now))
         (term_form scope.now (term_view term.now)) }
 {
@@ -28,12 +30,12 @@ pub fn linear(alloc: Global, scope: &Scope<'_>, term: &Term) -> Result<Linear, L
 }
 
 /// Whether some result on the way to a term's linear form leaves 128 bits, where each name that is
-/// not known is a variable of its own.
+/// not known is a variable of its own. There is an error where memory runs out.
 pub fn is_wide<'a>(alloc: Global, scope: &Scope<'a>, term: &'a Term) -> Result<bool, AllocError>
     ensures { IfOk result (λ wide. wide ≡ leaves_bits scope.now (term_view term.now)) }
 {
     let names = Names::with_names(alloc, scope, term)?;
-    match form(alloc, &names, term) {
+    match form::<LongForm>(alloc, &names, term) {
         Ok(_) => Ok(false),
         Err(LinError::Wide(_, _)) => Ok(true),
         Err(LinError::OutOfMemory) => Err(AllocError),

@@ -1,6 +1,6 @@
 -- Parts of a tree whose numbers stay within the widths of a program: the results on the way to each
--- linear form within 128 bits; the number of cells of each allocation, and the numbers of parameters,
--- locals and statements of a function, within 32.
+-- linear form within 128 bits; the number of cells of each allocation, the numbers of variables where
+-- a name stands, and those of parameters, locals and statements of a function, within 32.
 use Rattle.std.specs.Prelude.{◌≡◌, ◌+◌, ◌<◌, ◌^◌, length, List, ◌∷◌, ◌++◌, [], Option, Some, None}
 use Rattle.std.specs.List.{AllByRecursion}
 use Rattle.cap_lin.specs.Steps.{first_wide}
@@ -14,9 +14,13 @@ use Rattle.cap_resolve_spec.specs.Items.{TypedName, types_told, scope_of}
 use Rattle.cap_resolve_spec.specs.Functions.{Context, clause_scope, result_entry}
 use Rattle.cap_resolve_functions.specs.Functions.{fixed_in, Named, context_built, named_by}
 
+-- the variables are numbered within 32 bits
+abbrev pub HasFew : NameScope → Type 0
+HasFew scope = length scope < 2 ^ 32
+
 -- no result on the way to the linear form leaves 128 bits
 abbrev pub IsNarrow : NameScope → TermTree → Type 0
-IsNarrow scope t = first_wide (term_steps scope t) ≡ None
+IsNarrow scope t = HasFew scope × (first_wide (term_steps scope t) ≡ None)
 
 abbrev pub AreNarrow : NameScope → List TermTree → Type 0
 AreNarrow scope ts = AllByRecursion (IsNarrow scope) ts
@@ -33,9 +37,9 @@ abbrev pub IsNarrowPart : NameScope → Place × SlotTree → Type 0
 IsNarrowPart scope a = IsNarrowSlot scope a.1
 
 abbrev pub IsNarrowGuard : NameScope → GuardTree → Type 0
-IsNarrowGuard scope (alone w) = Unit {0}
-IsNarrowGuard scope (amount w p s q) = IsNarrowSlot scope s
-IsNarrowGuard scope (count c k w p s q) = IsNarrowSlot scope s
+IsNarrowGuard scope (alone w) = HasFew scope
+IsNarrowGuard scope (amount w p s q) = HasFew scope × IsNarrowSlot scope s
+IsNarrowGuard scope (count c k w p s q) = HasFew scope × IsNarrowSlot scope s
 
 -- ---- assertions
 
@@ -44,7 +48,7 @@ abbrev mutual
   IsNarrowItem scope (holds p) = Unit {0}
   IsNarrowItem scope (fails p) = Unit {0}
   IsNarrowItem scope (fact k p r args q s e) =
-      AllByRecursion (IsNarrowPart scope) args × IsNarrowSlot scope s
+      HasFew scope × (AllByRecursion (IsNarrowPart scope) args × IsNarrowSlot scope s)
   IsNarrowItem scope (guards r p g) = AllByRecursion (IsNarrowGuard scope) (held_atoms g)
   IsNarrowItem scope (cell t p s) = IsNarrow scope t × IsNarrowSlot scope s
   IsNarrowItem scope (compare c) = IsNarrowComparison scope c
@@ -85,7 +89,7 @@ IsNarrowReturn scope (Some t) = IsNarrow scope t
 
 abbrev mutual
   pub IsNarrowStatement : Context → StatementTree → Type 0
-  IsNarrowStatement g (assign w p v e) = IsNarrowValue g.body v
+  IsNarrowStatement g (assign w p v e) = HasFew g.body × IsNarrowValue g.body v
   IsNarrowStatement g (store p a q r t e) = IsNarrow g.body a × IsNarrow g.body t
   IsNarrowStatement g (call w l e) = AreNarrow g.body (listed_parts l)
   IsNarrowStatement g (fork p w l e) = AreNarrow g.body (listed_parts l)

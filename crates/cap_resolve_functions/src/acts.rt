@@ -248,7 +248,7 @@ fn build_act<'a>(
     advance(next);
     match statement {
         StatementTree::Assign(word, _, value, _) => {
-            let variable = body.scope.number(word.text.as_bytes());
+            let variable = body.scope.variable(word.text.as_bytes());
             build_assign(alloc, body, variable, value)
         }
         StatementTree::Store(_, address, _, _, value, _) => {

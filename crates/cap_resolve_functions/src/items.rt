@@ -17,9 +17,9 @@ ghost use Rattle.cap_resolve_spec.specs.Program.{guard_number, asked_program, fa
 ghost use Rattle.cap_resolve_spec.specs.Program.{comparison_program};
 ghost use Rattle.cap_resolve_tables.specs.Tables.{regions_of, types_of, numbered_view};
 ghost use Rattle.cap_resolve_functions.specs.Views.{items_seen, item_read, assertion_read, side_read, atom_built};
-ghost use Rattle.cap_resolve_functions.specs.Narrow.{IsNarrow, IsNarrowComparison, IsNarrowSlot};
-ghost use Rattle.cap_resolve_functions.specs.Narrow.{IsNarrowPart, IsNarrowGuard, IsNarrowItem};
-ghost use Rattle.cap_resolve_functions.specs.Narrow.{IsNarrowAssertion, IsNarrowSide};
+ghost use Rattle.cap_resolve_functions.specs.Narrow.{HasFew, IsNarrow, IsNarrowComparison};
+ghost use Rattle.cap_resolve_functions.specs.Narrow.{IsNarrowSlot, IsNarrowPart, IsNarrowGuard};
+ghost use Rattle.cap_resolve_functions.specs.Narrow.{IsNarrowItem, IsNarrowAssertion, IsNarrowSide};
 
 use crate::comparisons::build_comparison;
 use crate::guards::build_asked;
@@ -68,6 +68,7 @@ fn build_fact(
     arguments: &[(Place, Slot)],
     state: &Slot,
 ) -> Result<Item, AllocError>
+    requires few { HasFew reading.now.scope.now }
     requires arguments { AllByRecursion (IsNarrowPart reading.now.scope.now)
         (map (behind_view slot_view) arguments.now) }
     requires state { IsNarrowSlot reading.now.scope.now (slot_view state.now) }
@@ -79,7 +80,7 @@ fn build_fact(
 {
     let arguments = build_slots(alloc, reading.scope, arguments)?;
     let state = build_slot(alloc, reading.scope, state)?;
-    let variable = reading.scope.number(region.text.as_bytes());
+    let variable = reading.scope.variable(region.text.as_bytes());
     let number = reading.regions.number(key.text.as_bytes());
     Ok(Item::Fact(key.place, variable, number, arguments, state))
 }
@@ -113,7 +114,7 @@ fn build_atom(
         ≡ atom_built (numbered_view type_.entry) scope.now region.now (guard_view guard.now)) }
 {
     let asked = build_asked(alloc, scope, guard)?;
-    let variable = scope.number(region.text.as_bytes());
+    let variable = scope.variable(region.text.as_bytes());
     let atom = type_.region.guard_number(atom_word(guard).text.as_bytes());
     Ok(Item::Atom(region.place, variable, type_.number, atom, asked))
 }

@@ -1,6 +1,6 @@
 -- A table finds the first declaration that has the name.
-use Rattle.std.proofs.Common.{◌≡◌, ℕ, zero, suc, ◌+◌, ◌<◌, ◌≤◌, length, get_or, Bool, true, false, not, ◌||◌, cond, find, List, [], ◌∷◌, ◌++◌, map, slice_get, Option, Some, None, option_map, refl, sym, ap, ◌∙◌, arith, add-zero, bytes_eq}
-use Rattle.std.specs.List.{position_or_len, enumerate_from}
+use Rattle.std.proofs.Common.{◌≡◌, ℕ, zero, suc, ◌+◌, ◌<◌, ◌≤◌, length, get_or, Bool, true, false, not, ◌||◌, cond, find, List, [], ◌∷◌, ◌++◌, map, slice_get, Option, Some, None, option_map, refl, sym, ap, subst, ◌∙◌, arith, add-zero, bytes_eq}
+use Rattle.std.specs.List.{AllByRecursion, position_or_len, enumerate_from}
 use Rattle.std.proofs.lemmas.List.Folds.{find_at}
 use Rattle.std.proofs.lemmas.Option.{slice_get-map, slice_get-get_or}
 use Rattle.cap_lin.specs.declared.row.Sort.TheVariants.{Int}
@@ -10,11 +10,12 @@ use Rattle.cap_resolve_spec.specs.Names.{KnownName, NameScope, known_as, has_nam
 use Rattle.cap_resolve_spec.specs.Items.{NumberedRegion, TypedName, is_typed, name_type, type_of, numbered, is_region, region_named, is_guard, guard_kind}
 use Rattle.cap_resolve_spec.specs.Functions.{is_function, function_named}
 use Rattle.cap_resolve_spec.specs.Program.{type_number, function_number}
-use Rattle.cap_resolve_tables.specs.Entries.{guard_entry, guard_atom}
+use Rattle.cap_resolve_tables.specs.Entries.{guard_entry, guard_atom, HasFewGuards}
 use Rattle.cap_resolve_tables.specs.Tables.{type_view, function_seen, typed_view, typed_list, typed_seen, typed_names, outer_names}
+use Rattle.cap_parse_tree.specs.declared.region.Region.{Region}
 use Rattle.cap_parse_tree.specs.declared.tree.Function.{Function}
-use Rattle.cap_parse_tree.specs.Views.{function_view}
-use Rattle.cap_resolve_parts.specs.Views.{functions_view}
+use Rattle.cap_parse_tree.specs.Views.{region_view, function_view}
+use Rattle.cap_resolve_parts.specs.Views.{regions_view, functions_view}
 use Rattle.std.specs.Borrow.{Bor}
 use Rattle.cap_resolve_tables.specs.declared.tables.Typed.{Typed}
 use Rattle.cap_resolve_tables.specs.declared.tables.TypedNames.{TypedNames}
@@ -108,6 +109,12 @@ type_at ts names x n o e i g =
     ∙ (ap (option_map (with_number n)) (sym (slice_get-map type_view ts n))
     ∙ (ap (λ m. option_map (with_number m) (slice_get (map type_view ts) m)) (i ∙ ap (λ es. variable_of es x) (e ∙ sym (type_entries ts)))
     ∙ sym (region_at (map type_view ts) x)))
+
+-- of region types with few guards each, one at a place
+pub few_at : (rs : List (Bor Region)) (i : ℕ) (r : Bor Region) → i < length rs → r ≡ get_or rs i r → AllByRecursion HasFewGuards (regions_view rs) → HasFewGuards (region_view r.now)
+few_at [] i r h e a = absurd (omega arith)
+few_at (s ∷ rs) zero r h e a = subst (λ (x : Bor Region). HasFewGuards (region_view x.now)) (sym e) a.0
+few_at (s ∷ rs) (suc i) r h e a = few_at rs i r (omega arith) e a.1
 
 -- ---- functions
 

@@ -1,5 +1,5 @@
 -- What a table has of a declaration.
-use Rattle.std.specs.Prelude.{ℕ, List, Option, None, option_map, find}
+use Rattle.std.specs.Prelude.{ℕ, ◌<◌, ◌^◌, List, length, Option, None, option_map, find}
 use Rattle.cap_lin.specs.declared.row.Sort.TheVariants.{Int}
 use Rattle.cap_galg.specs.Algebras.{PlainAlgebra}
 use Rattle.cap_galg.specs.declared.algebra.Atom.{Atom}
@@ -25,3 +25,7 @@ guard_atom _ = kinds.Unique
 -- the kind of the guard of this name
 abbrev pub kind_in : RegionTree → List ℕ → Option PlainAlgebra
 kind_in r x = option_map guard_kind (find (is_guard x) (region_guards r))
+
+-- the guards of a region type are numbered within 32 bits
+abbrev pub HasFewGuards : RegionTree → Type 0
+HasFewGuards r = length (region_guards r) < 2 ^ 32

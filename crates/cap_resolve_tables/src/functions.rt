@@ -1,5 +1,5 @@
 //! The table of functions, in which the first of a name counts.
-ghost use Rattle.std.specs.Prelude.{◌≡◌, IfOk};
+ghost use Rattle.std.specs.Prelude.{◌≡◌, ◌<◌, ◌^◌, length, IfOk};
 ghost use Rattle.cap_parse_tree.specs.Views.{tree_view};
 ghost use Rattle.cap_resolve_spec.specs.Parts.{regions, functions};
 ghost use Rattle.cap_resolve_spec.specs.Functions.{function_named};
@@ -41,11 +41,12 @@ pub fn functions_in<'a>(alloc: Global, tree: &'a Tree) -> Result<Vec<&'a Functio
     Ok(found)
 }
 
-/// The table of these functions.
+/// The table of these functions. There is an error where memory runs out.
 pub fn function_table<'a>(
     alloc: Global,
     functions: &[&'a Function],
 ) -> Result<FunctionTable<'a>, AllocError>
+    requires { length (functions_view functions.now) < 2 ^ 32 }
     ensures { IfOk result (λ t. functions_of t ≡ functions_view functions.now) }
 {
     let mut list = Vec::new(alloc);
@@ -68,7 +69,7 @@ impl<'a> FunctionTable<'a> {
     pub fn number(&self, name: &[u8]) -> u32
         ensures { result ≡ function_number (functions_of self.now) name.now }
     {
-        self.names.number(name)
+        self.names.variable(name)
     }
 
     /// The function of this name, if there is one.
@@ -76,7 +77,7 @@ impl<'a> FunctionTable<'a> {
         ensures { function_seen result ≡ function_named (functions_of self.now) name.now }
     {
         let number = self.names.number(name);
-        match self.functions.as_slice().get(number as usize) {
+        match self.functions.as_slice().get(number) {
             Some(function) => Some(*function),
             None => None,
         }

@@ -1,6 +1,6 @@
 //! The table of region types, in which the first of a name counts.
-ghost use Rattle.std.specs.Prelude.{◌≡◌, length, map, IfOk, option_map};
-ghost use Rattle.std.specs.List.{position_or_len};
+ghost use Rattle.std.specs.Prelude.{◌≡◌, ◌<◌, ◌^◌, length, map, IfOk, option_map};
+ghost use Rattle.std.specs.List.{AllByRecursion, position_or_len};
 ghost use Rattle.cap_galg.specs.Views.{atom_view};
 ghost use Rattle.cap_parse_tree.specs.Views.{declared_view, region_view};
 ghost use Rattle.cap_resolve_spec.specs.Items.{region_named, is_guard, region_guards};
@@ -8,6 +8,7 @@ ghost use Rattle.cap_resolve_spec.specs.Program.{type_number};
 ghost use Rattle.cap_resolve_terms.specs.Views.{entry_view};
 ghost use Rattle.cap_resolve_parts.specs.Views.{declareds_view, regions_view};
 ghost use Rattle.cap_resolve_tables.specs.Entries.{guard_entry, guard_atom as atom_of, kind_in};
+ghost use Rattle.cap_resolve_tables.specs.Entries.{HasFewGuards};
 ghost use Rattle.cap_resolve_tables.specs.Tables.{type_view, regions_of, numbered_seen};
 
 use crate::tables::{Numbered, RegionTable, RegionType};
@@ -68,6 +69,7 @@ fn guard_kinds(alloc: Global, guards: &[&Declared]) -> Result<Vec<Atom>, AllocEr
 
 /// A region type with its table of guards.
 pub(crate) fn region_type<'a>(alloc: Global, tree: &'a Region) -> Result<RegionType<'a>, AllocError>
+    requires { HasFewGuards (region_view tree.now) }
     ensures { IfOk result (λ t. type_view t ≡ region_view tree.now) }
 {
     let mut guards = Vec::new(alloc);
@@ -83,7 +85,7 @@ impl<'a> RegionType<'a> {
         ensures { result
             ≡ position_or_len (is_guard name.now) (region_guards (type_view self.now)) }
     {
-        self.names.number(name)
+        self.names.variable(name)
     }
 
     /// The kind of the guard of this name, if there is one.
@@ -91,18 +93,20 @@ impl<'a> RegionType<'a> {
         ensures { option_map atom_view result ≡ kind_in (type_view self.now) name.now }
     {
         let number = self.names.number(name);
-        match self.kinds.as_slice().get(number as usize) {
+        match self.kinds.as_slice().get(number) {
             Some(kind) => Some(*kind),
             None => None,
         }
     }
 }
 
-/// The table of these region types.
+/// The table of these region types. There is an error where memory runs out.
 pub fn region_table<'a>(
     alloc: Global,
     regions: &[&'a Region],
 ) -> Result<RegionTable<'a>, AllocError>
+    requires few { length (regions_view regions.now) < 2 ^ 32 }
+    requires guards { AllByRecursion HasFewGuards (regions_view regions.now) }
     ensures { IfOk result (λ t. regions_of t ≡ regions_view regions.now) }
 {
     let mut types = Vec::new(alloc);
@@ -122,21 +126,21 @@ impl<'a> RegionTable<'a> {
     pub fn len(&self) -> u32
         ensures { result ≡ length (regions_of self.now) }
     {
-        self.names.len()
+        self.types.len() as u32
     }
 
     /// The number of the region type of this name, or the number of region types where none has it.
     pub fn number(&self, name: &[u8]) -> u32
         ensures { result ≡ type_number (regions_of self.now) name.now }
     {
-        self.names.number(name)
+        self.names.variable(name)
     }
 
     /// The region type of this name, if there is one.
     pub fn named(&self, name: &[u8]) -> Option<Numbered<'_, 'a>>
         ensures { numbered_seen result ≡ region_named (regions_of self.now) name.now }
     {
-        let number = self.names.number(name);
+        let number = self.names.variable(name);
         match self.types.as_slice().get(number as usize) {
             Some(region) => Some(Numbered { number, region }),
             None => None,

@@ -91,7 +91,7 @@ impl<'t, 'a> TypedNames<'t, 'a> {
         ensures { numbered_seen result ≡ type_among (typed_names self.now) name.now }
     {
         let number = self.names.number(name);
-        match self.list.as_slice().get(number as usize) {
+        match self.list.as_slice().get(number) {
             Some(typed) => Some(typed.region),
             None => None,
         }

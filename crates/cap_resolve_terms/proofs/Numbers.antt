@@ -142,8 +142,8 @@ push-numbers entries new k number x o e n h =
     ∙ (sym (put-number (map entry_view entries) (entry_view k) x)
     ∙ ap (λ s. variable_in s x) (sym (map-append entry_view entries (k ∷ [])) ∙ ap (map entry_view) (sym e))))
 
-pub variable-within : (scope : NameScope) (x : List ℕ) → variable_of scope x ≤ length scope
-variable-within scope x = by (knows scope x) refl
+pub variable_within : (scope : NameScope) (x : List ℕ) → variable_of scope x ≤ length scope
+variable_within scope x = by (knows scope x) refl
   where
     by : (b : Bool) → knows scope x ≡ b → variable_of scope x ≤ length scope
     by true e = let h = known-within scope x e in omega arith

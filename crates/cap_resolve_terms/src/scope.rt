@@ -1,9 +1,10 @@
 //! A scope: the names that are known, with their variables and sorts.
-ghost use Rattle.std.specs.Prelude.{◌≡◌, ◌+◌, ◌<◌, ◌^◌, []};
+ghost use Rattle.std.specs.Prelude.{◌≡◌, ◌<◌, ◌^◌, []};
 ghost use Rattle.std.specs.Prelude.{◌∷◌, ◌++◌, length, OnOk, IfOk};
 ghost use Rattle.std.specs.Prelude.{MatchOption};
 ghost use Rattle.std.specs.Prelude.{ℕ, List, option_map, None, OnErr, bytes_eq};
-ghost use Rattle.cap_resolve_spec.specs.Names.{sort_of, has_name, variable_of, knows as knows_name};
+ghost use Rattle.cap_resolve_spec.specs.Names.{sort_of, known_sort, has_name, variable_of};
+ghost use Rattle.cap_resolve_spec.specs.Names.{knows as knows_name};
 ghost use Rattle.cap_resolve_terms.specs.Views.{entry_view, number_in, first_number};
 
 use cap_lin::Sort;
@@ -23,11 +24,11 @@ pub struct Known<'a> {
 #[derive(Drop)]
 pub struct Scope<'a> {
     entries: Vec<Option<Known<'a>>>,
-    numbers: IndexMap<&'a [u8], u32>,
+    numbers: IndexMap<&'a [u8], usize>,
 }
 
 impl<'a> Model for Scope<'a> {
-    ghost use Rattle.std.specs.Prelude.{◌<◌, ◌^◌, length, map};
+    ghost use Rattle.std.specs.Prelude.{map};
     ghost use Rattle.cap_resolve_spec.specs.Names.{NameScope};
     ghost use Rattle.cap_resolve_terms.specs.Views.{entry_view, Numbers};
 
@@ -35,8 +36,7 @@ impl<'a> Model for Scope<'a> {
 
     ghost view = { λ s. map entry_view s.entries.items };
 
-    ghost invariant = { λ s. (length s.entries.items < 2 ^ 32)
-        × Numbers s.numbers.entries (map entry_view s.entries.items) };
+    ghost invariant = { λ s. Numbers s.numbers.entries (map entry_view s.entries.items) };
 }
 
 impl<'a> Scope<'a> {
@@ -52,22 +52,19 @@ impl<'a> Scope<'a> {
 
     /// Appends a variable: a known name and its sort, or none where its name is not known. A name
     /// that an earlier variable has still stands for that one. There is an error where memory runs
-    /// out or the variables number 2^32 - 1, and then the scope is as it was.
+    /// out, and then the scope is as it was.
     pub fn push(&mut self, known: Option<Known<'a>>) -> Result<(), AllocError>
         ensures pushed { OnOk result (self.new ≡ self.old ++ (entry_view known.entry ∷ [])) }
         ensures failed { OnErr result (self.new ≡ self.old) }
     {
         let number = self.entries.as_slice().len();
-        if number >= u32::MAX as usize {
-            return Err(AllocError);
-        }
         self.entries.reserve(1)?;
-        put_known(&mut self.numbers, known, number as u32)?;
+        put_known(&mut self.numbers, known, number)?;
         self.entries.push_reserved(known);
         Ok(())
     }
 
-    /// The same scope once more.
+    /// The same scope once more. There is an error where memory runs out.
     pub fn copy(&self, alloc: Global) -> Result<Scope<'a>, AllocError>
         ensures { IfOk result (λ copy. copy ≡ self.now) }
     {
@@ -79,10 +76,10 @@ impl<'a> Scope<'a> {
     }
 
     /// The number of variables.
-    pub fn len(&self) -> u32
+    pub fn len(&self) -> usize
         ensures { result ≡ length self.now }
     {
-        self.entries.as_slice().len() as u32
+        self.entries.as_slice().len()
     }
 
     /// Whether a name is known.
@@ -94,13 +91,21 @@ impl<'a> Scope<'a> {
 
     /// The number of the variable that a name stands for, or the number of variables where it is
     /// not known.
-    pub fn number(&self, name: &[u8]) -> u32
+    pub fn number(&self, name: &[u8]) -> usize
         ensures { result ≡ variable_of self.now name.now }
     {
         match self.numbers.get(name) {
             Some(number) => *number,
-            None => self.entries.as_slice().len() as u32,
+            None => self.entries.as_slice().len(),
         }
+    }
+
+    /// The same number in 32 bits.
+    pub fn variable(&self, name: &[u8]) -> u32
+        requires { length self.now < 2 ^ 32 }
+        ensures { result ≡ variable_of self.now name.now }
+    {
+        self.number(name) as u32
     }
 
     /// The sort of a name that is known.
@@ -108,23 +113,29 @@ impl<'a> Scope<'a> {
         ensures { result ≡ sort_of self.now name.now }
     {
         match self.numbers.get(name) {
-            Some(number) => {
-                let entries = self.entries.as_slice();
-                match &entries[*number as usize] {
-                    Some(known) => Some(known.sort),
-                    None => None,
-                }
-            }
+            Some(number) => match self.entries.as_slice().get(*number) {
+                Some(entry) => entry_sort(entry),
+                None => None,
+            },
             None => None,
         }
     }
 }
 
+fn entry_sort(entry: &Option<Known<'_>>) -> Option<Sort>
+    ensures { result ≡ known_sort (entry_view entry.now) }
+{
+    match entry {
+        Some(known) => Some(known.sort),
+        None => None,
+    }
+}
+
 /// Gives a known name its number, unless it has one.
 fn put_known<'a>(
-    numbers: &mut IndexMap<&'a [u8], u32>,
+    numbers: &mut IndexMap<&'a [u8], usize>,
     known: Option<Known<'a>>,
-    number: u32,
+    number: usize,
 ) -> Result<(), AllocError>
     ensures put { OnOk result ((x : List ℕ) → number_in numbers.new.entries x ≡ first_number
         (number_in numbers.old.entries x) (has_name x (entry_view known.entry)) number) }
@@ -139,9 +150,9 @@ fn put_known<'a>(
 
 /// Gives a name its number, unless it has one.
 fn put_number<'a>(
-    numbers: &mut IndexMap<&'a [u8], u32>,
+    numbers: &mut IndexMap<&'a [u8], usize>,
     name: &'a [u8],
-    number: u32,
+    number: usize,
 ) -> Result<(), AllocError>
     ensures put { OnOk result ((x : List ℕ) → number_in numbers.new.entries x
         ≡ first_number (number_in numbers.old.entries x) (bytes_eq x name.now) number) }

@@ -1,11 +1,13 @@
 //! What is wrong in a text as a whole.
-ghost use Rattle.std.specs.Prelude.{◌≡◌, fold, flat_map, OnOk};
+ghost use Rattle.std.specs.Prelude.{◌≡◌, ◌<◌, ◌^◌, fold, flat_map, length, OnOk};
+ghost use Rattle.std.specs.List.{AllByRecursion};
 ghost use Rattle.cap_resolve_spec.specs.Finding.{note};
 ghost use Rattle.cap_resolve_spec.specs.Items.{numbered_regions};
 ghost use Rattle.cap_resolve_spec.specs.Regions.{region_type_findings};
 ghost use Rattle.cap_resolve_spec.specs.Functions.{function_findings};
 ghost use Rattle.cap_resolve_terms.specs.Views.{noted_view};
 ghost use Rattle.cap_resolve_parts.specs.Views.{regions_view, functions_view};
+ghost use Rattle.cap_resolve_tables.specs.Entries.{HasFewGuards};
 ghost use Rattle.cap_resolve_tables.specs.Tables.{regions_of, functions_of};
 ghost use Rattle.cap_resolve_text.specs.Parts.{contents_part, text_part};
 
@@ -73,6 +75,9 @@ fn note_in_tables<'a>(
     regions: &[&'a Region],
     functions: &[&'a Function],
 ) -> Result<(), AllocError>
+    requires regions { length (regions_view regions.now) < 2 ^ 32 }
+    requires guards { AllByRecursion HasFewGuards (regions_view regions.now) }
+    requires functions { length (functions_view functions.now) < 2 ^ 32 }
     ensures { OnOk result (noted_view noted.new ≡ fold note (noted_view noted.old)
         (contents_part (regions_view regions.now) (functions_view functions.now))) }
 {
@@ -89,6 +94,9 @@ pub fn note_text<'a>(
     regions: &[&'a Region],
     functions: &[&'a Function],
 ) -> Result<(), AllocError>
+    requires regions { length (regions_view regions.now) < 2 ^ 32 }
+    requires guards { AllByRecursion HasFewGuards (regions_view regions.now) }
+    requires functions { length (functions_view functions.now) < 2 ^ 32 }
     ensures { OnOk result (noted_view noted.new ≡ fold note (noted_view noted.old)
         (text_part (regions_view regions.now) (functions_view functions.now))) }
 {

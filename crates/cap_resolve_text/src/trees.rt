@@ -1,5 +1,7 @@
 //! All that is wrong in a tree, and whether it has a `main`.
-ghost use Rattle.std.specs.Prelude.{◌≡◌, fold, codes, is_some, OnOk};
+ghost use Rattle.std.specs.Prelude.{◌≡◌, ◌≤◌, fold, codes, is_some, length, OnOk};
+ghost use Rattle.cap_prog.specs.WellFormed.{most_members};
+ghost use Rattle.cap_parse_tree.specs.Spelling.{spelling};
 ghost use Rattle.cap_parse_tree.specs.Views.{function_view, tree_view};
 ghost use Rattle.cap_resolve_spec.specs.Finding.{note};
 ghost use Rattle.cap_resolve_spec.specs.Parts.{regions as regions_of_tree};
@@ -20,6 +22,7 @@ fn note_declarations<'a>(
     alloc: Global,
     tree: &'a Tree,
 ) -> Result<(), AllocError>
+    requires { length (spelling (tree_view tree.now)) ≤ most_members }
     ensures { OnOk result (noted_view noted.new ≡ fold note (noted_view noted.old)
         (text_part (regions_of_tree (tree_view tree.now))
         (functions_of_tree (tree_view tree.now)))) }
@@ -30,9 +33,10 @@ fn note_declarations<'a>(
     Ok(())
 }
 
-/// Notes all that is wrong in a tree, but for a missing `main`. There is an error where memory runs
-/// out.
+/// Notes all that is wrong in a tree of at most 2^20 tokens, but for a missing `main`. There is an
+/// error where memory runs out.
 pub fn note_tree<'a>(noted: &mut Noted<'a>, alloc: Global, tree: &'a Tree) -> Result<(), AllocError>
+    requires { length (spelling (tree_view tree.now)) ≤ most_members }
     ensures { OnOk result (noted_view noted.new ≡ fold note (noted_view noted.old)
         (findings (tree_view tree.now))) }
 {

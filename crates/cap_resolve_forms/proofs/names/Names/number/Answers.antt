@@ -1,13 +1,7 @@
-use Rattle.std.proofs.Common.{◌≡◌, ◌+◌, ◌≤◌, length, sym, ap, ◌∙◌, arith}
+use Rattle.std.proofs.Common.{◌+◌, length, sym, ap, ◌∙◌}
 use Rattle.cap_resolve_spec.specs.Names.{variable_of}
-use Rattle.cap_resolve_terms.proofs.Numbers.{variable-known, variable-unknown, variable-within}
+use Rattle.cap_resolve_terms.proofs.Numbers.{variable-known, variable-unknown}
 use Rattle.cap_resolve_forms.proofs.names.Names.number.Goals as goal
-
-pub overflow_add-result : goal.overflow_add-result
-overflow_add-result c =
-    let a : c.number-else-knows.result ≤ length c.self.inside.own = rw c.number-else-knows.ensures (variable-within c.self.inside.own c.args.name.now) in
-    let b : c.len.result ≡ length c.self.inside.scope.now = c.len.ensures in
-    omega arith
 
 pub returns-then-knows : goal.returns-then-knows
 returns-then-knows c =

@@ -1,6 +1,12 @@
-use Rattle.std.proofs.Common.{◌∙◌}
-use Rattle.cap_resolve_tables.proofs.Positions.{type_place}
+use Rattle.std.proofs.Common.{◌≡◌, ◌∙◌, ap, length, arith}
+use Rattle.std.proofs.lemmas.List.{length-map}
+use Rattle.cap_resolve_tables.proofs.Positions.{type_place, type_entry}
 use Rattle.cap_resolve_tables.proofs.tables.RegionTable.number.Goals as goal
 
 pub returns : goal.returns
-returns c = c.number.ensures ∙ type_place c.args.self.now.types.items c.args.self.now.names c.args.name.now c.args.self.now.named
+returns c = c.variable.ensures ∙ type_place c.args.self.now.types.items c.args.self.now.names c.args.name.now c.args.self.now.named
+
+pub variable-requires : goal.variable-requires
+variable-requires c =
+    let e : length c.args.self.now.names ≡ length c.args.self.now.types.items = ap length c.args.self.now.named ∙ length-map c.args.self.now.types.items type_entry in
+    omega (arith, c.args.self.now.few)

@@ -7,6 +7,6 @@ use Rattle.cap_resolve_terms.proofs.scope.Scope.knows.Goals as goal
 pub returns : goal.returns
 returns c =
     c.contains_key.ensures
-    ∙ (ap is_some (c.self.invariant.1 c.args.name.now)
+    ∙ (ap is_some (c.self.invariant c.args.name.now)
     ∙ (known-number (map entry_view c.self.inside.entries.items) c.args.name.now
     ∙ ap (λ s. knows s c.args.name.now) c.self.view_is))
