@@ -10,13 +10,13 @@ pub mod Valid
 pub mod Begins
 mod Chosen
 mod Renewed
-mod Changes
+pub mod Changes
 mod Exchanging
-mod Successors
-mod Following
-mod Succeeding
-mod Strides
-mod Ordinary
-mod Touching
-mod Handing
+pub mod Successors
+pub mod Following
+pub mod Succeeding
+pub mod Strides
+pub mod Ordinary
+pub mod Touching
+pub mod Handing
 pub mod Returning

@@ -62,7 +62,7 @@ fresh-absent heap base n free a z h = by (get heap a) refl
         absurd (omega (arith, at_z, one, here, most, h))
 
 -- the frame's part, and cells that are new in the heap
-recells-fresh :
+pub recells-fresh :
     (p : Checked) (x : Turn p) (base : ℤ) (n : ℕ) → are_free x.c.heap base n ≡ true →
     Recells (part_stock x.held.part)
     (both p.program (part_stock x.held.part)
@@ -91,7 +91,7 @@ module _ (p : Checked) (ls : Statements p) (stable : Stable p.program) (x : Turn
   abbrev V : Table
   V = account_table x.a
 
-  below-waits : AllWait p V (callee_of x.frame x.held) x.below x.waiting
+  pub below-waits : AllWait p V (callee_of x.frame x.held) x.below x.waiting
   below-waits =
       (x.sound.stacks x.thread (x.frame ∷ x.below) (x.held ∷ x.waiting) x.has_frames x.has_parts).1
 

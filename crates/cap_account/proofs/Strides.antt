@@ -171,7 +171,7 @@ module _ (p : Checked) (stable : Stable p.program) (x : Turn p) (y : Stride p x)
       (inside-first p.program y.left (others p x)) (left-inside p stable x y)
 
   -- the stepping frame goes on with what is left to it
-  pub goes-on :
+  abbrev pub goes-on :
       (g : Frame) (event : Event) → Stands p y.left y.change.by.U x.held.fixed g →
       AllWait p y.change.by.U (callee_of g x.held) x.below x.waiting →
       (StaysOn (stepping x) later_threads (mine.part ∷ []) →

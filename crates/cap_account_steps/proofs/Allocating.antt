@@ -10,12 +10,12 @@ use Rattle.cap_lin.specs.declared.row.Sort.TheVariants.{Int}
 use Rattle.cap_lin.specs.declared.row.Op.TheVariants.{Ge as AtLeast}
 use Rattle.cap_lin.proofs.Rows.{row_of-means}
 use Rattle.cap_prog.specs.Program.{Label, alloc, Block, first, PlainFunction}
-use Rattle.cap_goal_spec.specs.States.{PlainState, to_run}
+use Rattle.cap_goal_spec.specs.States.{PlainState, PlainTask, to_run, PlainGoal, goals_of}
 use Rattle.cap_goal_spec.specs.Environments.{one_value}
 use Rattle.cap_goal_spec.specs.Choices.{node, by_absurd, by_alloc, PlainTree}
 use Rattle.cap_rules.specs.Attempts.{◌>>=◌}
 use Rattle.cap_rules.specs.Making.{fresh, with_comparison, with_local}
-use Rattle.cap_rules.specs.Rules.{leaves, with_new_cells}
+use Rattle.cap_rules.specs.Rules.{leaves, with_new_cells, at_alloc}
 use Rattle.cap_machine.specs.Machine.{Frame, with_rest, with_value}
 use Rattle.cap_machine_accounts.specs.Assertions.{NameValue}
 use Rattle.cap_account_resources.proofs.Lists.{all-set, get-last, all-both}
@@ -39,21 +39,37 @@ use Rattle.cap_account_steps.proofs.Statements.{AllocLaw, Before}
 use Rattle.cap_account_assertions.proofs.Named.{set_to}
 use Rattle.cap_account_steps.proofs.Local.{given-up}
 
+-- ---- the states on the way
+
+-- a fresh variable, a row that it is above 0, cells from it on, and it is in the store
+abbrev pub above_one : PlainState → PlainState
+above_one s = row_added (sort_added s Int) (row_of (fresh s) AtLeast one_value Int)
+
+abbrev pub with_cells : ℕ → PlainState → PlainState
+with_cells n s = record (above_one s) { cells = s.cells ++ new_cells (fresh s) 0 n }
+
+abbrev pub allocated : ℕ → ℕ → PlainState → PlainState
+allocated x n s = with_local (with_cells n s) x (fresh s)
+
+pub comes-allocated :
+    (x n : ℕ) (s : PlainState) (ts : List PlainTask) (P : List PlainGoal → Type 0) →
+    Comes (at_alloc s x n ts) P → P (goals_of (allocated x n s) ts)
+comes-allocated x n s ts P h =
+    let u = fresh s in
+    let last = λ (s' : PlainState). leaves (with_local s' x u) ts in
+    let adds = λ (s' : PlainState). with_new_cells s' u 0 n >>= last in
+    let compares = λ (s' : PlainState). with_comparison s' u AtLeast one_value Int >>= adds in
+    let h1 = after-sort s Int compares P h in
+    let h2 = after-comparison (sort_added s Int) u AtLeast one_value Int adds P h1 in
+    (comes-new-cells (above_one s) u 0 n (λ s'. Comes (last s') P)
+    (comes-bind (with_new_cells (above_one s) u 0 n) last P h2)).1
+
+-- ---- a frame that allocates
+
 module _ (p : Checked) (part : Stock) (T : Table) (fn : PlainFunction) (fixed : List NameValue)
     (size : length fixed ≡ length fn.fixed) (x n : ℕ) (base : ℤ) (up : pos 1 ≤ℤ base) where
   abbrev enlarged : Stock
   enlarged = both p.program part (record { cells = fresh_cells base n; guards = no_guards })
-
-  -- the states on the way: a fresh variable, a row that it is above 0, cells from it on, and it is
-  -- in the store
-  abbrev above_one : PlainState → PlainState
-  above_one s = row_added (sort_added s Int) (row_of (fresh s) AtLeast one_value Int)
-
-  abbrev with_cells : PlainState → PlainState
-  with_cells s = record (above_one s) { cells = s.cells ++ new_cells (fresh s) 0 n }
-
-  abbrev allocated : PlainState → PlainState
-  allocated s = with_local (with_cells s) x (fresh s)
 
   module _ (f : Frame) (l : Label) (b : Block) (d : PlainTree)
       (k : Node p part T fn fixed (with_rest f (first l (alloc x n) b))
@@ -68,29 +84,29 @@ module _ (p : Checked) (part : Stock) (T : Table) (fn : PlainFunction) (fixed : 
     u = fresh k.state
 
     -- the fresh variable is the base
-    abbrev w : Valuation
+    abbrev pub w : Valuation
     w = meets.with_value k.v (length k.state.sorts) base (base *ℤ denominator k.v.fraction)
 
-    agrees : Agree (Old s) v w
+    pub agrees : Agree (Old s) v w
     agrees =
         with-agrees (Old s) v (length s.sorts) base (base *ℤ denominator v.fraction)
         (λ y l q. omega (arith, l, q))
 
-    is-base : value w.whole u ≡ base
+    pub is-base : value w.whole u ≡ base
     is-base =
         variable-value w (length s.sorts)
         ∙ new-whole v (length s.sorts) base (base *ℤ denominator v.fraction)
 
-    is-whole : IsWholeAt w (length s.sorts)
+    pub is-whole : IsWholeAt w (length s.sorts)
     is-whole =
         new-share v (length s.sorts) base (base *ℤ denominator v.fraction)
         ∙ ap (λ y. y *ℤ denominator v.fraction)
         (sym (new-whole v (length s.sorts) base (base *ℤ denominator v.fraction)))
 
-    fresh-over : Over (Usable [] (sort_added s Int).sorts Int) u
+    pub fresh-over : Over (Usable [] (sort_added s Int).sorts Int) u
     fresh-over = ((get-last s.sorts Int, tt), tt)
 
-    meets-above : Meets [] w (above_one s)
+    pub meets-above : Meets [] w (above_one s)
     meets-above =
         let one = value-number w.whole (pos 1) in
         let at = is-base in
@@ -99,7 +115,7 @@ module _ (p : Checked) (part : Stock) (T : Table) (fn : PlainFunction) (fixed : 
         ((row_of-means w u AtLeast one_value Int).1 (omega (arith, ints, at, up, one)))
         (row-over (Usable [] (sort_added s Int).sorts) u AtLeast one_value Int fresh-over tt)
 
-    meets-allocated : Meets [] w (allocated s)
+    pub meets-allocated : Meets [] w (allocated x n s)
     meets-allocated =
         let m = meets-above in
         let R = CellOver (Usable [] (above_one s).sorts) in
@@ -123,13 +139,13 @@ module _ (p : Checked) (part : Stock) (T : Table) (fn : PlainFunction) (fixed : 
               fresh-over;
         }
 
-    facts-allocated : Facts [] w T (allocated s)
+    pub facts-allocated : Facts [] w T (allocated x n s)
     facts-allocated =
         let f = facts-on [] v w T s (sort_added s Int) (same-fresh s Int)
         (agree-alike (Old s) v w agrees) k.facts in
         record { holds = f.holds; over = f.over; loose = f.loose; differ = f.differ }
 
-    cells-allocated : (a z : ℤ) → need w (allocated s).cells a z ≤ enlarged.cells a z
+    pub cells-allocated : (a z : ℤ) → need w (allocated x n s).cells a z ≤ enlarged.cells a z
     cells-allocated a z =
         let i = need-both w s.cells (new_cells u 0 n) a z in
         let j = new-cells-need w u 0 n a z in
@@ -142,7 +158,7 @@ module _ (p : Checked) (part : Stock) (T : Table) (fn : PlainFunction) (fixed : 
         let g = k.backed.cells a z in
         omega (arith, i, j, e, e0, c, g)
 
-    guards-allocated : (m : ℤ) → Covered p.program w s.guards m (enlarged.guards m)
+    pub guards-allocated : (m : ℤ) → Covered p.program w s.guards m (enlarged.guards m)
     guards-allocated m =
         subst (Covered p.program w s.guards m) (sym (free-right p.program (part.guards m)))
         (covered-alike p.program (Old s) v w (agree-alike (Old s) v w agrees) s.guards m
@@ -151,15 +167,15 @@ module _ (p : Checked) (part : Stock) (T : Table) (fn : PlainFunction) (fixed : 
         k.grounded.pieces_over)
         (k.backed.guards m))
 
-    sits-allocated :
-        (e : PlainTree) → p.N e (allocated s) (running b k.home) →
+    abbrev pub sits-allocated :
+        (e : PlainTree) → p.N e (allocated x n s) (running b k.home) →
         SitsAt p enlarged T fn fixed (with_value (with_rest f b) x base)
         (set_to k.v (length k.state.sorts) base)
     sits-allocated e valid = record {
       sits = record {
         tree = e;
         at_node = record {
-          state = allocated s;
+          state = allocated x n s;
           v = w;
           home = k.home;
           valid = valid;
@@ -174,7 +190,7 @@ module _ (p : Checked) (part : Stock) (T : Table) (fn : PlainFunction) (fixed : 
           facts = facts-allocated;
           firm = k.firm;
           backed = record { cells = cells-allocated; guards = guards-allocated };
-          store = store-local w (with_cells s) k.home fn fixed f x u base b is-base
+          store = store-local w (with_cells n s) k.home fn fixed f x u base b is-base
               (let st = store-alike v w s (sort_added s Int) k.home fn fixed f
               k.grounded.meets.store_over (agree-alike (Old s) v w agrees) (same-fresh s Int).sorts refl
               size (record {
@@ -204,17 +220,8 @@ module _ (p : Checked) (part : Stock) (T : Table) (fn : PlainFunction) (fixed : 
       given-up p part T fn fixed (with_rest f (first l (alloc x n) b))
       (λ h. to_run h (first l (alloc x n) b)) c ks k
   alloc-at f l b (node by_alloc ks) k =
-      let s = k.state in
-      let u = fresh s in
-      let N = Children p.N ks in
-      let last = λ (s' : PlainState). leaves (with_local s' x u) (running b k.home) in
-      let adds = λ (s' : PlainState). with_new_cells s' u 0 n >>= last in
-      let compares = λ (s' : PlainState). with_comparison s' u AtLeast one_value Int >>= adds in
-      let h1 = after-sort s Int compares N (p.step k.valid) in
-      let h2 = after-comparison (sort_added s Int) u AtLeast one_value Int adds N h1 in
-      let h3 = comes-new-cells (above_one s) u 0 n (λ s'. Comes (last s') N)
-      (comes-bind (with_new_cells (above_one s) u 0 n) last N h2) in
-      let q = one-child p.N ks (allocated s) (running b k.home) h3.1 in
+      let q = one-child p.N ks (allocated x n k.state) (running b k.home)
+      (comes-allocated x n k.state (running b k.home) (Children p.N ks) (p.step k.valid)) in
       sits-allocated f l b (node by_alloc ks) k q.0 q.1
   alloc-at f l b d k = absurd (p.step k.valid).1
 

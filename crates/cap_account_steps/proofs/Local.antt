@@ -10,7 +10,7 @@ use Rattle.cap_farkas.specs.declared.cert.Cert.{Cert}
 use Rattle.cap_prog.specs.declared.assertion.Comp.{Comp}
 use Rattle.cap_prog.specs.Program.{PlainAssertion, Label, set, branch, check, loop, Block, first, append, PlainFunction}
 use Rattle.cap_prog.specs.Scopes.{body_scope, fixed_start, CompFits}
-use Rattle.cap_goal_spec.specs.States.{PlainState, Home, PlainTask, to_run, to_turn, goals_of}
+use Rattle.cap_goal_spec.specs.States.{PlainState, Home, PlainTask, to_run, to_turn, PlainGoal, goals_of}
 use Rattle.cap_goal_spec.specs.Choices.{PlainTree, node, by_absurd, by_set, by_assert, by_if, by_turn, PlainTrees}
 use Rattle.cap_rules.specs.Making.{opposite, with_local, with_row, row_here}
 use Rattle.cap_rules.specs.Rules.{leaves, branches}
@@ -24,12 +24,27 @@ use Rattle.cap_account_resources.proofs.Stocks.{Stock}
 use Rattle.cap_account_states.specs.Nodes.{Comes, Children}
 use Rattle.cap_account_states.proofs.Terms.{Over}
 use Rattle.cap_account_states.proofs.Attempts.{store_row, row_added, after-here, after-prove, after-row-here, after-with-row}
-use Rattle.cap_account_states.proofs.Meets.{Usable, Meets, meets-row, solves, proved-holds}
+use Rattle.cap_account_states.proofs.Meets.{Usable, meets-row, solves, proved-holds}
 use Rattle.cap_account_states.proofs.Checked.{Checked, children-split, one-child}
 use Rattle.cap_account_steps.proofs.Points.{point-act}
 use Rattle.cap_account_steps.proofs.Stores.{running, here, here-value, here-over, holds-here, row-here-over, met-here}
 use Rattle.cap_account_steps.proofs.Frames.{Node, SitsAt}
 use Rattle.cap_account_steps.proofs.Statements.{Before, SetLaw, CheckLaw, BranchLaw}
+
+-- the goals of a comparison: with the row that it is met, and with the row that it isn't
+pub comes-branches :
+    (s : PlainState) (c : Comp) (ts us : List PlainTask) (P : List PlainGoal → Type 0) →
+    Comes (branches s c ts us) P →
+    P (goals_of (row_added s (store_row s c.op c)) ts
+    ++ goals_of (row_added s (store_row s (opposite c.op) c)) us)
+comes-branches s c ts us P go =
+    let s1 = row_added s (store_row s c.op c) in
+    let last = λ (x y : PlainState). unit (goals_of x ts ++ goals_of y us) in
+    let rest = λ (x : PlainState). row_here s (opposite c.op) c >>= λ r. with_row s r >>= last x in
+    let h1 = after-row-here s c.op c (λ q. with_row s q >>= rest) P go in
+    let h2 = after-with-row s (store_row s c.op c) rest P h1 in
+    let h3 = after-row-here s (opposite c.op) c (λ r. with_row s r >>= last s1) P h2 in
+    (after-with-row s (store_row s (opposite c.op) c) (last s1) P h3).1
 
 module _ (p : Checked) (part : Stock) (T : Table) (fn : PlainFunction) (fixed : List NameValue) where
   abbrev NodeAt : Frame → (Home → List PlainTask) → PlainTree → Type 0
@@ -43,7 +58,7 @@ module _ (p : Checked) (part : Stock) (T : Table) (fn : PlainFunction) (fixed : 
       absurd ((p.step n.valid).0.0 n.v (solves [] n.v n.state n.grounded.meets))
 
   -- the same state, before other statements of the frame
-  pub passes-on :
+  abbrev pub passes-on :
       (f : Frame) (tasks : Home → List PlainTask) (d e : PlainTree) (b : Block) →
       (n : NodeAt f tasks d) → p.N e n.state (running b n.home) →
       SitsAt p part T fn fixed (with_rest f b) n.v
@@ -74,7 +89,7 @@ module _ (p : Checked) (part : Stock) (T : Table) (fn : PlainFunction) (fixed : 
   -- ---- assignments
 
   -- the state with a term in the store
-  assigned :
+  abbrev pub assigned :
       (f : Frame) (tasks : Home → List PlainTask) (d e : PlainTree) (b : Block) (x : ℕ)
       (t : Linear) → (n : NodeAt f tasks d) →
       p.N e (with_local n.state x (here n.state t)) (running b n.home) →
@@ -83,20 +98,21 @@ module _ (p : Checked) (part : Stock) (T : Table) (fn : PlainFunction) (fixed : 
     sits = record {
       tree = e;
       at_node = record {
-        state = with_local s x u;
+        state = with_local n.state x (here n.state t);
         v = n.v;
         home = n.home;
         valid = valid;
         none_open = n.none_open;
         grounded = record {
           meets = record {
-            sorted = m.sorted;
-            rows = m.rows;
-            rows_over = m.rows_over;
-            cells_over = m.cells_over;
-            positive = m.positive;
-            store_over = all-set (Over (Usable [] s.sorts Int)) s.store x u m.store_over
-                (here-over [] n.v s t m);
+            sorted = n.grounded.meets.sorted;
+            rows = n.grounded.meets.rows;
+            rows_over = n.grounded.meets.rows_over;
+            cells_over = n.grounded.meets.cells_over;
+            positive = n.grounded.meets.positive;
+            store_over =
+                all-set (Over (Usable [] n.state.sorts Int)) n.state.store x (here n.state t)
+                n.grounded.meets.store_over (here-over [] n.v n.state t n.grounded.meets);
           };
           pieces_over = n.grounded.pieces_over;
           pieces_fit = n.grounded.pieces_fit;
@@ -111,9 +127,9 @@ module _ (p : Checked) (part : Stock) (T : Table) (fn : PlainFunction) (fixed : 
         backed = record { cells = n.backed.cells; guards = n.backed.guards };
         store = record {
           home = n.store.home;
-          store = map-set (value n.v.whole) s.store x u
-              ∙ ap (λ zs. slice_set zs x (value n.v.whole u)) n.store.store
-              ∙ ap (slice_set f.store x) (here-value n.v s f.store t n.store.store);
+          store = map-set (value n.v.whole) n.state.store x (here n.state t)
+              ∙ ap (λ zs. slice_set zs x (value n.v.whole (here n.state t))) n.store.store
+              ∙ ap (slice_set f.store x) (here-value n.v n.state f.store t n.store.store);
           fixed_are = n.store.fixed_are;
           fixed_known = n.store.fixed_known;
         };
@@ -121,15 +137,6 @@ module _ (p : Checked) (part : Stock) (T : Table) (fn : PlainFunction) (fixed : 
     };
     named = refl;
   }
-    where
-      s : PlainState
-      s = n.state
-
-      m : Meets [] n.v n.state
-      m = n.grounded.meets
-
-      u : Linear
-      u = here n.state t
 
   set-at :
       (f : Frame) (l : Label) (b : Block) (x : ℕ) (t : Linear) (d : PlainTree) →
@@ -174,7 +181,7 @@ module _ (p : Checked) (part : Stock) (T : Table) (fn : PlainFunction) (fixed : 
   -- ---- branches
 
   -- the state with a row that the store says
-  chosen :
+  abbrev pub chosen :
       (f : Frame) (tasks : Home → List PlainTask) (d e : PlainTree) (b : Block) (c : Comp)
       (op : Op) → CompFits (body_scope fn) c → (n : NodeAt f tasks d) →
       p.N e (row_added n.state (store_row n.state op c)) (running b n.home) →
@@ -225,16 +232,10 @@ module _ (p : Checked) (part : Stock) (T : Table) (fn : PlainFunction) (fixed : 
       (s : PlainState) (h : Home) (c : Comp) (a b : Block) (ks : PlainTrees) →
       Comes (branches s c (running a h) (running b h)) (Children p.N ks) → BothGoals s h c a b ks
   both-goals s h c a b ks go =
-      let N = Children p.N ks in
       let s1 = row_added s (store_row s c.op c) in
       let s2 = row_added s (store_row s (opposite c.op) c) in
-      let last = λ (x y : PlainState). unit (goals_of x (running a h) ++ goals_of y (running b h)) in
-      let rest = λ (x : PlainState). row_here s (opposite c.op) c >>= λ r. with_row s r >>= last x in
-      let h1 = after-row-here s c.op c (λ q. with_row s q >>= rest) N go in
-      let h2 = after-with-row s (store_row s c.op c) rest N h1 in
-      let h3 = after-row-here s (opposite c.op) c (λ r. with_row s r >>= last s1) N h2 in
-      let h4 = (after-with-row s (store_row s (opposite c.op) c) (last s1) N h3).1 in
-      let k = children-split p.N ks (goals_of s1 (running a h)) (goals_of s2 (running b h)) h4 in
+      let k = children-split p.N ks (goals_of s1 (running a h)) (goals_of s2 (running b h))
+      (comes-branches s c (running a h) (running b h) (Children p.N ks) go) in
       record {
         met = one-child p.N k.left s1 (running a h) k.first;
         unmet = one-child p.N k.right s2 (running b h) k.second;
