@@ -101,13 +101,13 @@ module _ (p : Checked) (ls : Statements p) (stable : Stable p.program) (x : Turn
   abbrev caller : Held
   caller = record { part = cut p stable x y h.kept; fixed = x.held.fixed }
 
-  callee-is : part_stock (cut p stable x y h.given) ≡ h.given
+  pub callee-is : part_stock (cut p stable x y h.given) ≡ h.given
   callee-is = cut-is p stable x y h.given given-all
 
-  caller-is : part_stock (cut p stable x y h.kept) ≡ h.kept
+  pub caller-is : part_stock (cut p stable x y h.kept) ≡ h.kept
   caller-is = cut-is p stable x y h.kept kept-all
 
-  begins :
+  pub begins :
       (destination : Option ℕ) →
       Stands p (part_stock callee.part) h.over.U h.fixed (new_frame n g args destination)
   begins destination =
@@ -115,12 +115,12 @@ module _ (p : Checked) (ls : Statements p) (stable : Stable p.program) (x : Turn
       (ls.bodies n g is_g h.over.U h.given args h.fixed destination
       (cut-roomy p stable x y h.given given-all) arity h.fit h.meets)
 
-  meets-now :
+  pub meets-now :
       MeetsRequires p.program (table_of (kept p stable x y ++ news p stable x y)) callee.part g args
       h.fixed
   meets-now = cut-requires p stable x y h.given given-all g args h.fixed h.meets
 
-  both-left :
+  pub both-left :
       parts_stock p.program (callee.part ∷ caller.part ∷ []) ≡ both p.program h.kept h.given
   both-left =
       ap (λ q. both P q (both P (part_stock caller.part) no_stock)) callee-is
@@ -130,7 +130,7 @@ module _ (p : Checked) (ls : Statements p) (stable : Stable p.program) (x : Turn
 
   -- ---- a call
 
-  called :
+  abbrev pub called :
       (destination : Option ℕ) (b : Block) →
       Waits p h.kept h.over.U x.held.fixed (with_rest x.frame b) destination n args h.fixed →
       Goes p x (calls (spot_of x) b n args destination (Some g))
@@ -177,7 +177,7 @@ module _ (p : Checked) (ls : Statements p) (stable : Stable p.program) (x : Turn
 
   -- ---- a fork
 
-  started :
+  abbrev pub started :
       (b : Block) → Stands p h.kept h.over.U x.held.fixed (with_rest x.frame b) →
       Goes p x (forks (spot_of x) b n args (Some g))
   started b stands =

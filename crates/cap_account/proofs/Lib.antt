@@ -3,13 +3,13 @@ mod Unsafe
 mod Storing
 pub mod Stocked
 pub mod Tracks
-mod Totals
+pub mod Totals
 pub mod Parts
 pub mod Drawn
 pub mod Valid
 pub mod Begins
-mod Chosen
-mod Renewed
+pub mod Chosen
+pub mod Renewed
 pub mod Changes
 mod Exchanging
 pub mod Successors

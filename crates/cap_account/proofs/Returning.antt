@@ -40,7 +40,7 @@ one-of : (m n : ℕ) → 1 ≤ m + n → (1 ≤ m) ⊎ (1 ≤ n)
 one-of zero n h = inr (omega (arith, h))
 one-of (suc m) n h = inl (omega arith)
 
-joins-of :
+pub joins-of :
     (p : PlainProgram) (q r j : Part) → part_stock j ≡ both p (part_stock q) (part_stock r) →
     Joins q r j
 joins-of p q r j e =
@@ -65,7 +65,7 @@ joins-of p q r j e =
     }
 
 -- where a result goes is all that it changes
-receiving :
+pub receiving :
     (d : Option ℕ) (r : ℤ) (f : Frame) (h : Held) → callee_of (receives d r f) h ≡ callee_of f h
 receiving None r f h = refl
 receiving (Some x) r f h = refl
@@ -105,16 +105,16 @@ module _ (p : Checked) (ls : Statements p) (stable : Stable p.program) (x : Turn
     abbrev handed : Part
     handed = cut p stable x y given
 
-    given-all : Inside p.program given (all p stable x y)
+    pub given-all : Inside p.program given (all p stable x y)
     given-all = left-all p stable x y
 
-    handed-is : part_stock handed ≡ given
+    pub handed-is : part_stock handed ≡ given
     handed-is = cut-is p stable x y given given-all
 
-    handed-sum : parts_stock p.program (handed ∷ []) ≡ given
+    pub handed-sum : parts_stock p.program (handed ∷ []) ≡ given
     handed-sum = none-right P (part_stock handed) ∙ handed-is
 
-    contract :
+    pub contract :
         (t : TopFrame p.program x.c x.a x.thread)
         × Met p.program (table_of (kept p stable x y ++ news p stable x y)) handed t.function
         t.frame.arguments t.held.fixed v
@@ -130,7 +130,7 @@ module _ (p : Checked) (ls : Statements p) (stable : Stable p.program) (x : Turn
       cut-ensures p stable x y given given-all fn x.frame.arguments x.held.fixed v gives.meets,
     )
 
-    ends : x.waiting ≡ [] → Goes p x (returns (spot_of x) v [])
+    abbrev pub ends : x.waiting ≡ [] → Goes p x (returns (spot_of x) v [])
     ends e = (
       account p stable x y (slice_set x.a.threads x.thread []),
       handed,
@@ -145,7 +145,7 @@ module _ (p : Checked) (ls : Statements p) (stable : Stable p.program) (x : Turn
       ),
     )
 
-    goes-back :
+    abbrev pub goes-back :
         (f : Frame) (fs : List Frame) (h : Held) (hs : List Held) → x.waiting ≡ h ∷ hs →
         AllWait p gives.over.U (callee_of x.frame x.held) (f ∷ fs) (h ∷ hs) →
         Goes p x (returns (spot_of x) v (f ∷ fs))

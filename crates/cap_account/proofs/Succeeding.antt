@@ -65,7 +65,7 @@ module _ (p : Checked) (T : Table) where
       each-last ts hss t hs (omega (arith, n)) s (λ i. f (suc i)) j u qs e k
 
 -- one of the others
-other-inside :
+pub other-inside :
     {A : Type 0} (p : PlainProgram) (f : A → Stock) (xs : List A) (i j : ℕ) (z : A) → j ≢ i →
     slice_get xs j ≡ Some z → Inside p (f z) (sum_by p f (remove xs i))
 other-inside p f [] i j z ne e = absurd (none-some e)
@@ -203,7 +203,7 @@ module _ (p : Checked) (stable : Stable p.program) (x : Turn p) (y : Stride p x)
   abbrev elsewhere : Stock
   elsewhere = sum_by p.program (frames_stock p.program) (remove x.a.threads x.thread)
 
-  rest-has :
+  pub rest-has :
       (q : Stock) → Inside p.program q (others p x) →
       Inside p.program q (rest_stock p.program (scene p x) y.heap y.left y.change)
   rest-has q le =

@@ -74,7 +74,7 @@ module _ (p : Checked) (T : Table) (sc : Scope) (e : ℕ) (a : Valuation) (total
   abbrev IsOpen : PlainTrees → PlainState → Items → Type 0
   IsOpen ks s items = Open p.N ks s (to_give items e n ∷ ts)
 
-  given-none :
+  pub given-none :
       (way : PlainTrees → PlainTrees) (ks : PlainTrees) (v : Valuation) (s : PlainState) →
       Open p.N ks s ts → IsDue way none v s → Goes (way ks) v s
   given-none way ks v s h d =
@@ -106,7 +106,7 @@ module _ (p : Checked) (T : Table) (sc : Scope) (e : ℕ) (a : Valuation) (total
       }
 
   -- the items of a side are due before those that follow, and then lead to the trees behind them
-  side-due :
+  pub side-due :
       (way : PlainTrees → PlainTrees) (c : Comp) (x y side more : Items) (v : Valuation)
       (s t : PlainState) (d : IsDue way (item (choose c x y) more) v s)
       (m : Step sc e a v s t) → AreFit p.program sc side →
@@ -153,7 +153,7 @@ module _ (p : Checked) (T : Table) (sc : Scope) (e : ℕ) (a : Valuation) (total
       Goes (way ks) v s
 
   -- an item that isn't conditional, and those that follow
-  after-item :
+  pub after-item :
       (way : PlainTrees → PlainTrees) (i : PlainItem) (more : Items) → IsPlain i →
       ListGiven way more → (ks : PlainTrees) (v : Valuation) (s : PlainState) →
       Comes (give_item p.program s e i)

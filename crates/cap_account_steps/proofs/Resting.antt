@@ -43,16 +43,16 @@ abbrev Done : Unit {0} → Type 0
 Done x = Unit {0}
 
 -- candidates follow from the rows and stay true; then they are known
-record SettledBy (ks : List ℕ) (k : PlainRegionType) (s : PlainState) (j : ℕ) (f : PlainFact)
+pub record SettledBy (ks : List ℕ) (k : PlainRegionType) (s : PlainState) (j : ℕ) (f : PlainFact)
     (Q : PlainState → Type 0) : Type 0 where
-  named : List Row
-  are : AllByRecursion (IsCandidate s) named
-  over : AllByRecursion (RowOver (Usable ks (s.sorts ++ Int ∷ []))) named
-  proved : AllByRecursion (λ r. Proves s.rows (row_at s f.state r)) named
-  stable : Comes (prove_stable k s f named k.actions) Done
-  comes : Q (settled_state s j f named)
+  pub named : List Row
+  pub are : AllByRecursion (IsCandidate s) named
+  pub over : AllByRecursion (RowOver (Usable ks (s.sorts ++ Int ∷ []))) named
+  pub proved : AllByRecursion (λ r. Proves s.rows (row_at s f.state r)) named
+  pub stable : Comes (prove_stable k s f named k.actions) Done
+  pub comes : Q (settled_state s j f named)
 
-comes-settle :
+pub comes-settle :
     (ks : List ℕ) (k : PlainRegionType) (s : PlainState) (j : ℕ) (f : PlainFact)
     (list : List ℕ) (Q : PlainState → Type 0) → Free ks (length s.sorts) →
     AllOver (Usable ks s.sorts Int) f → AllByRecursion (PieceOver (Usable ks s.sorts)) s.guards →
@@ -80,7 +80,7 @@ comes-settle ks k s j f list Q new over pieces h =
           (after-sort s Int last Q (comes-stable k s f n.rows k.actions R stable).1);
     }
 
-comes-keep :
+pub comes-keep :
     (k : PlainRegionType) (s : PlainState) (j : ℕ) (f : PlainFact) (Q : PlainState → Type 0) →
     Comes (keep k s j f) Q →
     Comes (prove_kept k s f (same_row s f) k.actions) Done × Q (kept_state s j f)
