@@ -46,10 +46,11 @@ use Rattle.cap_owners_laws.specs.Owned.{IsTold}
 use Rattle.cap_owners_tracks_laws.proofs.Tied.{StopsSo, derivation, IsAtNode, Tied}
 use Rattle.cap_owners_tracks_laws.proofs.Steps.{TurnKept, GoesKept, EachTurn, DoesKept}
 use Rattle.cap_owners_tracks_laws.proofs.Saying.{track-tells}
+use Rattle.cap_owners_tracks_laws.proofs.Turns.{own, stack-tied}
 use Rattle.cap_owners_steps_laws.proofs.Onward.{set-on, check-on, branch-on, LedFresh, alloc-on}
 use Rattle.cap_owners_steps_laws.proofs.Putting.{IsCellAt, new-or-old}
 use Rattle.cap_owners_steps_laws.proofs.Staying.{tied-on, keeps-told}
-use Rattle.cap_owners_steps_laws.proofs.Stepping.{own, stack-tied, stepped, after, local-kept}
+use Rattle.cap_owners_steps_laws.proofs.Stepping.{stepped, after, local-kept}
 
 -- ---- cells
 
@@ -145,15 +146,15 @@ module _ (p : Checked) (trees : List (Option PlainTree)) (stable : Stable p.prog
         x.top.held.fixed (with_rest x.turn.frame b) x.top
     tied-before b e =
         subst (λ b. Tied p trees part V fixed (with_rest f b) x.top) e
-        (stack-tied p trees stable x).0
+        (stack-tied p trees x).0
 
     -- nothing changes but the frame's store and its statements
     stays :
         (g : Frame) (event : Event) → Tied p trees part V fixed g (now event) →
         callee_of f x.top.held ≡ callee_of g x.top.held →
         ((hss : List (List Held)) (lefts : List Part) →
-        StaysOn (stepping (own p trees stable x)) hss lefts →
-        FramesFollow event (stepping (own p trees stable x)) hss no_part lefts) →
+        StaysOn (stepping (own p trees x)) hss lefts →
+        FramesFollow event (stepping (own p trees x)) hss no_part lefts) →
         ((b : Account) → KeepsContracts p.program x.turn.thread event x.turn.c
         (after p trees stable x x.turn.c.heap x.top.held.part.cells g event) (account_of x.track) b
         no_part) → accesses event ≡ None →
@@ -162,7 +163,7 @@ module _ (p : Checked) (trees : List (Option PlainTree)) (stable : Stable p.prog
         (machine.next (after p trees stable x x.turn.c.heap x.top.held.part.cells g event) event)
     stays g event tied callee frames keeps shut moves =
         local-kept p trees stable x x.turn.c.heap x.top.held.part.cells g event tied
-        (same-cells p (own p trees stable x)) callee frames keeps shut moves
+        (same-cells p (own p trees x)) callee frames keeps shut moves
         (keeps-told p trees part V fixed g (now event) x.top.held.part.cells k.regions tied
         (λ a z. omega arith) (track-tells k) (λ q w at a. inl refl))
 
@@ -285,7 +286,7 @@ module _ (p : Checked) (trees : List (Option PlainTree)) (stable : Stable p.prog
     free-there : are_free x.top.held.part.cells base n ≡ true
     free-there =
         free-within x.turn.c.heap was base n
-        (λ a z. (let i = (scene p (own p trees stable x)).cells a z in omega (arith, i))) free.1
+        (λ a z. (let i = (scene p (own p trees x)).cells a z in omega (arith, i))) free.1
 
     with-more :
         (a z : ℤ) → cells_of cells a z ≡ cells_of x.top.held.part.cells a z + fresh_cells base n a z
@@ -357,7 +358,7 @@ module _ (p : Checked) (trees : List (Option PlainTree)) (stable : Stable p.prog
         local-kept p trees stable x heap cells g (Alloc base)
         (subst (λ q. Tied p trees q (V x) (fixed x) g (now x (Alloc base))) same tied)
         (subst (λ q. Recells (part x) q x.turn.c.heap heap) same
-        (recells-fresh p (own p trees stable x) base n free.1)) refl (λ hss lefts h. h) (λ b. tt)
+        (recells-fresh p (own p trees x) base n free.1)) refl (λ hss lefts h. h) (λ b. tt)
         refl refl
         (keeps-told p trees more (V x) (fixed x) g (now x (Alloc base)) cells x.track.regions tied
         (λ a z. (let i = with-more a z in omega (arith, i))) (track-tells x.track) brought)

@@ -1,6 +1,6 @@
 -- A step by which no region changes, and only the stepping frame's cells may: the track goes over,
 -- and is kept.
-use Rattle.std.proofs.Common.{◌≡◌, ◌≢◌, ℕ, zero, suc, false, List, [], ◌∷◌, ◌++◌, map, Option, Some, None, refl, sym, ap, ◌∙◌, subst, arith}
+use Rattle.std.proofs.Common.{◌≡◌, ◌≢◌, ℕ, false, List, [], ◌∷◌, ◌++◌, map, Option, Some, None, refl, sym, ap, ◌∙◌, subst}
 use Rattle.std.specs.Prelude.{slice_get, slice_set}
 use Rattle.cap_goal_spec.specs.Choices.{PlainTree}
 use Rattle.cap_machine.specs.Machine.{Heap, Frame, Thread, Configuration, top_frame}
@@ -10,7 +10,7 @@ use Rattle.cap_machine_accounts.specs.Accounts.{Held, OwnedRegion, Account}
 use Rattle.cap_machine_accounts.specs.Following.{StaysOn, FramesFollow, accesses, SomeHasCell, Follows}
 use Rattle.cap_machine_accounts.specs.Safety.{KeepsContracts}
 use Rattle.cap_account_resources.specs.Parts.{Table}
-use Rattle.cap_account_resources.proofs.Lists.{some-same, none-some, map-at, map-set, join-nil}
+use Rattle.cap_account_resources.proofs.Lists.{some-same, map-set, join-nil}
 use Rattle.cap_account_resources.proofs.Stocks.{Stock}
 use Rattle.cap_account_states.proofs.Checked.{Checked}
 use Rattle.cap_account_steps.proofs.Regained.{Stable}
@@ -27,28 +27,11 @@ use Rattle.cap_owners_laws.specs.Owned.{IsTold, GoesOver}
 use Rattle.cap_owners_values_laws.proofs.Parts.{same-part}
 use Rattle.cap_owners_tracks_laws.proofs.Tied.{derivation, Tied, AllWaitTied, StackTied, EachTied, Kept}
 use Rattle.cap_owners_tracks_laws.proofs.Steps.{TurnKept}
+use Rattle.cap_owners_tracks_laws.proofs.Turns.{each-set, own, stack-tied}
 use Rattle.cap_owners_steps_laws.proofs.Telling.{told-on}
 use Rattle.cap_owners_steps_laws.proofs.Staying.{holding}
 
 -- ---- lists
-
--- two lists of which one element each is changed
-each-set :
-    {A B : Type 0} (R : A → B → Type 0) (xs : List A) (ys : List B) (i : ℕ) (x : A) (y : B) →
-    R x y →
-    ((j : ℕ) (u : A) (v : B) → j ≢ i → slice_get xs j ≡ Some u → slice_get ys j ≡ Some v → R u v) →
-    (j : ℕ) (u : A) (v : B) → slice_get (slice_set xs i x) j ≡ Some u →
-    slice_get (slice_set ys i y) j ≡ Some v → R u v
-each-set R [] ys i x y r f j u v e k = absurd (none-some e)
-each-set R (a ∷ xs) [] i x y r f j u v e k = absurd (none-some k)
-each-set R (a ∷ xs) (b ∷ ys) zero x y r f zero u v e k =
-    subst (λ z. R z v) (some-same x u e) (subst (R x) (some-same y v k) r)
-each-set R (a ∷ xs) (b ∷ ys) zero x y r f (suc j) u v e k =
-    f (suc j) u v (λ q. omega (arith, q)) e k
-each-set R (a ∷ xs) (b ∷ ys) (suc i) x y r f zero u v e k =
-    f 0 u v (λ q. omega (arith, q)) e k
-each-set R (a ∷ xs) (b ∷ ys) (suc i) x y r f (suc j) u v e k =
-    each-set R xs ys i x y r (λ n w z ne. f (suc n) w z (λ q. ne (omega (arith, q)))) j u v e k
 
 map-still :
     {A : Type 0} (f : A → A) → ((x : A) → f x ≡ x) → (xs : List A) → map f xs ≡ xs
@@ -74,31 +57,8 @@ module _ (p : Checked) (trees : List (Option PlainTree)) (stable : Stable p.prog
   abbrev V : Table
   V = account_table (account_of x.track)
 
-  -- the turn, by the track's own account
-  abbrev pub own : Turn p
-  own = record {
-    c = x.turn.c;
-    a = account_of x.track;
-    sound = x.kept.sound;
-    thread = x.turn.thread;
-    frame = x.turn.frame;
-    below = x.turn.below;
-    held = x.top.held;
-    waiting = map (λ t. t.held) x.below;
-    has_frames = x.turn.has_frames;
-    has_parts =
-        map-at (map (λ (t : TrackedFrame). t.held)) x.track.threads x.turn.thread
-        (x.top ∷ x.below) x.has_frames;
-  }
-
-  pub stack-tied :
-      Tied p trees (part_stock x.top.held.part) (account_table (account_of x.track))
-      x.top.held.fixed x.turn.frame x.top
-      × AllWaitTied p trees (account_table (account_of x.track))
-      (callee_of x.turn.frame x.top.held) x.turn.below x.below
-  stack-tied =
-      x.kept.stacks x.turn.thread (x.turn.frame ∷ x.turn.below) (x.top ∷ x.below) x.turn.has_frames
-      x.has_frames
+  abbrev turn : Turn p
+  turn = own p trees x
 
   module _ (heap : Heap) (cells : Heap) (g : Frame) (event : Event) where
     -- the top frame with the step, and with the cells that it has then
@@ -139,30 +99,30 @@ module _ (p : Checked) (trees : List (Option PlainTree)) (stable : Stable p.prog
         x.top.held.fixed g stepped)
         (recells : Recells (part_stock x.top.held.part) (part_stock part) x.turn.c.heap heap)
         (callee : callee_of x.turn.frame x.top.held ≡ callee_of g x.top.held)
-        (frames : (hss : List (List Held)) (lefts : List Part) → StaysOn (stepping own) hss lefts →
-        FramesFollow event (stepping own) hss no_part lefts)
+        (frames : (hss : List (List Held)) (lefts : List Part) → StaysOn (stepping turn) hss lefts →
+        FramesFollow event (stepping turn) hss no_part lefts)
         (keeps : (b : Account) → KeepsContracts p.program x.turn.thread event x.turn.c after
         (account_of x.track) b no_part) (shut : accesses event ≡ None) where
-      abbrev y : Stride p own
-      y = recelling p own heap (part_stock part) recells
+      abbrev y : Stride p turn
+      y = recelling p turn heap (part_stock part) recells
 
       -- ---- the account
 
-      part-cut : cut p stable own y (part_stock part) ≡ part
+      part-cut : cut p stable turn y (part_stock part) ≡ part
       part-cut =
-          same-stock (cut p stable own y (part_stock part)) part
-          (cut-is p stable own y (part_stock part) (left-all p stable own y))
+          same-stock (cut p stable turn y (part_stock part)) part
+          (cut-is p stable turn y (part_stock part) (left-all p stable turn y))
 
       abbrev regions_were : List OwnedRegion
       regions_were = (account_of x.track).regions
 
       regions-same :
-          (account p stable own y (later_threads p stable own y)).regions ≡ regions_were
+          (account p stable turn y (later_threads p stable turn y)).regions ≡ regions_were
       regions-same =
-          join-nil (map (kept_of (cut p stable own y) []) regions_were)
-          ∙ map-still (kept_of (cut p stable own y) []) (λ r. refl) regions_were
+          join-nil (map (kept_of (cut p stable turn y) []) regions_were)
+          ∙ map-still (kept_of (cut p stable turn y) []) (λ r. refl) regions_were
 
-      threads-same : later_threads p stable own y ≡ (account_of later).threads
+      threads-same : later_threads p stable turn y ≡ (account_of later).threads
       threads-same =
           ap (λ (q : Part). slice_set (account_of k).threads x.turn.thread
           (record { part = q; fixed = x.top.held.fixed } ∷ map (λ t. t.held) x.below)) part-cut
@@ -172,7 +132,7 @@ module _ (p : Checked) (trees : List (Option PlainTree)) (stable : Stable p.prog
           (sym (join-nil (slice_set k.threads x.turn.thread moves_so.frames)))
 
       account-same :
-          account p stable own y (later_threads p stable own y) ≡ account_of later
+          account p stable turn y (later_threads p stable turn y) ≡ account_of later
       account-same i = record { regions = regions-same i; threads = threads-same i }
 
       below-waits :
@@ -182,7 +142,7 @@ module _ (p : Checked) (trees : List (Option PlainTree)) (stable : Stable p.prog
           subst (λ o. AllWait p V o x.turn.below (map (λ (t : TrackedFrame). t.held) x.below))
           callee
           (x.kept.sound.stacks x.turn.thread (x.turn.frame ∷ x.turn.below)
-          (x.top.held ∷ map (λ t. t.held) x.below) x.turn.has_frames own.has_parts).1
+          (x.top.held ∷ map (λ t. t.held) x.below) x.turn.has_frames turn.has_parts).1
 
       abbrev Goes_to : Account → Type 0
       Goes_to b =
@@ -194,10 +154,10 @@ module _ (p : Checked) (trees : List (Option PlainTree)) (stable : Stable p.prog
 
       goes : Goes_to (account_of later)
       goes =
-          let g1 = goes-on p stable own y g event tied.stood below-waits
-          (frames (later_threads p stable own y) ((cut p stable own y (part_stock part)) ∷ []))
-          (keeps (account p stable own y (later_threads p stable own y))) (λ e. refl)
-          (no-access (SomeHasCell (before p stable own y)) (accesses event) shut) in
+          let g1 = goes-on p stable turn y g event tied.stood below-waits
+          (frames (later_threads p stable turn y) ((cut p stable turn y (part_stock part)) ∷ []))
+          (keeps (account p stable turn y (later_threads p stable turn y))) (λ e. refl)
+          (no-access (SomeHasCell (before p stable turn y)) (accesses event) shut) in
           subst Goes_to account-same (g1.1, g1.2, g1.3, g1.4)
 
       -- ---- the track
@@ -212,7 +172,7 @@ module _ (p : Checked) (trees : List (Option PlainTree)) (stable : Stable p.prog
       mine-tied : StackTied p trees V (g ∷ x.turn.below) moves_so.frames
       mine-tied = (
         record { stood = tied.stood; walks = tied.walks },
-        subst (λ o. AllWaitTied p trees V o x.turn.below x.below) callee stack-tied.1,
+        subst (λ o. AllWaitTied p trees V o x.turn.below x.below) callee (stack-tied p trees x).1,
       )
 
       all-tied : EachTied p trees V after.threads later.threads

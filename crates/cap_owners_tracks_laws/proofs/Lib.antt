@@ -2,3 +2,5 @@ pub mod Tied
 pub mod Steps
 pub mod Runs
 pub mod Saying
+pub mod Turns
+pub mod Later
