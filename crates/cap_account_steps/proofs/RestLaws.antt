@@ -28,7 +28,7 @@ use Rattle.cap_account_steps.proofs.Resting.{at-rest}
 use Rattle.cap_account_steps.proofs.Firming.{firm_values, firmed}
 
 -- firm facts that say just what the table does
-exact-facts :
+pub exact-facts :
     (v : Valuation) (T : Table) (s : PlainState) → AllByRecursion IsFirm s.facts →
     AllByRecursion (Exact v T) s.facts →
     AllByRecursion (AllOver (Usable [] s.sorts Int)) s.facts → Facts [] v T s
@@ -114,7 +114,7 @@ rests-loose p wf ks part T U n ts trees v s reached goes g fs backed =
     }
 
 -- where all facts are firm, the values stay
-none-loose :
+pub none-loose :
     (T : Table) (v : Valuation) (fs : List PlainFact) → AllByRecursion IsFirm fs →
     firm_values T v fs ≡ v
 none-loose T v [] h = refl
