@@ -1,12 +1,11 @@
 -- One statement: from the node at which a frame sits to the one at which it sits then, where the
 -- frame's walk stops.
-use Rattle.std.proofs.Common.{◌≡◌, ℕ, zero, suc, ◌+◌, ◌<◌, ℤ, pos, ◌+ℤ◌, ◌≤ℤ◌, ◌*ℤ◌, Bool, true, false, if◌then◌else◌, List, [], ◌∷◌, ◌++◌, length, Option, inl, inr, refl, sym, ap, ◌∙◌, subst, arith}
+use Rattle.std.proofs.Common.{◌≡◌, ℕ, zero, suc, ◌+◌, ◌<◌, ℤ, pos, ◌+ℤ◌, ◌≤ℤ◌, Bool, true, false, if◌then◌else◌, List, [], ◌∷◌, ◌++◌, length, Option, inl, inr, refl, sym, ap, ◌∙◌, subst, arith}
 use Rattle.std.proofs.lemmas.Slice.Zip.{AllZip-long}
 use Rattle.std.specs.List.{AllZip}
 use Rattle.cap_lin.specs.Linear.{Linear}
-use Rattle.cap_lin.specs.Values.{Valuation, denominator, value}
+use Rattle.cap_lin.specs.Values.{Valuation, value}
 use Rattle.cap_lin.specs.Solves.{Relates}
-use Rattle.cap_lin.specs.declared.row.Sort.{Sort}
 use Rattle.cap_lin.specs.declared.row.Sort.TheVariants.{Int}
 use Rattle.cap_prog.specs.declared.assertion.Comp.{Comp}
 use Rattle.cap_prog.specs.Program.{PlainAssertion, Label, set, alloc, branch, check, loop, Block, first, append, PlainFunction}
@@ -23,11 +22,10 @@ use Rattle.cap_account_resources.proofs.Lists.{push-length}
 use Rattle.cap_account_resources.proofs.Order.{met-relates, unmet-relates}
 use Rattle.cap_account_resources.proofs.Heaps.{fresh_cells}
 use Rattle.cap_account_resources.proofs.Stocks.{Stock, no_guards, both}
-use Rattle.cap_account_states.proofs.Alike.{Alike, agree-alike, alike-back, alike-trans, alike-less}
+use Rattle.cap_account_states.proofs.Alike.{Alike, alike-less}
 use Rattle.cap_account_states.proofs.Attempts.{store_row, row_added}
-use Rattle.cap_account_states.proofs.Brought.{a_whole, Brings, brings-named}
 use Rattle.cap_account_states.proofs.Checked.{Checked}
-use Rattle.cap_account_states.proofs.Meets.{Old, new-whole, new-share, with-agrees}
+use Rattle.cap_account_states.proofs.Meets.{Old}
 use Rattle.cap_account_assertions.proofs.Named.{set_to}
 use Rattle.cap_account_steps.proofs.Stores.{running}
 use Rattle.cap_account_steps.proofs.Cells.{new_cells, address-is}
@@ -40,47 +38,12 @@ use Rattle.cap_owners_spec.specs.Walks.{Walk, Interpreting, Halt, stands, walk, 
 use Rattle.cap_owners_spec.specs.Steps.{interpreted}
 use Rattle.cap_owners_laws.specs.Owned.{IsTold}
 use Rattle.cap_owners_values_laws.proofs.Numbers.{valuation-number}
+use Rattle.cap_owners_values_laws.proofs.More.{sorted-more, number-more}
 use Rattle.cap_owners_walks_laws.proofs.Passing.{more}
 use Rattle.cap_owners_walks_laws.proofs.Leading.{LeadsOn, set-leads, check-leads}
 use Rattle.cap_owners_tracks_laws.proofs.Tied.{StopsSo, IsTidy, derivation, IsAtNode}
 use Rattle.cap_owners_steps_laws.proofs.Putting.{IsCellAt}
 use Rattle.cap_owners_steps_laws.proofs.Sides.{side_of, branch-leads, turn-leads, alloc-leads}
-
--- ---- a value more
-
-pub sorted-more :
-    (os : List Sort) (vs : List NameValue) (o : Sort) (v : NameValue) → AllZip HasNameSort os vs →
-    HasNameSort o v → AllZip HasNameSort (os ++ o ∷ []) (vs ++ v ∷ [])
-sorted-more [] [] o v h k = (k, tt)
-sorted-more [] (y ∷ vs) o v h k = absurd h
-sorted-more (x ∷ os) [] o v h k = absurd h
-sorted-more (x ∷ os) (y ∷ vs) o v h k = (h.0, sorted-more os vs o v h.1 k)
-
-module _ (n : ℕ) (z : ℤ) where
-  abbrev P : ℕ → Type 0
-  P x = x < n
-
-  on : (u : Valuation) → Alike P u (set_to u n z)
-  on u =
-      agree-alike P u (set_to u n z)
-      (with-agrees P u n z (z *ℤ denominator u.fraction) (λ x l q. omega (arith, l, q)))
-
-  brought : (u : Valuation) → Brings (set_to u n z) n (a_whole z ∷ [])
-  brought u =
-      let m = z *ℤ denominator u.fraction in (
-        new-whole u n z m,
-        new-share u n z m ∙ ap (λ y. y *ℤ denominator u.fraction) (sym (new-whole u n z m)),
-        tt,
-      )
-
-  -- alike values are so with one number more
-  pub number-more :
-      (v w : Valuation) → Alike (λ x. x < n) v w →
-      Alike (λ x. x < n + 1) (set_to v n z) (set_to w n z)
-  number-more v w a =
-      brings-named n (a_whole z ∷ []) (set_to v n z) (set_to w n z)
-      (alike-trans P (set_to v n z) v (set_to w n z) (alike-back P v (set_to v n z) (on v))
-      (alike-trans P v w (set_to w n z) a (on w))) (brought v) (brought w)
 
 -- ---- cells that are new
 

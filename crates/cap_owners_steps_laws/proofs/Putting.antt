@@ -4,7 +4,6 @@ use Rattle.std.specs.List.{AllByRecursion}
 use Rattle.std.specs.FinMap.{get, insert, same_map, int_cmp-IsAntisymmetric}
 use Rattle.std.specs.Cmp.{int_cmp_total}
 use Rattle.cap_lin.specs.Linear.{Linear}
-use Rattle.cap_lin.specs.Steps.{value_steps}
 use Rattle.cap_lin.specs.Values.{Valuation, value}
 use Rattle.cap_machine.specs.Machine as machine
 use Rattle.cap_machine.specs.Machine.{Heap}
@@ -17,7 +16,8 @@ use Rattle.cap_account_states.proofs.Meets.{need}
 use Rattle.cap_owners_spec.specs.Traced.{Traced, traced, past_width, untold, ◌>>=◌, valuation, number_in}
 use Rattle.cap_owners_spec.specs.Filling.{with_cells}
 use Rattle.cap_owners_laws.specs.Owned.{IsTold}
-use Rattle.cap_owners_values_laws.proofs.Numbers.{number-is, computed-told}
+use Rattle.cap_owners_values_laws.proofs.Numbers.{number-is}
+use Rattle.cap_owners_values_laws.proofs.More.{number-told}
 
 -- each of these cells is in the heap
 abbrev pub AreIn : Valuation → Heap → List (Linear × Linear) → Type 0
@@ -73,11 +73,6 @@ module _ (vs : List NameValue) (h : Heap) where
       (value (valuation vs).whole c.1) cs (number-is vs c.0 a e) (number-is vs c.1 z f) are.0 b
       (there b)))
     where
-      never : (t : Linear) → number_in vs t ≡ untold → ⊥
-      never t e =
-          computed-told (value (valuation vs).whole t)
-          (value_steps (valuation vs).whole t.constant t.parts) e
-
       by :
           (m n : Traced ℤ) → number_in vs c.0 ≡ m → number_in vs c.1 ≡ n →
           ((a z : ℤ) → number_in vs c.0 ≡ traced a → number_in vs c.1 ≡ traced z →
@@ -87,9 +82,9 @@ module _ (vs : List NameValue) (h : Heap) where
           (m >>= λ a. n >>= λ z. with_cells vs (record q { cells = insert q.cells a z }) cs)
       by (traced a) (traced z) e f later = later a z e f
       by (traced a) past_width e f later = tt
-      by (traced a) untold e f later = absurd (never c.1 f)
+      by (traced a) untold e f later = absurd (number-told vs c.1 f)
       by past_width n e f later = tt
-      by untold n e f later = absurd (never c.0 e)
+      by untold n e f later = absurd (number-told vs c.0 e)
 
 -- ---- new cells
 

@@ -4,3 +4,4 @@ pub mod Runs
 pub mod Saying
 pub mod Turns
 pub mod Later
+pub mod Seats
