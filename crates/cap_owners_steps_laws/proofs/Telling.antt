@@ -8,3 +8,10 @@ pub told-on :
 told-on P Q (traced x) f h k = k x h
 told-on P Q past_width f h k = tt
 told-on P Q untold f h k = h
+
+pub told-more :
+    {A : Type 0} (P Q : A → Type 0) (o : Traced A) → ((x : A) → P x → Q x) → IsTold P o →
+    IsTold Q o
+told-more P Q (traced x) f h = f x h
+told-more P Q past_width f h = tt
+told-more P Q untold f h = h
