@@ -1,0 +1,13 @@
+pub mod Lists
+pub mod Looping
+pub mod Moving
+pub mod Running
+pub mod Writing
+pub mod Following
+pub mod Placing
+pub mod Going
+pub mod Seeing
+pub mod Stacking
+pub mod Entering
+pub mod Returning
+pub mod Playing

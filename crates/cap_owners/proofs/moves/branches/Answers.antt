@@ -1,0 +1,20 @@
+use Rattle.std.proofs.Common.{ap, sym, ◌∙◌, false}
+use Rattle.cap_prog.specs.Views.{program_view}
+use Rattle.cap_owners_places.specs.Views.{proved_of}
+use Rattle.cap_owners_spec.specs.Steps.{frame_walk}
+use Rattle.cap_owners_spec.specs.Traced.{traced}
+use Rattle.cap_owners_values.proofs.Tracing.{goes_on}
+use Rattle.cap_owners_walks.specs.Views.{halt_view}
+use Rattle.cap_owners_walks.specs.declared.halt.Halt.TheVariants.{Stands}
+use Rattle.cap_owners.specs.Moves.{branches_at, moved_view}
+use Rattle.cap_owners.specs.Tracks.{frame_view, frames_view}
+use Rattle.cap_owners.proofs.moves.branches.Goals as goal
+
+pub returns-in-Stands-clause-branches : goal.returns-in-Stands-clause-branches
+returns-in-Stands-clause-branches c = λ ts m are sees.
+    let d = proved_of (program_view c.args.program.now) ts in
+    let top = frame_view c.args.top in
+    goes_on (Stands c.in-Stands.place c.in-Stands.walk) halt_view c.keep_on.result moved_view (frame_walk d false c.args.regions top top.since) (branches_at d c.args.regions top (frames_view c.args.below.items) m c.args.branching.1)
+    (ap (frame_walk d false c.args.regions top) (sym (c.deref-2.ensures.value ∙ (c.in_ok-events.ensures.items ∙ c.deref.ensures.value)))
+    ∙ (c.in_ok-halt.ensures.walked ts are ∙ ap (λ h. traced (halt_view h)) c.in-Stands.is))
+    (c.keep_on.ensures.keeps d)
