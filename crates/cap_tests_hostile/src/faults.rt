@@ -64,6 +64,7 @@ const READS: &[Read] = &[
     ("show, 1", &[1], "show f", EMPTY, ReadFault, NO_F),
     ("check, 1", &[1], "check f s", EMPTY, ReadFault, NO_F),
     ("outline, 1", &[1], "outline f s", EMPTY, ReadFault, NO_F),
+    ("owners, 1", &[1], "owners f s s", EMPTY, ReadFault, NO_F),
     ("replay, 1", &[1], "replay f s", EMPTY, ReadFault, NO_F),
     ("usage, 1", &[1], "verify f s", EMPTY, Usage, USAGE),
     (
@@ -78,6 +79,7 @@ const READS: &[Read] = &[
     ("verify, 2", &[2], "verify f", EMPTY, Good, PROVED),
     ("check, 2", &[2], "check f s", EMPTY, ReadFault, NO_S),
     ("outline, 2", &[2], "outline f s", EMPTY, ReadFault, NO_S),
+    ("owners, 2", &[2], "owners f s s", EMPTY, ReadFault, NO_S),
     ("replay, 2", &[2], "replay f s", EMPTY, ReadFault, NO_S),
     (
         "check of no program, 2",
@@ -91,6 +93,14 @@ const READS: &[Read] = &[
         "outline of no program, 2",
         &[2],
         "outline f s",
+        b"",
+        Refused,
+        NO_MAIN,
+    ),
+    (
+        "owners of no program, 2",
+        &[2],
+        "owners f s s",
         b"",
         Refused,
         NO_MAIN,
@@ -117,6 +127,14 @@ const READS: &[Read] = &[
         "outline, 3",
         &[3],
         "outline f s",
+        EMPTY,
+        Refused,
+        b"refused derivation line 1\n",
+    ),
+    (
+        "owners by no lines, 3",
+        &[3],
+        "owners f s s",
         EMPTY,
         Refused,
         b"refused derivation line 1\n",
@@ -179,6 +197,22 @@ const READS: &[Read] = &[
         NO_MAIN,
     ),
     (
+        "owners of no program",
+        &[],
+        "owners f h h",
+        b"",
+        Refused,
+        NO_MAIN,
+    ),
+    (
+        "owners by no lines",
+        &[],
+        "owners f s h",
+        EMPTY,
+        Refused,
+        b"refused derivation line 1\n",
+    ),
+    (
         "replay of no program",
         &[],
         "replay f h",
@@ -191,6 +225,46 @@ const READS: &[Read] = &[
 #[test]
 fn reads(rt: HostRuntime) -> Result<(), Fail> {
     all_read_so(&rt, rt.alloc(), READS)
+}
+
+const EMPTY_LINES: &[u8] = b"[\"caper\",1,3]\n[\"return\"]\n[\"end\",1]\n";
+
+// Which fetches fail, and the words; `s` is a derivation of `f`, and a third file is read.
+type Third = (
+    &'static str,
+    &'static [u64],
+    &'static str,
+    Status,
+    &'static [u8],
+);
+
+const THIRDS: &[Third] = &[
+    ("third", &[3], "owners f s f", ReadFault, NO_F),
+    ("no third", &[], "owners f s h", ReadFault, NO_H),
+    (
+        "fourth",
+        &[4],
+        "owners f s f",
+        Refused,
+        b"refused schedule line 1\n",
+    ),
+];
+
+#[test]
+fn third_reads(rt: HostRuntime) -> Result<(), Fail> {
+    for row in THIRDS {
+        let (name, failing, words, status, written) = *row;
+        let run = Run {
+            name,
+            words,
+            text: &[Once(EMPTY)],
+            other: &[Once(EMPTY_LINES)],
+            status,
+            written: &[Once(written)],
+        };
+        meets_despite(&rt, rt.alloc(), &run, failing)?;
+    }
+    Ok(())
 }
 
 // Blanks that fill the longest file.
@@ -284,6 +358,7 @@ fn long_files_of_each_command(rt: HostRuntime) -> Result<(), Fail> {
         "show f",
         "replay f s",
         "outline f s",
+        "owners f s s",
     ] {
         is_too_long(&rt, rt.alloc(), words)?;
     }

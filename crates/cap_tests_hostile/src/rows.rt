@@ -10,7 +10,7 @@ use std::test::Fail;
 pub const USAGE: &[u8] =
     b"usage: caper verify FILE [--budget N] | derive FILE [--budget N] | check FILE DERIVATION | \
     replay FILE SCHEDULE | show FILE | trial N | outline FILE DERIVATION | \
-    stray FILE N M | core FILE\n";
+    owners FILE DERIVATION SCHEDULE | stray FILE N M | core FILE\n";
 
 /// Some of a text.
 #[derive(Clone, Copy)]

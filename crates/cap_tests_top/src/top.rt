@@ -9,7 +9,7 @@ use std::test::Fail;
 const USAGE: &str =
     "usage: caper verify FILE [--budget N] | derive FILE [--budget N] | check FILE DERIVATION | \
     replay FILE SCHEDULE | show FILE | trial N | outline FILE DERIVATION | \
-    stray FILE N M | core FILE\n";
+    owners FILE DERIVATION SCHEDULE | stray FILE N M | core FILE\n";
 
 const PROVED: &str = "function main: proved\nproved 1 of 1\n";
 
@@ -708,6 +708,10 @@ fn words_that_are_no_command(rt: HostRuntime) -> Result<(), Fail> {
         "outline f s s",
         "outline f -s",
         "outline f s --budget 1",
+        "owners f s",
+        "owners f s s s",
+        "owners f s -s",
+        "owners f s s --budget 1",
         "core",
         "core f s",
         "core f --budget 1",

@@ -93,6 +93,22 @@ fn words_that_are_other_commands(rt: HostRuntime) -> Result<(), Fail> {
             },
         ),
         (
+            "owners a b c",
+            Command::Owners {
+                file: "a",
+                derivation: "b",
+                schedule: "c",
+            },
+        ),
+        (
+            "owners a -- -b -c",
+            Command::Owners {
+                file: "a",
+                derivation: "-b",
+                schedule: "-c",
+            },
+        ),
+        (
             "stray a 0 1",
             Command::Stray {
                 file: "a",

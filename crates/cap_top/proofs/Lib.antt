@@ -1,4 +1,5 @@
 mod Reading
 mod Saying
 mod Two
+mod Three
 mod Promises

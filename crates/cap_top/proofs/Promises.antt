@@ -1,5 +1,5 @@
 -- What a run promises, by what was found and put.
-use Rattle.std.proofs.Common.{◌≡◌, ◌≢◌, ℕ, ◌≤◌, ◌⊎◌, inl, inr, Bool, true, false, List, [], ◌∷◌, length, Option, Some, None, IfSome, Result, Ok, Err, refl, sym, ap, ◌∙◌, subst, arith}
+use Rattle.std.proofs.Common.{◌≡◌, ◌≢◌, ℕ, ◌≤◌, ◌⊎◌, ◌↔◌, inl, inr, Bool, true, false, List, [], ◌∷◌, length, Option, Some, None, IfSome, Result, Ok, Err, refl, sym, ap, ◌∙◌, subst, arith}
 use Rattle.cap_io.specs.Files.{Files, content, SeenShelf}
 use Rattle.cap_io.specs.Outside.{SeenSink, longest, Rose, Gains}
 use Rattle.cap_parse_tree.specs.Tree.{ProgramTree}
@@ -11,32 +11,38 @@ use Rattle.cap_top_commands.specs.declared.status.Status.{Status}
 use Rattle.cap_top_commands.specs.declared.status.Status.TheVariants.{Good, Bad, Refused, Usage, ReadFault, WriteFault, NoMemory, NotEnabled, Wide}
 use Rattle.cap_prog.specs.Program.{PlainProgram}
 use Rattle.cap_replay.specs.declared.playing.End.{End}
+use Rattle.cap_replay.specs.RunText.{RunText}
 use Rattle.cap_replay.specs.declared.playing.End.TheVariants as ends
 use Rattle.cap_top_commands.specs.cap_kernel_check.declared.error.CheckError.{CheckError}
 use Rattle.cap_deriv_write.specs.Written.{derivation_text}
 use Rattle.cap_top_commands.specs.cap_top_report.Found.{found_trees}
-use Rattle.cap_top_commands.specs.Derivations.{SaysLines, IsDerivation, IsChecked}
+use Rattle.cap_top_commands.specs.Derivations.{SaysLines, SaysBadLines, IsDerivation, IsChecked}
 use Rattle.cap_top_commands.specs.Startless.{SaysEmpty, IsStartlessText}
-use Rattle.cap_top_commands.specs.Answers.{Fetched, held, unread, long, After, ByOne, SaysCause, SaysRefusal, IsVerified, IsTrial, IsStray, IsStrayed, IsCored, drawn_output, IsOnly, FaultsAlong, StraysFault, SafeTextsHaveNoStray, IsDerived, IsShown, IsPlayed, IsOutput, IsOnlyOutput, Agree, GoodAnswersAreSafe, GoodTrialsAreSafe, AcceptedAreSafe, DerivedAreAccepted, EmptyAnswersHaveNoStart}
+use Rattle.cap_top_commands.specs.Answers.{Fetched, held, unread, long, After, ByOne, SaysCause, SaysRefusal, IsVerified, IsTrial, IsStray, IsStrayed, IsCored, drawn_output, IsOnly, FaultsAlong, StraysFault, SafeTextsHaveNoStray, IsDerived, IsShown, IsOutput, IsOnlyOutput, Agree, GoodAnswersAreSafe, GoodTrialsAreSafe, AcceptedAreSafe, DerivedAreAccepted, EmptyAnswersHaveNoStart}
+use Rattle.cap_top_commands.specs.Schedules.{IsPlayed}
 use Rattle.cap_gen.specs.Trial.{trial_text}
 use Rattle.cap_gen_schedules.specs.Drawn.{seeded, first_fault}
 use Rattle.cap_gen_schedules.specs.Laws.{AsksForNothing, SafeProgramsHaveNone}
 use Rattle.cap_machine.specs.declared.event.Entry.{Entry}
+use Rattle.cap_goal_spec.specs.Choices.{PlainChoice}
 use Rattle.cap_goal_spec.specs.Roots.{units}
+use Rattle.cap_top_commands.specs.cap_kernel_check.Owed.{preorder}
 use Rattle.cap_top_commands.specs.cap_top_report.Report.{proved_count, report_text, all_proved, is_good}
 use Rattle.cap_top_commands.specs.cap_top_report.Cores.{cores_text}
-use Rattle.cap_top_words.specs.Meaning.{PlainCommand, verify, derive, check, show, replay, trial, outline, stray, core, default_budget}
+use Rattle.cap_top_words.specs.Meaning.{PlainCommand, verify, derive, check, show, replay, trial, outline, owners, stray, core, default_budget}
 use Rattle.cap_top_commands.specs.Commands.{files_of}
-use Rattle.cap_top_commands.specs.Output.{Output, usage_output, unreadable_output, long_output, refusal_output, report_output, derivation_output, long_derivation_output, bad_derivation_output, judged_output, judged_status, outline_output, tree_output, schedule_output, run_output, trial_output, no_start_output, report_status, end_status}
+use Rattle.cap_top_commands.specs.Output.{Output, usage_output, unreadable_output, long_output, refusal_output, report_output, derivation_output, long_derivation_output, bad_derivation_output, judged_output, judged_status, outline_output, tree_output, schedule_output, run_output, owners_output, trial_output, no_start_output, report_status, end_status}
 use Rattle.cap_top_commands.specs.Good.{IsProvedText}
 use Rattle.cap_top_commands.specs.Needed.{TellsCores, CoresAreTold}
 use Rattle.cap_top_commands.specs.Outlines.{IsOutline, CheckedAreOutlined, OutlinesAreTold}
+use Rattle.cap_top_commands.specs.Owners.{TellsLines, owned_along, SaysOwners, IsOwners}
 use Rattle.cap_top_commands.specs.SafeText.{IsSafeText}
+use Rattle.cap_top_accounts.specs.Laws.{OwnersAreTold, AreLinesOfValid, AcceptedHaveTrees, RefusedStartsAreNone}
 use Rattle.cap_top_laws.specs.Given.{given_by, AreGiven}
 use Rattle.cap_top.specs.Reads.{IsFetched, AreFetched, AreRead}
 use Rattle.cap_top.specs.Run.{IsSaid, IsRun}
 use Rattle.cap_top.specs.Verified.{IsRead, VerifiesFile}
-use Rattle.cap_top.specs.Promise.{AreBothRead, ProvesFile, FailsFile, DerivesFile, ChecksFiles, OutlinesFiles, IsShownAs, ShowsFile, StraysFile, CoresFile, HoldsSafe, EndsRun, ReplaysFiles, Ends, NoFault, Says, SaysOutput, AnswersFiles, HoldsGood, HoldAccepted, HoldsTree, IsTextFor, Refuses, IsOneOf, ReadFails}
+use Rattle.cap_top.specs.Promise.{AreBothRead, ProvesFile, FailsFile, DerivesFile, ChecksFiles, OutlinesFiles, AreAllRead, OwnsFiles, RejectsFiles, HoldRun, EndsOwners, IsShownAs, ShowsFile, StraysFile, CoresFile, HoldsSafe, EndsRun, ReplaysFiles, Ends, NoFault, Says, SaysOutput, AnswersFiles, HoldsGood, HoldAccepted, HoldsTree, IsTextFor, Refuses, IsOneOf, ReadFails}
 use Rattle.cap_top.proofs.Reading.{held-given, were-given, agree-given, first-given, given-held, given-unread}
 
 -- ---- the statuses of outputs
@@ -136,6 +142,19 @@ played_answers : (p : PlainProgram) (bytes : List ℕ) (o : Output) → IsPlayed
 played_answers p bytes o (inl b) = answer_as o (schedule_output b.error) b.whole tt
 played_answers p bytes o (inr r) = answer_as o (run_output r.text r.end) r.whole (end_answers r.end)
 
+owned_answers : (r : Option RunText) → IsAnswer (owners_output r).status
+owned_answers None = tt
+owned_answers (Some r) = end_answers r.end
+
+owners_answers : (p : PlainProgram) (n : ℕ) (cs : List PlainChoice) (bytes : List ℕ) (o : Output) → IsOwners p n cs bytes o → IsAnswer o.status
+owners_answers p n cs bytes o (inl b) = answer_as o (schedule_output b.error) b.whole tt
+owners_answers p n cs bytes o (inr (inl k)) = answer_as o (judged_output (Err k.error)) k.whole tt
+owners_answers p n cs bytes o (inr (inr k)) =
+    let r = owned_along p k.trees k.has.schedule in answer_as o (owners_output r) k.whole (owned_answers r)
+
+bad_lines_answer : (bytes : List ℕ) (o : Output) → SaysBadLines bytes o → IsAnswer o.status
+bad_lines_answer bytes o k = answer_as o (bad_derivation_output k.error) k.whole tt
+
 -- a file was read and this is an answer, or it could not be read
 abbrev IsEnded : Fetched → Status → Type 0
 IsEnded x s = IsAnswer s ⊎ ((s ≡ ReadFault) × (x ≡ unread))
@@ -181,6 +200,17 @@ module _ (shelf shelf_now : SeenShelf) where
       (after_ended (IsOutline h.program) (outline_answers h.program) s y o h.said)
   settled (outline name s) [] o f h = absurd h
   settled (outline name s) (x ∷ (y ∷ (z ∷ zs))) o f h = absurd h
+  settled (owners name s u) (x ∷ []) o f h =
+      settled_by (Some (owners name s u)) name x o.status (inl refl) f.0 (after_ended SaysRefusal (λ bytes q c. cause_answers (IsRefused bytes) q c) name x o h)
+  settled (owners name s u) (x ∷ (y ∷ [])) o f h =
+      settled_by (Some (owners name s u)) s y o.status (inr (inl refl)) f.1.0
+      (after_ended SaysBadLines bad_lines_answer s y o h.said)
+  settled (owners name s u) (x ∷ (y ∷ (z ∷ []))) o f h =
+      let lines = h.said in
+      settled_by (Some (owners name s u)) u z o.status (inr (inr (inl refl))) f.1.1.0
+      (after_ended (IsOwners h.program lines.trees lines.choices) (owners_answers h.program lines.trees lines.choices) u z o lines.said)
+  settled (owners name s u) [] o f h = absurd h
+  settled (owners name s u) (x ∷ (y ∷ (z ∷ (w ∷ ws)))) o f h = absurd h
   settled (show name) (x ∷ []) o f h =
       settled_by (Some (show name)) name x o.status (inl refl) f.0 (after_ended IsShown shown_answers name x o h)
   settled (show name) [] o f h = absurd h
@@ -463,10 +493,10 @@ module _ (shelf shelf_now : SeenShelf) (sink sink_now : SeenSink) (file derivati
 
 -- ---- replays
 
-module _ (shelf shelf_now : SeenShelf) (sink sink_now : SeenSink) (file schedule : List ℕ) where
-  no_run : (o p : Output) → o ≡ p → EndsRun o.status → EndsRun p.status
-  no_run o p e r = subst EndsRun (same_status o p e) r
+no_run : (o p : Output) → o ≡ p → EndsRun o.status → EndsRun p.status
+no_run o p e r = subst EndsRun (same_status o p e) r
 
+module _ (shelf shelf_now : SeenShelf) (sink sink_now : SeenSink) (file schedule : List ℕ) where
   played_by : (bytes : List ℕ) (p : PlainProgram) (x y : Fetched) (o : Output) → x ≡ held bytes
       → IsTextOf bytes p → AreRead shelf shelf_now (file ∷ (schedule ∷ [])) (x ∷ (y ∷ []))
       → After schedule y (IsPlayed p) o
@@ -498,6 +528,90 @@ module _ (shelf shelf_now : SeenShelf) (sink sink_now : SeenSink) (file schedule
   replays_by (long ∷ []) o f h r g = absurd (no_run o long_output h r)
   replays_by [] o f h r g = absurd h
   replays_by (x ∷ (y ∷ (z ∷ zs))) o f h r g = absurd h
+
+-- ---- owners along a run
+
+module _ (shelf shelf_now : SeenShelf) (sink sink_now : SeenSink) (file derivation schedule : List ℕ) where
+  -- the first file gave these bytes, the second these, by which the third was read, and gave these
+  all-read : (bytes lines entries : List ℕ) (x y : Fetched) → x ≡ held bytes → y ≡ held lines
+      → AreRead shelf shelf_now (file ∷ (derivation ∷ (schedule ∷ []))) (x ∷ (y ∷ (held entries ∷ [])))
+      → AreAllRead shelf shelf_now file bytes derivation lines schedule entries
+  all-read bytes lines entries x y e d f =
+      let g : AreRead shelf shelf_now (file ∷ (derivation ∷ (schedule ∷ []))) (held bytes ∷ (held lines ∷ (held entries ∷ []))) =
+      subst (λ w. AreRead shelf shelf_now (file ∷ (derivation ∷ (schedule ∷ []))) (held bytes ∷ (w ∷ (held entries ∷ [])))) d
+      (subst (λ w. AreRead shelf shelf_now (file ∷ (derivation ∷ (schedule ∷ []))) (w ∷ (y ∷ (held entries ∷ [])))) e f) in
+      record { given = g.given; held = g.fetched.0.1; second_held = g.fetched.1.0.1; third_held = g.fetched.1.1.0.1 }
+
+  -- the run is shown, or the derivation is rejected
+  abbrev OwnsOrRejects : Status → Type 0
+  OwnsOrRejects s =
+      OwnsFiles shelf shelf_now file derivation schedule sink sink_now s
+      ⊎ RejectsFiles shelf shelf_now file derivation schedule sink sink_now s
+
+  module _ (told : OwnersAreTold) (bytes lines entries : List ℕ) (p : PlainProgram) (n : ℕ) (cs : List PlainChoice) (o : Output)
+      (t : IsTextOf bytes p) (l : TellsLines lines n cs) (read : AreAllRead shelf shelf_now file bytes derivation lines schedule entries)
+      (g : Gains sink.written sink_now.written o.text) where
+    owned_so : (k : SaysOwners p n cs entries o) → (r : Option RunText) → owned_along p k.trees k.has.schedule ≡ r → o ≡ owners_output r
+        → EndsRun o.status → OwnsOrRejects o.status
+    owned_so k None e w run = absurd (no_run o no_start_output w run)
+    owned_so k (Some r) e w run = inl (record {
+      bytes = bytes;
+      lines = lines;
+      entries = entries;
+      read = read;
+      run = r;
+      owned = told bytes lines entries p n cs o t l k r e;
+      ended = same_status o (run_output r.text r.end) w;
+      gains = subst (Gains sink.written sink_now.written) (same_text o (run_output r.text r.end) w) g;
+    })
+
+    owned_by : IsOwners p n cs entries o → EndsRun o.status → OwnsOrRejects o.status
+    owned_by (inl k) run = absurd (no_run o (schedule_output k.error) k.whole run)
+    owned_by (inr (inl k)) run =
+        let bad : o.status ≡ Bad = same_status o (judged_output (Err k.error)) k.whole in
+        inr (record {
+          bytes = bytes;
+          lines = lines;
+          entries = entries;
+          read = read;
+          program = p;
+          text_of_it = t;
+          has = k.has;
+          output = o;
+          checked = inr (record { trees = n; choices = cs; told = l; answer = Err k.error; judged = k.judged; whole = k.whole });
+          bad = bad;
+          same = bad;
+          gains = g;
+        })
+    owned_by (inr (inr k)) run = owned_so k (owned_along p k.trees k.has.schedule) refl k.whole run
+
+  owned_late : OwnersAreTold → (bytes lines : List ℕ) (p : PlainProgram) (n : ℕ) (cs : List PlainChoice) (x y z : Fetched) (o : Output)
+      → x ≡ held bytes → y ≡ held lines → IsTextOf bytes p → TellsLines lines n cs
+      → AreRead shelf shelf_now (file ∷ (derivation ∷ (schedule ∷ []))) (x ∷ (y ∷ (z ∷ [])))
+      → After schedule z (IsOwners p n cs) o → EndsRun o.status → Gains sink.written sink_now.written o.text
+      → OwnsOrRejects o.status
+  owned_late told bytes lines p n cs x y (held entries) o e d t l f h run g =
+      owned_by told bytes lines entries p n cs o t l (all-read bytes lines entries x y e d f) g h run
+  owned_late told bytes lines p n cs x y unread o e d t l f h run g = absurd (no_run o (unreadable_output schedule) h run)
+  owned_late told bytes lines p n cs x y long o e d t l f h run g = absurd (no_run o long_output h run)
+
+  no_lines : {A : Type 0} (y : Fetched) (o : Output) → After derivation y SaysBadLines o → EndsRun o.status → A
+  no_lines (held lines) o h run = absurd (no_run o (bad_derivation_output h.error) h.whole run)
+  no_lines unread o h run = absurd (no_run o (unreadable_output derivation) h run)
+  no_lines long o h run = absurd (no_run o long_output h run)
+
+  owns_by : OwnersAreTold → (got : List Fetched) (o : Output) → AreRead shelf shelf_now (file ∷ (derivation ∷ (schedule ∷ []))) got
+      → IsOutput (Some (owners file derivation schedule)) got o → EndsRun o.status → Gains sink.written sink_now.written o.text
+      → OwnsOrRejects o.status
+  owns_by told (x ∷ (y ∷ (z ∷ []))) o f h run g =
+      let lines = h.said in
+      owned_late told h.bytes lines.lines h.program lines.trees lines.choices x y z o h.gave lines.gave h.text_of_it lines.told f lines.said run g
+  owns_by told (x ∷ (y ∷ [])) o f h run g = no_lines y o h.said run
+  owns_by told (held bytes ∷ []) o f h run g = absurd (no_run o (refusal_output h.cause) h.whole run)
+  owns_by told (unread ∷ []) o f h run g = absurd (no_run o (unreadable_output file) h run)
+  owns_by told (long ∷ []) o f h run g = absurd (no_run o long_output h run)
+  owns_by told [] o f h run g = absurd h
+  owns_by told (x ∷ (y ∷ (z ∷ (w ∷ ws)))) o f h run g = absurd h
 
 -- ---- the whole run
 
@@ -680,6 +794,20 @@ module _ (command : Option PlainCommand) (shelf shelf_now : SeenShelf) (sink sin
           (subst (λ x. IsOutput x said.got o) t said.output.said) (subst EndsRun p.0 r) p.1)
       by (inl (o, said, inr p)) = absurd (subst EndsRun p.0 r)
 
+  pub owned_run : OwnersAreTold → (file derivation schedule : List ℕ) → command ≡ Some (owners file derivation schedule) → EndsRun status
+      → OwnsFiles shelf shelf_now file derivation schedule sink sink_now status
+      ⊎ RejectsFiles shelf shelf_now file derivation schedule sink sink_now status
+  owned_run told file derivation schedule t r = by run
+    where
+      by : Runs → OwnsOrRejects shelf shelf_now sink sink_now file derivation schedule status
+      by (inr m) = absurd (subst EndsRun m.0 r)
+      by (inl (o, said, inl p)) =
+          subst (OwnsOrRejects shelf shelf_now sink sink_now file derivation schedule) (sym p.0)
+          (owns_by shelf shelf_now sink sink_now file derivation schedule told said.got o
+          (subst (λ x. AreRead shelf shelf_now (files_of x) said.got) t said.read)
+          (subst (λ x. IsOutput x said.got o) t said.output.said) (subst EndsRun p.0 r) p.1)
+      by (inl (o, said, inr p)) = absurd (subst EndsRun p.0 r)
+
   pub ends_run : Ends command shelf shelf_now sink sink_now status
   ends_run = by run
     where
@@ -852,6 +980,84 @@ module _ (files : Files) (command : Option PlainCommand) (shelf shelf_now : Seen
       (subst (λ x. AreGiven files (files_of x) got) (sym t) given)
       (subst (λ x. IsOutput x got k.0) (sym t) is))
 
+  -- the status is that of what is written of the run, or memory ran out
+  owners_status : (r : Option RunText) → (status ≡ (owners_output r).status) → (status ≡ Refused) ↔ (r ≡ None)
+  owners_status None e = (λ _. refl, λ _. e)
+  owners_status (Some r) e = (λ f. absurd (not-refused r.end (sym e ∙ f)), λ f. absurd (some-none r f))
+    where
+      not-refused : (x : End) → end_status x ≡ Refused → ⊥
+      not-refused (ends.Ended k) f = let g : Good ≡ Refused = f in cc
+      not-refused (ends.Stopped k) f = let g : Bad ≡ Refused = f in cc
+      not-refused (ends.NotEnabled k) f = let g : NotEnabled ≡ Refused = f in cc
+      not-refused (ends.Wide k) f = let g : Wide ≡ Refused = f in cc
+
+      some-none : (x : RunText) → Some x ≡ None → ⊥
+      some-none x f = cc
+
+  owns_told : AcceptedHaveTrees → RefusedStartsAreNone → (file derivation schedule : List ℕ)
+      → command ≡ Some (owners file derivation schedule) → (h : HoldRun file derivation schedule files)
+      → EndsOwners h.accepted.program h.accepted.lines h.has.schedule status ⊎ (status ≡ NoMemory)
+  owns_told have none file derivation schedule t h = by (each_told got o
+      (subst (λ x. AreGiven files (files_of x) got) (sym t) given)
+      (subst (λ x. IsOutput x got o) (sym t) is))
+    where
+      a : HoldAccepted file derivation files
+      a = h.accepted
+
+      valid : AreLinesOfValid a.program a.lines
+      valid = have a.program a.lines a.accepted
+
+      r : Option RunText
+      r = owned_along a.program valid.trees h.has.schedule
+
+      o : Output
+      o = owners_output r
+
+      got : List Fetched
+      got = held a.bytes ∷ (held a.lines ∷ (held h.entries ∷ []))
+
+      given : AreGiven files (file ∷ (derivation ∷ (schedule ∷ []))) got
+      given = (
+        held-given (content files file) a.bytes a.held (short a.bytes a.text_of_it.tree a.text_of_it.spelled),
+        (
+          held-given (content files derivation) a.lines a.lines_held a.short,
+          (held-given (content files schedule) h.entries h.entries_held h.entries_short, tt),
+        ),
+      )
+
+      is : IsOutput (Some (owners file derivation schedule)) got o
+      is = record {
+        bytes = a.bytes;
+        gave = refl;
+        program = a.program;
+        text_of_it = record { tree = a.text_of_it.tree; spelled = a.text_of_it.spelled; stands = a.text_of_it.stands };
+        said = record {
+          lines = a.lines;
+          gave = refl;
+          trees = length valid.trees;
+          choices = preorder valid.trees;
+          told = valid.told;
+          said = inr (inr (record {
+            trees = valid.trees;
+            valid = valid.valid;
+            many = refl;
+            choices = refl;
+            has = record { schedule = h.has.schedule; reads = h.has.reads; takes = h.has.takes };
+            whole = refl;
+          }));
+        };
+      }
+
+      by : Says sink sink_now status o ⊎ (status ≡ NoMemory)
+          → EndsOwners a.program a.lines h.has.schedule status ⊎ (status ≡ NoMemory)
+      by (inr m) = inr m
+      by (inl s) = inl (record {
+        valid = record { trees = valid.trees; told = valid.told; valid = valid.valid };
+        ended = s.0;
+        refused = owners_status r s.0;
+        no_start = λ e. none a.program valid.trees h.has.schedule h.has.takes ((owners_status r s.0).0 e);
+      })
+
   -- ---- what is said of bytes that are no text for the command
 
   -- what is said of a file that gives such bytes, or more than a file may have
@@ -940,6 +1146,19 @@ module _ (files : Files) (command : Option PlainCommand) (shelf shelf_now : Seen
       absurd (n (h.program, subst (λ b. IsTextOf b h.program) (sym same) h.text_of_it))
   refused_output (outline file s) name names bytes [] o e c n f h = absurd h
   refused_output (outline file s) name names bytes (x ∷ (y ∷ (z ∷ zs))) o e c n f h = absurd h
+  refused_output (owners file s u) name names bytes (x ∷ []) o e c n f h =
+      refused_after SaysRefusal file bytes x o (λ k. refused_cause (IsRefused bytes) o k)
+      (first_gives file name (s ∷ (u ∷ [])) names x [] e bytes c f) h
+  refused_output (owners file s u) name names bytes (x ∷ (y ∷ [])) o e c n f h =
+      let g : given_by (Some bytes) ≡ held h.bytes = first_gives file name (s ∷ (u ∷ [])) names x (y ∷ []) e bytes c f ∙ h.gave in
+      let same : bytes ≡ h.bytes = given-held bytes h.bytes g in
+      absurd (n (h.program, subst (λ b. IsTextOf b h.program) (sym same) h.text_of_it))
+  refused_output (owners file s u) name names bytes (x ∷ (y ∷ (z ∷ []))) o e c n f h =
+      let g : given_by (Some bytes) ≡ held h.bytes = first_gives file name (s ∷ (u ∷ [])) names x (y ∷ (z ∷ [])) e bytes c f ∙ h.gave in
+      let same : bytes ≡ h.bytes = given-held bytes h.bytes g in
+      absurd (n (h.program, subst (λ b. IsTextOf b h.program) (sym same) h.text_of_it))
+  refused_output (owners file s u) name names bytes [] o e c n f h = absurd h
+  refused_output (owners file s u) name names bytes (x ∷ (y ∷ (z ∷ (w ∷ ws)))) o e c n f h = absurd h
   refused_output (stray file number count) name names bytes (x ∷ []) o e c n f h =
       refused_after (IsStrayed number count) file bytes x o
       (refused_strayed number count bytes o (λ p t. n (p, t)))
@@ -1008,6 +1227,14 @@ module _ (command : Option PlainCommand) (shelf shelf_now : SeenShelf) (sink sin
   outlines_run outlines = over (λ files. (file derivation : List ℕ) → command ≡ Some (outline file derivation)
       → HoldAccepted file derivation files → (status ≡ Good) ⊎ (status ≡ NoMemory))
       (λ files e n. outlines_told files command shelf shelf_now e sink sink_now status run n.0 n.1 outlines)
+
+  pub owns_run : AcceptedHaveTrees → RefusedStartsAreNone → Over (λ files. (file derivation schedule : List ℕ)
+      → command ≡ Some (owners file derivation schedule) → (h : HoldRun file derivation schedule files)
+      → EndsOwners h.accepted.program h.accepted.lines h.has.schedule status ⊎ (status ≡ NoMemory))
+  owns_run have none = over (λ files. (file derivation schedule : List ℕ)
+      → command ≡ Some (owners file derivation schedule) → (h : HoldRun file derivation schedule files)
+      → EndsOwners h.accepted.program h.accepted.lines h.has.schedule status ⊎ (status ≡ NoMemory))
+      (λ files e n. owns_told files command shelf shelf_now e sink sink_now status run n.0 n.1 have none)
 
   pub spares_run : SafeProgramsHaveNone → Over (λ files. (name : List ℕ) (number count : ℕ)
       → command ≡ Some (stray name number count) → HoldsSafe name files → (status ≡ Good) ⊎ (status ≡ NoMemory))

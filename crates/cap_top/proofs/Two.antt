@@ -6,7 +6,8 @@ use Rattle.cap_io.specs.Outside.{longest, counted, IsCounted, Rose}
 use Rattle.cap_prog.specs.Program.{PlainProgram}
 use Rattle.cap_top_reading.specs.Refused.{IsTextOf}
 use Rattle.cap_top_commands.specs.declared.output.Output as code
-use Rattle.cap_top_commands.specs.Answers.{Fetched, held, unread, long, After, SaysRefusal, IsPlayed, IsReplayed, IsJudged, IsOutlined, ByTwo, IsOutput, IsOnly, IsOnlyOutput, IsOnlyTextOf, Agree}
+use Rattle.cap_top_commands.specs.Answers.{Fetched, held, unread, long, After, SaysRefusal, IsReplayed, IsJudged, IsOutlined, ByTwo, IsOutput, IsOnly, IsOnlyOutput, IsOnlyTextOf, Agree}
+use Rattle.cap_top_commands.specs.Schedules.{IsPlayed}
 use Rattle.cap_top_commands.specs.Derivations.{IsChecked}
 use Rattle.cap_top_commands.specs.Outlines.{IsOutline}
 use Rattle.cap_top_commands.specs.Output.{Output, unreadable_output, long_output}
@@ -21,7 +22,7 @@ use Rattle.cap_top.specs.Reads.{IsFetched, gift, AreRead}
 use Rattle.cap_top.specs.Run.{IsSaid}
 use Rattle.cap_top.proofs.Saying.{one_read}
 
-same_bytes : (a b : List ℕ) → held a ≡ held b → a ≡ b
+pub same_bytes : (a b : List ℕ) → held a ≡ held b → a ≡ b
 same_bytes a b e = cc
 
 -- ---- the output, by the first file alone or by both
@@ -61,7 +62,7 @@ rose-more before middle now l r = grind (arith)
 
 module _ (shelf middle shelf_now : SeenShelf) (kept : middle.holds ≡ shelf.holds) (l : shelf.faults ≤ middle.faults) where
   -- what is read later is read in the whole time
-  fetched-more : (name : List ℕ) (y : Fetched) → IsFetched middle shelf_now name y → IsFetched shelf shelf_now name y
+  pub fetched-more : (name : List ℕ) (y : Fetched) → IsFetched middle shelf_now name y → IsFetched shelf shelf_now name y
   fetched-more name (held bytes) h = (h.0, subst (λ o. IfSome o (λ files. content files name ≡ Some bytes)) kept h.1)
   fetched-more name unread (inl r) = inl (rose-more shelf.faults middle.faults shelf_now.faults l r.0, r.1)
   fetched-more name unread (inr r) = inr (subst (λ o. IsSomeAnd o (λ files. content files name ≡ None)) kept r)

@@ -1,6 +1,6 @@
 -- What a run of the whole program promises, beside what it promises where `verify` ends well
 -- (`Verified`).
-use Rattle.std.specs.Prelude.{◌≡◌, ℕ, ◌⊎◌, ◌≤◌, true, List, [], ◌∷◌, length}
+use Rattle.std.specs.Prelude.{◌≡◌, ◌↔◌, ℕ, ◌⊎◌, ◌≤◌, true, List, [], ◌∷◌, length}
 use Rattle.std.specs.Prelude.{Option, Some, None, IfSome, IsSomeAnd}
 use Rattle.cap_io.specs.Files.{Files, content, SeenShelf, HasGiven}
 use Rattle.cap_io.specs.Outside.{SeenSink, longest, Rose, Gains}
@@ -12,19 +12,25 @@ use Rattle.cap_top_reading.specs.Refused.{IsTextOf}
 use Rattle.cap_top_commands.specs.declared.status.Status.{Status}
 use Rattle.cap_top_commands.specs.declared.status.Status.TheVariants.{Good, Bad, Refused, NoMemory, NotEnabled, Wide}
 use Rattle.cap_replay.specs.declared.playing.End.{End}
+use Rattle.cap_replay.specs.Reading.{Progress}
+use Rattle.cap_replay.specs.RunText.{RunText}
 use Rattle.cap_top_commands.specs.cap_top_report.Report.{is_good}
 use Rattle.cap_top_commands.specs.cap_top_report.Found.{found_trees}
 use Rattle.cap_deriv_write.specs.Written.{derivation_text}
 use Rattle.cap_top_commands.specs.Good.{IsGood, IsAccepted}
 use Rattle.cap_top_commands.specs.Needed.{TellsCores}
+use Rattle.cap_top_commands.specs.Derivations.{IsChecked}
 use Rattle.cap_top_commands.specs.Outlines.{TellsOutline}
+use Rattle.cap_top_commands.specs.Owners.{HasSchedule, owned_along}
+use Rattle.cap_top_accounts.specs.Laws.{TellsOwners, AreLinesOfValid, IsNoStart}
 use Rattle.cap_top_commands.specs.SafeText.{IsSafeText}
 use Rattle.cap_gen_schedules.specs.Laws.{AsksForNothing}
 use Rattle.cap_top_commands.specs.Startless.{SaysEmpty, IsStartlessText}
-use Rattle.cap_top_commands.specs.Answers.{Fetched, IsPlayedAs, IsOutput, AreAccepted, FaultsAlong}
-use Rattle.cap_top_words.specs.Meaning.{PlainCommand, verify, derive, check, show, replay, trial, outline, stray, core}
+use Rattle.cap_top_commands.specs.Answers.{Fetched, IsOutput, AreAccepted, FaultsAlong}
+use Rattle.cap_top_commands.specs.Schedules.{IsPlayedAs}
+use Rattle.cap_top_words.specs.Meaning.{PlainCommand, verify, derive, check, show, replay, trial, outline, owners, stray, core}
 use Rattle.cap_top_commands.specs.Commands.{files_of}
-use Rattle.cap_top_commands.specs.Output.{Output, end_status}
+use Rattle.cap_top_commands.specs.Output.{Output, end_status, owners_output}
 use Rattle.cap_top.specs.Verified.{IsRead}
 use Rattle.cap_top_laws.specs.Given.{AreGiven, HasOutput}
 use Rattle.cap_top.specs.Reads.{AreRead}
@@ -133,6 +139,47 @@ pub record ReplaysFiles (shelf shelf_now : SeenShelf) (file schedule : List ℕ)
   pub ended : status ≡ end_status end
   pub gains : Gains sink.written sink_now.written text
 
+-- In this call these three files gave these bytes, one after the other, and no other file gave any;
+-- they are those that the files hold where the shelf tells its files.
+pub record AreAllRead (shelf shelf_now : SeenShelf) (name bytes second more third rest : List ℕ)
+    : Type 0 where
+  pub given : HasGiven shelf shelf_now ((name, bytes) ∷ ((second, more) ∷ ((third, rest) ∷ [])))
+  pub held : IfSome shelf.holds (λ files. content files name ≡ Some bytes)
+  pub second_held : IfSome shelf.holds (λ files. content files second ≡ Some more)
+  pub third_held : IfSome shelf.holds (λ files. content files third ≡ Some rest)
+
+-- The bytes that the first file gave are the text of a safe program, those of the second the lines of
+-- a valid derivation of it, those of the third a schedule for it, and the sink has gained what the
+-- program's run along it writes with its accounts by that derivation, which ends with this status.
+pub record OwnsFiles (shelf shelf_now : SeenShelf) (file derivation schedule : List ℕ)
+    (sink sink_now : SeenSink) (status : Status) : Type 0 where
+  pub bytes : List ℕ
+  pub lines : List ℕ
+  pub entries : List ℕ
+  pub read : AreAllRead shelf shelf_now file bytes derivation lines schedule entries
+  pub run : RunText
+  pub owned : TellsOwners bytes lines entries run
+  pub ended : status ≡ end_status run.end
+  pub gains : Gains sink.written sink_now.written run.text
+
+-- The bytes that the first file gave are the text of a program, those of the second lines that are
+-- not accepted of it, those of the third a schedule for it, and the sink has gained what `check` says
+-- of the lines, with status 1.
+pub record RejectsFiles (shelf shelf_now : SeenShelf) (file derivation schedule : List ℕ)
+    (sink sink_now : SeenSink) (status : Status) : Type 0 where
+  pub bytes : List ℕ
+  pub lines : List ℕ
+  pub entries : List ℕ
+  pub read : AreAllRead shelf shelf_now file bytes derivation lines schedule entries
+  pub program : PlainProgram
+  pub text_of_it : IsTextOf bytes program
+  pub has : HasSchedule program entries
+  pub output : Output
+  pub checked : IsChecked program lines output
+  pub bad : output.status ≡ Bad
+  pub same : status ≡ Bad
+  pub gains : Gains sink.written sink_now.written output.text
+
 -- The bytes that the file gave are the text of a program that is not safe, and the sink has gained a
 -- schedule along which its run comes to a fault at the last entry.
 pub record StraysFile (shelf shelf_now : SeenShelf) (name : List ℕ) (sink sink_now : SeenSink)
@@ -207,6 +254,24 @@ pub record HoldAccepted (file derivation : List ℕ) (files : Files) : Type 0 wh
   pub short : length lines ≤ longest
   pub accepted : AreAccepted program lines
 
+-- the first two so, and the third a schedule for the program
+pub record HoldRun (file derivation schedule : List ℕ) (files : Files) : Type 0 where
+  pub accepted : HoldAccepted file derivation files
+  pub entries : List ℕ
+  pub entries_held : content files schedule ≡ Some entries
+  pub entries_short : length entries ≤ longest
+  pub has : HasSchedule accepted.program entries
+
+-- The status is that of the run along the schedule with its accounts, by the one valid derivation
+-- that the lines are; and it is that of a refused start just where this has no text, as the start
+-- that the schedule gives is none.
+pub record EndsOwners (p : PlainProgram) (lines : List ℕ) (schedule : Progress) (status : Status)
+    : Type 0 where
+  pub valid : AreLinesOfValid p lines
+  pub ended : status ≡ (owners_output (owned_along p valid.trees schedule)).status
+  pub refused : (status ≡ Refused) ↔ (owned_along p valid.trees schedule ≡ None)
+  pub no_start : status ≡ Refused → IsNoStart p schedule
+
 -- the file holds the text of a tree, of which this is the canonical text
 pub record HoldsTree (name text : List ℕ) (files : Files) : Type 0 where
   pub bytes : List ℕ
@@ -229,6 +294,7 @@ IsTextFor (show name) bytes = (t : ProgramTree) × Spells bytes t
 IsTextFor (replay name schedule) bytes = (p : PlainProgram) × IsTextOf bytes p
 IsTextFor (trial n) bytes = Unit {0}
 IsTextFor (outline name derivation) bytes = (p : PlainProgram) × IsTextOf bytes p
+IsTextFor (owners name derivation schedule) bytes = (p : PlainProgram) × IsTextOf bytes p
 IsTextFor (stray name number count) bytes = (p : PlainProgram) × IsTextOf bytes p
 IsTextFor (core name) bytes = (p : PlainProgram) × IsTextOf bytes p
 

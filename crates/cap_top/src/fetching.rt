@@ -1,18 +1,23 @@
 //! A command's files, read in the order of its words, and what is then answered.
-ghost use Rattle.std.specs.Prelude.{◌≡◌, ◌≤◌, IfOk};
+ghost use Rattle.std.specs.Prelude.{◌≡◌, ◌≤◌, IfOk, map};
 ghost use Rattle.cap_prog.specs.Views.{program_view};
+ghost use Rattle.cap_goal.specs.Views.{choice_view};
 ghost use Rattle.cap_top_commands.specs.Answers.{After, IsVerified, IsDerived, IsShown};
-ghost use Rattle.cap_top_commands.specs.Answers.{IsPlayed, IsStrayed, IsCored, IsOnly};
+ghost use Rattle.cap_top_commands.specs.Answers.{IsStrayed, IsCored, IsOnly};
+ghost use Rattle.cap_top_commands.specs.Schedules.{IsPlayed};
 ghost use Rattle.cap_top_commands.specs.Derivations.{IsChecked};
 ghost use Rattle.cap_top_commands.specs.Outlines.{IsOutline};
+ghost use Rattle.cap_top_commands.specs.Owners.{IsOwners};
 ghost use Rattle.cap_top_commands.specs.Views.{output_view};
 ghost use Rattle.cap_io.specs.Files.{HasGiven};
 ghost use Rattle.cap_io.specs.Outside.{IsCounted};
 ghost use Rattle.cap_top.specs.Reads.{IsFetched, gift};
-ghost use Rattle.cap_top.specs.Views.{fetched_view, BeginsAfter};
+ghost use Rattle.cap_top.specs.Views.{fetched_view, BeginsAfter, ListsAfter};
 
+use cap_deriv::Lines;
 use cap_io::{FetchError, Shelf};
 use cap_prog::Program;
+use cap_top_accounts::{Listed, list, owners};
 use cap_top_commands::{
     Begun, Output, begin, check, core, derive, outline, play, show, stray, verify,
 };
@@ -124,6 +129,40 @@ pub(crate) fn outline_file<'a>(
 {
     match file {
         Fetched::Held(bytes) => outline(alloc, program, bytes.as_slice()),
+        Fetched::Unread => Ok(Output::Unreadable(name)),
+        Fetched::Long => Ok(Output::TooLong),
+    }
+}
+
+/// What is known once the file of a derivation gave this, by which a third file is answered.
+pub(crate) fn list_file<'a>(
+    alloc: Global,
+    name: &'a str,
+    file: Fetched,
+) -> Result<Listed<'a>, AllocError>
+    ensures { IfOk result (ListsAfter name.now (fetched_view file)) }
+{
+    match file {
+        Fetched::Held(bytes) => list(alloc, bytes.as_slice()),
+        Fetched::Unread => Ok(Listed::Without(Output::Unreadable(name))),
+        Fetched::Long => Ok(Listed::Without(Output::TooLong)),
+    }
+}
+
+/// What is said of the owners along a schedule whose file gave this, by the lines of a derivation.
+pub(crate) fn owners_file<'a>(
+    alloc: Global,
+    program: &Program,
+    lines: Lines,
+    name: &'a str,
+    file: Fetched,
+) -> Result<Output<'a>, AllocError>
+    ensures { let choices = map choice_view lines.choices.items in
+        let IsSaid = IsOwners (program_view program.now) lines.trees choices in
+        IfOk result (λ o. IsOnly (After name.now (fetched_view file) IsSaid) (output_view o)) }
+{
+    match file {
+        Fetched::Held(bytes) => owners(alloc, program, lines, bytes.as_slice()),
         Fetched::Unread => Ok(Output::Unreadable(name)),
         Fetched::Long => Ok(Output::TooLong),
     }

@@ -2,7 +2,7 @@
 ghost use Rattle.std.specs.Prelude.{◌≡◌, ◌⊎◌, ℕ, List, IfOk, IfSome, Some, None};
 ghost use Rattle.cap_io.specs.Outside.{Rose};
 ghost use Rattle.cap_top_words.specs.Meaning.{verify, derive, check, show, replay, trial};
-ghost use Rattle.cap_top_words.specs.Meaning.{outline, stray, core, default_budget};
+ghost use Rattle.cap_top_words.specs.Meaning.{outline, owners, stray, core, default_budget};
 ghost use Rattle.cap_gen.specs.Trial.{trial_text};
 ghost use Rattle.cap_top_commands.specs.Answers.{IsVerified, IsDerived};
 ghost use Rattle.cap_top_commands.specs.Commands.{meant_by};
@@ -15,16 +15,18 @@ ghost use Rattle.cap_top.specs.Verified.{VerifiesFile};
 ghost use Rattle.cap_top.specs.Promise.{ProvesFile, FailsFile};
 ghost use Rattle.cap_top.specs.Promise.{DerivesFile, ChecksFiles, ShowsFile};
 ghost use Rattle.cap_top.specs.Promise.{OutlinesFiles, StraysFile, CoresFile, HoldsSafe};
+ghost use Rattle.cap_top.specs.Promise.{OwnsFiles, RejectsFiles, HoldRun, EndsOwners};
 ghost use Rattle.cap_top.specs.Promise.{EndsRun, ReplaysFiles, Ends, NoFault, AnswersFiles};
 ghost use Rattle.cap_top.specs.Promise.{HoldsGood, HoldAccepted, HoldsTree, Refuses, ReadFails};
 ghost use Rattle.cap_top.specs.Run.{IsSaid, IsRun};
 
 use crate::fetching::{
-    begin_file, check_file, core_file, derive_file, fetch, outline_file, play_file, show_file,
-    stray_file, verify_file,
+    begin_file, check_file, core_file, derive_file, fetch, list_file, outline_file, owners_file,
+    play_file, show_file, stray_file, verify_file,
 };
 use cap_gen_schedules::safe_programs_have_none;
 use cap_io::{Shelf, Sink};
+use cap_top_accounts::{Listed, accepted_have_trees, owners_are_told, refused_starts_are_none};
 use cap_top_commands::{
     Begun, Output, Status, accepted_are_safe, checked_are_outlined, cores_are_told,
     derived_are_accepted, empty_answers_have_no_start, good_answers_are_safe, good_trials_are_safe,
@@ -97,6 +99,35 @@ fn outline_files<'a, S: Shelf>(
     }
 }
 
+/// What is said of the owners along a run: the program is read first, its derivation only where
+/// that is one, and its schedule only where the derivation has lines.
+fn owners_files<'a, S: Shelf>(
+    alloc: Global,
+    shelf: &mut S,
+    file: &'a str,
+    derivation: &'a str,
+    schedule: &'a str,
+) -> Result<Output<'a>, AllocError>
+    ensures kept { (S.seen shelf.new).holds ≡ (S.seen shelf.old).holds }
+    ensures said { IfOk result (λ o. IsSaid (S.seen shelf.old) (S.seen shelf.new)
+        (Some (owners file.now derivation.now schedule.now)) (output_view o)) }
+{
+    let fetched = fetch(shelf, file)?;
+    match begin_file(alloc, file, fetched)? {
+        Begun::Said(output) => Ok(output),
+        Begun::Program(program) => {
+            let fetched = fetch(shelf, derivation)?;
+            match list_file(alloc, derivation, fetched)? {
+                Listed::Without(said) => Ok(said),
+                Listed::Lines(lines) => {
+                    let entries = fetch(shelf, schedule)?;
+                    owners_file(alloc, &program, lines, schedule, entries)
+                }
+            }
+        }
+    }
+}
+
 /// What is said for these words: each file is read in the order of the words.
 fn respond<'a, S: Shelf>(
     alloc: Global,
@@ -126,6 +157,13 @@ fn respond<'a, S: Shelf>(
         Some(Command::Outline { file, derivation }) => {
             outline_files(alloc, shelf, file, derivation)
         }
+        Some(
+            Command::Owners {
+                file,
+                derivation,
+                schedule,
+            },
+        ) => { owners_files(alloc, shelf, file, derivation, schedule) }
         Some(
             Command::Stray {
                 file,
@@ -223,6 +261,18 @@ pub fn run<S: Shelf, K: Sink>(
         → OutlinesFiles (S.seen shelf.old) (S.seen shelf.new) file derivation
         (K.seen sink.old) (K.seen sink.new) }
 
+    // Where `owners` ends with the status of a run, the derivation that was given is valid, and the
+    // sink has gained what the program's run along the schedule writes, with its accounts: unless it
+    // ends before its first account, the text goes along the machine's own run, from the account of
+    // its start, and behind each step comes one account, with an entry for each frame. With status 1
+    // it may instead be that the derivation is not accepted, as `check` says of it.
+    ensures owned { (file derivation schedule : List ℕ)
+        → meant_by words.now ≡ Some (owners file derivation schedule) → EndsRun result
+        → OwnsFiles (S.seen shelf.old) (S.seen shelf.new) file derivation schedule
+        (K.seen sink.old) (K.seen sink.new) result
+        ⊎ RejectsFiles (S.seen shelf.old) (S.seen shelf.new) file derivation schedule
+        (K.seen sink.old) (K.seen sink.new) result }
+
     // Where `show` ends well, the text that was given is shown: the canonical one of its tree.
     ensures shown { (name : List ℕ) → meant_by words.now ≡ Some (show name) → result ≡ Good
         → ShowsFile (S.seen shelf.old) (S.seen shelf.new) name
@@ -248,7 +298,8 @@ pub fn run<S: Shelf, K: Sink>(
         (K.seen sink.old) (K.seen sink.new) result }
 
     // Whatever faults come, what is said is what follows from what the files gave that were read. A
-    // second file gives bytes only where the first gave a program's text.
+    // second file gives bytes only where the first gave a program's text, and a third only where the
+    // second gave a derivation's lines.
     ensures ends { Ends (meant_by words.now)
         (S.seen shelf.old) (S.seen shelf.new) (K.seen sink.old) (K.seen sink.new) result }
 
@@ -257,8 +308,9 @@ pub fn run<S: Shelf, K: Sink>(
 
     // Where no fault comes the files give an output, the one that is said, and no other, unless
     // memory runs out: a program all of which is proved is told so, the text of a tree is shown, a
-    // derivation that `check` accepts is accepted and has an outline, no schedule is found of a
-    // safe program, and what is no text is refused.
+    // derivation that `check` accepts is accepted and has an outline, the run along a schedule is
+    // told with its accounts by such a derivation unless its start is none, no schedule is found of
+    // a safe program, and what is no text is refused.
     ensures answers { IfSome (S.seen shelf.old).holds (λ files.
         NoFault (S.seen shelf.old) (S.seen shelf.new) (K.seen sink.old) (K.seen sink.new)
         → AnswersFiles (meant_by words.now) files (K.seen sink.old) (K.seen sink.new) result) }
@@ -281,6 +333,13 @@ pub fn run<S: Shelf, K: Sink>(
         NoFault (S.seen shelf.old) (S.seen shelf.new) (K.seen sink.old) (K.seen sink.new)
         → (file derivation : List ℕ) → meant_by words.now ≡ Some (outline file derivation)
         → HoldAccepted file derivation files → (result ≡ Good) ⊎ (result ≡ NoMemory)) }
+    ensures owns { IfSome (S.seen shelf.old).holds (λ files.
+        NoFault (S.seen shelf.old) (S.seen shelf.new) (K.seen sink.old) (K.seen sink.new)
+        → (file derivation schedule : List ℕ)
+        → meant_by words.now ≡ Some (owners file derivation schedule)
+        → (h : HoldRun file derivation schedule files)
+        → EndsOwners h.accepted.program h.accepted.lines h.has.schedule result
+        ⊎ (result ≡ NoMemory)) }
     ensures spares { IfSome (S.seen shelf.old).holds (λ files.
         NoFault (S.seen shelf.old) (S.seen shelf.new) (K.seen sink.old) (K.seen sink.new)
         → (name : List ℕ) (number count : ℕ)
@@ -312,5 +371,8 @@ pub fn run<S: Shelf, K: Sink>(
     cores_are_told();
     outlines_are_told();
     checked_are_outlined();
+    owners_are_told();
+    accepted_have_trees();
+    refused_starts_are_none();
     perform(alloc, words, shelf, sink)
 }

@@ -64,7 +64,7 @@ whole-told bytes trees cs h = ap (λ o. error_of (end_of_opening o)) h ∙ ap er
 no-memory : (bytes : List ℕ) (e : DerivError) → IsBadDerivation bytes e → e ≡ OutOfMemory → ⊥
 no-memory bytes e h m = subst (IsBadDerivation bytes) m h
 
-same-trees : (a b : ℕ) (s t : Told) → opening_told a s ≡ opening_told b t → a ≡ b
+pub same-trees : (a b : ℕ) (s t : Told) → opening_told a s ≡ opening_told b t → a ≡ b
 same-trees a b s t h = cc
 
 same-told : (a b : ℕ) (s t : Told) → opening_told a s ≡ opening_told b t → s ≡ t
@@ -77,18 +77,23 @@ one_list bytes a b cs ds h k =
     let e = same-told a b (choices_told cs all_told) (choices_told ds all_told) (sym h ∙ k) in
     sym (in-told cs) ∙ (ap choices_in e ∙ in-told ds)
 
-module _ (p : PlainProgram) (bytes : List ℕ) where
-  apart : {A : Type 0} (trees : ℕ) (cs : List PlainChoice) (e : DerivError)
-      → told_by_bytes bytes ≡ opening_told trees (choices_told cs all_told) → IsBadDerivation bytes e → A
-  apart trees cs e h k =
-      absurd (no-memory bytes e k (sym (is-error bytes e k) ∙ whole-told bytes trees cs h))
+-- bad lines are bad in one way
+pub one_error : (bytes : List ℕ) (d e : DerivError) → IsBadDerivation bytes d → IsBadDerivation bytes e → d ≡ e
+one_error bytes d e h k = sym (is-error bytes d h) ∙ is-error bytes e k
 
+-- lines are not bad ones
+pub apart : {A : Type 0} (bytes : List ℕ) (trees : ℕ) (cs : List PlainChoice) (e : DerivError)
+    → told_by_bytes bytes ≡ opening_told trees (choices_told cs all_told) → IsBadDerivation bytes e → A
+apart bytes trees cs e h k =
+    absurd (no-memory bytes e k (sym (is-error bytes e k) ∙ whole-told bytes trees cs h))
+
+module _ (p : PlainProgram) (bytes : List ℕ) where
   pub bad_only : (e : DerivError) → IsBadDerivation bytes e → IsOnly (IsChecked p bytes) (bad_derivation_output e)
   bad_only e h = record { said = inl (record { error = e; bad = h; whole = refl }); only = by }
     where
       by : (q : Output) → IsChecked p bytes q → bad_derivation_output e ≡ q
-      by q (inl k) = ap bad_derivation_output (sym (is-error bytes e h) ∙ is-error bytes k.error k.bad) ∙ sym k.whole
-      by q (inr k) = apart k.trees k.choices e k.told h
+      by q (inl k) = ap bad_derivation_output (one_error bytes e k.error h k.bad) ∙ sym k.whole
+      by q (inr k) = apart bytes k.trees k.choices e k.told h
 
   pub judged_only : JudgementsAreOne → (trees : ℕ) (cs : List PlainChoice) (r : Result ℕ CheckError)
       → told_by_bytes bytes ≡ opening_told trees (choices_told cs all_told) → Judged p trees cs r
@@ -99,7 +104,7 @@ module _ (p : PlainProgram) (bytes : List ℕ) where
   }
     where
       by : (q : Output) → IsChecked p bytes q → judged_output r ≡ q
-      by q (inl k) = apart trees cs k.error h k.bad
+      by q (inl k) = apart bytes trees cs k.error h k.bad
       by q (inr k) =
           let ts = same-trees k.trees trees (choices_told k.choices all_told) (choices_told cs all_told) (sym k.told ∙ h) in
           let same : k.choices ≡ cs = one_list bytes k.trees trees k.choices cs k.told h in

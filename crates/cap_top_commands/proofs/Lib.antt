@@ -1,12 +1,13 @@
 mod Answering
+pub mod Schedules
 mod Replays
 mod InOrder
-mod Good
+pub mod Good
 mod LastLines
 mod Startless
-mod Following
+pub mod Following
 mod Deriving
-mod Accepting
+pub mod Accepting
 mod Coring
-mod Outlines
+pub mod Outlines
 pub mod Strays

@@ -5,7 +5,7 @@ use Rattle.cap_prog.specs.Program.{PlainProgram}
 use Rattle.cap_goal_spec.specs.Choices.{PlainChoice, PlainTree}
 use Rattle.cap_rules.specs.Valid.{Valid}
 use Rattle.cap_account.specs.Law.{DerivationsAreSound}
-use Rattle.cap_deriv.specs.Told.{told_by_bytes, opening_told, choices_told, all_told}
+use Rattle.cap_deriv.specs.Told.{told_by_bytes}
 use Rattle.cap_deriv.specs.Whole.{ReadsWhole}
 use Rattle.cap_deriv.specs.declared.cursor.DerivError.{DerivError}
 use Rattle.cap_deriv.specs.declared.cursor.DerivError.TheVariants.{BadLine, Unended, TooMany, OutOfMemory}
@@ -22,18 +22,22 @@ use Rattle.cap_top_commands.specs.Answers.{IsOnly}
 use Rattle.cap_top_commands.specs.Derivations.{IsBadDerivation, IsChecked}
 use Rattle.cap_top_commands.specs.Outlines.{IsOutline, CheckedAreOutlined, OutlinesAreTold}
 use Rattle.cap_top_commands.specs.Output.{Output, bad_derivation_output, judged_output, outline_output}
+use Rattle.cap_top_commands.specs.Owners.{TellsLines}
 use Rattle.cap_top_commands.specs.Views.{output_view}
 use Rattle.cap_top_commands.proofs.Accepting.{ReadingsAreLines}
 use Rattle.cap_top_commands.proofs.Following.{one_list, bad_only, judged_only, checked_only, SaysBad}
 use Rattle.cap_top_commands.proofs.Good.{TextsAreFormed, safe_text, same_status}
 
-module _ (p : PlainProgram) (bytes : List ℕ) where
-  -- the bytes are lines of so many trees with these choices
-  abbrev pub TellsChoices : ℕ → List PlainChoice → Type 0
-  TellsChoices n cs = told_by_bytes bytes ≡ opening_told n (choices_told cs all_told)
+-- what is read to its end is bad where it is said to be
+pub bad_whole : (bytes : List ℕ) (e : DerivError) → ReadsWhole (Err e) (told_by_bytes bytes) → e ≢ OutOfMemory → IsBadDerivation bytes e
+bad_whole bytes (BadLine n) h m = h
+bad_whole bytes Unended h m = h
+bad_whole bytes TooMany h m = h
+bad_whole bytes OutOfMemory h m = absurd (m refl)
 
+module _ (p : PlainProgram) (bytes : List ℕ) where
   -- valid trees are accepted
-  accepted : JudgedAreValid → JudgementsAreOne → (trees : List (Option PlainTree)) → TellsChoices (length trees) (preorder trees)
+  accepted : JudgedAreValid → JudgementsAreOne → (trees : List (Option PlainTree)) → TellsLines bytes (length trees) (preorder trees)
       → Valid p trees → IsOnly (IsChecked p bytes) (judged_output (Ok (length (preorder trees))))
   accepted judged one trees told valid =
       judged_only p bytes one (length trees) (preorder trees) (Ok (length (preorder trees))) told
@@ -41,7 +45,7 @@ module _ (p : PlainProgram) (bytes : List ℕ) where
 
   -- nothing else is said of lines that have an outline
   outline_only : JudgedAreValid → JudgementsAreOne → ValidTreesAreOne → (trees : List (Option PlainTree))
-      → TellsChoices (length trees) (preorder trees) → Valid p trees → IsOnly (IsOutline p bytes) (outline_output (outline_text p trees))
+      → TellsLines bytes (length trees) (preorder trees) → Valid p trees → IsOnly (IsOutline p bytes) (outline_output (outline_text p trees))
   outline_only judged one unique trees told valid = record {
     said = inl (record { trees = trees; told = told; valid = valid; whole = refl });
     only = by;
@@ -67,11 +71,11 @@ module _ (p : PlainProgram) (bytes : List ℕ) where
       by q (inr k) = (checked_only p bytes one o h).only q k.checked
 
   pub says_outline : JudgedAreValid → JudgementsAreOne → ValidTreesAreOne → (n : ℕ) (cs : List PlainChoice)
-      (trees : List (Option PlainTree)) → TellsChoices n cs → Valid p trees → length trees ≡ n → preorder trees ≡ cs
+      (trees : List (Option PlainTree)) → TellsLines bytes n cs → Valid p trees → length trees ≡ n → preorder trees ≡ cs
       → (text : List ℕ) → text ≡ outline_text p trees → IsOnly (IsOutline p bytes) (outline_output text)
   says_outline judged one unique n cs trees told valid many choices text e =
-      let here : TellsChoices (length trees) (preorder trees) =
-      subst (λ m. TellsChoices m (preorder trees)) (sym many) (subst (TellsChoices n) (sym choices) told) in
+      let here : TellsLines bytes (length trees) (preorder trees) =
+      subst (λ m. TellsLines bytes m (preorder trees)) (sym many) (subst (TellsLines bytes n) (sym choices) told) in
       subst (λ t. IsOnly (IsOutline p bytes) (outline_output t)) (sym e)
       (outline_only judged one unique trees here valid)
 
@@ -80,7 +84,7 @@ module _ (p : PlainProgram) (bytes : List ℕ) where
   SaysFault e r = MatchResult r (λ o. (output_view o ≡ judged_output (Err e)) × (e ≢ judge.OutOfMemory)) (λ _. e ≡ judge.OutOfMemory)
 
   pub says_fault : JudgedAreValid → JudgementsAreOne → (n : ℕ) (cs : List PlainChoice) (e : CheckError)
-      (r : Result code.Output AllocError) → TellsChoices n cs → (e ≢ judge.OutOfMemory → Judged p n cs (Err e)) → SaysFault e r
+      (r : Result code.Output AllocError) → TellsLines bytes n cs → (e ≢ judge.OutOfMemory → Judged p n cs (Err e)) → SaysFault e r
       → IfOk r (λ o. IsOnly (IsOutline p bytes) (output_view o))
   says_fault judged one n cs e (Ok o) told j h =
       let k = judged_only p bytes one n cs (Err e) told (j h.1) in
@@ -88,18 +92,12 @@ module _ (p : PlainProgram) (bytes : List ℕ) where
       (unaccepted_only judged one (judged_output (Err e)) k.said (λ f. let g : Bad ≡ Good = f in cc))
   says_fault judged one n cs e (Err a) told j h = tt
 
-  bad_whole : (e : DerivError) → ReadsWhole (Err e) (told_by_bytes bytes) → e ≢ OutOfMemory → IsBadDerivation bytes e
-  bad_whole (BadLine n) h m = h
-  bad_whole Unended h m = h
-  bad_whole TooMany h m = h
-  bad_whole OutOfMemory h m = absurd (m refl)
-
   pub says_bad_lines : JudgedAreValid → JudgementsAreOne → (e : DerivError) (r : Result code.Output AllocError)
       → ReadsWhole (Err e) (told_by_bytes bytes) → SaysBad p bytes e r
       → IfOk r (λ o. IsOnly (IsOutline p bytes) (output_view o))
   says_bad_lines judged one e (Ok o) f h =
       subst (IsOnly (IsOutline p bytes)) (sym h.0)
-      (unaccepted_only judged one (bad_derivation_output e) (bad_only p bytes e (bad_whole e f h.1)).said
+      (unaccepted_only judged one (bad_derivation_output e) (bad_only p bytes e (bad_whole bytes e f h.1)).said
       (λ k. let g : Refused ≡ Good = k in cc))
   says_bad_lines judged one e (Err a) f h = tt
 
@@ -120,8 +118,8 @@ checked_outlined judged p bytes o (inr k) = by k.answer refl
     by (Ok n) e =
         let j : JudgedOk p k.trees k.choices n = subst (Judged p k.trees k.choices) e k.judged in
         let has : HasTrees p k.trees k.choices = judged.sound p k.trees n k.choices j in
-        let told : TellsChoices p bytes (length has.0) (preorder has.0) =
-        subst (λ m. TellsChoices p bytes m (preorder has.0)) (sym has.2) (subst (TellsChoices p bytes k.trees) (sym has.3) k.told) in (
+        let told : TellsLines bytes (length has.0) (preorder has.0) =
+        subst (λ m. TellsLines bytes m (preorder has.0)) (sym has.2) (subst (TellsLines bytes k.trees) (sym has.3) k.told) in (
           outline_output (outline_text p has.0),
           inl (record { trees = has.0; told = told; valid = has.1; whole = refl }),
           sym (same_status o (judged_output (Ok n)) (k.whole ∙ ap judged_output e)),

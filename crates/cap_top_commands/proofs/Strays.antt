@@ -28,7 +28,8 @@ use Rattle.cap_top_reading.specs.Refused.{IsRefused, IsTextOf}
 use Rattle.cap_top_commands.specs.declared.output.Output as code
 use Rattle.cap_top_commands.specs.declared.status.Status.TheVariants.{Good, Bad, Refused}
 use Rattle.cap_top_commands.specs.Output.{Output, refusal_output, no_start_output, stray_output, no_stray_output}
-use Rattle.cap_top_commands.specs.Answers.{IsStray, IsStrayed, IsOnly, drawn_output, run_along, FaultsAlong, SafeTextsHaveNoStray}
+use Rattle.cap_top_commands.specs.Answers.{IsStray, IsStrayed, IsOnly, drawn_output, FaultsAlong, SafeTextsHaveNoStray}
+use Rattle.cap_top_commands.specs.Schedules.{run_along}
 use Rattle.cap_top_commands.specs.Views.{output_view}
 use Rattle.cap_top_commands.proofs.Answering.{AnswersRefusal, found_says, refused_says}
 use Rattle.cap_top_commands.proofs.Good.{same_status}

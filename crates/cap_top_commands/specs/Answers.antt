@@ -1,21 +1,17 @@
 -- What is answered to a command, by what its files gave.
 use Rattle.std.specs.Prelude.{◌≡◌, ℕ, List, [], ◌∷◌, Option, Some, None}
-use Rattle.std.specs.Prelude.{◌⊎◌, length, slice_get, IsSomeAnd, Ok, Err}
-use Rattle.std.specs.FinMap.{from_entries}
+use Rattle.std.specs.Prelude.{◌⊎◌, length, Ok}
 use Rattle.cap_prog.specs.Program.{PlainProgram}
 use Rattle.cap_gen.specs.Trial.{trial_text}
+use Rattle.cap_goal_spec.specs.Choices.{PlainChoice}
 use Rattle.cap_goal_spec.specs.Roots.{units}
 use Rattle.cap_parse_tree.specs.Tree.{ProgramTree}
 use Rattle.cap_parse_tree.specs.Canonical.{canonical_text}
 use Rattle.cap_parse_laws.specs.Texts.{Spells}
 use Rattle.cap_machine.specs.declared.event.Entry.{Entry}
 use Rattle.cap_machine.specs.Machine.{start}
-use Rattle.cap_replay.specs.declared.playing.End.{End}
-use Rattle.cap_replay.specs.declared.reading.ScheduleError.{ScheduleError}
-use Rattle.cap_replay.specs.declared.reading.ScheduleError.TheVariants.{BadLine}
 use Rattle.cap_replay.specs.declared.playing.End.TheVariants.{Stopped}
 use Rattle.cap_replay.specs.Reading.{Progress, read}
-use Rattle.cap_replay.specs.RunText.{RunText, run_from}
 use Rattle.cap_replay.specs.Writing.{schedule_text}
 use Rattle.cap_gen_schedules.specs.Drawn.{seeded, first_fault}
 use Rattle.cap_gen_schedules.specs.Laws.{AsksForNothing, drawn_schedule}
@@ -26,11 +22,13 @@ use Rattle.cap_top_commands.specs.declared.status.Status.TheVariants.{Good, Bad}
 use Rattle.cap_top_commands.specs.Good.{IsGood, IsProvedText, IsAccepted}
 use Rattle.cap_top_commands.specs.SafeText.{IsSafeText}
 use Rattle.cap_top_commands.specs.Startless.{SaysEmpty, IsStartlessText}
-use Rattle.cap_top_words.specs.Meaning.{PlainCommand, verify, derive, check, show, replay, trial, outline, stray, core, default_budget}
+use Rattle.cap_top_words.specs.Meaning.{PlainCommand, verify, derive, check, show, replay, trial, outline, owners, stray, core, default_budget}
 use Rattle.cap_top_commands.specs.Report.{IsReport, IsCoresReport}
-use Rattle.cap_top_commands.specs.Derivations.{IsDerivation, IsChecked}
+use Rattle.cap_top_commands.specs.Derivations.{IsDerivation, IsChecked, SaysBadLines}
 use Rattle.cap_top_commands.specs.Outlines.{IsOutline}
-use Rattle.cap_top_commands.specs.Output.{Output, usage_output, unreadable_output, long_output, refusal_output, tree_output, schedule_output, run_output, judged_output, trial_output, no_start_output, stray_output, no_stray_output}
+use Rattle.cap_top_commands.specs.Owners.{TellsLines, IsOwners}
+use Rattle.cap_top_commands.specs.Schedules.{TakesArguments, run_along, IsPlayed}
+use Rattle.cap_top_commands.specs.Output.{Output, usage_output, unreadable_output, long_output, refusal_output, tree_output, judged_output, trial_output, no_start_output, stray_output, no_stray_output}
 
 -- ---- by the bytes of a text
 
@@ -94,48 +92,6 @@ IsCanonical t o = o ≡ tree_output (canonical_text t)
 abbrev pub IsShown : List ℕ → Output → Type 0
 IsShown bytes o = SaysCause (SpellNone bytes) o ⊎ SaysOf (Spells bytes) IsCanonical o
 
--- ---- by the bytes of a schedule
-
--- the schedule has as many arguments as `main` has parameters
-abbrev pub TakesArguments : PlainProgram → Progress → Type 0
-TakesArguments p s =
-    IsSomeAnd (slice_get p.functions p.main) (λ f. length s.args ≡ f.params)
-
--- what the program's run along the schedule writes
-abbrev pub run_along : PlainProgram → Progress → RunText
-run_along p s = run_from p 0 (start p s.args (from_entries s.heap)) s.entries
-
--- the bytes are a schedule for the program, along which its run writes this and ends so
-pub record IsPlayedAs (p : PlainProgram) (bytes text : List ℕ) (end : End) : Type 0 where
-  pub schedule : Progress
-  pub reads : read bytes ≡ Ok schedule
-  pub takes : TakesArguments p schedule
-  pub runs : run_along p schedule ≡ record { text = text; end = end }
-
--- the bytes are a schedule with another number of arguments
-pub record HasOtherArguments (p : PlainProgram) (bytes : List ℕ) : Type 0 where
-  pub schedule : Progress
-  pub reads : read bytes ≡ Ok schedule
-  pub others : TakesArguments p schedule → ⊥
-
--- the bytes are no schedule for the program; another number of arguments stands in the first line
-abbrev pub IsBadSchedule : PlainProgram → List ℕ → ScheduleError → Type 0
-IsBadSchedule p bytes e = (read bytes ≡ Err e) ⊎ (HasOtherArguments p bytes × (e ≡ BadLine 1))
-
-pub record SaysBadSchedule (p : PlainProgram) (bytes : List ℕ) (o : Output) : Type 0 where
-  pub error : ScheduleError
-  pub bad : IsBadSchedule p bytes error
-  pub whole : o ≡ schedule_output error
-
-pub record SaysRun (p : PlainProgram) (bytes : List ℕ) (o : Output) : Type 0 where
-  pub text : List ℕ
-  pub end : End
-  pub played : IsPlayedAs p bytes text end
-  pub whole : o ≡ run_output text end
-
-abbrev pub IsPlayed : PlainProgram → List ℕ → Output → Type 0
-IsPlayed p bytes o = SaysBadSchedule p bytes o ⊎ SaysRun p bytes o
-
 -- ---- by what the files gave
 
 -- what a file gave: its bytes, or nothing, or more bytes than a file may have
@@ -171,6 +127,28 @@ ByTwo name IsSaid (x ∷ []) o = After name x SaysRefusal o
 ByTwo name IsSaid (x ∷ (y ∷ [])) o = HoldsProgram x (λ p. IsSaid p y) o
 ByTwo name IsSaid _ o = ⊥
 
+-- the file gave a derivation's lines, of which this is said
+pub record HoldsLines (x : Fetched) (IsSaid : ℕ → List PlainChoice → Output → Type 0) (o : Output)
+    : Type 0 where
+  pub lines : List ℕ
+  pub gave : x ≡ held lines
+  pub trees : ℕ
+  pub choices : List PlainChoice
+  pub told : TellsLines lines trees choices
+  pub said : IsSaid trees choices o
+
+-- One file is read, whose bytes are refused; or a second one too, as the first gave a program's
+-- text, and it gives no derivation's lines; or all three, as the second gave such lines, by which
+-- the third is answered.
+abbrev pub ByThree : List ℕ → List ℕ
+    → (PlainProgram → ℕ → List PlainChoice → Fetched → Output → Type 0)
+    → List Fetched → Output → Type 0
+ByThree name second IsSaid (x ∷ []) o = After name x SaysRefusal o
+ByThree name second IsSaid (x ∷ (y ∷ [])) o = HoldsProgram x (λ p. After second y SaysBadLines) o
+ByThree name second IsSaid (x ∷ (y ∷ (z ∷ []))) o =
+    HoldsProgram x (λ p. HoldsLines y (λ n cs. IsSaid p n cs z)) o
+ByThree name second IsSaid _ o = ⊥
+
 -- what is said once the schedule's file gave this
 abbrev pub IsReplayed : List ℕ → PlainProgram → Fetched → Output → Type 0
 IsReplayed name p x o = After name x (IsPlayed p) o
@@ -182,6 +160,11 @@ IsJudged name p x o = After name x (IsChecked p) o
 -- what is said of its outline once the derivation's file gave this
 abbrev pub IsOutlined : List ℕ → PlainProgram → Fetched → Output → Type 0
 IsOutlined name p x o = After name x (IsOutline p) o
+
+-- what is said of the owners along it once the schedule's file gave this
+abbrev pub IsOwned :
+    List ℕ → PlainProgram → ℕ → List PlainChoice → Fetched → Output → Type 0
+IsOwned name p n cs x o = After name x (IsOwners p n cs) o
 
 -- no file is read
 abbrev pub ByNone : (Output → Type 0) → List Fetched → Output → Type 0
@@ -201,6 +184,7 @@ IsOutput (Some (show file)) = ByOne file IsShown
 IsOutput (Some (replay file schedule)) = ByTwo file (IsReplayed schedule)
 IsOutput (Some (trial n)) = ByNone (IsTrial n)
 IsOutput (Some (outline file derivation)) = ByTwo file (IsOutlined derivation)
+IsOutput (Some (owners file derivation schedule)) = ByThree file derivation (IsOwned schedule)
 IsOutput (Some (stray file number count)) = ByOne file (IsStrayed number count)
 IsOutput (Some (core file)) = ByOne file IsCored
 

@@ -7,6 +7,8 @@ pub mod Deriving
 pub mod SafeText
 pub mod Good
 pub mod Startless
+pub mod Schedules
+pub mod Owners
 pub mod Answers
 pub mod Needed
 pub mod Outlines

@@ -1,8 +1,10 @@
 -- What the tool says, and with which status.
-use Rattle.std.specs.Prelude.{ℕ, ◌==◌, Bool, if◌then◌else◌, List, [], ◌++◌, codes, Result, Ok, Err}
+use Rattle.std.specs.Prelude.{ℕ, ◌==◌, Bool, if◌then◌else◌, List, [], ◌++◌, codes}
+use Rattle.std.specs.Prelude.{Option, Some, None, Result, Ok, Err}
 use Rattle.std.specs.Fmt.{decimal}
 use Rattle.cap_replay.specs.declared.playing.End.{End}
 use Rattle.cap_replay.specs.declared.playing.End.TheVariants.{Ended, Stopped, NotEnabled, Wide}
+use Rattle.cap_replay.specs.RunText.{RunText}
 use Rattle.cap_replay.specs.declared.reading.ScheduleError.{ScheduleError}
 use Rattle.cap_replay.specs.declared.reading.ScheduleError.TheVariants.{BadLine, TooMany, OutOfMemory}
 use Rattle.cap_deriv.specs.declared.cursor.DerivError.{DerivError}
@@ -23,7 +25,7 @@ pub record Output : Type 0 where
 
 abbrev pub usage_line : List ℕ
 usage_line =
-    codes "usage: caper verify FILE [--budget N] | derive FILE [--budget N] | check FILE DERIVATION | replay FILE SCHEDULE | show FILE | trial N | outline FILE DERIVATION | stray FILE N M | core FILE\n"
+    codes "usage: caper verify FILE [--budget N] | derive FILE [--budget N] | check FILE DERIVATION | replay FILE SCHEDULE | show FILE | trial N | outline FILE DERIVATION | owners FILE DERIVATION SCHEDULE | stray FILE N M | core FILE\n"
 
 abbrev pub usage_output : Output
 usage_output = record { status = Usage; text = usage_line }
@@ -111,7 +113,7 @@ schedule_output e = record { status = Refused; text = schedule_line e }
 
 -- ---- of schedules that are drawn
 
--- nothing is drawn where `main` asks for something
+-- nothing is drawn where `main` asks for something; nor is there a run from a start that is none
 abbrev pub no_start_output : Output
 no_start_output = record { status = Refused; text = codes "refused start\n" }
 
@@ -133,3 +135,8 @@ end_status (Wide k) = wide
 
 abbrev pub run_output : List ℕ → End → Output
 run_output text end = record { status = end_status end; text = text }
+
+-- with its accounts; none where the start is none
+abbrev pub owners_output : Option RunText → Output
+owners_output None = no_start_output
+owners_output (Some r) = run_output r.text r.end

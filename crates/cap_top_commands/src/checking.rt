@@ -17,8 +17,9 @@ use cap_kernel_check::{Judge, judgements_are_one};
 use cap_prog::Program;
 use std::alloc::{AllocError, Global};
 
-/// What is said of bytes that are no derivation's lines, unless for want of memory.
-pub(crate) fn bad_lines<'a>(error: DerivError) -> Result<Output<'a>, AllocError>
+/// What is said of bytes that are no derivation's lines, unless for want of memory, which is the
+/// only error.
+pub fn bad_lines<'a>(error: DerivError) -> Result<Output<'a>, AllocError>
     ensures { MatchResult result
         (λ o. (output_view o ≡ bad_derivation_output error) × (error ≢ OutOfMemory))
         (λ _. error ≡ OutOfMemory) }

@@ -16,7 +16,7 @@ mod trying;
 
 pub use answer::{show, verify};
 pub use beginning::{Begun, begin};
-pub use checking::check;
+pub use checking::{bad_lines, check};
 pub use cores::core;
 pub use derivation::derive;
 pub use laws::{
@@ -24,7 +24,7 @@ pub use laws::{
     empty_answers_have_no_start, good_answers_are_safe, good_trials_are_safe, outlines_are_told,
     safe_texts_have_no_stray, strays_fault,
 };
-pub use outlining::outline;
+pub use outlining::{outline, rejected};
 pub use output::Output;
 pub use replaying::play;
 pub use status::Status;

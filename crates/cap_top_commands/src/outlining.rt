@@ -19,8 +19,8 @@ use cap_outline::outline as outline_of;
 use cap_prog::Program;
 use std::alloc::{AllocError, Global};
 
-/// What is said of lines that are not accepted, unless for want of memory.
-fn rejected<'a>(error: CheckError) -> Result<Output<'a>, AllocError>
+/// What is said of lines that are not accepted, unless for want of memory, which is the only error.
+pub fn rejected<'a>(error: CheckError) -> Result<Output<'a>, AllocError>
     ensures { MatchResult result
         (λ o. (output_view o ≡ judged_output (Err error)) × (error ≢ OutOfMemory))
         (λ _. error ≡ OutOfMemory) }

@@ -30,10 +30,11 @@ pub enum Output<'a> {
     Outlined(Vec<u8>),
     Shown(Vec<u8>),
     BadSchedule(ScheduleError),
+    /// The text of a run, perhaps with its accounts.
     Played(Played),
     /// The number of a trial, and how many units of its program are proved.
     Tried { number: u32, counts: Counts },
-    /// No schedules are drawn, as `main` asks for something.
+    /// No schedules are drawn, as `main` asks for something; or the start that was given is none.
     NoStart,
     /// The text of a schedule that was drawn and ends in a fault.
     Stray(Vec<u8>),
@@ -45,7 +46,7 @@ pub enum Output<'a> {
 const USAGE: &str =
     "usage: caper verify FILE [--budget N] | derive FILE [--budget N] | check FILE DERIVATION | \
     replay FILE SCHEDULE | show FILE | trial N | outline FILE DERIVATION | \
-    stray FILE N M | core FILE\n";
+    owners FILE DERIVATION SCHEDULE | stray FILE N M | core FILE\n";
 
 /// The status of a run that ends so.
 fn end_status(end: End) -> Status

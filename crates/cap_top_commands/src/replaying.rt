@@ -1,7 +1,8 @@
 //! What is answered to `replay`.
 ghost use Rattle.std.specs.Prelude.{IfOk};
 ghost use Rattle.cap_prog.specs.Views.{program_view};
-ghost use Rattle.cap_top_commands.specs.Answers.{IsPlayed, IsOnly};
+ghost use Rattle.cap_top_commands.specs.Answers.{IsOnly};
+ghost use Rattle.cap_top_commands.specs.Schedules.{IsPlayed};
 ghost use Rattle.cap_top_commands.specs.Views.{output_view};
 
 use crate::output::Output;

@@ -1,19 +1,26 @@
 -- Each command has an output over all files.
-use Rattle.std.proofs.Common.{◌≡◌, ◌⊎◌, inl, inr, ℕ, List, [], ◌∷◌, length, Some, None, refl}
+use Rattle.std.proofs.Common.{◌≡◌, ◌⊎◌, inl, inr, ℕ, List, [], ◌∷◌, length, Some, None, Result, refl}
 use Rattle.cap_io.specs.Files.{Files, content}
 use Rattle.cap_parse_tree.specs.Canonical.{canonical_text}
 use Rattle.cap_prog.specs.Program.{PlainProgram}
 use Rattle.cap_gen.specs.Trial.{trial_text}
+use Rattle.cap_goal_spec.specs.Choices.{PlainChoice}
 use Rattle.cap_goal_spec.specs.Roots.{units}
+use Rattle.cap_top_commands.specs.cap_kernel_check.declared.error.CheckError.{CheckError}
+use Rattle.cap_top_commands.specs.cap_kernel_check.Judges.{Judged}
 use Rattle.cap_top_commands.specs.cap_top_report.Report.{proved_count, is_good, report_text}
 use Rattle.cap_top_commands.specs.cap_top_report.Cores.{cores_text}
 use Rattle.cap_gen_schedules.specs.Drawn.{seeded, first_fault}
 use Rattle.cap_gen_schedules.specs.Laws.{AsksForNothing}
 use Rattle.cap_top_commands.specs.cap_top_reading.Refused.{IsTextOf}
-use Rattle.cap_top_commands.specs.Answers.{Fetched, held, unread, long, After, IsVerified, IsTrial, IsStray, IsStrayed, IsCored, drawn_output, IsDerived, IsShown, IsReplayed, IsJudged, IsOutlined, ByTwo}
+use Rattle.cap_top_commands.specs.Answers.{Fetched, held, unread, long, After, IsVerified, IsTrial, IsStray, IsStrayed, IsCored, drawn_output, IsDerived, IsShown, IsReplayed, IsJudged, IsOutlined, IsOwned, ByTwo, ByThree}
+use Rattle.cap_top_commands.specs.Derivations.{IsChecked}
 use Rattle.cap_top_commands.specs.Outlines.{IsOutline, CheckedAreOutlined}
+use Rattle.cap_top_commands.specs.Owners.{IsOwners}
+use Rattle.cap_top_commands.specs.Schedules.{IsPlayed}
+use Rattle.cap_top_accounts.specs.Laws.{JudgedHaveOwners}
 use Rattle.cap_top_commands.specs.Output.{Output, usage_output, unreadable_output, long_output, refusal_output, report_output, tree_output, trial_output, no_start_output}
-use Rattle.cap_top_words.specs.Meaning.{verify, derive, check, show, replay, trial, outline, stray, core, default_budget}
+use Rattle.cap_top_words.specs.Meaning.{verify, derive, check, show, replay, trial, outline, owners, stray, core, default_budget}
 use Rattle.cap_top_commands.proofs.Strays.{asks-or}
 use Rattle.cap_top_laws.specs.Given.{given_by, AreGiven}
 use Rattle.cap_top_laws.specs.Laws.{SpellOneOrNone, AreTextOrRefused, BytesAreReadOrRefused, SchedulesAreAnswered, LinesAreAnswered, FoundHaveLines, DerivationsAreAnswered, OutputsExist}
@@ -102,10 +109,82 @@ module _ (files : Files) (first second : List ℕ) (IsSaid : PlainProgram → Fe
   after-two unread e = record { got = unread ∷ []; given = (e, tt); said = unreadable_output first; output = refl }
   after-two long e = record { got = long ∷ []; given = (e, tt); said = long_output; output = refl }
 
+-- ---- after three files
+
+module _ (files : Files) (first second third : List ℕ) (texts : (bytes : List ℕ) → AreTextOrRefused bytes)
+    (schedules : SchedulesAreAnswered) (lines : LinesAreAnswered) (have : JudgedHaveOwners) where
+  record HasThree : Type 0 where
+    pub got : List Fetched
+    pub given : AreGiven files (first ∷ (second ∷ (third ∷ []))) got
+    pub said : Output
+    pub output : ByThree first second (IsOwned third) got said
+
+  owned : (p : PlainProgram) (n : ℕ) (cs : List PlainChoice) (answer : Result ℕ CheckError) → Judged p n cs answer
+      → (z : Fetched) → (o : Output) × IsOwned third p n cs z o
+  owned p n cs answer j z = after-one (IsOwners p n cs) third z (λ bytes e. let s = schedules p bytes in by bytes s.0 s.1)
+    where
+      by : (bytes : List ℕ) (o : Output) → IsPlayed p bytes o → (q : Output) × IsOwners p n cs bytes q
+      by bytes o (inl k) = (o, inl k)
+      by bytes o (inr k) =
+          have p n cs bytes answer j (record { schedule = k.played.schedule; reads = k.played.reads; takes = k.played.takes })
+
+  module _ (bytes : List ℕ) (e : given_by (content files first) ≡ held bytes) (p : PlainProgram) (t : IsTextOf bytes p) where
+    after-lines : (more : List ℕ) → given_by (content files second) ≡ held more → (o : Output) → IsChecked p more o → HasThree
+    after-lines more f o (inl k) = record {
+      got = held bytes ∷ (held more ∷ []);
+      given = (e, (f, tt));
+      said = o;
+      output = record { bytes = bytes; gave = refl; program = p; text_of_it = t; said = k };
+    }
+    after-lines more f o (inr k) =
+        let z = given_by (content files third) in
+        let s = owned p k.trees k.choices k.answer k.judged z in
+        record {
+          got = held bytes ∷ (held more ∷ (z ∷ []));
+          given = (e, (f, (refl, tt)));
+          said = s.0;
+          output = record {
+            bytes = bytes;
+            gave = refl;
+            program = p;
+            text_of_it = t;
+            said = record { lines = more; gave = refl; trees = k.trees; choices = k.choices; told = k.told; said = s.1 };
+          };
+        }
+
+    after-second : (y : Fetched) → given_by (content files second) ≡ y → HasThree
+    after-second (held more) f = let s = lines p more in after-lines more f s.0 s.1
+    after-second unread f = record {
+      got = held bytes ∷ (unread ∷ []);
+      given = (e, (f, tt));
+      said = unreadable_output second;
+      output = record { bytes = bytes; gave = refl; program = p; text_of_it = t; said = refl };
+    }
+    after-second long f = record {
+      got = held bytes ∷ (long ∷ []);
+      given = (e, (f, tt));
+      said = long_output;
+      output = record { bytes = bytes; gave = refl; program = p; text_of_it = t; said = refl };
+    }
+
+  after-first : (bytes : List ℕ) → given_by (content files first) ≡ held bytes → AreTextOrRefused bytes → HasThree
+  after-first bytes e (inl h) = after-second bytes e h.0 h.1 (given_by (content files second)) refl
+  after-first bytes e (inr h) = record {
+    got = held bytes ∷ [];
+    given = (e, tt);
+    said = refusal_output h.0;
+    output = record { cause = h.0; caused = h.1; whole = refl };
+  }
+
+  after-three : (x : Fetched) → given_by (content files first) ≡ x → HasThree
+  after-three (held bytes) e = after-first bytes e (texts bytes)
+  after-three unread e = record { got = unread ∷ []; given = (e, tt); said = unreadable_output first; output = refl }
+  after-three long e = record { got = long ∷ []; given = (e, tt); said = long_output; output = refl }
+
 -- ---- a command
 
 module _ (texts : BytesAreReadOrRefused) (schedules : SchedulesAreAnswered) (lines : LinesAreAnswered)
-    (derivations : DerivationsAreAnswered) (outlines : CheckedAreOutlined) where
+    (derivations : DerivationsAreAnswered) (outlines : CheckedAreOutlined) (have : JudgedHaveOwners) where
   replayed : (name : List ℕ) (p : PlainProgram) (y : Fetched) → (o : Output) × IsReplayed name p y o
   replayed name p y = after-one _ name y (λ bytes e. schedules p bytes)
 
@@ -144,6 +223,9 @@ module _ (texts : BytesAreReadOrRefused) (schedules : SchedulesAreAnswered) (lin
       record { got = t.got; given = t.given; said = t.said; output = t.output }
   output-exists (Some (outline file second)) files h =
       let t = after-two files file second (IsOutlined second) texts.programs (outlined second) (given_by (content files file)) refl in
+      record { got = t.got; given = t.given; said = t.said; output = t.output }
+  output-exists (Some (owners file second third)) files h =
+      let t = after-three files file second third texts.programs schedules lines have (given_by (content files file)) refl in
       record { got = t.got; given = t.given; said = t.said; output = t.output }
   output-exists (Some (show file)) files h =
       let x = given_by (content files file) in

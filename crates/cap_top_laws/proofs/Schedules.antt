@@ -7,7 +7,7 @@ use Rattle.cap_replay.specs.declared.reading.ScheduleError.{ScheduleError}
 use Rattle.cap_replay.specs.declared.reading.ScheduleError.TheVariants.{BadLine}
 use Rattle.cap_replay.specs.Reading.{Progress, read}
 use Rattle.cap_replay.specs.RunText.{RunText}
-use Rattle.cap_top_commands.specs.Answers.{TakesArguments, run_along, IsPlayed}
+use Rattle.cap_top_commands.specs.Schedules.{TakesArguments, run_along, IsPlayed}
 use Rattle.cap_top_commands.specs.Output.{Output, schedule_output, run_output}
 use Rattle.cap_top_laws.specs.Laws.{SchedulesAreAnswered}
 use Rattle.cap_top_laws.proofs.Certificates.{EitherWay}

@@ -15,7 +15,8 @@ use Rattle.cap_top_commands.specs.cap_top_reading.declared.refusal.Refusal.{Refu
 use Rattle.cap_top_commands.specs.cap_top_reading.Refused.{SpellNone, IsRefused, IsTextOf}
 use Rattle.cap_top_commands.specs.cap_top_report.Report.{is_good}
 use Rattle.cap_top_commands.specs.cap_top_report.Found.{found_trees}
-use Rattle.cap_top_commands.specs.Answers.{held, IsPlayed}
+use Rattle.cap_top_commands.specs.Answers.{held}
+use Rattle.cap_top_commands.specs.Schedules.{IsPlayed}
 use Rattle.cap_top_commands.specs.Derivations.{IsDerivation, IsChecked}
 use Rattle.cap_top_commands.specs.Output.{Output}
 use Rattle.cap_top_words.specs.Meaning.{PlainCommand, derive}

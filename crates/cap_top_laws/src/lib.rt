@@ -10,6 +10,7 @@ use cap_deriv_write::writings_are_lines;
 use cap_parse_laws::texts_go_wrong_at_one_token;
 use cap_rules::answers_are_one;
 use cap_syntax::texts_are_read_or_refused;
+use cap_top_accounts::judged_have_owners;
 use cap_top_commands::checked_are_outlined;
 
 /// Bytes spell a tree or none, for some cause; they are the text of a program, or refused.
@@ -56,4 +57,5 @@ pub fn outputs_exist()
     lines_are_answered();
     derivations_are_answered();
     checked_are_outlined();
+    judged_have_owners();
 }

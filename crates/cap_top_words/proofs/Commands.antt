@@ -3,7 +3,7 @@ use Rattle.std.proofs.Common.{◌≡◌, ◌∙◌, ◌↔◌, ℕ, Bool, cond, 
 use Rattle.std.specs.Prelude.{find, option_and_then, option_map}
 use Rattle.std.specs.Str.{bytes_eq}
 use Rattle.cap_top_words.specs.Number.{number_within}
-use Rattle.cap_top_words.specs.Meaning.{Arguments, Signature, PlainCommand, CommandWord, arguments_of, budget_of, file_and_budget, check, command_of, default_budget, derive, signature_of, signatures, one_operand, replay, show, trial, outline, two_operands, three_operands, verify, stray, stray_of, core}
+use Rattle.cap_top_words.specs.Meaning.{Arguments, Signature, PlainCommand, CommandWord, arguments_of, budget_of, file_and_budget, check, command_of, default_budget, derive, signature_of, signatures, one_operand, replay, show, trial, outline, owners, two_operands, three_operands, verify, stray, stray_of, core}
 use Rattle.cap_top_words.specs.Writing.{HasArguments, IsBudget, IsNumber, IsWritten, budgets_of, operands_of}
 use Rattle.cap_top_words.proofs.Classes.{same_bytes}
 use Rattle.cap_top_words.proofs.Writings.{number_read, number_written, arguments_read, words_written}
@@ -77,6 +77,14 @@ file_row name make has budgets operands command e =
     let made : make w.0 ≡ command = cc in
     subst (λ d. HasArguments d name budgets operands) made (has w.0 budgets operands w.1 w.2)
 
+three_row : (name : CommandWord) (make : CommandWord → CommandWord → CommandWord → PlainCommand)
+    → ((a b d : CommandWord) (budgets operands : List CommandWord) → operands ≡ a ∷ b ∷ d ∷ [] → budgets ≡ [] → HasArguments (make a b d) name budgets operands)
+    → IsRow (name, three_operands (λ a b d. Some (make a b d)))
+three_row name make has budgets operands command e =
+    let w = three_written (λ a b d. Some (make a b d)) budgets operands command e in
+    let made : make w.0 w.1 w.2 ≡ command = cc in
+    subst (λ d. HasArguments d name budgets operands) made (has w.0 w.1 w.2 budgets operands w.3 w.4)
+
 trial_row : IsRow (codes "trial", one_operand (λ n. option_map trial (number_within 1 50 n)))
 trial_row budgets operands command e =
     let w = one_written (λ n. option_map trial (number_within 1 50 n)) budgets operands command e in
@@ -124,7 +132,10 @@ rows = (
             trial_row,
             (
               two_row (codes "outline") outline (λ a b budgets operands is none. (refl, is, none)),
-              (stray_row, (file_row (codes "core") core (λ file budgets operands is none. (refl, is, none)), tt)),
+              (
+                three_row (codes "owners") owners (λ a b d budgets operands is none. (refl, is, none)),
+                (stray_row, (file_row (codes "core") core (λ file budgets operands is none. (refl, is, none)), tt)),
+              ),
             ),
           ),
         ),
@@ -185,6 +196,7 @@ form_read (replay file schedule) name budgets operands h = rw (h.0, h.1, h.2) re
 form_read (show file) name budgets operands h = rw (h.0, h.1, h.2) refl
 form_read (trial n) name budgets operands h = rw (h.0, h.1.1, h.2) (ap (option_map trial) (number_read 1 50 h.1.0 n (omega arith) h.1.2))
 form_read (outline file derivation) name budgets operands h = rw (h.0, h.1, h.2) refl
+form_read (owners file derivation schedule) name budgets operands h = rw (h.0, h.1, h.2) refl
 form_read (stray file n m) name budgets operands h = rw (h.0, h.1.2, h.2) (stray_read file h.1.0 h.1.1 n m h.1.3 h.1.4)
 form_read (core file) name budgets operands h = rw (h.0, h.1, h.2) refl
 

@@ -7,7 +7,7 @@ use Rattle.clap.specs.Walk.{Rule, arg_by_long, arg_by_short, nothing_held, walk_
 use Rattle.clap.specs.Simple.{Shape, built, filled_from, new_shape}
 use Rattle.clap.specs.Faults.{defaults_fault}
 use Rattle.cap_top_words.specs.Number.{number_within}
-use Rattle.cap_top_words.specs.Meaning.{Signature, signatures, PlainCommand, CommandWord, arguments_of, file_and_budget, one_operand, two_operands, three_operands, stray_of, verify, derive, check, replay, show, trial, outline, core}
+use Rattle.cap_top_words.specs.Meaning.{Signature, signatures, PlainCommand, CommandWord, arguments_of, file_and_budget, one_operand, two_operands, three_operands, owners_of, stray_of, verify, derive, check, replay, show, trial, outline, core}
 use Rattle.cap_top_words.specs.Parser.{RowReader, file_and_budget_in, budgeted_rules, caper_app, one_operand_in, operand_rules, row_readers, three_operands_in, two_operands_in}
 use Rattle.cap_top_words.proofs.Classes.{WordClasses, equal_bytes}
 use Rattle.cap_top_words.proofs.Leaf.{HasOption, has, lacks, leaf, run}
@@ -158,37 +158,44 @@ module _ (name id : CommandWord) where
         → option_and_then (two_operands_in id other make) (run (leaf_of name (operand_rules (id ∷ other ∷ []))) (walk_from nothing_held) words) ≡ made_of (two_operands make) (arguments_of words)
     two_reads make = operands_reads name (id ∷ other ∷ []) (two_operands_in id other make) (two_operands make) (two_chain make)
 
-abbrev stray_ids : List CommandWord
-stray_ids = codes "file" ∷ codes "number" ∷ codes "count" ∷ []
+module _ (name id other third : CommandWord) (differ : bytes_eq id other ≡ false) (differ_back : bytes_eq other id ≡ false)
+    (differ_far : bytes_eq id third ≡ false) (differ_far_back : bytes_eq third id ≡ false)
+    (differ_late : bytes_eq other third ≡ false) (differ_late_back : bytes_eq third other ≡ false) where
+  abbrev three_ids : List CommandWord
+  three_ids = id ∷ other ∷ third ∷ []
 
-abbrev stray_rows : RowReader
-stray_rows = three_operands_in (codes "file") (codes "number") (codes "count") stray_of
-
-stray_chain : Chain stray_rows (codes "stray") (filled_from 1 (operand_rules stray_ids)) (Never stray_rows (codes "stray") (filled_from 1 (operand_rules stray_ids))) [] 1 stray_ids (three_operands stray_of)
-unfolding defaults_fault
-stray_chain = (
-  record { slot = refl; ends = refl },
-  record { refused = inl refl; none = λ n budgets operands. refl },
-  record { by_id = refl; fresh = refl },
-  λ a. (
+  three_chain : (make : CommandWord → CommandWord → CommandWord → Option PlainCommand)
+      → Chain (three_operands_in id other third make) name (filled_from 1 (operand_rules three_ids))
+      (Never (three_operands_in id other third make) name (filled_from 1 (operand_rules three_ids))) [] 1 three_ids (three_operands make)
+  unfolding defaults_fault
+  three_chain make = (
     record { slot = refl; ends = refl },
     record { refused = inl refl; none = λ n budgets operands. refl },
-    record { by_id = refl; fresh = refl },
-    λ b. (
-      record { slot = refl; ends = refl },
+    record { by_id = simp (equal_bytes id) refl; fresh = refl },
+    λ a. (
+      record { slot = refl; ends = simp (equal_bytes id, differ, differ_far) refl },
       record { refused = inl refl; none = λ n budgets operands. refl },
-      record { by_id = refl; fresh = refl },
-      λ d. (
-        record { slot = refl; ends = refl },
+      record { by_id = simp (equal_bytes other, differ) refl; fresh = simp differ refl },
+      λ b. (
+        record { slot = refl; ends = simp (equal_bytes id, equal_bytes other, differ, differ_back, differ_far, differ_late) refl },
         record { refused = inl refl; none = λ n budgets operands. refl },
-        λ budgets e operands. three_more stray_of a b d e budgets operands,
+        record { by_id = simp (equal_bytes third, differ_far, differ_late) refl; fresh = simp (differ, differ_far, differ_late) refl },
+        λ d. (
+          record {
+            slot = refl;
+            ends = simp (equal_bytes id, equal_bytes other, equal_bytes third, differ, differ_back, differ_far, differ_far_back, differ_late, differ_late_back) refl;
+          },
+          record { refused = inl refl; none = λ n budgets operands. refl },
+          λ budgets e operands. three_more make a b d e budgets operands,
+        ),
       ),
     ),
-  ),
-)
+  )
 
-stray_reads : (words : List CommandWord) → WordClasses words → option_and_then stray_rows (run (leaf_of (codes "stray") (operand_rules stray_ids)) (walk_from nothing_held) words) ≡ made_of (three_operands stray_of) (arguments_of words)
-stray_reads = operands_reads (codes "stray") stray_ids stray_rows (three_operands stray_of) stray_chain
+  pub three_reads : (make : CommandWord → CommandWord → CommandWord → Option PlainCommand) (words : List CommandWord) → WordClasses words
+      → option_and_then (three_operands_in id other third make) (run (leaf_of name (operand_rules three_ids)) (walk_from nothing_held) words)
+      ≡ made_of (three_operands make) (arguments_of words)
+  three_reads make = operands_reads name three_ids (three_operands_in id other third make) (three_operands make) (three_chain make)
 
 -- ---- the subcommands of the parser
 
@@ -222,14 +229,18 @@ two_subcommand name not_ends id other differs differs_too make = record {
   reads = two_reads name id other differs differs_too make;
 }
 
-abbrev stray_subcommand : Subcommand
-stray_subcommand = record {
-  name = codes "stray";
-  not_ends = refl;
-  rules = operand_rules stray_ids;
-  reading = stray_rows;
-  form = three_operands stray_of;
-  reads = stray_reads;
+-- the name isn't `--`, and no two of the arguments have one name
+abbrev three_subcommand : (name : CommandWord) → bytes_eq name (codes "--") ≡ false → (id other third : CommandWord)
+    → bytes_eq id other ≡ false → bytes_eq other id ≡ false → bytes_eq id third ≡ false → bytes_eq third id ≡ false
+    → bytes_eq other third ≡ false → bytes_eq third other ≡ false
+    → (CommandWord → CommandWord → CommandWord → Option PlainCommand) → Subcommand
+three_subcommand name not_ends id other third d d_back far far_back late late_back make = record {
+  name = name;
+  not_ends = not_ends;
+  rules = operand_rules (id ∷ other ∷ third ∷ []);
+  reading = three_operands_in id other third make;
+  form = three_operands make;
+  reads = three_reads name id other third d d_back far far_back late late_back make;
 }
 
 pub all : List Subcommand
@@ -241,7 +252,8 @@ all =
     ∷ one_subcommand (codes "show") refl (codes "file") (λ file. Some (show file))
     ∷ one_subcommand (codes "trial") refl (codes "number") (λ n. option_map trial (number_within 1 50 n))
     ∷ two_subcommand (codes "outline") refl (codes "file") (codes "derivation") refl refl outline
-    ∷ stray_subcommand
+    ∷ three_subcommand (codes "owners") refl (codes "file") (codes "derivation") (codes "schedule") refl refl refl refl refl refl owners_of
+    ∷ three_subcommand (codes "stray") refl (codes "file") (codes "number") (codes "count") refl refl refl refl refl refl stray_of
     ∷ one_subcommand (codes "core") refl (codes "file") (λ file. Some (core file))
     ∷ []
 

@@ -18,6 +18,7 @@ pub data PlainCommand : Type 0 where
   show : CommandWord → PlainCommand
   trial : ℕ → PlainCommand
   outline : CommandWord → CommandWord → PlainCommand
+  owners : CommandWord → CommandWord → CommandWord → PlainCommand
   stray : CommandWord → ℕ → ℕ → PlainCommand
   core : CommandWord → PlainCommand
 
@@ -102,6 +103,10 @@ abbrev pub three_operands : (CommandWord → CommandWord → CommandWord → Opt
 three_operands make [] (a ∷ b ∷ c ∷ []) = make a b c
 three_operands make _ _ = None
 
+-- a file, a derivation and a schedule
+abbrev pub owners_of : CommandWord → CommandWord → CommandWord → Option PlainCommand
+owners_of file derivation schedule = Some (owners file derivation schedule)
+
 -- a file, the number that schedules are drawn from, and how many they are
 abbrev pub stray_of : CommandWord → CommandWord → CommandWord → Option PlainCommand
 stray_of file number count =
@@ -118,6 +123,7 @@ signatures =
     ∷ (codes "show", one_operand (λ file. Some (show file)))
     ∷ (codes "trial", one_operand (λ n. option_map trial (number_within 1 50 n)))
     ∷ (codes "outline", two_operands outline)
+    ∷ (codes "owners", three_operands owners_of)
     ∷ (codes "stray", three_operands stray_of)
     ∷ (codes "core", one_operand (λ file. Some (core file)))
     ∷ []

@@ -10,7 +10,7 @@ use Rattle.clap.specs.declared.builder.command.Command.TheViews.{out-Command}
 use Rattle.cap_top_words.specs.Number.{number_within}
 use Rattle.cap_top_words.specs.Meaning.{PlainCommand, CommandWord, default_budget}
 use Rattle.cap_top_words.specs.Meaning.{verify, derive, check, replay, show, trial, outline, core}
-use Rattle.cap_top_words.specs.Meaning.{stray_of}
+use Rattle.cap_top_words.specs.Meaning.{owners_of, stray_of}
 
 -- ---- `-` alone, which `clap` takes for an operand
 
@@ -48,6 +48,7 @@ subcommands =
     ∷ (codes "show", operand_rules (codes "file" ∷ []))
     ∷ (codes "trial", operand_rules (codes "number" ∷ []))
     ∷ (codes "outline", operand_rules (codes "file" ∷ codes "derivation" ∷ []))
+    ∷ (codes "owners", operand_rules (codes "file" ∷ codes "derivation" ∷ codes "schedule" ∷ []))
     ∷ (codes "stray", operand_rules (codes "file" ∷ codes "number" ∷ codes "count" ∷ []))
     ∷ (codes "core", operand_rules (codes "file" ∷ []))
     ∷ []
@@ -113,6 +114,10 @@ row_readers =
       one_operand_in (codes "number") (λ n. option_map trial (number_within 1 50 n)),
     )
     ∷ (codes "outline", two_operands_in (codes "file") (codes "derivation") outline)
+    ∷ (
+      codes "owners",
+      three_operands_in (codes "file") (codes "derivation") (codes "schedule") owners_of,
+    )
     ∷ (codes "stray", three_operands_in (codes "file") (codes "number") (codes "count") stray_of)
     ∷ (codes "core", one_operand_in (codes "file") (λ file. Some (core file)))
     ∷ []

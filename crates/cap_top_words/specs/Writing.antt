@@ -4,8 +4,8 @@ use Rattle.std.specs.Prelude.{Option, Some, None}
 use Rattle.std.specs.List.{All}
 use Rattle.std.specs.Fmt.{decimal}
 use Rattle.cap_top_words.specs.Meaning.{PlainCommand, CommandWord, begins_option, default_budget}
-use Rattle.cap_top_words.specs.Meaning.{verify, derive, check, replay, show, trial, outline, stray}
-use Rattle.cap_top_words.specs.Meaning.{core}
+use Rattle.cap_top_words.specs.Meaning.{verify, derive, check, replay, show, trial, outline, owners}
+use Rattle.cap_top_words.specs.Meaning.{stray, core}
 
 -- an argument before any `--`: an operand, or the option with its value, as two words or as one
 pub data WrittenArgument : Type 0 where
@@ -77,6 +77,8 @@ HasArguments (trial n) name budgets operands =
     × ((word : CommandWord) × (operands ≡ word ∷ []) × IsNumber 1 50 word n) × (budgets ≡ [])
 HasArguments (outline file derivation) name budgets operands =
     (name ≡ codes "outline") × (operands ≡ file ∷ derivation ∷ []) × (budgets ≡ [])
+HasArguments (owners file derivation schedule) name budgets operands =
+    (name ≡ codes "owners") × (operands ≡ file ∷ derivation ∷ schedule ∷ []) × (budgets ≡ [])
 HasArguments (stray file n m) name budgets operands =
     (name ≡ codes "stray")
     × ((number count : CommandWord) × (operands ≡ file ∷ number ∷ count ∷ [])

@@ -39,6 +39,14 @@ pub enum Command<'a> {
         file: &'a str,
         derivation: &'a str,
     },
+    /// Judges the derivation in a file for the program in another and, where it is accepted, runs
+    /// the program along the schedule in a third, and writes who owns what at the start and after
+    /// each step.
+    Owners {
+        file: &'a str,
+        derivation: &'a str,
+        schedule: &'a str,
+    },
     /// Draws so many schedules of the program in a file from the number, and writes the first that
     /// ends in a fault. The number is from 0 to 18,446,744,073,709,551,615, and the count of the
     /// schedules from 1 to 1,000.

@@ -68,6 +68,7 @@ pub(crate) fn parser<'a>(alloc: Global) -> Result<Command<'a>, AllocError>
             .subcommand(with_operands(alloc, "show", &["file"])?)?
             .subcommand(with_operands(alloc, "trial", &["number"])?)?
             .subcommand(with_operands(alloc, "outline", &["file", "derivation"])?)?
+            .subcommand(with_operands(alloc, "owners", &["file", "derivation", "schedule"])?)?
             .subcommand(with_operands(alloc, "stray", &["file", "number", "count"])?)?
             .subcommand(with_operands(alloc, "core", &["file"])?)?,
     )

@@ -85,6 +85,11 @@ fn command<'a>(name: &str, matches: &ArgMatches<'a>) -> Option<Command<'a>>
             file: value(matches, "file")?,
             derivation: value(matches, "derivation")?,
         }),
+        "owners" => Some(Command::Owners {
+            file: value(matches, "file")?,
+            derivation: value(matches, "derivation")?,
+            schedule: value(matches, "schedule")?,
+        }),
         "stray" => Some(Command::Stray {
             file: value(matches, "file")?,
             number: number(value(matches, "number")?, 0, u64::MAX)?,

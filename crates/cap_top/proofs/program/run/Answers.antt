@@ -1,4 +1,4 @@
-use Rattle.cap_top.proofs.Promises.{good_run, found_run, tried_run, tries_run, empty_run, derive_empty_run, derived_run, accepted_run, shown_run, replayed_run, strays_run, cored_run, outlined_run, outlines_run, spares_run, ends_run, answers_run, proved_run, accepts_run, shows_run, refuses_run, usage_run, command_run, read_run, write_run, memory_run}
+use Rattle.cap_top.proofs.Promises.{good_run, found_run, tried_run, tries_run, empty_run, derive_empty_run, derived_run, accepted_run, shown_run, replayed_run, strays_run, cored_run, outlined_run, outlines_run, owned_run, owns_run, spares_run, ends_run, answers_run, proved_run, accepts_run, shows_run, refuses_run, usage_run, command_run, read_run, write_run, memory_run}
 use Rattle.cap_top.proofs.program.run.Goals as goal
 
 pub returns-clause-good : goal.returns-clause-good
@@ -79,3 +79,10 @@ returns-clause-outlined g c = outlined_run _ _ _ _ _ _ c.perform.ensures.whole c
 
 pub returns-clause-outlines : goal.returns-clause-outlines
 returns-clause-outlines g c = outlines_run _ _ _ _ _ _ c.perform.ensures.whole c.checked_are_outlined.ensures
+
+pub returns-clause-owned : goal.returns-clause-owned
+returns-clause-owned g c = owned_run _ _ _ _ _ _ c.perform.ensures.whole c.owners_are_told.ensures
+
+pub returns-clause-owns : goal.returns-clause-owns
+returns-clause-owns g c =
+    owns_run _ _ _ _ _ _ c.perform.ensures.whole c.accepted_have_trees.ensures c.refused_starts_are_none.ensures

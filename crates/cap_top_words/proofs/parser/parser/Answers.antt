@@ -14,5 +14,6 @@ returns c =
     let show = added _ _ _ (codes "show") (operand_rules (codes "file" ∷ [])) _ c.in_ok-subcommand-5.ensures c.in_ok-with_operands-3.ensures replay in
     let trial = added _ _ _ (codes "trial") (operand_rules (codes "number" ∷ [])) _ c.in_ok-subcommand-6.ensures c.in_ok-with_operands-4.ensures show in
     let outline = added _ _ _ (codes "outline") (operand_rules (codes "file" ∷ codes "derivation" ∷ [])) _ c.in_ok-subcommand-7.ensures c.in_ok-with_operands-5.ensures trial in
-    let stray = added _ _ _ (codes "stray") (operand_rules (codes "file" ∷ codes "number" ∷ codes "count" ∷ [])) _ c.in_ok-subcommand-8.ensures c.in_ok-with_operands-6.ensures outline in
-    added _ _ _ (codes "core") (operand_rules (codes "file" ∷ [])) _ c.in_ok-subcommand-9.ensures c.in_ok-with_operands-7.ensures stray
+    let owners = added _ _ _ (codes "owners") (operand_rules (codes "file" ∷ codes "derivation" ∷ codes "schedule" ∷ [])) _ c.in_ok-subcommand-8.ensures c.in_ok-with_operands-6.ensures outline in
+    let stray = added _ _ _ (codes "stray") (operand_rules (codes "file" ∷ codes "number" ∷ codes "count" ∷ [])) _ c.in_ok-subcommand-9.ensures c.in_ok-with_operands-7.ensures owners in
+    added _ _ _ (codes "core") (operand_rules (codes "file" ∷ [])) _ c.in_ok-subcommand-10.ensures c.in_ok-with_operands-8.ensures stray

@@ -1,0 +1,4 @@
+mod Derivations
+mod Choices
+mod Positive
+mod Showing
