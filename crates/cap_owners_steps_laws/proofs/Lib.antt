@@ -1,7 +1,5 @@
-pub mod Telling
 pub mod Sides
 pub mod Onward
-pub mod Putting
 pub mod Staying
 pub mod Stepping
 pub mod Ordinary

@@ -42,7 +42,7 @@ use Rattle.cap_owners_values_laws.proofs.More.{sorted-more, number-more}
 use Rattle.cap_owners_walks_laws.proofs.Passing.{more}
 use Rattle.cap_owners_walks_laws.proofs.Leading.{LeadsOn, set-leads, check-leads}
 use Rattle.cap_owners_tracks_laws.proofs.Tied.{StopsSo, IsTidy, derivation, IsAtNode}
-use Rattle.cap_owners_steps_laws.proofs.Putting.{IsCellAt}
+use Rattle.cap_owners_parts_laws.proofs.Putting.{IsCellAt}
 use Rattle.cap_owners_steps_laws.proofs.Sides.{side_of, branch-leads, turn-leads, alloc-leads}
 
 -- ---- cells that are new

@@ -48,7 +48,7 @@ use Rattle.cap_owners_tracks_laws.proofs.Steps.{TurnKept, GoesKept, EachTurn, Do
 use Rattle.cap_owners_tracks_laws.proofs.Saying.{track-tells}
 use Rattle.cap_owners_tracks_laws.proofs.Turns.{own, stack-tied}
 use Rattle.cap_owners_steps_laws.proofs.Onward.{set-on, check-on, branch-on, LedFresh, alloc-on}
-use Rattle.cap_owners_steps_laws.proofs.Putting.{IsCellAt, new-or-old}
+use Rattle.cap_owners_parts_laws.proofs.Putting.{IsCellAt, new-or-old}
 use Rattle.cap_owners_steps_laws.proofs.Staying.{tied-on, keeps-told}
 use Rattle.cap_owners_steps_laws.proofs.Stepping.{stepped, after, local-kept}
 

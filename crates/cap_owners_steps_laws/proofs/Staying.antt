@@ -25,9 +25,9 @@ use Rattle.cap_owners_fills_laws.proofs.Drawn.{Tells}
 use Rattle.cap_owners_laws.specs.Owned.{IsTold}
 use Rattle.cap_owners_walks_laws.proofs.Going.{goes_on, frame-goes-on}
 use Rattle.cap_owners_tracks_laws.proofs.Tied.{StopsSo, derivation, IsAtNode, Tied}
-use Rattle.cap_owners_steps_laws.proofs.Telling.{told-on}
+use Rattle.cap_owners_parts_laws.proofs.Telling.{told-on}
 use Rattle.cap_owners_steps_laws.proofs.Onward.{LedOn}
-use Rattle.cap_owners_steps_laws.proofs.Putting.{IsCellAt, needed-in, put-told}
+use Rattle.cap_owners_parts_laws.proofs.Putting.{IsCellAt, needed-in, put-told}
 
 -- the frame with these cells
 abbrev pub holding : TrackedFrame → Heap → TrackedFrame

@@ -28,7 +28,7 @@ use Rattle.cap_owners_values_laws.proofs.Parts.{same-part}
 use Rattle.cap_owners_tracks_laws.proofs.Tied.{derivation, Tied, AllWaitTied, StackTied, EachTied, Kept}
 use Rattle.cap_owners_tracks_laws.proofs.Steps.{TurnKept}
 use Rattle.cap_owners_tracks_laws.proofs.Turns.{each-set, own, stack-tied}
-use Rattle.cap_owners_steps_laws.proofs.Telling.{told-on}
+use Rattle.cap_owners_parts_laws.proofs.Telling.{told-on}
 use Rattle.cap_owners_steps_laws.proofs.Staying.{holding}
 
 -- ---- lists

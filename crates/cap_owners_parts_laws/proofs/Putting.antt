@@ -19,7 +19,7 @@ use Rattle.cap_owners_spec.specs.Filling.{with_cells}
 use Rattle.cap_owners_laws.specs.Owned.{IsTold}
 use Rattle.cap_owners_values_laws.proofs.Numbers.{number-is}
 use Rattle.cap_owners_values_laws.proofs.More.{number-told}
-use Rattle.cap_owners_steps_laws.proofs.Telling.{told-more}
+use Rattle.cap_owners_parts_laws.proofs.Telling.{told-more}
 
 -- each of these cells is in the heap
 abbrev pub AreIn : Valuation → Heap → List (Linear × Linear) → Type 0

@@ -1,0 +1,5 @@
+pub mod Telling
+pub mod Putting
+pub mod Forms
+pub mod Pieces
+pub mod Held
