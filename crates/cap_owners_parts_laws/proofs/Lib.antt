@@ -3,3 +3,4 @@ pub mod Putting
 pub mod Forms
 pub mod Pieces
 pub mod Held
+pub mod Added
