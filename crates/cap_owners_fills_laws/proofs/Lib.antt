@@ -1,3 +1,4 @@
 pub mod Drawn
 pub mod Still
 pub mod Giving
+pub mod Siding
