@@ -2,3 +2,4 @@ pub mod Drawn
 pub mod Still
 pub mod Giving
 pub mod Siding
+pub mod Meeting
