@@ -134,14 +134,16 @@ module _ (p : PlainProgram) (T : Table) (sc : Scope) (e : ℕ) (a : Valuation) (
   abbrev IsDue : PlainItem → Items → Valuation → PlainState → Type 0
   IsDue one more v s = Due p T sc e a total goal way (item one more) v s
 
-  abbrev IsGiven : Items → Valuation → PlainState → (PlainState → Type 0) → Type 0
-  IsGiven more v s P = ItemGiven p T sc e a total goal way more v s P
+  abbrev IsGiven :
+      (i : PlainItem) (more : Items) (v : Valuation) (s : PlainState) → (PlainState → Type 0) →
+      IsDue i more v s → Type 0
+  IsGiven i more v s P d = ItemGiven p T sc e a total goal way i more v s P d
 
   -- ---- comparisons
 
   pub compare-gives :
-      (c : Comp) (more : Items) (v : Valuation) (s : PlainState) (P : PlainState → Type 0) →
-      IsDue (compare c) more v s → Comes (give_item p s e (compare c)) P → IsGiven more v s P
+      (c : Comp) (more : Items) (v : Valuation) (s : PlainState) (P : PlainState → Type 0)
+      (d : IsDue (compare c) more v s) → Comes (give_item p s e (compare c)) P → IsGiven (compare c) more v s P d
   compare-gives c more v s P d h =
       let i = compare c in
       let g = sides-given sc e a v s c _ d.underway.ready d.fit.0
@@ -159,8 +161,8 @@ module _ (p : PlainProgram) (T : Table) (sc : Scope) (e : ℕ) (a : Valuation) (
 
   pub cell-gives :
       (place : Place) (x : Linear) (y : Slot) (more : Items) (v : Valuation) (s : PlainState)
-      (P : PlainState → Type 0) → IsDue (cell place x y) more v s →
-      Comes (give_item p s e (cell place x y)) P → IsGiven more v s P
+      (P : PlainState → Type 0) (d : IsDue (cell place x y) more v s) →
+      Comes (give_item p s e (cell place x y)) P → IsGiven (cell place x y) more v s P d
   cell-gives place x y more v s P d h =
       let i = cell place x y in
       let took = d.draws.1 in
@@ -255,8 +257,9 @@ module _ (p : PlainProgram) (T : Table) (sc : Scope) (e : ℕ) (a : Valuation) (
 
   pub fact-gives :
       (place : Place) (n k : ℕ) (args : List Slot) (x : Slot) (more : Items) (v : Valuation)
-      (s : PlainState) (P : PlainState → Type 0) → IsDue (fact place n k args x) more v s →
-      Comes (give_item p s e (fact place n k args x)) P → IsGiven more v s P
+      (s : PlainState) (P : PlainState → Type 0) (d : IsDue (fact place n k args x) more v s) →
+      Comes (give_item p s e (fact place n k args x)) P →
+      IsGiven (fact place n k args x) more v s P d
   fact-gives place n k args x more v s P d h =
       let i = fact place n k args x in
       let tells = d.draws.1.0 in
@@ -288,9 +291,9 @@ module _ (p : PlainProgram) (T : Table) (sc : Scope) (e : ℕ) (a : Valuation) (
 
   pub atom-gives :
       (ne : Composes total) (place : Place) (n k l : ℕ) (asked : Asked) (more : Items)
-      (v : Valuation) (s : PlainState) (P : PlainState → Type 0) →
-      IsDue (atom place n k l asked) more v s → Comes (give_item p s e (atom place n k l asked)) P →
-      IsGiven more v s P
+      (v : Valuation) (s : PlainState) (P : PlainState → Type 0)
+      (d : IsDue (atom place n k l asked) more v s) → Comes (give_item p s e (atom place n k l asked)) P →
+      IsGiven (atom place n k l asked) more v s P d
   atom-gives ne place n k l asked more v s P d h =
       let i = atom place n k l asked in
       let b = atom_algebra (algebra_of p k) l in
@@ -333,8 +336,8 @@ module _ (p : PlainProgram) (T : Table) (sc : Scope) (e : ℕ) (a : Valuation) (
 
   pub item-gives :
       (ne : Composes total) (i : PlainItem) → IsPlain i → (more : Items) (v : Valuation)
-      (s : PlainState) (P : PlainState → Type 0) → IsDue i more v s → Comes (give_item p s e i) P →
-      IsGiven more v s P
+      (s : PlainState) (P : PlainState → Type 0) (d : IsDue i more v s) → Comes (give_item p s e i) P →
+      IsGiven i more v s P d
   item-gives ne (compare c) ok more v s P d k = compare-gives c more v s P d k
   item-gives ne (choose c x y) ok more v s P d k = absurd ok
   item-gives ne (fact place n k args x) ok more v s P d c =

@@ -33,7 +33,7 @@ use Rattle.cap_account_assertions.proofs.GiveState.{Onward, onward-none, onward-
 use Rattle.cap_account_assertions.proofs.GiveItems.{IsPlain, item-gives}
 
 -- what is given to a state that went on is given to the first one
-given-on :
+abbrev pub given-on :
     (p : Checked) (T : Table) (e : ℕ) (v w : Valuation) (total : Stock) (s t : PlainState)
     (ts : List PlainTask) (goal : Filled) (kids : PlainTrees) → Onward e v w s t →
     GivenAlong p T e w total t ts goal kids → GivenAlong p T e v total s ts goal kids
@@ -74,7 +74,7 @@ module _ (p : Checked) (T : Table) (sc : Scope) (e : ℕ) (a : Valuation) (total
   abbrev IsOpen : PlainTrees → PlainState → Items → Type 0
   IsOpen ks s items = Open p.N ks s (to_give items e n ∷ ts)
 
-  pub given-none :
+  abbrev pub given-none :
       (way : PlainTrees → PlainTrees) (ks : PlainTrees) (v : Valuation) (s : PlainState) →
       Open p.N ks s ts → IsDue way none v s → Goes (way ks) v s
   given-none way ks v s h d =
@@ -106,7 +106,7 @@ module _ (p : Checked) (T : Table) (sc : Scope) (e : ℕ) (a : Valuation) (total
       }
 
   -- the items of a side are due before those that follow, and then lead to the trees behind them
-  pub side-due :
+  abbrev pub side-due :
       (way : PlainTrees → PlainTrees) (c : Comp) (x y side more : Items) (v : Valuation)
       (s t : PlainState) (d : IsDue way (item (choose c x y) more) v s)
       (m : Step sc e a v s t) → AreFit p.program sc side →

@@ -139,16 +139,27 @@ module _ (p : PlainProgram) (T : Table) (sc : Scope) (e : ℕ) (a : Valuation) w
       pub leads : (ks : PlainTrees) → items_trees p T a items false left rest draws ks ≡ way ks
       pub room : Inside p (both p held left) total
 
-    pub record ItemGiven (more : Items) (v : Valuation) (s : PlainState)
-        (P : PlainState → Type 0) : Type 0 where
-      pub after : PlainState
-      pub w : Valuation
-      pub due : Due more w after
-      pub onward : Onward e v w s after
-      pub comes : P after
+    -- what is still to be drawn
+    abbrev pub StillDrawn : Items → Type 0
+    StillDrawn items = (left : Stock) × (rest : Stock) × DrawsAll p T a items left rest
+
+    abbrev pub still_drawn :
+        (items : Items) (v : Valuation) (s : PlainState) → Due items v s → StillDrawn items
+    still_drawn items v s d = (d.left, d.rest, d.draws)
 
     module _ (one : PlainItem) (more : Items) (v : Valuation) (s : PlainState)
         (P : PlainState → Type 0) (d : Due (item one more) v s) where
+      -- the state once the item is given, with the rest still to be drawn as before
+      pub record ItemGiven : Type 0 where
+        pub after : PlainState
+        pub w : Valuation
+        pub due : Due more w after
+        pub drawn : still_drawn more w after due ≡ (d.draws.0, d.rest, d.draws.2)
+        pub filled :
+            filled_at e w after ≡ fill_item p T a one d.left d.draws.0 d.draws.1 (filled_at e v s)
+        pub onward : Onward e v w s after
+        pub comes : P after
+
       -- what the item draws is beside what is held
       pub drawn-beside : (x : Stock) → Inside p x d.left → Inside p (both p d.held x) total
       drawn-beside x le =
@@ -170,8 +181,10 @@ module _ (p : PlainProgram) (T : Table) (sc : Scope) (e : ℕ) (a : Valuation) w
           ((ks : PlainTrees) →
           item_trees p T a one (has_items more) d.left d.draws.0 d.draws.1 ks ≡ ks) →
           AllByRecursion IsFirm u.facts → Inside p (both p q d.draws.0) total →
-          P (with_lists t u) → ItemGiven more v s P
+          P (with_lists t u) → ItemGiven
       goes t u m q filled meets knows still firm room c = record {
+        filled = filled;
+        drawn = refl;
         after = with_lists t u;
         w = m.w;
         due = record {
