@@ -1,18 +1,19 @@
 -- By what the items of an assertion are met, where they are drawn out of a part.
-use Rattle.std.proofs.Common.{◌≡◌, inl, inr, ℤ, pos, List, [], ◌∷◌, ◌++◌, Some}
+use Rattle.std.proofs.Common.{◌≡◌, inl, inr, ℤ, pos, List, [], ◌∷◌, ◌++◌, Some, refl, ap, ◌∙◌}
 use Rattle.std.specs.Prelude.{option_map}
 use Rattle.cap_lin.specs.Values.{Valuation}
 use Rattle.cap_prog.specs.declared.assertion.Slot.{Slot}
 use Rattle.cap_prog.specs.declared.assertion.Slot.TheVariants.{Any, Is}
 use Rattle.cap_prog.specs.declared.assertion.Asked.{Asked}
 use Rattle.cap_prog.specs.declared.assertion.Asked.TheVariants.{One, Share, Src, Tok, At, From}
-use Rattle.cap_prog.specs.Program.{PlainItem, compare, choose, fact, atom, cell, Items, none, item, PlainProgram}
+use Rattle.cap_prog.specs.Program.{PlainItem, compare, choose, fact, atom, cell, Items, none, item, append_items, PlainProgram}
 use Rattle.cap_galg.specs.Elements.{Element}
 use Rattle.cap_machine_accounts.specs.Assertions.{NameValue, a_number}
 use Rattle.cap_account_resources.specs.Parts.{known_as, Table}
-use Rattle.cap_account_resources.proofs.Stocks.{Stock}
+use Rattle.cap_account_resources.proofs.Lists.{join-assoc}
+use Rattle.cap_account_resources.proofs.Stocks.{Stock, Inside, inside-same}
 use Rattle.cap_account_states.proofs.Wants.{Wants}
-use Rattle.cap_account_assertions.proofs.Asserted.{Draws, DrawsAll}
+use Rattle.cap_account_assertions.proofs.Asserted.{Draws, DrawsAll, draws-more, draws-all-more, draws-join}
 use Rattle.cap_owners_spec.specs.Traced.{a_share, valuation}
 use Rattle.cap_owners_spec.specs.Track.{Fill, TrackedRegion, tracked_at}
 
@@ -53,6 +54,42 @@ module _ (p : PlainProgram) (T : Table) (a : Valuation) where
     pub items_met : (xs : Items) (q r : Stock) → DrawsAll p T a xs q r → List NameValue
     items_met none q r d = []
     items_met (item i more) q r d = item_met i q d.0 d.1 ++ items_met more d.0 r d.2
+
+  -- drawn out of more, they are met alike
+  mutual
+    item-met-more :
+        (i : PlainItem) (q q' r : Stock) (le : Inside p q q') (d : Draws p T a i q r) →
+        item_met i q' r (draws-more p T a i q q' r le d) ≡ item_met i q r d
+    item-met-more (compare c) q q' r le d = refl
+    item-met-more (choose c x y) q q' r le (inl m) =
+        items-met-more x q q' r r le (inside-same p r) m.1
+    item-met-more (choose c x y) q q' r le (inr m) =
+        items-met-more y q q' r r le (inside-same p r) m.1
+    item-met-more (fact place n k args s) q q' r le d = refl
+    item-met-more (atom place n k i asked) q q' r le d = refl
+    item-met-more (cell place x s) q q' r le d = refl
+
+    items-met-more :
+        (xs : Items) (q q' r r' : Stock) (le : Inside p q q') (less : Inside p r' r)
+        (d : DrawsAll p T a xs q r) →
+        items_met xs q' r' (draws-all-more p T a xs q q' r r' le less d) ≡ items_met xs q r d
+    items-met-more none q q' r r' le less d = refl
+    items-met-more (item i more) q q' r r' le less d =
+        ap (λ ws. ws ++ items_met more d.0 r'
+        (draws-all-more p T a more d.0 d.0 r r' (inside-same p d.0) less d.2))
+        (item-met-more i q q' d.0 le d.1)
+        ∙ ap (λ ws. item_met i q d.0 d.1 ++ ws)
+        (items-met-more more d.0 d.0 r r' (inside-same p d.0) less d.2)
+
+  -- items one after the other
+  pub met-join :
+      (xs ys : Items) (q m r : Stock) (d : DrawsAll p T a xs q m) (k : DrawsAll p T a ys m r) →
+      items_met (append_items xs ys) q r (draws-join p T a xs ys q m r d k)
+      ≡ items_met xs q m d ++ items_met ys m r k
+  met-join none ys q m r d k = items-met-more ys m q r r d (inside-same p r) k
+  met-join (item i xs) ys q m r d k =
+      ap (λ ws. item_met i q d.0 d.1 ++ ws) (met-join xs ys d.0 m r d.2 k)
+      ∙ join-assoc (item_met i q d.0 d.1) (items_met xs d.0 m d.2) (items_met ys m r k)
 
   -- the regions of all facts, with their states
   abbrev mutual

@@ -100,7 +100,7 @@ settle-passes U s j f w k args z e tells is =
 
 -- ---- the chain
 
-below-wide :
+pub below-wide :
     (enter : Interpreting) (p : PlainProgram) (b : Bool) (ks : PlainTrees) (gs : List PlainGoal) →
     walk_below enter p b ks gs past_width ≡ past_width
 below-wide enter p b no_trees gs = refl

@@ -1,0 +1,507 @@
+-- A walk that gives items, by what they are met: it comes to the goals to which giving them leads,
+-- at the values at which the state holds there.
+use Rattle.std.proofs.Common.{◌≡◌, ◌⊎◌, inl, inr, ℕ, zero, suc, ◌+◌, ◌≤◌, ℤ, Bool, true, false, List, [], ◌∷◌, ◌++◌, length, Option, Some, None, refl, sym, ap, ◌∙◌, subst, arith}
+use Rattle.std.specs.Prelude.{option_to_list, if◌then◌else◌}
+use Rattle.std.specs.List.{AllByRecursion}
+use Rattle.cap_lin.specs.Rows.{row_of}
+use Rattle.cap_lin.specs.Values.{Valuation}
+use Rattle.cap_lin.specs.declared.row.Op.{Op}
+use Rattle.cap_prog.specs.declared.assertion.Comp.{Comp}
+use Rattle.cap_prog.specs.Program.{PlainItem, compare, choose, fact, atom, cell, Items, none, item, append_items, PlainProgram}
+use Rattle.cap_prog.specs.Parts.{all_items}
+use Rattle.cap_prog.specs.Scopes.{Scope}
+use Rattle.cap_prog.specs.WellFormed.{ItemFits}
+use Rattle.cap_goal_spec.specs.States.{PlainState, PlainTask, to_give, PlainGoal, goal, goal_of, goals_of}
+use Rattle.cap_goal_spec.specs.Choices.{PlainTree, node, PlainTrees, no_trees, tree, by_absurd, by_give}
+use Rattle.cap_rules.specs.Making.{env_at, opposite}
+use Rattle.cap_rules.specs.Giving.{give_sides, give_item, give}
+use Rattle.cap_rules_nodes.specs.Nodes.{goals_left}
+use Rattle.cap_machine_accounts.specs.Assertions.{NameValue}
+use Rattle.cap_account_resources.specs.Parts.{Table}
+use Rattle.cap_account_resources.proofs.Lists.{join-nil, join-assoc, all-first, all-second}
+use Rattle.cap_account_resources.proofs.Order.{unless-relates}
+use Rattle.cap_account_resources.proofs.Stocks.{Stock, both, Composes, inside-same}
+use Rattle.cap_account_states.specs.Nodes.{Comes, Children, Open}
+use Rattle.cap_account_states.proofs.Attempts.{comes-bind, after-comparison, row_added}
+use Rattle.cap_account_states.proofs.Meets.{solves}
+use Rattle.cap_account_states.proofs.Backed.{IsFirm, Backed}
+use Rattle.cap_account_states.proofs.Checked.{Checked, children-split, lone-child, first_trees, later_trees}
+use Rattle.cap_account_states.proofs.Filled.{Filled, filled_at, fill_sides}
+use Rattle.cap_account_states.proofs.Naming.{Means, Step}
+use Rattle.cap_account_states.proofs.Items.{items_size, size-positive, append-size, AreFit, fits-sides}
+use Rattle.cap_account_assertions.proofs.Asserted.{DrawsAll}
+use Rattle.cap_account_assertions.proofs.Filling.{fill_item, fill_items}
+use Rattle.cap_account_assertions.proofs.GivenTrees.{has_items, items_trees}
+use Rattle.cap_account_assertions.proofs.Laws.{StateAt, Given}
+use Rattle.cap_account_assertions.proofs.GiveTerms.{sides-given, sides-row}
+use Rattle.cap_account_assertions.proofs.GiveState.{StillDrawn, onward-step, Due}
+use Rattle.cap_account_assertions.proofs.GiveItems.{IsPlain, item-gives}
+use Rattle.cap_account_assertions.proofs.GiveLaw.{given-on, given-none, side-due}
+use Rattle.cap_owners_spec.specs.Traced.{Traced, traced, past_width, ◌>>=◌, valuation, holds_by}
+use Rattle.cap_owners_spec.specs.Track.{Fill}
+use Rattle.cap_owners_spec.specs.Filling as filling
+use Rattle.cap_owners_spec.specs.Walks.{Walk, Descent, descends, bringing, side_child, no_items, left_fill, Interpreting, pass_parting, Halt, walk_below}
+use Rattle.cap_owners_fills_laws.proofs.Drawn.{item_met, items_met, met-join}
+use Rattle.cap_owners_fills_laws.proofs.Giving as giving
+use Rattle.cap_owners_fills_laws.proofs.Siding.{is_first, side-picked}
+use Rattle.cap_owners_walks_laws.proofs.Leading.{node-leads}
+use Rattle.cap_owners_passes_laws.proofs.Rests.{into, below-wide}
+
+-- a walk goes there, or a number on its way is too wide
+abbrev pub GoesTo : Traced Halt → Traced Halt → Type 0
+GoesTo x y = (x ≡ past_width) ⊎ (x ≡ y)
+
+-- ---- into the trees of two sides
+
+module _ (enter : Interpreting) (p : PlainProgram) where
+  below-first :
+      (ks : PlainTrees) (one : Option PlainGoal) (g : PlainGoal) (hs : List PlainGoal) (w : Walk) →
+      one ≡ Some g →
+      walk_below enter p false ks (option_to_list one ++ hs) (traced (descends (Some 0) w))
+      ≡ into enter p (first_trees (length (option_to_list one)) ks) (option_to_list one) w
+  below-first ks one g hs w e =
+      subst (λ o.
+      walk_below enter p false ks (option_to_list o ++ hs) (traced (descends (Some 0) w))
+      ≡ into enter p (first_trees (length (option_to_list o)) ks) (option_to_list o) w) (sym e)
+      (by ks)
+    where
+      by :
+          (ks : PlainTrees) →
+          walk_below enter p false ks (g ∷ hs) (traced (descends (Some 0) w))
+          ≡ into enter p (first_trees 1 ks) (g ∷ []) w
+      by no_trees = refl
+      by (tree t ts) = refl
+
+  below-later :
+      (ks : PlainTrees) (one : Option PlainGoal) (g : PlainGoal) (hs : List PlainGoal) (w : Walk) →
+      one ≡ Some g →
+      walk_below enter p false ks (option_to_list one ++ hs) (traced (descends (Some 1) w))
+      ≡ into enter p (later_trees (length (option_to_list one)) ks) hs w
+  below-later ks one g hs w e =
+      subst (λ o.
+      walk_below enter p false ks (option_to_list o ++ hs) (traced (descends (Some 1) w))
+      ≡ into enter p (later_trees (length (option_to_list o)) ks) hs w) (sym e) (by ks hs)
+    where
+      by :
+          (ks : PlainTrees) (hs : List PlainGoal) →
+          walk_below enter p false ks (g ∷ hs) (traced (descends (Some 1) w))
+          ≡ into enter p (later_trees 1 ks) hs w
+      by no_trees [] = refl
+      by no_trees (h ∷ hs) = refl
+      by (tree t ts) hs = refl
+
+module _ (p : Checked) (T : Table) (sc : Scope) (e : ℕ) (names : List NameValue)
+    (ok : giving.NamesFit sc names) (total : Stock) (goal_is : Filled) (ne : Composes total) (n : ℕ)
+    (ts : List PlainTask) (remains : (s : PlainState) → (g : PlainGoal) × (goal_of s ts ≡ Some g))
+    (left : List NameValue) where
+  abbrev a : Valuation
+  a = valuation names
+
+  abbrev IsDue : (PlainTrees → PlainTrees) → Items → Valuation → PlainState → Type 0
+  IsDue way items v s = Due p.program T sc e a total goal_is way items v s
+
+  abbrev IsGiven : Valuation → PlainState → Type 0
+  IsGiven v s = Given p T e v total s ts goal_is
+
+  -- by what these items are met, and what is left behind them
+  abbrev met_by :
+      (way : PlainTrees → PlainTrees) (items : Items) (v : Valuation) (s : PlainState) →
+      IsDue way items v s → List NameValue
+  met_by way items v s d = items_met p.program T a items d.left d.rest d.draws ++ left
+
+  abbrev fill_of : List NameValue → List (ℤ × ℤ) → Fill
+  fill_of ws fs = record { names = names; wildcards = ws; facts = fs }
+
+  -- a walk that is to give these items by the fill; where there are none it doesn't look
+  abbrev to_start : Items → List NameValue → List NameValue → List (ℤ × ℤ) → Walk → Walk
+  to_start items vs ws fs w = record w {
+    values = vs;
+    fill = if no_items items then w.fill else Some (fill_of ws fs);
+  }
+
+  abbrev to_end : Items → List NameValue → Walk → Walk
+  to_end items vs w = record w {
+    values = vs;
+    fill = if no_items items then w.fill else None;
+  }
+
+  -- The items are given so, by soundness's law. A walk goes there, or a number is too wide.
+  pub record GivesTo (items : Items) (trees : PlainTrees) (vs ws : List NameValue) (v : Valuation)
+      (s : PlainState) : Type 0 where
+    pub given : IsGiven v s
+    pub values : List NameValue
+    pub valued : given.w ≡ valuation values
+    pub count : length given.after.sorts ≡ length values
+    pub walks :
+        (enter : Interpreting) (w : Walk) (fs : List (ℤ × ℤ)) →
+        GoesTo
+        (into enter p.program trees (goals_of s (to_give items e n ∷ ts))
+        (to_start items vs ws fs w))
+        (into enter p.program given.children (goals_of given.after ts) (to_end items values w))
+
+  -- midway in the node of a state, with these items left
+  record ListTo (items : Items) (kids : PlainTrees) (gs : List PlainGoal) (s0 : PlainState)
+      (vs : List NameValue) (g : filling.Giving) (v : Valuation) (s : PlainState) : Type 0 where
+    given : IsGiven v s
+    values : List NameValue
+    valued : given.w ≡ valuation values
+    count : length given.after.sorts ≡ length values
+    walks :
+        (enter : Interpreting) (w : Walk) (ws : List NameValue) (fs : List (ℤ × ℤ)) →
+        GoesTo
+        (walk_below enter p.program false kids gs
+        (pass_parting s0 e n ts (fill_of ws fs) (filling.give_all names items g)
+        (record w { values = vs }) (filling.parting items)))
+        (into enter p.program given.children (goals_of given.after ts)
+        (record w { values = values; fill = None }))
+
+  -- the goals of the node are these, and each has its tree
+  abbrev Here : PlainTrees → List PlainGoal → List PlainGoal → Type 0
+  Here kids gs hs = (gs ≡ hs) × Children p.N kids hs
+
+  abbrev So :
+      (way : PlainTrees → PlainTrees) (items : Items) (vs : List NameValue) (g : filling.Giving)
+      (v : Valuation) (s : PlainState) → IsDue way items v s → Type 0
+  So way items vs g v s d = giving.GivesSo vs (met_by way items v s d) g (filled_at e v s)
+
+  abbrev ListLeads : (PlainTrees → PlainTrees) → Items → Type 0
+  ListLeads way items =
+      (kids : PlainTrees) (gs : List PlainGoal) (s0 : PlainState) (vs : List NameValue)
+      (g : filling.Giving) (v : Valuation) (s : PlainState) →
+      Comes (give p.program s e n ts items) (Here kids gs) → (d : IsDue way items v s) →
+      So way items vs g v s d → ListTo items kids gs s0 vs g v s
+
+  none-to : (way : PlainTrees → PlainTrees) → ListLeads way none
+  none-to way kids gs s0 vs g v s h d so = record {
+    given = (given-none p T sc e a total goal_is ne n ts way kids v s h.1.1 d).given;
+    values = vs ++ g.new;
+    valued = so.values;
+    count = so.next;
+    walks = λ enter w ws fs.
+        inr (ap (λ hs. walk_below enter p.program false kids hs
+        (traced (descends (Some 0) (record w { values = vs ++ g.new; fill = None })))) h.1.0);
+  }
+
+  after-to :
+      (way : PlainTrees → PlainTrees) (i : PlainItem) (more : Items) → IsPlain i →
+      ListLeads way more → filling.parting (item i more) ≡ filling.parting more →
+      ((g : filling.Giving) → filling.give_all names (item i more) g
+      ≡ filling.give_all names more (filling.give_item names i g)) →
+      (kids : PlainTrees) (gs : List PlainGoal) (s0 : PlainState) (vs : List NameValue)
+      (g : filling.Giving) (v : Valuation) (s : PlainState) →
+      Comes (give_item p.program s e i)
+      (λ t. Comes (give p.program t e n ts more) (Here kids gs)) →
+      (d : IsDue way (item i more) v s) → So way (item i more) vs g v s d →
+      ListTo (item i more) kids gs s0 vs g v s
+  after-to way i more plain law same_parting same_all kids gs s0 vs g v s h d so =
+      let x = item-gives p.program T sc e a total goal_is way ne i plain more v s
+      (λ t. Comes (give p.program t e n ts more) (Here kids gs)) d h in
+      let now = filling.give_item names i g in
+      let met = item_met p.program T a i d.left d.draws.0 d.draws.1 in
+      let behind = items_met p.program T a more d.draws.0 d.rest d.draws.2 in
+      let given_so = giving.item-gives sc names vs ok p.program T (behind ++ left) i plain d.left
+      d.draws.0 d.draws.1 g (filled_at e v s) d.fit.0
+      (subst (λ ws. giving.GivesSo vs ws g (filled_at e v s)) (sym (join-assoc met behind left)) so)
+      in
+      let next : So way more vs now x.w x.after x.due =
+      subst (λ f. giving.GivesSo vs (met_by way more x.w x.after x.due) now f) (sym x.filled)
+      (subst (λ (y : StillDrawn p.program T sc e a total goal_is way more).
+      giving.GivesSo vs (items_met p.program T a more y.0 y.1 y.2 ++ left) now
+      (fill_item p.program T a i d.left d.draws.0 d.draws.1 (filled_at e v s))) (sym x.drawn)
+      given_so) in
+      let r = law kids gs s0 vs now x.w x.after x.comes x.due next in
+      record {
+        given = (given-on p T e v x.w total s x.after ts goal_is r.given.children x.onward
+            (record { given = r.given; along = refl })).given;
+        values = r.values;
+        valued = r.valued;
+        count = r.count;
+        walks = λ enter w ws fs.
+            let same = ap (λ all. walk_below enter p.program false kids gs
+            (pass_parting s0 e n ts (fill_of ws fs) all (record w { values = vs })
+            (filling.parting (item i more)))) (same_all g)
+            ∙ ap (λ o. walk_below enter p.program false kids gs
+            (pass_parting s0 e n ts (fill_of ws fs) (filling.give_all names more now)
+            (record w { values = vs }) o)) same_parting in
+            elim (r.walks enter w ws fs) [
+              | inl wide ↦ inl (same ∙ wide)
+              | inr on ↦ inr (same ∙ on)
+            ];
+      }
+
+  -- ---- the sides of a conditional
+
+  -- up to this size
+  abbrev AllLead : ℕ → Type 0
+  AllLead size =
+      (way : PlainTrees → PlainTrees) (items : Items) → items_size items ≤ size →
+      (ks : PlainTrees) (vs ws : List NameValue) (v : Valuation) (s : PlainState) →
+      Open p.N ks s (to_give items e n ∷ ts) → (d : IsDue way items v s) → v ≡ valuation vs →
+      length s.sorts ≡ length vs → ws ≡ met_by way items v s d → GivesTo items ks vs ws v s
+
+  remains-give :
+      (s : PlainState) (items : Items) →
+      (g : PlainGoal) × (goal_of s (to_give items e n ∷ ts) ≡ Some g)
+  remains-give s none = remains s
+  remains-give s (item i more) = (goal s (to_give (item i more) e n ∷ ts), refl)
+
+  none-either : (b : Bool) (o : Option Fill) → o ≡ None → (if b then o else None) ≡ None
+  none-either true o e = e
+  none-either false o e = refl
+
+  -- by the side that is drawn, where a walk picks it
+  module _ (way : PlainTrees → PlainTrees) (c : Comp) (x y side more : Items) (kids : PlainTrees)
+      (gs : List PlainGoal) (s0 : PlainState) (vs : List NameValue) (g : filling.Giving)
+      (v : Valuation) (s : PlainState) (d : IsDue way (item (choose c x y) more) v s)
+      (so : So way (item (choose c x y) more) vs g v s d) (t : PlainState) (m : Step sc e a v s t)
+      (size : ℕ) (law : AllLead size) where
+    abbrev now : filling.Giving
+    now = filling.give_comparison names c g
+
+    abbrev rest_of : Bool → Items
+    rest_of b = if b then append_items x more else append_items y more
+
+    abbrev side_walk : List NameValue → List (ℤ × ℤ) → Walk → Bool → Traced Descent
+    side_walk ws fs w b =
+        traced (descends (side_child b (goals_of s0 (to_give (append_items x more) e n ∷ ts)))
+        (record (bringing (record w { values = vs }) now.new) {
+          fill = left_fill (rest_of b) (fill_of ws fs) now;
+        }))
+
+    side-to :
+        AreFit p.program sc side → (took : DrawsAll p.program T a side d.left d.draws.0) →
+        filled_at e m.w t ≡ fill_sides a c (filled_at e v s) →
+        fill_items p.program T a more d.draws.0 d.rest d.draws.2
+        (fill_items p.program T a side d.left d.draws.0 took (fill_sides a c (filled_at e v s)))
+        ≡ goal_is →
+        items_met p.program T a (item (choose c x y) more) d.left d.rest d.draws
+        ≡ items_met p.program T a side d.left d.draws.0 took
+        ++ items_met p.program T a more d.draws.0 d.rest d.draws.2 →
+        items_size (append_items side more) ≤ size → (ls : PlainTrees) →
+        Open p.N ls t (to_give (append_items side more) e n ∷ ts) → (b : Bool) →
+        (holds_by names c ≡ past_width) ⊎ (holds_by names c ≡ traced b) →
+        rest_of b ≡ append_items side more →
+        ((enter : Interpreting) (w : Walk) → walk_below enter p.program false kids gs
+        (traced (descends (side_child b (goals_of s0 (to_give (append_items x more) e n ∷ ts))) w))
+        ≡ into enter p.program ls (goals_of t (to_give (append_items side more) e n ∷ ts)) w) →
+        ListTo (item (choose c x y) more) kids gs s0 vs g v s
+    side-to fit took filled fills met small ls open_there b picked side_is walks =
+        let due = side-due p T sc e a total goal_is ne n ts way c x y side more v s t d m fit took
+        filled fills in
+        let behind = λ (ks : PlainTrees). items_trees p.program T a more false d.draws.0 d.rest
+        d.draws.2 (items_trees p.program T a side (has_items more) d.left d.draws.0 took ks) in
+        let all = append_items side more in
+        let given_so = giving.sides-give sc names vs ok
+        (met_by way (item (choose c x y) more) v s d) c g (filled_at e v s) d.fit.0 so in
+        let r = law behind all small ls (vs ++ now.new) now.wildcards m.w t open_there due
+        (ap (λ (f : Filled). f.values) filled ∙ given_so.values)
+        (ap (λ (f : Filled). f.next) filled ∙ given_so.next)
+        (given_so.wildcards
+        ∙ ap (λ ws. ws ++ left)
+        (met ∙ sym (met-join p.program T a side more d.left d.draws.0 d.rest took d.draws.2))) in
+        record {
+          given = (given-on p T e v m.w total s t ts goal_is r.given.children
+              (onward-step sc e a v s t m) (record { given = r.given; along = refl })).given;
+          values = r.values;
+          valued = r.valued;
+          count = r.count;
+          walks = λ enter w ws fs. elim picked [
+            | inl wide ↦
+                inl (ap (λ o. walk_below enter p.program false kids gs (o >>= side_walk ws fs w))
+                wide ∙ below-wide enter p.program false kids gs)
+            | inr told ↦
+                let there = ap (λ o. walk_below enter p.program false kids gs
+                (o >>= side_walk ws fs w)) told
+                ∙ ap (λ it. walk_below enter p.program false kids gs
+                (traced (descends
+                (side_child b (goals_of s0 (to_give (append_items x more) e n ∷ ts)))
+                (record (bringing (record w { values = vs }) now.new) {
+                  fill = left_fill it (fill_of ws fs) now;
+                })))) side_is
+                ∙ walks enter (record (bringing (record w { values = vs }) now.new) {
+                  fill = left_fill all (fill_of ws fs) now;
+                }) in
+                elim (r.walks enter (record w { fill = None }) fs) [
+                  | inl wide ↦ inl (there ∙ wide)
+                  | inr on ↦ inr (there ∙ on
+                      ∙ ap (λ o. into enter p.program r.given.children (goals_of r.given.after ts)
+                      (record w { values = r.values; fill = o })) (none-either (no_items all) None refl))
+                ]
+          ];
+        }
+
+  choice-to :
+      (way : PlainTrees → PlainTrees) (size : ℕ) → AllLead size → (c : Comp)
+      (x y more : Items) → items_size (append_items x more) ≤ size →
+      items_size (append_items y more) ≤ size → ListLeads way (item (choose c x y) more)
+  choice-to way size law c x y more small_x small_y kids gs s0 vs g v s h d so =
+      let fit = fits-sides p.program sc (choose c x y) more d.fit in
+      let sg =
+      sides-given sc e a v s c _ d.underway.ready d.fit.0
+      (comes-bind (give_sides s e c) _ (Here kids gs) h) in
+      let after = λ (op : Op). row_added sg.after (row_of sg.left op sg.right c.sort) in
+      let todo = λ (side : Items). to_give (append_items side more) e n ∷ ts in
+      let first = after-comparison sg.after sg.left c.op sg.right c.sort _ (Here kids gs) sg.comes
+      in
+      let second =
+      after-comparison sg.after sg.left (opposite c.op) sg.right c.sort _ (Here kids gs) first in
+      let one = goal_of (after c.op) (todo x) in
+      let other = goal_of (after (opposite c.op)) (todo y) in
+      let k = children-split p.N kids (option_to_list one) (option_to_list other) second.1.1 in
+      let there = remains-give (after c.op) (append_items x more) in
+      let at = remains-give s0 (append_items x more) in
+      (elim d.draws.1 as (λ o.
+      fill_items p.program T a more d.draws.0 d.rest d.draws.2
+      (fill_item p.program T a (choose c x y) d.left d.draws.0 o (filled_at e v s)) ≡ goal_is →
+      (items_met p.program T a (item (choose c x y) more) d.left d.rest d.draws
+      ≡ item_met p.program T a (choose c x y) d.left d.draws.0 o
+      ++ items_met p.program T a more d.draws.0 d.rest d.draws.2) →
+      (holds_by names c ≡ past_width) ⊎ (holds_by names c ≡ traced (is_first o)) →
+      ListTo (item (choose c x y) more) kids gs s0 vs g v s) [
+        | inl w ↦ λ fills met picked.
+            side-to way c x y x more kids gs s0 vs g v s d so (after c.op)
+            (sides-row sc e a v s c c.op _ sg w.0) size law
+            (all-first (ItemFits p.program sc) (all_items x) (all_items y) fit) w.1 sg.filled fills
+            met small_x k.left k.first true picked refl
+            (λ enter w. ap (λ hs. walk_below enter p.program false kids hs
+            (traced (descends (side_child true (goals_of s0 (todo x))) w))) second.1.0
+            ∙ ap (λ o. walk_below enter p.program false kids
+            (option_to_list one ++ option_to_list other)
+            (traced (descends (side_child true (option_to_list o)) w))) at.1
+            ∙ below-first enter p.program kids one there.0 (option_to_list other) w there.1)
+        | inr w ↦ λ fills met picked.
+            side-to way c x y y more kids gs s0 vs g v s d so (after (opposite c.op))
+            (sides-row sc e a v s c (opposite c.op) _ sg (unless-relates c.op _ _ w.0)) size law
+            (all-second (ItemFits p.program sc) (all_items x) (all_items y) fit) w.1 sg.filled fills
+            met small_y k.right k.second false picked refl
+            (λ enter w. ap (λ hs. walk_below enter p.program false kids hs
+            (traced (descends (side_child false (goals_of s0 (todo x))) w))) second.1.0
+            ∙ ap (λ o. walk_below enter p.program false kids
+            (option_to_list one ++ option_to_list other)
+            (traced (descends (side_child false (option_to_list o)) w))) at.1
+            ∙ below-later enter p.program kids one there.0 (option_to_list other) w there.1)
+      ]) d.fills refl (side-picked p.program T names c x y d.left d.draws.0 d.draws.1)
+
+  -- ---- all items
+
+  list-to :
+      (way : PlainTrees → PlainTrees) (size : ℕ) → AllLead size → (items : Items) →
+      items_size items ≤ size + 1 → ListLeads way items
+  list-to way size law none le kids gs s0 vs g v s h d so =
+      none-to way kids gs s0 vs g v s h d so
+  list-to way size law (item (choose c x y) more) le kids gs s0 vs g v s h d so =
+      let l = append-size x more in
+      let r = append-size y more in
+      choice-to way size law c x y more (omega (arith, le, l)) (omega (arith, le, r)) kids gs s0 vs
+      g v s h d so
+  list-to way size law (item (compare c) more) le kids gs s0 vs g v s h d so =
+      after-to way (compare c) more tt (list-to way size law more (omega (arith, le))) refl
+      (λ g. refl) kids gs s0 vs g v s
+      (comes-bind (give_item p.program s e (compare c)) _ (Here kids gs) h) d so
+  list-to way size law (item (fact place m k args x) more) le kids gs s0 vs g v s h d so =
+      after-to way (fact place m k args x) more tt (list-to way size law more (omega (arith, le)))
+      refl (λ g. refl) kids gs s0 vs g v s
+      (comes-bind (give_item p.program s e (fact place m k args x)) _ (Here kids gs) h) d so
+  list-to way size law (item (atom place m k i asked) more) le kids gs s0 vs g v s h d so =
+      after-to way (atom place m k i asked) more tt (list-to way size law more (omega (arith, le)))
+      refl (λ g. refl) kids gs s0 vs g v s
+      (comes-bind (give_item p.program s e (atom place m k i asked)) _ (Here kids gs) h) d so
+  list-to way size law (item (cell place x y) more) le kids gs s0 vs g v s h d so =
+      after-to way (cell place x y) more tt (list-to way size law more (omega (arith, le))) refl
+      (λ g. refl) kids gs s0 vs g v s
+      (comes-bind (give_item p.program s e (cell place x y)) _ (Here kids gs) h) d so
+
+  -- a node gives them, or has no values
+  node-to :
+      (way : PlainTrees → PlainTrees) (size : ℕ) → AllLead size → (i : PlainItem)
+      (more : Items) → items_size (item i more) ≤ size + 1 → (t : PlainTree)
+      (vs ws : List NameValue) (v : Valuation) (s : PlainState) →
+      p.N t s (to_give (item i more) e n ∷ ts) → (d : IsDue way (item i more) v s) →
+      v ≡ valuation vs → length s.sorts ≡ length vs → ws ≡ met_by way (item i more) v s d →
+      GivesTo (item i more) (tree t no_trees) vs ws v s
+  node-to way size law i more le (node (by_absurd c) ks) vs ws v s h d is count met =
+      absurd ((p.step h).0.0 v (solves [] v s d.underway.ready.meets))
+  node-to way size law i more le (node by_give ks) vs ws v s h d is count met =
+      let tasks = to_give (item i more) e n ∷ ts in
+      let start : filling.Giving = record { env = env_at s e; new = []; wildcards = ws } in
+      let same = join-nil vs in
+      let r = list-to way size law (item i more) le ks
+      (goals_left p.program (goal s tasks) by_give) s vs start v s
+      (node-leads p by_give ks s tasks h) d (record {
+        bound = refl;
+        next = count ∙ ap (λ (xs : List NameValue). length xs) (sym same);
+        values = is ∙ ap valuation (sym same);
+        wildcards = met;
+      }) in
+      record {
+        given = r.given;
+        values = r.values;
+        valued = r.valued;
+        count = r.count;
+        walks = λ enter w fs.
+            r.walks enter (record w { fill = Some (fill_of ws fs) }) ws fs;
+      }
+  node-to way size law i more le t vs ws v s h d is count met = absurd (p.step h).1
+
+  pub all-to : (size : ℕ) → AllLead size
+  all-to size way none le ks vs ws v s h d is count met = record {
+    given = (given-none p T sc e a total goal_is ne n ts way ks v s h d).given;
+    values = vs;
+    valued = is;
+    count = count;
+    walks = λ enter w fs. inr refl;
+  }
+  all-to zero way (item i more) le ks vs ws v s h d is count met =
+      absurd (let q = size-positive i in omega (arith, le, q))
+  all-to (suc size) way (item i more) le ks vs ws v s h d is count met =
+      let t = lone-child p.N ks s (to_give (item i more) e n ∷ ts) h in
+      subst (λ ls. GivesTo (item i more) ls vs ws v s) (sym t.2)
+      (node-to way size (all-to size) i more (omega (arith, le)) t.0 vs ws v s t.1 d is count met)
+
+-- ---- the law
+
+-- items that are drawn out of a part, at the values of a fill's names, are given along the walk
+pub gives-to :
+    (p : Checked) (T : Table) (sc : Scope) (e n : ℕ) (names : List NameValue)
+    (ok : giving.NamesFit sc names) (held h r : Stock) (items : Items) (ts : List PlainTask)
+    (remains : (s : PlainState) → (g : PlainGoal) × (goal_of s ts ≡ Some g)) (trees : PlainTrees)
+    (vs : List NameValue) (s : PlainState) → Open p.N trees s (to_give items e n ∷ ts) →
+    StateAt p.program [] T sc e (valuation vs) s → AllByRecursion IsFirm s.facts →
+    Means sc (valuation vs) (env_at s e) (valuation names) → AreFit p.program sc items →
+    (d : DrawsAll p.program T (valuation names) items h r) →
+    Backed p.program (valuation vs) s held → (ne : Composes (both p.program held h)) →
+    length s.sorts ≡ length vs →
+    GivesTo p T sc e names ok (both p.program held h)
+    (fill_items p.program T (valuation names) items h r d (filled_at e (valuation vs) s)) ne n ts
+    remains [] items trees vs (items_met p.program T (valuation names) items h r d) (valuation vs) s
+gives-to p T sc e n names ok held h r items ts remains trees vs s hd at firm m fit d b ne count =
+    all-to p T sc e names ok (both p.program held h)
+    (fill_items p.program T (valuation names) items h r d (filled_at e (valuation vs) s)) ne n ts
+    remains [] (items_size items)
+    (λ ks. items_trees p.program T (valuation names) items false h r d ks) items (omega arith) trees
+    vs (items_met p.program T (valuation names) items h r d) (valuation vs) s hd (record {
+      held = held;
+      left = h;
+      rest = r;
+      underway = record {
+        ready = record {
+          meets = at.grounded.meets;
+          there = at.there;
+          placed = at.placed;
+          means = m;
+        };
+        knows = record {
+          facts = at.facts;
+          pieces_over = at.grounded.pieces_over;
+          pieces_fit = at.grounded.pieces_fit;
+          opened = at.opened;
+          backed = b;
+        };
+        firm = firm;
+      };
+      fit = fit;
+      draws = d;
+      fills = refl;
+      leads = λ ks. refl;
+      room = inside-same p.program (both p.program held h);
+    }) refl count (sym (join-nil (items_met p.program T (valuation names) items h r d)))
