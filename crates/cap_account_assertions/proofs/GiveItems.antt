@@ -143,7 +143,8 @@ module _ (p : PlainProgram) (T : Table) (sc : Scope) (e : ℕ) (a : Valuation) (
 
   pub compare-gives :
       (c : Comp) (more : Items) (v : Valuation) (s : PlainState) (P : PlainState → Type 0)
-      (d : IsDue (compare c) more v s) → Comes (give_item p s e (compare c)) P → IsGiven (compare c) more v s P d
+      (d : IsDue (compare c) more v s) → Comes (give_item p s e (compare c)) P →
+      IsGiven (compare c) more v s P d
   compare-gives c more v s P d h =
       let i = compare c in
       let g = sides-given sc e a v s c _ d.underway.ready d.fit.0
@@ -292,7 +293,8 @@ module _ (p : PlainProgram) (T : Table) (sc : Scope) (e : ℕ) (a : Valuation) (
   pub atom-gives :
       (ne : Composes total) (place : Place) (n k l : ℕ) (asked : Asked) (more : Items)
       (v : Valuation) (s : PlainState) (P : PlainState → Type 0)
-      (d : IsDue (atom place n k l asked) more v s) → Comes (give_item p s e (atom place n k l asked)) P →
+      (d : IsDue (atom place n k l asked) more v s) →
+      Comes (give_item p s e (atom place n k l asked)) P →
       IsGiven (atom place n k l asked) more v s P d
   atom-gives ne place n k l asked more v s P d h =
       let i = atom place n k l asked in
@@ -336,7 +338,8 @@ module _ (p : PlainProgram) (T : Table) (sc : Scope) (e : ℕ) (a : Valuation) (
 
   pub item-gives :
       (ne : Composes total) (i : PlainItem) → IsPlain i → (more : Items) (v : Valuation)
-      (s : PlainState) (P : PlainState → Type 0) (d : IsDue i more v s) → Comes (give_item p s e i) P →
+      (s : PlainState) (P : PlainState → Type 0) (d : IsDue i more v s) →
+      Comes (give_item p s e i) P →
       IsGiven i more v s P d
   item-gives ne (compare c) ok more v s P d k = compare-gives c more v s P d k
   item-gives ne (choose c x y) ok more v s P d k = absurd ok

@@ -325,7 +325,8 @@ module _ (p : Checked) (T : Table) (sc : Scope) (e : ℕ) (names : List NameValu
                   | inl wide ↦ inl (there ∙ wide)
                   | inr on ↦ inr (there ∙ on
                       ∙ ap (λ o. into enter p.program r.given.children (goals_of r.given.after ts)
-                      (record w { values = r.values; fill = o })) (none-either (no_items all) None refl))
+                      (record w { values = r.values; fill = o }))
+                      (none-either (no_items all) None refl))
                 ]
           ];
         }
