@@ -158,7 +158,8 @@ fn push_names(
 
 // The fixed names of a function, by its number.
 fn fixed_names(program: &Program, function: u32) -> &[Text]
-    ensures { result.now ≡ fixed_names_of (slice_get (program_view program.now).functions function) }
+    ensures { let p = program_view program.now in
+        result.now ≡ fixed_names_of (slice_get p.functions function) }
 {
     match program.functions().get(function as usize) {
         None => &[],
@@ -193,8 +194,8 @@ fn push_frame(
     text.extend_from_slice(b"\n")
 }
 
-// Writes the lines of frames of a thread from the bottom, by the number of the thread, where those of
-// the machine and of the track stand beside each other.
+// Writes the lines of frames of a thread from the bottom, by the number of the thread, where those
+// of the machine and of the track stand beside each other.
 fn push_lines(
     alloc: Global,
     text: &mut Vec<u8>,

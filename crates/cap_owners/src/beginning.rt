@@ -37,9 +37,9 @@ pub(crate) struct Opening {
     pub root: usize,
 }
 
-/// A frame at a root, behind its assertion, which is given: with the values of variables there and of
-/// its fixed names, by what the assertion is met, and with its own steps since. `Untold` comes where
-/// there is no such root.
+/// A frame at a root, behind its assertion, which is given: with the values of variables there and
+/// of its fixed names, by what the assertion is met, and with its own steps since. `Untold` comes
+/// where there is no such root.
 pub(crate) fn begins<'t, 'a>(
     alloc: Global,
     roots: &'t Roots<'a>,

@@ -6,6 +6,7 @@ ghost use Rattle.cap_goal.specs.Trees.{bundle_view};
 ghost use Rattle.cap_goal_spec.specs.Choices.{PlainTree};
 ghost use Rattle.cap_machine.specs.Cells.{AscendsFrom};
 ghost use Rattle.cap_machine.specs.View.{configuration, is_stopped, RunsProgram};
+ghost use Rattle.cap_replay.specs.Reading.{most_entries};
 ghost use Rattle.cap_replay.specs.RunText.{in_front};
 ghost use Rattle.cap_rules.specs.Valid.{Valid};
 ghost use Rattle.cap_owners.specs.declared.error.OwnersError.TheVariants.{Start};
@@ -19,7 +20,7 @@ ghost use Rattle.cap_owners_spec.specs.Owners.{owned_from, owners_text};
 use crate::account::push_account;
 use crate::error::OwnersError;
 use crate::start::first_track;
-use crate::step::{follow, top_before};
+use crate::step::{Stepped, follow, top_before};
 use crate::track::Track;
 use cap_goal::Bundle;
 use cap_machine::{Entry, Event, Machine, StepError};
@@ -60,8 +61,8 @@ fn end_of(number: u64, error: TraceError) -> Result<End, AllocError>
     }
 }
 
-// One step of a run, after so many: its line is written, and behind it the account of the track that
-// it leaves; where the run ends with it, how.
+// One step of a run, after so many: its line is written, and behind it the account of the track
+// that it leaves; where the run ends with it, how.
 fn advance<'t, 'a>(
     alloc: Global,
     program: &Program,
@@ -102,7 +103,11 @@ fn advance<'t, 'a>(
         push_step(alloc, text, number, entry.thread, ahead, event)?;
         return Ok(Advanced::Ends(End::Stopped(number)));
     }
-    let stepped = (&*machine, entry.thread, event);
+    let stepped = Stepped {
+        machine: &*machine,
+        thread: entry.thread,
+        event,
+    };
     let track = match follow(alloc, program, roots, track, before.as_ref(), stepped) {
         Ok(track) => track,
         Err(error) => return Ok(Advanced::Ends(end_of(number, error)?)),
@@ -136,7 +141,7 @@ fn run<'t, 'a>(
     requires runs { is_stopped machine ≡ false }
     requires room { let p = program_view program.now in
         length (configuration p machine).threads ≤ 1 }
-    requires entries { length entries.now ≤ 100000 }
+    requires entries { length entries.now ≤ most_entries }
     requires roots { AreRootsOf (program_view program.now) roots.now }
     requires placed { TrackIsPlaced (program_view program.now) track }
     ensures { (ts : List (Option PlainTree)) →
@@ -177,7 +182,7 @@ fn play<'t, 'a>(
         IsSomeAnd (slice_get p.functions p.main)
         (λ f. length schedule.now.args.items ≡ f.params) }
     requires addresses { AscendsFrom (pos 0) schedule.now.heap.items }
-    requires entries { length schedule.now.entries.items ≤ 100000 }
+    requires entries { length schedule.now.entries.items ≤ most_entries }
     requires roots { AreRootsOf (program_view program.now) roots.now }
     requires placed { TrackIsPlaced (program_view program.now) track }
     ensures { (ts : List (Option PlainTree)) → AreRoots (program_view program.now) ts roots.now →
@@ -198,12 +203,12 @@ fn play<'t, 'a>(
     )
 }
 
-/// The text of the run along a schedule, by a valid derivation of the program: a line `start` and the
-/// first account, and then for each step its line, as in a replay, and the account behind it, and a
-/// last line that says how the run ends. `Start` comes exactly where the definition has no text: the
-/// arguments and the heap don't meet what `main` requires. There are as many arguments as `main` has
-/// parameters, the addresses of the heap are at least 1 and ascend, and there are at most 100,000
-/// entries.
+/// The text of the run along a schedule, by a valid derivation of the program: a line `start` and
+/// the first account, and then for each step its line, as in a replay, and the account behind it,
+/// and a last line that says how the run ends. `Start` comes exactly where the definition has no
+/// text: the arguments and the heap don't meet what `main` requires. There are as many arguments as
+/// `main` has parameters, the addresses of the heap are at least 1 and ascend, and there are at most
+/// 100,000 entries.
 pub fn owners(
     alloc: Global,
     program: &Program,
@@ -215,7 +220,7 @@ pub fn owners(
         IsSomeAnd (slice_get p.functions p.main)
         (λ f. length schedule.now.args.items ≡ f.params) }
     requires addresses { AscendsFrom (pos 0) schedule.now.heap.items }
-    requires entries { length schedule.now.entries.items ≤ 100000 }
+    requires entries { length schedule.now.entries.items ≤ most_entries }
     ensures shown { IfOk result (λ r. owners_text (program_view program.now)
         (bundle_view bundle.now) schedule.now ≡ Some (owned_view r)) }
     ensures start { result ≡ Err Start → owners_text (program_view program.now)

@@ -39,6 +39,14 @@ pub(crate) struct Stepping {
     pub number: Option<u32>,
 }
 
+/// A step that the machine made: the machine after it, the thread that stepped, and what happened.
+#[derive(Drop)]
+pub(crate) struct Stepped<'m> {
+    pub machine: &'m Machine,
+    pub thread: u32,
+    pub event: Event,
+}
+
 // Lends the machine's frame on top of a thread, if there is one.
 fn top_of(machine: &Machine, thread: u32) -> Option<&Frame>
     ensures { (p : PlainProgram) → lent_frame p result
@@ -99,7 +107,7 @@ fn moved<'t, 'a>(
     regions: Regions,
     frames: (TrackedFrame<'t, 'a>, Vec<TrackedFrame<'t, 'a>>),
     stepping: &Stepping,
-    stepped: (&Machine, u32, Event),
+    stepped: Stepped<'_>,
 ) -> Result<Moved<'t, 'a>, TraceError>
     requires roots { AreRootsOf (program_view program.now) roots.now }
     requires top { FrameIsPlaced (program_view program.now) frames.0 }
@@ -108,11 +116,16 @@ fn moved<'t, 'a>(
         AreRoots (program_view program.now) ts roots.now → Sees stepping.now m →
         Traces result moved_view (moves (proved_of (program_view program.now) ts) regions
         (frame_view frames.entry.0) (frames_view frames.entry.1.items) m
-        (configuration (program_view program.now) stepped.entry.0.now) stepped.entry.1 stepped.entry.2) }
+        (configuration (program_view program.now) stepped.entry.machine.now)
+        stepped.entry.thread stepped.entry.event) }
     ensures placed { IfOk result (MovedIsPlaced (program_view program.now)) }
 {
     let (top, below) = frames;
-    let (machine, thread, event) = stepped;
+    let Stepped {
+        machine,
+        thread,
+        event,
+    } = stepped;
     match event {
         Event::Set(_) | Event::Alloc(_) | Event::Assert => {
             stays(alloc, program, roots, regions, top, below)
@@ -227,19 +240,23 @@ pub(crate) fn follow<'t, 'a>(
     roots: &'t Roots<'a>,
     track: Track<'t, 'a>,
     stepping: Option<&Stepping>,
-    stepped: (&Machine, u32, Event),
+    stepped: Stepped<'_>,
 ) -> Result<Track<'t, 'a>, TraceError>
     requires roots { AreRootsOf (program_view program.now) roots.now }
     requires placed { TrackIsPlaced (program_view program.now) track }
     ensures follows { (ts : List (Option PlainTree)) (before : plain_machine.Configuration) →
         AreRoots (program_view program.now) ts roots.now →
-        SeesTop stepping.entry (top_frame (slice_get before.threads stepped.entry.1)) →
+        SeesTop stepping.entry (top_frame (slice_get before.threads stepped.entry.thread)) →
         Traces result track_view (followed (proved_of (program_view program.now) ts)
-        (track_view track.entry) stepped.entry.1 stepped.entry.2 before
-        (configuration (program_view program.now) stepped.entry.0.now)) }
+        (track_view track.entry) stepped.entry.thread stepped.entry.event before
+        (configuration (program_view program.now) stepped.entry.machine.now)) }
     ensures placed { IfOk result (TrackIsPlaced (program_view program.now)) }
 {
-    let (machine, thread, event) = stepped;
+    let Stepped {
+        machine,
+        thread,
+        event,
+    } = stepped;
     let Track { regions, threads } = track;
     let mut others = threads;
     let Some(stepping) = stepping else {
@@ -256,7 +273,11 @@ pub(crate) fn follow<'t, 'a>(
         regions,
         (top, below),
         stepping,
-        (machine, thread, event),
+        Stepped {
+            machine,
+            thread,
+            event,
+        },
     )?;
     Ok(put_back(alloc, others, thread, became)?)
 }

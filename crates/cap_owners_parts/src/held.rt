@@ -29,8 +29,8 @@ pub fn part_held(
     Ok(part)
 }
 
-/// Puts cells in, by the values of their terms. `PastWidth` comes where a term leaves 128 bits. After
-/// an error the part is lost.
+/// Puts cells in, by the values of their terms. `PastWidth` comes where a term leaves 128 bits.
+/// After an error the part is lost.
 pub fn put_cells(part: &mut Part, values: &Values, cells: &[(Term, Term)]) -> Result<(), TraceError>
     ensures { Traces result (λ _. part.new) (with_cells values.now part.old cells.now) }
 {

@@ -21,8 +21,8 @@ use Rattle.cap_owners_spec.specs.Texts.{account_text}
 abbrev pub shown : Proved → Configuration → (Track → RunText) → Track → RunText
 shown d c more k = in_front (account_text d.program c (account_of k)) (more k)
 
--- step `number` comes to this track; or a number on its way leaves its bounds, which ends the run.
--- That a step isn't told of ends it as a fault does: neither comes where a derivation is valid
+-- step `number` comes to this track; or a number on its way leaves its bounds, which ends the run;
+-- or the derivation doesn't tell of the step, which ends it as a fault does
 abbrev pub told : ℕ → List ℕ → (Track → RunText) → Traced Track → RunText
 told number line more (traced k) = in_front line (more k)
 told number line more past_width = ends (Wide number)

@@ -12,8 +12,7 @@ use Rattle.cap_machine_accounts.specs.Assertions.{NameValue, a_number, a_fractio
 
 -- ---- what a part of a step comes to
 
--- something, or a number leaves its bounds, or the derivation doesn't tell of the step, which a
--- valid one always does
+-- something, or a number leaves its bounds, or the derivation doesn't tell of the step
 pub data Traced (A : Type 0) : Type 0 where
   traced : A → Traced A
   past_width : Traced A

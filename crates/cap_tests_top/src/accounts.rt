@@ -1,4 +1,5 @@
-//! Runs with their accounts: who owns what at the start and after each step, and what is said of starts, derivations and schedules that are none.
+//! Runs with their accounts: who owns what at the start and after each step, and what is said of
+//! starts, derivations and schedules that are none.
 
 use crate::top::words_of;
 use cap_io::{MemoryShelf, MemorySink};
@@ -21,8 +22,8 @@ fn shelf_of(alloc: Global, files: Files<'_>) -> Result<MemoryShelf, AllocError> 
     Ok(MemoryShelf::new(held, Vec::new(alloc)))
 }
 
-// Runs `owners` over these files, and compares the status and all that is written. Want of memory is
-// handed on, and then nothing may be written.
+// Runs `owners` over these files, and compares the status and all that is written. Want of memory
+// is handed on, and then nothing may be written.
 fn owns(
     rt: &impl Abort,
     alloc: Global,

@@ -262,10 +262,10 @@ pub fn run<S: Shelf, K: Sink>(
         (K.seen sink.old) (K.seen sink.new) }
 
     // Where `owners` ends with the status of a run, the derivation that was given is valid, and the
-    // sink has gained what the program's run along the schedule writes, with its accounts: unless it
-    // ends before its first account, the text goes along the machine's own run, from the account of
-    // its start, and behind each step comes one account, with an entry for each frame. With status 1
-    // it may instead be that the derivation is not accepted, as `check` says of it.
+    // sink has gained what the program's run along the schedule writes, with its accounts: unless
+    // it ends before its first account, the text goes along the machine's own run, from the account
+    // of its start, and behind each step comes one account, with an entry for each frame. With
+    // status 1 it may instead be that the derivation is not accepted, as `check` says of it.
     ensures owned { (file derivation schedule : List ℕ)
         → meant_by words.now ≡ Some (owners file derivation schedule) → EndsRun result
         → OwnsFiles (S.seen shelf.old) (S.seen shelf.new) file derivation schedule
@@ -298,8 +298,8 @@ pub fn run<S: Shelf, K: Sink>(
         (K.seen sink.old) (K.seen sink.new) result }
 
     // Whatever faults come, what is said is what follows from what the files gave that were read. A
-    // second file gives bytes only where the first gave a program's text, and a third only where the
-    // second gave a derivation's lines.
+    // second file gives bytes only where the first gave a program's text, and a third only where
+    // the second gave a derivation's lines.
     ensures ends { Ends (meant_by words.now)
         (S.seen shelf.old) (S.seen shelf.new) (K.seen sink.old) (K.seen sink.new) result }
 

@@ -6,7 +6,7 @@ ghost use Rattle.cap_goal.specs.Trees.{bundle_view};
 ghost use Rattle.cap_goal.specs.Views.{choice_view};
 ghost use Rattle.cap_rules.specs.Valid.{Valid};
 ghost use Rattle.cap_machine.specs.Cells.{AscendsFrom};
-ghost use Rattle.cap_replay.specs.Reading.{IsReadAs, read};
+ghost use Rattle.cap_replay.specs.Reading.{most_entries, IsReadAs, read};
 ghost use Rattle.cap_replay.specs.declared.reading.ScheduleError.TheVariants.{OutOfMemory};
 ghost use Rattle.cap_owners_spec.specs.Owners.{owners_text};
 ghost use Rattle.cap_top_commands.specs.Answers.{IsOnly};
@@ -46,7 +46,7 @@ fn owners_by<'a>(
     requires arguments { let p = program_view program.now in
         IsSomeAnd (slice_get p.functions p.main) (λ f. length schedule.now.args.items ≡ f.params) }
     requires addresses { AscendsFrom (pos 0) schedule.now.heap.items }
-    requires entries { length schedule.now.entries.items ≤ 100000 }
+    requires entries { length schedule.now.entries.items ≤ most_entries }
     ensures { IfOk result (λ o. output_view o ≡ owners_output
         (owners_text (program_view program.now) (bundle_view bundle.now) schedule.now)) }
 {
@@ -71,7 +71,7 @@ fn owners_along<'a>(
     requires arguments { let p = program_view program.now in
         IsSomeAnd (slice_get p.functions p.main) (λ f. length schedule.now.args.items ≡ f.params) }
     requires addresses { AscendsFrom (pos 0) schedule.now.heap.items }
-    requires entries { length schedule.now.entries.items ≤ 100000 }
+    requires entries { length schedule.now.entries.items ≤ most_entries }
     ensures { let p = program_view program.now in
         let choices = map choice_view lines.choices.items in
         (bytes : List ℕ) → IsReadAs (Ok schedule.now) (read bytes)

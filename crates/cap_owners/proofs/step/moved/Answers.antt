@@ -16,9 +16,9 @@ returns-in-Return-clause-moves c = λ ts m are sees.
     let p = program_view c.args.program.now in
     let x = c.args.stepped in
     let f : SFits w128 c.in-Return.value = search rules in
-    let is : x.2 ≡ Return c.in-Return.value = c.in-Return.is in
+    let is : x.event ≡ Return c.in-Return.value = c.in-Return.is in
     traces_same c.returns.result moved_view _ _
-    (ap (moves (proved_of p ts) c.args.regions (frame_view c.args.frames.0) (frames_view c.args.frames.1.items) m (configuration p x.0.now) x.1) (is ∙ ap Return (sym (to_z-of_z w128 c.in-Return.value f))))
+    (ap (moves (proved_of p ts) c.args.regions (frame_view c.args.frames.0) (frames_view c.args.frames.1.items) m (configuration p x.machine.now) x.thread) (is ∙ ap Return (sym (to_z-of_z w128 c.in-Return.value f))))
     (c.returns.ensures.returns ts m are sees)
 
 pub returns-in-End-clause-moves : goal.returns-in-End-clause-moves
@@ -26,7 +26,7 @@ returns-in-End-clause-moves c = λ ts m are sees.
     let p = program_view c.args.program.now in
     let x = c.args.stepped in
     let f : SFits w128 c.in-End.value = search rules in
-    let is : x.2 ≡ End c.in-End.value = c.in-End.is in
+    let is : x.event ≡ End c.in-End.value = c.in-End.is in
     traces_same c.returns-in-End.result moved_view _ _
-    (ap (moves (proved_of p ts) c.args.regions (frame_view c.args.frames.0) (frames_view c.args.frames.1.items) m (configuration p x.0.now) x.1) (is ∙ ap End (sym (to_z-of_z w128 c.in-End.value f))))
+    (ap (moves (proved_of p ts) c.args.regions (frame_view c.args.frames.0) (frames_view c.args.frames.1.items) m (configuration p x.machine.now) x.thread) (is ∙ ap End (sym (to_z-of_z w128 c.in-End.value f))))
     (c.returns-in-End.ensures.returns ts m are sees)
