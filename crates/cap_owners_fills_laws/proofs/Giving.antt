@@ -19,7 +19,7 @@ use Rattle.cap_prog.specs.Scopes.{Scope, HasSort, SlotFits, CompFits}
 use Rattle.cap_prog.specs.WellFormed.{AskedFits, AtomFits, FactFits, ItemFits}
 use Rattle.cap_goal_spec.specs.States.{PlainEnv}
 use Rattle.cap_goal_spec.specs.Environments.{zero_value, term_of, with_name}
-use Rattle.cap_machine_accounts.specs.Assertions.{NameValue, a_number, a_fraction, SlotsAre, HasNameSort}
+use Rattle.cap_machine_accounts.specs.Assertions.{NameValue, a_number, a_fraction, SlotsAre}
 use Rattle.cap_account_resources.specs.Parts.{Table}
 use Rattle.cap_account_resources.proofs.Lists.{join-assoc}
 use Rattle.cap_account_resources.proofs.Stocks.{Stock}
@@ -34,11 +34,12 @@ use Rattle.cap_account_assertions.proofs.Filling.{fill_form, fill_item, fill_ite
 use Rattle.cap_owners_spec.specs.Traced.{over, a_share, value_at, number_of, numerator_of, valuation}
 use Rattle.cap_owners_spec.specs.Filling.{Giving, give_name, give_parts, give_wildcard, give_slot, give_slots, give_asked, give_comparison, give_item, give_all, parting}
 use Rattle.cap_owners_values_laws.proofs.Numbers.{valuation-more}
+use Rattle.cap_owners_values_laws.proofs.More.{FitsSort}
 use Rattle.cap_owners_fills_laws.proofs.Drawn.{slot_met, slots_met, share_met, asked_met, item_met, items_met}
 
--- each name of sort Int has a whole number
+-- each name has a value of its sort
 abbrev pub NamesFit : Scope → List NameValue → Type 0
-NamesFit sc ns = (x : ℕ) → HasSort sc Int x → HasNameSort Int (value_at ns x)
+NamesFit sc ns = (o : Sort) (x : ℕ) → HasSort sc o x → FitsSort o (value_at ns x)
 
 -- which names are bound
 abbrev pub are_bound : PlainEnv → List Bool
@@ -77,10 +78,10 @@ numerator-for :
     (numerator_of (value_at names x))
     ≡ numerator_of (value_at names x)
 numerator-for sc names ok Perm x has = refl
-numerator-for sc names ok Int x has = by (value_at names x) (ok x has)
+numerator-for sc names ok Int x has = by (value_at names x) (ok Int x has)
   where
     by :
-        (y : NameValue) → HasNameSort Int y →
+        (y : NameValue) → FitsSort Int y →
         number_of y *ℤ pos (over - 1 + 1) ≡ numerator_of y
     by (a_number z) h = refl
     by (a_fraction n d) h = absurd h

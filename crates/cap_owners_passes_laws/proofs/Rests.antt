@@ -12,7 +12,7 @@ use Rattle.cap_prog.specs.Program.{PlainProgram}
 use Rattle.cap_goal_spec.specs.States.{PlainFact, PlainState, PlainTask, to_rest, PlainGoal, goal, goal_of, goals_of}
 use Rattle.cap_goal_spec.specs.Choices.{PlainChoice, by_absurd, by_settle, by_keep, PlainTree, node, PlainTrees, no_trees, tree}
 use Rattle.cap_rules_nodes.specs.Nodes.{goals_left}
-use Rattle.cap_machine_accounts.specs.Assertions.{NameValue, a_number, HasNameSort}
+use Rattle.cap_machine_accounts.specs.Assertions.{NameValue, a_number}
 use Rattle.cap_account_resources.specs.Parts.{Known, known_as, Table}
 use Rattle.cap_account_resources.proofs.Lists.{some-same, none-some, all-at}
 use Rattle.cap_account_resources.proofs.Stocks.{Stock}
@@ -28,7 +28,7 @@ use Rattle.cap_owners_spec.specs.Traced.{Traced, traced, past_width, untold, ◌
 use Rattle.cap_owners_spec.specs.Track.{TrackedRegion, tracked_at}
 use Rattle.cap_owners_spec.specs.Walks.{Walk, descends, on, bringing, state_at, pass_settle, Interpreting, pass_task, Halt, walk_below}
 use Rattle.cap_owners_values_laws.proofs.Numbers.{valuation-number, number-is}
-use Rattle.cap_owners_values_laws.proofs.More.{sorted-more, number-told}
+use Rattle.cap_owners_values_laws.proofs.More.{FitsSort, sorted-more, number-told}
 use Rattle.cap_owners_fills_laws.proofs.Drawn.{Tells}
 use Rattle.cap_owners_walks_laws.proofs.Leading.{Left, node-leads}
 
@@ -119,7 +119,7 @@ module _ (p : Checked) (part : Stock) (T U : Table) (reaching : Reaching p.progr
     pub rest : AtRest p [] U (valuation vs) s ts (drop j s.facts) trees
     pub values : List NameValue
     pub valued : rest.w ≡ valuation values
-    pub sorted : AllZip HasNameSort rest.after.sorts values
+    pub sorted : AllZip FitsSort rest.after.sorts values
     pub walks :
         (enter : Interpreting) (w : Walk) → Tells w.regions U →
         (Into enter trees s (to_rest j n ∷ ts) (record w { values = vs }) ≡ past_width)
@@ -128,7 +128,7 @@ module _ (p : Checked) (part : Stock) (T U : Table) (reaching : Reaching p.progr
 
   none-rests :
       (j : ℕ) (s : PlainState) (trees : PlainTrees) (vs : List NameValue) → j ≡ length s.facts →
-      AllZip HasNameSort s.sorts vs → Midway p.program [] part T U j (valuation vs) s →
+      AllZip FitsSort s.sorts vs → Midway p.program [] part T U j (valuation vs) s →
       Open p.N trees s (to_rest j n ∷ ts) → RestsTo j s trees vs
   none-rests j s trees vs count sorted mid goes =
       let all : (j == length s.facts) ≡ true = grind (arith, nat_tests, count) in
@@ -206,10 +206,10 @@ module _ (p : Checked) (part : Stock) (T U : Table) (reaching : Reaching p.progr
   -- by the choice of fact j
   node-rests :
       (j : ℕ) (s : PlainState) (us : List NameValue) (d : PlainTree) →
-      p.N d s (to_rest j n ∷ ts) → j < length s.facts → AllZip HasNameSort s.sorts us →
+      p.N d s (to_rest j n ∷ ts) → j < length s.facts → AllZip FitsSort s.sorts us →
       Midway p.program [] part T U j (valuation us) s →
       ((t : PlainState) (kids : PlainTrees) (vs : List NameValue) →
-      length t.facts ≡ length s.facts → AllZip HasNameSort t.sorts vs →
+      length t.facts ≡ length s.facts → AllZip FitsSort t.sorts vs →
       Midway p.program [] part T U (suc j) (valuation vs) t →
       Open p.N kids t (to_rest (suc j) n ∷ ts) → RestsTo (suc j) t kids vs) →
       RestsTo j s (tree d no_trees) us
@@ -221,7 +221,7 @@ module _ (p : Checked) (part : Stock) (T U : Table) (reaching : Reaching p.progr
       (valuation us) s mid c kids (node-leads p c kids s (to_rest j n ∷ ts) h) in
       one-rests j s c kids us us turn turn.value l (λ enter w tells. inr refl)
       (later turn.state kids us turn.turned.before.facts
-      (subst (λ os. AllZip HasNameSort os us) (sym turn.sorts) sorted)
+      (subst (λ os. AllZip FitsSort os us) (sym turn.sorts) sorted)
       (subst (λ u. Midway p.program [] part T U (suc j) u turn.state) turn.value
       turn.turned.midway) turn.goes.1)
   node-rests j s us (node (by_settle list cs) kids) h l sorted mid later =
@@ -236,7 +236,7 @@ module _ (p : Checked) (part : Stock) (T U : Table) (reaching : Reaching p.progr
       let z = now.0 in
       let vs = us ++ a_number z ∷ [] in
       let told : told_state U v f ≡ z = ap known_state now.2 in
-      let count = AllZip-long HasNameSort s.sorts us sorted in
+      let count = AllZip-long FitsSort s.sorts us sorted in
       let e : turn.w ≡ valuation vs =
       turn.value
       ∙ ap (set_to v (length s.sorts)) told
@@ -246,7 +246,7 @@ module _ (p : Checked) (part : Stock) (T U : Table) (reaching : Reaching p.progr
       (λ enter w tells.
       settle-passes U s j f (record w { values = us }) f.kind args z turn.is_fact tells now.2)
       (later turn.state kids vs turn.turned.before.facts
-      (subst (λ os. AllZip HasNameSort os vs) (sym turn.sorts)
+      (subst (λ os. AllZip FitsSort os vs) (sym turn.sorts)
       (sorted-more s.sorts us Int (a_number z) sorted tt))
       (subst (λ u. Midway p.program [] part T U (suc j) u turn.state) e turn.turned.midway)
       turn.goes.1)
@@ -254,7 +254,7 @@ module _ (p : Checked) (part : Stock) (T U : Table) (reaching : Reaching p.progr
 
   pub rests-to-from :
       (left j : ℕ) (s : PlainState) (trees : PlainTrees) (vs : List NameValue) →
-      j + left ≡ length s.facts → AllZip HasNameSort s.sorts vs →
+      j + left ≡ length s.facts → AllZip FitsSort s.sorts vs →
       Midway p.program [] part T U j (valuation vs) s → Open p.N trees s (to_rest j n ∷ ts) →
       RestsTo j s trees vs
   rests-to-from zero j s trees vs count sorted mid goes =
@@ -269,7 +269,7 @@ module _ (p : Checked) (part : Stock) (T U : Table) (reaching : Reaching p.progr
 
   -- from the first fact on, where each says what the first table does
   pub rests-to :
-      (s : PlainState) (trees : PlainTrees) (vs : List NameValue) → AllZip HasNameSort s.sorts vs →
+      (s : PlainState) (trees : PlainTrees) (vs : List NameValue) → AllZip FitsSort s.sorts vs →
       Grounded p.program [] (valuation vs) s →
       AllByRecursion (AllOver (Usable [] s.sorts Int)) s.facts →
       AllByRecursion (Exact (valuation vs) T) s.facts → Backed p.program (valuation vs) s part →

@@ -16,7 +16,7 @@ use Rattle.cap_rules.specs.Making.{fresh}
 use Rattle.cap_machine.specs.declared.event.Event.{Event}
 use Rattle.cap_machine.specs.declared.event.Event.TheVariants.{Alloc, Branch}
 use Rattle.cap_machine.specs.Machine.{Frame, value_in, holds, with_rest, with_value}
-use Rattle.cap_machine_accounts.specs.Assertions.{NameValue, a_number, HasNameSort}
+use Rattle.cap_machine_accounts.specs.Assertions.{NameValue, a_number}
 use Rattle.cap_account_resources.specs.Parts.{Table}
 use Rattle.cap_account_resources.proofs.Lists.{push-length}
 use Rattle.cap_account_resources.proofs.Order.{met-relates, unmet-relates}
@@ -38,7 +38,7 @@ use Rattle.cap_owners_spec.specs.Walks.{Walk, Interpreting, Halt, stands, walk, 
 use Rattle.cap_owners_spec.specs.Steps.{interpreted}
 use Rattle.cap_owners_laws.specs.Owned.{IsTold}
 use Rattle.cap_owners_values_laws.proofs.Numbers.{valuation-number}
-use Rattle.cap_owners_values_laws.proofs.More.{sorted-more, number-more}
+use Rattle.cap_owners_values_laws.proofs.More.{FitsSort, sorted-more, number-more}
 use Rattle.cap_owners_walks_laws.proofs.Passing.{more}
 use Rattle.cap_owners_walks_laws.proofs.Leading.{LeadsOn, set-leads, check-leads}
 use Rattle.cap_owners_tracks_laws.proofs.Tied.{StopsSo, IsTidy, derivation, IsAtNode}
@@ -128,7 +128,7 @@ module _ (p : Checked) (trees : List (Option PlainTree)) (U : Table) (fn : Plain
               subst (λ ss. Alike (λ x. x < length ss) r.at_node.v (valuation w.values)) (sym o)
               (subst (λ u. Alike (Old n.state) u (valuation w.values)) (sym v) alike);
           tidy = record {
-            sorted = subst (λ ss. AllZip HasNameSort ss w.values) (sym o) tidy.sorted;
+            sorted = subst (λ ss. AllZip FitsSort ss w.values) (sym o) tidy.sorted;
             regions = tidy.regions;
             next = tidy.next;
             events = refl;
@@ -263,7 +263,7 @@ module _ (p : Checked) (trees : List (Option PlainTree)) (U : Table) (fn : Plain
           led_on = record {
             sits = there;
             walks = λ rs q w is_tree is_goal alike tidy.
-                let count = AllZip-long HasNameSort n.state.sorts w.values tidy.sorted in
+                let count = AllZip-long FitsSort n.state.sorts w.values tidy.sorted in
                 subst (IsTold (StopsSo (IsAtNode p trees rs enlarged U fn fixed g there)))
                 (sym (from-there (Alloc base) (node by_alloc ks) (goal n.state (running r n.home))
                 (λ w. traced (stands (record {

@@ -64,6 +64,7 @@ module _ (p : Checked) (trees : List (Option PlainTree)) where
       Tied p trees later T fixed g (record t { since = t.since ++ event ∷ [] })
   tied-on part later T fixed f g t event tied ok less led = record {
     stood = record { fn = tied.stood.fn; ok = ok; all = λ U r. (led U (less U r)).sits };
+    fits = tied.fits;
     walks = λ U r rs tells.
         subst
         (IsTold (StopsSo (IsAtNode p trees rs later U tied.stood.fn fixed g

@@ -171,7 +171,7 @@ module _ (p : Checked) (trees : List (Option PlainTree)) (stable : Stable p.prog
 
       mine-tied : StackTied p trees V (g ∷ x.turn.below) moves_so.frames
       mine-tied = (
-        record { stood = tied.stood; walks = tied.walks },
+        record { stood = tied.stood; fits = tied.fits; walks = tied.walks },
         subst (λ o. AllWaitTied p trees V o x.turn.below x.below) callee (stack-tied p trees x).1,
       )
 

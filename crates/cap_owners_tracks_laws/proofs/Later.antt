@@ -44,6 +44,7 @@ module _ (p : Checked) (trees : List (Option PlainTree)) (V U : Table) where
       ok = h.stood.ok;
       all = λ W q. h.stood.all W (relies-trans p.program part.guards V U W r q);
     };
+    fits = h.fits;
     walks = λ W q. h.walks W (relies-trans p.program part.guards V U W r q);
   }
 
@@ -77,6 +78,7 @@ module _ (p : Checked) (trees : List (Option PlainTree)) (V U : Table) where
     own = h.own;
     number = h.number;
     met = h.met;
+    fits = h.fits;
   }
 
   -- ---- stacks, whose parts are within what relies on it

@@ -9,7 +9,7 @@ use Rattle.cap_prog.specs.WellFormed.{IsWellFormed}
 use Rattle.cap_goal_spec.specs.States.{PlainState, Home, PlainTask, to_run, to_give, to_rest, goal, goals_of}
 use Rattle.cap_goal_spec.specs.Choices.{PlainTree, node, PlainTrees, no_trees, tree}
 use Rattle.cap_machine.specs.Machine.{Frame}
-use Rattle.cap_machine_accounts.specs.Assertions.{NameValue, HasNameSort}
+use Rattle.cap_machine_accounts.specs.Assertions.{NameValue}
 use Rattle.cap_account_resources.specs.Parts.{Table}
 use Rattle.cap_account_resources.proofs.Interference.{Relies}
 use Rattle.cap_account_resources.proofs.Stocks.{Stock}
@@ -31,6 +31,7 @@ use Rattle.cap_owners_spec.specs.Traced.{traced, valuation}
 use Rattle.cap_owners_spec.specs.Track.{Place, TrackedRegion, TrackedFrame}
 use Rattle.cap_owners_spec.specs.Walks.{Walk, Interpreting, descends, Halt, stands, walk, walk_below}
 use Rattle.cap_owners_spec.specs.Steps.{beginning, interpreted, frame_walk}
+use Rattle.cap_owners_values_laws.proofs.More.{FitsSort}
 use Rattle.cap_owners_fills_laws.proofs.Drawn.{Tells}
 use Rattle.cap_owners_laws.specs.Owned.{IsTold, IsWaiting}
 use Rattle.cap_owners_walks_laws.proofs.Leading.{stops-running}
@@ -55,7 +56,7 @@ module _ (p : Checked) (trees : List (Option PlainTree)) where
     pub exact : AllByRecursion (Exact (valuation vs) T) state.facts
     pub backed : Backed p.program (valuation vs) state part
     pub store : Store (valuation vs) state home fn fixed f
-    pub sorted : AllZip HasNameSort state.sorts vs
+    pub sorted : AllZip FitsSort state.sorts vs
 
   -- the frame took this seat, at these values
   abbrev pub seated_at : TrackedFrame → Place → List NameValue → TrackedFrame
@@ -202,9 +203,12 @@ module _ (p : Checked) (trees : List (Option PlainTree)) where
             tidy = tidy wf part T fn fixed f ok fits room (running f.rest) q vs seat U r rs;
           })
 
-    pub seat-tied : (t : TrackedFrame) → Tied p trees part T fixed f (seated_at t q vs)
-    seat-tied t = record {
+    pub seat-tied :
+        AllZip FitsSort fn.fixed fixed → (t : TrackedFrame) →
+        Tied p trees part T fixed f (seated_at t q vs)
+    seat-tied fixed_fit t = record {
       stood = record { fn = fn; ok = ok; all = λ U r. sits U r };
+      fits = fixed_fit;
       walks = λ U r rs tells. walks U r rs tells;
     }
 

@@ -4,11 +4,12 @@ use Rattle.std.proofs.Common.{◌≡◌, ℕ, ◌+◌, ℤ, pos, false, List, []
 use Rattle.std.specs.Prelude.{slice_get, slice_set}
 use Rattle.std.specs.List.{AllByRecursion, AllZip}
 use Rattle.cap_prog.specs.Program.{PlainFunction, PlainProgram}
+use Rattle.cap_prog.specs.Scopes.{ensures_scope, region_scope}
 use Rattle.cap_goal_spec.specs.States.{PlainState, Home, goal}
 use Rattle.cap_goal_spec.specs.Choices.{PlainTree}
 use Rattle.cap_goal_spec.specs.Roots.{function_unit}
 use Rattle.cap_machine.specs.Machine.{Frame, Thread, Configuration, receives}
-use Rattle.cap_machine_accounts.specs.Assertions.{NameValue, a_number, HasNameSort}
+use Rattle.cap_machine_accounts.specs.Assertions.{NameValue, a_number}
 use Rattle.cap_machine_accounts.specs.Accounts.{table}
 use Rattle.cap_account_resources.specs.Parts.{known_as, Table}
 use Rattle.cap_account_resources.proofs.Interference.{Relies}
@@ -30,7 +31,9 @@ use Rattle.cap_owners_spec.specs.Track.{Fill, Place, TrackedRegion, TrackedFrame
 use Rattle.cap_owners_spec.specs.Walks.{Walk, Halt, stands, leaves}
 use Rattle.cap_owners_spec.specs.Steps.{Proved, root_at, ensures_root, frame_walk}
 use Rattle.cap_owners_laws.specs.Owned.{IsTold, IsWaiting, AreNumbered}
+use Rattle.cap_owners_values_laws.proofs.More.{FitsSort}
 use Rattle.cap_owners_fills_laws.proofs.Drawn.{IsMetBy, Tells}
+use Rattle.cap_owners_fills_laws.proofs.Giving.{NamesFit}
 
 -- nodes are those of valid derivations of the program, and are listed
 abbrev pub nodes_of : PlainProgram → List (Option PlainTree) → Checked
@@ -44,7 +47,7 @@ StopsSo P (leaves w) = ⊥
 
 -- it has caught up with these regions and has no steps left; each variable has a value of its sort
 pub record IsTidy (rs : List TrackedRegion) (s : PlainState) (w : Walk) : Type 0 where
-  pub sorted : AllZip HasNameSort s.sorts w.values
+  pub sorted : AllZip FitsSort s.sorts w.values
   pub regions : w.regions ≡ rs
   pub next : w.next ≡ pos (1 + length rs)
   pub events : w.events ≡ []
@@ -62,11 +65,12 @@ module _ (p : Checked) (trees : List (Option PlainTree)) where
     pub alike : Alike (Old s.at_node.state) s.at_node.v (valuation w.values)
     pub tidy : IsTidy rs s.at_node.state w
 
-  -- A frame that runs, with this part: whatever others do, its walk stops at the node at which it
-  -- then sits, unless a number leaves its bounds.
+  -- A frame that runs, with this part, its fixed names' values over the one denominator: whatever
+  -- others do, its walk stops at the node at which it then sits, unless a number leaves its bounds.
   pub record Tied (part : Stock) (T : Table) (fixed : List NameValue) (f : Frame)
       (t : TrackedFrame) : Type 0 where
     pub stood : Stands p part T fixed f
+    pub fits : AllZip FitsSort stood.fn.fixed fixed
     pub walks :
         (U : Table) (r : Relies p.program part.guards T U) (rs : List TrackedRegion) → Tells rs U →
         IsTold (StopsSo (IsAtNode rs part U stood.fn fixed f (stood.all U r)))
@@ -100,7 +104,7 @@ module _ (p : Checked) (trees : List (Option PlainTree)) where
     pub tidy : IsTidy rs q.goal.state w
 
   -- whatever others do, its walk stops where it waits, and with whatever the callee hands over it is
-  -- tied again, given by what that is met
+  -- tied again, given by what that is met, at values of the names' sorts
   pub record WaitsTied (part : Stock) (T : Table) (fixed : List NameValue) (f : Frame) (y : Callee)
       (t : TrackedFrame) : Type 0 where
     pub waited : Waits p part T fixed f y.destination y.function y.arguments y.fixed
@@ -114,6 +118,7 @@ module _ (p : Checked) (trees : List (Option PlainTree)) where
         Roomy p.program U (both p.program part handed) →
         (owns : OwnsEnsures p.program U handed g y.arguments y.fixed v) → (x : Fill) →
         IsMetBy p.program U owns.values g.ensures.items handed owns.met.0 owns.met.1 x →
+        NamesFit (ensures_scope g g.ensures.names) x.names →
         Tied (both p.program part handed) U fixed (receives y.destination v f) (received_by y v t x)
 
   -- ---- stacks
@@ -152,6 +157,7 @@ module _ (p : Checked) (trees : List (Option PlainTree)) where
     pub met :
         IsMetBy p.program T own.values own.case.items (part_stock r.owned.part) own.met.0 own.met.1
         r.fill
+    pub fits : NamesFit (region_scope own.type own.case.names) r.fill.names
 
   -- ---- all together
 

@@ -1,21 +1,30 @@
 -- A number more: values have their sorts, and are alike, as they were. And terms are told of.
-use Rattle.std.proofs.Common.{◌≡◌, ℕ, ◌+◌, ◌<◌, ℤ, ◌*ℤ◌, List, [], ◌∷◌, ◌++◌, sym, ap, ◌∙◌, arith}
+use Rattle.std.proofs.Common.{◌≡◌, ℕ, ◌+◌, ◌-◌, ◌<◌, ℤ, pos, ◌*ℤ◌, List, [], ◌∷◌, ◌++◌, sym, ap, ◌∙◌, arith}
 use Rattle.std.specs.List.{AllZip}
 use Rattle.cap_rules.specs.cap_goal_spec.cap_lin.Linear.{Linear}
 use Rattle.cap_rules.specs.cap_goal_spec.cap_lin.Steps.{value_steps}
 use Rattle.cap_rules.specs.cap_goal_spec.cap_lin.Values.{Valuation, denominator, value}
 use Rattle.cap_rules.specs.cap_goal_spec.cap_lin.declared.row.Sort.{Sort}
-use Rattle.cap_machine_accounts.specs.Assertions.{NameValue, HasNameSort}
+use Rattle.cap_rules.specs.cap_goal_spec.cap_lin.declared.row.Sort.TheVariants.{Int, Perm}
+use Rattle.cap_machine_accounts.specs.Assertions.{NameValue, a_number, a_fraction}
 use Rattle.cap_account_states.proofs.Alike.{Alike, agree-alike, alike-back, alike-trans}
 use Rattle.cap_account_states.proofs.Brought.{a_whole, Brings, brings-named}
 use Rattle.cap_account_states.proofs.Meets.{new-whole, new-share, with-agrees}
 use Rattle.cap_account_assertions.proofs.Named.{set_to}
-use Rattle.cap_owners_spec.specs.Traced.{untold, valuation, number_in}
+use Rattle.cap_owners_spec.specs.Traced.{untold, over, valuation, number_in}
 use Rattle.cap_owners_values_laws.proofs.Numbers.{computed-told}
 
+-- A value of the sort: a number, or a share over the one denominator. A name of either sort that
+-- nothing meets has the number 0.
+abbrev pub FitsSort : Sort → NameValue → Type 0
+FitsSort Int (a_number z) = Unit {0}
+FitsSort Int (a_fraction n d) = ⊥
+FitsSort Perm (a_number z) = z ≡ pos 0
+FitsSort Perm (a_fraction n d) = d ≡ over - 1
+
 pub sorted-more :
-    (os : List Sort) (vs : List NameValue) (o : Sort) (v : NameValue) → AllZip HasNameSort os vs →
-    HasNameSort o v → AllZip HasNameSort (os ++ o ∷ []) (vs ++ v ∷ [])
+    (os : List Sort) (vs : List NameValue) (o : Sort) (v : NameValue) → AllZip FitsSort os vs →
+    FitsSort o v → AllZip FitsSort (os ++ o ∷ []) (vs ++ v ∷ [])
 sorted-more [] [] o v h k = (k, tt)
 sorted-more [] (y ∷ vs) o v h k = absurd h
 sorted-more (x ∷ os) [] o v h k = absurd h
