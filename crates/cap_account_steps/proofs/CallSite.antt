@@ -1,6 +1,6 @@
 -- The state at a call or a fork: the callee's `requires` is taken from it.
 use Rattle.cap_account_resources.proofs.Lists.{map-at, none-some, within, get-map, get-last, map-length, get-or-push, push-length, get-first}
-use Rattle.std.proofs.Common.{◌≡◌, ℕ, ◌+◌, ◌<◌, ℤ, pos, ◌*ℤ◌, List, [], ◌∷◌, ◌++◌, length, map, arith, refl, sym, ap, ◌∙◌, subst, Option, Some, inl, inr}
+use Rattle.std.proofs.Common.{◌≡◌, ℕ, ◌+◌, ◌<◌, ℤ, ◌*ℤ◌, List, [], ◌∷◌, ◌++◌, length, map, arith, refl, sym, ap, ◌∙◌, subst, Option, Some, inl, inr}
 use Rattle.std.specs.Prelude.{slice_get, unwrap_or}
 use Rattle.std.specs.List.{AllByRecursion}
 use Rattle.cap_lin.specs.Linear.{Linear}
@@ -34,7 +34,8 @@ use Rattle.cap_account_steps.proofs.OwnNames.{canon, canon-means}
 use Rattle.cap_account_steps.proofs.Callees.{fixed_values, fixed-are, at_call, meets-reserve, put-over}
 use Rattle.cap_account_steps.proofs.FirmStates.{Between, facts-between, grounded-between, backed-between}
 
--- a state that holds of a frame's store and part, and a call of g
+-- a state that holds of a frame's store and part, and a call of g; until the result is there its
+-- variable has the value z
 pub record Caller (p : Checked) (part : Stock) (T : Table) (store : List ℤ) : Type 0 where
   pub s : PlainState
   pub v : Valuation
@@ -48,6 +49,7 @@ pub record Caller (p : Checked) (part : Stock) (T : Table) (store : List ℤ) : 
   pub args : List Linear
   pub size : length args ≡ g.params
   pub x : Option ℕ
+  pub z : ℤ
 
 module _ (p : Checked) (part : Stock) (T : Table) (store : List ℤ) (c : Caller p part T store) where
   abbrev s : PlainState
@@ -59,7 +61,7 @@ module _ (p : Checked) (part : Stock) (T : Table) (store : List ℤ) (c : Caller
   abbrev g : PlainFunction
   g = c.g
 
-  -- the variable that the result will have is kept free; it is 0 for now
+  -- the variable that the result will have is kept free
   abbrev pub kept : List ℕ
   kept = length c.s.sorts ∷ []
 
@@ -67,7 +69,7 @@ module _ (p : Checked) (part : Stock) (T : Table) (store : List ℤ) (c : Caller
   sorts1 = c.s.sorts ++ Int ∷ []
 
   abbrev pub v1 : Valuation
-  v1 = meets.with_value c.v (length c.s.sorts) (pos 0) (pos 0 *ℤ denominator c.v.fraction)
+  v1 = meets.with_value c.v (length c.s.sorts) c.z (c.z *ℤ denominator c.v.fraction)
 
   abbrev params : List Linear
   params = map (here c.s) c.args
@@ -86,14 +88,14 @@ module _ (p : Checked) (part : Stock) (T : Table) (store : List ℤ) (c : Caller
 
   agree1 : Agree (Old s) v v1
   agree1 =
-      with-agrees (Old s) v (length s.sorts) (pos 0) (pos 0 *ℤ denominator v.fraction)
+      with-agrees (Old s) v (length s.sorts) c.z (c.z *ℤ denominator v.fraction)
       (λ x l q. omega (arith, l, q))
 
   whole1 : IsWholeAt v1 (length s.sorts)
   whole1 =
-      new-share v (length s.sorts) (pos 0) (pos 0 *ℤ denominator v.fraction)
+      new-share v (length s.sorts) c.z (c.z *ℤ denominator v.fraction)
       ∙ ap (λ y. y *ℤ denominator v.fraction)
-      (sym (new-whole v (length s.sorts) (pos 0) (pos 0 *ℤ denominator v.fraction)))
+      (sym (new-whole v (length s.sorts) c.z (c.z *ℤ denominator v.fraction)))
 
   pub new-env : env_at s1 (length s.envs) ≡ env
   new-env = get-or-push s.envs env []

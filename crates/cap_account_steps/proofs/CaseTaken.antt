@@ -116,10 +116,14 @@ module _ (p : Checked) (program : IsWellFormed p.program) (taken : TakenLaw p) (
     abbrev sc : Scope
     sc = region_scope pk.k pk.x.names
 
-    new-env : env_at s1 e ≡ env
+    pub new-env :
+        env_at (env_added s (region_env pk.f pk.names)) (length s.envs)
+        ≡ region_env pk.f pk.names
     new-env = get-or-push s.envs env []
 
-    start : StateAt p.program ks W sc e v s1
+    pub start :
+        StateAt p.program ks W (region_scope pk.k pk.x.names) (length s.envs) v
+        (env_added s (region_env pk.f pk.names))
     start = record {
       grounded = record {
         meets = meets-env ks v s s1.envs c.grounded.meets;
@@ -135,13 +139,16 @@ module _ (p : Checked) (program : IsWellFormed p.program) (taken : TakenLaw p) (
       placed = subst (Placed ks sc s.sorts) (sym new-env) pk.placed;
     }
 
-    case-fits : CaseFits p.program pk.k pk.x
+    pub case-fits : CaseFits p.program pk.k pk.x
     case-fits =
         all-at (CaseFits p.program pk.k) pk.k.cases number pk.x pk.movable.fits.cases pk.is_case
 
-    abbrev TakenHere : Type 0
+    -- the case's items, taken out of what is held
+    abbrev pub TakenHere : Type 0
     TakenHere =
-        TakenOnce p ks W sc e 1 v held s1 pk.x.items (to_shift o number move e n ∷ ts)
+        TakenOnce p ks W (region_scope pk.k pk.x.names) (length s.envs) 1 v held
+        (env_added s (region_env pk.f pk.names)) pk.x.items
+        (to_shift o number move (length s.envs) n ∷ ts)
 
     take-case : TakenHere
     take-case =
@@ -153,7 +160,7 @@ module _ (p : Checked) (program : IsWellFormed p.program) (taken : TakenLaw p) (
       abbrev tk : Taken p ks W sc e 1 v held s1 pk.x.items (to_shift o number move e n ∷ ts)
       tk = here.taken
 
-      later : LaterState ks ks v tk.w s tk.after
+      pub later : LaterState ks ks v here.taken.w s here.taken.after
       later = record {
         alike = alike-less (Steady ks s) (Old s1) v tk.w (λ x h. h.0) tk.alike;
         sorts = tk.goes_on.sorts;
@@ -162,7 +169,8 @@ module _ (p : Checked) (program : IsWellFormed p.program) (taken : TakenLaw p) (
         store = tk.goes_on.store;
       }
 
-      still : Closing p.program V tk.U part ks tk.w tk.after tk.left
+      pub still :
+          Closing p.program V here.taken.U part ks here.taken.w here.taken.after here.taken.left
       still =
           closing-later p.program ks ks v tk.w s tk.after later V W tk.U part tk.left s.opened
           tk.goes_on.opened (if-any s.opened (tk.after.before ≡ s.before) tk.goes_on.before)
@@ -187,7 +195,7 @@ module _ (p : Checked) (program : IsWellFormed p.program) (taken : TakenLaw p) (
                 (made-room p.program W tk.U tk.new tk.made held tk.left tk.given c.room tk.budget);
           })
 
-      case-taken : CaseTaken p V W part ks v s held n ts
+      abbrev pub case-taken : CaseTaken p V W part ks v s held n ts
       case-taken =
           let d = one-child p.N tk.children tk.after (to_shift o number move e n ∷ ts) tk.goes in
           record {

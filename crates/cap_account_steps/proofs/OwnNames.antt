@@ -4,14 +4,14 @@ use Rattle.std.specs.Prelude.{slice_get, unwrap_or}
 use Rattle.cap_lin.specs.Linear.{Linear, variable}
 use Rattle.cap_lin.specs.Values.{Valuation, value, amount}
 use Rattle.cap_lin.specs.declared.row.Sort.{Sort}
-use Rattle.cap_lin.specs.declared.row.Sort.TheVariants.{Int}
+use Rattle.cap_lin.specs.declared.row.Sort.TheVariants.{Int, Perm}
 use Rattle.cap_prog.specs.Program.{PlainFunction}
 use Rattle.cap_prog.specs.Scopes.{Scope, fixed_start, HasSort}
 use Rattle.cap_goal_spec.specs.States.{PlainEnv, PlainState, Home}
 use Rattle.cap_goal_spec.specs.Environments.{zero_value, term_of, bound_term, own_env}
 use Rattle.cap_rules.specs.Making.{env_at}
 use Rattle.cap_machine.specs.Machine.{Frame}
-use Rattle.cap_machine_accounts.specs.Assertions.{NameValue, a_number, a_fraction, IsNamed, AreNamed}
+use Rattle.cap_machine_accounts.specs.Assertions.{NameValue, a_number, a_fraction, HasNameSort, ValuesFit, IsNamed, AreNamed}
 use Rattle.cap_account_states.proofs.Alike.{usable-alike, Alike}
 use Rattle.cap_account_resources.proofs.Lists.{some-same, none-some, within, there-is, get-or-push, push-length, all-at}
 use Rattle.cap_account_states.proofs.Terms.{Over, by_terms}
@@ -19,6 +19,7 @@ use Rattle.cap_account_states.proofs.Attempts.{env_added}
 use Rattle.cap_account_states.proofs.Meets.{Usable, Meets, Old, variable-value, variable-amount, is-of}
 use Rattle.cap_account_states.proofs.Naming.{Placed, Means}
 use Rattle.cap_account_states.proofs.Scopes.{Position, param, local, fixed, result, extra, position-room, own-param, own-local, own-fixed, own-result, own-new, own-room}
+use Rattle.cap_account_states.proofs.Roots.{values-length, fits-at}
 use Rattle.cap_account_states.proofs.Values.{named-of}
 use Rattle.cap_account_steps.proofs.Stores.{fixed-name, name-alike, Store}
 
@@ -135,30 +136,40 @@ own-placed s v fn h fx f ls r new sc m st size hl fl fr at_position = record {
 
 -- ---- at alike values
 
--- the fixed names in the frame's own environment have their values
-pub own-fixed-alike :
-    (s : PlainState) (v w : Valuation) (h : Home) (fn : PlainFunction) (fx : List NameValue)
-    (f : Frame) (env : PlainEnv) → Store v s h fn fx f → Alike (Old s) v w →
-    length fx ≡ length fn.fixed →
+-- the fixed names in the frame's own environment have their values, by what the environment means
+pub own-fixed-named :
+    (sc : Scope) (s : PlainState) (v w a : Valuation) (h : Home) (fn : PlainFunction)
+    (fx : List NameValue) (f : Frame) (env : PlainEnv) → Store v s h fn fx f → Alike (Old s) v w →
+    Means sc w env a → ValuesFit fn.fixed fx →
+    ((i : ℕ) (o : Sort) → slice_get fn.fixed i ≡ Some o → HasSort sc o (fixed_start fn + i)) →
     ((i : ℕ) (o : Sort) → slice_get fn.fixed i ≡ Some o →
     term_of env (fixed_start fn + i) ≡ Some (variable (h.fixed + i))) →
-    AreNamed (canon w env) (fixed_start fn) fx
-own-fixed-alike s v w h fn fx f env st a size look =
-    named-of (canon w env) (fixed_start fn) fx (λ i y e.
+    AreNamed a (fixed_start fn) fx
+own-fixed-named sc s v w a h fn fx f env st l m fit has look =
+    named-of a (fixed_start fn) fx (λ i y e.
+    let size = values-length fn.fixed fx fit in
     let o = there-is fn.fixed i (let q = within fx i y e in omega (arith, q, size)) in
     let k = fixed-name s v h fn fx f st size i y e in
-    named i y (name-alike (Old s) v w (h.fixed + i) y k.0 a k.1) (look i o.0 o.1))
+    named i o.0 y (fits-at fn.fixed fx i o.0 y fit o.1 e) (has i o.0 o.1)
+    (name-alike (Old s) v w (h.fixed + i) y k.0 l k.1) (look i o.0 o.1))
   where
     named :
-        (i : ℕ) (y : NameValue) → IsNamed w (h.fixed + i) y →
+        (i : ℕ) (o : Sort) (y : NameValue) → HasNameSort o y → HasSort sc o (fixed_start fn + i) →
+        IsNamed w (h.fixed + i) y →
         term_of env (fixed_start fn + i) ≡ Some (variable (h.fixed + i)) →
-        IsNamed (canon w env) (fixed_start fn + i) y
-    named i (a_number z) k l =
-        ap (λ u. value w.whole (unwrap_or u zero_value)) l ∙ variable-value w (h.fixed + i) ∙ k
-    named i (a_fraction n d) k l =
-        ap (λ u. amount w.fraction (unwrap_or u zero_value) *ℤ pos (suc d)) l
-        ∙ ap (λ q. q *ℤ pos (suc d)) (variable-amount w (h.fixed + i))
+        IsNamed a (fixed_start fn + i) y
+    named i Int (a_number z) ok has k e =
+        sym (m.whole (fixed_start fn + i) has (variable (h.fixed + i)) e)
+        ∙ variable-value w (h.fixed + i)
         ∙ k
+    named i Perm (a_fraction n d) ok has k e =
+        ap (λ q. q *ℤ pos (suc d))
+        (sym (m.share (fixed_start fn + i) has (variable (h.fixed + i)) e)
+        ∙ variable-amount w (h.fixed + i))
+        ∙ k
+        ∙ ap (λ u. n *ℤ pos (u + 1)) (sym m.under)
+    named i Int (a_fraction n d) ok has k e = absurd ok
+    named i Perm (a_number z) ok has k e = absurd ok
 
 -- a term of the store has its value
 pub store-term-alike :

@@ -8,6 +8,7 @@ use Rattle.cap_lin.specs.declared.row.Sort.TheVariants.{Int}
 use Rattle.cap_prog.specs.Program.{PlainRegionType}
 use Rattle.cap_prog.specs.Scopes.{Scope, region_scope}
 use Rattle.cap_prog.specs.WellFormed.{IsWellFormed}
+use Rattle.cap_farkas.specs.declared.cert.Cert.{Cert}
 use Rattle.cap_goal_spec.specs.States.{PlainFact, PlainState, PlainTask, to_close, to_shift, with_state}
 use Rattle.cap_goal_spec.specs.Choices.{PlainTree, node, PlainTrees, by_absurd, by_shift}
 use Rattle.cap_rules.specs.Making.{is_empty, env_at}
@@ -31,14 +32,14 @@ use Rattle.cap_account_assertions.proofs.NewRegions.{told-here, told-apart}
 use Rattle.cap_account_steps.proofs.Exact.{all-two}
 use Rattle.cap_account_steps.proofs.Joining.{Joined, fact-joined}
 use Rattle.cap_account_steps.proofs.Moves.{MovesTo, move-says}
-use Rattle.cap_account_steps.proofs.Shifting.{closed_state, none-other, Shifted, shifted}
+use Rattle.cap_account_steps.proofs.Shifting.{Picked, closed_state, none-other, Shifted, shifted}
 use Rattle.cap_account_steps.proofs.Shutting.{Shut, shut_values, shut_owner, KeepsCase, keeps-on, KeepsNew, keeps-new-on}
 use Rattle.cap_account_steps.proofs.Worlds.{Earlier, IfAny, IsStillOpen, Closing, HasMoved, SettlesBy}
 use Rattle.cap_account_steps.proofs.SettledTables.{told_of, open_of, settled-types}
 use Rattle.cap_account_steps.proofs.SettledTwice.{settles-for, settles-again}
 use Rattle.cap_account_steps.proofs.StillOpen.{LaterState, later-trans, if-any, StaysOpen, closing-later, others-differ, differ-remove}
 use Rattle.cap_account_steps.proofs.ClosedTables.{closed_table, closed-states, facts-closed, closes-by, room-kept}
-use Rattle.cap_account_steps.proofs.CaseTaken.{CaseTaken, close-takes}
+use Rattle.cap_account_steps.proofs.CaseTaken.{CaseTaken, TakenHere, case-taken, close-takes}
 
 -- open region number o is closed, and the others stay open
 pub record RegionClosed (p : Checked) (V W : Table) (part : Stock) (ks : List ℕ) (v : Valuation)
@@ -133,18 +134,18 @@ module _ (p : Checked) (V W : Table) (part : Stock) (ks : List ℕ) (v : Valuati
     abbrev U : Table
     U = closed_table ct.by.U r
 
-    is_open : T r.number ≡ Some (open_of r)
+    pub is_open : T r.number ≡ Some (open_of r)
     is_open = this-open.2
 
     abbrev Goes : Type 0
     Goes = Open p.N kids (closed_state ct.t ct.o (with_state ct.f sh.new)) ts
 
-    moves : MovesTo p.program part w f sh.new × Goes
+    pub moves : MovesTo p.program part w f sh.new × Goes
     moves =
         move-says p.program ks w t ct.closing.grounded.meets f k ct.movable sh.new sh.over
         (λ _. Goes) part earlier ct.move spans sh.moves
 
-    moved : HasMoved p.program V part r
+    pub moved : HasMoved p.program V part r
     moved = record { state = value w.whole f.state; was = this-open.1; moves = moves.0 }
 
     abbrev owns : OwnsRegion p.program T r.number r.kind r.args r.state r.stock
@@ -193,7 +194,7 @@ module _ (p : Checked) (V W : Table) (part : Stock) (ks : List ℕ) (v : Valuati
         now : Facts ks w U t
         now = facts-closed T r is_open ks w t ct.closing.facts
 
-    joined : Joined p.program ks w U shut g
+    pub joined : Joined p.program ks w U shut g
     joined =
         let b = ct.closing.grounded in
         let m = b.meets in
@@ -216,7 +217,7 @@ module _ (p : Checked) (V W : Table) (part : Stock) (ks : List ℕ) (v : Valuati
       abbrev after : PlainState
       after = closed_state ct.t ct.o (with_state ct.f sh.new)
 
-      later : LaterState ks jn.js w jn.w t after
+      pub later : LaterState ks jn.js w jn.w t after
       later = record {
         alike =
             alike-less (Steady ks t) (Free ks) w jn.w (λ x h. h.1)
@@ -243,7 +244,7 @@ module _ (p : Checked) (V W : Table) (part : Stock) (ks : List ℕ) (v : Valuati
           (remove t.opened ct.o) (all-remove still t.opened ct.o ct.closing.opened)
           (others-differ w t.opened ct.o f is_f ct.closing.differ)
 
-      closing : Closing p.program V U part jn.js jn.w after ct.left
+      pub closing : Closing p.program V U part jn.js jn.w after ct.left
       closing =
           let open-ones = remove t.opened ct.o in
           let m = jn.grounded.meets in
@@ -292,7 +293,7 @@ module _ (p : Checked) (V W : Table) (part : Stock) (ks : List ℕ) (v : Valuati
         created = ct.created;
       }
 
-      region-closed : RegionClosed p V W part ks v s held ts
+      abbrev region-closed : RegionClosed p V W part ks v s held ts
       region-closed = record {
         o = ct.o;
         f = f;
@@ -330,17 +331,48 @@ module _ (p : Checked) (V W : Table) (part : Stock) (ks : List ℕ) (v : Valuati
             keeps-new-on p.program T U (closed-states T r is_open) shut_here ct.keeps_new;
       }
 
+  pub shifted-here :
+      (cs : List Cert) (spans : List ℕ) (kids : PlainTrees) →
+      p.N (node (by_shift cs spans) kids) ct.t
+      (to_shift ct.o ct.number ct.move ct.env n ∷ ts) →
+      Shifted p.N ks ct.w ct.t spans ct.o ct.move ct.env ct.f ct.k ct.x ts kids
+  shifted-here cs spans kids h =
+      shifted p.program p.N ks w t ct.closing.grounded.meets spans ct.o ct.number ct.move ct.env ts
+      kids f k ct.x is_f ct.is_case ct.movable ct.placed
+      (none-other ks w T t f None ct.closing.facts this-open.2) (p.step h)
+
+  -- by what its case was given
+  abbrev pub shift-from :
+      (cs : List Cert) (spans : List ℕ) (kids : PlainTrees) →
+      p.N (node (by_shift cs spans) kids) ct.t
+      (to_shift ct.o ct.number ct.move ct.env n ∷ ts) → RegionClosed p V W part ks v s held ts
+  shift-from cs spans kids h =
+      let sh = shifted-here cs spans kids h in
+      region-closed spans kids sh (joined spans kids sh)
+
   pub shift-closes :
       (d : PlainTree) → p.N d ct.t (to_shift ct.o ct.number ct.move ct.env n ∷ ts) →
       RegionClosed p V W part ks v s held ts
   shift-closes (node (by_absurd cs) kids) h =
       absurd ((p.step h).0.0 w (solves ks w t ct.closing.grounded.meets))
-  shift-closes (node (by_shift cs spans) kids) h =
-      let none = none-other ks w T t f None ct.closing.facts this-open.2 in
-      let sh = shifted p.program p.N ks w t ct.closing.grounded.meets spans ct.o ct.number ct.move
-      ct.env ts kids f k ct.x is_f ct.is_case ct.movable ct.placed none (p.step h) in
-      region-closed spans kids sh (joined spans kids sh)
+  shift-closes (node (by_shift cs spans) kids) h = shift-from cs spans kids h
   shift-closes d h = absurd (p.step h).1
+
+-- where the case was picked, and by what was taken for it
+pub close-from :
+    (p : Checked) (program : IsWellFormed p.program) (taken : TakenLaw p) (V W : Table)
+    (part held : Stock) (ks : List ℕ) (v : Valuation) (s : PlainState) (n : ℕ)
+    (ts : List PlainTask) (bound : List ℤ) (fits : TableFits p.program W)
+    (listed : AreListed bound W) (c : Closing p.program V W part ks v s held)
+    (o number move : ℕ) (kids : PlainTrees)
+    (pk : Picked p.program p.N ks s o number move n true ts kids) →
+    TakenHere p program taken V W part held ks v s n ts bound fits listed c o number move kids pk →
+    RegionClosed p V W part ks v s held ts
+close-from p program taken V W part held ks v s n ts bound fits listed c o number move kids pk
+    here =
+    let ct = case-taken p program taken V W part held ks v s n ts bound fits listed c o number move
+    kids pk here in
+    shift-closes p V W part ks v s held n ts ct ct.tree ct.goes
 
 pub close-closes :
     (p : Checked) → IsWellFormed p.program → TakenLaw p → (V W : Table) (part held : Stock)

@@ -17,9 +17,10 @@ use Rattle.cap_rules.specs.Making.{fresh}
 use Rattle.cap_machine.specs.Machine.{value_in}
 use Rattle.cap_machine_accounts.specs.Assertions.{AreNamed, AreWhole}
 use Rattle.cap_account_resources.specs.Parts.{Table}
+use Rattle.cap_account_resources.proofs.Order.{cancel}
 use Rattle.cap_account_resources.proofs.Stocks.{Stock}
 use Rattle.cap_account_states.proofs.Terms.{Over, vars-more, Agree, agree-less, value-agree, amount-agree}
-use Rattle.cap_account_states.proofs.Alike.{Alike, alike-trans, alike-less, agree-alike, meets-agree}
+use Rattle.cap_account_states.proofs.Alike.{Alike, above-zero, alike-trans, alike-less, agree-alike, meets-agree}
 use Rattle.cap_account_states.proofs.Meets as meets
 use Rattle.cap_account_states.proofs.Meets.{Free, Usable, Meets, Old, new-whole, new-share, with-agrees, variable-value}
 use Rattle.cap_account_states.proofs.Checked.{Checked}
@@ -280,4 +281,18 @@ module _ (p : Checked) (part : Stock) (T : Table) (store : List ℤ) (c : Caller
       share =
           λ x i t q. scaled-amount a2.fraction.under with_result t
           ∙ share-late x t q (late x Perm t i q);
+    }
+
+    -- where both are over one denominator
+    pub means3 :
+        a2.fraction.under ≡ tk.w.fraction.under →
+        Means (ensures_scope c.g c.g.ensures.names) with_result (env2 p part T store c ts tk) a2
+    means3 same = record {
+      under = same;
+      whole = λ x i t q. whole-late x t q (late x Int t i q);
+      share = λ x i t q.
+          cancel (amount with_result.fraction t) (a2.fraction.numerator x)
+          (denominator tk.w.fraction) (above-zero tk.w)
+          (ap (λ n. amount with_result.fraction t *ℤ pos (n + 1)) (sym same)
+          ∙ share-late x t q (late x Perm t i q));
     }
