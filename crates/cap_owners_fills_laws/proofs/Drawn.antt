@@ -1,5 +1,5 @@
 -- By what the items of an assertion are met, where they are drawn out of a part.
-use Rattle.std.proofs.Common.{◌≡◌, inl, inr, ℤ, pos, List, [], ◌∷◌, ◌++◌, Some, refl, ap, ◌∙◌}
+use Rattle.std.proofs.Common.{◌≡◌, inl, inr, ℤ, pos, false, List, [], ◌∷◌, ◌++◌, Some, refl, ap, ◌∙◌}
 use Rattle.std.specs.Prelude.{option_map}
 use Rattle.cap_lin.specs.Values.{Valuation}
 use Rattle.cap_prog.specs.declared.assertion.Slot.{Slot}
@@ -16,6 +16,7 @@ use Rattle.cap_account_states.proofs.Wants.{Wants}
 use Rattle.cap_account_assertions.proofs.Asserted.{Draws, DrawsAll, draws-more, draws-all-more, draws-join}
 use Rattle.cap_owners_spec.specs.Traced.{a_share, valuation}
 use Rattle.cap_owners_spec.specs.Track.{Fill, TrackedRegion, tracked_at}
+use Rattle.cap_owners_spec.specs.Walks.{no_items}
 
 -- ---- what is drawn
 
@@ -112,6 +113,13 @@ module _ (p : PlainProgram) (T : Table) (a : Valuation) where
 pub record IsMetBy (p : PlainProgram) (T : Table) (a : Valuation) (items : Items) (q r : Stock)
     (d : DrawsAll p T a items q r) (f : Fill) : Type 0 where
   pub names : a ≡ valuation f.names
+  pub wildcards : items_met p T a items q r d ≡ f.wildcards
+  pub facts : items_told p T a items q r d ≡ f.facts
+
+-- the same, but where there are no items the names may be any
+pub record IsMetOr (p : PlainProgram) (T : Table) (a : Valuation) (items : Items) (q r : Stock)
+    (d : DrawsAll p T a items q r) (f : Fill) : Type 0 where
+  pub names : no_items items ≡ false → a ≡ valuation f.names
   pub wildcards : items_met p T a items q r d ≡ f.wildcards
   pub facts : items_told p T a items q r d ≡ f.facts
 

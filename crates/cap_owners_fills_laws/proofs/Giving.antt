@@ -56,14 +56,14 @@ pub record GivesSo (vs : List NameValue) (left : List NameValue) (g : Giving) (f
 
 -- ---- which names are bound
 
-set-bound :
+pub set-bound :
     (env : PlainEnv) (x : ℕ) (t : Linear) →
     are_bound (with_name env x t) ≡ slice_set (are_bound env) x true
 set-bound [] x t = refl
 set-bound (o ∷ env) zero t = refl
 set-bound (o ∷ env) (suc x) t = ap (λ bs. is_some o ∷ bs) (set-bound env x t)
 
-term-bound : (env : PlainEnv) (x : ℕ) → is_some (term_of env x) ≡ get_or (are_bound env) x false
+pub term-bound : (env : PlainEnv) (x : ℕ) → is_some (term_of env x) ≡ get_or (are_bound env) x false
 term-bound [] x = refl
 term-bound (o ∷ env) zero = refl
 term-bound (o ∷ env) (suc x) = term-bound env x
@@ -213,7 +213,7 @@ module _ (sc : Scope) (names vs : List NameValue) (ok : NamesFit sc names) where
       (subst (λ ws. GivesSo vs ws g f) (sym (join-assoc (slot_met x z) (slots_met xs zs) left)) h))
 
   -- the slot of what is asked of a guard
-  abbrev Shaped : Asked → Type 0
+  abbrev pub Shaped : Asked → Type 0
   Shaped One = Unit {0}
   Shaped (Share s) = SlotFits sc Perm s
   Shaped (Src s) = SlotFits sc Int s
@@ -252,14 +252,14 @@ module _ (sc : Scope) (names vs : List NameValue) (ok : NamesFit sc names) where
 
   -- ---- items
 
-  fact-fit :
+  pub fact-fit :
       (o : Option PlainRegionType) (args : List Slot) (x : Slot) →
       IsSomeAnd o (λ type. FactFits sc type args x) →
       AllByRecursion (SlotFits sc Int) args × SlotFits sc Int x
   fact-fit None args x h = absurd h
   fact-fit (Some type) args x h = (h.slots, h.value)
 
-  atom-fit :
+  pub atom-fit :
       (o : Option PlainRegionType) (i : ℕ) (asked : Asked) →
       IsSomeAnd o (λ type. AtomFits sc type i asked) → Shaped asked
   atom-fit None i asked h = absurd h

@@ -2,7 +2,9 @@
 -- at the values at which the state holds there.
 use Rattle.std.proofs.Common.{◌≡◌, ◌⊎◌, inl, inr, ℕ, zero, suc, ◌+◌, ◌≤◌, ℤ, Bool, true, false, List, [], ◌∷◌, ◌++◌, length, Option, Some, None, refl, sym, ap, ◌∙◌, subst, arith}
 use Rattle.std.specs.Prelude.{option_to_list, if◌then◌else◌}
-use Rattle.std.specs.List.{AllByRecursion}
+use Rattle.std.proofs.lemmas.Slice.Zip.{AllZip-long}
+use Rattle.std.specs.List.{AllByRecursion, AllZip}
+use Rattle.cap_lin.specs.Linear.{Linear}
 use Rattle.cap_lin.specs.Rows.{row_of}
 use Rattle.cap_lin.specs.Values.{Valuation}
 use Rattle.cap_lin.specs.declared.row.Op.{Op}
@@ -14,11 +16,11 @@ use Rattle.cap_prog.specs.WellFormed.{ItemFits}
 use Rattle.cap_goal_spec.specs.States.{PlainState, PlainTask, to_give, PlainGoal, goal, goal_of, goals_of}
 use Rattle.cap_goal_spec.specs.Choices.{PlainTree, node, PlainTrees, no_trees, tree, by_absurd, by_give}
 use Rattle.cap_rules.specs.Making.{env_at, opposite}
-use Rattle.cap_rules.specs.Giving.{give_sides, give_item, give}
+use Rattle.cap_rules.specs.Giving.{Given as Pair, given as pair, give_sides, give_item, give}
 use Rattle.cap_rules_nodes.specs.Nodes.{goals_left}
 use Rattle.cap_machine_accounts.specs.Assertions.{NameValue}
 use Rattle.cap_account_resources.specs.Parts.{Table}
-use Rattle.cap_account_resources.proofs.Lists.{join-nil, join-assoc, all-first, all-second}
+use Rattle.cap_account_resources.proofs.Lists.{some-same, join-nil, join-assoc, all-first, all-second}
 use Rattle.cap_account_resources.proofs.Order.{unless-relates}
 use Rattle.cap_account_resources.proofs.Stocks.{Stock, both, Composes, inside-same}
 use Rattle.cap_account_states.specs.Nodes.{Comes, Children, Open}
@@ -41,11 +43,13 @@ use Rattle.cap_owners_spec.specs.Traced.{Traced, traced, past_width, ◌>>=◌, 
 use Rattle.cap_owners_spec.specs.Track.{Fill}
 use Rattle.cap_owners_spec.specs.Filling as filling
 use Rattle.cap_owners_spec.specs.Walks.{Walk, Descent, descends, bringing, side_child, no_items, left_fill, Interpreting, pass_parting, Halt, walk_below}
+use Rattle.cap_owners_values_laws.proofs.More.{FitsSort}
 use Rattle.cap_owners_fills_laws.proofs.Drawn.{item_met, items_met, met-join}
 use Rattle.cap_owners_fills_laws.proofs.Giving as giving
 use Rattle.cap_owners_fills_laws.proofs.Siding.{is_first, side-picked}
-use Rattle.cap_owners_walks_laws.proofs.Leading.{node-leads}
+use Rattle.cap_owners_walks_laws.proofs.Leading.{comes-itself, node-leads}
 use Rattle.cap_owners_passes_laws.proofs.Rests.{into, below-wide}
+use Rattle.cap_owners_passes_laws.proofs.Sorting.{SortsSo, sides-sorted, item-sorted}
 
 -- a walk goes there, or a number on its way is too wide
 abbrev pub GoesTo : Traced Halt → Traced Halt → Type 0
@@ -131,7 +135,7 @@ module _ (p : Checked) (T : Table) (sc : Scope) (e : ℕ) (names : List NameValu
     pub given : IsGiven v s
     pub values : List NameValue
     pub valued : given.w ≡ valuation values
-    pub count : length given.after.sorts ≡ length values
+    pub sorted : AllZip FitsSort given.after.sorts values
     pub walks :
         (enter : Interpreting) (w : Walk) (fs : List (ℤ × ℤ)) →
         GoesTo
@@ -145,7 +149,7 @@ module _ (p : Checked) (T : Table) (sc : Scope) (e : ℕ) (names : List NameValu
     given : IsGiven v s
     values : List NameValue
     valued : given.w ≡ valuation values
-    count : length given.after.sorts ≡ length values
+    sorted : AllZip FitsSort given.after.sorts values
     walks :
         (enter : Interpreting) (w : Walk) (ws : List NameValue) (fs : List (ℤ × ℤ)) →
         GoesTo
@@ -164,19 +168,33 @@ module _ (p : Checked) (T : Table) (sc : Scope) (e : ℕ) (names : List NameValu
       (v : Valuation) (s : PlainState) → IsDue way items v s → Type 0
   So way items vs g v s d = giving.GivesSo vs (met_by way items v s d) g (filled_at e v s)
 
+  abbrev Sorted : List NameValue → filling.Giving → PlainState → Type 0
+  Sorted vs g s = AllZip FitsSort s.sorts (vs ++ g.new)
+
+  sorts-so :
+      (way : PlainTrees → PlainTrees) (items : Items) (vs : List NameValue) (g : filling.Giving)
+      (v : Valuation) (s : PlainState) (d : IsDue way items v s) → So way items vs g v s d →
+      Sorted vs g s → SortsSo sc e names vs ok (met_by way items v s d) g s
+  sorts-so way items vs g v s d so sorted = record {
+    there = d.underway.ready.there;
+    bound = so.bound;
+    sorted = sorted;
+    wildcards = so.wildcards;
+  }
+
   abbrev ListLeads : (PlainTrees → PlainTrees) → Items → Type 0
   ListLeads way items =
       (kids : PlainTrees) (gs : List PlainGoal) (s0 : PlainState) (vs : List NameValue)
       (g : filling.Giving) (v : Valuation) (s : PlainState) →
       Comes (give p.program s e n ts items) (Here kids gs) → (d : IsDue way items v s) →
-      So way items vs g v s d → ListTo items kids gs s0 vs g v s
+      So way items vs g v s d → Sorted vs g s → ListTo items kids gs s0 vs g v s
 
   none-to : (way : PlainTrees → PlainTrees) → ListLeads way none
-  none-to way kids gs s0 vs g v s h d so = record {
+  none-to way kids gs s0 vs g v s h d so sorted = record {
     given = (given-none p T sc e a total goal_is ne n ts way kids v s h.1.1 d).given;
     values = vs ++ g.new;
     valued = so.values;
-    count = so.next;
+    sorted = sorted;
     walks = λ enter w ws fs.
         inr (ap (λ hs. walk_below enter p.program false kids hs
         (traced (descends (Some 0) (record w { values = vs ++ g.new; fill = None })))) h.1.0);
@@ -191,11 +209,13 @@ module _ (p : Checked) (T : Table) (sc : Scope) (e : ℕ) (names : List NameValu
       (g : filling.Giving) (v : Valuation) (s : PlainState) →
       Comes (give_item p.program s e i)
       (λ t. Comes (give p.program t e n ts more) (Here kids gs)) →
-      (d : IsDue way (item i more) v s) → So way (item i more) vs g v s d →
+      (d : IsDue way (item i more) v s) → So way (item i more) vs g v s d → Sorted vs g s →
       ListTo (item i more) kids gs s0 vs g v s
-  after-to way i more plain law same_parting same_all kids gs s0 vs g v s h d so =
-      let x = item-gives p.program T sc e a total goal_is way ne i plain more v s
-      (λ t. Comes (give p.program t e n ts more) (Here kids gs)) d h in
+  after-to way i more plain law same_parting same_all kids gs s0 vs g v s h d so sorted =
+      let P = λ (t : PlainState). Comes (give p.program t e n ts more) (Here kids gs) in
+      let Q = λ (t : PlainState). ((give_item p.program s e i).value ≡ Some t) × P t in
+      let hq = comes-itself (give_item p.program s e i) P h in
+      let x = item-gives p.program T sc e a total goal_is way ne i plain more v s Q d hq in
       let now = filling.give_item names i g in
       let met = item_met p.program T a i d.left d.draws.0 d.draws.1 in
       let behind = items_met p.program T a more d.draws.0 d.rest d.draws.2 in
@@ -209,13 +229,20 @@ module _ (p : Checked) (T : Table) (sc : Scope) (e : ℕ) (names : List NameValu
       giving.GivesSo vs (items_met p.program T a more y.0 y.1 y.2 ++ left) now
       (fill_item p.program T a i d.left d.draws.0 d.draws.1 (filled_at e v s))) (sym x.drawn)
       given_so) in
-      let r = law kids gs s0 vs now x.w x.after x.comes x.due next in
+      -- the state is the one in which the variables that are new have values of their sorts
+      let y = item-sorted sc e names vs ok p.program T (behind ++ left) i plain d.left d.draws.0
+      d.draws.1 g s Q d.fit.0
+      (subst (λ ws. SortsSo sc e names vs ok ws g s) (sym (join-assoc met behind left))
+      (sorts-so way (item i more) vs g v s d so sorted)) hq in
+      let same_state = some-same y.0 x.after (sym y.2.0 ∙ x.comes.0) in
+      let r = law kids gs s0 vs now x.w x.after x.comes.1 x.due next
+      (subst (Sorted vs now) same_state y.1.sorted) in
       record {
         given = (given-on p T e v x.w total s x.after ts goal_is r.given.children x.onward
             (record { given = r.given; along = refl })).given;
         values = r.values;
         valued = r.valued;
-        count = r.count;
+        sorted = r.sorted;
         walks = λ enter w ws fs.
             let same = ap (λ all. walk_below enter p.program false kids gs
             (pass_parting s0 e n ts (fill_of ws fs) all (record w { values = vs })
@@ -237,7 +264,7 @@ module _ (p : Checked) (T : Table) (sc : Scope) (e : ℕ) (names : List NameValu
       (way : PlainTrees → PlainTrees) (items : Items) → items_size items ≤ size →
       (ks : PlainTrees) (vs ws : List NameValue) (v : Valuation) (s : PlainState) →
       Open p.N ks s (to_give items e n ∷ ts) → (d : IsDue way items v s) → v ≡ valuation vs →
-      length s.sorts ≡ length vs → ws ≡ met_by way items v s d → GivesTo items ks vs ws v s
+      AllZip FitsSort s.sorts vs → ws ≡ met_by way items v s d → GivesTo items ks vs ws v s
 
   remains-give :
       (s : PlainState) (items : Items) →
@@ -254,7 +281,8 @@ module _ (p : Checked) (T : Table) (sc : Scope) (e : ℕ) (names : List NameValu
       (gs : List PlainGoal) (s0 : PlainState) (vs : List NameValue) (g : filling.Giving)
       (v : Valuation) (s : PlainState) (d : IsDue way (item (choose c x y) more) v s)
       (so : So way (item (choose c x y) more) vs g v s d) (t : PlainState) (m : Step sc e a v s t)
-      (size : ℕ) (law : AllLead size) where
+      (sorted : AllZip FitsSort t.sorts (vs ++ (filling.give_comparison names c g).new)) (size : ℕ)
+      (law : AllLead size) where
     abbrev now : filling.Giving
     now = filling.give_comparison names c g
 
@@ -294,8 +322,7 @@ module _ (p : Checked) (T : Table) (sc : Scope) (e : ℕ) (names : List NameValu
         let given_so = giving.sides-give sc names vs ok
         (met_by way (item (choose c x y) more) v s d) c g (filled_at e v s) d.fit.0 so in
         let r = law behind all small ls (vs ++ now.new) now.wildcards m.w t open_there due
-        (ap (λ (f : Filled). f.values) filled ∙ given_so.values)
-        (ap (λ (f : Filled). f.next) filled ∙ given_so.next)
+        (ap (λ (f : Filled). f.values) filled ∙ given_so.values) sorted
         (given_so.wildcards
         ∙ ap (λ ws. ws ++ left)
         (met ∙ sym (met-join p.program T a side more d.left d.draws.0 d.rest took d.draws.2))) in
@@ -304,7 +331,7 @@ module _ (p : Checked) (T : Table) (sc : Scope) (e : ℕ) (names : List NameValu
               (onward-step sc e a v s t m) (record { given = r.given; along = refl })).given;
           values = r.values;
           valued = r.valued;
-          count = r.count;
+          sorted = r.sorted;
           walks = λ enter w ws fs. elim picked [
             | inl wide ↦
                 inl (ap (λ o. walk_below enter p.program false kids gs (o >>= side_walk ws fs w))
@@ -335,14 +362,20 @@ module _ (p : Checked) (T : Table) (sc : Scope) (e : ℕ) (names : List NameValu
       (way : PlainTrees → PlainTrees) (size : ℕ) → AllLead size → (c : Comp)
       (x y more : Items) → items_size (append_items x more) ≤ size →
       items_size (append_items y more) ≤ size → ListLeads way (item (choose c x y) more)
-  choice-to way size law c x y more small_x small_y kids gs s0 vs g v s h d so =
+  choice-to way size law c x y more small_x small_y kids gs s0 vs g v s h d so sorted =
       let fit = fits-sides p.program sc (choose c x y) more d.fit in
-      let sg =
-      sides-given sc e a v s c _ d.underway.ready d.fit.0
-      (comes-bind (give_sides s e c) _ (Here kids gs) h) in
+      let hq = comes-itself (give_sides s e c) _ (comes-bind (give_sides s e c) _ (Here kids gs) h)
+      in
+      let sg = sides-given sc e a v s c _ d.underway.ready d.fit.0 hq in
+      let ss = sides-sorted sc e names vs ok (met_by way (item (choose c x y) more) v s d) c g s _
+      d.fit.0 (sorts-so way (item (choose c x y) more) vs g v s d so sorted) hq in
+      let sides_sorted : AllZip FitsSort sg.after.sorts (vs ++ (filling.give_comparison names c g).new) =
+      subst (λ (y : Pair (Linear × Linear)).
+      AllZip FitsSort y.state.sorts (vs ++ (filling.give_comparison names c g).new))
+      (some-same ss.0 (pair sg.after (sg.left, sg.right)) (sym ss.2.0 ∙ sg.comes.0)) ss.1.sorted in
       let after = λ (op : Op). row_added sg.after (row_of sg.left op sg.right c.sort) in
       let todo = λ (side : Items). to_give (append_items side more) e n ∷ ts in
-      let first = after-comparison sg.after sg.left c.op sg.right c.sort _ (Here kids gs) sg.comes
+      let first = after-comparison sg.after sg.left c.op sg.right c.sort _ (Here kids gs) sg.comes.1
       in
       let second =
       after-comparison sg.after sg.left (opposite c.op) sg.right c.sort _ (Here kids gs) first in
@@ -361,7 +394,7 @@ module _ (p : Checked) (T : Table) (sc : Scope) (e : ℕ) (names : List NameValu
       ListTo (item (choose c x y) more) kids gs s0 vs g v s) [
         | inl w ↦ λ fills met picked.
             side-to way c x y x more kids gs s0 vs g v s d so (after c.op)
-            (sides-row sc e a v s c c.op _ sg w.0) size law
+            (sides-row sc e a v s c c.op _ sg w.0) sides_sorted size law
             (all-first (ItemFits p.program sc) (all_items x) (all_items y) fit) w.1 sg.filled fills
             met small_x k.left k.first true picked refl
             (λ enter w. ap (λ hs. walk_below enter p.program false kids hs
@@ -372,7 +405,8 @@ module _ (p : Checked) (T : Table) (sc : Scope) (e : ℕ) (names : List NameValu
             ∙ below-first enter p.program kids one there.0 (option_to_list other) w there.1)
         | inr w ↦ λ fills met picked.
             side-to way c x y y more kids gs s0 vs g v s d so (after (opposite c.op))
-            (sides-row sc e a v s c (opposite c.op) _ sg (unless-relates c.op _ _ w.0)) size law
+            (sides-row sc e a v s c (opposite c.op) _ sg (unless-relates c.op _ _ w.0)) sides_sorted size
+            law
             (all-second (ItemFits p.program sc) (all_items x) (all_items y) fit) w.1 sg.filled fills
             met small_y k.right k.second false picked refl
             (λ enter w. ap (λ hs. walk_below enter p.program false kids hs
@@ -388,29 +422,29 @@ module _ (p : Checked) (T : Table) (sc : Scope) (e : ℕ) (names : List NameValu
   list-to :
       (way : PlainTrees → PlainTrees) (size : ℕ) → AllLead size → (items : Items) →
       items_size items ≤ size + 1 → ListLeads way items
-  list-to way size law none le kids gs s0 vs g v s h d so =
-      none-to way kids gs s0 vs g v s h d so
-  list-to way size law (item (choose c x y) more) le kids gs s0 vs g v s h d so =
+  list-to way size law none le kids gs s0 vs g v s h d so sorted =
+      none-to way kids gs s0 vs g v s h d so sorted
+  list-to way size law (item (choose c x y) more) le kids gs s0 vs g v s h d so sorted =
       let l = append-size x more in
       let r = append-size y more in
       choice-to way size law c x y more (omega (arith, le, l)) (omega (arith, le, r)) kids gs s0 vs
-      g v s h d so
-  list-to way size law (item (compare c) more) le kids gs s0 vs g v s h d so =
+      g v s h d so sorted
+  list-to way size law (item (compare c) more) le kids gs s0 vs g v s h d so sorted =
       after-to way (compare c) more tt (list-to way size law more (omega (arith, le))) refl
       (λ g. refl) kids gs s0 vs g v s
-      (comes-bind (give_item p.program s e (compare c)) _ (Here kids gs) h) d so
-  list-to way size law (item (fact place m k args x) more) le kids gs s0 vs g v s h d so =
+      (comes-bind (give_item p.program s e (compare c)) _ (Here kids gs) h) d so sorted
+  list-to way size law (item (fact place m k args x) more) le kids gs s0 vs g v s h d so sorted =
       after-to way (fact place m k args x) more tt (list-to way size law more (omega (arith, le)))
       refl (λ g. refl) kids gs s0 vs g v s
-      (comes-bind (give_item p.program s e (fact place m k args x)) _ (Here kids gs) h) d so
-  list-to way size law (item (atom place m k i asked) more) le kids gs s0 vs g v s h d so =
+      (comes-bind (give_item p.program s e (fact place m k args x)) _ (Here kids gs) h) d so sorted
+  list-to way size law (item (atom place m k i asked) more) le kids gs s0 vs g v s h d so sorted =
       after-to way (atom place m k i asked) more tt (list-to way size law more (omega (arith, le)))
       refl (λ g. refl) kids gs s0 vs g v s
-      (comes-bind (give_item p.program s e (atom place m k i asked)) _ (Here kids gs) h) d so
-  list-to way size law (item (cell place x y) more) le kids gs s0 vs g v s h d so =
+      (comes-bind (give_item p.program s e (atom place m k i asked)) _ (Here kids gs) h) d so sorted
+  list-to way size law (item (cell place x y) more) le kids gs s0 vs g v s h d so sorted =
       after-to way (cell place x y) more tt (list-to way size law more (omega (arith, le))) refl
       (λ g. refl) kids gs s0 vs g v s
-      (comes-bind (give_item p.program s e (cell place x y)) _ (Here kids gs) h) d so
+      (comes-bind (give_item p.program s e (cell place x y)) _ (Here kids gs) h) d so sorted
 
   -- a node gives them, or has no values
   node-to :
@@ -418,11 +452,11 @@ module _ (p : Checked) (T : Table) (sc : Scope) (e : ℕ) (names : List NameValu
       (more : Items) → items_size (item i more) ≤ size + 1 → (t : PlainTree)
       (vs ws : List NameValue) (v : Valuation) (s : PlainState) →
       p.N t s (to_give (item i more) e n ∷ ts) → (d : IsDue way (item i more) v s) →
-      v ≡ valuation vs → length s.sorts ≡ length vs → ws ≡ met_by way (item i more) v s d →
+      v ≡ valuation vs → AllZip FitsSort s.sorts vs → ws ≡ met_by way (item i more) v s d →
       GivesTo (item i more) (tree t no_trees) vs ws v s
-  node-to way size law i more le (node (by_absurd c) ks) vs ws v s h d is count met =
+  node-to way size law i more le (node (by_absurd c) ks) vs ws v s h d is sorted met =
       absurd ((p.step h).0.0 v (solves [] v s d.underway.ready.meets))
-  node-to way size law i more le (node by_give ks) vs ws v s h d is count met =
+  node-to way size law i more le (node by_give ks) vs ws v s h d is sorted met =
       let tasks = to_give (item i more) e n ∷ ts in
       let start : filling.Giving = record { env = env_at s e; new = []; wildcards = ws } in
       let same = join-nil vs in
@@ -430,34 +464,36 @@ module _ (p : Checked) (T : Table) (sc : Scope) (e : ℕ) (names : List NameValu
       (goals_left p.program (goal s tasks) by_give) s vs start v s
       (node-leads p by_give ks s tasks h) d (record {
         bound = refl;
-        next = count ∙ ap (λ (xs : List NameValue). length xs) (sym same);
+        next =
+            sym (AllZip-long FitsSort s.sorts vs sorted)
+            ∙ ap (λ (xs : List NameValue). length xs) (sym same);
         values = is ∙ ap valuation (sym same);
         wildcards = met;
-      }) in
+      }) (subst (AllZip FitsSort s.sorts) (sym same) sorted) in
       record {
         given = r.given;
         values = r.values;
         valued = r.valued;
-        count = r.count;
+        sorted = r.sorted;
         walks = λ enter w fs.
             r.walks enter (record w { fill = Some (fill_of ws fs) }) ws fs;
       }
-  node-to way size law i more le t vs ws v s h d is count met = absurd (p.step h).1
+  node-to way size law i more le t vs ws v s h d is sorted met = absurd (p.step h).1
 
   pub all-to : (size : ℕ) → AllLead size
-  all-to size way none le ks vs ws v s h d is count met = record {
+  all-to size way none le ks vs ws v s h d is sorted met = record {
     given = (given-none p T sc e a total goal_is ne n ts way ks v s h d).given;
     values = vs;
     valued = is;
-    count = count;
+    sorted = sorted;
     walks = λ enter w fs. inr refl;
   }
-  all-to zero way (item i more) le ks vs ws v s h d is count met =
+  all-to zero way (item i more) le ks vs ws v s h d is sorted met =
       absurd (let q = size-positive i in omega (arith, le, q))
-  all-to (suc size) way (item i more) le ks vs ws v s h d is count met =
+  all-to (suc size) way (item i more) le ks vs ws v s h d is sorted met =
       let t = lone-child p.N ks s (to_give (item i more) e n ∷ ts) h in
       subst (λ ls. GivesTo (item i more) ls vs ws v s) (sym t.2)
-      (node-to way size (all-to size) i more (omega (arith, le)) t.0 vs ws v s t.1 d is count met)
+      (node-to way size (all-to size) i more (omega (arith, le)) t.0 vs ws v s t.1 d is sorted met)
 
 -- ---- the law
 
@@ -471,11 +507,11 @@ pub gives-to :
     Means sc (valuation vs) (env_at s e) (valuation names) → AreFit p.program sc items →
     (d : DrawsAll p.program T (valuation names) items h r) →
     Backed p.program (valuation vs) s held → (ne : Composes (both p.program held h)) →
-    length s.sorts ≡ length vs →
+    AllZip FitsSort s.sorts vs →
     GivesTo p T sc e names ok (both p.program held h)
     (fill_items p.program T (valuation names) items h r d (filled_at e (valuation vs) s)) ne n ts
     remains [] items trees vs (items_met p.program T (valuation names) items h r d) (valuation vs) s
-gives-to p T sc e n names ok held h r items ts remains trees vs s hd at firm m fit d b ne count =
+gives-to p T sc e n names ok held h r items ts remains trees vs s hd at firm m fit d b ne sorted =
     all-to p T sc e names ok (both p.program held h)
     (fill_items p.program T (valuation names) items h r d (filled_at e (valuation vs) s)) ne n ts
     remains [] (items_size items)
@@ -505,4 +541,4 @@ gives-to p T sc e n names ok held h r items ts remains trees vs s hd at firm m f
       fills = refl;
       leads = λ ks. refl;
       room = inside-same p.program (both p.program held h);
-    }) refl count (sym (join-nil (items_met p.program T (valuation names) items h r d)))
+    }) refl sorted (sym (join-nil (items_met p.program T (valuation names) items h r d)))

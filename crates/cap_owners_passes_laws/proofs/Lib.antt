@@ -1,2 +1,4 @@
 pub mod Rests
+pub mod Sorting
 pub mod Gives
+pub mod Handed

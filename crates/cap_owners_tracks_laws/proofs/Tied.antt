@@ -32,7 +32,7 @@ use Rattle.cap_owners_spec.specs.Walks.{Walk, Halt, stands, leaves}
 use Rattle.cap_owners_spec.specs.Steps.{Proved, root_at, ensures_root, frame_walk}
 use Rattle.cap_owners_laws.specs.Owned.{IsTold, IsWaiting, AreNumbered}
 use Rattle.cap_owners_values_laws.proofs.More.{FitsSort}
-use Rattle.cap_owners_fills_laws.proofs.Drawn.{IsMetBy, Tells}
+use Rattle.cap_owners_fills_laws.proofs.Drawn.{IsMetBy, IsMetOr, Tells}
 use Rattle.cap_owners_fills_laws.proofs.Giving.{NamesFit}
 
 -- nodes are those of valid derivations of the program, and are listed
@@ -117,7 +117,7 @@ module _ (p : Checked) (trees : List (Option PlainTree)) where
         (g : PlainFunction) → slice_get p.program.functions y.function ≡ Some g →
         Roomy p.program U (both p.program part handed) →
         (owns : OwnsEnsures p.program U handed g y.arguments y.fixed v) → (x : Fill) →
-        IsMetBy p.program U owns.values g.ensures.items handed owns.met.0 owns.met.1 x →
+        IsMetOr p.program U owns.values g.ensures.items handed owns.met.0 owns.met.1 x →
         NamesFit (ensures_scope g g.ensures.names) x.names →
         Tied (both p.program part handed) U fixed (receives y.destination v f) (received_by y v t x)
 
