@@ -72,7 +72,7 @@ receiving (Some x) r f h = refl
 
 -- ---- all of the part is given up
 
-abbrev giving :
+abbrev pub giving :
     (p : Checked) (x : Turn p) (given : Stock) →
     HandsOver p.program (account_table x.a) (part_stock x.held.part) no_stock given → Stride p x
 giving p x given o =

@@ -5,3 +5,4 @@ pub mod Saying
 pub mod Turns
 pub mod Later
 pub mod Seats
+pub mod Waiting
