@@ -3,3 +3,9 @@ pub mod Onward
 pub mod Staying
 pub mod Stepping
 pub mod Ordinary
+pub mod Making
+pub mod Returned
+pub mod Called
+pub mod Forked
+pub mod Owing
+pub mod Paying

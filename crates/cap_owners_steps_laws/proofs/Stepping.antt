@@ -33,7 +33,7 @@ use Rattle.cap_owners_steps_laws.proofs.Staying.{holding}
 
 -- ---- lists
 
-map-still :
+pub map-still :
     {A : Type 0} (f : A → A) → ((x : A) → f x ≡ x) → (xs : List A) → map f xs ≡ xs
 map-still f h [] = refl
 map-still f h (x ∷ xs) = ap (λ y. y ∷ map f xs) (h x) ∙ ap (λ ys. x ∷ ys) (map-still f h xs)

@@ -1,0 +1,185 @@
+-- A frame that returns: its walk comes to a Take of what its function ensures, at the values of the
+-- walk.
+use Rattle.std.proofs.Common.{◌≡◌, ◌⊎◌, inl, inr, ℕ, pos, ◌+◌, false, List, [], ◌∷◌, ◌++◌, length, Option, Some, None, refl, sym, ap, ◌∙◌, subst}
+use Rattle.std.specs.List.{AllZip}
+use Rattle.cap_lin.specs.Linear.{Linear}
+use Rattle.cap_lin.specs.Values.{Valuation}
+use Rattle.cap_prog.specs.Program.{Label, give_back, Block, first, PlainFunction}
+use Rattle.cap_prog.specs.WellFormed.{IsWellFormed}
+use Rattle.cap_goal_spec.specs.States.{Home, PlainTask, to_run, to_take, goal, goals_of}
+use Rattle.cap_goal_spec.specs.Choices.{by_absurd, by_return, PlainTree, node, PlainTrees}
+use Rattle.cap_machine.specs.Machine.{Frame, with_rest}
+use Rattle.cap_machine.specs.declared.event.Event.{Event}
+use Rattle.cap_machine_accounts.specs.Assertions.{NameValue}
+use Rattle.cap_account_resources.specs.Parts.{Table}
+use Rattle.cap_account_resources.proofs.Interference.{relies-same}
+use Rattle.cap_account_resources.proofs.Stocks.{Stock}
+use Rattle.cap_account_states.specs.Nodes.{Open}
+use Rattle.cap_account_states.proofs.Alike.{Alike, meets-alike}
+use Rattle.cap_account_states.proofs.Attempts.{env_added}
+use Rattle.cap_account_states.proofs.Checked.{Checked}
+use Rattle.cap_account_states.proofs.Facts.{facts-on}
+use Rattle.cap_account_states.proofs.KnowsLater.{backed-at}
+use Rattle.cap_account_states.proofs.Meets.{Old, usable-old, same-state}
+use Rattle.cap_account_states.proofs.Roots.{values-length}
+use Rattle.cap_account_assertions.proofs.Laws.{TakenLaw}
+use Rattle.cap_account_steps.proofs.Points.{FrameOk}
+use Rattle.cap_account_steps.proofs.Stores.{running, store-alike}
+use Rattle.cap_account_steps.proofs.Frames.{Node, Sits, Roomy}
+use Rattle.cap_account_steps.proofs.Local.{given-up}
+use Rattle.cap_account_steps.proofs.Returning.{return_env, return-leads}
+use Rattle.cap_owners_spec.specs.Traced.{Traced, traced, past_width, untold, ◌>>=◌, valuation}
+use Rattle.cap_owners_spec.specs.Track.{TrackedRegion, TrackedFrame}
+use Rattle.cap_owners_spec.specs.Walks.{Walk, nothing_taken, Interpreting, Halt, stands, leaves, walk, walk_below, descends}
+use Rattle.cap_owners_spec.specs.Steps.{Proved, interpreted, frame_walk}
+use Rattle.cap_owners_laws.specs.Owned.{IsTold}
+use Rattle.cap_owners_values_laws.proofs.More.{FitsSort}
+use Rattle.cap_owners_fills_laws.proofs.Drawn.{Tells}
+use Rattle.cap_owners_walks_laws.proofs.Going.{goes_on, frame-goes-on}
+use Rattle.cap_owners_walks_laws.proofs.Leading.{Left, node-leads}
+use Rattle.cap_owners_passes_laws.proofs.Rests.{into}
+use Rattle.cap_owners_tracks_laws.proofs.Tied.{StopsSo, derivation, IsAtNode, Tied}
+
+-- ---- the same node, by alike values
+
+abbrev pub node_at :
+    (p : Checked) (part : Stock) (T : Table) (fn : PlainFunction) (fixed : List NameValue)
+    (f : Frame) (tasks : Home → List PlainTask) (t : PlainTree)
+    (n : Node p part T fn fixed f tasks t) (w : Valuation) → Alike (Old n.state) n.v w →
+    length fixed ≡ length fn.fixed → Node p part T fn fixed f tasks t
+node_at p part T fn fixed f tasks t n w a size = record {
+  state = n.state;
+  v = w;
+  home = n.home;
+  valid = n.valid;
+  none_open = n.none_open;
+  grounded = record {
+    meets = meets-alike [] n.v w n.state a n.grounded.meets;
+    pieces_over = n.grounded.pieces_over;
+    pieces_fit = n.grounded.pieces_fit;
+  };
+  facts = facts-on [] n.v w T n.state n.state (same-state n.state) a n.facts;
+  firm = n.firm;
+  backed =
+      backed-at p.program n.state [] (Old n.state) n.v w part (usable-old [] n.state.sorts) a
+      n.grounded n.backed;
+  store =
+      store-alike n.v w n.state n.state n.home fn fixed f n.grounded.meets.store_over a
+      (λ x o e. e) refl size n.store;
+}
+
+module _ (p : Checked) (trees : List (Option PlainTree)) (wf : IsWellFormed p.program)
+    (law : TakenLaw p) (part : Stock) (T : Table) (roomy : Roomy p.program T part)
+    (fn : PlainFunction) (fixed : List NameValue) (f : Frame) (l : Label) (t : Linear) (b : Block)
+    (ok : FrameOk p.program fn fixed (with_rest f (first l (give_back t) b)))
+    (rs : List TrackedRegion) (event : Event) where
+  abbrev r0 : Block
+  r0 = first l (give_back t) b
+
+  abbrev enter : Interpreting
+  enter = interpreted (derivation p trees)
+
+  -- a walk is to take what the function ensures, and nothing else, at the values at which the node
+  -- holds of the frame
+  pub record Owing (o : Traced Halt) : Type 0 where
+    pub ks : PlainTrees
+    pub w : Walk
+    pub n : Node p part T fn fixed (with_rest f (first l (give_back t) b))
+        (running (first l (give_back t) b)) (node by_return ks)
+    pub valued : n.v ≡ valuation w.values
+    pub sorted : AllZip FitsSort n.state.sorts w.values
+    pub regions : w.regions ≡ rs
+    pub next : w.next ≡ pos (1 + length rs)
+    pub taken : w.taken ≡ nothing_taken ∷ []
+    pub goes :
+        Open p.N ks
+        (env_added n.state (return_env p wf law part T fn fixed roomy n.state n.home t))
+        (to_take fn.ensures.items (length n.state.envs) 3 l.number ∷ [])
+    pub walks :
+        o
+        ≡ into (interpreted (derivation p trees)) p.program ks
+        (goals_of (env_added n.state (return_env p wf law part T fn fixed roomy n.state n.home t))
+        (to_take fn.ensures.items (length n.state.envs) 3 l.number ∷ [])) w
+
+  -- from the node at which the frame sits
+  owing-node :
+      (d : PlainTree) →
+      (n : Node p part T fn fixed (with_rest f (first l (give_back t) b))
+      (running (first l (give_back t) b)) d) (w : Walk) → n.v ≡ valuation w.values →
+      AllZip FitsSort n.state.sorts w.values → w.regions ≡ rs → w.next ≡ pos (1 + length rs) →
+      Owing
+      (walk (interpreted (derivation p trees)) p.program false d
+      (goal n.state (running (first l (give_back t) b) n.home))
+      (record w { events = event ∷ [] }))
+  owing-node (node (by_absurd c) ks) n w valued sorted regions next =
+      given-up p part T fn fixed (with_rest f r0) (λ h. to_run h r0) c ks n
+  owing-node (node by_return ks) n w valued sorted regions next =
+      let g = goal n.state (running r0 n.home) in
+      let q = return-leads p wf law part T fn fixed roomy f l t b ks ok n (Left p by_return ks g)
+      (node-leads p by_return ks n.state (running r0 n.home) n.valid) in
+      let there = record w { taken = nothing_taken ∷ []; events = [] } in
+      record {
+        ks = ks;
+        w = there;
+        n = n;
+        valued = valued;
+        sorted = sorted;
+        regions = regions;
+        next = next;
+        taken = refl;
+        goes = q.1;
+        walks =
+            ap (λ gs. walk_below enter p.program false ks gs (traced (descends (Some 0) there))) q.0;
+      }
+  owing-node d n w valued sorted regions next = absurd (p.step n.valid).1
+
+-- ---- from a frame that is tied
+
+module _ (p : Checked) (trees : List (Option PlainTree)) (wf : IsWellFormed p.program)
+    (law : TakenLaw p) (part : Stock) (T : Table) (roomy : Roomy p.program T part)
+    (fixed : List NameValue) (f : Frame) (l : Label) (t : Linear) (b : Block)
+    (rs : List TrackedRegion) (event : Event) (top : TrackedFrame)
+    (tied : Tied p trees part T fixed (with_rest f (first l (give_back t) b)) top)
+    (tells : Tells rs T) where
+  abbrev mine : Proved
+  mine = derivation p trees
+
+  abbrev now : Sits p part T tied.stood.fn fixed (with_rest f (first l (give_back t) b))
+  now = tied.stood.all T (relies-same p.program part.guards T)
+
+  -- it owes, or its walk is too wide
+  abbrev pub OwesThere : Traced Halt → Type 0
+  OwesThere o =
+      (o ≡ past_width)
+      ⊎ Owing p trees wf law part T roomy tied.stood.fn fixed f l t b tied.stood.ok rs event o
+
+  pub frame-owes :
+      OwesThere (frame_walk (derivation p trees) false rs top (top.since ++ event ∷ []))
+  frame-owes =
+      by (frame_walk mine false rs top top.since) refl
+      (tied.walks T (relies-same p.program part.guards T) rs tells)
+    where
+      by :
+          (o : Traced Halt) → frame_walk (derivation p trees) false rs top top.since ≡ o →
+          IsTold (StopsSo (IsAtNode p trees rs part T tied.stood.fn fixed
+          (with_rest f (first l (give_back t) b))
+          (tied.stood.all T (relies-same p.program part.guards T)))) o →
+          OwesThere (frame_walk (derivation p trees) false rs top (top.since ++ event ∷ []))
+      by past_width e h =
+          inl (frame-goes-on (derivation p trees) false rs top top.since event []
+          ∙ ap (λ o. o >>= goes_on (interpreted (derivation p trees)) p.program false (event ∷ []))
+          e)
+      by untold e h = absurd h
+      by (traced (leaves w)) e h = absurd h
+      by (traced (stands q w)) e a =
+          let n = node_at p part T tied.stood.fn fixed (with_rest f (first l (give_back t) b))
+          (running (first l (give_back t) b)) now.tree now.at_node (valuation w.values) a.alike
+          (values-length tied.stood.fn.fixed fixed tied.stood.ok.values) in
+          let same = frame-goes-on (derivation p trees) false rs top top.since event []
+          ∙ ap (λ o. o >>= goes_on (interpreted (derivation p trees)) p.program false (event ∷ []))
+          e
+          ∙ (λ i. walk (interpreted (derivation p trees)) p.program false (a.tree i) (a.goal_is i)
+          (record w { events = a.tidy.events i ++ event ∷ [] })) in
+          subst OwesThere (sym same)
+          (inr (owing-node p trees wf law part T roomy tied.stood.fn fixed f l t b tied.stood.ok rs
+          event now.tree n w refl a.tidy.sorted a.tidy.regions a.tidy.next))
