@@ -3,11 +3,10 @@ use Rattle.std.proofs.Common.{◌≡◌, ℕ, ℤ, List, [], ◌∷◌, ◌++◌
 use Rattle.std.specs.Prelude.{slice_get, slice_set}
 use Rattle.cap_prog.specs.Program.{Block, PlainFunction}
 use Rattle.cap_goal_spec.specs.Choices.{PlainTree}
-use Rattle.cap_machine.specs.Machine.{Frame, Thread, Configuration, top_frame, with_rest, new_frame, calls}
+use Rattle.cap_machine.specs.Machine.{Thread, Configuration, top_frame, with_rest, new_frame, calls}
 use Rattle.cap_machine.specs.declared.event.Event.TheVariants.{Call}
 use Rattle.cap_machine_accounts.specs.Parts.{Part}
 use Rattle.cap_machine_accounts.specs.Assertions.{NameValue}
-use Rattle.cap_machine_accounts.specs.Accounts.{Held}
 use Rattle.cap_account_resources.specs.Parts.{Table}
 use Rattle.cap_account_resources.proofs.Lists.{join-nil, map-set}
 use Rattle.cap_account_resources.proofs.Stocks.{Stock}
@@ -16,15 +15,15 @@ use Rattle.cap_account_steps.proofs.Regained.{Stable}
 use Rattle.cap_account_steps.proofs.Frames.{Waits, Hands}
 use Rattle.cap_account_steps.proofs.Statements.{Statements}
 use Rattle.cap_account.proofs.Stocked.{part_stock, account_table, callee_of, Turn, spot_of}
-use Rattle.cap_account.proofs.Successors.{Stride, cut, account}
+use Rattle.cap_account.proofs.Successors.{Stride, cut}
 use Rattle.cap_account.proofs.Strides.{handing}
 use Rattle.cap_account.proofs.Handing.{callee-is, caller-is, called}
 use Rattle.cap_owners_spec.specs.Traced.{Traced, traced, past_width, untold, ◌>>=◌}
 use Rattle.cap_owners_spec.specs.Track.{TrackedRegion, TrackedFrame, Track, account_of}
-use Rattle.cap_owners_spec.specs.Steps.{Proved, Moved, Scene, Handed, hands_over, tracks_call, moved, after_move, followed, follow}
+use Rattle.cap_owners_spec.specs.Steps.{Proved, Moved, Scene, Handed, hands_over, tracks_call, after_move, followed, follow}
 use Rattle.cap_owners_laws.specs.Owned.{IsTold, GoesOver}
 use Rattle.cap_owners_parts_laws.proofs.Telling.{told-on}
-use Rattle.cap_owners_tracks_laws.proofs.Tied.{derivation, Tied, WaitsTied, AllWaitTied, StackTied, EachTied, Kept}
+use Rattle.cap_owners_tracks_laws.proofs.Tied.{derivation, Tied, WaitsTied, AllWaitTied, EachTied, Kept}
 use Rattle.cap_owners_tracks_laws.proofs.Steps.{TurnKept, GoesKept}
 use Rattle.cap_owners_tracks_laws.proofs.Turns.{own}
 use Rattle.cap_owners_tracks_laws.proofs.Later.{below-tied, threads-tied}

@@ -1,6 +1,6 @@
 -- A step by which regions are made, and none is closed: the account of the track after it, and that
 -- all others are tied as they were.
-use Rattle.std.proofs.Common.{◌≡◌, inl, inr, ℕ, suc, ◌+◌, ℤ, pos, ◌+ℤ◌, List, [], ◌∷◌, ◌++◌, map, length, drop, Option, Some, None, refl, sym, ap, ◌∙◌, subst, arith}
+use Rattle.std.proofs.Common.{◌≡◌, inl, inr, suc, ℤ, pos, ◌+ℤ◌, List, [], ◌∷◌, ◌++◌, map, length, drop, Option, refl, sym, ap, ◌∙◌, subst, arith}
 use Rattle.std.specs.Prelude.{slice_get}
 use Rattle.std.specs.List.{AllByRecursion}
 use Rattle.std.proofs.lemmas.Int.{ints}
@@ -8,7 +8,7 @@ use Rattle.cap_goal_spec.specs.Choices.{PlainTree}
 use Rattle.cap_machine.specs.Machine.{Configuration}
 use Rattle.cap_machine.specs.declared.event.Event.{Event}
 use Rattle.cap_machine_accounts.specs.Parts.{Part, Region}
-use Rattle.cap_machine_accounts.specs.Accounts.{Held, OwnedRegion, Account, table}
+use Rattle.cap_machine_accounts.specs.Accounts.{Held, OwnedRegion, Account}
 use Rattle.cap_machine_accounts.specs.Following.{Follows}
 use Rattle.cap_machine_accounts.specs.Safety.{KeepsContracts}
 use Rattle.cap_account_resources.specs.Parts.{Table}
@@ -16,9 +16,9 @@ use Rattle.cap_account_resources.proofs.Lists.{Among, some-same, map-join, all-b
 use Rattle.cap_account_resources.proofs.Owners.{Owner}
 use Rattle.cap_account_states.proofs.Checked.{Checked}
 use Rattle.cap_account_steps.proofs.Regained.{Stable}
-use Rattle.cap_account.proofs.Stocked.{part_stock, owner_of, owners, owner_at, account_table, Sound, Turn}
+use Rattle.cap_account.proofs.Stocked.{owner_of, owners, owner_at, account_table, Sound, Turn}
 use Rattle.cap_account.proofs.Successors.{Stride, cut, kept_of, kept, news, account, news-are, table-is}
-use Rattle.cap_owners_spec.specs.Track.{TrackedRegion, TrackedFrame, Track, account_of}
+use Rattle.cap_owners_spec.specs.Track.{TrackedRegion, TrackedFrame, account_of}
 use Rattle.cap_owners_laws.specs.Owned.{AreNumbered, GoesOver}
 use Rattle.cap_owners_tracks_laws.proofs.Tied.{derivation, EachTied, RegionTied, Kept}
 use Rattle.cap_owners_tracks_laws.proofs.Steps.{TurnKept}

@@ -1,10 +1,10 @@
 -- A return: the caller gets what the frame gives up, and is tied again; a thread without one ends.
-use Rattle.std.proofs.Common.{◌≡◌, ℕ, ℤ, false, List, [], ◌∷◌, ◌++◌, map, Option, Some, None, refl, sym, ap, ◌∙◌, subst}
+use Rattle.std.proofs.Common.{◌≡◌, ℤ, false, List, [], ◌∷◌, ◌++◌, map, Option, Some, None, refl, sym, ap, ◌∙◌, subst}
 use Rattle.std.specs.Prelude.{slice_get, slice_set}
 use Rattle.cap_prog.specs.Program.{PlainFunction}
 use Rattle.cap_prog.specs.Scopes.{ensures_scope}
 use Rattle.cap_goal_spec.specs.Choices.{PlainTree}
-use Rattle.cap_machine.specs.Machine.{Frame, Thread, Configuration, top_frame, receives, returns}
+use Rattle.cap_machine.specs.Machine.{Frame, Configuration, top_frame, receives, returns}
 use Rattle.cap_machine.specs.declared.event.Event.{Event}
 use Rattle.cap_machine.specs.declared.event.Event.TheVariants.{Return, End}
 use Rattle.cap_machine_accounts.specs.Parts.{Part}
@@ -15,12 +15,11 @@ use Rattle.cap_account_resources.proofs.Lists.{join-nil, map-set}
 use Rattle.cap_account_resources.proofs.Stocks.{Stock, both, Inside, stock-laws, inside-trans, inside-first, inside-both, inside-same}
 use Rattle.cap_account_states.proofs.Checked.{Checked}
 use Rattle.cap_account_steps.proofs.Regained.{Stable}
-use Rattle.cap_account_steps.proofs.Frames.{Returns, Roomy}
+use Rattle.cap_account_steps.proofs.Frames.{Returns}
 use Rattle.cap_account_steps.proofs.Statements.{Statements}
-use Rattle.cap_account.proofs.Stocked.{part_stock, frames_stock, account_table, callee_of, AllWait, Sound, Turn, spot_of}
+use Rattle.cap_account.proofs.Stocked.{part_stock, frames_stock, account_table, callee_of, AllWait, Turn, spot_of}
 use Rattle.cap_account.proofs.Successors.{others, Stride, all, cut, cut-is, account, left-inside}
 use Rattle.cap_account.proofs.Succeeding.{below-wait}
-use Rattle.cap_account.proofs.Strides.{Goes}
 use Rattle.cap_account.proofs.Handing.{cut-roomy}
 use Rattle.cap_account.proofs.Returning.{receiving, giving, ends, goes-back}
 use Rattle.cap_owners_spec.specs.Traced.{Traced, traced, past_width, untold, ◌>>=◌, found}
@@ -31,7 +30,7 @@ use Rattle.cap_owners_laws.specs.Owned.{IsTold, GoesOver}
 use Rattle.cap_owners_fills_laws.proofs.Drawn.{IsMetOr}
 use Rattle.cap_owners_fills_laws.proofs.Giving.{NamesFit}
 use Rattle.cap_owners_parts_laws.proofs.Telling.{told-on}
-use Rattle.cap_owners_tracks_laws.proofs.Tied.{derivation, Tied, WaitsTied, AllWaitTied, StackTied, EachTied, Kept}
+use Rattle.cap_owners_tracks_laws.proofs.Tied.{derivation, Tied, AllWaitTied, StackTied, EachTied, Kept}
 use Rattle.cap_owners_tracks_laws.proofs.Steps.{TurnKept, GoesKept}
 use Rattle.cap_owners_tracks_laws.proofs.Turns.{own}
 use Rattle.cap_owners_tracks_laws.proofs.Later.{below-tied, threads-tied}
