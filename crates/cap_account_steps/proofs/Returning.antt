@@ -36,7 +36,7 @@ use Rattle.cap_account_states.proofs.Naming.{Placed, Means, values_in}
 use Rattle.cap_account_states.proofs.Checked.{Checked}
 use Rattle.cap_account_states.proofs.Scopes.{Position, ensures-at, invariant-at, param-requires, fixed-requires, requires-ensures, result-ensures, store-invariant, fixed-invariant, own-param, own-local, own-fixed, own-result, rep-length, unbound-none, less_or}
 use Rattle.cap_account_states.proofs.Values.{whole-of}
-use Rattle.cap_account_states.proofs.Roots.{values-length, function-fits, flat-bound}
+use Rattle.cap_account_states.proofs.Roots.{function-fits, flat-bound}
 use Rattle.cap_account_states.proofs.Backed.{IsOpened}
 use Rattle.cap_account_assertions.proofs.Asserted.{Owns, OwnsCase, OwnsEnsures, OwnsInvariant, owns-all}
 use Rattle.cap_account_assertions.proofs.Coarser.{taken-named}

@@ -1,6 +1,6 @@
 -- Items are given by a fill, also where there are none: the state that holds then, and that a walk
 -- comes to it.
-use Rattle.std.proofs.Common.{◌≡◌, inr, ℕ, ◌-◌, List, [], ◌∷◌, Option, Some, None, refl, sym, ap, ◌∙◌, subst}
+use Rattle.std.proofs.Common.{◌≡◌, inr, ℕ, ◌-◌, List, [], ◌∷◌, Option, Some, None, refl, ap, subst}
 use Rattle.std.specs.List.{AllByRecursion, AllZip}
 use Rattle.cap_lin.specs.Values.{Valuation}
 use Rattle.cap_prog.specs.Program.{Items, none, item}

@@ -25,7 +25,7 @@ use Rattle.cap_prog.specs.WellFormed.{ItemFits}
 use Rattle.cap_goal_spec.specs.States.{PlainFact, PlainState}
 use Rattle.cap_goal_spec.specs.Environments.{zero_value, one_value, term_of, with_name, term_in, term_in_steps}
 use Rattle.cap_rules.specs.Attempts.{Attempt, unit, appended, ◌>>=◌}
-use Rattle.cap_rules.specs.Making.{sum, value_by, fresh, with_comparison, with_cell, env_at, with_env_at, fact_of, is_of_region, is_of_other_type, without_first, with_equalities, with_same, with_false, with_fact, with_piece}
+use Rattle.cap_rules.specs.Making.{sum, value_by, fresh, with_comparison, env_at, with_env_at, fact_of, is_of_region, is_of_other_type, without_first, with_equalities, with_same, with_false, with_fact}
 use Rattle.cap_rules.specs.Giving.{name_as, name_parts, Given as Pair, given as pair, give_term, give_slot, give_slots, give_form, give_sides, give_item}
 use Rattle.cap_machine_accounts.specs.Assertions.{NameValue, a_number, SlotsAre}
 use Rattle.cap_account_resources.specs.Parts.{Table}
