@@ -1,3 +1,5 @@
 pub mod Binding
 pub mod Named
 pub mod Bound
+pub mod Cells
+pub mod Textual
