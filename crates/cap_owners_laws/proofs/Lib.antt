@@ -1,8 +1,8 @@
-mod Meetings
+pub mod Meetings
 mod Steps
 mod Fitting
 mod Runs
-mod Starts
+pub mod Starts
 mod Naming
 mod Examples
 mod Shown

@@ -200,28 +200,28 @@ bound-arg (y ∷ args) n (suc j) b = bound-arg args n j b
 module _ (d : Proved) (main : PlainFunction) (args : List ℤ) (heap : Heap)
     (is_main : slice_get d.program.functions d.program.main ≡ Some main)
     (arity : length args ≡ main.params) where
-  abbrev before : Meeting
+  abbrev pub before : Meeting
   before = first_meeting main args heap
 
   abbrev rest : List NameValue
   rest = replicate main.locals (a_number (pos 0)) ++ map unset main.fixed
 
-  track-is :
+  pub track-is :
       first_track d args heap
       ≡ (meets_all main.requires before >>= track_by d main args heap)
   track-is =
       ap (λ o. found o >>= λ f.
       (meets_all f.requires (first_meeting f args heap) >>= track_by d f args heap)) is_main
 
-  fits-before : Fits before
+  pub fits-before : Fits before
   fits-before = length-args args main.locals main.fixed
 
-  over-before : AllByRecursion IsOver before.fill.names
+  pub over-before : AllByRecursion IsOver before.fill.names
   over-before =
       over-args args rest
       (over-same main.locals (map unset main.fixed) (over-unset main.fixed))
 
-  abbrev Taken : Valuation → Part → Part → Type 0
+  abbrev pub Taken : Valuation → Part → Part → Type 0
   Taken v q r = TakesAll d.program [] v main.requires q r
 
   met-by : (o : Option Meeting) → meets_all main.requires before ≡ traced o → Result Taken before o
@@ -248,7 +248,27 @@ module _ (d : Proved) (main : PlainFunction) (args : List ℤ) (heap : Heap)
           ∙ drop-same main.locals (a_number (pos 0)) (map unset main.fixed))
           ∙ take-unset main.fixed)
 
-  start-of : IsPositive heap → (m : Meeting) → Meets Taken before m →
+  -- the arguments and the fixed names' values are those by which it is met
+  pub met-args :
+      (m : Meeting) → Meets Taken before m → AreWhole (valuation m.fill.names) 0 args
+  met-args m h =
+      are-whole (valuation m.fill.names) 0 args
+      (λ j z e. (let i : 0 + j ≡ j = omega arith in
+      ap (λ n. number_of (value_at m.fill.names n)) i
+      ∙ (ap number_of
+      (h.extends.same j (arg-bound args (main.locals + length main.fixed) j z e))
+      ∙ arg-value args rest j z e)))
+
+  pub met-fixed :
+      (m : Meeting) → Meets Taken before m →
+      AreNamed (valuation m.fill.names) (fixed_start main) (fixed_values main m.fill)
+  met-fixed m h =
+      are-named (valuation m.fill.names) (fixed_start main) (fixed_values main m.fill)
+      (λ j y e. named-own m.fill.names (h.extends.shares over-before) (fixed_start main + j) y
+      (taken-in (length main.fixed) (fixed_start main) m.fill.names j y e))
+
+  pub start-of :
+      IsPositive heap → (m : Meeting) → Meets Taken before m →
       Start d.program main args heap (fixed_values main m.fill)
   start-of positive m h = record {
     is_main = is_main;
@@ -257,20 +277,13 @@ module _ (d : Proved) (main : PlainFunction) (args : List ℤ) (heap : Heap)
     positive = positive;
     meets = record {
       values = valuation m.fill.names;
-      args_are = are-whole (valuation m.fill.names) 0 args
-          (λ j z e. (let i : 0 + j ≡ j = omega arith in
-          ap (λ n. number_of (value_at m.fill.names n)) i
-          ∙ (ap number_of
-          (h.extends.same j (arg-bound args (main.locals + length main.fixed) j z e))
-          ∙ arg-value args rest j z e)));
-      fixed_are = are-named (valuation m.fill.names) (fixed_start main) (fixed_values main m.fill)
-          (λ j y e. named-own m.fill.names (h.extends.shares over-before) (fixed_start main + j) y
-          (taken-in (length main.fixed) (fixed_start main) m.fill.names j y e));
+      args_are = met-args m h;
+      fixed_are = met-fixed m h;
       met = (whole_part m.heap, h.sound (valuation m.fill.names) (λ x b. refl));
     };
   }
 
-  abbrev begun : Meeting → Place → TrackedFrame
+  abbrev pub begun : Meeting → Place → TrackedFrame
   begun m q = record {
     held = record { part = no_part; fixed = fixed_values main m.fill };
     seat = q;

@@ -6,3 +6,11 @@ pub mod Turns
 pub mod Later
 pub mod Seats
 pub mod Waiting
+pub mod RootValues
+pub mod Roots
+pub mod Rooting
+pub mod LoopRoots
+pub mod Bodies
+pub mod MetCells
+pub mod First
+pub mod Callees
