@@ -9,3 +9,5 @@ pub mod Called
 pub mod Forked
 pub mod Owing
 pub mod Paying
+pub mod Turned
+pub mod Looped
