@@ -14,3 +14,4 @@ pub mod Bodies
 pub mod MetCells
 pub mod First
 pub mod Callees
+pub mod Again
