@@ -1,0 +1,13 @@
+pub mod Telling
+pub mod Landing
+pub mod Regiven
+pub mod Shifts
+pub mod Marks
+pub mod Stills
+pub mod Remet
+pub mod Reshut
+pub mod Reowned
+pub mod Refilled
+pub mod Contracts
+pub mod Entered
+pub mod Freely
