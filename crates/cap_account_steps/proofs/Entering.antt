@@ -19,7 +19,7 @@ use Rattle.cap_prog.specs.Scopes.{Scope, region_scope}
 use Rattle.cap_prog.specs.WellFormed.{IsWellFormed, RegionFits, CaseFits}
 use Rattle.cap_goal_spec.specs.States.{PlainFact, PlainState, Home, PlainTask, PlainGoal, to_give, goals_of}
 use Rattle.cap_goal_spec.specs.Choices.{PlainTree, PlainTrees, no_trees, tree}
-use Rattle.cap_rules.specs.Making.{is_empty}
+use Rattle.cap_rules.specs.Making.{is_empty, env_at}
 use Rattle.cap_rules.specs.Closing.{address_of, of_type, prove_other, with_opened, case_names, case_goals}
 use Rattle.cap_rules.specs.Rules.{at_enter}
 use Rattle.cap_machine.specs.Machine.{Heap, Frame}
@@ -82,7 +82,7 @@ firm-over P f firm h = (h.0, h.1, by f.loose firm h.2)
 -- ---- other regions
 
 -- the rows say that the region is none of these
-comes-other :
+pub comes-other :
     (s : PlainState) (f : PlainFact) (os : List PlainFact) (P : Unit {0} → Type 0) →
     Comes (prove_other s f os) P →
     AllByRecursion (λ o. Proves s.rows (row_of f.region Unequal o.region Int)) os × P tt
@@ -200,7 +200,7 @@ module _ (p : Checked) (program : IsWellFormed p.program) (give : GivenAlongLaw 
       firm : IsFirm f
       firm = all-at IsFirm s.facts i f o.firm is_fact
 
-      exact : Exact v V f
+      pub exact : Exact v V f
       exact = firm-exact v V f firm (all-at (FactHolds v V) s.facts i f o.facts.holds is_fact)
 
       over : AllOver (Usable [] s.sorts Int) f
@@ -211,19 +211,19 @@ module _ (p : Checked) (program : IsWellFormed p.program) (give : GivenAlongLaw 
       abbrev own : OwnsRegion p.program V n f.kind args state (share n)
       own = world.owns n f.kind args state exact
 
-      same-type : own.type ≡ k
+      pub same-type : own.type ≡ k
       same-type = some-same own.type k (sym own.is_type ∙ is_type)
 
       type-fits : RegionFits p.program k
       type-fits =
           all-at (RegionFits p.program) p.program.regions f.kind k program.regions is_type
 
-      is-case : slice_get k.cases own.number ≡ Some own.case
+      pub is-case : slice_get k.cases own.number ≡ Some own.case
       is-case =
           ap (λ (t : PlainRegionType). slice_get t.cases own.number) (sym same-type)
           ∙ own.is_case
 
-      case-fits : CaseFits p.program k own.case
+      pub case-fits : CaseFits p.program k own.case
       case-fits = all-at (CaseFits p.program k) k.cases own.number own.case type-fits.cases is-case
 
       in-case : IsInCase p.program v s1 f k own.case own.values
@@ -312,7 +312,7 @@ module _ (p : Checked) (program : IsWellFormed p.program) (give : GivenAlongLaw 
           abbrev ts : List PlainTask
           ts = running (first l a b) h0
 
-          goal : CaseGoal s1 f l.number ts own.number own.case (Children p.N ks)
+          pub goal : CaseGoal s1 f l.number ts own.number own.case (Children p.N ks)
           goal = case-goal s1 f l.number ts k.cases own.number own.case (Children p.N ks) go is-case
 
           abbrev c : PlainCase
@@ -337,10 +337,10 @@ module _ (p : Checked) (program : IsWellFormed p.program) (give : GivenAlongLaw 
           abbrev own_goals : List PlainGoal
           own_goals = goals_of s2 (to_give c.items (length s.envs) l.number ∷ ts)
 
-          abbrev kids : PlainTrees
+          abbrev pub kids : PlainTrees
           kids = first_trees (length own_goals) (later_trees (length goal.before) ks)
 
-          kids-goals : Open p.N kids s2 (to_give c.items (length s.envs) l.number ∷ ts)
+          pub kids-goals : Open p.N kids s2 (to_give c.items (length s.envs) l.number ∷ ts)
           kids-goals =
               children-first p.N (later_trees (length goal.before) ks) own_goals goal.behind
               (children-later p.N ks goal.before (own_goals ++ goal.behind) goal.goes.comes)
@@ -350,7 +350,7 @@ module _ (p : Checked) (program : IsWellFormed p.program) (give : GivenAlongLaw 
           leaves-one t none = refl
           leaves-one t (item x more) = refl
 
-          kids-are : kids ≡ first_trees 1 (later_trees own.number ks)
+          pub kids-are : kids ≡ first_trees 1 (later_trees own.number ks)
           kids-are =
               let one = leaves-one s2 c.items in
               let count = goal.count leaves-one in
@@ -383,7 +383,7 @@ module _ (p : Checked) (program : IsWellFormed p.program) (give : GivenAlongLaw 
             pieces_fit = o.grounded.pieces_fit;
           }
 
-          firm1 : AllByRecursion IsFirm s2.facts
+          pub firm1 : AllByRecursion IsFirm s2.facts
           firm1 = all-remove IsFirm s.facts i o.firm
 
           int-on : (u : Linear) → Over (Usable [] s.sorts Int) u → Over (Usable [] s2.sorts Int) u
@@ -400,7 +400,7 @@ module _ (p : Checked) (program : IsWellFormed p.program) (give : GivenAlongLaw 
             ap V (usable-alike [] s v w alike2 g.region told.0.0) ∙ told.1,
           )
 
-          state2 : StateAt p.program [] V sc (length s.envs) w s2
+          pub state2 : StateAt p.program [] V sc (length s.envs) w s2
           state2 = record {
             grounded = grounded-between p.program [] [] (Old s) v w s1 s2 between2
                 (holds.start-meets p.program v s1 f k c own.values in-case meets1 goal.goes.state_known
@@ -440,7 +440,7 @@ module _ (p : Checked) (program : IsWellFormed p.program) (give : GivenAlongLaw 
               (stock-laws p.program).assoc part (all_of p.program numbers share) (share n)
               ∙ ap (both p.program part) (sym (all-of-more p.program numbers n share))
 
-          composes : Composes (both p.program held (share n))
+          pub composes : Composes (both p.program held (share n))
           composes =
               subst Composes (sym one-more)
               (λ m. part-some p.program
@@ -448,22 +448,33 @@ module _ (p : Checked) (program : IsWellFormed p.program) (give : GivenAlongLaw 
               (room p.program V m) (world.room (numbers ++ n ∷ []) differ1 there1 m)
               (room-some p.program V m))
 
-          drawn : DrawsAll p.program V names c.items (share n) own.met.0
-          drawn = by (nat_eq v.fraction.under own.values.fraction.under)
-            where
-              by :
-                  (b : Bool) →
-                  DrawsAll p.program V
-                  (if b then own.values
-                  else names_values v own.values (length s.sorts) k.params sc)
-                  c.items (share n) own.met.0
-              by true = own.met.1
-              by false =
-                  draws-all-finer p.program V sc own.values
-                  (names_values v own.values (length s.sorts) k.params sc)
-                  (scaled-alike (InScope sc) v.fraction.under own.values)
-                  (scaled-finer v.fraction.under own.values) c.items (share n) own.met.0
-                  case-fits.items.items own.met.1
+          abbrev pub drawn_by :
+              (b : Bool) →
+              DrawsAll p.program V
+              (if b then own.values else names_values v own.values (length s.sorts) k.params sc)
+              c.items (share n) own.met.0
+          drawn_by true = own.met.1
+          drawn_by false =
+              draws-all-finer p.program V sc own.values
+              (names_values v own.values (length s.sorts) k.params sc)
+              (scaled-alike (InScope sc) v.fraction.under own.values)
+              (scaled-finer v.fraction.under own.values) c.items (share n) own.met.0
+              case-fits.items.items own.met.1
+
+          abbrev pub drawn : DrawsAll p.program V names c.items (share n) own.met.0
+          drawn = drawn_by (nat_eq v.fraction.under own.values.fraction.under)
+
+          pub means2 : Means sc w (env_at s2 (length s.envs)) names
+          means2 =
+              subst (λ env. Means sc w env names)
+              (sym (get-or-push s.envs (case_names s1 f c) []))
+              (holds.start-means p.program v s1 f k c own.values in-case meets1 goal.goes.state_known
+              goal.goes.conditions_known)
+
+          pub backed2 : Backed p.program w s2 held
+          backed2 =
+              backed-between p.program [] [] (Old s) v w s1 s2 between2 held grounded1
+              (record { cells = o.backed.cells; guards = o.backed.guards })
 
           along : GivenAlong p V (length s.envs) w (both p.program held (share n)) s2 ts
               (fill_items p.program V names c.items (share n) own.met.0 drawn
@@ -471,150 +482,150 @@ module _ (p : Checked) (program : IsWellFormed p.program) (give : GivenAlongLaw 
               (given_trees p.program V names c.items (share n) own.met.0 drawn kids)
           along =
               give V sc (length s.envs) l.number names held (share n) own.met.0 c.items ts kids w s2
-              kids-goals state2 firm1
-              (subst (λ env. Means sc w env names) (sym (get-or-push s.envs (case_names s1 f c) []))
-              (holds.start-means p.program v s1 f k c own.values in-case meets1 goal.goes.state_known
-              goal.goes.conditions_known))
-              case-fits.items.items drawn
-              (backed-between p.program [] [] (Old s) v w s1 s2 between2 held grounded1
-              (record { cells = o.backed.cells; guards = o.backed.guards })) composes
-
-          abbrev given : Given p V (length s.envs) w (both p.program held (share n)) s2 ts
-              (fill_items p.program V names c.items (share n) own.met.0 drawn
-              (filled_at (length s.envs) w s2))
-          given = along.given
+              kids-goals state2 firm1 means2 case-fits.items.items drawn backed2 composes
 
           -- ---- the state then
 
-          alike3 : Alike (Old s) v given.w
-          alike3 =
-              let q = length-join s.sorts c.names in
-              alike-trans (Old s) v w given.w alike2
-              (alike-less (Old s) (Old s2) w given.w (λ x h. (omega (arith, h, q)))
-              (agree-alike (Old s2) w given.w given.agree))
+          -- however it is given
+          module _ (given : Given p V (length s.envs) w (both p.program held (share n)) s2 ts
+              (fill_items p.program V names c.items (share n) own.met.0 drawn
+              (filled_at (length s.envs) w s2))) where
+            alike3 : Alike (Old s) v given.w
+            alike3 =
+                let q = length-join s.sorts c.names in
+                alike-trans (Old s) v w given.w alike2
+                (alike-less (Old s) (Old s2) w given.w (λ x h. (omega (arith, h, q)))
+                (agree-alike (Old s2) w given.w given.agree))
 
-          usable3 : (x : ℕ) → Usable [] s.sorts Int x → Usable [] given.after.sorts Int x
-          usable3 x h =
-              usable-on [] s2.sorts given.after.sorts given.goes_on.sorts Int x (usable2 Int x h)
+            usable3 : (x : ℕ) → Usable [] s.sorts Int x → Usable [] given.after.sorts Int x
+            usable3 x h =
+                usable-on [] s2.sorts given.after.sorts given.goes_on.sorts Int x (usable2 Int x h)
 
-          regions-same :
-              (fs : List PlainFact) → AllByRecursion IsOpen fs →
-              regions_of given.w fs ≡ regions_of v fs
-          regions-same [] h = refl
-          regions-same (g ∷ fs) h =
-              let e = usable-alike [] s v given.w alike3 g.region h.0.0.0 in
-              let r = regions-same fs h.1 in
-              rw (e, r) refl
+            regions-same :
+                (fs : List PlainFact) → AllByRecursion IsOpen fs →
+                regions_of given.w fs ≡ regions_of v fs
+            regions-same [] h = refl
+            regions-same (g ∷ fs) h =
+                let e = usable-alike [] s v given.w alike3 g.region h.0.0.0 in
+                let r = regions-same fs h.1 in
+                rw (e, r) refl
 
-          numbers-same : regions_of given.w given.after.opened ≡ numbers ++ n ∷ []
-          numbers-same =
-              ap (regions_of given.w) given.goes_on.opened
-              ∙ regions-same (s.opened ++ f ∷ []) all-open
-              ∙ map-join (λ g. value v.whole g.region) s.opened (f ∷ [])
+            numbers-same : regions_of given.w given.after.opened ≡ numbers ++ n ∷ []
+            numbers-same =
+                ap (regions_of given.w) given.goes_on.opened
+                ∙ regions-same (s.opened ++ f ∷ []) all-open
+                ∙ map-join (λ g. value v.whole g.region) s.opened (f ∷ [])
 
-          still-open :
-              AllByRecursion
-              (λ g. AllOver (Usable [] given.after.sorts Int) g × Exact given.w V g)
-              given.after.opened
-          still-open =
-              subst (AllByRecursion
-              (λ g. AllOver (Usable [] given.after.sorts Int) g × Exact given.w V g))
-              (sym given.goes_on.opened)
-              (all-more IsOpen
-              (λ g. AllOver (Usable [] given.after.sorts Int) g × Exact given.w V g)
-              (λ g told. (
-                over-more (Usable [] s.sorts Int) (Usable [] given.after.sorts Int) usable3 g
-                    told.0,
-                exact-alike (Old s) v given.w V alike3 g
-                    (over-more (Usable [] s.sorts Int) (Old s) (usable-old [] s.sorts Int) g told.0)
-                    told.1,
-              )) s2.opened all-open)
+            still-open :
+                AllByRecursion
+                (λ g. AllOver (Usable [] given.after.sorts Int) g × Exact given.w V g)
+                given.after.opened
+            still-open =
+                subst (AllByRecursion
+                (λ g. AllOver (Usable [] given.after.sorts Int) g × Exact given.w V g))
+                (sym given.goes_on.opened)
+                (all-more IsOpen
+                (λ g. AllOver (Usable [] given.after.sorts Int) g × Exact given.w V g)
+                (λ g told. (
+                  over-more (Usable [] s.sorts Int) (Usable [] given.after.sorts Int) usable3 g
+                      told.0,
+                  exact-alike (Old s) v given.w V alike3 g
+                      (over-more (Usable [] s.sorts Int) (Old s) (usable-old [] s.sorts Int) g told.0)
+                      told.1,
+                )) s2.opened all-open)
 
-          -- the guards from before the first opening
-          earlier-now : Earlier p.program [] given.w given.after part
-          earlier-now = by s.opened refl
-            where
-              usable-all : (o : Sort) (x : ℕ) → Usable [] s.sorts o x →
-                  Usable [] given.after.sorts o x
-              usable-all o x h =
-                  usable-on [] s2.sorts given.after.sorts given.goes_on.sorts o x (usable2 o x h)
+            -- the guards from before the first opening
+            earlier-now : Earlier p.program [] given.w given.after part
+            earlier-now = by s.opened refl
+              where
+                usable-all : (o : Sort) (x : ℕ) → Usable [] s.sorts o x →
+                    Usable [] given.after.sorts o x
+                usable-all o x h =
+                    usable-on [] s2.sorts given.after.sorts given.goes_on.sorts o x (usable2 o x h)
 
-              covered-now :
-                  (ps : List Piece) → AllByRecursion (PieceOver (Usable [] s.sorts)) ps → (m : ℤ) →
-                  Covered p.program v ps m (part.guards m) →
-                  Covered p.program given.w ps m (part.guards m)
-              covered-now ps po m c =
-                  covered-alike p.program (Old s) v given.w alike3 ps m (part.guards m)
-                  (pieces-more (Usable [] s.sorts) (λ o. Old s) (usable-old [] s.sorts) ps po) c
+                covered-now :
+                    (ps : List Piece) → AllByRecursion (PieceOver (Usable [] s.sorts)) ps → (m : ℤ) →
+                    Covered p.program v ps m (part.guards m) →
+                    Covered p.program given.w ps m (part.guards m)
+                covered-now ps po m c =
+                    covered-alike p.program (Old s) v given.w alike3 ps m (part.guards m)
+                    (pieces-more (Usable [] s.sorts) (λ o. Old s) (usable-old [] s.sorts) ps po) c
 
-              of-pieces :
-                  (ps : List Piece) → given.after.before ≡ ps →
-                  AllByRecursion (PieceOver (Usable [] s.sorts)) ps → AllFit p.program ps →
-                  ((m : ℤ) → Covered p.program v ps m (part.guards m)) →
-                  Earlier p.program [] given.w given.after part
-              of-pieces ps e po pf pc = record {
-                over = subst (AllByRecursion (PieceOver (Usable [] given.after.sorts))) (sym e)
-                    (pieces-more (Usable [] s.sorts) (Usable [] given.after.sorts) usable-all ps
-                    po);
-                fit = subst (AllFit p.program) (sym e) pf;
-                covered = λ m. subst (λ qs. Covered p.program given.w qs m (part.guards m)) (sym e)
-                    (covered-now ps po m (pc m));
-              }
+                of-pieces :
+                    (ps : List Piece) → given.after.before ≡ ps →
+                    AllByRecursion (PieceOver (Usable [] s.sorts)) ps → AllFit p.program ps →
+                    ((m : ℤ) → Covered p.program v ps m (part.guards m)) →
+                    Earlier p.program [] given.w given.after part
+                of-pieces ps e po pf pc = record {
+                  over = subst (AllByRecursion (PieceOver (Usable [] given.after.sorts))) (sym e)
+                      (pieces-more (Usable [] s.sorts) (Usable [] given.after.sorts) usable-all ps
+                      po);
+                  fit = subst (AllFit p.program) (sym e) pf;
+                  covered = λ m. subst (λ qs. Covered p.program given.w qs m (part.guards m)) (sym e)
+                      (covered-now ps po m (pc m));
+                }
 
-              by : (os : List PlainFact) → s.opened ≡ os → Earlier p.program [] given.w given.after
-                  part
-              by [] e =
-                  of-pieces s.guards
-                  (given.goes_on.before
-                  ∙ ap (λ os. if is_empty os then s.guards else s.before) e)
-                  o.grounded.pieces_over o.grounded.pieces_fit
-                  (λ m. subst (Covered p.program v s.guards m)
-                  (ap (λ q. q.guards m)
-                  (ap (λ os. both p.program part (all_of p.program (regions_of v os) share)) e
-                  ∙ none-right p.program part))
-                  (o.backed.guards m))
-              by (g ∷ os) e =
-                  let was : Earlier p.program [] v s part =
-                  subst (λ os. IfAny os (Earlier p.program [] v s part)) e o.earlier in
-                  of-pieces s.before
-                  (given.goes_on.before
-                  ∙ ap (λ os. if is_empty os then s.guards else s.before) e)
-                  was.over was.fit was.covered
+                by : (os : List PlainFact) → s.opened ≡ os → Earlier p.program [] given.w given.after
+                    part
+                by [] e =
+                    of-pieces s.guards
+                    (given.goes_on.before
+                    ∙ ap (λ os. if is_empty os then s.guards else s.before) e)
+                    o.grounded.pieces_over o.grounded.pieces_fit
+                    (λ m. subst (Covered p.program v s.guards m)
+                    (ap (λ q. q.guards m)
+                    (ap (λ os. both p.program part (all_of p.program (regions_of v os) share)) e
+                    ∙ none-right p.program part))
+                    (o.backed.guards m))
+                by (g ∷ os) e =
+                    let was : Earlier p.program [] v s part =
+                    subst (λ os. IfAny os (Earlier p.program [] v s part)) e o.earlier in
+                    of-pieces s.before
+                    (given.goes_on.before
+                    ∙ ap (λ os. if is_empty os then s.guards else s.before) e)
+                    was.over was.fit was.covered
 
-          any-opened : (os : List PlainFact) (P : Type 0) → P → IfAny os P
-          any-opened [] P h = tt
-          any-opened (g ∷ os) P h = h
+            any-opened : (os : List PlainFact) (P : Type 0) → P → IfAny os P
+            any-opened [] P h = tt
+            any-opened (g ∷ os) P h = h
+
+            pub opening-then : Opening p.program V share part given.w given.after
+            opening-then = record {
+              grounded = given.grounded;
+              facts = given.facts;
+              firm = given.firm;
+              opened = still-open;
+              differ = subst Differ (sym numbers-same) differ1;
+              backed = subst (Backed p.program given.w given.after)
+                  (one-more
+                  ∙ ap (λ ns. both p.program part (all_of p.program ns share))
+                  (sym numbers-same)) given.backed;
+              earlier = any-opened given.after.opened
+                  (Earlier p.program [] given.w given.after part) earlier-now;
+            }
+
+            pub store-then : Store given.w given.after h0 fn fixed f0
+            store-then =
+                store-alike v given.w s given.after h0 fn fixed f0 o.grounded.meets.store_over alike3
+                (λ x q e. given.goes_on.sorts x q
+                (holds.old-sorts p.program v s1 f k c own.values in-case meets1
+                goal.goes.state_known goal.goes.conditions_known x q e))
+                given.goes_on.store size st
 
           pub region-opened :
               (d : PlainTree)
               × (r : Opened d ts (suc (length s.opened)))
               × Enters v s i ks r.v r.s d
           region-opened =
+              let given = along.given in
               let child = lone-child p.N given.children given.after ts given.goes in (
                 child.0,
                 record {
                   s = given.after;
                   v = given.w;
                   valid = child.1;
-                  opening = record {
-                    grounded = given.grounded;
-                    facts = given.facts;
-                    firm = given.firm;
-                    opened = still-open;
-                    differ = subst Differ (sym numbers-same) differ1;
-                    backed = subst (Backed p.program given.w given.after)
-                        (one-more
-                        ∙ ap (λ ns. both p.program part (all_of p.program ns share))
-                        (sym numbers-same)) given.backed;
-                    earlier = any-opened given.after.opened
-                        (Earlier p.program [] given.w given.after part) earlier-now;
-                  };
-                  store = store-alike v given.w s given.after h0 fn fixed f0
-                      o.grounded.meets.store_over alike3
-                      (λ x q e. given.goes_on.sorts x q
-                      (holds.old-sorts p.program v s1 f k c own.values in-case meets1
-                      goal.goes.state_known goal.goes.conditions_known x q e))
-                      given.goes_on.store size st;
+                  opening = opening-then given;
+                  store = store-then given;
                   are = ap length given.goes_on.opened
                       ∙ (let q = push-length s.opened f in omega (arith, q));
                 },

@@ -293,7 +293,7 @@ module _ (p : Checked) (V W : Table) (part : Stock) (ks : List ℕ) (v : Valuati
         created = ct.created;
       }
 
-      abbrev region-closed : RegionClosed p V W part ks v s held ts
+      abbrev pub region-closed : RegionClosed p V W part ks v s held ts
       region-closed = record {
         o = ct.o;
         f = f;
