@@ -1,6 +1,6 @@
--- By what a contract or an invariant is met by now: by what it was, while its regions are in the same
--- states, and else along the tree of its stability. So a frame is given just what it has.
-use Rattle.std.proofs.Common.{◌≡◌, ℕ, ◌+◌, ℤ, Bool, true, false, List, [], ◌∷◌, length, Option, Some, None, refl, sym, ap, ◌∙◌, subst, arith}
+-- By what a contract or an invariant is met by now: by what it was, while its regions are in the
+-- same states, and else along the tree of its stability. So a frame is given just what it has.
+use Rattle.std.proofs.Common.{◌≡◌, ℕ, ◌+◌, ℤ, Bool, true, false, List, [], ◌∷◌, length, Option, Some, None, refl, sym, ap, ◌∙◌, subst, arith, ◌≤◌, pos}
 use Rattle.std.specs.Prelude.{if◌then◌else◌}
 use Rattle.std.specs.List.{AllByRecursion, list_all}
 use Rattle.cap_lin.specs.Linear.{Linear, variable}
@@ -9,12 +9,13 @@ use Rattle.cap_lin.specs.declared.row.Sort.TheVariants.{Int}
 use Rattle.cap_prog.specs.Program.{Items, none, item, PlainAssertion, PlainFunction, PlainProgram}
 use Rattle.cap_prog.specs.Scopes.{Scope, fixed_start, result_name, requires_scope, ensures_scope, invariant_scope}
 use Rattle.cap_prog.specs.WellFormed.{IsWellFormed}
+use Rattle.cap_machine.specs.Machine.{Heap}
 use Rattle.cap_machine_accounts.specs.Assertions.{NameValue, ValuesFit}
 use Rattle.cap_goal_spec.specs.Terms.{variables_from}
 use Rattle.cap_goal_spec.specs.States.{PlainEnv, Home, to_give, to_take, to_rest, goals_of}
 use Rattle.cap_goal_spec.specs.Environments.{unbound}
 use Rattle.cap_goal_spec.specs.Choices.{PlainTree, no_trees, tree}
-use Rattle.cap_account_resources.specs.Parts.{Table}
+use Rattle.cap_account_resources.specs.Parts.{cells_of, Table}
 use Rattle.cap_account_resources.proofs.Stocks.{Stock}
 use Rattle.cap_account_states.specs.Nodes.{Open}
 use Rattle.cap_account_states.proofs.Checked.{Checked}
@@ -36,11 +37,11 @@ use Rattle.cap_owners_spec.specs.Steps.{is_in_state, is_current, filled_again, f
 use Rattle.cap_owners_fills_laws.proofs.Drawn.{items_told, IsMetBy, Tells}
 use Rattle.cap_owners_fills_laws.proofs.Giving.{NamesFit}
 use Rattle.cap_owners_fills_laws.proofs.Still.{KeepsTypes, current-met}
-use Rattle.cap_owners_regions_laws.proofs.Regiven.{AreSorted, GivesLaw}
+use Rattle.cap_owners_regions_laws.proofs.Regiven.{AreSorted}
 use Rattle.cap_owners_regions_laws.proofs.Remet.{MetAgain}
 use Rattle.cap_owners_regions_laws.proofs.Refilled.{refilled}
 use Rattle.cap_owners_regions_laws.proofs.Reowned.{met-moved}
-use Rattle.cap_owners_regions_laws.proofs.Stills.{StillsLaw}
+use Rattle.cap_owners_regions_laws.proofs.Stills.{AreBelow, StillsLaw}
 use Rattle.cap_owners_regions_laws.proofs.Telling.{ToldSo, told-here, told-same, told-more, told-on}
 
 -- names are kept where they are the same
@@ -68,9 +69,11 @@ pub record RootTree (p : Checked) (root : Root) (items : Items) (store : List Li
       ≡ q.goal ∷ []
   pub over : AllByRecursion (Over (Usable [] (sorts_of root.f root.l root.rs) Int)) store
 
-module _ (p : Checked) (wf : IsWellFormed p.program) (give : GivesLaw p) (still : StillsLaw p)
-    (trees : List (Option PlainTree)) (T U : Table) (h : Stock) (reached : Reached p.program T U h)
-    (g : GivenAssertion) (rs : List TrackedRegion) (tells : Tells rs U) where
+module _ (p : Checked) (wf : IsWellFormed p.program) (still : StillsLaw p)
+    (trees : List (Option PlainTree)) (T U : Table) (h : Stock) (heap : Heap)
+    (within : (a z : ℤ) → h.cells a z ≤ cells_of heap a z) (reached : Reached p.program T U h)
+    (g : GivenAssertion) (rs : List TrackedRegion) (tells : Tells rs U)
+    (below : AreBelow (pos (1 + length rs)) rs) where
   module _ (r : Stock) (root : Root) (items : Items) (fits : AreFit p.program root.sc items)
       (ok : NamesFit root.sc g.fill.names) (d : DrawsAll p.program T root.a items h r)
       (met : IsMetBy p.program T root.a items h r d g.fill) (store : List Linear)
@@ -115,9 +118,9 @@ module _ (p : Checked) (wf : IsWellFormed p.program) (give : GivesLaw p) (still 
         let q = rooted some in
         let n = met-moved p.program T root.a (valuation g.fill.names) items h r g.fill met.names d
         met in
-        let at = refilled p wf give still trees T U h r reached root g.fill ok items some fits n.0
+        let at = refilled p wf still trees T U h r heap within reached root g.fill ok items some fits n.0
         n.1.wildcards store q.2.over g.values means sorted q.0 q.2.goes q.2.is_goal g refl refl rs
-        tells in
+        tells below in
         subst (λ o. ToldSo MetNow
         (filled_again (record { program = p.program; trees = trees }) rs g o)) (sym q.1)
         (told-more (MetAgain p U h root.sc items (root_start root store) g.fill) MetNow

@@ -1,5 +1,5 @@
--- A region is entered along a walk: the case by which it owns its part by now, and what is known there
--- of the values; and a world in which it owns its part so.
+-- A region is entered along a walk: the case by which it owns its part by now, and what is known
+-- there of the values; and a world in which it owns its part so.
 use Rattle.std.proofs.Common.{◌≡◌, inl, inr, ℕ, zero, suc, ◌+◌, ◌-◌, ◌<◌, ℤ, Bool, true, false, List, [], ◌∷◌, ◌++◌, length, drop, Some, refl, sym, ap, ◌∙◌, subst, arith}
 use Rattle.std.specs.Prelude.{slice_get, nat_lt, if◌then◌else◌}
 use Rattle.std.proofs.lemmas.Bool.Decides.{nat_tests}

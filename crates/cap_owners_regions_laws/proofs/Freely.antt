@@ -1,5 +1,5 @@
--- Where variables are kept free they may have a walk's values: so what is known while regions are closed
--- holds there too. And the variables of marks, which the table's states are given to.
+-- Where variables are kept free they may have a walk's values: so what is known while regions are
+-- closed holds there too. And the variables of marks, to which the table's states are given.
 use Rattle.std.proofs.Common.{◌≡◌, ℕ, ◌<◌, Bool, true, false, List, [], ◌∷◌, ◌++◌, length, Option, Some, None, refl, sym, ap, ◌∙◌, arith}
 use Rattle.std.specs.Prelude.{map, slice_set, nat_lt, is_some}
 use Rattle.std.specs.List.{zip}

@@ -10,4 +10,6 @@ pub mod Reowned
 pub mod Refilled
 pub mod Contracts
 pub mod Entered
+pub mod Enters
 pub mod Freely
+pub mod Joins

@@ -1,6 +1,6 @@
--- A contract or an invariant that was met is met again along the tree of its stability, at the values
--- with which its root began.
-use Rattle.std.proofs.Common.{◌≡◌, inl, ℕ, zero, suc, ◌+◌, ◌*ℤ◌, false, List, [], ◌∷◌, ◌++◌, length, Option, Some, None, refl, sym, ap, ◌∙◌, subst, arith}
+-- A contract or an invariant that was met is met again along the tree of its stability, at the
+-- values with which its root began.
+use Rattle.std.proofs.Common.{◌≡◌, inl, ℕ, zero, suc, ◌+◌, ◌*ℤ◌, false, List, [], ◌∷◌, ◌++◌, length, Option, Some, None, refl, sym, ap, ◌∙◌, subst, arith, ◌≤◌, ℤ, pos, replicate, ◌<◌}
 use Rattle.std.specs.Prelude.{slice_get, unwrap_or}
 use Rattle.std.specs.List.{AllByRecursion}
 use Rattle.cap_lin.specs.Linear.{Linear, variable}
@@ -10,12 +10,13 @@ use Rattle.cap_lin.specs.declared.row.Sort.{Sort}
 use Rattle.cap_lin.specs.declared.row.Sort.TheVariants.{Int}
 use Rattle.cap_prog.specs.Program.{Items}
 use Rattle.cap_prog.specs.WellFormed.{IsWellFormed}
+use Rattle.cap_machine.specs.Machine.{Heap}
 use Rattle.cap_machine_accounts.specs.Assertions.{NameValue, a_number, a_fraction}
 use Rattle.cap_goal_spec.specs.Terms.{variables_from}
 use Rattle.cap_goal_spec.specs.States.{PlainEnv, PlainState, to_give, to_take, to_rest, goals_of}
 use Rattle.cap_goal_spec.specs.Environments.{bound, unbound}
 use Rattle.cap_goal_spec.specs.Choices.{PlainTree, no_trees, tree}
-use Rattle.cap_account_resources.specs.Parts.{Table}
+use Rattle.cap_account_resources.specs.Parts.{cells_of, Table}
 use Rattle.cap_account_resources.proofs.Covering.{covered-none}
 use Rattle.cap_account_resources.proofs.Lists.{some-same, none-some, all-both}
 use Rattle.cap_account_resources.proofs.Stocks.{Stock, no_stock}
@@ -26,6 +27,7 @@ use Rattle.cap_account_states.proofs.Items.{AreFit}
 use Rattle.cap_account_states.proofs.Meets.{Usable}
 use Rattle.cap_account_states.proofs.Naming.{Means}
 use Rattle.cap_account_states.proofs.Roots.{Root, sorts_of, root_names, root-placed}
+use Rattle.cap_account_states.proofs.Scopes.{length-join, rep-length}
 use Rattle.cap_account_states.proofs.Terms.{Over}
 use Rattle.cap_account_assertions.proofs.Asserted.{DrawsAll}
 use Rattle.cap_account_assertions.proofs.Laws.{StateAt, Reached}
@@ -38,9 +40,9 @@ use Rattle.cap_owners_spec.specs.Steps.{beginning, none_entered, taken_in_end, f
 use Rattle.cap_owners_values_laws.proofs.More.{FitsSort}
 use Rattle.cap_owners_fills_laws.proofs.Drawn.{items_met, Tells}
 use Rattle.cap_owners_fills_laws.proofs.Giving.{NamesFit}
-use Rattle.cap_owners_regions_laws.proofs.Regiven.{AreSorted, GivesLaw, given-again}
+use Rattle.cap_owners_regions_laws.proofs.Regiven.{AreSorted, given-again}
 use Rattle.cap_owners_regions_laws.proofs.Remet.{MetAgain, remains, walk-meets}
-use Rattle.cap_owners_regions_laws.proofs.Stills.{IsNameTerm, AreNameTerms, StillsLaw}
+use Rattle.cap_owners_regions_laws.proofs.Stills.{IsNameTerm, AreNameTerms, AreBelow, StillsLaw}
 use Rattle.cap_owners_regions_laws.proofs.Telling.{ToldSo}
 
 -- ---- values of sorts
@@ -77,14 +79,15 @@ module _ (sorts : List Sort) where
   names-at (o ∷ env) h zero t e = h.0 t e
   names-at (o ∷ env) h (suc x) t e = names-at env h.1 x t e
 
-  is-variable : (y : ℕ) (t : Linear) → variable y ≡ t → IsNameTerm sorts t
-  is-variable y t e = subst (IsNameTerm sorts) e (inl tt)
+  is-variable : (y : ℕ) (t : Linear) → y < length sorts → variable y ≡ t → IsNameTerm sorts t
+  is-variable y t l e = subst (IsNameTerm sorts) e (inl l)
 
-  variables-are : (k n : ℕ) → AllByRecursion IsName (bound (variables_from k n))
-  variables-are k zero = tt
-  variables-are k (suc n) = (
-    (λ t e. is-variable k t (some-same (variable k) t e)),
-    variables-are (suc k) n,
+  variables-are :
+      (k n : ℕ) → k + n ≤ length sorts → AllByRecursion IsName (bound (variables_from k n))
+  variables-are k zero l = tt
+  variables-are k (suc n) l = (
+    (λ t e. is-variable k t (omega (arith, l)) (some-same (variable k) t e)),
+    variables-are (suc k) n (omega (arith, l)),
   )
 
   unbound-are : (n : ℕ) → AllByRecursion IsName (unbound n)
@@ -101,23 +104,32 @@ root-terms root =
     let params = bound (variables_from 0 f.params) in
     let fixed = bound (variables_from (f.params + root.l) (length f.fixed)) in
     let new = unbound (length root.new) in
+    let low = rep-length (f.params + root.l) Int in
+    let all = length-join (replicate (f.params + root.l) Int) (f.fixed ++ root.rs) in
+    let rest = length-join f.fixed root.rs in
     names-at sorts (root_names root)
-    (all-both Q params (root.ls ++ (fixed ++ root.r ∷ new)) (variables-are sorts 0 f.params)
+    (all-both Q params (root.ls ++ (fixed ++ root.r ∷ new))
+    (variables-are sorts 0 f.params (omega (arith, low, all)))
     (all-both Q root.ls (fixed ++ root.r ∷ new)
     (all-each Q root.ls (λ i o e t q.
     let m = root.locals_are i t (ap (λ u. unwrap_or u None) e ∙ q) in
-    is-variable sorts (f.params + i) t m.1))
+    let l = m.0 in
+    is-variable sorts (f.params + i) t (omega (arith, l, low, all)) m.1))
     (all-both Q fixed (root.r ∷ new)
-    (variables-are sorts (f.params + root.l) (length f.fixed)) (
-      (λ t q. is-variable sorts (f.params + root.l + length f.fixed) t (sym (root.r_is t q).0)),
+    (variables-are sorts (f.params + root.l) (length f.fixed) (omega (arith, low, all, rest))) (
+      (λ t q.
+      let m = root.r_is t q in
+      let one = ap length m.1 in
+      is-variable sorts (f.params + root.l + length f.fixed) t (omega (arith, low, all, rest, one))
+      (sym m.0)),
       unbound-are sorts (length root.new),
     ))))
 
 -- ---- met again
 
-module _ (p : Checked) (wf : IsWellFormed p.program) (give : GivesLaw p) (still : StillsLaw p)
-    (trees : List (Option PlainTree)) (T U : Table) (h r : Stock)
-    (reached : Reached p.program T U h) (root : Root) (f : Fill)
+module _ (p : Checked) (wf : IsWellFormed p.program) (still : StillsLaw p)
+    (trees : List (Option PlainTree)) (T U : Table) (h r : Stock) (heap : Heap)
+    (within : (a z : ℤ) → h.cells a z ≤ cells_of heap a z) (reached : Reached p.program T U h) (root : Root) (f : Fill)
     (ok : NamesFit root.sc f.names) (items : Items) (some : no_items items ≡ false)
     (fits : AreFit p.program root.sc items)
     (d : DrawsAll p.program T (valuation f.names) items h r)
@@ -165,12 +177,12 @@ module _ (p : Checked) (wf : IsWellFormed p.program) (give : GivesLaw p) (still 
       (to_give items 0 0 ∷ to_rest 0 0 ∷ to_take items 1 0 0 ∷ [])
       ≡ q.goal ∷ [] →
       (g : GivenAssertion) → g.values ≡ vs → g.fill ≡ f → (rs : List TrackedRegion) →
-      Tells rs U →
+      Tells rs U → AreBelow (pos (1 + length rs)) rs →
       ToldSo (MetAgain p U h root.sc items (root_start root store) f)
       (filled_again (record { program = p.program; trees = trees }) rs g (Some q))
-  refilled q goes is_goal g same_values same_fill rs tells =
+  refilled q goes is_goal g same_values same_fill rs tells below =
       let given = given-again p wf T U root.sc f ok h r reached items (to_take items 1 0 0 ∷ [])
-      (remains p wf still T U root.sc f ok h r reached items some) give (tree q.tree no_trees) vs s
+      (remains p wf still T U root.sc f ok h r reached items some heap within) (tree q.tree no_trees) vs s
       goes starts tt means fits d met nothing sorted in
       subst (λ us. ToldSo (MetAgain p U h root.sc items s f)
       (walk none_entered p.program false q.tree q.goal
@@ -178,6 +190,6 @@ module _ (p : Checked) (wf : IsWellFormed p.program) (give : GivesLaw p) (still 
       (subst (λ x. ToldSo (MetAgain p U h root.sc items s f)
       (walk none_entered p.program false q.tree q.goal
       (beginning rs vs (nothing_taken ∷ []) (Some x) []) >>= taken_in_end)) (sym same_fill)
-      (walk-meets p wf still T U root.sc f ok h r reached items some vs s (root-placed root) means
+      (walk-meets p wf still T U root.sc f ok h r reached items some heap within vs s (root-placed root) means
       (root-terms root) refl (omega arith) fits (tree q.tree no_trees) given q refl is_goal
-      none_entered rs tells))
+      none_entered rs tells below))

@@ -1,5 +1,5 @@
--- What was met is given again at a root, and rests: so it is known by a table that others led to, at
--- the values that a walk has there.
+-- What was met is given again at a root, and rests: so it is known by a table that others led to,
+-- at the values that a walk has there.
 use Rattle.std.proofs.Common.{◌≡◌, ◌≢◌, inl, inr, ℕ, ◌<◌, Bool, true, false, List, [], ◌∷◌, length, Some, None, refl, sym, ap, ◌∙◌, subst, arith}
 use Rattle.std.specs.Prelude.{get_or, ◌==◌, if◌then◌else◌}
 use Rattle.std.specs.List.{AllByRecursion, AllZip}
@@ -39,29 +39,11 @@ use Rattle.cap_owners_values_laws.proofs.More.{FitsSort}
 use Rattle.cap_owners_fills_laws.proofs.Drawn.{items_met, Tells}
 use Rattle.cap_owners_fills_laws.proofs.Giving.{NamesFit}
 use Rattle.cap_owners_passes_laws.proofs.Rests.{into, RestsTo, rests-to}
-use Rattle.cap_owners_passes_laws.proofs.Gives.{GoesTo, GivesTo}
+use Rattle.cap_owners_passes_laws.proofs.Gives.{GoesTo, GivesTo, gives-to}
 
 -- each variable has a value of its sort
 abbrev pub AreSorted : List Sort → List NameValue → Type 0
 AreSorted os vs = AllZip FitsSort os vs
-
--- what is asked of giving: items that are drawn out of a part are given along the walk, and each
--- variable then has a value of its sort
-abbrev pub GivesLaw : Checked → Type 0
-GivesLaw p =
-    (T : Table) (sc : Scope) (e n : ℕ) (names : List NameValue) (ok : NamesFit sc names)
-    (held h r : Stock) (items : Items) (ts : List PlainTask)
-    (remains : (s : PlainState) → (g : PlainGoal) × (goal_of s ts ≡ Some g)) (trees : PlainTrees)
-    (vs : List NameValue) (s : PlainState) → Open p.N trees s (to_give items e n ∷ ts) →
-    StateAt p.program [] T sc e (valuation vs) s → AllByRecursion IsFirm s.facts →
-    Means sc (valuation vs) (env_at s e) (valuation names) → AreFit p.program sc items →
-    (d : DrawsAll p.program T (valuation names) items h r) →
-    Backed p.program (valuation vs) s held → (ne : Composes (both p.program held h)) →
-    AreSorted s.sorts vs →
-    (g : GivesTo p T sc e names ok (both p.program held h)
-    (fill_items p.program T (valuation names) items h r d (filled_at e (valuation vs) s)) ne n ts
-    remains [] items trees vs (items_met p.program T (valuation names) items h r d) (valuation vs) s)
-    × AreSorted g.given.after.sorts g.values
 
 pub either-way : {A : Type 0} (b : Bool) (x y z : A) → x ≡ z → y ≡ z → (if b then x else y) ≡ z
 either-way true x y z e k = e
@@ -101,7 +83,7 @@ module _ (p : Checked) (wf : IsWellFormed p.program) (T U : Table) (sc : Scope) 
       alone-composes 0 (to_rest 0 0 ∷ ts) rest-remains [] items trees vs
       (items_met p.program T (valuation f.names) items h r d) (valuation vs) s
 
-  -- the part is what the state has, by the later table, and a walk that gives by the fill comes here
+  -- the part is what the state has, by the later table; a walk that gives by the fill comes here
   pub record Regiven (trees : PlainTrees) (vs : List NameValue) (s : PlainState) : Type 0 where
     pub values : List NameValue
     pub after : PlainState
@@ -126,7 +108,7 @@ module _ (p : Checked) (wf : IsWellFormed p.program) (T U : Table) (sc : Scope) 
   module _ (trees : PlainTrees) (vs : List NameValue) (s : PlainState)
       (d : DrawsAll p.program T (valuation f.names) items h r)
       (met : items_met p.program T (valuation f.names) items h r d ≡ f.wildcards)
-      (g : GivenTo trees vs s d) (sorted : AreSorted g.given.after.sorts g.values) where
+      (g : GivenTo trees vs s d) where
     abbrev s1 : PlainState
     s1 = g.given.after
 
@@ -173,7 +155,7 @@ module _ (p : Checked) (wf : IsWellFormed p.program) (T U : Table) (sc : Scope) 
 
     rested : RestedHere
     rested =
-        rests-to p h T U reaching 0 ts g.given.after g.given.children g.values sorted grounded1
+        rests-to p h T U reaching 0 ts g.given.after g.given.children g.values g.sorted grounded1
         over1 exact1 backed1 g.given.goes
 
     same-fill :
@@ -255,14 +237,14 @@ module _ (p : Checked) (wf : IsWellFormed p.program) (T U : Table) (sc : Scope) 
 
   -- from the root on
   pub given-again :
-      GivesLaw p → (trees : PlainTrees) (vs : List NameValue) (s : PlainState) →
+      (trees : PlainTrees) (vs : List NameValue) (s : PlainState) →
       Open p.N trees s (to_give items 0 0 ∷ to_rest 0 0 ∷ ts) →
       StateAt p.program [] T sc 0 (valuation vs) s → AllByRecursion IsFirm s.facts →
       Means sc (valuation vs) (env_at s 0) (valuation f.names) → AreFit p.program sc items →
       (d : DrawsAll p.program T (valuation f.names) items h r) →
       items_met p.program T (valuation f.names) items h r d ≡ f.wildcards →
       Backed p.program (valuation vs) s no_stock → AreSorted s.sorts vs → Regiven trees vs s
-  given-again give trees vs s goes at firm means fits d met backed sorted =
-      let g = give T sc 0 0 f.names ok no_stock h r items (to_rest 0 0 ∷ ts) rest-remains trees vs s
-      goes at firm means fits d backed alone-composes sorted in
-      regiven trees vs s d met g.0 g.1
+  given-again trees vs s goes at firm means fits d met backed sorted =
+      regiven trees vs s d met
+      (gives-to p T sc 0 0 f.names ok no_stock h r items (to_rest 0 0 ∷ ts) rest-remains trees vs s
+      goes at firm means fits d backed alone-composes sorted)

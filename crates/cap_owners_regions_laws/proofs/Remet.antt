@@ -1,18 +1,20 @@
 -- What a contract or an invariant was met by is met again along the tree of its stability, by the
 -- table to which others led.
-use Rattle.std.proofs.Common.{◌≡◌, inl, inr, ◌<◌, false, List, [], ◌∷◌, length, Some, None, refl, sym, ap, ◌∙◌, subst, arith}
-use Rattle.std.specs.Prelude.{slice_get, if◌then◌else◌}
+use Rattle.std.proofs.Common.{◌≡◌, inl, inr, ◌<◌, false, List, [], ◌∷◌, length, Some, None, refl, sym, ap, ◌∙◌, subst, arith, ◌+◌, ◌≤◌, ℤ, pos, Option, ℕ}
+use Rattle.std.specs.Prelude.{slice_get, IsSomeAnd, if◌then◌else◌}
 use Rattle.std.specs.List.{AllByRecursion}
 use Rattle.cap_lin.specs.declared.row.Sort.TheVariants.{Int}
 use Rattle.cap_prog.specs.Program.{Items, item, none}
 use Rattle.cap_prog.specs.Scopes.{Scope}
 use Rattle.cap_prog.specs.WellFormed.{IsWellFormed}
+use Rattle.cap_goal_spec.specs.Terms.{lone_variable}
 use Rattle.cap_goal_spec.specs.States.{PlainState, PlainTask, to_give, to_take, to_rest, PlainGoal, goal, goal_of, goals_of}
 use Rattle.cap_goal_spec.specs.Choices.{PlainTrees, no_trees, tree}
 use Rattle.cap_goal_spec.specs.Environments.{term_of}
 use Rattle.cap_rules.specs.Making.{env_at}
+use Rattle.cap_machine.specs.Machine.{Heap}
 use Rattle.cap_machine_accounts.specs.Assertions.{NameValue}
-use Rattle.cap_account_resources.specs.Parts.{Table}
+use Rattle.cap_account_resources.specs.Parts.{cells_of, Table}
 use Rattle.cap_account_resources.proofs.Stocks.{Stock}
 use Rattle.cap_account_resources.proofs.Tables.{fits-relied}
 use Rattle.cap_account_states.proofs.Alike.{agree-alike, alike-agree}
@@ -35,7 +37,7 @@ use Rattle.cap_owners_fills_laws.proofs.Giving.{NamesFit}
 use Rattle.cap_owners_passes_laws.proofs.Rests.{into}
 use Rattle.cap_owners_regions_laws.proofs.Telling.{ToldSo, told-here, told-same}
 use Rattle.cap_owners_regions_laws.proofs.Regiven.{Regiven}
-use Rattle.cap_owners_regions_laws.proofs.Stills.{AreNameTerms, named_by, StillTo, StillsTo, StillsLaw, names-stay}
+use Rattle.cap_owners_regions_laws.proofs.Stills.{AreNameTerms, AreBelow, StillTo, StillsTo, StillsLaw, names-stay}
 
 -- where there are no goals a walk leaves
 pub leaves-there :
@@ -54,7 +56,8 @@ module _ (p : Checked) (U : Table) (h : Stock) (sc : Scope) (items : Items) wher
 
 module _ (p : Checked) (wf : IsWellFormed p.program) (law : StillsLaw p) (T U : Table) (sc : Scope)
     (f : Fill) (ok : NamesFit sc f.names) (h r : Stock) (reached : Reached p.program T U h)
-    (items : Items) (some : no_items items ≡ false) where
+    (items : Items) (some : no_items items ≡ false) (heap : Heap)
+    (within : (a z : ℤ) → h.cells a z ≤ cells_of heap a z) where
   abbrev last : List PlainTask
   last = to_take items 1 0 0 ∷ []
 
@@ -94,47 +97,52 @@ module _ (p : Checked) (wf : IsWellFormed p.program) (law : StillsLaw p) (T U : 
 
       still-alone : AreNameTerms g.after.sorts (env_at g.after 1)
       still-alone x t e = elim (alone x t (ap (λ env. term_of env x) (sym env-kept) ∙ e)) [
-        | inl y ↦ inl y
+        | inl y ↦ inl (lone-more (lone_variable t) y)
         | inr o ↦ inr (vars-more (λ y. slice_get s.sorts y ≡ Some Int)
             (λ y. slice_get g.after.sorts y ≡ Some Int) (λ y i. g.goes_on.sorts y Int i) t.parts o)
       ]
+        where
+          lone-more :
+              (m : Option ℕ) → IsSomeAnd m (λ y. y < length s.sorts) →
+              IsSomeAnd m (λ y. y < length g.after.sorts)
+          lone-more None h = absurd h
+          lone-more (Some y) h = (let n = g.goes_on.count in omega (arith, h, n))
 
       takes :
-          (enter : Interpreting) (w : Walk) →
+          (enter : Interpreting) (w : Walk) → AreBelow w.next w.regions →
           StillsTo p [] U sc 1 enter g.values h g.after items 0 [] g.children w
       takes =
           law [] U sc 1 0 items [] g.children g.values g.after h g.goes there tt fits g.backed
-          (fits-relied p.program T U h reached.full reached.relies reached.room) g.sorted still-alone
+          (fits-relied p.program T U h reached.full reached.relies reached.room) g.sorted
+          still-alone heap within
 
       ends : (t : StillTo p [] U sc 1 g.values h g.after items []) →
           MetAgain p U h sc items s f t.top.fill
       ends t =
-          let e = t.whole some in
-          let fill : named_by t.names t.top.fill ≡ t.top.fill =
-          ap (λ ns. named_by ns t.top.fill) (sym e) in
+          let m = t.on_top some in
           let agree = alike-agree (Old s) (valuation vs) (valuation t.values) refl
           (alike-between s g.after (valuation vs) (valuation g.values) (valuation t.values) g.goes_on
           (agree-alike (Old s) (valuation vs) (valuation g.values) g.agree) t.follows.alike) in
-          subst (MetAgain p U h sc items s f) fill (record {
-            fits = t.fits;
+          record {
+            fits = m.fits;
             kept =
-                names-stay [] sc s vs t.values (env_at s 1) (env_at t.after 1) f.names t.names placed
-                agree
+                names-stay [] sc s vs t.values (env_at s 1) (env_at t.after 1) f.names
+                t.top.fill.names placed agree
                 (λ x o i y q. t.follows.stays x o i y (ap (λ env. term_of env x) env-kept ∙ q)) same
-                t.means;
-            owns = t.owns;
-            met = t.met;
-          })
+                m.means;
+            owns = m.owns;
+            met = m.met;
+          }
 
       -- a walk that begins with the fill
       pub walk-meets :
           (q : Place) → trees ≡ tree q.tree no_trees →
           goals_of s (to_give items 0 0 ∷ to_rest 0 0 ∷ to_take items 1 0 0 ∷ []) ≡ q.goal ∷ [] →
           (enter : Interpreting) (rs : List TrackedRegion) → Tells rs U →
-          ToldSo (MetAgain p U h sc items s f)
+          AreBelow (pos (1 + length rs)) rs → ToldSo (MetAgain p U h sc items s f)
           (walk enter p.program false q.tree q.goal
           (beginning rs vs (nothing_taken ∷ []) (Some f) []) >>= taken_in_end)
-      walk-meets q is_tree is_goal enter rs tells =
+      walk-meets q is_tree is_goal enter rs tells below =
           let start = beginning rs vs (nothing_taken ∷ []) (Some f) [] in
           let given_then = record start {
             values = g.values;
@@ -147,7 +155,7 @@ module _ (p : Checked) (wf : IsWellFormed p.program) (law : StillsLaw p) (T U : 
           λ i. into enter p.program (sym is_tree i) (sym is_goal i) start in
           elim (g.walks enter start tells) [
             | inl wide ↦ inl (ap (λ o. o >>= taken_in_end) (enters ∙ wide))
-            | inr on ↦ elim (takes enter given_then) [
+            | inr on ↦ elim (takes enter given_then below) [
               | inl wide ↦ inl (ap (λ o. o >>= taken_in_end) (enters ∙ on ∙ wide))
               | inr t ↦
                   told-same (MetAgain p U h sc items s f)

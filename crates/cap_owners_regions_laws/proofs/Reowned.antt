@@ -1,5 +1,5 @@
 -- By what a region owns its part by now: as it was closed, or along the tree of its case.
-use Rattle.std.proofs.Common.{◌≡◌, inl, inr, ℕ, suc, ◌-◌, ◌<◌, ℤ, ◌*ℤ◌, Bool, true, false, List, [], ◌∷◌, length, map, Option, Some, None, refl, sym, ap, ◌∙◌, subst, arith}
+use Rattle.std.proofs.Common.{◌≡◌, inl, inr, ℕ, suc, ◌-◌, ◌<◌, ℤ, ◌*ℤ◌, Bool, true, false, List, [], ◌∷◌, length, map, Option, Some, None, refl, sym, ap, ◌∙◌, subst, arith, ◌+◌, ◌≤◌, pos}
 use Rattle.std.specs.Prelude.{slice_get, if◌then◌else◌}
 use Rattle.std.specs.List.{AllByRecursion}
 use Rattle.cap_lin.specs.Values.{Valuation, denominator, value}
@@ -8,13 +8,14 @@ use Rattle.cap_lin.specs.declared.row.Sort.TheVariants.{Int, Perm}
 use Rattle.cap_prog.specs.Program.{Items, PlainCase, PlainRegionType, PlainProgram}
 use Rattle.cap_prog.specs.Scopes.{Scope, region_scope, region_sorts}
 use Rattle.cap_prog.specs.WellFormed.{IsWellFormed, CaseFits, RegionFits}
+use Rattle.cap_machine.specs.Machine.{Heap}
 use Rattle.cap_machine_accounts.specs.Assertions.{NameValue, a_number, a_fraction, AreWhole, CompHolds}
 use Rattle.cap_goal_spec.specs.Terms.{variables_from}
 use Rattle.cap_goal_spec.specs.States.{PlainState, to_give, to_rest, to_close, PlainGoal, goal, goal_of, goals_of}
 use Rattle.cap_goal_spec.specs.Choices.{PlainTree, PlainTrees, no_trees, tree}
 use Rattle.cap_goal_spec.specs.Roots.{region_unit, case_fact, case_state}
 use Rattle.cap_rules.specs.Making.{env_at}
-use Rattle.cap_account_resources.specs.Parts.{known_as, Table}
+use Rattle.cap_account_resources.specs.Parts.{cells_of, known_as, Table}
 use Rattle.cap_account_resources.proofs.Lists.{all-at}
 use Rattle.cap_account_resources.proofs.Stocks.{Stock, no_stock}
 use Rattle.cap_account_resources.proofs.Tables.{fits-relied}
@@ -46,9 +47,9 @@ use Rattle.cap_owners_fills_laws.proofs.Drawn.{items_met, IsMetBy, Tells}
 use Rattle.cap_owners_fills_laws.proofs.Giving.{NamesFit}
 use Rattle.cap_owners_fills_laws.proofs.Still.{KeepsTypes, current-met}
 use Rattle.cap_owners_passes_laws.proofs.Rests.{into}
-use Rattle.cap_owners_regions_laws.proofs.Regiven.{AreSorted, GivesLaw, Regiven, given-again}
+use Rattle.cap_owners_regions_laws.proofs.Regiven.{AreSorted, Regiven, given-again}
 use Rattle.cap_owners_regions_laws.proofs.Reshut.{RegionMet, Told, pick-node}
-use Rattle.cap_owners_regions_laws.proofs.Stills.{StillsLaw}
+use Rattle.cap_owners_regions_laws.proofs.Stills.{AreBelow, StillsLaw}
 use Rattle.cap_owners_regions_laws.proofs.Telling.{ToldSo, told-here, told-same, told-known, found-so}
 
 -- ---- values of names
@@ -143,9 +144,9 @@ module _ (p : Checked) (y : PlainRegionType) (k : ℕ) (c : PlainCase)
         vars-more R (Old s) old g.state.parts fact-movable.over.2,
       )
 
-  module _ (wf : IsWellFormed p.program) (give : GivesLaw p) (still : StillsLaw p) (T U : Table)
-      (h r : Stock) (reached : Reached p.program T U h)
-      (before : T n ≡ Some (known_as k args (Some b)))
+  module _ (wf : IsWellFormed p.program) (still : StillsLaw p) (T U : Table)
+      (h r : Stock) (heap : Heap) (within : (a z : ℤ) → h.cells a z ≤ cells_of heap a z)
+      (reached : Reached p.program T U h) (before : T n ≡ Some (known_as k args (Some b)))
       (after : U n ≡ Some (known_as k args (Some b)))
       (d : DrawsAll p.program T (valuation f.names) c.items h r)
       (met : items_met p.program T (valuation f.names) c.items h r d ≡ f.wildcards)
@@ -166,7 +167,7 @@ module _ (p : Checked) (y : PlainRegionType) (k : ℕ) (c : PlainCase)
     given-here =
         let pp = p.program in
         let same = normal-fits sc f.names ok in
-        given-again p wf T U sc f ok h r reached c.items (to_close false 0 ∷ []) remains give trees
+        given-again p wf T U sc f ok h r reached c.items (to_close false 0 ∷ []) remains trees
         f.names s goes
         (subst (λ u. StateAt pp [] T sc 0 u s) same
         (case-at pp y k c v fits T (known_as k args (Some b)) type_fits.itself (ap T are.0 ∙ before)
@@ -208,11 +209,11 @@ module _ (p : Checked) (y : PlainRegionType) (k : ℕ) (c : PlainCase)
           (q : Place) → trees ≡ tree q.tree no_trees →
           goals_of (case_state y k c) (to_give c.items 0 0 ∷ to_rest 0 0 ∷ to_close false 0 ∷ [])
           ≡ q.goal ∷ [] →
-          (rs : List TrackedRegion) → Tells rs U →
-          ToldSo (RegionMet p U n k args b h)
+          (rs : List TrackedRegion) → Tells rs U → AreBelow (pos (1 + length rs)) rs →
+        ToldSo (RegionMet p U n k args b h)
           (walk none_entered p.program false q.tree q.goal (beginning rs f.names [] (Some f) [])
           >>= closed_in_end n)
-      walk-owns q is_tree is_goal rs tells =
+      walk-owns q is_tree is_goal rs tells below =
           let pp = p.program in
           let start = beginning rs f.names [] (Some f) [] in
           let given_then = record start { fill = if no_items c.items then Some f else None } in
@@ -235,10 +236,9 @@ module _ (p : Checked) (y : PlainRegionType) (k : ℕ) (c : PlainCase)
                 (enters ∙ on
                 ∙ ap (λ ks. into none_entered pp ks (goal g.after tasks ∷ [])
                 (record given_then { values = g.values })) child.2))
-                (pick-node p still U h room n k args b after g.values g.after known g.sorted
-                none_entered given_then tells
-                (subst (AllByRecursion (Told p still U h room n k args b after g.values g.after
-                known g.sorted none_entered given_then tells)) (sym g.goes_on.opened)
+                (pick-node p still U h room n k args b after g.values g.after known g.sorted heap
+                within none_entered given_then tells below (subst (AllByRecursion (Told p still U h room n k args b after g.values g.after
+                known g.sorted heap within none_entered given_then tells below)) (sym g.goes_on.opened)
                 ((later, y, movable), tt)) child.0 child.1)
           ]
 
@@ -246,7 +246,7 @@ module _ (p : Checked) (y : PlainRegionType) (k : ℕ) (c : PlainCase)
         (q : Place) → trees ≡ tree q.tree no_trees →
         goals_of (case_state y k c) (to_give c.items 0 0 ∷ to_rest 0 0 ∷ to_close false 0 ∷ [])
         ≡ q.goal ∷ [] →
-        (rs : List TrackedRegion) → Tells rs U →
+        (rs : List TrackedRegion) → Tells rs U → AreBelow (pos (1 + length rs)) rs →
         ToldSo (RegionMet p U n k args b h)
         (walk none_entered p.program false q.tree q.goal (beginning rs f.names [] (Some f) [])
         >>= closed_in_end n)
@@ -262,11 +262,11 @@ pub met-moved :
 met-moved p T a b items q r f e d m =
     subst (λ u. (k : DrawsAll p T u items q r) × IsMetBy p T u items q r k f) e (d, m)
 
--- A region that is owned by a table from which others led: the case and the fill that a walk comes to
--- are those by which it owns its part by this table.
-module _ (p : Checked) (wf : IsWellFormed p.program) (give : GivesLaw p) (still : StillsLaw p)
-    (trees : List (Option PlainTree)) (T U : Table) (r : TrackedRegion) (h : Stock)
-    (reached : Reached p.program T U h)
+-- A region that is owned by a table from which others led: the case and the fill that a walk comes
+-- to are those by which it owns its part by this table.
+module _ (p : Checked) (wf : IsWellFormed p.program) (still : StillsLaw p)
+    (trees : List (Option PlainTree)) (T U : Table) (r : TrackedRegion) (h : Stock) (heap : Heap)
+    (within : (a z : ℤ) → h.cells a z ≤ cells_of heap a z) (reached : Reached p.program T U h)
     (before : T r.owned.region.number
     ≡ Some (known_as r.owned.region.kind r.owned.region.args (Some r.owned.region.state)))
     (after : U r.owned.region.number
@@ -278,7 +278,7 @@ module _ (p : Checked) (wf : IsWellFormed p.program) (give : GivesLaw p) (still 
     (ok : NamesFit (region_scope own.type own.case.names) r.fill.names)
     (sorted : AreSorted (region_sorts own.type own.case.names) r.fill.names)
     (root : CaseRooted p trees r.owned.region.kind own.type r.case own.case)
-    (rs : List TrackedRegion) (tells : Tells rs U) where
+    (rs : List TrackedRegion) (tells : Tells rs U) (below : AreBelow (pos (1 + length rs)) rs) where
   abbrev n : ℤ
   n = r.owned.region.number
 
@@ -338,9 +338,9 @@ module _ (p : Checked) (wf : IsWellFormed p.program) (give : GivesLaw p) (still 
       (root-owns p own.type k own.case own.is_type type_fits fits r.fill ok n args b own.arity
       (subst (λ u. AreWhole u 0 (n ∷ args)) met.names own.args_are)
       (ap (λ (u : Valuation). value u.whole own.case.state) (sym met.names) ∙ own.state_is) wf
-      give still T U h own.met.0 reached before after drawn.0 drawn.1.wildcards
+      still T U h own.met.0 heap within reached before after drawn.0 drawn.1.wildcards
       (subst (λ u. AllByRecursion (CompHolds u) own.case.when) met.names own.conditions) sorted
-      (tree root.place.tree no_trees) root.goes root.place refl root.is_goal rs tells)
+      (tree root.place.tree no_trees) root.goes root.place refl root.is_goal rs tells below)
 
   owned-by :
       (t : Bool) → is_current rs r.fill ≡ t →

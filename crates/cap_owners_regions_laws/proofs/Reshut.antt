@@ -1,6 +1,6 @@
 -- A region that is open in its own tree is closed as it was, along a walk: in some case, which what
 -- it has meets by what the walk took.
-use Rattle.std.proofs.Common.{◌≡◌, inl, inr, ℕ, zero, suc, ℤ, Bool, true, false, ◌==◌, ◌&&◌, List, [], ◌∷◌, ◌++◌, length, map, replicate, Option, Some, refl, sym, ap, ◌∙◌, subst, arith}
+use Rattle.std.proofs.Common.{◌≡◌, inl, inr, ℕ, zero, suc, ℤ, Bool, true, false, ◌==◌, ◌&&◌, List, [], ◌∷◌, ◌++◌, length, map, replicate, Option, Some, refl, sym, ap, ◌∙◌, subst, arith, ◌+◌, ◌≤◌, pos}
 use Rattle.std.specs.Prelude.{slice_get, nat_le}
 use Rattle.std.specs.List.{AllByRecursion}
 use Rattle.std.proofs.lemmas.Bool.Decides.{nat_tests}
@@ -11,6 +11,7 @@ use Rattle.cap_farkas.specs.declared.cert.Cert.{Cert}
 use Rattle.cap_prog.specs.Program.{PlainRegionType}
 use Rattle.cap_prog.specs.Scopes.{Scope, HasSort, known, whole_numbers, region_scope, region_sorts}
 use Rattle.cap_prog.specs.WellFormed.{CaseFits}
+use Rattle.cap_machine.specs.Machine.{Heap}
 use Rattle.cap_machine_accounts.specs.Assertions.{NameValue, AreWhole}
 use Rattle.cap_goal_spec.specs.States.{PlainFact, PlainState, to_close, to_shift, with_state, PlainGoal, goal}
 use Rattle.cap_goal_spec.specs.Environments.{term_of, bound, region_env}
@@ -18,7 +19,7 @@ use Rattle.cap_goal_spec.specs.Choices.{PlainTree, node, PlainTrees, no_trees, t
 use Rattle.cap_rules.specs.Making.{env_at}
 use Rattle.cap_rules.specs.Closing.{may_move, prove_move}
 use Rattle.cap_rules_nodes.specs.Nodes.{goals_left}
-use Rattle.cap_account_resources.specs.Parts.{known_as, Table}
+use Rattle.cap_account_resources.specs.Parts.{cells_of, known_as, Table}
 use Rattle.cap_account_resources.proofs.Lists.{get-or-push, push-length, map-at, map-length, map-join, all-at, all-more}
 use Rattle.cap_account_resources.proofs.Stocks.{Stock}
 use Rattle.cap_account_resources.proofs.Tables.{FitsRoom}
@@ -38,9 +39,10 @@ use Rattle.cap_account_steps.proofs.Moves.{Movable, movable-on, kept-says}
 use Rattle.cap_account_steps.proofs.Shifting.{Picked, picked, take_and_shift, none-other, closed_state, Shifted, shifted}
 use Rattle.cap_account_steps.proofs.StableRegions.{Says, says-alike, says-known}
 use Rattle.cap_account_steps.proofs.Worlds.{AllOver}
-use Rattle.cap_owners_spec.specs.Traced.{Traced, traced, ◌>>=◌, found, value_at, valuation}
+use Rattle.cap_owners_spec.specs.Traced.{Traced, traced, ◌>>=◌, found, value_at, valuation, past_width, untold}
 use Rattle.cap_owners_spec.specs.Track.{TrackedRegion, tracked_at}
-use Rattle.cap_owners_spec.specs.Walks.{Walk, nothing_taken, Descent, descends, with_region, pass_shift, Interpreted, Interpreting, leaves, walk_below}
+use Rattle.cap_owners_spec.specs.Filling.{names_in}
+use Rattle.cap_owners_spec.specs.Walks.{Walk, nothing_taken, Descent, descends, with_region, pass_shift, Interpreted, Interpreting, leaves, walk_below, Halt}
 use Rattle.cap_owners_spec.specs.Steps.{closed_in_end, as_closed}
 use Rattle.cap_owners_values_laws.proofs.More.{FitsSort}
 use Rattle.cap_owners_fills_laws.proofs.Drawn.{IsMetBy, Tells}
@@ -51,8 +53,8 @@ use Rattle.cap_owners_passes_laws.proofs.Gives.{GoesTo}
 use Rattle.cap_owners_regions_laws.proofs.Landing.{Lands, lands, node-lands}
 use Rattle.cap_owners_regions_laws.proofs.Regiven.{AreSorted}
 use Rattle.cap_owners_regions_laws.proofs.Remet.{leaves-there}
-use Rattle.cap_owners_regions_laws.proofs.Shifts.{shut_region, shut_walk, shift-so}
-use Rattle.cap_owners_regions_laws.proofs.Stills.{AreNameTerms, named_by, StillTo, StillsLaw}
+use Rattle.cap_owners_regions_laws.proofs.Shifts.{shut_region, shut_walk, shift-so, shift-wide}
+use Rattle.cap_owners_regions_laws.proofs.Stills.{AreNameTerms, AreBelow, named_by, StillTo, StillsLaw}
 use Rattle.cap_owners_regions_laws.proofs.Telling.{ToldSo, told-here, told-same, tracked-number, put-here}
 
 -- ---- over one node
@@ -119,8 +121,9 @@ known-sort y names x o e =
 module _ (p : Checked) (law : StillsLaw p) (U : Table) (h : Stock) (room : FitsRoom p.program U h)
     (n : ℤ) (k : ℕ) (args : List ℤ) (b : ℤ) (there : U n ≡ Some (known_as k args (Some b)))
     (vs : List NameValue) (s : PlainState) (known : IsKnown p.program [] U (valuation vs) s h)
-    (sorted : AreSorted s.sorts vs) (enter : Interpreting) (w : Walk)
-    (tells : Tells w.regions U) where
+    (sorted : AreSorted s.sorts vs) (heap : Heap)
+    (within : (a z : ℤ) → h.cells a z ≤ cells_of heap a z) (enter : Interpreting) (w : Walk)
+    (tells : Tells w.regions U) (under : AreBelow w.next w.regions) where
   -- the opened region's fact, and its type
   abbrev pub Told : PlainFact → Type 0
   Told f =
@@ -170,146 +173,174 @@ module _ (p : Checked) (law : StillsLaw p) (U : Table) (h : Stock) (room : FitsR
         (r : TrackedRegion) × (tracked_at w.regions n ≡ Some r) × (r.owned.region.state ≡ b)
     here = told-region w.regions U n k args b tells there
 
-    abbrev shut : Walk
-    shut =
-        shut_walk t.after q.f here.0 cn q.x t.top t.names
-        (record w { values = t.values; taken = t.top ∷ w.taken })
+    module _ (ns : List NameValue)
+        (is_ns : names_in t.values (env_at t.after (length s.envs)) ≡ traced ns) where
+      abbrev shut : Walk
+      shut =
+          shut_walk t.after q.f here.0 cn q.x t.top ns
+          (record w { values = t.values; taken = t.top ∷ w.taken })
 
-    abbrev found_then : Interpreted
-    found_then = record { case = cn; fill = named_by t.names t.top.fill }
+      abbrev found_then : Interpreted
+      found_then = record { case = cn; fill = named_by ns t.top.fill }
 
-    closes-so : closed_in_end n (leaves shut) ≡ traced found_then
-    closes-so =
-        let r = shut_region here.0 cn q.x t.top t.names in
-        let number : here.0.owned.region.number ≡ n = tracked-number w.regions n here.0 here.1 in
-        ap (λ z. closed_in_end z (leaves shut)) (sym number)
-        ∙ ap (λ (x : Traced TrackedRegion). x >>= λ y. traced (as_closed y))
-        (found-eq (tracked_at (with_region r w.regions) here.0.owned.region.number) r
-        (put-here r w.regions))
-      where
-        found-eq :
-            (x : Option TrackedRegion) (y : TrackedRegion) → x ≡ Some y →
-            found x ≡ traced y
-        found-eq x y i = ap found i
+      closes-so : closed_in_end n (leaves shut) ≡ traced found_then
+      closes-so =
+          let r = shut_region here.0 cn q.x t.top ns in
+          let number : here.0.owned.region.number ≡ n = tracked-number w.regions n here.0 here.1 in
+          ap (λ z. closed_in_end z (leaves shut)) (sym number)
+          ∙ ap (λ (x : Traced TrackedRegion). x >>= λ y. traced (as_closed y))
+          (found-eq (tracked_at (with_region r w.regions) here.0.owned.region.number) r
+          (put-here r w.regions))
+        where
+          found-eq :
+              (x : Option TrackedRegion) (y : TrackedRegion) → x ≡ Some y →
+              found x ≡ traced y
+          found-eq x y i = ap found i
 
-    shift-told :
-        ToldSo (λ d. d ≡ descends (Some 0) shut)
-        (pass_shift p.program t.after o cn e t.top
-        (record w { values = t.values; taken = t.top ∷ w.taken }))
-    shift-told =
-        shift-so p.program t.after o cn e t.top
-        (record w { values = t.values; taken = t.top ∷ w.taken }) q.f q.k q.x here.0 t.names opened
-        q.movable.is_type q.is_case (ap (tracked_at w.regions) now.region_is ∙ here.1) t.named
+      shift-told :
+          ToldSo (λ d. d ≡ descends (Some 0) shut)
+          (pass_shift p.program t.after o cn e t.top
+          (record w { values = t.values; taken = t.top ∷ w.taken }))
+      shift-told =
+          shift-so p.program t.after o cn e t.top
+          (record w { values = t.values; taken = t.top ∷ w.taken }) q.f q.k q.x here.0 ns opened
+          q.movable.is_type q.is_case (ap (tracked_at w.regions) now.region_is ∙ here.1) (inr (ns, is_ns, refl))
 
-    -- rule `shift`, once the case is taken
-    module _ (cs : List Cert) (spans : List ℕ) (below : PlainTrees) (none : m ≡ 0)
+      -- rule `shift`, once the case is taken
+      module _ (cs : List Cert) (spans : List ℕ) (below : PlainTrees) (none : m ≡ 0)
+          (hd : p.N (node (by_shift cs spans) below) t.after
+          (to_shift o cn m (length s.envs) 0 ∷ [])) where
+        abbrev G : List PlainGoal
+        G = goals_left p.program (goal t.after (to_shift o cn m (length s.envs) 0 ∷ []))
+            (by_shift cs spans)
+
+        abbrev M : NodePredicate
+        M = Lands p.N G
+
+        sh : Shifted M [] (valuation t.values) t.after spans o m (length s.envs) q.f q.k q.x [] below
+        sh =
+            shifted p.program M [] (valuation t.values) t.after t.ready.grounded.meets spans o cn m e
+            [] below q.f q.k q.x opened q.is_case movable t.ready.placed
+            (none-other [] (valuation t.values) U t.after q.f (Some b) t.ready.facts
+            (says-known (valuation t.values) U q.f n k args b now there))
+            (node-lands p (by_shift cs spans) below t.after (to_shift o cn m e 0 ∷ []) hd)
+
+        keeps :
+            (value (valuation t.values).whole sh.new ≡ value (valuation t.values).whole q.f.state)
+            × Open M below (closed_state t.after o (with_state q.f sh.new)) []
+        keeps =
+            kept-says p.program [] (valuation t.values) t.after t.ready.grounded.meets q.f q.k movable
+            sh.new sh.over (λ u. Open M below (closed_state t.after o (with_state q.f sh.new)) [])
+            spans
+            (subst (λ i. Comes (prove_move q.k t.after q.f sh.new i spans)
+            (λ u. Open M below (closed_state t.after o (with_state q.f sh.new)) [])) none sh.moves)
+
+        none-left : G ≡ []
+        none-left =
+            (lands p.N G below (closed_state t.after o (with_state q.f sh.new)) []
+            (left-children p (by_shift cs spans) below
+            (goal t.after (to_shift o cn m e 0 ∷ [])) hd) keeps.1).0
+
+        first : env_at (env_added s (region_env q.f q.names)) (length s.envs)
+            ≡ region_env q.f q.names
+        first = get-or-push s.envs (region_env q.f q.names) []
+
+        abbrev owned : OwnsRegion p.program U n k args b h
+        owned =
+            let X = valuation ns in
+            let v = valuation t.values in
+            let size = map-length (value v.whole) q.f.args in
+            let same = ap length now.args_are in
+            let count = q.movable.arity in
+            record {
+              type = q.k;
+              is_type = ap (slice_get p.program.regions) (sym now.kind_is) ∙ q.movable.is_type;
+              arity = omega (arith, size, same, count);
+              number = cn;
+              case = q.x;
+              is_case = q.is_case;
+              values = X;
+              args_are =
+                  subst (λ zs. AreWhole X 0 (n ∷ zs)) now.args_are
+                  (subst (λ z. AreWhole X 0 (z ∷ map (value v.whole) q.f.args)) now.region_is
+                  (region-whole q.k q.x.names q.f v X q.names q.movable.arity
+                  (subst (λ u. Means sc v u X) first
+                  (means-earlier sc v X (env_at (env_added s (region_env q.f q.names)) e)
+                  (env_at t.after e) t.follows.stays (t.by_names ns is_ns).means))));
+              state_is = sym (sh.state_is X (t.by_names ns is_ns).means) ∙ keeps.0 ∙ now.state_is;
+              conditions = sh.conditions X (t.by_names ns is_ns).means;
+              met = (t.by_names ns is_ns).owns;
+            }
+
+        all-sorted : AreSorted (region_sorts q.k q.x.names) ns
+        all-sorted =
+            let size = t.counted ns is_ns ∙ t.follows.size ∙ ap length first in
+            let args_then = length-join (bound q.f.args) q.names in
+            let bound_then = map-length Some q.f.args in
+            let params = rep-length q.k.params Int in
+            let all = length-join (replicate q.k.params Int) q.x.names in
+            let count = q.size in
+            let arity = q.movable.arity in
+            sorted-names (region_sorts q.k q.x.names) ns
+            (omega (arith, size, args_then, bound_then, params, all, count, arity))
+            (λ x o i. (t.by_names ns is_ns).fits o x (known-sort q.k q.x.names x o i))
+
+        met-so : Met found_then
+        met-so = record {
+          own = owned;
+          number = refl;
+          met = (t.by_names ns is_ns).met;
+          fits = (t.by_names ns is_ns).fits;
+          sorted = all-sorted;
+        }
+
+        shifts-so :
+            ToldSo Met
+            (into enter p.program (tree (node (by_shift cs spans) below) no_trees)
+            (goal t.after (to_shift o cn m (length s.envs) 0 ∷ []) ∷ [])
+            (record w { values = t.values; taken = t.top ∷ w.taken })
+            >>= closed_in_end n)
+        shifts-so =
+            elim (passes-below enter p below G []
+            (pass_shift p.program t.after o cn e t.top
+            (record w { values = t.values; taken = t.top ∷ w.taken })) shut none-left shift-told) [
+              | inl wide ↦ inl (ap (λ x. x >>= closed_in_end n) wide)
+              | inr on ↦
+                  told-same Met
+                  (into enter p.program (tree (node (by_shift cs spans) below) no_trees)
+                  (goal t.after (to_shift o cn m (length s.envs) 0 ∷ []) ∷ [])
+                  (record w { values = t.values; taken = t.top ∷ w.taken })
+                  >>= closed_in_end n)
+                  (traced found_then)
+                  (ap (λ x. x >>= closed_in_end n) (on ∙ leaves-there enter p below shut)
+                  ∙ closes-so) (told-here Met found_then met-so)
+            ]
+
+    -- where the names are too wide, so is the walk
+    module _ (cs : List Cert) (spans : List ℕ) (below : PlainTrees)
         (hd : p.N (node (by_shift cs spans) below) t.after
-        (to_shift o cn m (length s.envs) 0 ∷ [])) where
-      abbrev G : List PlainGoal
-      G = goals_left p.program (goal t.after (to_shift o cn m (length s.envs) 0 ∷ []))
-          (by_shift cs spans)
-
-      abbrev M : NodePredicate
-      M = Lands p.N G
-
-      sh : Shifted M [] (valuation t.values) t.after spans o m (length s.envs) q.f q.k q.x [] below
-      sh =
-          shifted p.program M [] (valuation t.values) t.after t.ready.grounded.meets spans o cn m e
-          [] below q.f q.k q.x opened q.is_case movable t.ready.placed
-          (none-other [] (valuation t.values) U t.after q.f (Some b) t.ready.facts
-          (says-known (valuation t.values) U q.f n k args b now there))
-          (node-lands p (by_shift cs spans) below t.after (to_shift o cn m e 0 ∷ []) hd)
-
-      keeps :
-          (value (valuation t.values).whole sh.new ≡ value (valuation t.values).whole q.f.state)
-          × Open M below (closed_state t.after o (with_state q.f sh.new)) []
-      keeps =
-          kept-says p.program [] (valuation t.values) t.after t.ready.grounded.meets q.f q.k movable
-          sh.new sh.over (λ u. Open M below (closed_state t.after o (with_state q.f sh.new)) [])
-          spans
-          (subst (λ i. Comes (prove_move q.k t.after q.f sh.new i spans)
-          (λ u. Open M below (closed_state t.after o (with_state q.f sh.new)) [])) none sh.moves)
-
-      none-left : G ≡ []
-      none-left =
-          (lands p.N G below (closed_state t.after o (with_state q.f sh.new)) []
-          (left-children p (by_shift cs spans) below
-          (goal t.after (to_shift o cn m e 0 ∷ [])) hd) keeps.1).0
-
-      first : env_at (env_added s (region_env q.f q.names)) (length s.envs)
-          ≡ region_env q.f q.names
-      first = get-or-push s.envs (region_env q.f q.names) []
-
-      abbrev owned : OwnsRegion p.program U n k args b h
-      owned =
-          let X = valuation t.names in
-          let v = valuation t.values in
-          let size = map-length (value v.whole) q.f.args in
-          let same = ap length now.args_are in
-          let count = q.movable.arity in
-          record {
-            type = q.k;
-            is_type = ap (slice_get p.program.regions) (sym now.kind_is) ∙ q.movable.is_type;
-            arity = omega (arith, size, same, count);
-            number = cn;
-            case = q.x;
-            is_case = q.is_case;
-            values = X;
-            args_are =
-                subst (λ zs. AreWhole X 0 (n ∷ zs)) now.args_are
-                (subst (λ z. AreWhole X 0 (z ∷ map (value v.whole) q.f.args)) now.region_is
-                (region-whole q.k q.x.names q.f v X q.names q.movable.arity
-                (subst (λ u. Means sc v u X) first
-                (means-earlier sc v X (env_at (env_added s (region_env q.f q.names)) e)
-                (env_at t.after e) t.follows.stays t.means))));
-            state_is = sym (sh.state_is X t.means) ∙ keeps.0 ∙ now.state_is;
-            conditions = sh.conditions X t.means;
-            met = t.owns;
-          }
-
-      all-sorted : AreSorted (region_sorts q.k q.x.names) t.names
-      all-sorted =
-          let size = t.count ∙ t.follows.size ∙ ap length first in
-          let args_then = length-join (bound q.f.args) q.names in
-          let bound_then = map-length Some q.f.args in
-          let params = rep-length q.k.params Int in
-          let all = length-join (replicate q.k.params Int) q.x.names in
-          let count = q.size in
-          let arity = q.movable.arity in
-          sorted-names (region_sorts q.k q.x.names) t.names
-          (omega (arith, size, args_then, bound_then, params, all, count, arity))
-          (λ x o i. t.fits o x (known-sort q.k q.x.names x o i))
-
-      met-so : Met found_then
-      met-so = record {
-        own = owned;
-        number = refl;
-        met = t.met;
-        fits = t.fits;
-        sorted = all-sorted;
-      }
-
-      shifts-so :
-          ToldSo Met
-          (into enter p.program (tree (node (by_shift cs spans) below) no_trees)
+        (to_shift o cn m (length s.envs) 0 ∷ [])) (none : m ≡ 0) where
+      abbrev there_then : Traced Halt
+      there_then =
+          into enter p.program (tree (node (by_shift cs spans) below) no_trees)
           (goal t.after (to_shift o cn m (length s.envs) 0 ∷ []) ∷ [])
           (record w { values = t.values; taken = t.top ∷ w.taken })
-          >>= closed_in_end n)
-      shifts-so =
-          elim (passes-below enter p below G []
-          (pass_shift p.program t.after o cn e t.top
-          (record w { values = t.values; taken = t.top ∷ w.taken })) shut none-left shift-told) [
-            | inl wide ↦ inl (ap (λ x. x >>= closed_in_end n) wide)
-            | inr on ↦
-                told-same Met
-                (into enter p.program (tree (node (by_shift cs spans) below) no_trees)
-                (goal t.after (to_shift o cn m (length s.envs) 0 ∷ []) ∷ [])
-                (record w { values = t.values; taken = t.top ∷ w.taken })
-                >>= closed_in_end n)
-                (traced found_then)
-                (ap (λ x. x >>= closed_in_end n) (on ∙ leaves-there enter p below shut)
-                ∙ closes-so) (told-here Met found_then met-so)
-          ]
+
+      by-names :
+          (k : Traced (List NameValue)) →
+          names_in t.values (env_at t.after (length s.envs)) ≡ k →
+          ToldSo Met (there_then >>= closed_in_end n)
+      by-names (traced ns) e = shifts-so ns e cs spans below none hd
+      by-names untold e = absurd (t.told e)
+      by-names past_width e =
+          let G = goals_left p.program (goal t.after (to_shift o cn m (length s.envs) 0 ∷ []))
+          (by_shift cs spans) in
+          inl (ap (λ x. x >>= closed_in_end n)
+          (ap (walk_below enter p.program false below G)
+          (shift-wide p.program t.after o cn (length s.envs) t.top
+          (record w { values = t.values; taken = t.top ∷ w.taken }) q.f q.k q.x here.0 opened
+          q.movable.is_type q.is_case (ap (tracked_at w.regions) now.region_is ∙ here.1) e)
+          ∙ below-wide enter p.program false below G))
 
     shift-node :
         (d : PlainTree) → p.N d t.after (to_shift o cn m (length s.envs) 0 ∷ []) → m ≡ 0 →
@@ -321,7 +352,8 @@ module _ (p : Checked) (law : StillsLaw p) (U : Table) (h : Stock) (room : FitsR
     shift-node (node (by_absurd x) below) hd none =
         absurd ((p.step hd).0.0 (valuation t.values)
         (solves [] (valuation t.values) t.after t.ready.grounded.meets))
-    shift-node (node (by_shift cs spans) below) hd none = shifts-so cs spans below none hd
+    shift-node (node (by_shift cs spans) below) hd none =
+        by-names cs spans below hd none (names_in t.values (env_at t.after (length s.envs))) refl
     shift-node d hd none = absurd (p.step hd).1
 
   -- rule `pick`, and its case taken
@@ -364,7 +396,7 @@ module _ (p : Checked) (law : StillsLaw p) (U : Table) (h : Stock) (room : FitsR
       elim (law [] U sc e 0 q.x.items tasks kids vs start h land.1
       (state-at pp [] U sc e (valuation vs) start h now (omega (arith, size))
       (subst (Placed [] sc s.sorts) (sym last) q.placed)) tt fits.items.items now.backed room sorted
-      alone enter w) [
+      alone heap within enter w under) [
         | inl wide ↦ inl (begin ∙ ap (λ x. x >>= closed_in_end n) wide)
         | inr t ↦
             let d = lone-child p.N t.0.children t.0.after tasks t.0.goes in

@@ -1,6 +1,6 @@
 -- A region is closed, or made, along a walk: it is put in its place with what was taken, and the
 -- facts of a region that is closed get its state.
-use Rattle.std.proofs.Common.{◌≡◌, ℕ, ℤ, ◌-◌, ◌&&◌, List, [], ◌∷◌, length, map, take, drop, Some, refl}
+use Rattle.std.proofs.Common.{◌≡◌, ℕ, ℤ, ◌-◌, ◌&&◌, List, [], ◌∷◌, length, map, take, drop, Some, refl, inl, inr}
 use Rattle.std.specs.Prelude.{slice_get, slice_set, unwrap_or, if◌then◌else◌}
 use Rattle.cap_lin.specs.Linear.{Linear, same_number}
 use Rattle.cap_lin.specs.Values.{value}
@@ -9,11 +9,11 @@ use Rattle.cap_goal_spec.specs.Terms.{lone_variable}
 use Rattle.cap_goal_spec.specs.States.{PlainFact, PlainState}
 use Rattle.cap_rules.specs.Making.{env_at}
 use Rattle.cap_machine_accounts.specs.Assertions.{NameValue, a_number}
-use Rattle.cap_owners_spec.specs.Traced.{found, number_of, valuation, number_in}
+use Rattle.cap_owners_spec.specs.Traced.{past_width, found, number_of, valuation, number_in}
 use Rattle.cap_owners_spec.specs.Track.{TrackedRegion, tracked_at}
 use Rattle.cap_owners_spec.specs.Filling.{names_in}
 use Rattle.cap_owners_spec.specs.Walks.{Taking, Walk, Descent, descends, with_region, firmed, pass_shift, pass_made}
-use Rattle.cap_owners_regions_laws.proofs.Telling.{ToldSo, told-here, told-known, found-so, number-so}
+use Rattle.cap_owners_regions_laws.proofs.Telling.{ToldSo, told-here, told-known, told-on, found-so, number-so}
 
 -- ---- facts
 
@@ -87,6 +87,29 @@ shift-so p s o c e t w f k x r names is_f is_k is_x is_r are =
     (told-known Q (firmed s.facts n z w.values) (firm_all s.facts n z w.values) _
     (firmed-so s.facts n z w.values)
     (told-here Q (descends (Some 0) (shut_walk s f r c x t names w)) refl))))))))
+
+-- where the names are too wide, it is
+pub shift-wide :
+    (p : PlainProgram) (s : PlainState) (o c e : ℕ) (t : Taking) (w : Walk) (f : PlainFact)
+    (k : PlainRegionType) (x : PlainCase) (r : TrackedRegion) →
+    slice_get s.opened o ≡ Some f → slice_get p.regions f.kind ≡ Some k →
+    slice_get k.cases c ≡ Some x →
+    tracked_at w.regions (value (valuation w.values).whole f.region) ≡ Some r →
+    names_in w.values (env_at s e) ≡ past_width → pass_shift p s o c e t w ≡ past_width
+shift-wide p s o c e t w f k x r is_f is_k is_x is_r wide =
+    let Q = λ (d : Descent). ⊥ in
+    let n = value (valuation w.values).whole f.region in
+    elim (told-known Q (found (slice_get s.opened o)) f _ (found-so (slice_get s.opened o) f is_f)
+    (told-known Q (found (slice_get p.regions f.kind)) k _
+    (found-so (slice_get p.regions f.kind) k is_k)
+    (told-known Q (found (slice_get k.cases c)) x _ (found-so (slice_get k.cases c) x is_x)
+    (told-known Q (number_in w.values f.region) n _ (number-so w.values f.region)
+    (told-known Q (found (tracked_at w.regions n)) r _ (found-so (tracked_at w.regions n) r is_r)
+    (told-on (λ (ns : List NameValue). ⊥) Q (names_in w.values (env_at s e)) _ (inl wide)
+    (λ ns b. absurd b))))))) [
+      | inl q ↦ q
+      | inr d ↦ absurd d.2
+    ]
 
 -- ---- a region is made
 

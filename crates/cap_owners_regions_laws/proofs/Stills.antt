@@ -1,5 +1,5 @@
 -- Taking along a walk where no region may be created: what is held is met by the fill on top.
-use Rattle.std.proofs.Common.{◌≡◌, ◌⊎◌, ℕ, ◌<◌, ◌*ℤ◌, false, List, ◌∷◌, length, Some, sym, ap, ◌∙◌}
+use Rattle.std.proofs.Common.{◌≡◌, ◌⊎◌, ℕ, ◌<◌, ◌*ℤ◌, false, List, ◌∷◌, length, Some, sym, ap, ◌∙◌, ◌+◌, ◌≤◌, ℤ, pos, ◌<ℤ◌}
 use Rattle.std.specs.Prelude.{slice_get, IsSomeAnd}
 use Rattle.std.specs.List.{AllByRecursion}
 use Rattle.cap_lin.specs.Linear.{Linear}
@@ -13,8 +13,9 @@ use Rattle.cap_goal_spec.specs.States.{PlainEnv, PlainState, PlainTask, to_take,
 use Rattle.cap_goal_spec.specs.Environments.{term_of}
 use Rattle.cap_goal_spec.specs.Choices.{PlainTrees}
 use Rattle.cap_rules.specs.Making.{env_at}
+use Rattle.cap_machine.specs.Machine.{Heap}
 use Rattle.cap_machine_accounts.specs.Assertions.{NameValue}
-use Rattle.cap_account_resources.specs.Parts.{Table}
+use Rattle.cap_account_resources.specs.Parts.{cells_of, Table}
 use Rattle.cap_account_resources.proofs.Stocks.{Stock}
 use Rattle.cap_account_resources.proofs.Tables.{FitsRoom}
 use Rattle.cap_account_states.specs.Nodes.{Open}
@@ -28,32 +29,44 @@ use Rattle.cap_account_assertions.proofs.Again.{NamesKept}
 use Rattle.cap_account_assertions.proofs.Asserted.{Owns}
 use Rattle.cap_account_assertions.proofs.Follows.{Follows}
 use Rattle.cap_account_assertions.proofs.Laws.{StateAt}
-use Rattle.cap_owners_spec.specs.Traced.{past_width, valuation}
-use Rattle.cap_owners_spec.specs.Track.{Fill}
+use Rattle.cap_owners_spec.specs.Traced.{traced, past_width, untold, valuation}
+use Rattle.cap_owners_spec.specs.Track.{Fill, TrackedRegion}
 use Rattle.cap_owners_spec.specs.Filling.{names_in}
 use Rattle.cap_owners_spec.specs.Walks.{Taking, Walk, nothing_taken, no_items, Interpreting}
 use Rattle.cap_owners_fills_laws.proofs.Drawn.{IsMetBy}
 use Rattle.cap_owners_fills_laws.proofs.Giving.{NamesFit}
 use Rattle.cap_owners_passes_laws.proofs.Rests.{into}
-use Rattle.cap_owners_regions_laws.proofs.Telling.{ToldSo}
 use Rattle.cap_owners_regions_laws.proofs.Regiven.{AreSorted}
 
 -- a name stands for a variable alone, or for a whole number
 abbrev pub IsNameTerm : List Sort → Linear → Type 0
 IsNameTerm sorts t =
-    IsSomeAnd (lone_variable t) (λ x. Unit {0}) ⊎ Over (λ x. slice_get sorts x ≡ Some Int) t
+    IsSomeAnd (lone_variable t) (λ x. x < length sorts)
+    ⊎ Over (λ x. slice_get sorts x ≡ Some Int) t
 
 abbrev pub AreNameTerms : List Sort → PlainEnv → Type 0
 AreNameTerms sorts env =
     (x : ℕ) (t : Linear) → term_of env x ≡ Some t → IsNameTerm sorts t
+
+-- all numbers are below this one
+abbrev pub AreBelow : ℤ → List TrackedRegion → Type 0
+AreBelow next rs = AllByRecursion (λ r. r.owned.region.number <ℤ next) rs
 
 -- the names as they are in a fill
 abbrev pub named_by : List NameValue → Fill → Fill
 named_by names f = record f { names = names }
 
 module _ (p : Checked) (ks : List ℕ) (T : Table) (sc : Scope) (e : ℕ) where
-  -- at these values the state holds once the items are taken; what the names stand for then, and that
-  -- what is held is met by these and by what was met on the way
+  -- what is held is met by these values of the names, with what was met on the way
+  pub record NamesMet (values : List NameValue) (after : PlainState) (held : Stock) (items : Items)
+      (top : Taking) (ns : List NameValue) : Type 0 where
+    pub fits : NamesFit sc ns
+    pub means : Means sc (valuation values) (env_at after e) (valuation ns)
+    pub owns : Owns p.program T held (valuation ns) items
+    pub met : IsMetBy p.program T (valuation ns) items held owns.0 owns.1 (named_by ns top.fill)
+
+  -- At these values the state holds once the items are taken. What is held is met by the fill on top,
+  -- if there are items, and by the names as they come of these values.
   pub record StillTo (vs : List NameValue) (held : Stock) (s : PlainState) (items : Items)
       (ts : List PlainTask) : Type 0 where
     pub values : List NameValue
@@ -63,16 +76,15 @@ module _ (p : Checked) (ks : List ℕ) (T : Table) (sc : Scope) (e : ℕ) where
     pub follows : Follows sc e (valuation vs) s (valuation values) after
     pub ready : StateAt p.program ks T sc e (valuation values) after
     pub sorted : AreSorted after.sorts values
-    pub names : List NameValue
-    pub named : ToldSo (λ ns. ns ≡ names) (names_in values (env_at after e))
-    pub fits : NamesFit sc names
-    pub count : length names ≡ length (env_at after e)
-    pub means : Means sc (valuation values) (env_at after e) (valuation names)
     pub top : Taking
-    pub owns : Owns p.program T held (valuation names) items
-    pub met :
-        IsMetBy p.program T (valuation names) items held owns.0 owns.1 (named_by names top.fill)
-    pub whole : no_items items ≡ false → top.fill.names ≡ names
+    pub on_top : no_items items ≡ false → NamesMet values after held items top top.fill.names
+    pub told : names_in values (env_at after e) ≡ untold → ⊥
+    pub counted :
+        (ns : List NameValue) → names_in values (env_at after e) ≡ traced ns →
+        length ns ≡ length (env_at after e)
+    pub by_names :
+        (ns : List NameValue) → names_in values (env_at after e) ≡ traced ns →
+        NamesMet values after held items top ns
 
   -- a walk that begins to take them comes there, unless a number leaves its bounds
   abbrev pub StillsTo :
@@ -88,7 +100,7 @@ module _ (p : Checked) (ks : List ℕ) (T : Table) (sc : Scope) (e : ℕ) where
       ≡ into enter p.program t.children (goals_of t.after ts)
       (record w { values = t.values; taken = t.top ∷ w.taken })))
 
--- what is asked of taking
+-- what is asked of taking, out of what some heap has
 abbrev pub StillsLaw : Checked → Type 0
 StillsLaw p =
     (ks : List ℕ) (T : Table) (sc : Scope) (e n : ℕ) (items : Items) (ts : List PlainTask)
@@ -97,7 +109,9 @@ StillsLaw p =
     StateAt p.program ks T sc e (valuation vs) s → AllByRecursion (λ k. k < length s.sorts) ks →
     AreFit p.program sc items → Backed p.program (valuation vs) s held →
     FitsRoom p.program T held → AreSorted s.sorts vs → AreNameTerms s.sorts (env_at s e) →
-    (enter : Interpreting) (w : Walk) → StillsTo p ks T sc e enter vs held s items n ts trees w
+    (heap : Heap) →
+    ((a z : ℤ) → held.cells a z ≤ cells_of heap a z) → (enter : Interpreting) (w : Walk) →
+    AreBelow w.next w.regions → StillsTo p ks T sc e enter vs held s items n ts trees w
 
 -- names that stay bound have their values
 pub names-stay :
