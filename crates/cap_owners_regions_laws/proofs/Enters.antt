@@ -1,8 +1,8 @@
 -- A walk over a node that enters a region: it comes to the case by which the region owns its part by
 -- now, with that part given, and the state there holds at the walk's values.
-use Rattle.std.proofs.Common.{◌≡◌, ◌⊎◌, inl, inr, ℕ, zero, suc, ◌+◌, ◌-◌, ◌<◌, ℤ, true, false, List, [], ◌∷◌, ◌++◌, length, map, drop, replicate, Option, Some, None, refl, sym, ap, ◌∙◌, subst, arith}
+use Rattle.std.proofs.Common.{◌≡◌, ◌⊎◌, inl, inr, ℕ, zero, suc, ℤ, true, false, List, [], ◌∷◌, ◌++◌, length, map, drop, replicate, Option, Some, None, refl, sym, ap, ◌∙◌, subst}
 use Rattle.std.specs.Prelude.{slice_get, nat_eq, nat_lt, if◌then◌else◌}
-use Rattle.std.specs.List.{AllByRecursion, AllZip}
+use Rattle.std.specs.List.{AllByRecursion}
 use Rattle.std.proofs.lemmas.Slice.Zip.{AllZip-long}
 use Rattle.cap_lin.specs.Rows.{row_of}
 use Rattle.cap_lin.specs.Values.{Valuation, value}
@@ -11,7 +11,7 @@ use Rattle.cap_lin.specs.declared.row.Op.TheVariants.{Ne as Unequal}
 use Rattle.cap_lin.specs.declared.row.Sort.{Sort}
 use Rattle.cap_lin.specs.declared.row.Sort.TheVariants.{Int}
 use Rattle.cap_farkas.specs.declared.cert.Cert.{Cert}
-use Rattle.cap_prog.specs.Program.{Items, none, item, PlainAct, Block, first, PlainCase, PlainRegionType, Label, PlainFunction, PlainProgram}
+use Rattle.cap_prog.specs.Program.{Items, none, item, PlainAct, Block, first, PlainCase, PlainRegionType, Label, PlainFunction}
 use Rattle.cap_prog.specs.Scopes.{Scope, region_scope, region_sorts}
 use Rattle.cap_prog.specs.WellFormed.{IsWellFormed}
 use Rattle.cap_goal_spec.specs.States.{PlainFact, PlainState, Home, PlainTask, to_give, PlainGoal, goal, goal_of, goals_of}
@@ -34,7 +34,7 @@ use Rattle.cap_account_states.proofs.Naming.{Means}
 use Rattle.cap_account_assertions.proofs.Asserted.{DrawsAll, OwnsRegion}
 use Rattle.cap_account_assertions.proofs.Filling.{fill_items}
 use Rattle.cap_account_assertions.proofs.Laws.{StateAt, Given, GivenAlongLaw}
-use Rattle.cap_account_steps.proofs.CaseStates.{case_state, LeavesOne, CaseGoal, case-goal}
+use Rattle.cap_account_steps.proofs.CaseStates.{case_state, LeavesOne, case-goal}
 use Rattle.cap_account_steps.proofs.CaseValues.{names_values, entered_values, entered_names}
 use Rattle.cap_account_steps.proofs.Entering as entering
 use Rattle.cap_account_steps.proofs.Stores.{Store, running}
@@ -48,7 +48,7 @@ use Rattle.cap_owners_fills_laws.proofs.Giving.{NamesFit}
 use Rattle.cap_owners_walks_laws.proofs.Leading.{Left, node-leads}
 use Rattle.cap_owners_passes_laws.proofs.Rests.{into, told-region, below-wide}
 use Rattle.cap_owners_passes_laws.proofs.Gives.{GoesTo, GivesTo, gives-to}
-use Rattle.cap_owners_regions_laws.proofs.Entered.{entered_walk, enter-so, valuation-entered, names-entered, chosen, owning_world}
+use Rattle.cap_owners_regions_laws.proofs.Entered.{entered_walk, enter-so, valuation-entered, chosen, owning_world}
 use Rattle.cap_owners_regions_laws.proofs.Regiven.{AreSorted, either-way}
 use Rattle.cap_owners_regions_laws.proofs.Reshut.{RegionMet}
 use Rattle.cap_owners_regions_laws.proofs.Telling.{ToldSo}

@@ -1,16 +1,14 @@
 -- A region is closed: where a walk gives its state to the loose facts of the region, its values are
 -- those of the join, but for variables that are kept free.
-use Rattle.std.proofs.Common.{◌≡◌, ◌≢◌, inl, inr, ℕ, ◌<◌, ℤ, pos, ◌*ℤ◌, ◌&&◌, Bool, true, false, List, [], ◌∷◌, length, cond, Option, Some, None, refl, sym, ap, ◌∙◌, subst, arith}
-use Rattle.std.specs.Prelude.{slice_get, slice_set, get_or, find, unwrap_or, nat_eq, if◌then◌else◌}
+use Rattle.std.proofs.Common.{◌≡◌, inl, inr, ℕ, ◌<◌, ℤ, pos, ◌&&◌, Bool, true, false, List, [], ◌∷◌, length, cond, Some, refl, sym, ap, ◌∙◌, subst, arith}
+use Rattle.std.specs.Prelude.{slice_set, find, unwrap_or, if◌then◌else◌}
 use Rattle.std.specs.List.{AllByRecursion}
 use Rattle.std.proofs.lemmas.Bool.{cases_eq}
-use Rattle.std.proofs.lemmas.Bool.Decides.{nat_tests}
-use Rattle.cap_lin.specs.Linear.{Linear, variable, same_number}
-use Rattle.cap_lin.specs.Values.{Valuation, value}
+use Rattle.cap_lin.specs.Linear.{same_number}
+use Rattle.cap_lin.specs.Values.{value}
 use Rattle.cap_lin.specs.declared.row.Sort.{Sort}
 use Rattle.cap_goal_spec.specs.Terms.{lone_variable}
-use Rattle.cap_goal_spec.specs.States.{PlainFact, PlainState}
-use Rattle.cap_rules.specs.Making.{is_of_region}
+use Rattle.cap_goal_spec.specs.States.{PlainFact}
 use Rattle.cap_machine_accounts.specs.Assertions.{NameValue, a_number}
 use Rattle.cap_account_resources.proofs.Lists.{some-same, none-some, set-length, get-or-set, get-or-other, within}
 use Rattle.cap_account_resources.proofs.Order.{same-refl}

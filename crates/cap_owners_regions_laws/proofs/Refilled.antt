@@ -118,10 +118,10 @@ root-terms root =
     (all-both Q fixed (root.r ∷ new)
     (variables-are sorts (f.params + root.l) (length f.fixed) (omega (arith, low, all, rest))) (
       (λ t q.
-      let m = root.r_is t q in
-      let one = ap length m.1 in
-      is-variable sorts (f.params + root.l + length f.fixed) t (omega (arith, low, all, rest, one))
-      (sym m.0)),
+          let m = root.r_is t q in
+          let one = ap length m.1 in
+          is-variable sorts (f.params + root.l + length f.fixed) t (omega (arith, low, all, rest, one))
+          (sym m.0)),
       unbound-are sorts (length root.new),
     ))))
 

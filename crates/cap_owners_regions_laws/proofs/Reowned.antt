@@ -210,7 +210,7 @@ module _ (p : Checked) (y : PlainRegionType) (k : ℕ) (c : PlainCase)
           goals_of (case_state y k c) (to_give c.items 0 0 ∷ to_rest 0 0 ∷ to_close false 0 ∷ [])
           ≡ q.goal ∷ [] →
           (rs : List TrackedRegion) → Tells rs U → AreBelow (pos (1 + length rs)) rs →
-        ToldSo (RegionMet p U n k args b h)
+          ToldSo (RegionMet p U n k args b h)
           (walk none_entered p.program false q.tree q.goal (beginning rs f.names [] (Some f) [])
           >>= closed_in_end n)
       walk-owns q is_tree is_goal rs tells below =

@@ -1,5 +1,5 @@
 -- Taking along a walk where no region may be created: what is held is met by the fill on top.
-use Rattle.std.proofs.Common.{◌≡◌, ◌⊎◌, ℕ, ◌<◌, ◌*ℤ◌, false, List, ◌∷◌, length, Some, sym, ap, ◌∙◌, ◌+◌, ◌≤◌, ℤ, pos, ◌<ℤ◌}
+use Rattle.std.proofs.Common.{◌≡◌, ◌⊎◌, ℕ, ◌<◌, ◌*ℤ◌, false, List, ◌∷◌, length, Some, sym, ap, ◌∙◌, ◌≤◌, ℤ, ◌<ℤ◌}
 use Rattle.std.specs.Prelude.{slice_get, IsSomeAnd}
 use Rattle.std.specs.List.{AllByRecursion}
 use Rattle.cap_lin.specs.Linear.{Linear}
