@@ -1,7 +1,7 @@
 -- A fact is added where the fact of its region may be loose: the variable that is its state gets
 -- the new fact's state, and is no longer kept free.
 use Rattle.cap_account_resources.proofs.Heaps.{both-true}
-use Rattle.std.proofs.Common.{◌≡◌, ◌≢◌, ℕ, ◌<◌, List, [], ◌∷◌, length, map, cond, Option, Some, None, Bool, true, false, refl, sym, ap, ◌∙◌, subst}
+use Rattle.std.proofs.Common.{◌≡◌, ◌≢◌, inr, inl, ◌⊎◌, ℕ, ◌<◌, List, [], ◌∷◌, length, map, cond, Option, Some, None, Bool, true, false, refl, sym, ap, ◌∙◌, subst}
 use Rattle.std.specs.Prelude.{find, ◌==◌, if◌then◌else◌}
 use Rattle.std.specs.List.{AllByRecursion}
 use Rattle.cap_lin.specs.Linear.{variable, same_term}
@@ -28,7 +28,7 @@ use Rattle.cap_account_states.proofs.Facts.{FactHolds, StateOver, FactOver, Loos
 use Rattle.cap_account_states.proofs.Backed.{IsFirm, Grounded, Backed}
 use Rattle.cap_account_assertions.proofs.Named.{set_to, lone, joined_values}
 use Rattle.cap_account_steps.proofs.Exact.{all-two}
-use Rattle.cap_account_steps.proofs.KeptFree.{set-agrees, set-is, set-whole, kept-other, AllSorted, grounded-at, usable-free, grounded-free, all_but, all-but, but-free, among-but}
+use Rattle.cap_account_steps.proofs.KeptFree.{set-agrees, set-is, set-whole, kept-other, AllSorted, grounded-at, usable-free, grounded-free, all_but, all-but, but-free, among-but, but-or}
 
 -- what is found stands to all others as each two of the list do
 found-rest :
@@ -54,6 +54,11 @@ pub record Joined (p : PlainProgram) (ks : List ℕ) (v : Valuation) (U : Table)
   pub agree : Agree (Free ks) v w
   pub js : List ℕ
   pub less : (y : ℕ) → Free ks y → Free js y
+  pub kept :
+      (y : ℕ) → Free js y →
+      Free ks y
+      ⊎ ((h : PlainFact) × (find (is_of_region f) s.facts ≡ Some h) × (h.loose ≡ true)
+      × (y ≡ lone h.state))
   pub old : AllByRecursion (λ k. k < length s.sorts) js
   pub grounded : Grounded p js w (fact_added s f)
   pub facts : Facts js w U (fact_added s f)
@@ -78,6 +83,11 @@ module _ (p : PlainProgram) (ks : List ℕ) (v : Valuation) (U : Table) (s : Pla
     sorted : AllSorted s.sorts w
     js : List ℕ
     less : (y : ℕ) → Free ks y → Free js y
+    kept :
+        (y : ℕ) → Free js y →
+        Free ks y
+        ⊎ ((h : PlainFact) × (find test s.facts ≡ Some h) × (h.loose ≡ true)
+        × (y ≡ lone h.state))
     old : AllByRecursion (λ k. k < length s.sorts) js
     loose : AllByRecursion (LooseState js s.sorts) others
     same :
@@ -131,6 +141,7 @@ module _ (p : PlainProgram) (ks : List ℕ) (v : Valuation) (U : Table) (s : Pla
     sorted = g.meets.sorted;
     js = ks;
     less = λ y h. h;
+    kept = λ y h. inl h;
     old = lower;
     loose = all-without (LooseState ks s.sorts) test s.facts fs.loose;
     same = λ h e. (
@@ -168,6 +179,10 @@ module _ (p : PlainProgram) (ks : List ℕ) (v : Valuation) (U : Table) (s : Pla
         sorted = λ y i. set-whole v x z y (g.meets.sorted y i);
         js = js;
         less = λ y i. all-but (λ k. y ≢ k) x ks i;
+        kept = λ y i. elim (but-or x y ks i) [
+          | inl k ↦ inl k
+          | inr same ↦ inr (h, is, e, same ∙ sym (ap lone q.1))
+        ];
         old = all-but (λ k. k < length s.sorts) x ks lower;
         loose =
             all-two (LooseState ks s.sorts) (StatesDiffer h) (LooseState js s.sorts)
@@ -251,6 +266,7 @@ module _ (p : PlainProgram) (ks : List ℕ) (v : Valuation) (U : Table) (s : Pla
           agree = r.agree;
           js = js;
           less = r.less;
+          kept = r.kept;
           old = r.old;
           grounded = record {
             meets = record {

@@ -1,5 +1,5 @@
 -- Variables that are kept free: one of them gets another value, and fewer of them are.
-use Rattle.std.proofs.Common.{◌≡◌, ◌≢◌, ℕ, ◌<◌, ℤ, ◌*ℤ◌, List, [], ◌∷◌, ◌++◌, length, Some, inl, inr, Bool, true, false, arith, sym, ap, ◌∙◌, subst, refl}
+use Rattle.std.proofs.Common.{◌≡◌, ◌≢◌, ◌⊎◌, ℕ, ◌<◌, ℤ, ◌*ℤ◌, List, [], ◌∷◌, ◌++◌, length, Some, inl, inr, Bool, true, false, arith, sym, ap, ◌∙◌, subst, refl}
 use Rattle.std.specs.Prelude.{slice_get, nat_eq}
 use Rattle.std.specs.List.{AllByRecursion}
 use Rattle.std.proofs.lemmas.Bool.{cases_eq}
@@ -150,3 +150,24 @@ among-but x y (k ∷ ks) ne (inr m) = by (nat_eq k x) (among-but x y ks ne m)
         (b : Bool) → Among y (all_but x ks) → Among y (kept_unless b k (all_but x ks))
     by true r = r
     by false r = inr r
+
+-- a variable that is none of the others is none of them, or the one
+pub but-or :
+    (x y : ℕ) (ks : List ℕ) → Free (all_but x ks) y → Free ks y ⊎ (y ≡ x)
+but-or x y [] h = inl tt
+but-or x y (k ∷ ks) h = by (nat_eq k x) refl h (λ m. but-or x y ks m)
+  where
+    by :
+        (b : Bool) → nat_eq k x ≡ b → Free (kept_unless b k (all_but x ks)) y →
+        (Free (all_but x ks) y → Free ks y ⊎ (y ≡ x)) → Free (k ∷ ks) y ⊎ (y ≡ x)
+    by true e m later = elim (later m) [
+      | inl f ↦ elim (cases_eq y k) [
+        | inl same ↦ inr (let q : k ≡ x = grind (arith, nat_tests, e) in same ∙ q)
+        | inr ne ↦ inl (ne, f)
+      ]
+      | inr same ↦ inr same
+    ]
+    by false e m later = elim (later m.1) [
+      | inl f ↦ inl (m.0, f)
+      | inr same ↦ inr same
+    ]

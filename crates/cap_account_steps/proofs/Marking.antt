@@ -78,6 +78,7 @@ pub record Marked (p : PlainProgram) (V : Table) (ks : List ℕ) (v : Valuation)
   pub rows : after.rows ≡ s.rows
   pub old : AllByRecursion (λ j. j < length after.sorts) js
   pub free : (x : ℕ) → x < length s.sorts → Free ks x → Free js x
+  pub kept : (x : ℕ) → Free js x → x < length after.sorts → (x < length s.sorts) × Free ks x
   pub grounded : Grounded p js w after
   pub facts : Facts js w V after
   pub firm : FirmBefore s after
@@ -219,6 +220,7 @@ module _ (p : PlainProgram) (V : Table) where
           rows = refl;
           old = old;
           free = λ y l h. h;
+          kept = λ y h l. (l, h);
           grounded = g;
           facts = fs;
           firm = λ i f e h. e;
@@ -245,6 +247,10 @@ module _ (p : PlainProgram) (V : Table) where
                 (λ k l. let q = push-length s.sorts Int in omega (arith, l, q)) ks old,
           );
           free = λ y l h. ((λ e. omega (arith, l, e)), h);
+          kept = λ y h l. (
+            (let q = push-length s.sorts Int in let ne = h.0 in omega (arith, l, q, ne)),
+            h.1,
+          );
           grounded =
               let b = grounded-fresh p s (n ∷ ks) v zero_there agrees (set-here-whole v n (pos 0))
               (grounded-free p s ks (n ∷ ks) v not-new g) in
@@ -289,6 +295,7 @@ module _ (p : PlainProgram) (V : Table) where
     rows = refl;
     old = old;
     free = λ y l h. h;
+    kept = λ y h l. (l, h);
     grounded = g;
     facts = fs;
     firm = λ i f e h. e;
@@ -319,6 +326,7 @@ module _ (p : PlainProgram) (V : Table) where
         rows = r.rows ∙ one.rows;
         old = r.old;
         free = λ y l h. r.free y (omega (arith, l, count)) (one.free y l h);
+        kept = λ y h l. let k = r.kept y h l in one.kept y k.1 k.0;
         grounded = r.grounded;
         facts = r.facts;
         firm = λ i f e h. one.firm i f (r.firm i f e h) h;

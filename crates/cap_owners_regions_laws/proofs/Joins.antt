@@ -1,22 +1,31 @@
 -- A region is closed: where a walk gives its state to the loose facts of the region, its values are
 -- those of the join, but for variables that are kept free.
-use Rattle.std.proofs.Common.{◌≡◌, inl, inr, ℕ, ◌<◌, ℤ, pos, ◌&&◌, Bool, true, false, List, [], ◌∷◌, length, cond, Some, refl, sym, ap, ◌∙◌, subst, arith}
-use Rattle.std.specs.Prelude.{slice_set, find, unwrap_or, if◌then◌else◌}
+use Rattle.std.proofs.Common.{◌≡◌, inl, inr, ℕ, ◌<◌, ℤ, pos, ◌&&◌, Bool, true, false, List, [], ◌∷◌, length, cond, Some, refl, sym, ap, ◌∙◌, subst, arith, ◌*ℤ◌}
+use Rattle.std.specs.Prelude.{slice_set, find, unwrap_or, if◌then◌else◌, ◌==◌}
 use Rattle.std.specs.List.{AllByRecursion}
 use Rattle.std.proofs.lemmas.Bool.{cases_eq}
-use Rattle.cap_lin.specs.Linear.{same_number}
-use Rattle.cap_lin.specs.Values.{value}
+use Rattle.cap_lin.specs.Linear.{same_number, same_term}
+use Rattle.cap_lin.specs.Values.{value, Valuation, denominator}
 use Rattle.cap_lin.specs.declared.row.Sort.{Sort}
 use Rattle.cap_goal_spec.specs.Terms.{lone_variable}
-use Rattle.cap_goal_spec.specs.States.{PlainFact}
+use Rattle.cap_goal_spec.specs.States.{PlainFact, PlainState}
+use Rattle.cap_rules.specs.Making.{is_of_region}
 use Rattle.cap_machine_accounts.specs.Assertions.{NameValue, a_number}
 use Rattle.cap_account_resources.proofs.Lists.{some-same, none-some, set-length, get-or-set, get-or-other, within}
 use Rattle.cap_account_resources.proofs.Order.{same-refl}
-use Rattle.cap_account_states.proofs.Facts.{LooseState}
-use Rattle.cap_account_states.proofs.Meets.{Free}
-use Rattle.cap_account_states.proofs.Terms.{Over, Agree, value-agree}
-use Rattle.cap_account_assertions.proofs.Named.{lone}
+use Rattle.cap_account_states.proofs.Facts.{LooseState, FactOver, Facts, found-all}
+use Rattle.cap_account_states.proofs.Meets.{Free, Usable, new-whole, new-share}
+use Rattle.cap_account_states.proofs.Terms.{Over, Agree, value-agree, vars-more}
+use Rattle.cap_account_assertions.proofs.Named.{lone, set_to, joined_values}
 use Rattle.cap_account_steps.proofs.KeptFree.{kept-other}
+use Rattle.cap_lin.specs.Laws.Sameness.{same_term-decides}
+use Rattle.cap_lin.specs.declared.row.Sort.TheVariants.{Int}
+use Rattle.cap_prog.specs.Program.{PlainProgram}
+use Rattle.cap_account_resources.specs.Parts.{Table}
+use Rattle.cap_account_resources.proofs.Heaps.{both-true}
+use Rattle.cap_account_states.proofs.KnowsLater.{Steady}
+use Rattle.cap_account_steps.proofs.Exact.{all-two}
+use Rattle.cap_account_steps.proofs.Joining.{Joined}
 use Rattle.cap_owners_spec.specs.Traced.{number_of, numerator_of, value_at, valuation}
 use Rattle.cap_owners_regions_laws.proofs.Shifts.{firm_all}
 
@@ -27,7 +36,7 @@ firm_one f n z vs =
     then slice_set vs (unwrap_or (lone_variable f.state) (length vs)) (a_number z) else vs
 
 module _ (ks : List ℕ) (sorts : List Sort) (n z : ℤ) where
-  abbrev Kept : PlainFact → Type 0
+  abbrev pub Kept : PlainFact → Type 0
   Kept f = LooseState ks sorts f × Over (Free ks) f.region
 
   one-length : (f : PlainFact) (vs : List NameValue) → length (firm_one f n z vs) ≡ length vs
@@ -195,3 +204,64 @@ module _ (ks : List ℕ) (sorts : List Sort) (n z : ℤ) where
     whole = λ x h. ap number_of (firm-other fs vs x l h);
     share = λ x h. ap numerator_of (firm-other fs vs x l h);
   }
+
+-- ---- the join
+
+-- what joins is a fact of this region
+joined-region :
+    (f h : PlainFact) (P : PlainFact → Type 0) (fs : List PlainFact) → AllByRecursion P fs →
+    find (is_of_region f) fs ≡ Some h → h.region ≡ f.region
+joined-region f h P fs all e =
+    let at = found-all P (is_of_region f) fs h all e in
+    let t = both-true (same_term h.region f.region) (h.kind == f.kind) at.1 in
+    (same_term-decides h.region f.region).0 t.0
+
+-- where a fact is joined with what there is of its region, the walk's values are those of the join on
+-- all that isn't kept free by then
+pub joined-agree :
+    (p : PlainProgram) (ks : List ℕ) (vs : List NameValue) (U : Table) (s : PlainState)
+    (f : PlainFact) (j : Joined p ks (valuation vs) U s f) → Facts ks (valuation vs) U s →
+    length s.sorts ≡ length vs →
+    Agree (Steady j.js s) j.w
+    (valuation (firm_all s.facts (value (valuation vs).whole f.region)
+    (value (valuation vs).whole f.state) vs))
+joined-agree p ks vs U s f j facts count =
+    let v = valuation vs in
+    let n = value v.whole f.region in
+    let z = value v.whole f.state in
+    let R = Usable ks s.sorts Int in
+    let firm = firm-agrees ks s.sorts n z s.facts vs facts.loose in
+    let kept : AllByRecursion (Kept ks s.sorts n z) s.facts =
+    all-two (LooseState ks s.sorts) (FactOver R) (Kept ks s.sorts n z)
+    (λ h l o. (l, vars-more R (Free ks) (λ x u. u.1) h.region.parts o.0)) s.facts facts.loose
+    facts.over in
+    let set = λ (h : PlainFact) (found : find (is_of_region f) s.facts ≡ Some h)
+    (loose : h.loose ≡ true).
+    firm-sets ks s.sorts n z (is_of_region f) s.facts vs h count kept found loose
+    (ap (value v.whole) (joined-region f h (FactOver R) s.facts facts.over found)) in
+    let named = λ (h : PlainFact) (found : find (is_of_region f) s.facts ≡ Some h)
+    (loose : h.loose ≡ true).
+    j.named ∙ ap (joined_values v f) found
+    ∙ ap (λ b. if b then set_to v (lone h.state) z else v) loose in
+    record {
+      under = sym j.agree.under;
+      whole = λ x h. elim (j.kept x h.1) [
+        | inl free ↦ firm.whole x free ∙ sym (j.agree.whole x free)
+        | inr k ↦
+            ap (λ y. number_of (value_at (firm_all s.facts n z vs) y)) k.3
+            ∙ ap number_of (set k.0 k.1 k.2)
+            ∙ sym (new-whole v (lone k.0.state) z (z *ℤ denominator v.fraction))
+            ∙ ap (λ (u : Valuation). u.whole (lone k.0.state)) (sym (named k.0 k.1 k.2))
+            ∙ ap j.w.whole (sym k.3)
+      ];
+      share = λ x h. elim (j.kept x h.1) [
+        | inl free ↦ firm.share x free ∙ sym (j.agree.share x free)
+        | inr k ↦
+            ap (λ y. numerator_of (value_at (firm_all s.facts n z vs) y)) k.3
+            ∙ ap numerator_of (set k.0 k.1 k.2)
+            ∙ sym (new-share v (lone k.0.state) z (z *ℤ denominator v.fraction))
+            ∙ ap (λ (u : Valuation). u.fraction.numerator (lone k.0.state))
+            (sym (named k.0 k.1 k.2))
+            ∙ ap j.w.fraction.numerator (sym k.3)
+      ];
+    }
