@@ -118,7 +118,8 @@ module _ (p : Checked) (wf : IsWellFormed p.program) (still : StillsLaw p)
         let q = rooted some in
         let n = met-moved p.program T root.a (valuation g.fill.names) items h r g.fill met.names d
         met in
-        let at = refilled p wf still trees T U h r heap within reached root g.fill ok items some fits n.0
+        let at = refilled p wf still trees T U h r heap within reached root g.fill ok items some
+        fits n.0
         n.1.wildcards store q.2.over g.values means sorted q.0 q.2.goes q.2.is_goal g refl refl rs
         tells below in
         subst (λ o. ToldSo MetNow

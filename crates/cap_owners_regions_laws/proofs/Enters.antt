@@ -1,5 +1,5 @@
--- A walk over a node that enters a region: it comes to the case by which the region owns its part by
--- now, with that part given, and the state there holds at the walk's values.
+-- A walk over a node that enters a region: it comes to the case by which the region owns its part
+-- by now, with that part given, and the state there holds at the walk's values.
 use Rattle.std.proofs.Common.{◌≡◌, ◌⊎◌, inl, inr, ℕ, zero, suc, ℤ, true, false, List, [], ◌∷◌, ◌++◌, length, map, drop, replicate, Option, Some, None, refl, sym, ap, ◌∙◌, subst}
 use Rattle.std.specs.Prelude.{slice_get, nat_eq, nat_lt, if◌then◌else◌}
 use Rattle.std.specs.List.{AllByRecursion}
@@ -202,8 +202,8 @@ module _ (p : Checked) (program : IsWellFormed p.program) (along : GivenAlongLaw
 
         abbrev told_exact : Exact v V e.f
         told_exact =
-            entering.exact p program along V share part heap there fn fixed size f0 h0 v s o st i e.f
-            e.k e.is_fact e.is_type
+            entering.exact p program along V share part heap there fn fixed size f0 h0 v s o st i
+            e.f e.k e.is_fact e.is_type
 
         abbrev own : OwnsRegion p.program V n e.f.kind args state (share n)
         own = there.owns n e.f.kind args state told_exact
@@ -215,8 +215,8 @@ module _ (p : Checked) (program : IsWellFormed p.program) (along : GivenAlongLaw
 
         same-type : own.type ≡ e.k
         same-type =
-            entering.same-type p program along V share part heap there fn fixed size f0 h0 v s o st i
-            e.f e.k e.is_fact e.is_type
+            entering.same-type p program along V share part heap there fn fixed size f0 h0 v s o st
+            i e.f e.k e.is_fact e.is_type
 
         abbrev c : PlainCase
         c = own.case
@@ -234,8 +234,8 @@ module _ (p : Checked) (program : IsWellFormed p.program) (along : GivenAlongLaw
         vs2 = vs ++ drop e.k.params x.fill.names
 
         ok : NamesFit sc names
-        ok = subst (λ (y : PlainRegionType). NamesFit (region_scope y own.case.names) names) same-type
-            own-so.2
+        ok = subst (λ (y : PlainRegionType). NamesFit (region_scope y own.case.names) names)
+            same-type own-so.2
 
         count : length s.sorts ≡ length vs
         count = sym (AllZip-long _ s.sorts vs sorted)
@@ -265,23 +265,24 @@ module _ (p : Checked) (program : IsWellFormed p.program) (along : GivenAlongLaw
             (to_give c.items (length s.envs) l.number ∷ ts)
         goes =
             subst (λ us. Open p.N us s2 (to_give c.items (length s.envs) l.number ∷ ts))
-            (entering.kids-are p program along V share part heap there fn fixed size f0 h0 v s o st i
-            e.f e.k e.is_fact e.is_type e.others l a b ks kids-go)
-            (entering.kids-goals p program along V share part heap there fn fixed size f0 h0 v s o st
+            (entering.kids-are p program along V share part heap there fn fixed size f0 h0 v s o st
             i e.f e.k e.is_fact e.is_type e.others l a b ks kids-go)
+            (entering.kids-goals p program along V share part heap there fn fixed size f0 h0 v s o
+            st i e.f e.k e.is_fact e.is_type e.others l a b ks kids-go)
 
         abbrev GivenAt : (u w : Valuation) → DrawsAll p.program V w c.items (share n) own.met.0 →
             Type 0
         GivenAt u w d =
             Given p V (length s.envs) u (both p.program held (share n)) s2 ts
-            (fill_items p.program V w c.items (share n) own.met.0 d (filled_at (length s.envs) u s2))
+            (fill_items p.program V w c.items (share n) own.met.0 d
+            (filled_at (length s.envs) u s2))
 
         abbrev drawn :
             DrawsAll p.program V (entered_names v own.values (length s.sorts) e.k.params sc) c.items
             (share n) own.met.0
         drawn =
-            entering.drawn p program along V share part heap there fn fixed size f0 h0 v s o st i e.f
-            e.k e.is_fact e.is_type e.others l a b ks kids-go
+            entering.drawn p program along V share part heap there fn fixed size f0 h0 v s o st i
+            e.f e.k e.is_fact e.is_type e.others l a b ks kids-go
 
         one-denominator : nat_eq v.fraction.under own.values.fraction.under ≡ true
         one-denominator =
@@ -296,8 +297,8 @@ module _ (p : Checked) (program : IsWellFormed p.program) (along : GivenAlongLaw
             (if t then own.values
             else names_values v own.values (length s.sorts) e.k.params sc) c.items (share n)
             own.met.0
-            (entering.drawn_by p program along V share part heap there fn fixed size f0 h0 v s o st i
-            e.f e.k e.is_fact e.is_type e.others l a b ks kids-go t)
+            (entering.drawn_by p program along V share part heap there fn fixed size f0 h0 v s o st
+            i e.f e.k e.is_fact e.is_type e.others l a b ks kids-go t)
             ≡ x.fill.wildcards) (sym one-denominator) own-so.1.wildcards
 
         -- the same, given at values by name
@@ -322,33 +323,33 @@ module _ (p : Checked) (program : IsWellFormed p.program) (along : GivenAlongLaw
             GivesTo p V sc (length s.envs) names ok (both p.program held (share n))
             (fill_items p.program V (valuation names) c.items (share n) own.met.0 at-names.d
             (filled_at (length s.envs) (valuation vs2) s2))
-            (entering.composes p program along V share part heap there fn fixed size f0 h0 v s o st i
-            e.f e.k e.is_fact e.is_type e.others l a b ks kids-go) l.number ts remains [] c.items
+            (entering.composes p program along V share part heap there fn fixed size f0 h0 v s o st
+            i e.f e.k e.is_fact e.is_type e.others l a b ks kids-go) l.number ts remains [] c.items
             (first_trees 1 (later_trees own.number ks)) vs2
             (items_met p.program V (valuation names) c.items (share n) own.met.0 at-names.d)
             (valuation vs2) s2
 
         gives : GivesHere
         gives =
-            gives-to p V sc (length s.envs) l.number names ok held (share n) own.met.0 c.items ts remains
-            (first_trees 1 (later_trees own.number ks)) vs2 s2 goes
+            gives-to p V sc (length s.envs) l.number names ok held (share n) own.met.0 c.items ts
+            remains (first_trees 1 (later_trees own.number ks)) vs2 s2 goes
             (subst (λ u. StateAt p.program [] V sc (length s.envs) u s2) values-are
             (entering.state2 p program along V share part heap there fn fixed size f0 h0 v s o st i
             e.f e.k e.is_fact e.is_type e.others l a b ks kids-go))
-            (entering.firm1 p program along V share part heap there fn fixed size f0 h0 v s o st i e.f
-            e.k e.is_fact e.is_type e.others l a b ks kids-go)
+            (entering.firm1 p program along V share part heap there fn fixed size f0 h0 v s o st i
+            e.f e.k e.is_fact e.is_type e.others l a b ks kids-go)
             (subst (Means sc (valuation vs2) (env_at s2 (length s.envs))) names-are
             (subst (λ u. Means sc u (env_at s2 (length s.envs))
             (entered_names v own.values (length s.sorts) e.k.params sc)) values-are
-            (entering.means2 p program along V share part heap there fn fixed size f0 h0 v s o st i e.f
-            e.k e.is_fact e.is_type e.others l a b ks kids-go)))
-            (entering.case-fits p program along V share part heap there fn fixed size f0 h0 v s o st i
-            e.f e.k e.is_fact e.is_type).items.items at-names.d
+            (entering.means2 p program along V share part heap there fn fixed size f0 h0 v s o st i
+            e.f e.k e.is_fact e.is_type e.others l a b ks kids-go)))
+            (entering.case-fits p program along V share part heap there fn fixed size f0 h0 v s o st
+            i e.f e.k e.is_fact e.is_type).items.items at-names.d
             (subst (λ u. Backed p.program u s2 held) values-are
             (entering.backed2 p program along V share part heap there fn fixed size f0 h0 v s o st i
             e.f e.k e.is_fact e.is_type e.others l a b ks kids-go))
-            (entering.composes p program along V share part heap there fn fixed size f0 h0 v s o st i
-            e.f e.k e.is_fact e.is_type e.others l a b ks kids-go) sorted2
+            (entering.composes p program along V share part heap there fn fixed size f0 h0 v s o st
+            i e.f e.k e.is_fact e.is_type e.others l a b ks kids-go) sorted2
 
         module _ (g : GivesHere) where
           by-name :
@@ -359,8 +360,8 @@ module _ (p : Checked) (program : IsWellFormed p.program) (along : GivenAlongLaw
               let m = subst (λ u. (r : GivenAt u (valuation names) at-names.d)
               × (r.after ≡ g.given.after) × (r.w ≡ g.given.w)) (sym values-are)
               (g.given, refl, refl) in
-              let k = at-names.returns (entered_values v own.values (length s.sorts) e.k.params sc) m.0
-              in
+              let k = at-names.returns (entered_values v own.values (length s.sorts) e.k.params sc)
+              m.0 in
               (k.0, k.1 ∙ m.1, k.2 ∙ m.2)
 
           same-values : by-name.0.w ≡ valuation g.values
@@ -381,13 +382,13 @@ module _ (p : Checked) (program : IsWellFormed p.program) (along : GivenAlongLaw
             opening =
                 subst (Opening p.program V share part (valuation g.values)) by-name.1
                 (subst (λ u. Opening p.program V share part u by-name.0.after) same-values
-                (entering.opening-then p program along V share part heap there fn fixed size f0 h0 v s
-                o st i e.f e.k e.is_fact e.is_type e.others l a b ks kids-go by-name.0));
+                (entering.opening-then p program along V share part heap there fn fixed size f0 h0 v
+                s o st i e.f e.k e.is_fact e.is_type e.others l a b ks kids-go by-name.0));
             store =
                 subst (λ t. Store (valuation g.values) t h0 fn fixed f0) by-name.1
                 (subst (λ u. Store u by-name.0.after h0 fn fixed f0) same-values
-                (entering.store-then p program along V share part heap there fn fixed size f0 h0 v s o
-                st i e.f e.k e.is_fact e.is_type e.others l a b ks kids-go by-name.0));
+                (entering.store-then p program along V share part heap there fn fixed size f0 h0 v s
+                o st i e.f e.k e.is_fact e.is_type e.others l a b ks kids-go by-name.0));
             sorted = g.sorted;
           }
 
@@ -412,10 +413,10 @@ module _ (p : Checked) (program : IsWellFormed p.program) (along : GivenAlongLaw
               ≡ into enter p.program (first_trees 1 (later_trees own.number ks))
               (goals_of s2 (to_give c.items (length s.envs) l.number ∷ ts)) w
           into-case w =
-              let cg = case-goal (with_opened s i e.f) e.f l.number ts e.k.cases own.number own.case N
-              e.goes
-              (entering.is-case p program along V share part heap there fn fixed size f0 h0 v s o st i
-              e.f e.k e.is_fact e.is_type) in
+              let cg = case-goal (with_opened s i e.f) e.f l.number ts e.k.cases own.number own.case
+              N e.goes
+              (entering.is-case p program along V share part heap there fn fixed size f0 h0 v s o st
+              i e.f e.k e.is_fact e.is_type) in
               let at = cg.goes.comes in
               let og = own-goal c.items in
               let num = cg.count leaves-one in
@@ -449,7 +450,8 @@ module _ (p : Checked) (program : IsWellFormed p.program) (along : GivenAlongLaw
               }) at-names.meets in
               let begin = into-case w3
               ∙ ap (λ u. into enter p.program (first_trees 1 (later_trees own.number ks))
-              (goals_of s2 (to_give c.items (length s.envs) l.number ∷ ts)) (record w3 { fill = u }))
+              (goals_of s2 (to_give c.items (length s.envs) l.number ∷ ts))
+              (record w3 { fill = u }))
               (sym (either-way (no_items c.items) (Some x.fill) (Some (record {
                 names = x.fill.names;
                 wildcards =

@@ -56,7 +56,8 @@ closing-at p V W part ks v w s held agree sorted c =
       };
       facts = facts-later ks v w W s s (λ x o e. e) refl alike c.facts;
       old = c.old;
-      backed = backed-at p s ks (Steady ks s) v w held (usable-steady ks s) alike c.grounded c.backed;
+      backed = backed-at p s ks (Steady ks s) v w held (usable-steady ks s) alike c.grounded
+          c.backed;
       room = c.room;
     })
 

@@ -44,8 +44,8 @@ module _ (ks : List ℕ) (sorts : List Sort) (n z : ℤ) where
     where
       by :
           (b : Bool) →
-          length (if b then slice_set vs (unwrap_or (lone_variable f.state) (length vs)) (a_number z)
-          else vs)
+          length (if b then slice_set vs (unwrap_or (lone_variable f.state) (length vs))
+          (a_number z) else vs)
           ≡ length vs
       by true = set-length vs (unwrap_or (lone_variable f.state) (length vs)) (a_number z)
       by false = refl
@@ -216,8 +216,8 @@ joined-region f h P fs all e =
     let t = both-true (same_term h.region f.region) (h.kind == f.kind) at.1 in
     (same_term-decides h.region f.region).0 t.0
 
--- where a fact is joined with what there is of its region, the walk's values are those of the join on
--- all that isn't kept free by then
+-- where a fact is joined with what there is of its region, the walk's values are those of the join
+-- on all that isn't kept free by then
 pub joined-agree :
     (p : PlainProgram) (ks : List ℕ) (vs : List NameValue) (U : Table) (s : PlainState)
     (f : PlainFact) (j : Joined p ks (valuation vs) U s f) → Facts ks (valuation vs) U s →

@@ -120,8 +120,8 @@ root-terms root =
       (λ t q.
           let m = root.r_is t q in
           let one = ap length m.1 in
-          is-variable sorts (f.params + root.l + length f.fixed) t (omega (arith, low, all, rest, one))
-          (sym m.0)),
+          is-variable sorts (f.params + root.l + length f.fixed) t
+          (omega (arith, low, all, rest, one)) (sym m.0)),
       unbound-are sorts (length root.new),
     ))))
 
@@ -129,7 +129,8 @@ root-terms root =
 
 module _ (p : Checked) (wf : IsWellFormed p.program) (still : StillsLaw p)
     (trees : List (Option PlainTree)) (T U : Table) (h r : Stock) (heap : Heap)
-    (within : (a z : ℤ) → h.cells a z ≤ cells_of heap a z) (reached : Reached p.program T U h) (root : Root) (f : Fill)
+    (within : (a z : ℤ) → h.cells a z ≤ cells_of heap a z) (reached : Reached p.program T U h)
+    (root : Root) (f : Fill)
     (ok : NamesFit root.sc f.names) (items : Items) (some : no_items items ≡ false)
     (fits : AreFit p.program root.sc items)
     (d : DrawsAll p.program T (valuation f.names) items h r)
@@ -182,14 +183,15 @@ module _ (p : Checked) (wf : IsWellFormed p.program) (still : StillsLaw p)
       (filled_again (record { program = p.program; trees = trees }) rs g (Some q))
   refilled q goes is_goal g same_values same_fill rs tells below =
       let given = given-again p wf T U root.sc f ok h r reached items (to_take items 1 0 0 ∷ [])
-      (remains p wf still T U root.sc f ok h r reached items some heap within) (tree q.tree no_trees) vs s
-      goes starts tt means fits d met nothing sorted in
+      (remains p wf still T U root.sc f ok h r reached items some heap within)
+      (tree q.tree no_trees) vs s goes starts tt means fits d met nothing sorted in
       subst (λ us. ToldSo (MetAgain p U h root.sc items s f)
       (walk none_entered p.program false q.tree q.goal
       (beginning rs us (nothing_taken ∷ []) (Some g.fill) []) >>= taken_in_end)) (sym same_values)
       (subst (λ x. ToldSo (MetAgain p U h root.sc items s f)
       (walk none_entered p.program false q.tree q.goal
       (beginning rs vs (nothing_taken ∷ []) (Some x) []) >>= taken_in_end)) (sym same_fill)
-      (walk-meets p wf still T U root.sc f ok h r reached items some heap within vs s (root-placed root) means
+      (walk-meets p wf still T U root.sc f ok h r reached items some heap within vs s
+      (root-placed root) means
       (root-terms root) refl (omega arith) fits (tree q.tree no_trees) given q refl is_goal
       none_entered rs tells below))

@@ -51,7 +51,8 @@ either-way false x y z e k = k
 
 module _ (p : Checked) (wf : IsWellFormed p.program) (T U : Table) (sc : Scope) (f : Fill)
     (ok : NamesFit sc f.names) (h r : Stock) (reached : Reached p.program T U h) (items : Items)
-    (ts : List PlainTask) (remains : (s : PlainState) → (g : PlainGoal) × (goal_of s ts ≡ Some g)) where
+    (ts : List PlainTask)
+    (remains : (s : PlainState) → (g : PlainGoal) × (goal_of s ts ≡ Some g)) where
   -- something is to be done also where all facts have rested
   pub rest-remains :
       (s : PlainState) → (g : PlainGoal) × (goal_of s (to_rest 0 0 ∷ ts) ≡ Some g)

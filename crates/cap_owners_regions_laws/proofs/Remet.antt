@@ -121,7 +121,8 @@ module _ (p : Checked) (wf : IsWellFormed p.program) (law : StillsLaw p) (T U : 
       ends t =
           let m = t.on_top some in
           let agree = alike-agree (Old s) (valuation vs) (valuation t.values) refl
-          (alike-between s g.after (valuation vs) (valuation g.values) (valuation t.values) g.goes_on
+          (alike-between s g.after (valuation vs) (valuation g.values) (valuation t.values)
+          g.goes_on
           (agree-alike (Old s) (valuation vs) (valuation g.values) g.agree) t.follows.alike) in
           record {
             fits = m.fits;

@@ -237,9 +237,10 @@ module _ (p : Checked) (y : PlainRegionType) (k : ℕ) (c : PlainCase)
                 ∙ ap (λ ks. into none_entered pp ks (goal g.after tasks ∷ [])
                 (record given_then { values = g.values })) child.2))
                 (pick-node p still U h room n k args b after g.values g.after known g.sorted heap
-                within none_entered given_then tells below (subst (AllByRecursion (Told p still U h room n k args b after g.values g.after
-                known g.sorted heap within none_entered given_then tells below)) (sym g.goes_on.opened)
-                ((later, y, movable), tt)) child.0 child.1)
+                within none_entered given_then tells below
+                (subst (AllByRecursion (Told p still U h room n k args b after g.values g.after
+                known g.sorted heap within none_entered given_then tells below))
+                (sym g.goes_on.opened) ((later, y, movable), tt)) child.0 child.1)
           ]
 
     pub root-owns :

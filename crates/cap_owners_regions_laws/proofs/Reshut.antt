@@ -204,7 +204,8 @@ module _ (p : Checked) (law : StillsLaw p) (U : Table) (h : Stock) (room : FitsR
       shift-told =
           shift-so p.program t.after o cn e t.top
           (record w { values = t.values; taken = t.top ∷ w.taken }) q.f q.k q.x here.0 ns opened
-          q.movable.is_type q.is_case (ap (tracked_at w.regions) now.region_is ∙ here.1) (inr (ns, is_ns, refl))
+          q.movable.is_type q.is_case (ap (tracked_at w.regions) now.region_is ∙ here.1)
+          (inr (ns, is_ns, refl))
 
       -- rule `shift`, once the case is taken
       module _ (cs : List Cert) (spans : List ℕ) (below : PlainTrees) (none : m ≡ 0)
@@ -217,10 +218,11 @@ module _ (p : Checked) (law : StillsLaw p) (U : Table) (h : Stock) (room : FitsR
         abbrev M : NodePredicate
         M = Lands p.N G
 
-        sh : Shifted M [] (valuation t.values) t.after spans o m (length s.envs) q.f q.k q.x [] below
+        sh : Shifted M [] (valuation t.values) t.after spans o m (length s.envs) q.f q.k q.x []
+            below
         sh =
-            shifted p.program M [] (valuation t.values) t.after t.ready.grounded.meets spans o cn m e
-            [] below q.f q.k q.x opened q.is_case movable t.ready.placed
+            shifted p.program M [] (valuation t.values) t.after t.ready.grounded.meets spans o cn m
+            e [] below q.f q.k q.x opened q.is_case movable t.ready.placed
             (none-other [] (valuation t.values) U t.after q.f (Some b) t.ready.facts
             (says-known (valuation t.values) U q.f n k args b now there))
             (node-lands p (by_shift cs spans) below t.after (to_shift o cn m e 0 ∷ []) hd)
@@ -229,7 +231,8 @@ module _ (p : Checked) (law : StillsLaw p) (U : Table) (h : Stock) (room : FitsR
             (value (valuation t.values).whole sh.new ≡ value (valuation t.values).whole q.f.state)
             × Open M below (closed_state t.after o (with_state q.f sh.new)) []
         keeps =
-            kept-says p.program [] (valuation t.values) t.after t.ready.grounded.meets q.f q.k movable
+            kept-says p.program [] (valuation t.values) t.after t.ready.grounded.meets q.f q.k
+            movable
             sh.new sh.over (λ u. Open M below (closed_state t.after o (with_state q.f sh.new)) [])
             spans
             (subst (λ i. Comes (prove_move q.k t.after q.f sh.new i spans)

@@ -65,8 +65,8 @@ module _ (p : Checked) (ks : List ℕ) (T : Table) (sc : Scope) (e : ℕ) where
     pub owns : Owns p.program T held (valuation ns) items
     pub met : IsMetBy p.program T (valuation ns) items held owns.0 owns.1 (named_by ns top.fill)
 
-  -- At these values the state holds once the items are taken. What is held is met by the fill on top,
-  -- if there are items, and by the names as they come of these values.
+  -- At these values the state holds once the items are taken. What is held is met by the fill on
+  -- top, if there are items, and by the names as they come of these values.
   pub record StillTo (vs : List NameValue) (held : Stock) (s : PlainState) (items : Items)
       (ts : List PlainTask) : Type 0 where
     pub values : List NameValue
