@@ -1,6 +1,6 @@
 -- A heap statement acts where up to two regions are open, and they are closed again.
-use Rattle.std.proofs.Common.{◌≡◌, ℕ, ◌+◌, ◌≤◌, ℤ, List, [], ◌∷◌, length, arith, sym, ap, ◌∙◌, subst, Some}
-use Rattle.std.specs.Prelude.{slice_get, is_some, map, Option, Bool}
+use Rattle.std.proofs.Common.{◌≡◌, ℕ, ◌+◌, ◌≤◌, ℤ, List, [], ◌∷◌, ◌++◌, length, arith, sym, ap, ◌∙◌, subst, Some}
+use Rattle.std.specs.Prelude.{slice_get, is_some, map, flat_map, Option, Bool}
 use Rattle.std.specs.List.{AllByRecursion}
 use Rattle.cap_lin.specs.Linear.{Linear}
 use Rattle.cap_lin.specs.Values.{Valuation, value}
@@ -8,12 +8,12 @@ use Rattle.cap_lin.specs.declared.row.Sort.{Sort}
 use Rattle.cap_lin.specs.declared.row.Sort.TheVariants.{Int}
 use Rattle.cap_farkas.specs.declared.cert.Cert.{Cert}
 use Rattle.cap_prog.specs.Program.{Label, PlainAct, Block, first, PlainFunction}
-use Rattle.cap_goal_spec.specs.States.{PlainFact, PlainState, Home, PlainTask, to_rest}
+use Rattle.cap_goal_spec.specs.States.{PlainFact, PlainState, Home, PlainTask, PlainGoal, to_rest, goals_of}
 use Rattle.cap_goal_spec.specs.Choices.{node, by_act, PlainTrees}
 use Rattle.cap_rules.specs.Closing.{address_of}
 use Rattle.cap_machine.specs.Machine.{Heap, Frame, value_in, with_rest}
 use Rattle.cap_machine_accounts.specs.Assertions.{NameValue}
-use Rattle.cap_account_states.specs.Nodes.{Open}
+use Rattle.cap_account_states.specs.Nodes.{NodePredicate, Children, Open}
 use Rattle.cap_account_resources.specs.Parts.{Table}
 use Rattle.cap_account_resources.proofs.Lists.{map-length}
 use Rattle.cap_account_resources.proofs.Heaps.{there-in}
@@ -21,7 +21,7 @@ use Rattle.cap_account_resources.proofs.Interference.{Relies}
 use Rattle.cap_account_resources.proofs.Stocks.{Stock, no_stock, both, all_of, inside-first}
 use Rattle.cap_account_resources.proofs.Tables.{TableFits, NoneOpen, FitsRoom, AreListed, fits-less}
 use Rattle.cap_account_states.proofs.Terms.{Over}
-use Rattle.cap_account_states.proofs.Checked.{Checked}
+use Rattle.cap_account_states.proofs.Checked.{Checked, children-split}
 use Rattle.cap_account_states.proofs.Meets.{Free, Usable}
 use Rattle.cap_account_steps.proofs.Points.{FrameOk}
 use Rattle.cap_account_steps.proofs.Stores.{Store, running}
@@ -71,6 +71,18 @@ FinishingLaw p =
 
 -- ---- the statement
 
+-- the trees of one state, of several
+state-trees :
+    (N : NodePredicate) (f : PlainState → List PlainGoal) (ks : PlainTrees)
+    (before : List PlainState) (t : PlainState) (behind : List PlainState) →
+    Children N ks (flat_map f (before ++ t ∷ behind)) → (us : PlainTrees) × Children N us (f t)
+state-trees N f ks [] t behind h =
+    let k = children-split N ks (f t) (flat_map f behind) h in
+    (k.left, k.first)
+state-trees N f ks (u ∷ before) t behind h =
+    let k = children-split N ks (f u) (flat_map f (before ++ t ∷ behind)) h in
+    state-trees N f k.right before t behind k.second
+
 -- a heap statement that acted: its state is that of the marks, and once all is closed and rests, the
 -- frame's states hold at these values
 pub record Acted (p : Checked) (V : Table) (share : ℤ → Stock) (part : Stock) (heap : Heap)
@@ -113,21 +125,23 @@ acts-law p finish V share part heap fn fixed f l a b x is-address world ok v s h
     let held = both p.program part (all_of p.program ns share) in
     let there = opened-there v V s o.opened in
     let at = value_in f.store x in
-    let k = at-cell p V share part fn fixed f l a b h v s x is-address o
-    (world.room ns o.differ there) st size j (map is_some ms) ks (p.step valid) in
+    let k = at-cell p (Children p.N ks) V share part fn fixed f l a b h v s x is-address o
+    (world.room ns o.differ there) st size j (map is_some ms) (p.step valid) in
     let z = value k.v.whole k.c.1 in
     let had = holds-cell p.program V (opened_table ns V) part k.ks k.v k.s held h fn fixed
     (with_rest f b) k.ready k.j k.c k.is at k.address in
-    let done = statement-done p V part held ns fn fixed f h l.number b x v (length s.sorts)
+    let done = statement-done p (Children p.N ks) V part held ns fn fixed f h l.number b x v (length s.sorts)
     (map is_some ms) a is-address k in
     let r = after_act a f b z in
     let count = ap length done.opened in
+    let own = state-trees p.N
+    (λ u. goals_of u (then_close l.number (length k.s.opened) r.1.rest h)) ks done.before done.t
+    done.behind done.goals in
     let room = fits-less p.program V part (both p.program part no_stock)
     (inside-first p.program part no_stock) (world.room [] tt tt) in
     let finished = finish V part (recelled held at z r.0) ns k.ks k.v done.t l.number h fn fixed r.1
-    done.trees world.bound (ap (regions_of k.v) done.opened ∙ k.regions) (ok z)
-    (subst (λ m. Open p.N done.trees done.t (then_close l.number m r.1.rest h)) (sym count)
-    done.goes)
+    own.0 world.bound (ap (regions_of k.v) done.opened ∙ k.regions) (ok z)
+    (subst (λ m. Open p.N own.0 done.t (then_close l.number m r.1.rest h)) (sym count) own.1)
     (open-fits p.program ns V world.fits) (open-listed p.program ns V world.bound world.listed)
     world.full room done.ready.closing done.ready.over k.names done.ready.store in
     let step : HeapStep p V share part heap fixed f a b x = record {

@@ -8,15 +8,14 @@ use Rattle.cap_lin.specs.declared.row.Sort.{Sort}
 use Rattle.cap_lin.specs.declared.row.Sort.TheVariants.{Int}
 use Rattle.cap_lin.specs.declared.row.Op.TheVariants.{Eq as Equal}
 use Rattle.cap_prog.specs.Program.{Label, PlainAct, Block, first, PlainFunction}
-use Rattle.cap_goal_spec.specs.States.{PlainFact, PlainState, Home, PlainTask, to_close, to_rest, goals_of}
-use Rattle.cap_goal_spec.specs.Choices.{PlainTrees}
+use Rattle.cap_goal_spec.specs.States.{PlainFact, PlainState, Home, PlainTask, PlainGoal, to_close, to_rest, goals_of}
 use Rattle.cap_rules.specs.Attempts.{unit, ◌>>=◌}
 use Rattle.cap_rules.specs.Making.{prove_equal}
 use Rattle.cap_rules.specs.Closing.{address_of, rivals, with_marks, acted, closing}
 use Rattle.cap_rules.specs.Rules.{at_act}
 use Rattle.cap_machine.specs.Machine.{Frame, value_in, with_rest}
 use Rattle.cap_machine_accounts.specs.Assertions.{NameValue}
-use Rattle.cap_account_states.specs.Nodes.{Comes, Children}
+use Rattle.cap_account_states.specs.Nodes.{Comes}
 use Rattle.cap_account_resources.specs.Parts.{Table}
 use Rattle.cap_account_resources.proofs.Lists.{some-same, within, all-at, all-more}
 use Rattle.cap_account_resources.proofs.Stocks.{Stock, both, all_of}
@@ -44,10 +43,10 @@ closing-closes [] n ts = refl
 closing-closes (f ∷ fs) n ts = ap (λ us. to_close true n ∷ us) (closing-closes fs n ts)
 
 -- before statement a, then b: these regions are opened, and this is held; the values are those that the
--- marks make of v0
-pub record AtCell (p : Checked) (V : Table) (part held : Stock) (ns : List ℤ) (fn : PlainFunction)
-    (fixed : List NameValue) (f : Frame) (h : Home) (n : ℕ) (a : PlainAct) (b : Block)
-    (x : ℤ) (v0 : Valuation) (m0 : ℕ) (ms : List Bool) : Type 0 where
+-- marks make of v0, and G is what is known of the goals that are left
+pub record AtCell (p : Checked) (G : List PlainGoal → Type 0) (V : Table) (part held : Stock)
+    (ns : List ℤ) (fn : PlainFunction) (fixed : List NameValue) (f : Frame) (h : Home) (n : ℕ)
+    (a : PlainAct) (b : Block) (x : ℤ) (v0 : Valuation) (m0 : ℕ) (ms : List Bool) : Type 0 where
   pub ks : List ℕ
   pub v : Valuation
   pub named : v ≡ mark_values v0 m0 ms
@@ -60,15 +59,13 @@ pub record AtCell (p : Checked) (V : Table) (part held : Stock) (ns : List ℤ) 
   pub c : Cell
   pub is : slice_get s.cells j ≡ Some c
   pub address : value v.whole c.0 ≡ x
-  pub trees : PlainTrees
   pub goals :
       Comes (acted s j c a)
-      (λ states. Children p.N trees
-      (flat_map (λ t. goals_of t (then_close n (length s.opened) b h)) states))
+      (λ states. G (flat_map (λ t. goals_of t (then_close n (length s.opened) b h)) states))
 
-module _ (p : Checked) (V : Table) (share : ℤ → Stock) (part : Stock) (fn : PlainFunction)
-    (fixed : List NameValue) (f : Frame) (l : Label) (a : PlainAct) (b : Block) (h : Home)
-    (v : Valuation) (s : PlainState) where
+module _ (p : Checked) (G : List PlainGoal → Type 0) (V : Table) (share : ℤ → Stock) (part : Stock)
+    (fn : PlainFunction) (fixed : List NameValue) (f : Frame) (l : Label) (a : PlainAct) (b : Block)
+    (h : Home) (v : Valuation) (s : PlainState) where
   abbrev held : Stock
   held = both p.program part (all_of p.program (regions_of v s.opened) share)
 
@@ -77,28 +74,26 @@ module _ (p : Checked) (V : Table) (share : ℤ → Stock) (part : Stock) (fn : 
       FitsRoom p.program V
       (both p.program part (all_of p.program (regions_of v s.opened) share)) →
       Store v s h fn fixed (with_rest f (first l a b)) → length fixed ≡ length fn.fixed → (j : ℕ)
-      (ms : List Bool) (ks : PlainTrees) →
-      Comes (at_act s j ms l a (running b h)) (Children p.N ks) →
-      AtCell p V part (both p.program part (all_of p.program (regions_of v s.opened) share))
+      (ms : List Bool) → Comes (at_act s j ms l a (running b h)) G →
+      AtCell p G V part (both p.program part (all_of p.program (regions_of v s.opened) share))
       (regions_of v s.opened) fn fixed f h l.number a b (value_in f.store x) v (length s.sorts) ms
-  at-cell x is-address o room st size j ms trees go =
-      let N = Children p.N trees in
+  at-cell x is-address o room st size j ms go =
       let m = o.grounded.meets in
       let R = Usable [] s.sorts in
       let ns = regions_of v s.opened in
       -- the rule
-      let addressed = after-found (address_of a) _ N go in
-      let cell = after-found (slice_get s.cells j) _ N addressed.2 in
+      let addressed = after-found (address_of a) _ G go in
+      let cell = after-found (slice_get s.cells j) _ G addressed.2 in
       let c = cell.0 in
       let to = here s addressed.0 in
       let ends = λ (states : List PlainState). unit
       (flat_map (λ t. goals_of t (closing s.opened l.number (running b h))) states) in
       let acts = λ (t : PlainState). acted t j c a >>= ends in
       let marks = λ (u : Unit {0}). with_marks s (rivals s) ms >>= acts in
-      let equal = after-proved s.rows c.0 Equal to Int marks N
-      (after-here s addressed.0 (λ t. prove_equal s c.0 t >>= marks) N cell.2) in
-      let k = acting p.program V v s (λ t. Comes (acts t) N) o.grounded o.facts o.opened ms
-      (comes-bind (with_marks s (rivals s) ms) acts N equal.1) in
+      let equal = after-proved s.rows c.0 Equal to Int marks G
+      (after-here s addressed.0 (λ t. prove_equal s c.0 t >>= marks) G cell.2) in
+      let k = acting p.program V v s (λ t. Comes (acts t) G) o.grounded o.facts o.opened ms
+      (comes-bind (with_marks s (rivals s) ms) acts G equal.1) in
       let r = k.marked in
       let w = r.w in
       let t = r.after in
@@ -111,7 +106,7 @@ module _ (p : Checked) (V : Table) (share : ℤ → Stock) (part : Stock) (fn : 
         be.goes_on.sorts y Int u.0,
         r.free y (usable-old [] s.sorts Int y u) tt,
       ) in
-      let After = λ (t : PlainState) (states : List PlainState). Children p.N trees
+      let After = λ (t : PlainState) (states : List PlainState). G
       (flat_map (λ u. goals_of u (then_close l.number (length t.opened) b h)) states) in
       let st1 = store-same v w s t h fn fixed (with_rest f (first l a b)) m be.agree
       be.goes_on.sorts be.goes_on.store size st in
@@ -152,10 +147,9 @@ module _ (p : Checked) (V : Table) (share : ℤ → Stock) (part : Stock) (fn : 
             ∙ equal-here v s c.0 to m equal.0 over.0 (here-over [] v s addressed.0 m)
             ∙ ap (λ u. value v.whole (here s u)) same
             ∙ here-value v s f.store x st.store;
-        trees = trees;
-        goals = comes-more (acted t j c a) (λ states. Comes (ends states) N) (After t)
+        goals = comes-more (acted t j c a) (λ states. Comes (ends states) G) (After t)
             (λ states q. now t be.goes_on.opened states q.1)
-            (comes-bind (acted t j c a) ends N r.comes);
+            (comes-bind (acted t j c a) ends G r.comes);
       }
     where
       differ-again : (ms : List ℤ) → ms ≡ regions_of v s.opened → Differ ms
@@ -163,12 +157,12 @@ module _ (p : Checked) (V : Table) (share : ℤ → Stock) (part : Stock) (fn : 
 
       now :
           (t : PlainState) → t.opened ≡ s.opened → (states : List PlainState) →
-          Children p.N trees
+          G
           (flat_map (λ u. goals_of u (closing s.opened l.number (running b h))) states) →
-          Children p.N trees
+          G
           (flat_map (λ u. goals_of u (then_close l.number (length t.opened) b h)) states)
       now t e states =
           subst
-          (λ ts. Children p.N trees (flat_map (λ u. goals_of u ts) states))
+          (λ ts. G (flat_map (λ u. goals_of u ts) states))
           (closing-closes s.opened l.number (running b h)
           ∙ ap (λ os. then_close l.number (length os) b h) (sym e))
