@@ -130,7 +130,7 @@ acts-law p finish V share part heap fn fixed f l a b x is-address world ok v s h
     let z = value k.v.whole k.c.1 in
     let had = holds-cell p.program V (opened_table ns V) part k.ks k.v k.s held h fn fixed
     (with_rest f b) k.ready k.j k.c k.is at k.address in
-    let done = statement-done p (Children p.N ks) V part held ns fn fixed f h l.number b x v (length s.sorts)
+    let done = statement-done p (Children p.N ks) V part held ns fn fixed f h l.number b x v s
     (map is_some ms) a is-address k in
     let r = after_act a f b z in
     let count = ap length done.opened in

@@ -32,8 +32,8 @@ use Rattle.cap_account_steps.proofs.Worlds.{opened_table, after_cas, after_act, 
 use Rattle.cap_account_steps.proofs.Changing.{Ready, here-free, ready-row, ready-local, ready-same, ready-content, ready-gone}
 use Rattle.cap_account_steps.proofs.AtCell.{then_close, AtCell}
 
--- the number of the state, of those that a statement leaves, that is the frame's: a swap fails in the
--- second
+-- the number of the state, of those that a statement leaves, that is the frame's: a swap fails in
+-- the second
 abbrev pub swap_number : Bool → ℕ
 swap_number true = 0
 swap_number false = 1
@@ -44,9 +44,9 @@ act_number a f z = 0
 
 module _ (p : Checked) (G : List PlainGoal → Type 0) (V : Table) (part held : Stock) (ns : List ℤ)
     (fn : PlainFunction) (fixed : List NameValue) (f : Frame) (h : Home) (n : ℕ) (b : Block)
-    (x : Linear) (v0 : Valuation) (m0 : ℕ) (ms : List Bool) where
+    (x : Linear) (v0 : Valuation) (s0 : PlainState) (ms : List Bool) where
   abbrev Cells : PlainAct → Type 0
-  Cells a = AtCell p G V part held ns fn fixed f h n a b (value_in f.store x) v0 m0 ms
+  Cells a = AtCell p G V part held ns fn fixed f h n a b (value_in f.store x) v0 s0 ms
 
   -- one of the states after the statement, that of this number, is that of the frame, with what its
   -- cell is now
@@ -56,6 +56,7 @@ module _ (p : Checked) (G : List PlainGoal → Type 0) (V : Table) (part held : 
     pub behind : List PlainState
     pub count : length before ≡ number
     pub opened : t.opened ≡ k.s.opened
+    pub sorts : t.sorts ≡ k.s.sorts
     pub goals :
         G (flat_map (λ u. goals_of u (then_close n (length k.s.opened) r.1.rest h))
         (before ++ t ∷ behind))
@@ -117,6 +118,7 @@ module _ (p : Checked) (G : List PlainGoal → Type 0) (V : Table) (part held : 
         behind = [];
         count = refl;
         opened = refl;
+        sorts = refl;
         goals = k.goals.1;
         ready = ready-local p.program V (W a k) part k.ks k.v k.s
             (recelled held (value_in f.store x) (content a k) (Some (content a k))) h fn fixed
@@ -139,6 +141,7 @@ module _ (p : Checked) (G : List PlainGoal → Type 0) (V : Table) (part held : 
         behind = [];
         count = refl;
         opened = refl;
+        sorts = refl;
         goals = all.1;
         ready = ready-content p.program V (W a k) part k.ks k.v k.s held h fn fixed (g a k) k.ready
             k.j k.c k.is (value_in f.store x) k.address new (value_in f.store t) (term-over a k t)
@@ -170,6 +173,7 @@ module _ (p : Checked) (G : List PlainGoal → Type 0) (V : Table) (part held : 
         behind = [];
         count = refl;
         opened = refl;
+        sorts = refl;
         goals = each.1;
         ready = ready-local p.program V (W a k) part k.ks k.v s1
             (recelled held (value_in f.store x) z (Some (z +ℤ added))) h fn fixed (g a k) r1 y k.c.1
@@ -188,6 +192,7 @@ module _ (p : Checked) (G : List PlainGoal → Type 0) (V : Table) (part held : 
         behind = [];
         count = refl;
         opened = refl;
+        sorts = refl;
         goals = k.goals.1;
         ready = ready-gone p.program V (W a k) part k.ks k.v k.s held h fn fixed (g a k) k.ready k.j
             k.c k.is (value_in f.store x) k.address;
@@ -254,6 +259,7 @@ module _ (p : Checked) (G : List PlainGoal → Type 0) (V : Table) (part held : 
           behind = failed ∷ [];
           count = refl;
           opened = refl;
+          sorts = refl;
           goals = both-states;
           ready = ready-local p.program V (W swap k) part k.ks k.v s2 held' h fn fixed (g swap k) r2
               y one_value (pos 1) b tt (value-number k.v.whole (pos 1));
@@ -273,6 +279,7 @@ module _ (p : Checked) (G : List PlainGoal → Type 0) (V : Table) (part held : 
           behind = [];
           count = refl;
           opened = refl;
+          sorts = refl;
           goals = both-states;
           ready = ready-local p.program V (W swap k) part k.ks k.v (row_added k.s unmet) held' h fn
               fixed (g swap k) r1 y zero_value (pos 0) b tt (value-number k.v.whole (pos 0));

@@ -1,6 +1,6 @@
 -- A heap statement, once marks are made: the cell at its address, and the frame's store.
-use Rattle.std.proofs.Common.{◌≡◌, ℕ, ◌+◌, ℤ, List, [], ◌∷◌, length, refl, sym, ap, ◌∙◌, subst, Some, Bool, true}
-use Rattle.std.specs.Prelude.{slice_get, flat_map}
+use Rattle.std.proofs.Common.{◌≡◌, ℕ, ◌+◌, ◌<◌, ℤ, List, [], ◌∷◌, length, refl, sym, ap, ◌∙◌, subst, Option, Some, None, Bool, true}
+use Rattle.std.specs.Prelude.{slice_get, flat_map, IsSomeAnd}
 use Rattle.std.specs.List.{AllByRecursion}
 use Rattle.cap_lin.specs.Linear.{Linear}
 use Rattle.cap_lin.specs.Values.{Valuation, value}
@@ -9,7 +9,7 @@ use Rattle.cap_lin.specs.declared.row.Sort.TheVariants.{Int}
 use Rattle.cap_lin.specs.declared.row.Op.TheVariants.{Eq as Equal}
 use Rattle.cap_prog.specs.Program.{Label, PlainAct, Block, first, PlainFunction}
 use Rattle.cap_goal_spec.specs.States.{PlainFact, PlainState, Home, PlainTask, PlainGoal, to_close, to_rest, goals_of}
-use Rattle.cap_rules.specs.Attempts.{unit, ◌>>=◌}
+use Rattle.cap_rules.specs.Attempts.{Attempt, unit, ◌>>=◌}
 use Rattle.cap_rules.specs.Making.{prove_equal}
 use Rattle.cap_rules.specs.Closing.{address_of, rivals, with_marks, acted, closing}
 use Rattle.cap_rules.specs.Rules.{at_act}
@@ -21,7 +21,7 @@ use Rattle.cap_account_resources.proofs.Lists.{some-same, within, all-at, all-mo
 use Rattle.cap_account_resources.proofs.Stocks.{Stock, both, all_of}
 use Rattle.cap_account_resources.proofs.Tables.{FitsRoom}
 use Rattle.cap_account_states.proofs.Attempts.{comes-bind, comes-more, after-found, after-here, after-proved}
-use Rattle.cap_account_states.proofs.Terms.{Over, vars-more, value-agree}
+use Rattle.cap_account_states.proofs.Terms.{Agree, Over, vars-more, value-agree}
 use Rattle.cap_account_states.proofs.Checked.{Checked}
 use Rattle.cap_account_states.proofs.Meets.{Free, Usable, usable-old, Old, CellOver}
 use Rattle.cap_account_steps.proofs.Stores.{Store, running, here, here-value, here-over, store-same}
@@ -42,15 +42,19 @@ closing-closes :
 closing-closes [] n ts = refl
 closing-closes (f ∷ fs) n ts = ap (λ us. to_close true n ∷ us) (closing-closes fs n ts)
 
--- before statement a, then b: these regions are opened, and this is held; the values are those that the
--- marks make of v0, and G is what is known of the goals that are left
+-- before statement a, then b: these regions are opened, and this is held; the state and the values
+-- are those that the marks make of s0 and v0, and G is what is known of the goals that are left
 pub record AtCell (p : Checked) (G : List PlainGoal → Type 0) (V : Table) (part held : Stock)
     (ns : List ℤ) (fn : PlainFunction) (fixed : List NameValue) (f : Frame) (h : Home) (n : ℕ)
-    (a : PlainAct) (b : Block) (x : ℤ) (v0 : Valuation) (m0 : ℕ) (ms : List Bool) : Type 0 where
+    (a : PlainAct) (b : Block) (x : ℤ) (v0 : Valuation) (s0 : PlainState) (ms : List Bool) : Type 0
+  where
   pub ks : List ℕ
   pub v : Valuation
-  pub named : v ≡ mark_values v0 m0 ms
+  pub named : v ≡ mark_values v0 (length s0.sorts) ms
   pub s : PlainState
+  pub marked : (with_marks s0 (rivals s0) ms).value ≡ Some s
+  pub agree : Agree (Old s0) v0 v
+  pub kept : (x : ℕ) → Free ks x → x < length s.sorts → x < length s0.sorts
   pub regions : regions_of v s.opened ≡ ns
   pub names : (i : ℕ) (o : Sort) → slice_get fn.fixed i ≡ Some o → Free ks (h.fixed + i)
   pub ready :
@@ -62,6 +66,16 @@ pub record AtCell (p : Checked) (G : List PlainGoal → Type 0) (V : Table) (par
   pub goals :
       Comes (acted s j c a)
       (λ states. G (flat_map (λ t. goals_of t (then_close n (length s.opened) b h)) states))
+
+-- what an attempt comes to is its value
+state-itself :
+    (o : Attempt PlainState) (P : PlainState → Type 0) → Comes o P →
+    Comes o (λ t. (o.value ≡ Some t) × P t)
+state-itself o P h = (h.0, by o.value h.1)
+  where
+    by : (m : Option PlainState) → IsSomeAnd m P → IsSomeAnd m (λ t. (m ≡ Some t) × P t)
+    by None k = k
+    by (Some t) k = (refl, k)
 
 module _ (p : Checked) (G : List PlainGoal → Type 0) (V : Table) (share : ℤ → Stock) (part : Stock)
     (fn : PlainFunction) (fixed : List NameValue) (f : Frame) (l : Label) (a : PlainAct) (b : Block)
@@ -76,7 +90,7 @@ module _ (p : Checked) (G : List PlainGoal → Type 0) (V : Table) (share : ℤ 
       Store v s h fn fixed (with_rest f (first l a b)) → length fixed ≡ length fn.fixed → (j : ℕ)
       (ms : List Bool) → Comes (at_act s j ms l a (running b h)) G →
       AtCell p G V part (both p.program part (all_of p.program (regions_of v s.opened) share))
-      (regions_of v s.opened) fn fixed f h l.number a b (value_in f.store x) v (length s.sorts) ms
+      (regions_of v s.opened) fn fixed f h l.number a b (value_in f.store x) v s ms
   at-cell x is-address o room st size j ms go =
       let m = o.grounded.meets in
       let R = Usable [] s.sorts in
@@ -92,8 +106,10 @@ module _ (p : Checked) (G : List PlainGoal → Type 0) (V : Table) (share : ℤ 
       let marks = λ (u : Unit {0}). with_marks s (rivals s) ms >>= acts in
       let equal = after-proved s.rows c.0 Equal to Int marks G
       (after-here s addressed.0 (λ t. prove_equal s c.0 t >>= marks) G cell.2) in
-      let k = acting p.program V v s (λ t. Comes (acts t) G) o.grounded o.facts o.opened ms
-      (comes-bind (with_marks s (rivals s) ms) acts G equal.1) in
+      let made = with_marks s (rivals s) ms in
+      let P = λ (t : PlainState). Comes (acts t) G in
+      let k = acting p.program V v s (λ t. (made.value ≡ Some t) × P t) o.grounded o.facts o.opened ms
+      (state-itself made P (comes-bind made acts G equal.1)) in
       let r = k.marked in
       let w = r.w in
       let t = r.after in
@@ -115,6 +131,9 @@ module _ (p : Checked) (G : List PlainGoal → Type 0) (V : Table) (share : ℤ 
         v = w;
         named = r.named;
         s = t;
+        marked = r.comes.0;
+        agree = be.agree;
+        kept = λ x h l. (r.kept x h l).0;
         regions = k.regions;
         names = λ i q e. r.free (h.fixed + i)
             (within s.sorts (h.fixed + i) q (st.fixed_known i q e)) tt;
@@ -149,7 +168,7 @@ module _ (p : Checked) (G : List PlainGoal → Type 0) (V : Table) (share : ℤ 
             ∙ here-value v s f.store x st.store;
         goals = comes-more (acted t j c a) (λ states. Comes (ends states) G) (After t)
             (λ states q. now t be.goes_on.opened states q.1)
-            (comes-bind (acted t j c a) ends G r.comes);
+            (comes-bind (acted t j c a) ends G r.comes.1);
       }
     where
       differ-again : (ms : List ℤ) → ms ≡ regions_of v s.opened → Differ ms
