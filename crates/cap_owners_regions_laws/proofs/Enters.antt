@@ -56,7 +56,7 @@ use Rattle.cap_owners_regions_laws.proofs.Telling.{ToldSo}
 -- ---- to a child by its number
 
 -- behind so many goals is one, and into its tree the walk goes
-below-at :
+pub below-at :
     (enter : Interpreting) (p : Checked) (ks : PlainTrees) (before behind : List PlainGoal)
     (g : PlainGoal) (w : Walk) → Children p.N ks (before ++ (g ∷ behind)) →
     walk_below enter p.program false ks (before ++ (g ∷ behind))

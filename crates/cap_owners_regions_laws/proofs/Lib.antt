@@ -13,3 +13,4 @@ pub mod Entered
 pub mod Enters
 pub mod Freely
 pub mod Joins
+pub mod Acted
