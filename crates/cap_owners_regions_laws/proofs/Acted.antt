@@ -1,19 +1,21 @@
--- An act along a walk: its pairs without a mark get the states of their facts' regions, and the walk
--- goes into the tree of the state that the frame is in, a swap that fails into the second.
-use Rattle.std.proofs.Common.{◌≡◌, ◌⊎◌, inl, inr, ℕ, ℤ, zero, suc, List, [], ◌∷◌, ◌++◌, length, map, Bool, true, false, Option, Some, None, refl, sym, ap, ◌∙◌, subst}
+-- An act along a walk: its pairs without a mark get the states of their facts' regions, and the
+-- walk goes into the tree of the state that the frame is in, a swap that fails into the second.
+use Rattle.std.proofs.Common.{◌≡◌, inl, inr, ℕ, ◌<◌, ℤ, zero, suc, List, [], ◌∷◌, ◌++◌, length, map, Bool, true, false, Option, Some, refl, sym, ap, ◌∙◌, subst}
 use Rattle.std.specs.Prelude.{flat_map, is_some, option_to_list, ◌==◌, if◌then◌else◌}
 use Rattle.std.specs.List.{AllByRecursion, zip}
+use Rattle.std.proofs.lemmas.Slice.Zip.{AllZip-long}
 use Rattle.cap_lin.specs.Linear.{Linear}
 use Rattle.cap_lin.specs.Values.{Valuation, value}
 use Rattle.cap_farkas.specs.declared.cert.Cert.{Cert}
 use Rattle.cap_prog.specs.Program.{Label, PlainAct, Block, first, PlainFunction}
 use Rattle.cap_goal_spec.specs.States.{PlainState, Home, PlainTask, to_rest, PlainGoal, goal, goal_of, goals_of}
-use Rattle.cap_goal_spec.specs.Choices.{PlainTree, node, by_act, PlainTrees, no_trees, tree}
+use Rattle.cap_goal_spec.specs.Choices.{node, by_act, PlainTrees, no_trees, tree}
 use Rattle.cap_rules.specs.Closing.{address_of, rivals}
 use Rattle.cap_rules_nodes.specs.Nodes.{goals_left}
 use Rattle.cap_machine.specs.Machine.{Frame, value_in, with_rest}
 use Rattle.cap_machine_accounts.specs.Assertions.{NameValue}
 use Rattle.cap_account_resources.specs.Parts.{Table}
+use Rattle.cap_account_resources.proofs.Lists.{map-length}
 use Rattle.cap_account_resources.proofs.Stocks.{Stock, both, all_of}
 use Rattle.cap_account_resources.proofs.Tables.{FitsRoom}
 use Rattle.cap_account_states.specs.Nodes.{Children, Open}
@@ -21,20 +23,24 @@ use Rattle.cap_account_states.proofs.Checked.{Checked, first_trees, later_trees,
 use Rattle.cap_account_states.proofs.Backed.{IsFirm}
 use Rattle.cap_account_states.proofs.Facts.{FactHolds}
 use Rattle.cap_account_steps.proofs.Stores.{Store, running}
-use Rattle.cap_account_steps.proofs.Worlds.{regions_of, Opening, after_act, Exact}
+use Rattle.cap_account_steps.proofs.Worlds.{regions_of, Opening, opened_table, Closing, after_act, recelled, Exact}
 use Rattle.cap_account_steps.proofs.Entering.{firm-exact}
 use Rattle.cap_account_steps.proofs.Exact.{all-two}
 use Rattle.cap_account_steps.proofs.AtCell.{then_close, AtCell, at-cell}
 use Rattle.cap_account_steps.proofs.Acts.{act_number, Done, statement-done}
 use Rattle.cap_machine.specs.declared.event.Event.{Event}
-use Rattle.cap_owners_spec.specs.Traced.{Traced, traced, past_width, valuation}
-use Rattle.cap_owners_spec.specs.Walks.{Walk, Descent, descends, Interpreting, Halt, walk_below, mark_values, act_child, bringing, pass_statement}
+use Rattle.cap_owners_spec.specs.Traced.{traced, valuation}
+use Rattle.cap_owners_spec.specs.Walks.{Walk, Descent, descends, Interpreting, walk_below, mark_values, act_child, bringing, pass_statement}
+use Rattle.cap_owners_values_laws.proofs.More.{FitsSort}
 use Rattle.cap_owners_fills_laws.proofs.Drawn.{Tells}
 use Rattle.cap_owners_walks_laws.proofs.Leading.{Left, node-leads}
 use Rattle.cap_owners_passes_laws.proofs.Rests.{into, below-wide}
 use Rattle.cap_owners_passes_laws.proofs.Gives.{GoesTo}
-use Rattle.cap_owners_regions_laws.proofs.Enters.{below-at}
+use Rattle.cap_owners_regions_laws.proofs.Enters.{below-at, sorted-join}
+use Rattle.cap_owners_regions_laws.proofs.Freely.{closing-at, marks-agree, mark_sorts, marks-shape, marks-size, marks-sorted}
 use Rattle.cap_owners_regions_laws.proofs.Marks.{marked_values, state-marks-so}
+use Rattle.cap_owners_regions_laws.proofs.Refilled.{sorted-whole}
+use Rattle.cap_owners_regions_laws.proofs.Regiven.{AreSorted}
 use Rattle.cap_owners_regions_laws.proofs.Telling.{ToldSo, told-here, told-known}
 
 -- ---- the goals after the statement
@@ -158,7 +164,8 @@ module _ (p : Checked) (V : Table) (share : ℤ → Stock) (part : Stock) (fn : 
   abbrev pub done : Done p G V part held ns fn fixed f h l.number b x v s (map is_some ms) a cell
       (after_act a f b content) (act_number a f content)
   done =
-      statement-done p G V part held ns fn fixed f h l.number b x v s (map is_some ms) a address cell
+      statement-done p G V part held ns fn fixed f h l.number b x v s (map is_some ms) a address
+      cell
 
   abbrev pub act_tasks : List PlainTask
   act_tasks = then_close l.number (length cell.s.opened) (after_act a f b content).1.rest h
@@ -211,3 +218,31 @@ module _ (p : Checked) (V : Table) (share : ℤ → Stock) (part : Stock) (fn : 
             inl (ap (walk_below enter pp false ks gs) wide ∙ below-wide enter pp false ks gs)
         | inr d ↦ inr (ap (walk_below enter pp false ks gs) (d.1 ∙ ap traced d.2) ∙ there)
       ]
+
+  -- ---- what is known there
+
+  abbrev pub act_values : List NameValue
+  act_values = vs ++ marked_values v (zip (rivals s) ms)
+
+  -- the walk's values are of their sorts
+  pub act-sorted : AreSorted s.sorts vs → AreSorted done.t.sorts act_values
+  act-sorted sorted =
+      let bs = map is_some ms in
+      let count = marks-size (rivals s) bs s cell.s cell.marked ∙ map-length is_some ms in
+      subst (λ os. AreSorted os act_values)
+      (sym (done.sorts ∙ marks-shape (rivals s) bs s cell.s cell.marked))
+      (sorted-join s.sorts (mark_sorts bs) vs (marked_values v (zip (rivals s) ms)) sorted
+      (marks-sorted v (rivals s) ms count))
+
+  -- regions are closed from there at the walk's values, as at soundness's
+  pub act-closing :
+      AreSorted s.sorts vs →
+      Closing p.program V (opened_table ns V) part cell.ks (valuation act_values) done.t
+      (recelled held (value_in f.store x) content (after_act a f b content).0)
+  act-closing sorted =
+      closing-at p.program V (opened_table ns V) part cell.ks cell.v (valuation act_values) done.t
+      (recelled held (value_in f.store x) content (after_act a f b content).0)
+      (marks-agree cell.ks s done.t cell.v vs (marked_values v (zip (rivals s) ms))
+      (sym (AllZip-long FitsSort s.sorts vs sorted)) cell.agree
+      (λ y h n. cell.kept y h (subst (λ os. y < length os) done.sorts n)))
+      (sorted-whole done.t.sorts act_values (act-sorted sorted)) done.ready.closing

@@ -70,7 +70,7 @@ below-at enter p (tree t ts) (b ∷ before) behind g w h =
 
 -- ---- values of sorts
 
-sorted-join :
+pub sorted-join :
     (os us : List Sort) (vs ws : List NameValue) → AreSorted os vs → AreSorted us ws →
     AreSorted (os ++ us) (vs ++ ws)
 sorted-join [] us [] ws h k = k

@@ -1,6 +1,6 @@
 -- Where variables are kept free they may have a walk's values: so what is known while regions are
 -- closed holds there too. And the variables of marks, to which the table's states are given.
-use Rattle.std.proofs.Common.{◌≡◌, ℕ, ◌<◌, Bool, true, false, List, [], ◌∷◌, ◌++◌, length, Option, Some, None, refl, sym, ap, ◌∙◌, arith}
+use Rattle.std.proofs.Common.{◌≡◌, ℕ, suc, ◌<◌, Bool, true, false, List, [], ◌∷◌, ◌++◌, length, Option, Some, None, refl, sym, ap, ◌∙◌, arith}
 use Rattle.std.specs.Prelude.{map, slice_set, nat_lt, is_some}
 use Rattle.std.specs.List.{zip}
 use Rattle.cap_lin.specs.Values.{Valuation}
@@ -117,6 +117,27 @@ marks-shape (x ∷ xs) (false ∷ ms) s t e =
         t.sorts ≡ s.sorts ++ (Int ∷ mark_sorts ms)) →
         (unmarked_as s x b >>= λ s'. with_marks s' xs ms).value ≡ Some t →
         t.sorts ≡ s.sorts ++ (Int ∷ mark_sorts ms)
+    by true more q = more q
+    by false more q = absurd (none-some q)
+
+-- each pair has a mark or is without one
+pub marks-size :
+    (xs : List Rival) (ms : List Bool) (s t : PlainState) →
+    (with_marks s xs ms).value ≡ Some t → length xs ≡ length ms
+marks-size [] [] s t e = refl
+marks-size [] (b ∷ ms) s t e = absurd (none-some e)
+marks-size (x ∷ xs) [] s t e = absurd (none-some e)
+marks-size (x ∷ xs) (true ∷ ms) s t e = ap suc (marks-size xs ms s t e)
+marks-size (x ∷ xs) (false ∷ ms) s t e =
+    by (nat_lt (length s.sorts) longest_list)
+    (λ q. ap suc (marks-size xs ms (loosened_at s x) t q)) e
+  where
+    by :
+        (b : Bool) →
+        ((with_marks (loosened_at s x) xs ms).value ≡ Some t →
+        suc (length xs) ≡ suc (length ms)) →
+        (unmarked_as s x b >>= λ s'. with_marks s' xs ms).value ≡ Some t →
+        suc (length xs) ≡ suc (length ms)
     by true more q = more q
     by false more q = absurd (none-some q)
 
