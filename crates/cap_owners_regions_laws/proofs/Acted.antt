@@ -22,6 +22,8 @@ use Rattle.cap_account_states.specs.Nodes.{Children, Open}
 use Rattle.cap_account_states.proofs.Checked.{Checked, first_trees, later_trees, children-split}
 use Rattle.cap_account_states.proofs.Backed.{IsFirm}
 use Rattle.cap_account_states.proofs.Facts.{FactHolds}
+use Rattle.cap_account_states.proofs.KnowsLater.{Steady}
+use Rattle.cap_account_states.proofs.Terms.{Agree}
 use Rattle.cap_account_steps.proofs.Stores.{Store, running}
 use Rattle.cap_account_steps.proofs.Worlds.{regions_of, Opening, opened_table, Closing, after_act, recelled, Exact}
 use Rattle.cap_account_steps.proofs.Entering.{firm-exact}
@@ -37,7 +39,7 @@ use Rattle.cap_owners_walks_laws.proofs.Leading.{Left, node-leads}
 use Rattle.cap_owners_passes_laws.proofs.Rests.{into, below-wide}
 use Rattle.cap_owners_passes_laws.proofs.Gives.{GoesTo}
 use Rattle.cap_owners_regions_laws.proofs.Enters.{below-at, sorted-join}
-use Rattle.cap_owners_regions_laws.proofs.Freely.{closing-at, marks-agree, mark_sorts, marks-shape, marks-size, marks-sorted}
+use Rattle.cap_owners_regions_laws.proofs.Freely.{closing-at, store-at, marks-agree, mark_sorts, marks-shape, marks-size, marks-sorted}
 use Rattle.cap_owners_regions_laws.proofs.Marks.{marked_values, state-marks-so}
 use Rattle.cap_owners_regions_laws.proofs.Refilled.{sorted-whole}
 use Rattle.cap_owners_regions_laws.proofs.Regiven.{AreSorted}
@@ -234,6 +236,13 @@ module _ (p : Checked) (V : Table) (share : ℤ → Stock) (part : Stock) (fn : 
       (sorted-join s.sorts (mark_sorts bs) vs (marked_values v (zip (rivals s) ms)) sorted
       (marks-sorted v (rivals s) ms count))
 
+  act-agree :
+      AreSorted s.sorts vs → Agree (Steady cell.ks done.t) cell.v (valuation act_values)
+  act-agree sorted =
+      marks-agree cell.ks s done.t cell.v vs (marked_values v (zip (rivals s) ms))
+      (sym (AllZip-long FitsSort s.sorts vs sorted)) cell.agree
+      (λ y h n. cell.kept y h (subst (λ os. y < length os) done.sorts n))
+
   -- regions are closed from there at the walk's values, as at soundness's
   pub act-closing :
       AreSorted s.sorts vs →
@@ -241,8 +250,13 @@ module _ (p : Checked) (V : Table) (share : ℤ → Stock) (part : Stock) (fn : 
       (recelled held (value_in f.store x) content (after_act a f b content).0)
   act-closing sorted =
       closing-at p.program V (opened_table ns V) part cell.ks cell.v (valuation act_values) done.t
-      (recelled held (value_in f.store x) content (after_act a f b content).0)
-      (marks-agree cell.ks s done.t cell.v vs (marked_values v (zip (rivals s) ms))
-      (sym (AllZip-long FitsSort s.sorts vs sorted)) cell.agree
-      (λ y h n. cell.kept y h (subst (λ os. y < length os) done.sorts n)))
+      (recelled held (value_in f.store x) content (after_act a f b content).0) (act-agree sorted)
       (sorted-whole done.t.sorts act_values (act-sorted sorted)) done.ready.closing
+
+  -- and the frame stands there
+  pub act-store :
+      AreSorted s.sorts vs →
+      Store (valuation act_values) done.t h fn fixed (after_act a f b content).1
+  act-store sorted =
+      store-at cell.ks cell.v (valuation act_values) done.t h fn fixed (after_act a f b content).1
+      (act-agree sorted) done.ready.over cell.names size done.ready.store

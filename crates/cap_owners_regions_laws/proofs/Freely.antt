@@ -1,29 +1,32 @@
 -- Where variables are kept free they may have a walk's values: so what is known while regions are
 -- closed holds there too. And the variables of marks, to which the table's states are given.
-use Rattle.std.proofs.Common.{◌≡◌, ℕ, suc, ◌<◌, Bool, true, false, List, [], ◌∷◌, ◌++◌, length, Option, Some, None, refl, sym, ap, ◌∙◌, arith}
-use Rattle.std.specs.Prelude.{map, slice_set, nat_lt, is_some}
-use Rattle.std.specs.List.{zip}
-use Rattle.cap_lin.specs.Values.{Valuation}
+use Rattle.std.proofs.Common.{◌≡◌, ℕ, suc, ◌+◌, ◌<◌, Bool, true, false, List, [], ◌∷◌, ◌++◌, length, Option, Some, None, refl, sym, ap, ◌∙◌, arith}
+use Rattle.std.specs.Prelude.{map, slice_get, slice_set, nat_lt, is_some}
+use Rattle.std.specs.List.{AllByRecursion, zip}
+use Rattle.cap_lin.specs.Linear.{Linear}
+use Rattle.cap_lin.specs.Values.{Valuation, value}
 use Rattle.cap_lin.specs.declared.row.Op.TheVariants.{Ne as Unequal}
 use Rattle.cap_lin.specs.declared.row.Sort.{Sort}
 use Rattle.cap_lin.specs.declared.row.Sort.TheVariants.{Int}
 use Rattle.cap_farkas.specs.declared.cert.Cert.{Cert}
-use Rattle.cap_prog.specs.Program.{PlainProgram}
-use Rattle.cap_goal_spec.specs.States.{longest_list, PlainState}
+use Rattle.cap_prog.specs.Program.{PlainProgram, PlainFunction}
+use Rattle.cap_goal_spec.specs.States.{longest_list, PlainState, Home}
 use Rattle.cap_rules.specs.Attempts.{Attempt, unit, need, comparison_row, ◌>>=◌}
 use Rattle.cap_rules.specs.Making.{fresh}
 use Rattle.cap_rules.specs.Closing.{Rival, loosened, with_marks}
+use Rattle.cap_machine.specs.Machine.{Frame}
 use Rattle.cap_machine_accounts.specs.Assertions.{NameValue}
 use Rattle.cap_account_resources.specs.Parts.{Table}
-use Rattle.cap_account_resources.proofs.Lists.{some-same, none-some, join-nil, join-assoc, all-more}
+use Rattle.cap_account_resources.proofs.Lists.{some-same, none-some, join-nil, join-assoc, all-more, there-is, within}
 use Rattle.cap_account_resources.proofs.Stocks.{Stock}
 use Rattle.cap_account_states.proofs.Alike.{agree-alike, meets-agree}
 use Rattle.cap_account_states.proofs.Facts.{facts-later}
 use Rattle.cap_account_states.proofs.KnowsLater.{Steady, usable-steady, backed-at}
-use Rattle.cap_account_states.proofs.Meets.{Free, Old}
-use Rattle.cap_account_states.proofs.Terms.{Agree}
+use Rattle.cap_account_states.proofs.Meets.{Free, Old, Usable}
+use Rattle.cap_account_states.proofs.Terms.{Agree, Over, vars-more, value-agree}
 use Rattle.cap_account_steps.proofs.KeptFree.{AllSorted}
 use Rattle.cap_account_steps.proofs.StillOpen.{LaterState, if-any, StaysOpen, closing-later}
+use Rattle.cap_account_steps.proofs.Stores.{Store, named-same}
 use Rattle.cap_account_steps.proofs.Worlds.{IsStillOpen, Closing}
 use Rattle.cap_owners_spec.specs.Traced.{number_of, numerator_of, valuation}
 use Rattle.cap_owners_regions_laws.proofs.Entered.{value-first}
@@ -60,6 +63,38 @@ closing-at p V W part ks v w s held agree sorted c =
           c.backed;
       room = c.room;
     })
+
+-- terms over variables that agree keep their values
+values-agree :
+    (P : ℕ → Type 0) (v w : Valuation) → Agree P v w → (ts : List Linear) →
+    AllByRecursion (Over P) ts → map (value w.whole) ts ≡ map (value v.whole) ts
+values-agree P v w a [] h = refl
+values-agree P v w a (t ∷ ts) h =
+    ap (λ z. z ∷ map (value w.whole) ts) (value-agree P v w a t h.0)
+    ∙ ap (λ zs. value v.whole t ∷ zs) (values-agree P v w a ts h.1)
+
+-- the frame's locals and fixed names do without variables that are kept free
+pub store-at :
+    (ks : List ℕ) (v w : Valuation) (s : PlainState) (h : Home) (fn : PlainFunction)
+    (fixed : List NameValue) (f : Frame) → Agree (Steady ks s) v w →
+    AllByRecursion (Over (Usable ks s.sorts Int)) s.store →
+    ((i : ℕ) (o : Sort) → slice_get fn.fixed i ≡ Some o → Free ks (h.fixed + i)) →
+    length fixed ≡ length fn.fixed → Store v s h fn fixed f → Store w s h fn fixed f
+store-at ks v w s h fn fixed f agree over free size st =
+    let R = Usable ks s.sorts Int in
+    let S = Steady ks s in
+    let steady = all-more (Over R) (Over S) (λ t o. vars-more R S (usable-steady ks s Int) t.parts o)
+    s.store over in
+    record {
+      home = st.home;
+      store = values-agree S v w agree s.store steady ∙ st.store;
+      fixed_are = named-same S v w h.fixed fixed
+          (λ i l.
+          let q = there-is fn.fixed i (omega (arith, l, size)) in
+          (within s.sorts (h.fixed + i) q.0 (st.fixed_known i q.0 q.1), free i q.0 q.1))
+          agree st.fixed_are;
+      fixed_known = st.fixed_known;
+    }
 
 -- ---- the variables of marks
 
