@@ -20,6 +20,7 @@ use Rattle.cap_prog.specs.Scopes.{Scope, SlotFits}
 use Rattle.cap_machine_accounts.specs.Assertions.{SlotIs, SlotsAre}
 use Rattle.cap_machine_accounts.specs.Accounts.{EachTwo}
 use Rattle.cap_goal_spec.specs.States.{PlainFact, PlainEnv, PlainState}
+use Rattle.cap_goal_spec.specs.Environments.{reading}
 use Rattle.cap_rules.specs.Attempts.{Attempt, unit, ◌>>=◌, appended}
 use Rattle.cap_rules.specs.Making.{match_slot, match_slots, is_of_region, is_of_other_type, without_first, with_comparison, with_equalities, with_same, with_false, with_fact}
 use Rattle.cap_account_states.proofs.Alike.{values-alike, Alike, alike-same, alike-less, value-alike}
@@ -30,7 +31,7 @@ use Rattle.cap_account_states.proofs.Terms.{Over, vars-more, RowOver, row-over, 
 use Rattle.cap_account_states.proofs.Attempts.{comes-bind, comes-appended, comes-comparison, after-comparison}
 use Rattle.cap_account_states.proofs.Meets.{Free, Usable, usable-old, usable-on, Meets, Old, Same, variable-value}
 use Rattle.cap_account_states.proofs.Naming.{Placed, Means, Stays, means-back}
-use Rattle.cap_account_states.proofs.Matching.{Outside, matching}
+use Rattle.cap_account_states.proofs.Matching.{Outside, met_env, matching}
 
 -- the state of a loose fact isn't known
 abbrev pub StateHolds : Bool → Option ℤ → ℤ → Type 0
@@ -381,9 +382,15 @@ facts-added ks v T s f fs ft h o = record {
 
 -- ---- giving a fact up
 
+-- the environment once slots are met by terms, in turn
+abbrev pub all_met_env : PlainEnv → List Slot → List Linear → PlainEnv
+all_met_env env (x ∷ xs) (t ∷ ts) = all_met_env (met_env env (reading env x) t) xs ts
+all_met_env env xs ts = env
+
 pub record MatchingAll (ks : List ℕ) (sc : Scope) (sorts : List Sort) (v : Valuation)
     (env : PlainEnv) (xs : List Slot) (ts : List Linear) (P : PlainEnv → Type 0) : Type 0 where
   pub later : PlainEnv
+  pub later_is : later ≡ all_met_env env xs ts
   pub placed : Placed ks sc sorts later
   pub stays : Stays sc env later
   pub outside : Outside sc env later
@@ -400,6 +407,7 @@ pub matching-all :
     Comes (match_slots s.rows env xs ts) P → MatchingAll ks sc s.sorts v env xs ts P
 matching-all ks sc v s env [] [] P me pl h o c = record {
   later = env;
+  later_is = refl;
   placed = pl;
   stays = λ x o i t e. e;
   outside = λ x n. refl;
@@ -417,6 +425,7 @@ matching-all ks sc v s env (x ∷ xs) (t ∷ ts) P me pl h o c =
     let n2 = matching-all ks sc v s n1.later xs ts P me n1.placed h.1 o.1 n1.comes in
     record {
       later = n2.later;
+      later_is = n2.later_is ∙ ap (λ e. all_met_env e xs ts) n1.later_is;
       placed = n2.placed;
       stays = λ z p i t q. n2.stays z p i t (n1.stays z p i t q);
       outside = λ z n. n2.outside z n ∙ n1.outside z n;

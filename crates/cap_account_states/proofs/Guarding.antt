@@ -3,7 +3,7 @@ use Rattle.std.proofs.Common.{◌≡◌, ℕ, zero, suc, ◌+◌, ℤ, pos, ◌+
 use Rattle.std.specs.Prelude.{if◌then◌else◌, nat_lt}
 use Rattle.std.specs.List.{AllByRecursion}
 use Rattle.std.proofs.lemmas.Int.{ints}
-use Rattle.cap_lin.specs.Linear.{Linear, plus, minus}
+use Rattle.cap_lin.specs.Linear.{Linear, variable, plus, minus}
 use Rattle.cap_lin.specs.Steps.{plus_steps, minus_steps}
 use Rattle.cap_lin.specs.Rows.{row_of}
 use Rattle.cap_lin.specs.Values.{Valuation, value, amount}
@@ -33,7 +33,7 @@ use Rattle.cap_prog.specs.Scopes.{Scope, SlotFits}
 use Rattle.cap_machine_accounts.specs.Assertions.{SlotIs}
 use Rattle.cap_goal_spec.specs.Terms.{lone_variable}
 use Rattle.cap_goal_spec.specs.States.{PlainEnv, PlainState, longest_list}
-use Rattle.cap_goal_spec.specs.Environments.{zero_value, one_value, is_determined, term_in, term_in_steps, Reading, settled, open_to, stuck, read_name, reading, bind_open}
+use Rattle.cap_goal_spec.specs.Environments.{zero_value, one_value, is_determined, term_in, term_in_steps, Reading, settled, open_to, stuck, read_name, reading, asked_slot, bind_open}
 use Rattle.cap_rules.specs.Attempts.{Attempt, unit, ◌>>=◌, need, prove_that}
 use Rattle.cap_rules.specs.Making.{sum, difference, value_by, match_reading}
 use Rattle.cap_rules.specs.Taking.{Cut, cut, cut_share, cut_source, cut_tokens, cut_new_tokens, cut_index, cut_onwards, prove_end, cut_form}
@@ -44,7 +44,7 @@ use Rattle.cap_account_states.proofs.Meets.{Usable, usable-old, Old, Meets, prov
 use Rattle.cap_account_states.proofs.Alike.{Alike, value-alike}
 use Rattle.cap_account_states.proofs.Wants.{AmountIs, Wants, value-of-alike, share-wants}
 use Rattle.cap_account_states.proofs.Naming.{Placed, Means, Stays, term-over, term-number, bound-of}
-use Rattle.cap_account_states.proofs.Matching.{Outside, matching}
+use Rattle.cap_account_states.proofs.Matching.{Outside, met_env, matching}
 use Rattle.cap_account_states.proofs.Asking.{AskedOver}
 use Rattle.cap_account_states.proofs.Cutting.{cut-all, one-is}
 use Rattle.cap_account_states.proofs.Cutting as cutting
@@ -76,11 +76,40 @@ abbrev pub WantedNear :
 WantedNear sc P v env asked y =
     (w : Valuation) → Alike P v w → (X : Valuation) → Means sc w env X → Wants X asked y
 
+-- the same, of this term
+abbrev pub asked_of : Asked → Linear → Asked
+asked_of One t = One
+asked_of (Share x) t = Share (Is t)
+asked_of (Src x) t = Src (Is t)
+asked_of (Tok x) t = Tok (Is t)
+asked_of (At x) t = At (Is t)
+asked_of (From x) t = From (Is t)
+
+-- how much a form is, or where it begins
+abbrev pub first_term : Form → Linear
+first_term form.One = zero_value
+first_term (form.Share t) = t
+first_term (form.Src t) = t
+first_term (form.Tok t) = t
+first_term (form.Span a e) = a
+
+-- what a slot that is open stands for: a new variable where it is an amount
+abbrev pub open_term : Asked → Form → ℕ → Linear
+open_term (Share x) f n = variable n
+open_term asked f n = first_term f
+
+-- where the slot is open, that is what is taken
+abbrev pub OpenGets : Valuation → Asked → Reading → Linear → Element → Type 0
+OpenGets v asked (open_to o) t y = Wants v (asked_of asked t) y
+OpenGets v asked r t y = Unit {0}
+
 -- a cut leaves the state but for an environment; the form is what is asked, at all values of the
 -- names, and what stays
 pub record CutOk (ks : List ℕ) (sc : Scope) (v : Valuation) (s : PlainState) (env : PlainEnv)
     (asked : Asked) (f : Form) (P : Cut → Type 0) : Type 0 where
   pub later : PlainEnv
+  pub later_is :
+      later ≡ met_env env (reading env (asked_slot asked)) (open_term asked f (length s.sorts))
   pub left : List Form
   pub placed : Placed ks sc s.sorts later
   pub stays : Stays sc env later
@@ -94,6 +123,7 @@ pub record CutOk (ks : List ℕ) (sc : Scope) (v : Valuation) (s : PlainState) (
       × WantedNear sc (Old s) v later asked y
       × ((b : PlainAlgebra) → Takes b f → IsElement b y)
       × Cuts v own y left
+      × OpenGets v asked (reading env (asked_slot asked)) (open_term asked f (length s.sorts)) y
   pub comes : P (cut later s left)
 
 -- ---- slots
@@ -256,10 +286,14 @@ module _ (ks : List ℕ) (sc : Scope) (v : Valuation) (s : PlainState) (me : Mee
       ((b : PlainAlgebra) → Takes b f → AllByRecursion (Takes b) left) →
       ((own : Element) → IsFormElement v f own → (y : Element) ×
       WantedNear sc (Old s) v env asked y ×
-      ((b : PlainAlgebra) → Takes b f → IsElement b y) × Cuts v own y left) →
-      P (cut env s left) → CutOk ks sc v s env asked f P
-  kept asked f left lo t g c = record {
+      ((b : PlainAlgebra) → Takes b f → IsElement b y) × Cuts v own y left
+      × OpenGets v asked (reading env (asked_slot asked)) (open_term asked f (length s.sorts)) y) →
+      P (cut env s left) →
+      env ≡ met_env env (reading env (asked_slot asked)) (open_term asked f (length s.sorts)) →
+      CutOk ks sc v s env asked f P
+  kept asked f left lo t g c is = record {
     later = env;
+    later_is = is;
     left = left;
     placed = pl;
     stays = λ x o i t h. h;
@@ -271,6 +305,27 @@ module _ (ks : List ℕ) (sc : Scope) (v : Valuation) (s : PlainState) (me : Mee
     comes = c;
   }
 
+  settled-stays :
+      (asked : Asked) (t : Linear) → reading env (asked_slot asked) ≡ settled t → (m : Linear) →
+      env ≡ met_env env (reading env (asked_slot asked)) m
+  settled-stays asked t e m = ap (λ r. met_env env r m) (sym e)
+
+  open-binds :
+      (asked : Asked) (o : Option ℕ) → reading env (asked_slot asked) ≡ open_to o → (m : Linear) →
+      bind_open env o m ≡ met_env env (reading env (asked_slot asked)) m
+  open-binds asked o e m = ap (λ r. met_env env r m) (sym e)
+
+  settled-gets :
+      (asked : Asked) (t : Linear) → reading env (asked_slot asked) ≡ settled t → (m : Linear)
+      (y : Element) → OpenGets v asked (reading env (asked_slot asked)) m y
+  settled-gets asked t e m y = subst (λ r. OpenGets v asked r m y) (sym e) tt
+
+  open-gets :
+      (asked : Asked) (o : Option ℕ) → reading env (asked_slot asked) ≡ open_to o → (m : Linear)
+      (y : Element) → Wants v (asked_of asked m) y →
+      OpenGets v asked (reading env (asked_slot asked)) m y
+  open-gets asked o e m y h = subst (λ r. OpenGets v asked r m y) (sym e) h
+
   -- the slot is open to a term: its name is bound, and these forms stay
   bound-left :
       (x : Slot) (y : Option ℕ) (m : Linear) (asked : Asked) (f : Form) (left : List Form) →
@@ -281,14 +336,19 @@ module _ (ks : List ℕ) (sc : Scope) (v : Valuation) (s : PlainState) (me : Mee
       ((w : Valuation) → Alike (Old s) v w → (X : Valuation) → Means sc w later X →
       SlotIs X x (value v.whole m)) → (own : Element) → IsFormElement v f own → (w : Element) ×
       WantedNear sc (Old s) v later asked w ×
-      ((b : PlainAlgebra) → Takes b f → IsElement b w) × Cuts v own w left) →
-      P (cut (bind_open env y m) s left) → CutOk ks sc v s env asked f P
-  bound-left x y m asked f left e h o lo t g c =
+      ((b : PlainAlgebra) → Takes b f → IsElement b w) × Cuts v own w left
+      × OpenGets v asked (reading env (asked_slot asked)) (open_term asked f (length s.sorts)) w) →
+      P (cut (bind_open env y m) s left) →
+      bind_open env y m
+      ≡ met_env env (reading env (asked_slot asked)) (open_term asked f (length s.sorts)) →
+      CutOk ks sc v s env asked f P
+  bound-left x y m asked f left e h o lo t g c is =
       let k = matching ks sc v s env x m (λ later. later ≡ bind_open env y m) me pl h o
       (subst (λ r. Comes (match_reading s.rows env m r) (λ later. later ≡ bind_open env y m))
       (sym e) (tt, refl)) in
       record {
         later = k.later;
+        later_is = k.comes ∙ is;
         left = left;
         placed = k.placed;
         stays = k.stays;
@@ -307,9 +367,13 @@ module _ (ks : List ℕ) (sc : Scope) (v : Valuation) (s : PlainState) (me : Mee
       ((w : Valuation) → Alike (Old s) v w → (X : Valuation) → Means sc w later X →
       SlotIs X x (value v.whole m)) → (own : Element) → IsFormElement v f own → (w : Element) ×
       WantedNear sc (Old s) v later asked w ×
-      ((b : PlainAlgebra) → Takes b f → IsElement b w) × Cuts v own w []) →
-      P (cut (bind_open env y m) s []) → CutOk ks sc v s env asked f P
-  bound-to x y m asked f e h o g c = bound-left x y m asked f [] e h o tt (λ b tk. tt) g c
+      ((b : PlainAlgebra) → Takes b f → IsElement b w) × Cuts v own w []
+      × OpenGets v asked (reading env (asked_slot asked)) (open_term asked f (length s.sorts)) w) →
+      P (cut (bind_open env y m) s []) →
+      bind_open env y m
+      ≡ met_env env (reading env (asked_slot asked)) (open_term asked f (length s.sorts)) →
+      CutOk ks sc v s env asked f P
+  bound-to x y m asked f e h o g c is = bound-left x y m asked f [] e h o tt (λ b tk. tt) g c is
 
   -- a settled slot has its value at all alike values
   old-over : (o : Sort) (t : Linear) → Over (Usable ks s.sorts o) t → Over (Old s) t
@@ -356,7 +420,8 @@ module _ (ks : List ℕ) (sc : Scope) (v : Valuation) (s : PlainState) (me : Mee
             (wanted-share x t i w.0 w.1 (w.2 ∙ ap (λ z. z *ℤ pos w.0.den) eq)),
         (λ b tk. shared b a own (subst (IsElement divisible) (sym w.3) w.1) tk),
         cut-all v own,
-      )) k2.1.1
+        settled-gets (Share x) t e (variable (length s.sorts)) own,
+      )) k2.1.1 (settled-stays (Share x) t e (variable (length s.sorts)))
   share-cut x a (suc zero) (settled t) e op h o c =
       let i = settled-slot ks sc s env x Perm t pl h e in
       let u = term_in env t in
@@ -382,7 +447,8 @@ module _ (ks : List ℕ) (sc : Scope) (v : Valuation) (s : PlainState) (me : Mee
         wanted-share x t i k.0 k.1 k.2,
         (λ b tk. shared b a (share k.0) k.1 tk),
         subst (λ z. Cuts v z (share k.0) (form.Share (minus a u) ∷ [])) (sym w.3) k.3,
-      )) k4.1
+        settled-gets (Share x) t e (variable (length s.sorts)) (share k.0),
+      )) k4.1 (settled-stays (Share x) t e (variable (length s.sorts)))
   share-cut x a (suc (suc way)) (settled t) e op h o c = absurd c.1
   share-cut x a way (open_to y) e op h o c = absurd (cc)
   share-cut x a zero stuck e op h o c = absurd c.1
@@ -399,7 +465,8 @@ module _ (ks : List ℕ) (sc : Scope) (v : Valuation) (s : PlainState) (me : Mee
         (λ y l X n. (w.0, subst (SlotIs X x) w.1 (means y l X n), w.2)),
         (λ b tk. counted b m own (subst (IsElement counting) (sym w.2) tt) tk),
         cut-all v own,
-      )) c.1
+        open-gets (Src x) y e m own (w.0, w.1, w.2),
+      )) c.1 (open-binds (Src x) y e m)
   source-cut x m zero (settled t) e h o c =
       let i = settled-slot ks sc s env x Int t pl h e in
       let u = term_in env t in
@@ -413,7 +480,8 @@ module _ (ks : List ℕ) (sc : Scope) (v : Valuation) (s : PlainState) (me : Mee
         (λ y l X n. (w.0, wanted-slot x t i (pos w.0) (sym eq ∙ w.1) y l X n, w.2)),
         (λ b tk. counted b m own (subst (IsElement counting) (sym w.2) tt) tk),
         cut-all v own,
-      )) k2.1.1
+        settled-gets (Src x) t e m own,
+      )) k2.1.1 (settled-stays (Src x) t e m)
   source-cut x m (suc zero) (settled t) e h o c =
       let i = settled-slot ks sc s env x Int t pl h e in
       let u = term_in env t in
@@ -433,7 +501,8 @@ module _ (ks : List ℕ) (sc : Scope) (v : Valuation) (s : PlainState) (me : Mee
         (λ y l X n. (k.0, wanted-slot x t i (pos k.0) k.1 y l X n, refl)),
         (λ b tk. counted b m (src k.0) tt tk),
         subst (λ z. Cuts v z (src k.0) (form.Tok (minus u m) ∷ [])) (sym w.2) k.2,
-      )) k3.1
+        settled-gets (Src x) t e m (src k.0),
+      )) k3.1 (settled-stays (Src x) t e m)
   source-cut x m (suc zero) (open_to y) e h o c = absurd c.1
   source-cut x m (suc (suc way)) (settled t) e h o c = absurd c.1
   source-cut x m (suc (suc way)) (open_to y) e h o c = absurd c.1
@@ -451,7 +520,8 @@ module _ (ks : List ℕ) (sc : Scope) (v : Valuation) (s : PlainState) (me : Mee
         (λ y l X n. (w.0, subst (SlotIs X x) w.1 (means y l X n), w.2)),
         (λ b tk. counted-too b m own (subst (IsElement counting) (sym w.2) (tokens-is w.0)) tk),
         cut-all v own,
-      )) c.1
+        open-gets (Tok x) y e m own (w.0, w.1, w.2),
+      )) c.1 (open-binds (Tok x) y e m)
   tokens-cut x m zero (settled t) e h o c =
       let i = settled-slot ks sc s env x Int t pl h e in
       let u = term_in env t in
@@ -465,7 +535,8 @@ module _ (ks : List ℕ) (sc : Scope) (v : Valuation) (s : PlainState) (me : Mee
         (λ y l X n. (w.0, wanted-slot x t i (pos w.0) (sym eq ∙ w.1) y l X n, w.2)),
         (λ b tk. counted-too b m own (subst (IsElement counting) (sym w.2) (tokens-is w.0)) tk),
         cut-all v own,
-      )) k2.1.1
+        settled-gets (Tok x) t e m own,
+      )) k2.1.1 (settled-stays (Tok x) t e m)
   tokens-cut x m (suc zero) (settled t) e h o c =
       let i = settled-slot ks sc s env x Int t pl h e in
       let u = term_in env t in
@@ -489,7 +560,8 @@ module _ (ks : List ℕ) (sc : Scope) (v : Valuation) (s : PlainState) (me : Mee
         (λ y l X n. (k.0, wanted-slot x t i (pos k.0) k.1 y l X n, refl)),
         (λ b tk. counted-too b m (tokens k.0) (tokens-is k.0) tk),
         subst (λ z. Cuts v z (tokens k.0) (form.Tok (minus m u) ∷ [])) (sym w.2) k.2,
-      )) k4.1
+        settled-gets (Tok x) t e m (tokens k.0),
+      )) k4.1 (settled-stays (Tok x) t e m)
   tokens-cut x m (suc zero) (open_to y) e h o c = absurd c.1
   tokens-cut x m (suc (suc way)) (settled t) e h o c = absurd c.1
   tokens-cut x m (suc (suc way)) (open_to y) e h o c = absurd c.1
@@ -519,7 +591,8 @@ module _ (ks : List ℕ) (sc : Scope) (v : Valuation) (s : PlainState) (me : Mee
         (λ y l X n. (k.0, wanted-slot x t i (pos k.0) k.1 y l X n, refl)),
         (λ b tk. counted b m (tokens k.0) (tokens-is k.0) tk),
         subst (λ z. Cuts v z (tokens k.0) (form.Src (plus m u) ∷ [])) (sym w.2) k.2,
-      )) k3.1
+        settled-gets (Tok x) t e m (tokens k.0),
+      )) k3.1 (settled-stays (Tok x) t e m)
   new-tokens-cut x m zero (settled t) e h o c = absurd c.1
   new-tokens-cut x m (suc (suc way)) (settled t) e h o c = absurd c.1
   new-tokens-cut x m zero (open_to y) e h o c = absurd c.1
@@ -591,7 +664,8 @@ module _ (ks : List ℕ) (sc : Scope) (v : Valuation) (s : PlainState) (me : Mee
         (λ y l X n. (k.0, wanted-slot x t i (pos k.0) k.1 y l X n, refl)),
         (λ b tk. spanned b a e (indices (one_index k.0)) (single-element k.0) tk),
         k.2,
-      )) k5.1.1
+        settled-gets (At x) t q a (indices (one_index k.0)),
+      )) k5.1.1 (settled-stays (At x) t q a)
 
   -- the first index of a span
   first-cut :
@@ -615,7 +689,8 @@ module _ (ks : List ℕ) (sc : Scope) (v : Valuation) (s : PlainState) (me : Mee
         (λ z l X n. (k.0, subst (SlotIs X x) k.1 (means z l X n), refl)),
         (λ b tk. spanned b a e (indices (one_index k.0)) (single-element k.0) tk),
         k.2,
-      )) k4.1.1
+        open-gets (At x) y q a (indices (one_index k.0)) (k.0, k.1, refl),
+      )) k4.1.1 (open-binds (At x) y q a)
 
   index-cut :
       (x : Slot) (a : Linear) (e : Option Linear) (way : ℕ) (r : Reading) → reading env x ≡ r →
@@ -643,7 +718,8 @@ module _ (ks : List ℕ) (sc : Scope) (v : Valuation) (s : PlainState) (me : Mee
         (λ b tk. spanned b a (Some e) own
             (subst (IsElement indexed) (sym one.2) (single-element one.0)) tk),
         cut-all v own,
-      )) k4.1.1
+        settled-gets (At x) t q a own,
+      )) k4.1.1 (settled-stays (At x) t q a)
   index-cut x a None (suc zero) (settled t) q h o c = inner-cut x a None t q h o c
   index-cut x a (Some e) (suc zero) (settled t) q h o c = inner-cut x a (Some e) t q h o c
   index-cut x a None (suc zero) (open_to y) q h o c = first-cut x a None y q h o c
@@ -673,7 +749,8 @@ module _ (ks : List ℕ) (sc : Scope) (v : Valuation) (s : PlainState) (me : Mee
         (λ b tk. spanned b a None own
             (subst (IsElement indexed) (sym w.2) (onwards-element w.0)) tk),
         cut-all v own,
-      )) c.1
+        open-gets (From x) y q a own (w.0, w.1, w.2),
+      )) c.1 (open-binds (From x) y q a)
   onwards-cut x a zero (settled t) q h o c =
       let i = settled-slot ks sc s env x Int t pl h q in
       let u = term_in env t in
@@ -688,7 +765,8 @@ module _ (ks : List ℕ) (sc : Scope) (v : Valuation) (s : PlainState) (me : Mee
         (λ b tk. spanned b a None own
             (subst (IsElement indexed) (sym w.2) (onwards-element w.0)) tk),
         cut-all v own,
-      )) k2.1.1
+        settled-gets (From x) t q a own,
+      )) k2.1.1 (settled-stays (From x) t q a)
   onwards-cut x a (suc zero) (settled t) q h o c =
       let i = settled-slot ks sc s env x Int t pl h q in
       let u = term_in env t in
@@ -706,7 +784,8 @@ module _ (ks : List ℕ) (sc : Scope) (v : Valuation) (s : PlainState) (me : Mee
         (λ y l X n. (k.0, wanted-slot x t i (pos k.0) k.1 y l X n, refl)),
         (λ b tk. spanned b a None (indices (indices_from k.0)) (onwards-element k.0) tk),
         k.2,
-      )) k2.1.1
+        settled-gets (From x) t q a (indices (indices_from k.0)),
+      )) k2.1.1 (settled-stays (From x) t q a)
   onwards-cut x a (suc zero) (open_to y) q h o c = absurd c.1
   onwards-cut x a zero stuck q h o c = absurd c.1
   onwards-cut x a (suc zero) stuck q h o c = absurd c.1
@@ -725,7 +804,8 @@ module _ (ks : List ℕ) (sc : Scope) (v : Valuation) (s : PlainState) (me : Mee
         (λ y l X m. w),
         (λ b tk. subst (IsElement b) (sym w) (alone b tk)),
         cut-all v own,
-      )) c.1
+        w,
+      )) c.1 refl
   form-cut One form.One (suc way) h o op c = absurd c.1
   form-cut (Share x) (form.Share a) way h o op c = share-cut x a way (reading env x) refl op h o c
   form-cut (Src x) (form.Src m) way h o op c = source-cut x m way (reading env x) refl h o c

@@ -19,7 +19,7 @@ use Rattle.cap_prog.specs.Program.{PlainProgram}
 use Rattle.cap_prog.specs.Scopes.{Scope, HasSort, SlotFits}
 use Rattle.cap_machine_accounts.specs.Parts.{algebra_of}
 use Rattle.cap_goal_spec.specs.States.{PlainEnv, PlainState, PlainGoal}
-use Rattle.cap_goal_spec.specs.Environments.{Reading, settled, stuck, term_of, reading, open_to, bind_open, zero_value, term_in}
+use Rattle.cap_goal_spec.specs.Environments.{Reading, settled, stuck, term_of, reading, asked_slot, open_to, bind_open, zero_value, term_in}
 use Rattle.cap_rules.specs.Attempts.{Attempt, ◌>>=◌, need, found}
 use Rattle.cap_rules.specs.Making.{prove_equal, env_at, fresh, determined_slot}
 use Rattle.cap_rules.specs.Taking.{Cut, cut, cut_form, after_cut, with_form, cut_share}
@@ -41,13 +41,13 @@ use Rattle.cap_account_resources.proofs.Lists.{all-at, all-both}
 use Rattle.cap_account_states.proofs.Attempts.{comes-bind, after-found, after-need, after-proved, after-determined}
 use Rattle.cap_account_states.proofs.Meets.{Usable, usable-on, Meets, Free, Old, Same, same-state, usable-old}
 use Rattle.cap_account_states.proofs.Naming.{Placed, Means, Stays, bound-of, term-over, term-number}
-use Rattle.cap_account_states.proofs.Matching.{Outside}
+use Rattle.cap_account_states.proofs.Matching.{Outside, met_env}
 use Rattle.cap_account_states.proofs.Asking.{AskedOver}
 use Rattle.cap_account_resources.proofs.Marks.{Mark, free}
 use Rattle.cap_account_resources.proofs.Covering.{mark, Covered}
 use Rattle.cap_account_states.proofs.Pieces.{AllFit, left_pieces, CutAt, cut-away, cut-here, all-take, all-drop}
 use Rattle.cap_account_states.proofs.Adding.{PieceOver}
-use Rattle.cap_account_states.proofs.Guarding.{WantedNear, is_open, is_open_reading, form-cut, proved-relates, FormOver, share-takes}
+use Rattle.cap_account_states.proofs.Guarding.{WantedNear, open_term, OpenGets, is_open, is_open_reading, form-cut, proved-relates, FormOver, share-takes}
 
 -- the guard is taken at alike values, over a multiple of the denominator, in a state that goes on
 -- with the same cells, pieces and environments; it is of the region that is asked, and wanted, at
@@ -68,6 +68,10 @@ pub record GuardTaken (p : PlainProgram) (ks : List ℕ) (sc : Scope) (v : Valua
   pub of_kind : piece.kind ≡ k
   pub of_atom : piece.atom ≡ i
   pub later : PlainEnv
+  pub later_is :
+      later
+      ≡ met_env (env_at s r.env) (reading (env_at s r.env) (asked_slot asked))
+      (open_term asked piece.form (length s.sorts))
   pub left : List Form
   pub placed : Placed ks sc after.sorts later
   pub stays : Stays sc (env_at s r.env) later
@@ -78,6 +82,9 @@ pub record GuardTaken (p : PlainProgram) (ks : List ℕ) (sc : Scope) (v : Valua
       X.whole n ≡ region_of w piece
   pub taken : Element
   pub wanted : WantedNear sc (Old after) w later asked taken
+  pub gets :
+      OpenGets w asked (reading (env_at s r.env) (asked_slot asked))
+      (open_term asked piece.form (length s.sorts)) taken
   pub is_element : IsElement (atom_algebra (algebra_of p piece.kind) piece.atom) taken
   pub pieces_over :
       AllByRecursion (PieceOver (Usable ks after.sorts)) (left_pieces s.guards j piece left)
@@ -187,6 +194,7 @@ closed-taken p ks sc v s j way n k i asked r held P me ov fit cover pl hn ao op 
       of_kind = (kinds (q.kind) k (q.atom) i k2.0).0;
       of_atom = (kinds (q.kind) k (q.atom) i k2.0).1;
       later = g.later;
+      later_is = g.later_is;
       left = g.left;
       placed = g.placed;
       stays = g.stays;
@@ -197,6 +205,7 @@ closed-taken p ks sc v s j way n k i asked r held P me ov fit cover pl hn ao op 
           (m.whole n hn t (g.stays n Int hn t k3.1));
       taken = u.0;
       wanted = u.1;
+      gets = u.4;
       is_element = el;
       pieces_over = left-over (Usable ks s.sorts) s.guards j q g.left ov o.0 g.left_over;
       fit = left-fits p s.guards j q g.left fit lf;
@@ -300,6 +309,7 @@ open-taken p ks sc v s j way n k i x y r held P me apart ov fit cover pl hn ao o
       of_kind = (kinds (q.kind) k (q.atom) i k2.0).0;
       of_atom = (kinds (q.kind) k (q.atom) i k2.0).1;
       later = bind_open env y (fresh s);
+      later_is = ap (λ d. met_env env d (fresh s)) (sym op);
       left = left;
       placed = b.placed;
       stays = b.stays;
@@ -311,6 +321,7 @@ open-taken p ks sc v s j way n k i x y r held P me apart ov fit cover pl hn ao o
           (m.whole n hn t (b.stays n Int hn t k3.1));
       taken = ho.taken;
       wanted = ho.wanted;
+      gets = subst (λ d. OpenGets w (Share x) d (fresh s) ho.taken) (sym op) ho.gets;
       is_element = el;
       pieces_over = left-over S s.guards j q left
           (pieces-more (Usable ks s.sorts) S more s.guards ov)

@@ -36,7 +36,7 @@ use Rattle.cap_account_states.proofs.Matching.{Outside, lone-is}
 use Rattle.cap_account_states.proofs.Values.{scaled, meets-scaled, scaled-amount}
 use Rattle.cap_account_states.proofs.Brought.{Brought, a_half}
 use Rattle.cap_account_states.proofs.Alike.{Alike, scaled-agree-alike, meets-fresh}
-use Rattle.cap_account_states.proofs.Wants.{AmountIs, value-of-alike, share-wants}
+use Rattle.cap_account_states.proofs.Wants.{AmountIs, Wants, value-of-alike, share-wants}
 use Rattle.cap_account_states.proofs.Guarding.{WantedNear, shared}
 use Rattle.cap_gsolve.proofs.CutSpans.{Cuts}
 use Rattle.cap_account_states.proofs.Cutting.{cut-share}
@@ -163,6 +163,7 @@ pub record HalfOk (ks : List ℕ) (sc : Scope) (v : Valuation) (s : PlainState) 
   pub is_element : (b : PlainAlgebra) → Takes b (form.Share a) → IsElement b taken
   pub left_over : Over (Usable ks (half_state s a).sorts Perm) (minus a (fresh s))
   pub cuts : Cuts (halved v (length s.sorts) a) own taken (form.Share (minus a (fresh s)) ∷ [])
+  pub gets : Wants (halved v (length s.sorts) a) (Share (Is (fresh s))) taken
   pub brought : Brought s (half_state s a) (halved v (length s.sorts) a) (a_half a ∷ [])
   pub comes :
       P (cut (bind_open env y (fresh s)) (half_state s a) (form.Share (minus a (fresh s)) ∷ []))
@@ -230,6 +231,7 @@ half-cut ks sc v s env slot y a own P me free pl h o e i c =
       left_over = over-minus (Usable ks s1.sorts Perm) a (fresh s) a1 new;
       is_element = λ l tk. shared l a (share k.0) k.1 tk;
       cuts = subst (λ z. Cuts w z (share k.0) (form.Share (minus a (fresh s)) ∷ [])) (sym i.3) k.3;
+      gets = share-wants w w (Is (fresh s)) (fresh s) k.0 refl refl k.1 k.2;
       brought =
           let up = variable-amount w n in
           let all = hf.whole in

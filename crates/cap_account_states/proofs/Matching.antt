@@ -15,7 +15,7 @@ use Rattle.cap_prog.specs.Scopes.{Scope, HasSort, SlotFits}
 use Rattle.cap_machine_accounts.specs.Assertions.{SlotIs}
 use Rattle.cap_goal_spec.specs.Terms.{lone_part, lone_variable}
 use Rattle.cap_goal_spec.specs.States.{PlainEnv, PlainState}
-use Rattle.cap_goal_spec.specs.Environments.{term_of, is_determined, term_in, term_in_steps, with_name, settled, read_name}
+use Rattle.cap_goal_spec.specs.Environments.{term_of, is_determined, term_in, term_in_steps, with_name, Reading, settled, open_to, read_name, reading, bind_open}
 use Rattle.cap_rules.specs.Attempts.{unit, ◌>>=◌, prove_that}
 use Rattle.cap_rules.specs.Making.{match_reading, match_slot}
 use Rattle.cap_account_states.proofs.Alike.{usable-alike, Alike}
@@ -31,11 +31,17 @@ use Rattle.cap_account_states.proofs.Naming.{Placed, Means, Stays, term-same, te
 abbrev pub Outside : Scope → PlainEnv → PlainEnv → Type 0
 Outside sc env env' = (x : ℕ) → ((o : Sort) → HasSort sc o x → ⊥) → term_of env' x ≡ term_of env x
 
+-- the environment once a slot is met by a term
+abbrev pub met_env : PlainEnv → Reading → Linear → PlainEnv
+met_env env (open_to o) t = bind_open env o t
+met_env env r t = env
+
 -- a slot is matched with a term, in this environment from then on; it is the term's value whenever
 -- the variables' values are alike to these
 pub record Matching (ks : List ℕ) (sc : Scope) (sorts : List Sort) (v : Valuation) (env : PlainEnv)
     (x : Slot) (t : Linear) (P : PlainEnv → Type 0) : Type 0 where
   pub later : PlainEnv
+  pub later_is : later ≡ met_env env (reading env x) t
   pub placed : Placed ks sc sorts later
   pub stays : Stays sc env later
   pub outside : Outside sc env later
@@ -89,6 +95,7 @@ pub matching :
     Matching ks sc s.sorts v env x t P
 matching ks sc v s env Any t P me pl h o c = record {
   later = env;
+  later_is = refl;
   placed = pl;
   stays = λ x o i u e. e;
   outside = λ x n. refl;
@@ -109,6 +116,9 @@ matching ks sc v s env (Is u) t P me pl h o c = by_test (is_determined env u) re
         (ap (λ ps. list_all (λ p. is_some (term_of env p.0)) ps) (sym parts) ∙ d) in
         record {
           later = with_name env x t;
+          later_is =
+              sym (ap (λ b. met_env env (if b then settled u else read_name (lone_variable u)) t) d
+              ∙ ap (λ y. met_env env (read_name y) t) l);
           placed =
               placed-set ks sc s.sorts env x t
               (λ p j. subst (λ y. Over (Usable ks s.sorts y) t)
@@ -144,6 +154,9 @@ matching ks sc v s env (Is u) t P me pl h o c = by_test (is_determined env u) re
         (row_of-means v (term_in env u) Equal t Int).0 holds in
         record {
           later = env;
+          later_is =
+              sym (ap (λ b. met_env env (if b then settled u else read_name (lone_variable u)) t)
+              d);
           placed = pl;
           stays = λ x o i u e. e;
           outside = λ x n. refl;
