@@ -1,0 +1,151 @@
+-- A walk over a Take: items are taken one after the other, and regions are created. It comes to the
+-- goals to which taking leads, at the values at which the state holds there; on top of what is taken
+-- is then by what the items are met, and what they own.
+use Rattle.std.proofs.Common.{◌≡◌, ◌⊎◌, ℕ, ◌+◌, ◌-◌, ◌≤◌, ℤ, ◌<ℤ◌, true, List, ◌∷◌, ◌++◌, Some}
+use Rattle.std.specs.Prelude.{slice_get, IsSomeAnd}
+use Rattle.std.specs.List.{AllByRecursion, AllZip}
+use Rattle.cap_lin.specs.Linear.{Linear}
+use Rattle.cap_lin.specs.Values.{Valuation}
+use Rattle.cap_lin.specs.declared.row.Sort.{Sort}
+use Rattle.cap_lin.specs.declared.row.Sort.TheVariants.{Int}
+use Rattle.cap_prog.specs.Program.{PlainProgram}
+use Rattle.cap_goal_spec.specs.Terms.{lone_variable}
+use Rattle.cap_goal_spec.specs.States.{PlainEnv, PlainState, goals_of}
+use Rattle.cap_goal_spec.specs.Environments.{term_of}
+use Rattle.cap_goal_spec.specs.Choices.{PlainTrees}
+use Rattle.cap_rules.specs.Making.{env_at}
+use Rattle.cap_machine.specs.Machine.{Heap}
+use Rattle.cap_machine_accounts.specs.Parts.{Part}
+use Rattle.cap_machine_accounts.specs.Assertions.{NameValue, HasNameSort}
+use Rattle.cap_account_resources.specs.Parts.{cells_of, Table}
+use Rattle.cap_account_resources.proofs.Interference.{Holding, ArePartOf}
+use Rattle.cap_account_resources.proofs.Stocks.{Stock, both}
+use Rattle.cap_account_resources.proofs.Owners.{Owner}
+use Rattle.cap_account_states.specs.Nodes.{Open}
+use Rattle.cap_account_states.proofs.Alike.{Alike}
+use Rattle.cap_account_states.proofs.Checked.{Checked}
+use Rattle.cap_account_states.proofs.Meets.{Old}
+use Rattle.cap_account_states.proofs.Naming.{Means, values_in}
+use Rattle.cap_account_states.proofs.Terms.{Over}
+use Rattle.cap_account_assertions.proofs.Asserted.{OwnsCase}
+use Rattle.cap_account_assertions.proofs.Laws.{Creation}
+use Rattle.cap_account_assertions.proofs.TreeSizes.{trees_size}
+use Rattle.cap_account_assertions.proofs.TakeSteps.{Job, tasks_of, TakeStart, Took}
+use Rattle.cap_account.proofs.Stocked.{part_stock}
+use Rattle.cap_owners_spec.specs.Traced.{Traced, past_width, over, valuation}
+use Rattle.cap_owners_spec.specs.Track.{TrackedRegion}
+use Rattle.cap_owners_spec.specs.Walks.{Taking, Walk, no_items, Interpreting, Halt}
+use Rattle.cap_owners_fills_laws.proofs.Drawn.{items_met, items_told, IsMetBy}
+use Rattle.cap_owners_passes_laws.proofs.Rests.{into}
+
+-- ---- names
+
+-- a name stands for a variable alone, or for a whole number
+abbrev pub IsNameTerm : List Sort → Linear → Type 0
+IsNameTerm sorts t =
+    IsSomeAnd (lone_variable t) (λ x. Unit {0}) ⊎ Over (λ x. slice_get sorts x ≡ Some Int) t
+
+abbrev pub AreNameTerms : List Sort → PlainEnv → Type 0
+AreNameTerms sorts env =
+    (x : ℕ) (t : Linear) → term_of env x ≡ Some t → IsNameTerm sorts t
+
+-- ---- regions that are created
+
+abbrev pub owner_of : TrackedRegion → Owner
+owner_of r = record {
+  number = r.owned.region.number;
+  kind = r.owned.region.kind;
+  args = r.owned.region.args;
+  state = r.owned.region.state;
+  stock = part_stock r.owned.part;
+}
+
+-- a region that was created has its case by what the track says
+pub record IsTracked (p : PlainProgram) (U : Table) (c : Creation) (r : TrackedRegion) : Type 0
+  where
+    pub owner : c.owner ≡ owner_of r
+    pub number : c.number ≡ r.case
+    pub own : OwnsCase p U (owner_of r) r.case (valuation r.fill.names)
+    pub met :
+        IsMetBy p U own.0.values own.0.case.items (part_stock r.owned.part) own.0.met.0 own.0.met.1
+        r.fill
+
+-- all numbers are below this one
+abbrev pub AreBelow : ℤ → List TrackedRegion → Type 0
+AreBelow next rs = AllByRecursion (λ r. r.owned.region.number <ℤ next) rs
+
+-- ---- what is taken
+
+module _ (p : Checked) (ks : List ℕ) where
+  -- what it starts from, beside soundness's start, at these values and with so much taken already
+  pub record TakesFrom (T : Table) (next : ℤ) (lim : Holding) (j : Job) (vs : List NameValue)
+      (v : Valuation) (s : PlainState) (c : Stock) (q : Part) : Type 0 where
+    pub start : TakeStart p.program ks T next lim j v s c
+    pub valued : v ≡ valuation vs
+    pub sorted : AllZip HasNameSort s.sorts vs
+    pub terms : AreNameTerms s.sorts (env_at s j.env)
+    pub heap : Heap
+    pub cells : (a z : ℤ) → cells_of q.cells a z + c.cells a z ≤ cells_of heap a z
+    pub guards : ArePartOf p.program (both p.program (part_stock q) c).guards lim
+
+  -- a walk that is to take these items, with what is taken on top
+  abbrev pub taking_from : ℤ → List NameValue → Taking → List Taking → Walk → Walk
+  taking_from next vs top rest w = record w { values = vs; next = next; taken = top ∷ rest }
+
+  abbrev pub Taking_into :
+      Interpreting → Job → PlainTrees → PlainState → Walk → Traced Halt
+  Taking_into enter j trees s w = into enter p.program trees (goals_of s (tasks_of j)) w
+
+  -- a number on the way is too wide
+  abbrev pub IsTooWide :
+      ℤ → Job → PlainTrees → List NameValue → PlainState → Taking → Type 0
+  IsTooWide next j trees vs s top =
+      (enter : Interpreting) (w : Walk) (rest : List Taking) → AreBelow next w.regions →
+      Taking_into enter j trees s (taking_from next vs top rest w) ≡ past_width
+
+  -- The items are taken so, by soundness's law, at these values. What is on top then is by what they
+  -- are met, at all values alike to these, and what they own; where there are none its names stay as
+  -- they are. Each region that was created stands behind the walk's, as it is tracked.
+  pub record TakesTo (T : Table) (next : ℤ) (j : Job) (trees : PlainTrees) (vs : List NameValue)
+      (v : Valuation) (s : PlainState) (c : Stock) (top : Taking) (most_trees : ℕ) : Type 0 where
+    pub took : Took p ks T next j v s c most_trees
+    pub values : List NameValue
+    pub valued : took.w ≡ valuation values
+    pub sorted : AllZip HasNameSort took.after.sorts values
+    pub terms : AreNameTerms took.after.sorts (env_at took.after j.env)
+    pub taken : Taking
+    pub names :
+        (no_items j.items ≡ true → values_in v (env_at s j.env) ≡ valuation top.fill.names) →
+        values_in took.w (env_at took.after j.env) ≡ valuation taken.fill.names
+    pub wildcards : List NameValue
+    pub facts : List (ℤ × ℤ)
+    pub more_wildcards : taken.fill.wildcards ≡ top.fill.wildcards ++ wildcards
+    pub more_facts : taken.fill.facts ≡ top.fill.facts ++ facts
+    pub met :
+        (x : Valuation) (l : Alike (Old took.after) took.w x) (a : Valuation)
+        (m : Means j.scope x (env_at took.after j.env) a) (r : Stock) →
+        a.fraction.under ≡ over - 1 →
+        (items_met p.program took.U a j.items (both p.program took.given r) r
+        (took.draws x l a m r) ≡ wildcards)
+        × (items_told p.program took.U a j.items (both p.program took.given r) r
+        (took.draws x l a m r) ≡ facts)
+    pub part : part_stock taken.part ≡ both p.program (part_stock top.part) took.given
+    pub made : List TrackedRegion
+    pub are_made : AllZip (IsTracked p.program took.U) took.created made
+    pub walks :
+        (enter : Interpreting) (w : Walk) (rest : List Taking) → AreBelow next w.regions →
+        Taking_into enter j trees s (taking_from next vs top rest w)
+        ≡ into enter p.program took.children (goals_of took.after j.tasks) (record w {
+          values = values;
+          next = took.later;
+          taken = taken ∷ rest;
+          regions = w.regions ++ made;
+        })
+
+  -- so it is, or a walk is too wide
+  abbrev pub TakesLaw : ℕ → Type 0
+  TakesLaw most_trees =
+      (T : Table) (next : ℤ) (lim : Holding) (j : Job) (trees : PlainTrees) (vs : List NameValue)
+      (v : Valuation) (s : PlainState) (c : Stock) (top : Taking) → trees_size trees ≤ most_trees →
+      Open p.N trees s (tasks_of j) → TakesFrom T next lim j vs v s c top.part →
+      IsTooWide next j trees vs s top ⊎ TakesTo T next j trees vs v s c top most_trees
