@@ -440,7 +440,7 @@ matching-all ks sc v s env (x ∷ xs) (t ∷ ts) P me pl h o c =
       comes = n2.comes;
     }
 
-slots-split :
+pub slots-split :
     (a : Valuation) (xs : List Slot) (x : Slot) (zs : List ℤ) (z : ℤ) →
     SlotsAre a (xs ++ x ∷ []) (zs ++ z ∷ []) → SlotsAre a xs zs × SlotIs a x z
 slots-split a [] x [] z h = (tt, h.0)
@@ -451,7 +451,7 @@ slots-split a (u ∷ w ∷ xs) x [] z h = absurd h.1
 slots-split a (u ∷ xs) x (y ∷ zs) z h = let r = slots-split a xs x zs z h.1 in ((h.0, r.0), r.1)
 
 -- a fact that isn't loose meets the item that it was matched with
-pub fact-meets :
+abbrev pub fact-meets :
     (v : Valuation) (T : Table) (f : PlainFact) (a : Valuation) (r : ℕ) (args : List Slot)
     (x : Slot) → FactHolds v T f → f.loose ≡ false →
     SlotsAre a (Is (variable r) ∷ (args ++ x ∷ []))

@@ -103,6 +103,17 @@ abbrev pub OpenGets : Valuation → Asked → Reading → Linear → Element →
 OpenGets v asked (open_to o) t y = Wants v (asked_of asked t) y
 OpenGets v asked r t y = Unit {0}
 
+-- this can be cut out of such a form
+abbrev pub CutFrom : Asked → Form → Type 0
+CutFrom One form.One = Unit {0}
+CutFrom (Share x) (form.Share a) = Unit {0}
+CutFrom (Src x) (form.Src m) = Unit {0}
+CutFrom (Tok x) (form.Tok m) = Unit {0}
+CutFrom (Tok x) (form.Src m) = Unit {0}
+CutFrom (At x) (form.Span a e) = Unit {0}
+CutFrom (From x) (form.Span a e) = Unit {0}
+CutFrom asked f = ⊥
+
 -- a cut leaves the state but for an environment; the form is what is asked, at all values of the
 -- names, and what stays
 pub record CutOk (ks : List ℕ) (sc : Scope) (v : Valuation) (s : PlainState) (env : PlainEnv)
@@ -792,6 +803,17 @@ module _ (ks : List ℕ) (sc : Scope) (v : Valuation) (s : PlainState) (me : Mee
   onwards-cut x a (suc (suc way)) (settled t) q h o c = absurd c.1
   onwards-cut x a (suc (suc way)) (open_to y) q h o c = absurd c.1
   onwards-cut x a (suc (suc way)) stuck q h o c = absurd c.1
+
+  pub is-cut-from :
+      (asked : Asked) (f : Form) (way : ℕ) → Comes (cut_form s env asked f way) P → CutFrom asked f
+  is-cut-from One form.One way c = tt
+  is-cut-from (Share x) (form.Share a) way c = tt
+  is-cut-from (Src x) (form.Src m) way c = tt
+  is-cut-from (Tok x) (form.Tok m) way c = tt
+  is-cut-from (Tok x) (form.Src m) way c = tt
+  is-cut-from (At x) (form.Span a e) way c = tt
+  is-cut-from (From x) (form.Span a None) way c = tt
+  is-cut-from asked f way c = absurd c.1
 
   pub form-cut :
       (asked : Asked) (f : Form) (way : ℕ) → AskedOver sc asked → FormOver (Usable ks s.sorts) f →

@@ -1,6 +1,6 @@
 -- Rule `guard` at a piece: what is asked is taken, and the pieces that stay are covered by what is
 -- left.
-use Rattle.std.proofs.Common.{subst, ap, arith, ◌≡◌, ◌≢◌, ℕ, ◌+◌, ℤ, true, false, List, [], ◌∷◌, ◌++◌, map, take, drop, length, Option, Some, sym, ◌∙◌, refl, suc, zero}
+use Rattle.std.proofs.Common.{subst, ap, arith, ◌≡◌, ◌≢◌, ℕ, ◌+◌, ℤ, Bool, true, false, List, [], ◌∷◌, ◌++◌, map, take, drop, length, Option, Some, sym, ◌∙◌, refl, suc, zero}
 use Rattle.std.specs.Prelude.{slice_get, ◌==◌, ◌&&◌}
 use Rattle.std.specs.List.{AllByRecursion}
 use Rattle.std.proofs.lemmas.Bool.Decides.{nat_tests}
@@ -37,7 +37,7 @@ use Rattle.cap_gsolve.specs.declared.piece.Form.TheVariants as form
 use Rattle.cap_prog.specs.declared.assertion.Slot.TheVariants.{Any, Is}
 use Rattle.cap_gsolve.proofs.Amounts.{zero-value}
 use Rattle.cap_account_states.specs.Nodes.{Comes}
-use Rattle.cap_account_resources.proofs.Lists.{all-at, all-both}
+use Rattle.cap_account_resources.proofs.Lists.{all-at, all-both, join-nil}
 use Rattle.cap_account_states.proofs.Attempts.{comes-bind, after-found, after-need, after-proved, after-determined}
 use Rattle.cap_account_states.proofs.Meets.{Usable, usable-on, Meets, Free, Old, Same, same-state, usable-old}
 use Rattle.cap_account_states.proofs.Naming.{Placed, Means, Stays, bound-of, term-over, term-number}
@@ -47,7 +47,12 @@ use Rattle.cap_account_resources.proofs.Marks.{Mark, free}
 use Rattle.cap_account_resources.proofs.Covering.{mark, Covered}
 use Rattle.cap_account_states.proofs.Pieces.{AllFit, left_pieces, CutAt, cut-away, cut-here, all-take, all-drop}
 use Rattle.cap_account_states.proofs.Adding.{PieceOver}
-use Rattle.cap_account_states.proofs.Guarding.{WantedNear, open_term, OpenGets, is_open, is_open_reading, form-cut, proved-relates, FormOver, share-takes}
+use Rattle.cap_account_states.proofs.Guarding.{WantedNear, open_term, OpenGets, CutFrom, is-cut-from, is_open, is_open_reading, form-cut, proved-relates, FormOver, share-takes}
+
+-- an open amount gets a variable
+abbrev pub open_sorts : Bool → List Sort
+open_sorts true = Perm ∷ []
+open_sorts false = []
 
 -- the guard is taken at alike values, over a multiple of the denominator, in a state that goes on
 -- with the same cells, pieces and environments; it is of the region that is asked, and wanted, at
@@ -65,6 +70,8 @@ pub record GuardTaken (p : PlainProgram) (ks : List ℕ) (sc : Scope) (v : Valua
   pub envs : after.envs ≡ s.envs
   pub piece : Piece
   pub at : slice_get s.guards j ≡ Some piece
+  pub cut_from : CutFrom asked piece.form
+  pub sorts : after.sorts ≡ s.sorts ++ open_sorts (is_open asked (env_at s r.env))
   pub of_kind : piece.kind ≡ k
   pub of_atom : piece.atom ≡ i
   pub later : PlainEnv
@@ -191,6 +198,9 @@ closed-taken p ks sc v s j way n k i asked r held P me ov fit cover pl hn ao op 
       envs = refl;
       piece = q;
       at = k1.1;
+      cut_from = is-cut-from ks sc v s me env pl (λ x. Comes (fifth q x) P) asked q.form way
+          (comes-bind (cut_form s env asked q.form way) (fifth q) P k4.1);
+      sorts = sym (ap (λ b. s.sorts ++ open_sorts b) op ∙ join-nil s.sorts);
       of_kind = (kinds (q.kind) k (q.atom) i k2.0).0;
       of_atom = (kinds (q.kind) k (q.atom) i k2.0).1;
       later = g.later;
@@ -306,6 +316,9 @@ open-taken p ks sc v s j way n k i x y r held P me apart ov fit cover pl hn ao o
       envs = refl;
       piece = q;
       at = k1.1;
+      cut_from = is-cut-from ks sc v s me env pl (λ x. Comes (fifth q x) P) (Share x) q.form way
+          (comes-bind (cut_form s env (Share x) q.form way) (fifth q) P k4.1);
+      sorts = sym (ap (λ d. s.sorts ++ open_sorts (is_open_reading d)) op);
       of_kind = (kinds (q.kind) k (q.atom) i k2.0).0;
       of_atom = (kinds (q.kind) k (q.atom) i k2.0).1;
       later = bind_open env y (fresh s);
