@@ -148,7 +148,7 @@ module _ (p : PlainProgram) where
   draws-join T v none ys q m r h k = draws-all-more T v ys m q r r h (inside-same p r) k
   draws-join T v (item i xs) ys q m r h k = (h.0, h.1, draws-join T v xs ys h.0 m r h.2 k)
 
-  pub draws-apart :
+  abbrev pub draws-apart :
       (T : Table) (v : Valuation) (xs ys : Items) (q r : Stock) →
       DrawsAll p T v (append_items xs ys) q r →
       (m : Stock) × DrawsAll p T v xs q m × DrawsAll p T v ys m r
@@ -157,7 +157,7 @@ module _ (p : PlainProgram) where
       let k = draws-apart T v xs ys h.0 r h.2 in (k.0, (h.0, h.1, k.1), k.2)
 
   -- what is given and drawn with nothing left is owned
-  pub owns-all :
+  abbrev pub owns-all :
       (T : Table) (v : Valuation) (xs : Items) (q : Stock) →
       DrawsAll p T v xs (both p q no_stock) no_stock → Owns p T q v xs
   owns-all T v xs q h = (
@@ -167,7 +167,7 @@ module _ (p : PlainProgram) where
   )
 
   -- by a table that keeps each known state
-  mutual
+  abbrev mutual
     pub draws-kept :
         (T U : Table) → KeepsStates T U → (v : Valuation) (i : PlainItem) (q r : Stock) →
         Draws p T v i q r → Draws p U v i q r
@@ -191,7 +191,7 @@ module _ (p : PlainProgram) where
         (h.0, draws-kept T U f v i q h.0 h.1, draws-all-kept T U f v more h.0 r h.2)
 
   -- a region's part, in its case and at its values
-  pub case-kept :
+  abbrev pub case-kept :
       (T U : Table) → KeepsStates T U → (r : Owner) (c : ℕ) (a : Valuation) → OwnsCase p T r c a →
       OwnsCase p U r c a
   case-kept T U f r c a k =

@@ -29,7 +29,7 @@ use Rattle.cap_account_states.specs.Nodes.{Comes}
 use Rattle.cap_account_states.proofs.Attempts.{comes-bind, after-found, after-need, after-env, env_added}
 use Rattle.cap_account_states.proofs.Terms.{Over}
 use Rattle.cap_account_states.proofs.Meets.{Usable, same-fresh, meets-env}
-use Rattle.cap_account_states.proofs.Environments.{EnvOver}
+use Rattle.cap_account_states.proofs.Environments.{EnvOver, region-env-over}
 use Rattle.cap_account_states.proofs.Backed.{Backed}
 use Rattle.cap_account_states.proofs.Naming.{Placed, placed-more}
 use Rattle.cap_account_states.proofs.Cases.{slot-yields, slots-given, comes-case, case-placed}
@@ -221,6 +221,7 @@ pub record CaseStart (p : PlainProgram) (ks : List ℕ) (T : Table) (next : ℤ)
   pub guards : List Piece
   pub env : PlainEnv
   pub env_is : env_at (case_state s rows guards env) (length s.envs) ≡ env
+  pub env_over : EnvOver (Usable ks (s.sorts ++ Int ∷ []) Int) env
   pub first : term_of env 0 ≡ Some (fresh s)
   pub room : y.params ≤ length env
   pub start :
@@ -270,6 +271,9 @@ case-start p regions ks T next lim j v s c n m k left args x i more P comes st s
       guards = b.guards;
       env = env;
       env_is = env_is;
+      env_over =
+          region-env-over (Usable ks sorts Int) f b.tail (fresh-usable ks s st.low, tt) b.over
+          b.tail_over;
       first = refl;
       room = omega (arith, far);
       start = record {

@@ -5,8 +5,7 @@ use Rattle.std.specs.List.{AllByRecursion}
 use Rattle.cap_lin.specs.Values.{Valuation}
 use Rattle.cap_prog.specs.Program.{PlainItem, Items, PlainProgram}
 use Rattle.cap_prog.specs.Scopes.{Scope}
-use Rattle.cap_goal_spec.specs.States.{PlainState, PlainTask}
-use Rattle.cap_goal_spec.specs.Choices.{PlainTrees}
+use Rattle.cap_goal_spec.specs.States.{PlainState, PlainTask, PlainGoal}
 use Rattle.cap_account_resources.specs.Parts.{Table}
 use Rattle.cap_account_resources.proofs.Stocks.{Stock}
 use Rattle.cap_account_states.proofs.Meets.{usable-old, Old, same-state}
@@ -63,11 +62,11 @@ follows-named sc e v w u s t f l = record {
   others = f.others;
 }
 
-module _ (p : Checked) (ks : List ℕ) (T : Table) (j : Job) (v : Valuation) (s : PlainState)
+module _ (p : PlainProgram) (ks : List ℕ) (T : Table) (j : Job) (v : Valuation) (s : PlainState)
     (c : Stock) (bs : List Bring) (u : Valuation) (l : Alike (Old s) v u)
     (k : Brings u (length s.sorts) bs) where
   -- a rule's head
-  abbrev pub head-named : Head p.program ks T j v s c bs → Head p.program ks T j v s c bs
+  abbrev pub head-named : Head p ks T j v s c bs → Head p ks T j v s c bs
   head-named h =
       let f = h.follows in
       let now = then-alike s h.after v h.w u bs h.brought f.alike l k in
@@ -76,19 +75,18 @@ module _ (p : Checked) (ks : List ℕ) (T : Table) (j : Job) (v : Valuation) (s 
         after = h.after;
         follows = follows-named j.scope j.env v h.w u s h.after f l;
         brought = record { count = h.brought.count; are = k };
-        ready = state-alike p.program ks T j.scope j.env h.w u h.after now h.ready;
+        ready = state-alike p ks T j.scope j.env h.w u h.after now h.ready;
         left = h.left;
-        backed =
-            backed-alike p.program ks T j.scope j.env h.w u h.after now h.left h.ready h.backed;
+        backed = backed-alike p ks T j.scope j.env h.w u h.after now h.left h.ready h.backed;
         taken = h.taken;
         apart = h.apart;
       }
 
   -- an item that goes
   abbrev pub item-named :
-      (trees : PlainTrees) (i : PlainItem) (more : Items) →
-      ItemTaken p ks T j v s c trees bs i more → ItemTaken p ks T j v s c trees bs i more
-  item-named trees i more r =
+      (P : List PlainGoal → Type 0) (i : PlainItem) (more : Items) →
+      ItemTaken p ks T j v s c P bs i more → ItemTaken p ks T j v s c P bs i more
+  item-named P i more r =
       let h = r.head in
       let now = then-alike s h.after v h.w u bs h.brought h.follows.alike l k in
       record {
@@ -99,9 +97,10 @@ module _ (p : Checked) (ks : List ℕ) (T : Table) (j : Job) (v : Valuation) (s 
 
 -- other items are to be taken, at the values before
 abbrev pub turned-named :
-    (p : Checked) (ks : List ℕ) (T : Table) (j : Job) (v : Valuation) (s : PlainState) (c : Stock)
-    (trees : PlainTrees) → ItemsTurned p ks T j v s c trees → ItemsTurned p ks T j v s c trees
-turned-named p ks T j v s c trees r =
+    (p : PlainProgram) (ks : List ℕ) (T : Table) (j : Job) (v : Valuation) (s : PlainState)
+    (c : Stock) (P : List PlainGoal → Type 0) → ItemsTurned p ks T j v s c P →
+    ItemsTurned p ks T j v s c P
+turned-named p ks T j v s c P r =
     let h = r.head in
     let same = alike-same (Old s) v in
     let now = then-alike s h.after v h.w v [] h.brought h.follows.alike same tt in
@@ -110,8 +109,6 @@ turned-named p ks T j v s c trees r =
       rest = r.rest;
       fits = r.fits;
       turns = λ U g x m. r.turns U g x (alike-trans (Old h.after) h.w v x now m);
-      children = r.children;
-      no_larger = r.no_larger;
       goes = r.goes;
     }
 
@@ -210,13 +207,13 @@ module _ (s : PlainState) (v : Valuation) (bs : List Bring)
   here-brings w h = bring-brings w v (length s.sorts) bs h k
 
 abbrev pub item-here :
-    (p : Checked) (ks : List ℕ) (T : Table) (j : Job) (v : Valuation) (s : PlainState) (c : Stock)
-    (bs : List Bring) (k : HasHalves v (length s.sorts) bs) (trees : PlainTrees) (i : PlainItem)
-    (more : Items) → ItemTaken p ks T j v s c trees bs i more →
-    ItemTaken p ks T j v s c trees bs i more
-item-here p ks T j v s c bs k trees i more r =
+    (p : PlainProgram) (ks : List ℕ) (T : Table) (j : Job) (v : Valuation) (s : PlainState)
+    (c : Stock) (bs : List Bring) (k : HasHalves v (length s.sorts) bs)
+    (P : List PlainGoal → Type 0) (i : PlainItem) (more : Items) →
+    ItemTaken p ks T j v s c P bs i more → ItemTaken p ks T j v s c P bs i more
+item-here p ks T j v s c bs k P i more r =
     item-named p ks T j v s c bs (values_here s v bs k) (here-alike s v bs k)
-    (here-brings s v bs k r.head.w r.head.brought.are) trees i more r
+    (here-brings s v bs k r.head.w r.head.brought.are) P i more r
 
 abbrev pub took-here :
     (p : Checked) (ks : List ℕ) (T : Table) (next : ℤ) (j : Job) (v : Valuation) (s : PlainState)

@@ -39,7 +39,7 @@ use Rattle.cap_account_assertions.proofs.CaseTaken.{CaseTook, case-pending, made
 -- ---- sums of stocks
 
 -- what both Takes left, handed out and made; the first one's part goes to the region
-create-budget :
+pub create-budget :
     (p : PlainProgram) (left given own between part made held full guards more : Stock) →
     Inside p (both p (both p left given) own) (both p between more) →
     Inside p (both p (both p between part) made) (both p (both p held full) guards) →
@@ -71,19 +71,18 @@ one-tree N no_trees s ts h = absurd h
 one-tree N (tree d no_trees) s ts h = (d, h.0, omega arith)
 one-tree N (tree d (tree e more)) s ts h = absurd h.1
 
-module _ (p : Checked) (regions : AllByRecursion (RegionFits p.program) p.program.regions)
-    (ks : List ℕ) (size : ℕ) (law : TookLaw p ks size) (T : Table) (next : ℤ) (lim : Holding)
+module _ (p : Checked) (ks : List ℕ) (size : ℕ) (T : Table) (next : ℤ) (lim : Holding)
     (j : Job) (v : Valuation) (s : PlainState) (c : Stock) (i : PlainItem) (more : Items)
     (are : j.items ≡ item i more) (k n left : ℕ) (most : j.most ≡ suc left)
     (st : TakeStart p.program ks T next lim j v s c) where
-  some : 0 < j.most
+  pub some : 0 < j.most
   some = omega (arith, most)
 
   module _ (P : List PlainGoal → Type 0)
       (a : CaseStart p.program ks T next lim j v s c k n left i more P)
       (t : CaseTook p ks T next lim j v s c k n left i more P a size) where
     -- the region was made, and the fact taken
-    took-both :
+    abbrev pub took-both :
         (Q : List PlainGoal → Type 0)
         (m : RegionMade p.program ks t.U next t.w t.after t.left t.given k n (length s.envs) Q
         (tasks_of (fact_job j i more left))) (small : ℕ) → small ≤ size →
@@ -194,13 +193,13 @@ module _ (p : Checked) (regions : AllByRecursion (RegionFits p.program) p.progra
         }
 
     -- rule `made`, and the rest
-    made-then :
-        (d : PlainTree) → tree_size d ≤ size →
+    pub made-then :
+        TookLaw p ks size → (d : PlainTree) → tree_size d ≤ size →
         p.N d t.after (to_make k n (length s.envs) (fresh s) j.statement
         ∷ tasks_of (fact_job j i more left)) → Took p ks T next j v s c (suc size)
-    made-then (node (by_absurd x) below) le h =
+    made-then law (node (by_absurd x) below) le h =
         absurd ((p.step h).0.0 t.w (solves ks t.w t.after t.ready.grounded.meets))
-    made-then (node (by_made cs) below) le h =
+    made-then law (node (by_made cs) below) le h =
         let ts = tasks_of (fact_job j i more left) in
         let Q = Children p.N below in
         let m = made-region p.program ks t.U next t.w t.after t.left t.given a.y a.z k n
@@ -215,14 +214,14 @@ module _ (p : Checked) (regions : AllByRecursion (RegionFits p.program) p.progra
         (made_state p ks T next lim j v s c k n left i more P a size st some t ts Q m) t.left
         (omega (arith, le)) m.comes
         (start-again p ks T next lim j v s c k n left i more P a size st some t ts Q m are))
-    made-then d le h = absurd (p.step h).1
+    made-then law d le h = absurd (p.step h).1
 
   pub take-create :
-      (kids : PlainTrees) → trees_size kids ≤ size → (r : ℕ) (args : List Slot) (x : Slot) →
+      AllByRecursion (RegionFits p.program) p.program.regions → TookLaw p ks size → (kids : PlainTrees) → trees_size kids ≤ size → (r : ℕ) (args : List Slot) (x : Slot) →
       Comes (at_create p.program s n r k args x i left (remaining j more)) (Children p.N kids) →
       IsSomeAnd (slice_get p.program.regions k) (λ y. FactFits j.scope y args x) →
       Took p ks T next j v s c (suc size)
-  take-create kids le r args x comes fits =
+  take-create regions law kids le r args x comes fits =
       let P = Children p.N kids in
       let pp = p.program in
       let a = case-start pp regions ks T next lim j v s c n r k left args x i more P comes st some
@@ -234,4 +233,4 @@ module _ (p : Checked) (regions : AllByRecursion (RegionFits p.program) p.progra
       let d = one-tree p.N t.children t.after
       (to_make k n (length s.envs) (fresh s) j.statement ∷ tasks_of (fact_job j i more left))
       t.goes in
-      made-then P a t d.0 (let l = d.2 in let q = t.no_larger in omega (arith, l, q)) d.1
+      made-then P a t law d.0 (let l = d.2 in let q = t.no_larger in omega (arith, l, q)) d.1

@@ -25,7 +25,7 @@ use Rattle.cap_account_states.proofs.Items.{AreFit, fits-more}
 use Rattle.cap_account_assertions.proofs.TreeSizes.{tree_size, trees_size}
 use Rattle.cap_account_assertions.proofs.TakeSteps.{Job, remaining, TakeStart, Took, TookLaw, took-none}
 use Rattle.cap_account_assertions.proofs.TakeHeads.{ItemTaken, ItemsTurned, took-taken, took-turned}
-use Rattle.cap_account_assertions.proofs.TakeComps.{compare-taken, choose-turned}
+use Rattle.cap_account_assertions.proofs.TakeComps.{compare-taken, choose-taken}
 use Rattle.cap_account_assertions.proofs.TakeCells.{cell-taken}
 use Rattle.cap_account_assertions.proofs.TakeFacts.{fact-taken}
 use Rattle.cap_account_assertions.proofs.TakeAtoms.{none-taken, piece-taken}
@@ -38,7 +38,7 @@ ConvertLaw p ks =
     (trees : PlainTrees) → TakeStart p.program ks T next lim j v s c → (m side : ℕ) (place : Place)
     (n k i : ℕ) (asked : Asked) (more : Items) → j.items ≡ item (atom place n k i asked) more →
     Comes (at_convert p.program s m side n k (atom place n k i asked) (remaining j more))
-    (Children p.N trees) → ItemsTurned p ks T j v s c trees
+    (Children p.N trees) → ItemsTurned p.program ks T j v s c (Children p.N trees)
 
 -- fewer trees are left than may be
 took-within :
@@ -82,28 +82,28 @@ module _ (p : Checked) (regions : AllByRecursion (RegionFits p.program) p.progra
         (trees : PlainTrees) (i way : ℕ) (place : Place) (n k m : ℕ) (asked : Asked)
         (more : Items) → ItemFits p.program j.scope (atom place n k m asked) →
         Comes (at_guard s i way n k m asked (remaining j more)) (Children p.N trees) →
-        ItemTaken p ks T j v s c trees
+        ItemTaken p.program ks T j v s c (Children p.N trees)
         (piece_brings (is_open asked (env_at s j.env)) (slice_get s.guards i))
         (atom place n k m asked) more
     guard-taken-by trees i (suc (suc zero)) place n k m (Tok x) more f h =
-        none-taken p ks T j v s c st.ready st.backed trees i place n k m x more f h
+        none-taken p.program ks T j v s c st.ready st.backed (Children p.N trees) i place n k m x more f h
     guard-taken-by trees i (suc (suc zero)) place n k m One more f h =
-        piece-taken p ks T j v s c st.ready st.backed trees i 2 place n k m One more st.low f h
+        piece-taken p.program ks T j v s c st.ready st.backed (Children p.N trees) i 2 place n k m One more st.low f h
     guard-taken-by trees i (suc (suc zero)) place n k m (Share x) more f h =
-        piece-taken p ks T j v s c st.ready st.backed trees i 2 place n k m (Share x) more st.low f
+        piece-taken p.program ks T j v s c st.ready st.backed (Children p.N trees) i 2 place n k m (Share x) more st.low f
         h
     guard-taken-by trees i (suc (suc zero)) place n k m (Src x) more f h =
-        piece-taken p ks T j v s c st.ready st.backed trees i 2 place n k m (Src x) more st.low f h
+        piece-taken p.program ks T j v s c st.ready st.backed (Children p.N trees) i 2 place n k m (Src x) more st.low f h
     guard-taken-by trees i (suc (suc zero)) place n k m (At x) more f h =
-        piece-taken p ks T j v s c st.ready st.backed trees i 2 place n k m (At x) more st.low f h
+        piece-taken p.program ks T j v s c st.ready st.backed (Children p.N trees) i 2 place n k m (At x) more st.low f h
     guard-taken-by trees i (suc (suc zero)) place n k m (From x) more f h =
-        piece-taken p ks T j v s c st.ready st.backed trees i 2 place n k m (From x) more st.low f h
+        piece-taken p.program ks T j v s c st.ready st.backed (Children p.N trees) i 2 place n k m (From x) more st.low f h
     guard-taken-by trees i zero place n k m asked more f h =
-        piece-taken p ks T j v s c st.ready st.backed trees i 0 place n k m asked more st.low f h
+        piece-taken p.program ks T j v s c st.ready st.backed (Children p.N trees) i 0 place n k m asked more st.low f h
     guard-taken-by trees i (suc zero) place n k m asked more f h =
-        piece-taken p ks T j v s c st.ready st.backed trees i 1 place n k m asked more st.low f h
+        piece-taken p.program ks T j v s c st.ready st.backed (Children p.N trees) i 1 place n k m asked more st.low f h
     guard-taken-by trees i (suc (suc (suc way))) place n k m asked more f h =
-        piece-taken p ks T j v s c st.ready st.backed trees i (suc (suc (suc way))) place n k m
+        piece-taken p.program ks T j v s c st.ready st.backed (Children p.N trees) i (suc (suc (suc way))) place n k m
         asked more st.low f h
 
     module _ (i : PlainItem) (more : Items) (are : j.items ≡ item i more) (trees : PlainTrees)
@@ -111,16 +111,13 @@ module _ (p : Checked) (regions : AllByRecursion (RegionFits p.program) p.progra
       fits : AreFit p.program j.scope (item i more)
       fits = subst (AreFit p.program j.scope) are st.fits
 
-      -- the item goes, or other items are to be taken
+      -- the item goes
       goes-then :
-          {bs : List Bring} → ItemTaken p ks T j v s c trees bs i more →
+          {bs : List Bring} → ItemTaken p.program ks T j v s c (Children p.N trees) bs i more →
           Took p ks T next j v s c (suc size)
       goes-then {bs} r =
-          took-taken p ks T j v s c trees next lim st size small law i more are
+          took-taken p ks T next lim j v s c st size law trees small i more are
           (fits-more p.program j.scope i more fits) r
-
-      turns-then : ItemsTurned p ks T j v s c trees → Took p ks T next j v s c (suc size)
-      turns-then r = took-turned p ks T j v s c trees next lim st size small law r
 
     -- a region is created, where one may be
     created :
@@ -132,7 +129,7 @@ module _ (p : Checked) (regions : AllByRecursion (RegionFits p.program) p.progra
     created place n k args x more are trees small case zero e h = absurd h.1
     created place n k args x more are trees small case (suc left) e h =
         let i = fact place n k args x in
-        take-create p regions ks size law T next lim j v s c i more are k case left e st trees small
+        take-create p ks size T next lim j v s c i more are k case left e st regions law trees small
         n args x h (subst (AreFit p.program j.scope) are st.fits).0.1
 
     took-node :
@@ -144,19 +141,18 @@ module _ (p : Checked) (regions : AllByRecursion (RegionFits p.program) p.progra
         absurd ((p.step h).0.0 v (solves ks v s st.ready.grounded.meets))
     took-node (compare x) more are (node (by_fact cs) trees) le h =
         goes-then (compare x) more are trees (omega (arith, le))
-        (compare-taken p ks T j v s c st.ready st.backed trees x more
+        (compare-taken p.program ks T j v s c st.ready st.backed (Children p.N trees) x more
         (subst (AreFit p.program j.scope) are st.fits).0 (p.step h))
     took-node (choose x y z) more are (node by_cases trees) le h =
-        turns-then (choose x y z) more are trees (omega (arith, le))
-        (choose-turned p ks T j v s c st.ready st.backed trees x y z more are
-        (subst (AreFit p.program j.scope) are st.fits) (p.step h))
+        choose-taken p ks T next lim j v s c st size law x y z more are trees (omega (arith, le))
+        (p.step h)
     took-node (cell place x y) more are (node (by_cell i cs) trees) le h =
         let f = (subst (AreFit p.program j.scope) are st.fits).0 in
         goes-then (cell place x y) more are trees (omega (arith, le))
-        (cell-taken p ks T j v s c st.ready st.backed trees i place x y more f.0 f.1 (p.step h))
+        (cell-taken p.program ks T j v s c st.ready st.backed (Children p.N trees) i place x y more f.0 f.1 (p.step h))
     took-node (fact place n k args x) more are (node (by_region i cs) trees) le h =
         goes-then (fact place n k args x) more are trees (omega (arith, le))
-        (fact-taken p ks T j v s c st.ready st.backed trees i place n k args x more
+        (fact-taken p.program ks T j v s c st.ready st.backed (Children p.N trees) i place n k args x more
         (subst (AreFit p.program j.scope) are st.fits).0 (p.step h))
     took-node (fact place n k args x) more are (node (by_create case) trees) le h =
         created place n k args x more are trees (omega (arith, le)) case j.most refl (p.step h)
@@ -165,7 +161,7 @@ module _ (p : Checked) (regions : AllByRecursion (RegionFits p.program) p.progra
         (guard-taken-by trees i way place n k m asked more
         (subst (AreFit p.program j.scope) are st.fits).0 (p.step h))
     took-node (atom place n k m asked) more are (node (by_convert o side cs) trees) le h =
-        turns-then (atom place n k m asked) more are trees (omega (arith, le))
+        took-turned p ks T next lim j v s c st size law trees (omega (arith, le))
         (convert T next lim j v s c trees st o side place n k m asked more are (p.step h))
     took-node i more are d le h = absurd (p.step h).1
 

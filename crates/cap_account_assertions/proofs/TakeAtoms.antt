@@ -5,34 +5,33 @@ use Rattle.std.specs.Prelude.{slice_get, IsSomeAnd}
 use Rattle.std.specs.List.{AllByRecursion}
 use Rattle.cap_lin.specs.Values.{Valuation}
 use Rattle.cap_lin.specs.declared.row.Sort.TheVariants.{Int}
-use Rattle.cap_galg.specs.Elements.{nothing}
-use Rattle.cap_galg.specs.Algebras.{atom_algebra, atom_element}
+use Rattle.cap_galg.specs.Elements.{Element, nothing}
+use Rattle.cap_galg.specs.Algebras.{IsElement, atom_algebra, atom_element}
 use Rattle.cap_gsolve.specs.declared.piece.Piece.{Piece}
 use Rattle.cap_gsolve.specs.Meaning.{region_of}
 use Rattle.cap_syntax.specs.declared.place.Place.{Place}
 use Rattle.cap_prog.specs.declared.assertion.Slot.{Slot}
 use Rattle.cap_prog.specs.declared.assertion.Asked.{Asked}
 use Rattle.cap_prog.specs.declared.assertion.Asked.TheVariants.{Tok}
-use Rattle.cap_prog.specs.Program.{atom, Items, PlainRegionType}
+use Rattle.cap_prog.specs.Program.{atom, Items, PlainRegionType, PlainProgram}
 use Rattle.cap_prog.specs.Scopes.{Scope}
 use Rattle.cap_prog.specs.WellFormed.{AtomFits, ItemFits}
 use Rattle.cap_machine_accounts.specs.Parts.{algebra_of}
-use Rattle.cap_goal_spec.specs.States.{PlainState}
-use Rattle.cap_goal_spec.specs.Choices.{PlainTrees}
+use Rattle.cap_goal_spec.specs.States.{PlainState, PlainGoal}
 use Rattle.cap_rules.specs.Making.{env_at}
-use Rattle.cap_rules.specs.Rules.{at_no_tokens, at_piece}
+use Rattle.cap_rules.specs.Rules.{goes, at_no_tokens, at_piece}
 use Rattle.cap_account_resources.specs.Parts.{Table}
 use Rattle.cap_account_resources.proofs.Lists.{all-more}
 use Rattle.cap_account_resources.proofs.Marks.{Mark, free}
 use Rattle.cap_account_resources.proofs.Covering.{mark, Covered}
 use Rattle.cap_account_resources.proofs.Stocks.{Stock, no_stock, guard_stock, both, Inside, inside-same, inside-is}
-use Rattle.cap_account_states.specs.Nodes.{Comes, Children}
-use Rattle.cap_account_states.proofs.Alike.{need-alike}
+use Rattle.cap_account_states.specs.Nodes.{Comes}
+use Rattle.cap_account_states.proofs.Alike.{Alike, need-alike}
 use Rattle.cap_account_states.proofs.Brought.{Bring, piece_brings}
 use Rattle.cap_account_states.proofs.Meets.{Usable, usable-old, need, Old, same-trans}
-use Rattle.cap_account_states.proofs.Checked.{Checked}
 use Rattle.cap_account_states.proofs.Asking.{AskedOver}
-use Rattle.cap_account_states.proofs.Guarding.{is_open}
+use Rattle.cap_account_states.proofs.Guarding.{WantedNear, is_open}
+use Rattle.cap_account_states.proofs.Naming.{Means}
 use Rattle.cap_account_states.proofs.Adding.{PieceOver}
 use Rattle.cap_account_states.proofs.Pieces.{AllFit, left_pieces}
 use Rattle.cap_account_states.proofs.Guards.{GuardTaken, guard-taken, no-tokens-taken}
@@ -51,39 +50,74 @@ atom-over :
 atom-over sc None i asked h = absurd h
 atom-over sc (Some type) i asked h = asked-over sc (atom_algebra type.algebra i) asked h.form
 
-module _ (p : Checked) (ks : List ℕ) (T : Table) (j : Job) (v : Valuation) (s : PlainState)
-    (c : Stock) (st : StateAt p.program ks T j.scope j.env v s) (backed : Backed p.program v s c)
-    (trees : PlainTrees) where
-  pub none-taken :
+-- of a piece's kind and atom, which are those that are asked
+pub is-atom :
+    (p : PlainProgram) (k k' m m' : ℕ) → k ≡ k' → m ≡ m' → (y : Element) →
+    IsElement (atom_algebra (algebra_of p k) m) y → IsElement (atom_algebra (algebra_of p k') m') y
+is-atom p k k' m m' e f y h =
+    subst (λ b. IsElement (atom_algebra (algebra_of p k') b) y) f
+    (subst (λ b. IsElement (atom_algebra (algebra_of p b) m) y) e h)
+
+pub mark-of :
+    (p : PlainProgram) (k k' m m' : ℕ) → k ≡ k' → m ≡ m' → (y : Element) →
+    mark k (atom_element (algebra_of p k) m y) ≡ mark k' (atom_element (algebra_of p k') m' y)
+mark-of p k k' m m' e f y =
+    ap (λ b. mark b (atom_element (algebra_of p b) m y)) e
+    ∙ ap (λ b. mark k' (atom_element (algebra_of p k') b y)) f
+
+module _ (p : PlainProgram) (ks : List ℕ) (T : Table) (j : Job) (v : Valuation) (s : PlainState)
+    (c : Stock) (st : StateAt p ks T j.scope j.env v s) (backed : Backed p v s c)
+    (P : List PlainGoal → Type 0) where
+  -- no tokens are wanted
+  abbrev pub NoTokens : Slot → Items → Type 0
+  NoTokens x more =
+      WantedNear j.scope (Old s) v (env_at s j.env) (Tok x) nothing
+      × Comes (goes s (remaining j more)) P
+
+  pub none-found :
       (i : ℕ) (place : Place) (n k m : ℕ) (x : Slot) (more : Items) →
-      ItemFits p.program j.scope (atom place n k m (Tok x)) →
-      Comes (at_no_tokens s i x (remaining j more)) (Children p.N trees) →
-      ItemTaken p ks T j v s c trees [] (atom place n k m (Tok x)) more
-  none-taken i place n k m x more fits h =
-      let over = atom-over j.scope (slice_get p.program.regions k) m (Tok x) fits.1 in
-      let g = no-tokens-taken ks j.scope v s i x (remaining j more) (Children p.N trees)
-      st.grounded.meets st.placed over h in
+      ItemFits p j.scope (atom place n k m (Tok x)) →
+      Comes (at_no_tokens s i x (remaining j more)) P → NoTokens x more
+  none-found i place n k m x more fits h =
+      no-tokens-taken ks j.scope v s i x (remaining j more) P st.grounded.meets st.placed
+      (atom-over j.scope (slice_get p.regions k) m (Tok x) fits.1) h
+
+  abbrev pub none-goes :
+      (place : Place) (n k m : ℕ) (x : Slot) (more : Items) → NoTokens x more →
+      ItemTaken p ks T j v s c P [] (atom place n k m (Tok x)) more
+  none-goes place n k m x more g =
       record {
-        head = head-same p.program ks T j v s c st backed;
+        head = head-same p ks T j v s c st backed;
         claim = λ w l a y r. (
           Some free,
           record { element = nothing; wanted = g.0 w l a y; of_atom = tt; is_mark = refl },
-          inside-is p.program (both p.program (guard_stock (a.whole n) (Some free)) r)
-              (both p.program no_stock r) (ap (λ q. both p.program q r) (none-alone (a.whole n))),
+          inside-is p (both p (guard_stock (a.whole n) (Some free)) r)
+              (both p no_stock r) (ap (λ q. both p q r) (none-alone (a.whole n))),
         );
         goes = g.1.1;
       }
 
+  pub none-taken :
+      (i : ℕ) (place : Place) (n k m : ℕ) (x : Slot) (more : Items) →
+      ItemFits p j.scope (atom place n k m (Tok x)) →
+      Comes (at_no_tokens s i x (remaining j more)) P →
+      ItemTaken p ks T j v s c P [] (atom place n k m (Tok x)) more
+  none-taken i place n k m x more fits h =
+      none-goes place n k m x more (none-found i place n k m x more fits h)
+
   -- ---- out of a piece
 
+  abbrev pub PieceFound : ℕ → ℕ → ℕ → ℕ → Asked → Items → Type 0
+  PieceFound i n k m asked more =
+      GuardTaken p ks j.scope v s i n k m asked (remaining j more) c.guards P
+
   module _ (i n k m : ℕ) (asked : Asked) (more : Items)
-      (g : GuardTaken p.program ks j.scope v s i n k m asked (remaining j more) c.guards
-      (Children p.N trees)) where
+      (g : PieceFound i n k m asked more) where
     -- the guards that are taken, and of which region
     abbrev guards_taken : Option Mark
     guards_taken =
         mark g.piece.kind
-        (atom_element (algebra_of p.program g.piece.kind) g.piece.atom g.taken)
+        (atom_element (algebra_of p g.piece.kind) g.piece.atom g.taken)
 
     abbrev region_taken : ℤ
     region_taken = region_of g.w g.piece
@@ -91,21 +125,21 @@ module _ (p : Checked) (ks : List ℕ) (T : Table) (j : Job) (v : Valuation) (s 
     abbrev pieces_then : List Piece
     pieces_then = left_pieces s.guards i g.piece g.left
 
-    abbrev cuts : CutsOut p.program g.w pieces_then region_taken guards_taken c.guards
+    abbrev cuts : CutsOut p g.w pieces_then region_taken guards_taken c.guards
     cuts =
-        cuts-out p.program g.w pieces_then region_taken guards_taken c.guards g.here g.away
+        cuts-out p g.w pieces_then region_taken guards_taken c.guards g.here g.away
 
     -- the state without them, and what it has
     abbrev state_left : PlainState
     state_left = record g.after { guards = left_pieces g.after.guards i g.piece g.left }
 
     abbrev rest : Stock
-    rest = stock_left p.program g.w pieces_then region_taken guards_taken c cuts
+    rest = stock_left p g.w pieces_then region_taken guards_taken c cuts
 
-    pieces-left : state_left.guards ≡ pieces_then
+    pub pieces-left : state_left.guards ≡ pieces_then
     pieces-left = ap (λ qs. left_pieces qs i g.piece g.left) g.guards
 
-    grounded-left : Grounded p.program ks g.w state_left
+    pub grounded-left : Grounded p ks g.w state_left
     grounded-left = record {
       meets = record {
         sorted = g.meets.sorted;
@@ -118,10 +152,10 @@ module _ (p : Checked) (ks : List ℕ) (T : Table) (j : Job) (v : Valuation) (s 
       pieces_over =
           subst (AllByRecursion (PieceOver (Usable ks g.after.sorts))) (sym pieces-left)
           g.pieces_over;
-      pieces_fit = subst (AllFit p.program) (sym pieces-left) g.fit;
+      pieces_fit = subst (AllFit p) (sym pieces-left) g.fit;
     }
 
-    backed-left : Backed p.program g.w state_left rest
+    pub backed-left : Backed p g.w state_left rest
     backed-left = record {
       cells = λ a z.
           let R = Usable ks s.sorts in
@@ -131,64 +165,83 @@ module _ (p : Checked) (ks : List ℕ) (T : Table) (j : Job) (v : Valuation) (s 
           st.grounded.meets.cells_over a z in
           omega (arith, held, same);
       guards = λ z.
-          subst (λ qs. Covered p.program g.w qs z (cuts z).rest) (sym pieces-left) (cuts z).covered;
+          subst (λ qs. Covered p g.w qs z (cuts z).rest) (sym pieces-left) (cuts z).covered;
     }
 
     -- half of the share out of which an open amount is cut, or nothing
     abbrev piece_brought : List Bring
     piece_brought = piece_brings (is_open asked (env_at s j.env)) (slice_get s.guards i)
 
-    abbrev head-piece : Head p.program ks T j v s c piece_brought
+    abbrev head-piece : Head p ks T j v s c piece_brought
     head-piece =
-        head-bound p.program ks T j v s c st
-        (head-kept p.program ks T j v s c st g.w state_left rest
+        head-bound p ks T j v s c st
+        (head-kept p ks T j v s c st g.w state_left rest
         (guard_stock region_taken guards_taken)
         (same-trans s g.after state_left g.same
         (same-parts g.after g.after.rows g.after.cells state_left.guards)) g.envs g.alike
         (record { count = g.brought.count; are = g.brought.are }) grounded-left backed-left
-        (left-apart p.program g.w pieces_then region_taken guards_taken c cuts)) g.later g.placed
+        (left-apart p g.w pieces_then region_taken guards_taken c cuts)) g.later g.placed
         g.stays g.outside g.size
 
-    there-left : j.env < length state_left.envs
+    pub there-left : j.env < length state_left.envs
     there-left = subst (λ es. j.env < length es) (sym g.envs) st.there
 
-    piece-claim :
+    -- at alike values it wants these guards
+    abbrev wants_taken :
+        (x : Valuation) → Alike (Old head-piece.after) g.w x → (a : Valuation) →
+        Means j.scope x (env_at head-piece.after j.env) a →
+        WantsAtom p a k (m, asked) guards_taken
+    wants_taken x l a y = record {
+      element = g.taken;
+      wanted = g.wanted x l a (means-bound j.scope j.env state_left g.later there-left x a y);
+      of_atom = is-atom p g.piece.kind k g.piece.atom m g.of_kind g.of_atom g.taken g.is_element;
+      is_mark = mark-of p g.piece.kind k g.piece.atom m g.of_kind g.of_atom g.taken;
+    }
+
+    abbrev piece-claim :
         (place : Place) →
-        Claim p.program T j.scope g.w head-piece.after j.env (atom place n k m asked)
+        Claim p T j.scope g.w head-piece.after j.env (atom place n k m asked)
         (guard_stock region_taken guards_taken)
     piece-claim place x l a y r =
         let names = means-bound j.scope j.env state_left g.later there-left x a y in
-        let held = both p.program (guard_stock region_taken guards_taken) r in (
+        let held = both p (guard_stock region_taken guards_taken) r in (
           guards_taken,
-          subst (λ b. WantsAtom p.program a k (b, asked) guards_taken) g.of_atom
-              (subst (λ b. WantsAtom p.program a b (g.piece.atom, asked) guards_taken) g.of_kind
-              (record {
-                element = g.taken;
-                wanted = g.wanted x l a names;
-                of_atom = g.is_element;
-                is_mark = refl;
-              })),
-          subst (λ z. Inside p.program (both p.program (guard_stock z guards_taken) r) held)
-              (sym (g.region x l a names)) (inside-same p.program held),
+          wants_taken x l a y,
+          subst (λ z. Inside p (both p (guard_stock z guards_taken) r) held)
+              (sym (g.region x l a names)) (inside-same p held),
         )
+
+  pub piece-found :
+      (i way : ℕ) (place : Place) (n k m : ℕ) (asked : Asked) (more : Items) →
+      AllByRecursion (λ y. y < length s.sorts) ks →
+      ItemFits p j.scope (atom place n k m asked) →
+      Comes (at_piece s i way n k m asked (remaining j more)) P → PieceFound i n k m asked more
+  piece-found i way place n k m asked more low fits h =
+      let apart = all-more (λ y. y < length s.sorts) (λ y. length s.sorts ≢ y)
+      (λ y l e. omega (arith, l, e)) ks low in
+      guard-taken p ks j.scope v s i way n k m asked (remaining j more) c.guards P
+      st.grounded.meets apart st.grounded.pieces_over st.grounded.pieces_fit backed.guards
+      st.placed fits.0 (atom-over j.scope (slice_get p.regions k) m asked fits.1) h
+
+  abbrev pub piece-goes :
+      (i : ℕ) (place : Place) (n k m : ℕ) (asked : Asked) (more : Items) →
+      PieceFound i n k m asked more →
+      ItemTaken p ks T j v s c P
+      (piece_brings (is_open asked (env_at s j.env)) (slice_get s.guards i))
+      (atom place n k m asked) more
+  piece-goes i place n k m asked more g = record {
+    head = head-piece i n k m asked more g;
+    claim = piece-claim i n k m asked more g place;
+    goes = g.comes.1;
+  }
 
   pub piece-taken :
       (i way : ℕ) (place : Place) (n k m : ℕ) (asked : Asked) (more : Items) →
       AllByRecursion (λ y. y < length s.sorts) ks →
-      ItemFits p.program j.scope (atom place n k m asked) →
-      Comes (at_piece s i way n k m asked (remaining j more)) (Children p.N trees) →
-      ItemTaken p ks T j v s c trees
+      ItemFits p j.scope (atom place n k m asked) →
+      Comes (at_piece s i way n k m asked (remaining j more)) P →
+      ItemTaken p ks T j v s c P
       (piece_brings (is_open asked (env_at s j.env)) (slice_get s.guards i))
       (atom place n k m asked) more
   piece-taken i way place n k m asked more low fits h =
-      let apart = all-more (λ y. y < length s.sorts) (λ y. length s.sorts ≢ y)
-      (λ y l e. omega (arith, l, e)) ks low in
-      let g = guard-taken p.program ks j.scope v s i way n k m asked (remaining j more) c.guards
-      (Children p.N trees) st.grounded.meets apart st.grounded.pieces_over st.grounded.pieces_fit
-      backed.guards st.placed fits.0
-      (atom-over j.scope (slice_get p.program.regions k) m asked fits.1) h in
-      record {
-        head = head-piece i n k m asked more g;
-        claim = piece-claim i n k m asked more g place;
-        goes = g.comes.1;
-      }
+      piece-goes i place n k m asked more (piece-found i way place n k m asked more low fits h)

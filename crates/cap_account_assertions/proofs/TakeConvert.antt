@@ -1,6 +1,6 @@
 -- Guards are converted: all of one side of a sum becomes all of the other side, and the item stays
 -- (the rule `convert`).
-use Rattle.std.proofs.Common.{◌≡◌, ℕ, zero, suc, List, ◌∷◌, Some, arith, refl, sym, ap, subst}
+use Rattle.std.proofs.Common.{◌≡◌, ℕ, zero, suc, List, ◌∷◌, Some, refl, sym, ap, subst}
 use Rattle.std.specs.Prelude.{slice_get}
 use Rattle.std.specs.List.{AllByRecursion}
 use Rattle.cap_lin.specs.Linear.{Linear}
@@ -9,13 +9,12 @@ use Rattle.cap_lin.specs.declared.row.Sort.TheVariants.{Int}
 use Rattle.cap_galg.specs.Elements.{Element}
 use Rattle.cap_galg.specs.Algebras.{PlainAlgebra}
 use Rattle.cap_gsolve.specs.declared.piece.Piece.{Piece}
-use Rattle.cap_prog.specs.Program.{atom, PlainItem, Items, item, PlainRegionType}
+use Rattle.cap_prog.specs.Program.{atom, PlainItem, Items, item, PlainRegionType, PlainProgram}
 use Rattle.cap_prog.specs.Scopes.{HasSort}
 use Rattle.cap_prog.specs.WellFormed.{RegionFits}
 use Rattle.cap_machine_accounts.specs.Parts.{kind_algebra, algebra_of}
 use Rattle.cap_goal_spec.specs.States.{PlainState, PlainGoal}
 use Rattle.cap_goal_spec.specs.Environments.{term_of}
-use Rattle.cap_goal_spec.specs.Choices.{PlainTrees}
 use Rattle.cap_rules.specs.Attempts.{Attempt, ◌>>=◌, found}
 use Rattle.cap_rules.specs.Making.{env_at, with_pieces}
 use Rattle.cap_rules.specs.Taking.{Side, Sides, sum_in, given_side, other_side, side_pieces, without_full}
@@ -44,11 +43,11 @@ use Rattle.cap_account_assertions.proofs.TakeSteps.{Job, remaining}
 use Rattle.cap_account_assertions.proofs.TakeHeads.{same-parts, head-kept, ItemsTurned}
 
 -- the side that is held, and the other one, are all of it
-record Converts (w : PlainAlgebra) (k : ℕ) (v : Valuation) (r : Linear) (held other : Side) : Type 0
-  where
-    element : Element
-    gone : Full w k v r (side_pieces held r k) element
-    come : Full w k v r (side_pieces other r k) element
+pub record Converts (w : PlainAlgebra) (k : ℕ) (v : Valuation) (r : Linear) (held other : Side)
+    : Type 0 where
+  pub element : Element
+  pub gone : Full w k v r (side_pieces held r k) element
+  pub come : Full w k v r (side_pieces other r k) element
 
 converts :
     (w : PlainAlgebra) (k : ℕ) (v : Valuation) (r : Linear) (x : Sides) (side : ℕ) (held : Side) →
@@ -61,29 +60,26 @@ converts w k v r x (suc zero) held h e =
     (record { element = h.element; gone = h.right; come = h.left })
 converts w k v r x (suc (suc n)) held h e = absurd (none-some e)
 
-module _ (p : Checked) (ks : List ℕ) (T : Table) (j : Job) (v : Valuation) (s : PlainState)
-    (c : Stock) (st : StateAt p.program ks T j.scope j.env v s) (backed : Backed p.program v s c)
-    (trees : PlainTrees) where
+module _ (p : PlainProgram) (ks : List ℕ) (T : Table) (j : Job) (v : Valuation) (s : PlainState)
+    (c : Stock) (st : StateAt p ks T j.scope j.env v s) (backed : Backed p v s c)
+    (P : List PlainGoal → Type 0) where
   module _ (m side n k : ℕ) (i : PlainItem) (more : Items) where
-    abbrev P : List PlainGoal → Type 0
-    P = Children p.N trees
-
     -- what is converted into what, and of which region
     abbrev end : PlainState → Attempt (List PlainGoal)
     end t = leaves t (stays t i j.most (remaining j more) ∷ j.tasks)
 
     abbrev adding : Side → Linear → List Piece → Attempt (List PlainGoal)
-    adding y t gs = with_pieces p.program (with_guards s gs) (side_pieces y t k) >>= end
+    adding y t gs = with_pieces p (with_guards s gs) (side_pieces y t k) >>= end
 
-    record Asks : Type 0 where
-      held : Side
-      other : Side
-      term : Linear
-      is_term : term_of (env_at s j.env) n ≡ Some term
-      full : Converts (algebra_of p.program k) k v term held other
-      comes : Comes (without_full s.rows s.guards (side_pieces held term k) >>= adding other term) P
+    pub record Asks : Type 0 where
+      pub held : Side
+      pub other : Side
+      pub term : Linear
+      pub is_term : term_of (env_at s j.env) n ≡ Some term
+      pub full : Converts (algebra_of p k) k v term held other
+      pub comes : Comes (without_full s.rows s.guards (side_pieces held term k) >>= adding other term) P
 
-    asks : Comes (at_convert p.program s m side n k i (remaining j more)) P → Asks
+    pub asks : Comes (at_convert p s m side n k i (remaining j more)) P → Asks
     asks h =
         let goes : Sides → Side → Linear → Attempt (List PlainGoal) = λ x y t.
         without_full s.rows s.guards (side_pieces y t k) >>= adding (other_side x side) t in
@@ -93,11 +89,11 @@ module _ (p : Checked) (ks : List ℕ) (T : Table) (j : Job) (v : Valuation) (s 
         found (given_side x side) >>= names x in
         let sums : PlainRegionType → Attempt (List PlainGoal) = λ y.
         found (sum_in y.algebra 0 m) >>= given in
-        let a = after-found (slice_get p.program.regions k) sums P h in
+        let a = after-found (slice_get p.regions k) sums P h in
         let b = after-found (sum_in a.0.algebra 0 m) given P a.2 in
         let d = after-found (given_side b.0 side) (names b.0) P b.2 in
         let e = after-found (term_of (env_at s j.env) n) (goes b.0 d.0) P d.2 in
-        let w = algebra_of p.program k in
+        let w = algebra_of p k in
         record {
           held = d.0;
           other = other_side b.0 side;
@@ -110,13 +106,13 @@ module _ (p : Checked) (ks : List ℕ) (T : Table) (j : Job) (v : Valuation) (s 
           comes = e.2;
         }
 
-    converted :
-        j.items ≡ item i more → AreFit p.program j.scope (item i more) → HasSort j.scope Int n →
-        Composes c → Asks → ItemsTurned p ks T j v s c trees
+    abbrev converted :
+        j.items ≡ item i more → AreFit p j.scope (item i more) → HasSort j.scope Int n →
+        Composes c → Asks → ItemsTurned p ks T j v s c P
     converted is fits hn ok a =
         let x = a.full.element in
         let g = guard_stock (value v.whole a.term) (mark k x) in
-        let gone = fulls-gone p.program ks v a.term k s (side_pieces a.held a.term k)
+        let gone = fulls-gone p ks v a.term k s (side_pieces a.held a.term k)
         a.full.gone.composes.0 x c s.guards (λ gs. Comes (adding a.other a.term gs) P)
         a.full.gone.each a.full.gone.composes.1 a.full.gone.composes.2 (record {
           meets = st.grounded.meets;
@@ -126,16 +122,16 @@ module _ (p : Checked) (ks : List ℕ) (T : Table) (j : Job) (v : Valuation) (s 
         (comes-bind (without_full s.rows s.guards (side_pieces a.held a.term k))
         (adding a.other a.term) P a.comes) in
         let rest = gone.1.rest in
-        let now = both p.program rest g in
-        let come = pieces-held p.program ks v a.term k (side_pieces a.other a.term k) x
+        let now = both p rest g in
+        let come = pieces-held p ks v a.term k (side_pieces a.other a.term k) x
         (with_guards s gone.0) rest (λ u. Comes (end u) P) a.full.come
         (st.placed.over n Int hn a.term a.is_term) gone.1.grounded gone.1.backed
-        (composes-inside p.program now c gone.1.apart ok)
-        (comes-bind (with_pieces p.program (with_guards s gone.0) (side_pieces a.other a.term k))
+        (composes-inside p now c gone.1.apart ok)
+        (comes-bind (with_pieces p (with_guards s gone.0) (side_pieces a.other a.term k))
         end P gone.2) in
         record {
           head =
-              head-kept p.program ks T j v s c st v (with_parts s come.rows come.guards) now
+              head-kept p ks T j v s c st v (with_parts s come.rows come.guards) now
               no_stock
               (same-parts s come.rows s.cells come.guards) refl (alike-same (Old s) v)
               (brought-none s (with_parts s come.rows come.guards) v refl) (record {
@@ -143,31 +139,29 @@ module _ (p : Checked) (ks : List ℕ) (T : Table) (j : Job) (v : Valuation) (s 
                 pieces_over = come.grounded.pieces_over;
                 pieces_fit = come.grounded.pieces_fit;
               }) (record { cells = come.backed.cells; guards = come.backed.guards })
-              (subst (λ q. Inside p.program q c) (sym (none-right p.program now)) gone.1.apart);
+              (subst (λ q. Inside p q c) (sym (none-right p now)) gone.1.apart);
           rest = item i more;
           fits = fits;
           turns = λ U ext y l b names q r drawn.
-              subst (λ items. DrawsAll p.program U b items (both p.program no_stock q) r) (sym is)
-              (draws-all-more p.program U b (item i more) q (both p.program no_stock q) r r
-              (inside-second p.program no_stock q) (inside-same p.program r) drawn);
-          children = trees;
-          no_larger = omega arith;
+              subst (λ items. DrawsAll p U b items (both p no_stock q) r) (sym is)
+              (draws-all-more p U b (item i more) q (both p no_stock q) r r
+              (inside-second p no_stock q) (inside-same p r) drawn);
           goes = come.comes.1;
         }
 
-  pub convert-turned :
+  abbrev pub convert-turned :
       (m side n k : ℕ) (i : PlainItem) (more : Items) → j.items ≡ item i more →
-      AreFit p.program j.scope (item i more) → HasSort j.scope Int n → Composes c →
-      Comes (at_convert p.program s m side n k i (remaining j more)) (Children p.N trees) →
-      ItemsTurned p ks T j v s c trees
+      AreFit p j.scope (item i more) → HasSort j.scope Int n → Composes c →
+      Comes (at_convert p s m side n k i (remaining j more)) P →
+      ItemsTurned p ks T j v s c P
   convert-turned m side n k i more is fits hn ok h =
       converted m side n k i more is fits hn ok (asks m side n k i more h)
 
 pub convert-law : (p : Checked) (ks : List ℕ) → ConvertLaw p ks
 convert-law p ks T next lim j v s c trees st m side place n k i asked more is h =
     let fits = subst (AreFit p.program j.scope) is st.fits in
-    convert-turned p ks T j v s c st.ready st.backed trees m side n k (atom place n k i asked) more
-    is fits fits.0.0
+    convert-turned p.program ks T j v s c st.ready st.backed (Children p.N trees) m side n k
+    (atom place n k i asked) more is fits fits.0.0
     (λ z. part-some p.program (c.guards z) (lim z) (st.within z) (st.composes z)) h
 
 -- with it, the law of taking

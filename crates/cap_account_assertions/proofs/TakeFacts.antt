@@ -9,30 +9,28 @@ use Rattle.cap_lin.specs.declared.row.Sort.TheVariants.{Int}
 use Rattle.cap_syntax.specs.declared.place.Place.{Place}
 use Rattle.cap_prog.specs.declared.assertion.Slot.{Slot}
 use Rattle.cap_prog.specs.declared.assertion.Slot.TheVariants.{Is}
-use Rattle.cap_prog.specs.Program.{fact, Items, PlainRegionType}
+use Rattle.cap_prog.specs.Program.{fact, Items, PlainRegionType, PlainProgram}
 use Rattle.cap_prog.specs.Scopes.{Scope, SlotFits}
 use Rattle.cap_prog.specs.WellFormed.{FactFits, ItemFits}
 use Rattle.cap_goal_spec.specs.States.{PlainFact, PlainEnv, PlainState, PlainGoal}
-use Rattle.cap_goal_spec.specs.Choices.{PlainTrees}
 use Rattle.cap_rules.specs.Attempts.{Attempt, ◌>>=◌, need}
 use Rattle.cap_rules.specs.Making.{match_slots, env_at, with_env_at}
 use Rattle.cap_rules.specs.Rules.{goes, at_region}
 use Rattle.cap_account_resources.specs.Parts.{known_as, Table}
 use Rattle.cap_account_resources.proofs.Lists.{all-at, all-both}
 use Rattle.cap_account_resources.proofs.Stocks.{Stock, no_stock, inside-second}
-use Rattle.cap_account_states.specs.Nodes.{Comes, Children}
+use Rattle.cap_account_states.specs.Nodes.{Comes}
 use Rattle.cap_account_states.proofs.Terms.{Over}
 use Rattle.cap_account_states.proofs.Attempts.{comes-bind, after-found, after-need}
 use Rattle.cap_account_states.proofs.Meets.{Usable}
-use Rattle.cap_account_states.proofs.Checked.{Checked}
-use Rattle.cap_account_states.proofs.Facts.{StateOver, FactHolds, FactOver, matching-all, fact-meets}
+use Rattle.cap_account_states.proofs.Facts.{StateOver, FactHolds, FactOver, MatchingAll, matching-all, fact-meets}
 use Rattle.cap_account_states.proofs.Backed.{Backed}
 use Rattle.cap_account_assertions.proofs.Laws.{StateAt}
 use Rattle.cap_account_assertions.proofs.TakeSteps.{Job, remaining}
 use Rattle.cap_account_assertions.proofs.TakeHeads.{means-bound, head-same, head-bound, ItemTaken}
 
 -- the slots of a fact that fits
-slots-fit :
+pub slots-fit :
     (sc : Scope) (o : Option PlainRegionType) (args : List Slot) (y : Slot) →
     IsSomeAnd o (λ type. FactFits sc type args y) →
     AllByRecursion (SlotFits sc Int) (args ++ y ∷ [])
@@ -55,7 +53,7 @@ firm-of k f e =
     tight false true e = absurd (cc)
 
 -- all of its terms may be looked at
-terms-over :
+pub terms-over :
     (P : ℕ → Type 0) (f : PlainFact) → f.loose ≡ false → FactOver P f →
     AllByRecursion (Over P) (f.region ∷ (f.args ++ f.state ∷ []))
 terms-over P f e o = (
@@ -64,16 +62,32 @@ terms-over P f e o = (
       (subst (λ b. StateOver P b f.state) e o.2, tt),
 )
 
-module _ (p : Checked) (ks : List ℕ) (T : Table) (j : Job) (v : Valuation) (s : PlainState)
-    (c : Stock) (st : StateAt p.program ks T j.scope j.env v s) (backed : Backed p.program v s c)
-    (trees : PlainTrees) where
-  pub fact-taken :
+-- what rule `region` comes to: a firm fact of this type, whose terms meet the slots
+pub record FactFound (ks : List ℕ) (sc : Scope) (T : Table) (v : Valuation) (s : PlainState)
+    (e i n k : ℕ) (args : List Slot) (y : Slot) (P : PlainEnv → Type 0) : Type 0 where
+  pub fact_there : PlainFact
+  pub is_fact : slice_get s.facts i ≡ Some fact_there
+  pub of_kind : fact_there.kind ≡ k
+  pub firm : fact_there.loose ≡ false
+  pub known : FactHolds v T fact_there
+  pub over : FactOver (Usable ks s.sorts Int) fact_there
+  pub met :
+      MatchingAll ks sc s.sorts v (env_at s e) (Is (variable n) ∷ (args ++ y ∷ []))
+      (fact_there.region ∷ (fact_there.args ++ fact_there.state ∷ [])) P
+
+module _ (p : PlainProgram) (ks : List ℕ) (T : Table) (j : Job) (v : Valuation) (s : PlainState)
+    (c : Stock) (st : StateAt p ks T j.scope j.env v s) (backed : Backed p v s c)
+    (P : List PlainGoal → Type 0) where
+  -- the environment in which the slots are met
+  abbrev pub AfterFact : Items → PlainEnv → Type 0
+  AfterFact more later = Comes (goes (with_env_at s j.env later) (remaining j more)) P
+
+  pub fact-found :
       (i : ℕ) (place : Place) (n k : ℕ) (args : List Slot) (y : Slot) (more : Items) →
-      ItemFits p.program j.scope (fact place n k args y) →
-      Comes (at_region s i n k args y (remaining j more)) (Children p.N trees) →
-      ItemTaken p ks T j v s c trees [] (fact place n k args y) more
-  fact-taken i place n k args y more fits h =
-      let P = Children p.N trees in
+      ItemFits p j.scope (fact place n k args y) →
+      Comes (at_region s i n k args y (remaining j more)) P →
+      FactFound ks j.scope T v s j.env i n k args y (AfterFact more)
+  fact-found i place n k args y more fits h =
       let R = Usable ks s.sorts Int in
       let env = env_at s j.env in
       let slots = Is (variable n) ∷ (args ++ y ∷ []) in
@@ -87,28 +101,51 @@ module _ (p : Checked) (ks : List ℕ) (T : Table) (j : Job) (v : Valuation) (s 
       let f = a.0 in
       let b = after-need ((f.kind == k) && not f.loose) (λ u. matched f) P a.2 in
       let t = firm-of k f b.0 in
-      let known = all-at (FactHolds v T) s.facts i f st.facts.holds a.1 in
       let over = all-at (FactOver R) s.facts i f st.facts.over a.1 in
-      let g = matching-all ks j.scope v s env slots (terms f) (λ later. Comes (end later) P)
-      st.grounded.meets st.placed
-      ((fits.0, tt), slots-fit j.scope (slice_get p.program.regions k) args y fits.1)
-      (terms-over R f t.firm over)
-      (comes-bind (match_slots s.rows env slots (terms f)) end P b.1) in
+      record {
+        fact_there = f;
+        is_fact = a.1;
+        of_kind = t.of_kind;
+        firm = t.firm;
+        known = all-at (FactHolds v T) s.facts i f st.facts.holds a.1;
+        over = over;
+        met =
+            matching-all ks j.scope v s env slots (terms f) (λ later. Comes (end later) P)
+            st.grounded.meets st.placed
+            ((fits.0, tt), slots-fit j.scope (slice_get p.regions k) args y fits.1)
+            (terms-over R f t.firm over)
+            (comes-bind (match_slots s.rows env slots (terms f)) end P b.1);
+      }
+
+  abbrev pub fact-goes :
+      (i : ℕ) (place : Place) (n k : ℕ) (args : List Slot) (y : Slot) (more : Items) →
+      FactFound ks j.scope T v s j.env i n k args y (AfterFact more) →
+      ItemTaken p ks T j v s c P [] (fact place n k args y) more
+  fact-goes i place n k args y more f =
+      let g = f.met in
       record {
         head =
-            head-bound p.program ks T j v s c st (head-same p.program ks T j v s c st backed)
-            g.later g.placed g.stays g.outside g.size;
+            head-bound p ks T j v s c st (head-same p ks T j v s c st backed) g.later g.placed
+            g.stays g.outside g.size;
         claim = λ w l x m r.
-            let at = fact-meets v T f x n args y known t.firm
+            let at = fact-meets v T f.fact_there x n args y f.known f.firm
             (g.means w l x (means-bound j.scope j.env s g.later st.there w x m)) in (
               (
                 at.0,
                 at.1,
-                at.2 ∙ ap (λ q. Some (known_as q at.0 (Some at.1))) t.of_kind,
+                at.2 ∙ ap (λ q. Some (known_as q at.0 (Some at.1))) f.of_kind,
                 at.3,
                 at.4,
               ),
-              inside-second p.program no_stock r,
+              inside-second p no_stock r,
             );
         goes = g.comes.1;
       }
+
+  pub fact-taken :
+      (i : ℕ) (place : Place) (n k : ℕ) (args : List Slot) (y : Slot) (more : Items) →
+      ItemFits p j.scope (fact place n k args y) →
+      Comes (at_region s i n k args y (remaining j more)) P →
+      ItemTaken p ks T j v s c P [] (fact place n k args y) more
+  fact-taken i place n k args y more fits h =
+      fact-goes i place n k args y more (fact-found i place n k args y more fits h)

@@ -9,7 +9,7 @@ use Rattle.cap_lin.specs.declared.row.Row.{Row}
 use Rattle.cap_lin.specs.declared.row.Sort.TheVariants.{Int}
 use Rattle.cap_prog.specs.Program.{PlainItem, Items, item, PlainProgram}
 use Rattle.cap_prog.specs.Scopes.{Scope}
-use Rattle.cap_goal_spec.specs.States.{PlainFact, PlainEnv, PlainState}
+use Rattle.cap_goal_spec.specs.States.{PlainFact, PlainEnv, PlainState, PlainGoal, goals_of}
 use Rattle.cap_goal_spec.specs.Choices.{PlainTrees}
 use Rattle.cap_rules.specs.Making.{env_at, with_env_at}
 use Rattle.cap_account_states.proofs.Alike.{usable-alike, Alike, alike-same}
@@ -17,7 +17,7 @@ use Rattle.cap_account_resources.specs.Parts.{Table}
 use Rattle.cap_account_resources.proofs.Lists.{Among, all-more, set-length}
 use Rattle.cap_account_resources.proofs.Interference.{Holding}
 use Rattle.cap_account_resources.proofs.Stocks.{Stock, no_stock, both, Inside, inside-is, none-right}
-use Rattle.cap_account_states.specs.Nodes.{Open}
+use Rattle.cap_account_states.specs.Nodes.{Children}
 use Rattle.cap_account_states.proofs.Terms.{vars-more}
 use Rattle.cap_account_states.proofs.Brought.{Bring, Brought, brought-none}
 use Rattle.cap_account_states.proofs.Meets.{Usable, usable-on, Old, Same, same-state, meets-env}
@@ -199,38 +199,39 @@ module _ (p : PlainProgram) (ks : List ℕ) (T : Table) (j : Job) (v : Valuation
 
 -- ---- what a rule leads to
 
-module _ (p : Checked) (ks : List ℕ) (T : Table) (j : Job) (v : Valuation) (s : PlainState)
-    (c : Stock) (trees : PlainTrees) where
-  -- the item goes, and this is brought
+module _ (p : PlainProgram) (ks : List ℕ) (T : Table) (j : Job) (v : Valuation) (s : PlainState)
+    (c : Stock) (P : List PlainGoal → Type 0) where
+  -- the item goes, and this is brought; P holds of the goals that are left
   pub record ItemTaken (bs : List Bring) (i : PlainItem) (more : Items) : Type 0 where
-    pub head : Head p.program ks T j v s c bs
-    pub claim : Claim p.program T j.scope head.w head.after j.env i head.taken
-    pub goes : Open p.N trees head.after (tasks_of (with_items j more))
+    pub head : Head p ks T j v s c bs
+    pub claim : Claim p T j.scope head.w head.after j.env i head.taken
+    pub goes : P (goals_of head.after (tasks_of (with_items j more)))
 
   -- other items are to be taken, and nothing is brought
   pub record ItemsTurned : Type 0 where
-    pub head : Head p.program ks T j v s c []
+    pub head : Head p ks T j v s c []
     pub rest : Items
-    pub fits : AreFit p.program j.scope rest
-    pub turns : Turns p.program T j.scope head.w head.after j.env head.taken j.items rest
-    pub children : PlainTrees
-    pub no_larger : trees_size children ≤ trees_size trees
-    pub goes : Open p.N children head.after (tasks_of (with_items j rest))
+    pub fits : AreFit p j.scope rest
+    pub turns : Turns p T j.scope head.w head.after j.env head.taken j.items rest
+    pub goes : P (goals_of head.after (tasks_of (with_items j rest)))
 
-  module _ (next : ℤ) (lim : Holding) (st : TakeStart p.program ks T next lim j v s c) (size : ℕ)
-      (small : trees_size trees ≤ size) (law : TookLaw p ks size) where
-    pub took-taken :
-        {bs : List Bring} (i : PlainItem) (more : Items) → j.items ≡ item i more →
-        AreFit p.program j.scope more → ItemTaken bs i more → Took p ks T next j v s c (suc size)
-    took-taken {bs} i more e f r =
-        took-item p ks T next j v s c r.head i more e r.claim size (suc size) (omega arith)
-        (law T next lim (with_items j more) trees r.head.w r.head.after r.head.left small r.goes
-        (start-after p.program ks T next lim j more v s c st r.head f))
+module _ (p : Checked) (ks : List ℕ) (T : Table) (next : ℤ) (lim : Holding) (j : Job)
+    (v : Valuation) (s : PlainState) (c : Stock) (st : TakeStart p.program ks T next lim j v s c)
+    (size : ℕ) (law : TookLaw p ks size) (trees : PlainTrees) (small : trees_size trees ≤ size) where
+  pub took-taken :
+      {bs : List Bring} (i : PlainItem) (more : Items) → j.items ≡ item i more →
+      AreFit p.program j.scope more →
+      ItemTaken p.program ks T j v s c (Children p.N trees) bs i more →
+      Took p ks T next j v s c (suc size)
+  took-taken {bs} i more e f r =
+      took-item p ks T next j v s c r.head i more e r.claim size (suc size) (omega arith)
+      (law T next lim (with_items j more) trees r.head.w r.head.after r.head.left small r.goes
+      (start-after p.program ks T next lim j more v s c st r.head f))
 
-    pub took-turned : ItemsTurned → Took p ks T next j v s c (suc size)
-    took-turned r =
-        let n = r.no_larger in
-        took-other p ks T next j v s c r.head r.rest r.turns size (suc size) (omega arith)
-        (law T next lim (with_items j r.rest) r.children r.head.w r.head.after r.head.left
-        (omega (arith, n, small)) r.goes
-        (start-after p.program ks T next lim j r.rest v s c st r.head r.fits))
+  pub took-turned :
+      ItemsTurned p.program ks T j v s c (Children p.N trees) →
+      Took p ks T next j v s c (suc size)
+  took-turned r =
+      took-other p ks T next j v s c r.head r.rest r.turns size (suc size) (omega arith)
+      (law T next lim (with_items j r.rest) trees r.head.w r.head.after r.head.left small r.goes
+      (start-after p.program ks T next lim j r.rest v s c st r.head r.fits))

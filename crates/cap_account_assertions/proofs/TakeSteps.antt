@@ -151,7 +151,7 @@ Turns p T sc w t e taken items rest =
 
 module _ (p : PlainProgram) where
   -- what is left, given and owned in the end, beside what one step took
-  budget-step :
+  pub budget-step :
       (left taken given own between before guards : Stock) →
       Inside p (both p (both p left given) own) (both p between guards) →
       Inside p (both p between taken) before →
@@ -194,7 +194,7 @@ module _ (p : PlainProgram) where
 module _ (p : Checked) (ks : List ℕ) (T : Table) (next : ℤ) (j : Job) (v : Valuation)
     (s : PlainState) (c : Stock) where
   -- after a step, other items
-  pub took-other :
+  abbrev pub took-other :
       {bs : List Bring} (h : Head p.program ks T j v s c bs) (rest : Items) →
       Turns p.program T j.scope h.w h.after j.env h.taken j.items rest → (few many : ℕ) →
       few ≤ many → Took p ks T next (with_items j rest) h.w h.after h.left few →
@@ -234,7 +234,7 @@ module _ (p : Checked) (ks : List ℕ) (T : Table) (next : ℤ) (j : Job) (v : V
   }
 
   -- after an item's rule, the items behind it
-  pub took-item :
+  abbrev pub took-item :
       {bs : List Bring} (h : Head p.program ks T j v s c bs) (i : PlainItem) (more : Items) → j.items ≡ item i more →
       Claim p.program T j.scope h.w h.after j.env i h.taken → (few many : ℕ) → few ≤ many →
       Took p ks T next (with_items j more) h.w h.after h.left few → Took p ks T next j v s c many
@@ -249,7 +249,7 @@ module _ (p : Checked) (ks : List ℕ) (T : Table) (next : ℤ) (j : Job) (v : V
       )) few many le t
 
 -- no items are left
-pub took-none :
+abbrev pub took-none :
     (p : Checked) (ks : List ℕ) (T : Table) (next : ℤ) (j : Job) (v : Valuation) (s : PlainState)
     (c : Stock) (trees : PlainTrees) → j.items ≡ none → Open p.N trees s j.tasks →
     StateAt p.program ks T j.scope j.env v s → Backed p.program v s c →

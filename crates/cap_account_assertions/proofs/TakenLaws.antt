@@ -3,7 +3,7 @@ use Rattle.std.proofs.Common.{◌≡◌, ℕ, ◌<◌, ℤ, pos, ◌+ℤ◌, ◌
 use Rattle.std.specs.List.{AllByRecursion}
 use Rattle.std.proofs.lemmas.Int.{ints}
 use Rattle.cap_lin.specs.Values.{Valuation}
-use Rattle.cap_prog.specs.Program.{Items}
+use Rattle.cap_prog.specs.Program.{Items, PlainProgram}
 use Rattle.cap_prog.specs.Scopes.{Scope}
 use Rattle.cap_prog.specs.WellFormed.{RegionFits}
 use Rattle.cap_goal_spec.specs.States.{PlainState, PlainTask, to_take}
@@ -20,7 +20,7 @@ use Rattle.cap_account_states.proofs.Items.{AreFit}
 use Rattle.cap_account_states.proofs.Backed.{Backed}
 use Rattle.cap_account_assertions.proofs.TreeSizes.{trees_size}
 use Rattle.cap_account_assertions.proofs.NewRegions.{below-or, made-guards}
-use Rattle.cap_account_assertions.proofs.TakeSteps.{Job, MadeFrom}
+use Rattle.cap_account_assertions.proofs.TakeSteps.{Job, MadeFrom, TakeStart, Took}
 use Rattle.cap_account_assertions.proofs.TakeAll.{ConvertLaw, took}
 use Rattle.cap_account_assertions.proofs.Laws.{StateAt, Made, Taken, TakenLaw, TakenOnce, TakenOnceLaw}
 use Rattle.cap_account_assertions.proofs.Coarser.{taken-here, taken-once}
@@ -54,7 +54,7 @@ each-number P (r ∷ rs) f = (f r.number (inl refl), each-number P rs (λ n h. f
 abbrev pub FreeFrom : Table → ℤ → Type 0
 FreeFrom T next = (n : ℤ) → next ≤ℤ n → T n ≡ None
 
-numbered-made :
+pub numbered-made :
     (p : Checked) (T U : Table) (next later : ℤ) (new : List Owner) → FreeFrom T next →
     MadeFrom p.program T next U new later → Made p.program T U new
 numbered-made p T U next later new free m = record {
@@ -76,37 +76,42 @@ pub record TakenFrom (p : Checked) (ks : List ℕ) (T : Table) (sc : Scope) (e m
   pub later : ℤ
   pub numbered : Numbered next taken.new later
 
-pub taken-from :
-    (p : Checked) → AllByRecursion (RegionFits p.program) p.program.regions → (ks : List ℕ) →
-    ConvertLaw p ks → (T : Table) (sc : Scope) (e most n : ℕ) (items : Items)
-    (ts : List PlainTask) (trees : PlainTrees) (v : Valuation) (s : PlainState) (held : Stock)
-    (next : ℤ) → Open p.N trees s (to_take items e most n ∷ ts) → StateAt p.program ks T sc e v s →
-    AllByRecursion (λ k. k < length s.sorts) ks → AreFit p.program sc items →
-    Backed p.program v s held → FitsRoom p.program T held → FreeFrom T next →
+-- what is to be taken, as a job
+abbrev pub job_of : Scope → ℕ → ℕ → ℕ → Items → List PlainTask → Job
+job_of sc e most n items ts = record {
+  scope = sc;
+  env = e;
+  most = most;
+  statement = n;
+  items = items;
+  tasks = ts;
+}
+
+-- with all that items were taken out of within the room of the table
+abbrev pub start-in-room :
+    (p : PlainProgram) (ks : List ℕ) (T : Table) (next : ℤ) (j : Job) (v : Valuation)
+    (s : PlainState) (held : Stock) → StateAt p ks T j.scope j.env v s →
+    AllByRecursion (λ k. k < length s.sorts) ks → AreFit p j.scope j.items → Backed p v s held →
+    FitsRoom p T held → FreeFrom T next → TakeStart p ks T next (room p T) j v s held
+start-in-room p ks T next j v s held at low fits backed inside free = record {
+  ready = at;
+  backed = backed;
+  low = low;
+  fits = fits;
+  absent = λ h. free;
+  unheld = λ h m l. ap (room_of p) (free m l);
+  within = inside;
+  composes = room-some p T;
+}
+
+-- what was taken
+abbrev pub taken-of :
+    (p : Checked) (ks : List ℕ) (T : Table) (sc : Scope) (e most n : ℕ) (items : Items)
+    (ts : List PlainTask) (v : Valuation) (s : PlainState) (held : Stock) (next : ℤ) (size : ℕ) →
+    FreeFrom T next → Took p ks T next (job_of sc e most n items ts) v s held size →
     TakenFrom p ks T sc e most v held s items ts next
-taken-from p regions ks convert T sc e most n items ts trees v s held next goes at low fits backed
-    inside free =
+taken-of p ks T sc e most n items ts v s held next size free t =
     let pp = p.program in
-    let j : Job = record {
-      scope = sc;
-      env = e;
-      most = most;
-      statement = n;
-      items = items;
-      tasks = ts;
-    } in
-    let t = took p regions ks convert (trees_size trees) T next (room pp T) j trees v s held
-    (omega arith) goes
-    (record {
-      ready = at;
-      backed = backed;
-      low = low;
-      fits = fits;
-      absent = λ h. free;
-      unheld = λ h m l. ap (room_of pp) (free m l);
-      within = inside;
-      composes = room-some pp T;
-    }) in
     let made = numbered-made p T t.U next t.later t.new free t.made in
     record {
       taken = record {
@@ -142,6 +147,22 @@ taken-from p regions ks convert T sc e most n items ts trees v s held next goes 
       later = t.later;
       numbered = t.made.numbered;
     }
+
+pub taken-from :
+    (p : Checked) → AllByRecursion (RegionFits p.program) p.program.regions → (ks : List ℕ) →
+    ConvertLaw p ks → (T : Table) (sc : Scope) (e most n : ℕ) (items : Items)
+    (ts : List PlainTask) (trees : PlainTrees) (v : Valuation) (s : PlainState) (held : Stock)
+    (next : ℤ) → Open p.N trees s (to_take items e most n ∷ ts) → StateAt p.program ks T sc e v s →
+    AllByRecursion (λ k. k < length s.sorts) ks → AreFit p.program sc items →
+    Backed p.program v s held → FitsRoom p.program T held → FreeFrom T next →
+    TakenFrom p ks T sc e most v held s items ts next
+taken-from p regions ks convert T sc e most n items ts trees v s held next goes at low fits backed
+    inside free =
+    let j = job_of sc e most n items ts in
+    taken-of p ks T sc e most n items ts v s held next (trees_size trees) free
+    (took p regions ks convert (trees_size trees) T next (room p.program T) j trees v s held
+    (omega arith) goes
+    (start-in-room p.program ks T next j v s held at low fits backed inside free))
 
 pub taken-law :
     (p : Checked) → AllByRecursion (RegionFits p.program) p.program.regions →

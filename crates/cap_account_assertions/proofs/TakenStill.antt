@@ -28,10 +28,11 @@ use Rattle.cap_account_assertions.proofs.Laws.{StateAt}
 use Rattle.cap_account_assertions.proofs.Coarser.{then-alike, follows-named, state-alike}
 use Rattle.cap_account_assertions.proofs.TreeSizes.{trees_size}
 use Rattle.cap_account_assertions.proofs.Follows.{Follows}
-use Rattle.cap_account_assertions.proofs.TakeSteps.{Job}
+use Rattle.cap_account_assertions.proofs.TakeSteps.{Job, TakeStart, Took}
 use Rattle.cap_account_assertions.proofs.MadeRegions.{known-extends}
 use Rattle.cap_account_assertions.proofs.CaseStarts.{known-at, state-at}
 use Rattle.cap_account_assertions.proofs.TakeAll.{ConvertLaw, took}
+use Rattle.cap_account_assertions.proofs.TakenLaws.{job_of}
 use Rattle.cap_account_assertions.proofs.TakeConvert.{convert-law}
 
 -- new variables have the values that are brought. What is held has the items, by the same table, at all
@@ -59,13 +60,13 @@ StillLaw p =
     Backed p.program v s held → FitsRoom p.program T held → Still p ks T sc e v held s items ts
 
 -- without new regions the table is the same, and what was given was held
-same-table :
+pub same-table :
     (T U : Table) (new : List Owner) → new ≡ [] →
     ((n : ℤ) → (Among n (numbers_of new) → ⊥) → U n ≡ T n) → Extends U T
 same-table T U new none f n e h =
     sym (f n (λ m. subst (λ rs. Among n (numbers_of rs)) none m)) ∙ h
 
-given-held :
+pub given-held :
     (p : PlainProgram) (left given held : Stock) (new : List Owner) → new ≡ [] →
     Inside p (both p (both p left given) (owned p new)) (both p held (guards_of_all p new)) →
     Inside p given held
@@ -77,31 +78,14 @@ given-held p left given held new none h =
     (plus (plus (atom 0) (atom 1)) (atom 2)) (0 ∷ 2 ∷ []) refl)
     (subst (Inside p (both p (both p left given) no_stock)) (none-right p held) k)
 
-pub still-law :
-    (p : Checked) → AllByRecursion (RegionFits p.program) p.program.regions →
-    ((ks : List ℕ) → ConvertLaw p ks) → StillLaw p
-still-law p regions convert ks T sc e n items ts trees v s held goes at low fits backed inside =
+-- what was taken is held
+abbrev pub still-of :
+    (p : Checked) (ks : List ℕ) (T : Table) (sc : Scope) (e n : ℕ) (items : Items)
+    (ts : List PlainTask) (v : Valuation) (s : PlainState) (held : Stock) (next : ℤ) (size : ℕ) →
+    Took p ks T next (job_of sc e 0 n items ts) v s held size →
+    Still p ks T sc e v held s items ts
+still-of p ks T sc e n items ts v s held next size t =
     let pp = p.program in
-    let j : Job = record {
-      scope = sc;
-      env = e;
-      most = 0;
-      statement = n;
-      items = items;
-      tasks = ts;
-    } in
-    let t = took p regions ks (convert ks) (trees_size trees) T (pos 1) (room pp T) j trees v s held
-    (omega arith) goes
-    (record {
-      ready = at;
-      backed = backed;
-      low = low;
-      fits = fits;
-      absent = λ h m l. absurd (omega (arith, h));
-      unheld = λ h m l. absurd (omega (arith, h));
-      within = inside;
-      composes = room-some pp T;
-    }) in
     let none = t.none_made refl in
     let back = same-table T t.U t.new none t.made.others in
     let known = known-extends pp ks t.U T t.w t.after t.left back
@@ -126,6 +110,33 @@ still-law p regions convert ks T sc e n items ts trees v s held goes at low fits
             (t.draws x l a m no_stock)),
       );
     }
+
+-- where none may be created, it doesn't matter from which number on there is no region
+abbrev pub start-as-it-is :
+    (p : PlainProgram) (ks : List ℕ) (T : Table) (next : ℤ) (j : Job) → j.most ≡ 0 →
+    (v : Valuation) (s : PlainState) (held : Stock) → StateAt p ks T j.scope j.env v s →
+    AllByRecursion (λ k. k < length s.sorts) ks → AreFit p j.scope j.items → Backed p v s held →
+    FitsRoom p T held → TakeStart p ks T next (room p T) j v s held
+start-as-it-is p ks T next j none v s held at low fits backed inside = record {
+  ready = at;
+  backed = backed;
+  low = low;
+  fits = fits;
+  absent = λ h m l. absurd (omega (arith, h, none));
+  unheld = λ h m l. absurd (omega (arith, h, none));
+  within = inside;
+  composes = room-some p T;
+}
+
+pub still-law :
+    (p : Checked) → AllByRecursion (RegionFits p.program) p.program.regions →
+    ((ks : List ℕ) → ConvertLaw p ks) → StillLaw p
+still-law p regions convert ks T sc e n items ts trees v s held goes at low fits backed inside =
+    let j = job_of sc e 0 n items ts in
+    still-of p ks T sc e n items ts v s held (pos 1) (trees_size trees)
+    (took p regions ks (convert ks) (trees_size trees) T (pos 1) (room p.program T) j trees v s held
+    (omega arith) goes
+    (start-as-it-is p.program ks T (pos 1) j refl v s held at low fits backed inside))
 
 pub still-always :
     (p : Checked) → AllByRecursion (RegionFits p.program) p.program.regions → StillLaw p
