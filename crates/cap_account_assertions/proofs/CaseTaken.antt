@@ -120,7 +120,7 @@ module _ (p : Checked) (ks : List ℕ) (T : Table) (next : ℤ) (lim : Holding) 
       made_known = known_as k m.args (Some m.state)
 
       -- all environments that were there stay
-      envs-stay : (x : ℕ) → x < length s.envs → env_at made_state x ≡ env_at s x
+      pub envs-stay : (x : ℕ) → x < length s.envs → env_at made_state x ≡ env_at s x
       envs-stay x l =
           let on = goes-fresh.envs in
           t.follows.others x (omega (arith, l, on)) (λ e. omega (arith, l, e))
