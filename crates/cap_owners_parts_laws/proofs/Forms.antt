@@ -76,7 +76,7 @@ form-only v (Span a (Some e)) x y h k =
 
 -- ---- it is told of
 
-counted-so :
+pub counted-so :
     (make : ℕ → Element) (z : ℤ) (n : ℕ) (x : Element) → z ≡ pos n → x ≡ make n →
     IsTold (λ y. y ≡ x) (counted make z)
 counted-so make z n x e f =
@@ -91,7 +91,7 @@ over-share d m f h s e =
     (cancel d ((lowest m d).num * f.den) (f.num * (lowest m d).den) h
     (omega (arith, ap (λ w. w * f.den) r.value, ap (λ w. w * (lowest m d).den) e)))
 
-share-so :
+pub share-so :
     (z : ℤ) (m : ℕ) (f : Fraction) (x : Element) → z ≡ pos m → IsShare f →
     f.num * over ≡ m * f.den → x ≡ share f → IsTold (λ y. y ≡ x) (share_element z)
 share-so z m f x e s r is =

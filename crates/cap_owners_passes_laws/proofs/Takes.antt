@@ -1,7 +1,7 @@
 -- A walk over a Take: items are taken one after the other, and regions are created. It comes to the
 -- goals to which taking leads, at the values at which the state holds there; on top of what is taken
 -- is then by what the items are met, and what they own.
-use Rattle.std.proofs.Common.{◌≡◌, ◌⊎◌, ℕ, ◌+◌, ◌-◌, ◌≤◌, ℤ, ◌<ℤ◌, true, List, ◌∷◌, ◌++◌, Some}
+use Rattle.std.proofs.Common.{◌≡◌, ◌⊎◌, ℕ, ◌+◌, ◌-◌, ◌<◌, ◌≤◌, ℤ, ◌<ℤ◌, true, List, ◌∷◌, ◌++◌, length, Some}
 use Rattle.std.specs.Prelude.{slice_get, IsSomeAnd}
 use Rattle.std.specs.List.{AllByRecursion, AllZip}
 use Rattle.cap_lin.specs.Linear.{Linear}
@@ -43,7 +43,8 @@ use Rattle.cap_owners_passes_laws.proofs.Rests.{into}
 -- a name stands for a variable alone, or for a whole number
 abbrev pub IsNameTerm : List Sort → Linear → Type 0
 IsNameTerm sorts t =
-    IsSomeAnd (lone_variable t) (λ x. Unit {0}) ⊎ Over (λ x. slice_get sorts x ≡ Some Int) t
+    IsSomeAnd (lone_variable t) (λ x. x < length sorts)
+    ⊎ Over (λ x. slice_get sorts x ≡ Some Int) t
 
 abbrev pub AreNameTerms : List Sort → PlainEnv → Type 0
 AreNameTerms sorts env =

@@ -1,0 +1,284 @@
+-- A walk takes half of a share: the half is a new variable, or there is none over the one denominator.
+use Rattle.std.proofs.Common.{◌≡◌, ◌≢◌, ◌⊎◌, inl, inr, ℕ, ◌+◌, ◌<◌, ℤ, pos, negsuc, ◌*ℤ◌, ◌<ℤ◌, Bool, true, false, List, [], ◌∷◌, ◌++◌, length, Option, Some, None, refl, sym, ap, ◌∙◌, subst, arith}
+use Rattle.std.specs.Prelude.{slice_get, unwrap_or, if◌then◌else◌, ◌==◌, ◌%◌, ◌/◌, IsSomeAnd}
+use Rattle.std.specs.List.{AllZip}
+use Rattle.std.proofs.lemmas.Slice.Zip.{AllZip-long}
+use Rattle.std.proofs.lemmas.Int.{ints}
+use Rattle.cap_lin.specs.Linear.{Linear, variable}
+use Rattle.cap_lin.specs.Values.{Valuation, value, amount}
+use Rattle.cap_lin.specs.declared.row.Sort.{Sort}
+use Rattle.cap_lin.specs.declared.row.Sort.TheVariants.{Int, Perm}
+use Rattle.cap_gsolve.specs.declared.piece.Form.{Form}
+use Rattle.cap_gsolve.specs.declared.piece.Form.TheVariants as form
+use Rattle.cap_gsolve.specs.Meaning.{IsFormElement, IsValueOf}
+use Rattle.cap_gsolve.proofs.Amounts.{amount-positive}
+use Rattle.cap_farkas.specs.declared.cert.Cert.{Cert}
+use Rattle.cap_syntax.specs.declared.place.Place.{Place}
+use Rattle.cap_prog.specs.declared.assertion.Slot.{Slot}
+use Rattle.cap_prog.specs.declared.assertion.Slot.TheVariants.{Is}
+use Rattle.cap_prog.specs.declared.assertion.Asked.TheVariants.{Share}
+use Rattle.cap_prog.specs.Program.{atom, Items, item}
+use Rattle.cap_prog.specs.Scopes.{SlotFits}
+use Rattle.cap_goal_spec.specs.Terms.{lone_variable}
+use Rattle.cap_goal_spec.specs.States.{PlainEnv, PlainState}
+use Rattle.cap_goal_spec.specs.Choices.{PlainTrees}
+use Rattle.cap_goal_spec.specs.Environments.{zero_value, term_of, open_to, reading}
+use Rattle.cap_rules.specs.Making.{env_at, fresh}
+use Rattle.cap_machine_accounts.specs.Assertions.{NameValue, HasNameSort}
+use Rattle.cap_account_resources.specs.Parts.{Table}
+use Rattle.cap_account_resources.proofs.Interference.{Holding}
+use Rattle.cap_account_resources.proofs.Lists.{all-at, push-length, get-first, within}
+use Rattle.cap_account_resources.proofs.Stocks.{Stock}
+use Rattle.cap_account_states.proofs.Adding.{PieceOver}
+use Rattle.cap_account_states.proofs.Alike.{Alike, agree-alike}
+use Rattle.cap_account_states.proofs.Brought.{Brings, a_half, form_brings, piece_brings}
+use Rattle.cap_account_states.proofs.Checked.{Checked}
+use Rattle.cap_account_states.proofs.Guarding.{FormOver, OpenGets, CutFrom, is_open, is_open_reading}
+use Rattle.cap_account_states.proofs.Guards.{open_sorts}
+use Rattle.cap_account_states.proofs.Matching.{met_env}
+use Rattle.cap_account_states.proofs.Meets.{Usable, usable-old, Old, with_value, new-whole, new-share, with-agrees, variable-amount}
+use Rattle.cap_account_states.proofs.Terms.{Over, Agree, vars-more, value-agree, amount-agree}
+use Rattle.cap_account_states.proofs.Wants.{Wants, value-of-alike, share-wants}
+use Rattle.cap_account_assertions.proofs.Coarser.{then-alike}
+use Rattle.cap_account_assertions.proofs.TakeSteps.{Job}
+use Rattle.cap_owners_spec.specs.Traced.{Traced, traced, past_width, untold, ◌>>=◌, over, a_share, value_at, valuation, amount_in, half_of}
+use Rattle.cap_owners_spec.specs.Filling.{met, atom_met}
+use Rattle.cap_owners_spec.specs.Walks.{Taking, asked_reading, new_share}
+use Rattle.cap_owners_values_laws.proofs.Numbers.{valuation-share, amount-is, half-is}
+use Rattle.cap_owners_values_laws.proofs.More.{sorted-more}
+use Rattle.cap_owners_passes_laws.proofs.Parted.{own-form}
+use Rattle.cap_owners_passes_laws.proofs.Names.{NamesSo, IsValue, names-so, name-so, met-names, met-terms, lone-term, variable-is, at-last}
+use Rattle.cap_owners_passes_laws.proofs.Elements.{amount-told}
+use Rattle.cap_owners_passes_laws.proofs.Takes.{IsNameTerm, AreNameTerms}
+use Rattle.cap_owners_passes_laws.proofs.Plain.{Starting}
+use Rattle.cap_owners_passes_laws.proofs.Cuts.{Found, Value}
+
+half-told : (n : ℤ) → pos 0 <ℤ n → half_of n ≡ untold → ⊥
+half-told (pos n) l e = by (n % 2 == 0) e
+  where
+    by : (b : Bool) → (if b then traced (pos (n / 2)) else past_width) ≡ untold → ⊥
+    by true e = absurd (cc)
+    by false e = absurd (cc)
+half-told (negsuc n) l e = omega (arith, ints, l)
+
+-- a name's term is one with more variables
+pub more-term :
+    (os : List Sort) (o : Sort) (t : Linear) → IsNameTerm os t → IsNameTerm (os ++ o ∷ []) t
+more-term os o t (inr h) =
+    inr (vars-more (λ x. slice_get os x ≡ Some Int) (λ x. slice_get (os ++ o ∷ []) x ≡ Some Int)
+    (λ x e. get-first os (o ∷ []) x Int e) t.parts h)
+more-term os o t (inl h) = inl (by (lone_variable t) h)
+  where
+    by :
+        (m : Option ℕ) → IsSomeAnd m (λ x. x < length os) →
+        IsSomeAnd m (λ x. x < length (os ++ o ∷ []))
+    by None h = h
+    by (Some x) h = (let l = push-length os o in omega (arith, h, l))
+
+-- what names stood for they stand for with a variable more
+more-names :
+    (os : List Sort) (vs : List NameValue) (y : NameValue) (env : PlainEnv) (ns : List NameValue) →
+    Agree (λ x. x < length os) (valuation vs) (valuation (vs ++ y ∷ [])) →
+    AreNameTerms os env → NamesSo (valuation vs) env ns → NamesSo (valuation (vs ++ y ∷ [])) env ns
+more-names os vs y env ns a terms so =
+    names-so (vs ++ y ∷ []) env ns so.size (λ x. by x (term_of env x) refl (name-so vs env ns so x))
+  where
+    u : Valuation
+    u = valuation (vs ++ y ∷ [])
+
+    old : (t : Linear) → IsNameTerm os t → Over (λ x. x < length os) t
+    old t (inr h) =
+        vars-more (λ x. slice_get os x ≡ Some Int) (λ x. x < length os)
+        (λ x e. within os x Int e) t.parts h
+    old t (inl h) = lone (lone_variable t) refl h
+      where
+        lone :
+            (o : Option ℕ) → lone_variable t ≡ o → IsSomeAnd o (λ x. x < length os) →
+            Over (λ x. x < length os) t
+        lone None e h = absurd h
+        lone (Some x) e h = subst (Over (λ x. x < length os)) (sym (lone-term t x e)) (h, tt)
+
+    by :
+        (x : ℕ) (o : Option Linear) → term_of env x ≡ o →
+        IsValue (valuation vs) (unwrap_or o zero_value) (value_at ns x) →
+        IsValue u (unwrap_or o zero_value) (value_at ns x)
+    by x None e h = record {
+      whole = value-agree (λ x. x < length os) (valuation vs) u a zero_value tt ∙ h.whole;
+      share = amount-agree (λ x. x < length os) (valuation vs) u a zero_value tt ∙ h.share;
+    }
+    by x (Some t) e h =
+        let o = old t (terms x t e) in
+        record {
+          whole = value-agree (λ x. x < length os) (valuation vs) u a t o ∙ h.whole;
+          share = amount-agree (λ x. x < length os) (valuation vs) u a t o ∙ h.share;
+        }
+
+module _ (p : Checked) (ks : List ℕ) (T : Table) (next : ℤ) (lim : Holding) (j : Job)
+    (vs : List NameValue) (s : PlainState) (c : Stock) (top : Taking) (k way : ℕ)
+    (cs : List Cert) (place : Place) (n r m : ℕ) (x : Slot) (more : Items) (kids : PlainTrees)
+    (f : Starting p ks T next lim j vs s c top (item (atom place n r m (Share x)) more))
+    (g : Found p ks T next lim j vs s c top k way cs place n r m (Share x) more kids f)
+    (ns : List NameValue) (so : NamesSo (valuation vs) (env_at s j.env) ns) (o : Option ℕ)
+    (opens : reading (env_at s j.env) x ≡ open_to o) (a : Linear)
+    (share : g.piece.form ≡ form.Share a) (fit : SlotFits j.scope Perm x) where
+  abbrev v : Valuation
+  v = valuation vs
+
+  abbrev env : PlainEnv
+  env = env_at s j.env
+
+  abbrev count : ℕ
+  count = length s.sorts
+
+  abbrev Here : Type 0
+  Here = Value p ks T next lim j vs s c top k way cs place n r m (Share x) more kids f g ns
+
+  size : length vs ≡ length s.sorts
+  size = AllZip-long HasNameSort s.sorts vs f.sorted
+
+  piece-over : FormOver (Usable ks s.sorts) g.piece.form
+  piece-over =
+      (all-at (PieceOver (Usable ks s.sorts)) s.guards k g.piece
+      f.start.ready.grounded.pieces_over g.at).1
+
+  old-over : Over (λ i. i < length s.sorts) a
+  old-over =
+      vars-more (Usable ks s.sorts Perm) (λ i. i < length s.sorts) (usable-old ks s.sorts Perm)
+      a.parts (subst (FormOver (Usable ks s.sorts)) share piece-over)
+
+  positive : pos 0 <ℤ amount v.fraction a
+  positive =
+      let own = own-form p.program v s c k g.piece f.start.backed g.at in
+      let h = subst (λ l. IsFormElement v l own.0) share own.1 in
+      amount-positive v a h.0 h.1 h.2
+
+  module _ (h : ℤ) (half : h *ℤ pos 2 ≡ amount v.fraction a) where
+    abbrev new : List NameValue
+    new = vs ++ a_share h ∷ []
+
+    abbrev u : Valuation
+    u = valuation (vs ++ a_share h ∷ [])
+
+    u-is : u ≡ with_value v (length s.sorts) (pos 0) h
+    u-is = valuation-share vs h ∙ ap (λ i. with_value v i (pos 0) h) size
+
+    agrees : Agree (λ i. i < length s.sorts) v u
+    agrees =
+        subst (Agree (λ i. i < length s.sorts) v) (sym u-is)
+        (with-agrees (λ i. i < length s.sorts) v (length s.sorts) (pos 0) h
+        (λ i l e. omega (arith, l, e)))
+
+    whole-new : u.whole (length s.sorts) ≡ pos 0
+    whole-new =
+        ap (λ (w : Valuation). w.whole (length s.sorts)) u-is
+        ∙ new-whole v (length s.sorts) (pos 0) h
+
+    share-new : u.fraction.numerator (length s.sorts) ≡ h
+    share-new =
+        ap (λ (w : Valuation). w.fraction.numerator (length s.sorts)) u-is
+        ∙ new-share v (length s.sorts) (pos 0) h
+
+    half-brings :
+        Brings u (length s.sorts) (piece_brings (is_open (Share x) env) (slice_get s.guards k))
+    half-brings =
+        subst (Brings u (length s.sorts))
+        (sym ((λ i. piece_brings (is_open_reading (opens i)) (g.at i)) ∙ ap form_brings share)) (
+          whole-new,
+          ap (λ z. z *ℤ pos 2) share-new ∙ half
+              ∙ sym (amount-agree (λ i. i < length s.sorts) v u agrees a old-over),
+          old-over,
+          tt,
+        )
+
+    later : g.later ≡ met_env env (reading env x) (variable (length s.sorts))
+    later = g.later_is
+
+    sorts : g.after.sorts ≡ s.sorts ++ Perm ∷ []
+    sorts = g.sorts ∙ ap (λ d. s.sorts ++ open_sorts (is_open_reading d)) opens
+
+    alike : Alike (Old s) v u
+    alike = agree-alike (Old s) v u agrees
+
+    half-wanted : Wants u (Share (Is (variable (length s.sorts)))) g.taken
+    half-wanted =
+        let w = g.w in
+        let gets = subst
+        (λ d. OpenGets g.w (Share x) d (variable (length s.sorts)) g.taken) opens g.gets in
+        let now = then-alike s g.after v g.w u
+        (piece_brings (is_open (Share x) env) (slice_get s.guards k))
+        (record { count = g.brought.count; are = g.brought.are }) g.alike alike half-brings in
+        let i : IsValueOf g.w (variable (length s.sorts)) gets.0 =
+        sym (ap (λ z. z *ℤ pos gets.0.den) gets.3 ∙ gets.4) in
+        let there : length s.sorts < length g.after.sorts =
+        (let e = ap length sorts in let l = push-length s.sorts Perm in omega (arith, e, l)) in
+        subst (Wants u (Share (Is (variable (length s.sorts))))) (sym gets.5)
+        (share-wants u u (Is (variable (length s.sorts))) (variable (length s.sorts)) gets.0 refl
+        refl gets.2
+        (value-of-alike (Old g.after) g.w u now (variable (length s.sorts)) (there, tt) gets.0 i))
+
+    half-value :
+        atom_met vs ns g.piece.form (asked_reading env (Share x)) ≡ traced (a_share h) → Here
+    half-value found =
+        let y = a_share h in
+        let fill = record top.fill { names = ns } in
+        let is : IsValue u (variable (length s.sorts)) y =
+        subst (λ i. IsValue u (variable i) y) size
+        (subst (IsValue u (variable (length vs))) (at-last vs y)
+        (variable-is (vs ++ y ∷ []) (length vs))) in
+        let names = met-names ks j.scope s.sorts (vs ++ y ∷ []) env Perm x
+        (variable (length s.sorts)) y fill f.start.ready.placed fit
+        (more-names s.sorts vs y env ns agrees f.terms so) is in
+        let bigger = push-length s.sorts Perm in
+        record {
+          value_is = y;
+          new = vs ++ y ∷ [];
+          found_it = found;
+          new_is = ap (λ d. vs ++ new_share (Share x) d y) opens;
+          alike = alike;
+          brings = half-brings;
+          sorted =
+              subst (λ os. AllZip HasNameSort os (vs ++ y ∷ [])) (sym sorts)
+              (sorted-more s.sorts vs Perm y f.sorted tt);
+          terms =
+              subst (λ os. AreNameTerms os g.later) (sym sorts)
+              (subst (AreNameTerms (s.sorts ++ Perm ∷ [])) (sym later)
+              (met-terms (IsNameTerm (s.sorts ++ Perm ∷ [])) env (reading env x)
+              (variable (length s.sorts)) (inl (omega (arith, bigger)))
+              (λ i t e. more-term s.sorts Perm t (f.terms i t e))));
+          names = subst (λ e. NamesSo u e (met (reading env x) y fill).names) (sym later) names;
+          by = vs ++ y ∷ [];
+          term = variable (length s.sorts);
+          is_value = ap a_share (sym (is.share));
+          wants = half-wanted;
+        }
+
+  pub share-value :
+      (atom_met vs ns g.piece.form (asked_reading env (Share x)) ≡ past_width) ⊎ Here
+  share-value = by (amount_in vs a) refl
+    where
+      at : (z : Traced ℤ) → amount_in vs a ≡ z →
+          atom_met vs ns g.piece.form (asked_reading env (Share x))
+          ≡ (z >>= λ n. half_of n >>= λ h. traced (a_share h))
+      at z e =
+          (λ i. atom_met vs ns (share i) (opens i))
+          ∙ ap (λ z. z >>= λ n. half_of n >>= λ h. traced (a_share h)) e
+
+      by : (z : Traced ℤ) → amount_in vs a ≡ z →
+          (atom_met vs ns g.piece.form (asked_reading env (Share x)) ≡ past_width) ⊎ Here
+      by untold e = absurd (amount-told vs a e)
+      by past_width e = inl (at past_width e)
+      by (traced z) e = halves (half_of z) refl
+        where
+          is : z ≡ amount v.fraction a
+          is = amount-is vs a z e
+
+          halves :
+              (q : Traced ℤ) → half_of z ≡ q →
+              (atom_met vs ns g.piece.form (asked_reading env (Share x)) ≡ past_width) ⊎ Here
+          halves untold q =
+              absurd (half-told z (subst (λ y. pos 0 <ℤ y) (sym is) positive) q)
+          halves past_width q =
+              inl (at (traced z) e ∙ ap (λ o. o >>= λ h. traced (a_share h)) q)
+          halves (traced h) q =
+              inr (half-value h (half-is z h q ∙ is)
+              (at (traced z) e ∙ ap (λ o. o >>= λ h. traced (a_share h)) q))
