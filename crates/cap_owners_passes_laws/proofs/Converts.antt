@@ -1,13 +1,11 @@
 -- A walk converts guards: the item stays.
-use Rattle.std.proofs.Common.{◌≡◌, ◌⊎◌, inl, inr, ℕ, ℤ, List, [], ◌∷◌, ◌++◌, refl, sym, ap, ◌∙◌, subst, arith}
-use Rattle.cap_lin.specs.Values.{Valuation}
+use Rattle.std.proofs.Common.{◌⊎◌, inr, ℕ, ℤ, List, [], refl, sym, ◌∙◌, arith}
 use Rattle.cap_syntax.specs.declared.place.Place.{Place}
 use Rattle.cap_farkas.specs.declared.cert.Cert.{Cert}
 use Rattle.cap_prog.specs.declared.assertion.Asked.{Asked}
-use Rattle.cap_prog.specs.Program.{atom, PlainItem, Items, item}
-use Rattle.cap_goal_spec.specs.States.{PlainState, to_take, goals_of}
+use Rattle.cap_prog.specs.Program.{atom, Items, item}
+use Rattle.cap_goal_spec.specs.States.{PlainState, goals_of}
 use Rattle.cap_goal_spec.specs.Choices.{by_convert, node, PlainTrees, no_trees, tree}
-use Rattle.cap_rules.specs.Making.{env_at}
 use Rattle.cap_machine_accounts.specs.Assertions.{NameValue}
 use Rattle.cap_account_resources.specs.Parts.{Table}
 use Rattle.cap_account_resources.proofs.Lists.{join-nil}
@@ -72,8 +70,7 @@ module _ (p : Checked) (ks : List ℕ) (T : Table) (next : ℤ) (lim : Holding) 
         more_facts = sym (join-nil top.fill.facts);
         met = λ U g w l a x q r d under.
             let le = inside-second pp no_stock q in
-            let out = draws-all-more pp U a it q (both pp no_stock q) r r le (inside-same pp r) d in
-            (
+            let out = draws-all-more pp U a it q (both pp no_stock q) r r le (inside-same pp r) d in (
               met-items pp U a it it (both pp no_stock q) r (sym refl) out
                   ∙ items-met-out pp U a it q (both pp no_stock q) r r le (inside-same pp r) d,
               told-items pp U a it it (both pp no_stock q) r (sym refl) out

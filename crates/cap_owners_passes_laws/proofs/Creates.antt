@@ -1,7 +1,7 @@
 -- A walk creates a region: its case is taken, the region is made, and the fact is taken again.
-use Rattle.std.proofs.Common.{◌≡◌, ◌⊎◌, inl, inr, ℕ, zero, suc, ◌+◌, ◌-◌, ◌<◌, ◌≤◌, ℤ, pos, ◌+ℤ◌, ◌≤ℤ◌, ◌<ℤ◌, false, List, [], ◌∷◌, ◌++◌, length, Option, Some, None, refl, sym, ap, ◌∙◌, subst, arith}
+use Rattle.std.proofs.Common.{◌≡◌, ◌⊎◌, inl, inr, ℕ, zero, suc, ◌-◌, ◌<◌, ◌≤◌, ℤ, pos, ◌+ℤ◌, ◌≤ℤ◌, ◌<ℤ◌, false, List, [], ◌∷◌, ◌++◌, length, Option, Some, None, refl, sym, ap, ◌∙◌, subst, arith}
 use Rattle.std.specs.Prelude.{slice_get, IsSomeAnd}
-use Rattle.std.specs.List.{AllByRecursion, AllZip}
+use Rattle.std.specs.List.{AllByRecursion}
 use Rattle.std.proofs.lemmas.Int.{ints}
 use Rattle.std.proofs.lemmas.Slice.Zip.{AllZip-long}
 use Rattle.cap_lin.specs.Values.{Valuation, value}
@@ -16,18 +16,17 @@ use Rattle.cap_goal_spec.specs.Choices.{PlainTree, by_absurd, by_create, by_made
 use Rattle.cap_rules.specs.Making.{fresh, env_at}
 use Rattle.cap_rules.specs.Rules.{creates}
 use Rattle.cap_rules_nodes.specs.Nodes.{goals_left}
-use Rattle.cap_machine_accounts.specs.Parts.{no_part}
 use Rattle.cap_machine_accounts.specs.Assertions.{NameValue, a_number, HasNameSort}
-use Rattle.cap_account_resources.specs.Parts.{cells_of, known_as, Table}
-use Rattle.cap_account_resources.proofs.Covering.{join_marks, IsPartOf, part-trans}
+use Rattle.cap_account_resources.specs.Parts.{known_as, Table}
+use Rattle.cap_account_resources.proofs.Covering.{IsPartOf, part-trans}
 use Rattle.cap_account_resources.proofs.Interference.{Holding, ArePartOf}
-use Rattle.cap_account_resources.proofs.Lists.{all-more, all-both, join-assoc, push-length}
+use Rattle.cap_account_resources.proofs.Lists.{all-more, all-both, join-assoc}
 use Rattle.cap_account_resources.proofs.Monoid.{atom, both as plus}
-use Rattle.cap_account_resources.proofs.Owners.{Owner, owned, guards_of_all, Numbered, no-cells-in, numbered-up}
-use Rattle.cap_account_resources.proofs.Room.{all_guards, alone, with_known, part-join}
-use Rattle.cap_account_resources.proofs.Stocks.{Stock, no_stock, guard_stock, both, Inside, stock-laws, reordered, inside-same, inside-trans, inside-first, inside-both, inside-cells, inside-guards}
+use Rattle.cap_account_resources.proofs.Owners.{owned, guards_of_all, Numbered, no-cells-in, numbered-up}
+use Rattle.cap_account_resources.proofs.Room.{all_guards, with_known, part-join}
+use Rattle.cap_account_resources.proofs.Stocks.{Stock, no_stock, guard_stock, both, Inside, stock-laws, reordered, inside-same, inside-trans, inside-first, inside-both, inside-guards}
 use Rattle.cap_account_resources.proofs.Tables.{extends-states, extends-trans}
-use Rattle.cap_account_states.specs.Nodes.{Comes, Open}
+use Rattle.cap_account_states.specs.Nodes.{Comes}
 use Rattle.cap_account_states.proofs.Alike.{alike-same}
 use Rattle.cap_account_states.proofs.Checked.{Checked, lone-child}
 use Rattle.cap_account_states.proofs.Environments.{bound-over}
@@ -35,16 +34,16 @@ use Rattle.cap_account_states.proofs.Meets.{Usable, Old, solves}
 use Rattle.cap_account_states.proofs.Naming.{values_in, values-mean}
 use Rattle.cap_account_states.proofs.Terms.{vars-more}
 use Rattle.cap_account_assertions.proofs.CaseStarts.{lim_with, case_state, case_job, fact_job, CaseStart, case-start}
-use Rattle.cap_account_assertions.proofs.CaseTaken.{CaseTook, case-pending, made_state, made_known, made-follows, envs-stay, lim_made, start-again}
+use Rattle.cap_account_assertions.proofs.CaseTaken.{CaseTook, case-pending, made_state, made-follows, envs-stay, lim_made, start-again}
 use Rattle.cap_account_assertions.proofs.Creating.{some, took-both}
 use Rattle.cap_account_assertions.proofs.FreshRegions.{fresh_values}
 use Rattle.cap_account_assertions.proofs.MadeRegions.{Pending, RegionMade, made-region, creation_of}
 use Rattle.cap_account_assertions.proofs.NewRegions.{told-extends}
 use Rattle.cap_account_assertions.proofs.TreeSizes.{trees_size}
-use Rattle.cap_account_assertions.proofs.TakeSteps.{Job, tasks_of, with_items, remaining, TakeStart, Took}
+use Rattle.cap_account_assertions.proofs.TakeSteps.{Job, tasks_of, with_items, remaining}
 use Rattle.cap_owners_spec.specs.Traced.{Traced, traced, past_width, untold, ◌>>=◌, found, over, valuation, number_in}
 use Rattle.cap_owners_spec.specs.Filling.{names_in}
-use Rattle.cap_owners_spec.specs.Walks.{Taking, nothing_taken, Walk, Descent, on, taken_at, with_region, Interpreting, pass_task, walk_below}
+use Rattle.cap_owners_spec.specs.Walks.{Taking, nothing_taken, Walk, Descent, on, with_region, Interpreting, pass_task, walk_below}
 use Rattle.cap_owners_values_laws.proofs.Numbers.{valuation-number, number-is}
 use Rattle.cap_owners_values_laws.proofs.More.{sorted-more, number-told}
 use Rattle.cap_owners_walks_laws.proofs.Leading.{Left, node-leads}
@@ -64,7 +63,7 @@ use Rattle.cap_owners_passes_laws.proofs.Takes.{IsNameTerm, AreNameTerms, AreBel
 use Rattle.cap_owners_passes_laws.proofs.Steps.{node-to, node-wide, AtNode}
 use Rattle.cap_owners_passes_laws.proofs.Plain.{Starting}
 use Rattle.cap_owners_passes_laws.proofs.TakesAll.{CreateTakes}
-use Rattle.cap_owners_passes_laws.proofs.Tracked.{all-tracked-on, tracked-on, zip-join, AreFrom, made-from, made-below, with-between}
+use Rattle.cap_owners_passes_laws.proofs.Tracked.{all-tracked-on, tracked-on, zip-join, made-from, made-below, with-between}
 use Rattle.cap_owners_passes_laws.proofs.Made.{made_as, is-tracked}
 
 module _ (p : Checked) (regions : AllByRecursion (RegionFits p.program) p.program.regions)

@@ -1,8 +1,8 @@
 -- A walk takes guards out of a piece.
-use Rattle.std.proofs.Common.{◌≡◌, ◌≢◌, ◌⊎◌, inl, inr, ℕ, zero, suc, ◌+◌, ◌<◌, ℤ, pos, ◌*ℤ◌, Bool, true, false, List, [], ◌∷◌, ◌++◌, length, Option, Some, None, refl, sym, ap, ◌∙◌, subst, arith}
+use Rattle.std.proofs.Common.{◌≡◌, ◌≢◌, ◌⊎◌, inl, inr, ℕ, ℤ, List, [], ◌++◌, length, Some, None, refl, sym, ap, ◌∙◌, subst}
 use Rattle.std.specs.Prelude.{slice_get}
-use Rattle.std.specs.List.{AllByRecursion, AllZip}
-use Rattle.cap_lin.specs.Values.{Valuation, value}
+use Rattle.std.specs.List.{AllZip}
+use Rattle.cap_lin.specs.Values.{value}
 use Rattle.cap_lin.specs.Linear.{Linear}
 use Rattle.cap_galg.specs.Elements.{Element}
 use Rattle.cap_syntax.specs.declared.place.Place.{Place}
@@ -12,7 +12,6 @@ use Rattle.cap_prog.specs.Program.{atom, Items, item}
 use Rattle.cap_goal_spec.specs.States.{PlainEnv, PlainState, to_take, PlainGoal}
 use Rattle.cap_goal_spec.specs.Choices.{by_guard, node, PlainTrees, no_trees, tree}
 use Rattle.cap_rules.specs.Making.{env_at}
-use Rattle.cap_rules.specs.Rules.{at_piece}
 use Rattle.cap_machine_accounts.specs.Parts.{Part, guard_at, atom_guard}
 use Rattle.cap_machine_accounts.specs.Assertions.{NameValue, HasNameSort}
 use Rattle.cap_account_resources.specs.Parts.{Table}
@@ -22,8 +21,7 @@ use Rattle.cap_account_resources.proofs.Lists.{join-nil, all-at}
 use Rattle.cap_account_resources.proofs.Marks.{Mark}
 use Rattle.cap_account_states.proofs.Adding.{PieceOver}
 use Rattle.cap_account_resources.proofs.Room.{alone-here, part-some}
-use Rattle.cap_account_resources.proofs.Stocks.{Stock, guard_stock, both, Inside, inside-trans, inside-second, inside-same, inside-both, inside-guards}
-use Rattle.cap_account_states.specs.Nodes.{Comes}
+use Rattle.cap_account_resources.proofs.Stocks.{Stock, guard_stock, both, inside-trans, inside-second, inside-same, inside-both, inside-guards}
 use Rattle.cap_account_states.proofs.Alike.{Alike, usable-alike}
 use Rattle.cap_account_states.proofs.Brought.{Bring, Brings, piece_brings}
 use Rattle.cap_account_states.proofs.Checked.{Checked}
@@ -35,14 +33,13 @@ use Rattle.cap_account_states.proofs.Pieces.{left_pieces}
 use Rattle.cap_account_states.proofs.Wants.{Wants}
 use Rattle.cap_account_assertions.proofs.Coarser.{item-named}
 use Rattle.cap_account_assertions.proofs.TakeHeads.{ItemTaken}
-use Rattle.cap_account_assertions.proofs.TakeSteps.{Job, with_items, tasks_of, remaining}
-use Rattle.cap_account_assertions.proofs.TakeAtoms.{PieceFound, piece-found, piece-goes, there-left}
-use Rattle.cap_owners_spec.specs.Traced.{Traced, traced, past_width, untold, ◌>>=◌, found, over, valuation, number_in}
+use Rattle.cap_account_assertions.proofs.TakeSteps.{Job, with_items}
+use Rattle.cap_account_assertions.proofs.TakeAtoms.{PieceFound, piece-goes, there-left}
+use Rattle.cap_owners_spec.specs.Traced.{Traced, traced, past_width, untold, ◌>>=◌, found, valuation, number_in}
 use Rattle.cap_owners_spec.specs.Filling.{met, atom_met, asked_element, with_more}
-use Rattle.cap_owners_spec.specs.Walks.{Taking, Walk, on, asked_reading, new_share, Interpreting, pass_piece, pass_guard, pass_item, pass_task}
+use Rattle.cap_owners_spec.specs.Walks.{Taking, Walk, on, asked_reading, new_share, Interpreting, pass_piece, pass_task}
 use Rattle.cap_owners_values_laws.proofs.Numbers.{number-is}
 use Rattle.cap_owners_values_laws.proofs.More.{number-told}
-use Rattle.cap_owners_walks_laws.proofs.Leading.{node-leads}
 use Rattle.cap_account.proofs.Stocked.{part_stock}
 use Rattle.cap_owners_laws.specs.Owned.{IsTold}
 use Rattle.cap_owners_parts_laws.proofs.Pieces.{more-told}
@@ -50,7 +47,7 @@ use Rattle.cap_owners_passes_laws.proofs.Names.{NamesSo, met-facts}
 use Rattle.cap_owners_passes_laws.proofs.Elements.{IsAskedValue, asked_value, asked-so, asked-met-so, asked-wildcards}
 use Rattle.cap_owners_passes_laws.proofs.Takes.{AreNameTerms, taking_from}
 use Rattle.cap_owners_passes_laws.proofs.Steps.{node-wide, AtNode, Passed, item-step}
-use Rattle.cap_owners_passes_laws.proofs.Plain.{Starting, Wide, Steps, named_top, with-names}
+use Rattle.cap_owners_passes_laws.proofs.Plain.{Starting, Wide, Steps, named_top}
 
 module _ (p : Checked) (ks : List ℕ) (T : Table) (next : ℤ) (lim : Holding) (j : Job)
     (vs : List NameValue) (s : PlainState) (c : Stock) (top : Taking) (k way : ℕ)

@@ -1,34 +1,32 @@
 -- Elements that are asked of guards, by the values of a track.
-use Rattle.std.proofs.Common.{◌≡◌, ◌⊎◌, inl, inr, ℕ, zero, suc, ◌+◌, ◌-◌, ◌*◌, ◌<◌, ℤ, pos, negsuc, ◌*ℤ◌, ◌<ℤ◌, Bool, true, false, ◌==◌, if◌then◌else◌, List, [], ◌∷◌, ◌++◌, Option, Some, None, refl, sym, ap, ◌∙◌, subst, arith}
+use Rattle.std.proofs.Common.{◌≡◌, ◌⊎◌, inl, inr, ℕ, zero, suc, ◌+◌, ◌*◌, ◌<◌, ℤ, pos, ◌*ℤ◌, false, ◌==◌, if◌then◌else◌, List, [], ◌∷◌, ◌++◌, Option, refl, sym, ap, ◌∙◌, subst, arith}
 use Rattle.std.proofs.lemmas.Bool.Decides.{nat_tests}
 use Rattle.std.proofs.lemmas.Int.{ints}
 use Rattle.cap_lin.specs.Linear.{Linear}
 use Rattle.cap_lin.specs.Steps.{product_of, value_steps}
-use Rattle.cap_lin.specs.Values.{Valuation, denominator, value, amount}
+use Rattle.cap_lin.specs.Values.{Valuation, value, amount}
 use Rattle.cap_galg.specs.declared.fraction.Fraction.{Fraction}
-use Rattle.cap_galg.specs.Fractions.{IsShare, lowest}
 use Rattle.cap_galg.specs.Elements.{Element, nothing, share, src, tok, tokens, indices}
 use Rattle.cap_galg_indices.specs.Sets.{one_index, indices_from}
 use Rattle.cap_gsolve.specs.declared.piece.Form.{Form}
 use Rattle.cap_gsolve.specs.declared.piece.Form.TheVariants as form
 use Rattle.cap_gsolve.specs.Meaning.{IsValueOf}
-use Rattle.cap_gsolve.proofs.Amounts.{natural-amount, amount-positive}
-use Rattle.cap_prog.specs.declared.assertion.Slot.{Slot}
+use Rattle.cap_gsolve.proofs.Amounts.{natural-amount}
 use Rattle.cap_prog.specs.declared.assertion.Slot.TheVariants.{Any, Is}
 use Rattle.cap_prog.specs.declared.assertion.Asked.{Asked}
 use Rattle.cap_prog.specs.declared.assertion.Asked.TheVariants.{One, Share, Src, Tok, At, From}
-use Rattle.cap_goal_spec.specs.Environments.{Reading, settled, open_to, stuck}
-use Rattle.cap_machine_accounts.specs.Assertions.{NameValue, a_number, a_fraction}
+use Rattle.cap_goal_spec.specs.Environments.{settled, open_to}
+use Rattle.cap_machine_accounts.specs.Assertions.{NameValue, a_number}
 use Rattle.cap_account_resources.proofs.Order.{cancel}
 use Rattle.cap_account_states.proofs.Guarding.{asked_of, first_term, CutFrom}
 use Rattle.cap_account_states.proofs.Wants.{Wants}
-use Rattle.cap_owners_spec.specs.Traced.{Traced, traced, past_width, untold, ◌>>=◌, over, a_share, valuation, number_in, amount_in, half_of}
-use Rattle.cap_owners_spec.specs.Filling.{share_element, counted, met, asked_element, count_met, share_met, atom_met}
+use Rattle.cap_owners_spec.specs.Traced.{Traced, traced, past_width, untold, ◌>>=◌, over, a_share, valuation, number_in, amount_in}
+use Rattle.cap_owners_spec.specs.Filling.{met, asked_element, atom_met}
 use Rattle.cap_owners_spec.specs.Track.{Fill}
 use Rattle.cap_owners_spec.specs.Walks.{asked_reading}
 use Rattle.cap_account_resources.proofs.Lists.{join-nil}
 use Rattle.cap_goal_spec.specs.States.{PlainEnv}
-use Rattle.cap_owners_values_laws.proofs.Numbers.{number-is, amount-is, half-is, computed-told}
+use Rattle.cap_owners_values_laws.proofs.Numbers.{number-is, amount-is, computed-told}
 use Rattle.cap_owners_values_laws.proofs.More.{number-told}
 use Rattle.cap_owners_fills_laws.proofs.Drawn.{asked_met}
 use Rattle.cap_owners_laws.specs.Owned.{IsTold}

@@ -4,7 +4,6 @@ use Rattle.std.specs.Prelude.{slice_get}
 use Rattle.std.specs.List.{AllByRecursion}
 use Rattle.cap_lin.specs.Linear.{Linear, variable}
 use Rattle.cap_lin.specs.Values.{Valuation, value}
-use Rattle.cap_lin.specs.declared.row.Sort.{Sort}
 use Rattle.cap_lin.specs.declared.row.Sort.TheVariants.{Int}
 use Rattle.cap_syntax.specs.declared.place.Place.{Place}
 use Rattle.cap_farkas.specs.declared.cert.Cert.{Cert}
@@ -41,8 +40,8 @@ use Rattle.cap_owners_fills_laws.proofs.Drawn.{slot_met, slots_met}
 use Rattle.cap_owners_walks_laws.proofs.Leading.{node-leads}
 use Rattle.cap_account.proofs.Stocked.{part_stock}
 use Rattle.cap_owners_laws.specs.Owned.{IsTold}
-use Rattle.cap_owners_passes_laws.proofs.Names.{NamesSo, met-terms}
-use Rattle.cap_owners_passes_laws.proofs.Slots.{BoundToo, MetSo, all-met}
+use Rattle.cap_owners_passes_laws.proofs.Names.{met-terms}
+use Rattle.cap_owners_passes_laws.proofs.Slots.{MetSo, all-met}
 use Rattle.cap_owners_passes_laws.proofs.Takes.{IsNameTerm, AreNameTerms, taking_from}
 use Rattle.cap_owners_passes_laws.proofs.Steps.{node-wide, AtNode, Passed, item-step}
 use Rattle.cap_owners_passes_laws.proofs.Plain.{Starting, Wide, Steps, named_top, with-names}
@@ -182,8 +181,10 @@ module _ (p : Checked) (ks : List ℕ) (T : Table) (next : ℤ) (lim : Holding) 
             let at = (g.met.means u l b
             (means-bound j.scope j.env s g.met.later there u b m)).0 in (
               refl,
-              (λ i. ((sym (variable-value b n) ∙ at ∙ sym (number-is vs d.region a ea)) i,
-              sym (number-is vs d.state z ez) i) ∷ []),
+              (λ i. (
+                (sym (variable-value b n) ∙ at ∙ sym (number-is vs d.region a ea)) i,
+                sym (number-is vs d.state z ez) i,
+              ) ∷ []),
             );
         part = sym (none-right p.program (part_stock top.part));
         passes = λ enter w under.

@@ -1,8 +1,7 @@
 -- A walk takes guards, whichever way.
-use Rattle.std.proofs.Common.{◌≡◌, ◌⊎◌, inl, inr, ℕ, zero, suc, ℤ, Bool, false, List, [], ◌∷◌, Option, Some, None, refl, sym, ap, ◌∙◌, subst}
+use Rattle.std.proofs.Common.{◌≡◌, ◌⊎◌, ℕ, zero, suc, ℤ, List, Option, Some, None, refl, ap, ◌∙◌}
 use Rattle.std.specs.Prelude.{slice_get, ◌==◌, ◌&&◌, IsSomeAnd}
 use Rattle.cap_lin.specs.Linear.{Linear}
-use Rattle.cap_lin.specs.Values.{Valuation}
 use Rattle.cap_lin.specs.declared.row.Sort.TheVariants.{Int}
 use Rattle.cap_lin.specs.declared.row.Op.TheVariants.{Eq as Equal}
 use Rattle.cap_galg.specs.Algebras.{atom_algebra}
@@ -15,9 +14,9 @@ use Rattle.cap_prog.specs.declared.assertion.Slot.{Slot}
 use Rattle.cap_prog.specs.declared.assertion.Asked.{Asked}
 use Rattle.cap_prog.specs.declared.assertion.Asked.TheVariants.{One, Share, Src, Tok, At, From}
 use Rattle.cap_prog.specs.Program.{atom, Items, item, PlainRegionType}
-use Rattle.cap_prog.specs.Scopes.{Scope, SlotFits}
+use Rattle.cap_prog.specs.Scopes.{Scope}
 use Rattle.cap_prog.specs.WellFormed.{AtomFits}
-use Rattle.cap_goal_spec.specs.States.{PlainEnv, PlainState, PlainGoal}
+use Rattle.cap_goal_spec.specs.States.{PlainState, PlainGoal}
 use Rattle.cap_goal_spec.specs.Choices.{by_guard, node, PlainTrees, no_trees, tree}
 use Rattle.cap_goal_spec.specs.Environments.{term_of, Reading, settled, open_to, stuck, reading, asked_slot}
 use Rattle.cap_rules.specs.Attempts.{Attempt, ◌>>=◌, need, found}

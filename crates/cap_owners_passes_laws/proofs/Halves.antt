@@ -1,14 +1,13 @@
 -- A walk takes half of a share: the half is a new variable, or there is none over the one denominator.
-use Rattle.std.proofs.Common.{◌≡◌, ◌≢◌, ◌⊎◌, inl, inr, ℕ, ◌+◌, ◌<◌, ℤ, pos, negsuc, ◌*ℤ◌, ◌<ℤ◌, Bool, true, false, List, [], ◌∷◌, ◌++◌, length, Option, Some, None, refl, sym, ap, ◌∙◌, subst, arith}
+use Rattle.std.proofs.Common.{◌≡◌, ◌⊎◌, inl, inr, ℕ, ◌<◌, ℤ, pos, negsuc, ◌*ℤ◌, ◌<ℤ◌, Bool, true, false, List, [], ◌∷◌, ◌++◌, length, Option, Some, None, refl, sym, ap, ◌∙◌, subst, arith}
 use Rattle.std.specs.Prelude.{slice_get, unwrap_or, if◌then◌else◌, ◌==◌, ◌%◌, ◌/◌, IsSomeAnd}
 use Rattle.std.specs.List.{AllZip}
 use Rattle.std.proofs.lemmas.Slice.Zip.{AllZip-long}
 use Rattle.std.proofs.lemmas.Int.{ints}
 use Rattle.cap_lin.specs.Linear.{Linear, variable}
-use Rattle.cap_lin.specs.Values.{Valuation, value, amount}
+use Rattle.cap_lin.specs.Values.{Valuation, amount}
 use Rattle.cap_lin.specs.declared.row.Sort.{Sort}
 use Rattle.cap_lin.specs.declared.row.Sort.TheVariants.{Int, Perm}
-use Rattle.cap_gsolve.specs.declared.piece.Form.{Form}
 use Rattle.cap_gsolve.specs.declared.piece.Form.TheVariants as form
 use Rattle.cap_gsolve.specs.Meaning.{IsFormElement, IsValueOf}
 use Rattle.cap_gsolve.proofs.Amounts.{amount-positive}
@@ -23,7 +22,7 @@ use Rattle.cap_goal_spec.specs.Terms.{lone_variable}
 use Rattle.cap_goal_spec.specs.States.{PlainEnv, PlainState}
 use Rattle.cap_goal_spec.specs.Choices.{PlainTrees}
 use Rattle.cap_goal_spec.specs.Environments.{zero_value, term_of, open_to, reading}
-use Rattle.cap_rules.specs.Making.{env_at, fresh}
+use Rattle.cap_rules.specs.Making.{env_at}
 use Rattle.cap_machine_accounts.specs.Assertions.{NameValue, HasNameSort}
 use Rattle.cap_account_resources.specs.Parts.{Table}
 use Rattle.cap_account_resources.proofs.Interference.{Holding}
@@ -31,17 +30,17 @@ use Rattle.cap_account_resources.proofs.Lists.{all-at, push-length, get-first, w
 use Rattle.cap_account_resources.proofs.Stocks.{Stock}
 use Rattle.cap_account_states.proofs.Adding.{PieceOver}
 use Rattle.cap_account_states.proofs.Alike.{Alike, agree-alike}
-use Rattle.cap_account_states.proofs.Brought.{Brings, a_half, form_brings, piece_brings}
+use Rattle.cap_account_states.proofs.Brought.{Brings, form_brings, piece_brings}
 use Rattle.cap_account_states.proofs.Checked.{Checked}
-use Rattle.cap_account_states.proofs.Guarding.{FormOver, OpenGets, CutFrom, is_open, is_open_reading}
+use Rattle.cap_account_states.proofs.Guarding.{FormOver, OpenGets, is_open, is_open_reading}
 use Rattle.cap_account_states.proofs.Guards.{open_sorts}
 use Rattle.cap_account_states.proofs.Matching.{met_env}
-use Rattle.cap_account_states.proofs.Meets.{Usable, usable-old, Old, with_value, new-whole, new-share, with-agrees, variable-amount}
+use Rattle.cap_account_states.proofs.Meets.{Usable, usable-old, Old, with_value, new-whole, new-share, with-agrees}
 use Rattle.cap_account_states.proofs.Terms.{Over, Agree, vars-more, value-agree, amount-agree}
 use Rattle.cap_account_states.proofs.Wants.{Wants, value-of-alike, share-wants}
 use Rattle.cap_account_assertions.proofs.Coarser.{then-alike}
 use Rattle.cap_account_assertions.proofs.TakeSteps.{Job}
-use Rattle.cap_owners_spec.specs.Traced.{Traced, traced, past_width, untold, ◌>>=◌, over, a_share, value_at, valuation, amount_in, half_of}
+use Rattle.cap_owners_spec.specs.Traced.{Traced, traced, past_width, untold, ◌>>=◌, a_share, value_at, valuation, amount_in, half_of}
 use Rattle.cap_owners_spec.specs.Filling.{met, atom_met}
 use Rattle.cap_owners_spec.specs.Walks.{Taking, asked_reading, new_share}
 use Rattle.cap_owners_values_laws.proofs.Numbers.{valuation-share, amount-is, half-is}

@@ -1,11 +1,10 @@
 -- A region is made along a walk: what it is, and by what it has its case.
-use Rattle.std.proofs.Common.{◌≡◌, ℕ, suc, ◌+◌, ◌-◌, ◌≤◌, ℤ, List, [], ◌∷◌, ◌++◌, length, map, take, drop, Some, refl, sym, ap, ◌∙◌, subst, arith}
+use Rattle.std.proofs.Common.{◌≡◌, ℕ, suc, ◌-◌, ℤ, List, ◌∷◌, length, map, take, drop, Some, refl, sym, ap, ◌∙◌, subst, arith}
 use Rattle.std.specs.Prelude.{slice_get}
 use Rattle.std.specs.List.{AllByRecursion}
 use Rattle.cap_lin.specs.Linear.{Linear}
 use Rattle.cap_lin.specs.Values.{Valuation, value}
 use Rattle.cap_prog.specs.Program.{PlainCase, PlainRegionType, PlainProgram}
-use Rattle.cap_prog.specs.Scopes.{region_scope}
 use Rattle.cap_goal_spec.specs.States.{PlainState, PlainTask, PlainGoal}
 use Rattle.cap_rules.specs.Making.{env_at}
 use Rattle.cap_machine_accounts.specs.Assertions.{NameValue, AreWhole, CompHolds}
@@ -17,12 +16,12 @@ use Rattle.cap_account_resources.proofs.Stocks.{Stock, no_stock, both, none-righ
 use Rattle.cap_account_resources.proofs.Tables.{KeepsStates, extends-states}
 use Rattle.cap_account_states.proofs.Alike.{alike-same}
 use Rattle.cap_account_states.proofs.Meets.{Old}
-use Rattle.cap_account_states.proofs.Naming.{values_in, values-mean}
+use Rattle.cap_account_states.proofs.Naming.{values_in}
 use Rattle.cap_account_assertions.proofs.Asserted.{DrawsAll, OwnsRegion, OwnsCase, owns-all, draws-all-kept}
 use Rattle.cap_account_assertions.proofs.MadeRegions.{Pending, RegionMade, creation_of}
 use Rattle.cap_account_assertions.proofs.NewRegions.{told-extends}
 use Rattle.cap_owners_spec.specs.Traced.{number_of, valuation}
-use Rattle.cap_owners_spec.specs.Track.{Fill, TrackedRegion}
+use Rattle.cap_owners_spec.specs.Track.{TrackedRegion}
 use Rattle.cap_owners_spec.specs.Walks.{Taking}
 use Rattle.cap_owners_fills_laws.proofs.Drawn.{items_met, items_told, IsMetBy}
 use Rattle.cap_account.proofs.Stocked.{part_stock}

@@ -1,9 +1,8 @@
 -- By what items are met, where they are drawn in other ways: by a table with more regions, out of a
 -- sum that is grouped otherwise, and beside the items behind them.
-use Rattle.std.proofs.Common.{◌≡◌, inl, inr, ℤ, List, [], ◌++◌, refl, sym, ap, ◌∙◌, subst}
+use Rattle.std.proofs.Common.{◌≡◌, inl, inr, ◌++◌, refl, sym, ap, ◌∙◌, subst}
 use Rattle.cap_lin.specs.Values.{Valuation}
 use Rattle.cap_prog.specs.Program.{PlainItem, compare, choose, fact, atom, cell, Items, none, item, append_items, PlainProgram}
-use Rattle.cap_machine_accounts.specs.Assertions.{NameValue}
 use Rattle.cap_account_resources.specs.Parts.{Table}
 use Rattle.cap_account_resources.proofs.Lists.{join-assoc}
 use Rattle.cap_account_resources.proofs.Stocks.{Stock, Inside, inside-same}

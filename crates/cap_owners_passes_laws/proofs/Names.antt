@@ -1,7 +1,7 @@
 -- What names stand for, and the values of the names of a fill: they are the same, and stay so where a
 -- slot is met.
-use Rattle.std.proofs.Common.{◌≡◌, ◌≢◌, ◌⊎◌, inl, inr, ℕ, zero, suc, ◌+◌, ◌-◌, ◌<◌, ℤ, pos, ◌*ℤ◌, Bool, true, false, List, [], ◌∷◌, ◌++◌, length, Option, Some, None, refl, sym, ap, ◌∙◌, subst, arith}
-use Rattle.std.specs.Prelude.{slice_get, slice_set, get_or, unwrap_or, is_some, if◌then◌else◌, ◌&&◌, IsSomeAnd}
+use Rattle.std.proofs.Common.{◌≡◌, ◌≢◌, ◌⊎◌, inl, inr, ℕ, zero, suc, ◌-◌, ◌<◌, ℤ, pos, ◌*ℤ◌, Bool, true, false, List, [], ◌∷◌, ◌++◌, length, Option, Some, None, refl, sym, ap, ◌∙◌, subst, arith}
+use Rattle.std.specs.Prelude.{slice_get, slice_set, unwrap_or, is_some, if◌then◌else◌, ◌&&◌, IsSomeAnd}
 use Rattle.std.specs.List.{AllZip, list_all}
 use Rattle.std.proofs.lemmas.Bool.{cases_eq}
 use Rattle.cap_lin.specs.Linear.{Linear, variable}
@@ -9,13 +9,13 @@ use Rattle.cap_lin.specs.Values.{Valuation, denominator, value, amount}
 use Rattle.cap_lin.specs.Solves.{IsWholeAt}
 use Rattle.cap_lin.proofs.Infeasible.{whole-amount}
 use Rattle.cap_lin.specs.declared.row.Sort.{Sort}
-use Rattle.cap_lin.specs.declared.row.Sort.TheVariants.{Int, Perm}
+use Rattle.cap_lin.specs.declared.row.Sort.TheVariants.{Int}
 use Rattle.cap_prog.specs.declared.assertion.Slot.{Slot}
 use Rattle.cap_prog.specs.declared.assertion.Slot.TheVariants.{Any, Is}
 use Rattle.cap_prog.specs.Scopes.{Scope, HasSort, SlotFits}
 use Rattle.cap_goal_spec.specs.Terms.{lone_variable}
 use Rattle.cap_goal_spec.specs.States.{PlainEnv}
-use Rattle.cap_goal_spec.specs.Environments.{zero_value, term_of, bound_term, is_determined, with_name, Reading, settled, open_to, stuck, read_name, reading, bind_open}
+use Rattle.cap_goal_spec.specs.Environments.{zero_value, term_of, bound_term, is_determined, with_name, Reading, settled, open_to, stuck, read_name, reading}
 use Rattle.cap_machine_accounts.specs.Assertions.{NameValue, a_number, a_fraction, HasNameSort}
 use Rattle.cap_account_resources.proofs.Lists.{some-same, none-some, join-nil, get-or-set, get-or-other, set-length}
 use Rattle.cap_account_resources.proofs.Order.{turned}

@@ -1,14 +1,13 @@
 -- A walk takes guards: none, or out of a piece.
-use Rattle.std.proofs.Common.{◌≡◌, ◌⊎◌, inl, inr, ℕ, zero, suc, ℤ, pos, List, [], ◌∷◌, ◌++◌, length, Option, Some, None, refl, sym, ap, ◌∙◌, subst, arith}
-use Rattle.std.specs.Prelude.{slice_get, ◌==◌}
-use Rattle.cap_lin.specs.Values.{Valuation}
+use Rattle.std.proofs.Common.{◌⊎◌, inr, ℕ, ℤ, List, [], refl, sym}
+use Rattle.std.specs.Prelude.{◌==◌}
 use Rattle.cap_syntax.specs.declared.place.Place.{Place}
 use Rattle.cap_farkas.specs.declared.cert.Cert.{Cert}
 use Rattle.cap_prog.specs.declared.assertion.Slot.{Slot}
 use Rattle.cap_prog.specs.declared.assertion.Slot.TheVariants.{Any, Is}
 use Rattle.cap_prog.specs.declared.assertion.Asked.TheVariants.{Tok}
 use Rattle.cap_prog.specs.Program.{atom, Items, item}
-use Rattle.cap_goal_spec.specs.States.{PlainState, to_take, PlainGoal}
+use Rattle.cap_goal_spec.specs.States.{PlainState, PlainGoal}
 use Rattle.cap_goal_spec.specs.Choices.{by_guard, node, PlainTrees, no_trees, tree}
 use Rattle.cap_goal_spec.specs.Environments.{zero_value}
 use Rattle.cap_rules.specs.Attempts.{◌>>=◌}

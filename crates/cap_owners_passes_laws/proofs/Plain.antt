@@ -1,55 +1,47 @@
 -- Items that a walk takes in one step: comparisons, cells, and guards of which no token is taken.
-use Rattle.std.proofs.Common.{◌≡◌, ◌⊎◌, inl, inr, ℕ, suc, ◌+◌, ◌-◌, ◌≤◌, ℤ, pos, ◌*ℤ◌, Bool, true, false, List, [], ◌∷◌, ◌++◌, Option, Some, None, refl, sym, ap, ◌∙◌, subst, arith}
+use Rattle.std.proofs.Common.{◌≡◌, ◌⊎◌, inl, inr, ℕ, ◌+◌, ℤ, pos, ◌*ℤ◌, List, [], ◌∷◌, Some, refl, sym, ap, ◌∙◌, subst, arith}
 use Rattle.std.specs.Prelude.{slice_get, remove}
 use Rattle.std.specs.FinMap.{insert}
-use Rattle.std.specs.List.{AllByRecursion, AllZip}
 use Rattle.cap_lin.specs.Linear.{Linear}
-use Rattle.cap_lin.specs.Values.{Valuation, value, amount}
+use Rattle.cap_lin.specs.Values.{value}
 use Rattle.cap_lin.specs.declared.row.Sort.TheVariants.{Int}
 use Rattle.cap_syntax.specs.declared.place.Place.{Place}
 use Rattle.cap_farkas.specs.declared.cert.Cert.{Cert}
 use Rattle.cap_prog.specs.declared.assertion.Comp.{Comp}
 use Rattle.cap_prog.specs.declared.assertion.Slot.{Slot}
-use Rattle.cap_prog.specs.declared.assertion.Slot.TheVariants.{Any, Is}
 use Rattle.cap_prog.specs.Program.{PlainItem, compare, cell, Items, item}
-use Rattle.cap_prog.specs.WellFormed.{ItemFits}
-use Rattle.cap_goal_spec.specs.States.{PlainEnv, PlainState, to_take, PlainGoal, goal}
+use Rattle.cap_goal_spec.specs.States.{PlainState, to_take}
 use Rattle.cap_goal_spec.specs.Choices.{PlainChoice, by_fact, by_cell, node, PlainTrees, no_trees, tree}
 use Rattle.cap_goal_spec.specs.Environments.{reading}
 use Rattle.cap_rules.specs.Making.{env_at}
-use Rattle.cap_machine.specs.Machine.{Heap}
 use Rattle.cap_machine_accounts.specs.Parts.{Part}
-use Rattle.cap_machine_accounts.specs.Assertions.{NameValue, a_number, HasNameSort}
+use Rattle.cap_machine_accounts.specs.Assertions.{NameValue, a_number}
 use Rattle.cap_account_resources.specs.Parts.{cells_of, Table}
 use Rattle.cap_account_resources.proofs.Lists.{join-nil}
 use Rattle.cap_account_resources.proofs.Covering.{free-right}
 use Rattle.cap_account_resources.proofs.Interference.{Holding}
 use Rattle.cap_account_resources.proofs.Stocks.{Stock, same-stock, both, cell_stock, none-right}
-use Rattle.cap_account_states.proofs.Alike.{Alike}
 use Rattle.cap_account_states.proofs.Checked.{Checked}
 use Rattle.cap_account_states.proofs.Items.{fits-more}
-use Rattle.cap_account_states.proofs.Matching.{met_env}
 use Rattle.cap_account_states.proofs.Meets.{Usable, need}
 use Rattle.cap_account_states.proofs.Naming.{values_in, at-env}
 use Rattle.cap_account_states.proofs.Terms.{vars-more}
-use Rattle.cap_account_assertions.proofs.TakeSteps.{Job, with_items, remaining, tasks_of, TakeStart}
-use Rattle.cap_account_assertions.proofs.TakeHeads.{ItemTaken}
+use Rattle.cap_account_assertions.proofs.TakeSteps.{Job, with_items, tasks_of}
 use Rattle.cap_account_assertions.proofs.TakeComps.{compare-taken}
 use Rattle.cap_account_assertions.proofs.TakeCells.{need-apart, CellFound, AfterCell, cell-found, cell-goes}
 use Rattle.cap_owners_spec.specs.Traced.{Traced, traced, past_width, untold, ◌>>=◌, found, over, valuation, number_in}
-use Rattle.cap_owners_spec.specs.Track.{Fill}
-use Rattle.cap_owners_spec.specs.Filling.{names_in, met, with_cells}
+use Rattle.cap_owners_spec.specs.Filling.{names_in, met}
 use Rattle.cap_owners_spec.specs.Walks.{Taking, Walk, on, taken_at, Interpreting, pass_item, pass_task}
 use Rattle.cap_owners_values_laws.proofs.Numbers.{number-is}
 use Rattle.cap_owners_values_laws.proofs.More.{number-told}
-use Rattle.cap_owners_fills_laws.proofs.Drawn.{slot_met, item_met, item_told}
+use Rattle.cap_owners_fills_laws.proofs.Drawn.{slot_met}
 use Rattle.cap_owners_walks_laws.proofs.Leading.{node-leads}
 use Rattle.cap_account.proofs.Stocked.{part_stock}
 use Rattle.cap_owners_laws.specs.Owned.{IsTold}
 use Rattle.cap_owners_parts_laws.proofs.Putting.{cells-told}
 use Rattle.cap_owners_passes_laws.proofs.Names.{NamesSo, IsValue, int-term, names-in-so, names-told, met-names, met-terms, slot_value, slot-value, met-wildcards, met-facts}
 use Rattle.cap_owners_passes_laws.proofs.Takes.{IsNameTerm, AreNameTerms, TakesFrom, taking_from, IsTooWide}
-use Rattle.cap_owners_passes_laws.proofs.Steps.{Step, node-wide, AtNode, Goes, Passed, item-step}
+use Rattle.cap_owners_passes_laws.proofs.Steps.{Step, node-wide, AtNode, Passed, item-step}
 
 module _ (p : Checked) (ks : List ℕ) (T : Table) (next : ℤ) (lim : Holding) (j : Job)
     (vs : List NameValue) (s : PlainState) (c : Stock) (top : Taking) where

@@ -1,23 +1,21 @@
 -- A walk takes a conditional item, and guards that are converted first: other items are to be taken.
 use Rattle.std.proofs.Common.{◌≡◌, ◌⊎◌, inl, inr, ℕ, suc, ◌≤◌, ℤ, Bool, true, false, ◌==◌, if◌then◌else◌, List, [], ◌∷◌, ◌++◌, length, option_to_list, Option, Some, None, refl, sym, ap, ◌∙◌, subst, arith}
-use Rattle.std.specs.List.{AllByRecursion}
 use Rattle.cap_lin.specs.Values.{Valuation}
 use Rattle.cap_lin.specs.Solves.{value_by_sort, Relates}
 use Rattle.cap_lin.specs.declared.row.Row.{Row}
-use Rattle.cap_farkas.specs.declared.cert.Cert.{Cert}
 use Rattle.cap_prog.specs.declared.assertion.Comp.{Comp}
-use Rattle.cap_prog.specs.Program.{PlainItem, choose, Items, item, none, append_items}
+use Rattle.cap_prog.specs.Program.{choose, Items, item, none, append_items}
 use Rattle.cap_goal_spec.specs.States.{PlainState, PlainTask, to_run, to_turn, to_give, to_take, to_make, to_close, to_shift, to_rest, PlainGoal, goal, goal_of, goals_of}
 use Rattle.cap_goal_spec.specs.Choices.{by_cases, node, PlainTrees, no_trees, tree}
-use Rattle.cap_rules.specs.Making.{env_at, opposite}
+use Rattle.cap_rules.specs.Making.{env_at}
 use Rattle.cap_rules_nodes.specs.Nodes.{goals_left}
-use Rattle.cap_machine_accounts.specs.Assertions.{NameValue, CompHolds}
+use Rattle.cap_machine_accounts.specs.Assertions.{NameValue}
 use Rattle.cap_account_resources.specs.Parts.{Table}
 use Rattle.cap_account_resources.proofs.Lists.{join-nil}
 use Rattle.cap_account_resources.proofs.Interference.{Holding}
 use Rattle.cap_account_resources.proofs.Order.{unmet-not}
 use Rattle.cap_account_resources.proofs.Stocks.{Stock, no_stock, both, none-right, inside-second}
-use Rattle.cap_account_states.specs.Nodes.{Children, Open}
+use Rattle.cap_account_states.specs.Nodes.{Children}
 use Rattle.cap_account_states.proofs.Alike.{alike-same}
 use Rattle.cap_account_states.proofs.Checked.{Checked, first_trees, later_trees, children-first, children-later}
 use Rattle.cap_account_states.proofs.Meets.{Old}
@@ -25,7 +23,7 @@ use Rattle.cap_account_states.proofs.Naming.{Means, values-mean}
 use Rattle.cap_account_assertions.proofs.Asserted.{DrawsAll, draws-more, draws-apart}
 use Rattle.cap_account_assertions.proofs.TreeSizes.{trees_size, trees-sizes}
 use Rattle.cap_account_assertions.proofs.TakeSteps.{Job, with_items, tasks_of}
-use Rattle.cap_account_assertions.proofs.TakeComps.{SideTold, side-turned, side-drawn, side_items, side_state, side_op, side_tasks, SidesFound, sides-found}
+use Rattle.cap_account_assertions.proofs.TakeComps.{SideTold, side-turned, side-drawn, side_items, side_state, side_op, sides-found}
 use Rattle.cap_owners_spec.specs.Traced.{Traced, traced, past_width, untold, ◌>>=◌, valuation, holds_by}
 use Rattle.cap_owners_spec.specs.Walks.{Taking, Walk, descends, side_child, Interpreting, pass_item, pass_task, walk_below}
 use Rattle.cap_owners_fills_laws.proofs.Drawn.{item_met, items_met, item_told, items_told}

@@ -1,8 +1,7 @@
 -- Slots that are met by terms in turn: the names' values are those of the environment in the end.
-use Rattle.std.proofs.Common.{◌≡◌, ◌≢◌, inl, inr, ℕ, ℤ, pos, ◌*ℤ◌, List, [], ◌∷◌, ◌++◌, map, Option, Some, None, refl, sym, ap, ◌∙◌, subst}
+use Rattle.std.proofs.Common.{◌≡◌, inl, inr, ℕ, ℤ, pos, ◌*ℤ◌, List, [], ◌∷◌, ◌++◌, map, Option, Some, None, refl, sym, ap, ◌∙◌, subst}
 use Rattle.std.specs.Prelude.{slice_get, unwrap_or}
 use Rattle.std.specs.List.{AllByRecursion, AllZip}
-use Rattle.std.proofs.lemmas.Bool.{cases_eq}
 use Rattle.cap_lin.specs.Linear.{Linear}
 use Rattle.cap_lin.specs.Values.{Valuation, value}
 use Rattle.cap_lin.specs.declared.row.Sort.{Sort}
@@ -29,7 +28,7 @@ use Rattle.cap_owners_values_laws.proofs.More.{number-told}
 use Rattle.cap_owners_fills_laws.proofs.Drawn.{slots_met}
 use Rattle.cap_owners_laws.specs.Owned.{IsTold}
 use Rattle.cap_owners_parts_laws.proofs.Telling.{told-more}
-use Rattle.cap_owners_passes_laws.proofs.Names.{NamesSo, IsValue, int-term, lone-term, LoneOr, no_name, one_name, lone-or, lone-fits, closed-reading, open-reading, bound-reading, names-set}
+use Rattle.cap_owners_passes_laws.proofs.Names.{NamesSo, int-term, lone-term, LoneOr, no_name, one_name, lone-or, lone-fits, closed-reading, open-reading, bound-reading, names-set}
 
 -- ---- environments
 

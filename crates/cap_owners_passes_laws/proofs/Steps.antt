@@ -1,19 +1,18 @@
 -- One step of a Take along a walk, put before the rest.
-use Rattle.std.proofs.Common.{◌≡◌, ◌⊎◌, inl, inr, ℕ, suc, ◌+◌, ◌-◌, ◌≤◌, ℤ, Bool, true, false, List, [], ◌∷◌, ◌++◌, refl, sym, ap, ◌∙◌, subst, arith}
-use Rattle.std.specs.List.{AllByRecursion, AllZip}
+use Rattle.std.proofs.Common.{◌≡◌, ◌⊎◌, inl, inr, ℕ, suc, ◌+◌, ◌-◌, ◌≤◌, ℤ, false, List, [], ◌∷◌, ◌++◌, refl, sym, ap, ◌∙◌, subst, arith}
+use Rattle.std.specs.List.{AllZip}
 use Rattle.cap_lin.specs.Values.{Valuation}
 use Rattle.cap_prog.specs.Program.{PlainItem, Items, none, item, PlainProgram}
-use Rattle.cap_goal_spec.specs.States.{PlainState, PlainTask, to_take, PlainGoal, goal, goals_of}
+use Rattle.cap_goal_spec.specs.States.{PlainState, to_take, PlainGoal, goal, goals_of}
 use Rattle.cap_goal_spec.specs.Choices.{PlainChoice, node, PlainTrees, no_trees, tree}
 use Rattle.cap_rules.specs.Making.{env_at}
 use Rattle.cap_rules_nodes.specs.Nodes.{goals_left}
-use Rattle.cap_machine_accounts.specs.Parts.{Part}
 use Rattle.cap_machine_accounts.specs.Assertions.{NameValue, HasNameSort}
-use Rattle.cap_account_resources.specs.Parts.{cells_of, Table}
+use Rattle.cap_account_resources.specs.Parts.{Table}
 use Rattle.cap_account_resources.proofs.Lists.{join-assoc, join-nil}
 use Rattle.cap_account_resources.proofs.Covering.{part-trans}
 use Rattle.cap_account_resources.proofs.Monoid.{atom, both as plus}
-use Rattle.cap_account_resources.proofs.Interference.{Holding, ArePartOf}
+use Rattle.cap_account_resources.proofs.Interference.{Holding}
 use Rattle.cap_account_resources.proofs.Stocks.{Stock, no_stock, both, Inside, stock-laws, reordered, none-right, inside-same, inside-second, inside-both, inside-guards}
 use Rattle.cap_account_resources.proofs.Tables.{Extends, extends-states}
 use Rattle.cap_account_states.specs.Nodes.{Open}
@@ -23,19 +22,19 @@ use Rattle.cap_account_states.proofs.Checked.{Checked}
 use Rattle.cap_account_states.proofs.Items.{AreFit}
 use Rattle.cap_account_states.proofs.Meets.{Old}
 use Rattle.cap_account_states.proofs.Naming.{Means, values_in}
-use Rattle.cap_account_assertions.proofs.Asserted.{Draws, DrawsAll, draws-kept}
+use Rattle.cap_account_assertions.proofs.Asserted.{DrawsAll, draws-kept}
 use Rattle.cap_account_assertions.proofs.Follows.{alike-between, means-before}
 use Rattle.cap_account_assertions.proofs.TreeSizes.{trees_size}
 use Rattle.cap_account_assertions.proofs.TakeHeads.{ItemTaken}
-use Rattle.cap_account_assertions.proofs.TakeSteps.{Job, tasks_of, with_items, TakeStart, Took, Head, Claim, Turns, start-after, took-other, took-none}
-use Rattle.cap_owners_spec.specs.Traced.{Traced, traced, past_width, over, valuation}
-use Rattle.cap_owners_spec.specs.Walks.{Taking, Walk, descends, on, no_items, Interpreting, pass_task, walk_below}
+use Rattle.cap_account_assertions.proofs.TakeSteps.{Job, tasks_of, with_items, TakeStart, Took, Head, Turns, start-after, took-other, took-none}
+use Rattle.cap_owners_spec.specs.Traced.{past_width, over, valuation}
+use Rattle.cap_owners_spec.specs.Walks.{Taking, Walk, on, Interpreting, pass_task, walk_below}
 use Rattle.cap_owners_fills_laws.proofs.Drawn.{item_met, items_met, item_told, items_told}
 use Rattle.cap_owners_walks_laws.proofs.Leading.{Left}
 use Rattle.cap_account.proofs.Stocked.{part_stock}
 use Rattle.cap_owners_passes_laws.proofs.Rests.{into, below-wide}
 use Rattle.cap_owners_passes_laws.proofs.Meets.{item-met-kept, item-told-kept, met-same, told-same, met-items, told-items}
-use Rattle.cap_owners_passes_laws.proofs.Takes.{AreNameTerms, AreBelow, TakesFrom, taking_from, Taking_into, IsTooWide, TakesTo}
+use Rattle.cap_owners_passes_laws.proofs.Takes.{AreNameTerms, TakesFrom, taking_from, Taking_into, IsTooWide, TakesTo}
 
 -- what is left and what was taken are of what there was
 apart-cells :

@@ -1,5 +1,5 @@
 -- A walk takes items one after the other, by the size of the trees.
-use Rattle.std.proofs.Common.{◌≡◌, ◌⊎◌, inl, inr, ℕ, zero, suc, ◌≤◌, ℤ, List, [], ◌∷◌, refl, sym, subst, arith}
+use Rattle.std.proofs.Common.{◌≡◌, ◌⊎◌, inl, inr, ℕ, zero, suc, ◌≤◌, ℤ, List, ◌∷◌, refl, sym, subst, arith}
 use Rattle.cap_lin.specs.Values.{Valuation}
 use Rattle.cap_syntax.specs.declared.place.Place.{Place}
 use Rattle.cap_farkas.specs.declared.cert.Cert.{Cert}
@@ -20,7 +20,7 @@ use Rattle.cap_account_assertions.proofs.TakeSteps.{Job, tasks_of, with_items}
 use Rattle.cap_owners_spec.specs.Traced.{valuation}
 use Rattle.cap_owners_spec.specs.Walks.{Taking}
 use Rattle.cap_owners_passes_laws.proofs.Takes.{TakesFrom, IsTooWide, TakesTo, TakesLaw}
-use Rattle.cap_owners_passes_laws.proofs.Steps.{Step, from-there, step-to, none-to}
+use Rattle.cap_owners_passes_laws.proofs.Steps.{from-there, step-to, none-to}
 use Rattle.cap_owners_passes_laws.proofs.Plain.{Starting, Wide, Steps, compare-step, cell-step}
 use Rattle.cap_owners_passes_laws.proofs.Facts.{fact-step}
 use Rattle.cap_owners_passes_laws.proofs.Sides.{choose-step}

@@ -1,13 +1,13 @@
 -- What comes of taking along a walk, for those who take: by what the items are met, and which table the
 -- regions tell then.
-use Rattle.std.proofs.Common.{◌≡◌, ◌≢◌, ◌⊎◌, inl, inr, ℕ, ◌+◌, ◌-◌, ◌<◌, ◌≤◌, ℤ, ◌+ℤ◌, pos, ◌<ℤ◌, ◌≤ℤ◌, Bool, true, false, List, [], ◌∷◌, ◌++◌, length, map, Option, Some, None, refl, sym, ap, ◌∙◌, subst, arith}
-use Rattle.std.specs.Prelude.{find, option_map, if◌then◌else◌}
+use Rattle.std.proofs.Common.{◌≡◌, ◌⊎◌, inl, inr, ℕ, ◌<◌, ◌≤◌, ℤ, Bool, true, false, List, [], ◌∷◌, ◌++◌, length, map, Option, Some, None, refl, sym, ap, ◌∙◌, subst, arith}
+use Rattle.std.specs.Prelude.{option_map, if◌then◌else◌}
 use Rattle.std.specs.List.{AllByRecursion, AllZip}
 use Rattle.std.proofs.lemmas.Int.{ints}
 use Rattle.cap_lin.specs.Linear.{same_number}
 use Rattle.cap_lin.specs.Values.{Valuation}
 use Rattle.cap_prog.specs.WellFormed.{RegionFits}
-use Rattle.cap_prog.specs.Program.{PlainProgram, Items, none, item}
+use Rattle.cap_prog.specs.Program.{PlainProgram}
 use Rattle.cap_goal_spec.specs.States.{PlainState}
 use Rattle.cap_goal_spec.specs.Choices.{PlainTrees}
 use Rattle.cap_rules.specs.Making.{env_at}
@@ -18,7 +18,7 @@ use Rattle.cap_account_resources.specs.Parts.{cells_of, Known, known_as, Table}
 use Rattle.cap_account_resources.proofs.Interference.{ArePartOf}
 use Rattle.cap_account_resources.proofs.Lists.{Among}
 use Rattle.cap_account_resources.proofs.Order.{same-int, same-refl}
-use Rattle.cap_account_resources.proofs.Owners.{Owner, numbers_of, Numbered, numbered-between}
+use Rattle.cap_account_resources.proofs.Owners.{Owner, numbers_of}
 use Rattle.cap_account_resources.proofs.Room.{room}
 use Rattle.cap_account_resources.proofs.Stocks.{Stock, both, stock-laws}
 use Rattle.cap_account_resources.proofs.Tables.{FitsRoom}
@@ -28,17 +28,16 @@ use Rattle.cap_account_states.proofs.Checked.{Checked}
 use Rattle.cap_account_states.proofs.Items.{AreFit}
 use Rattle.cap_account_states.proofs.Meets.{Old}
 use Rattle.cap_account_states.proofs.Naming.{values_in, values-mean}
-use Rattle.cap_account_assertions.proofs.Asserted.{DrawsAll}
 use Rattle.cap_account_assertions.proofs.Laws.{StateAt, IsOwner, Creation}
 use Rattle.cap_account_assertions.proofs.TakeSteps.{Job, MadeFrom}
 use Rattle.cap_account_assertions.proofs.TakenLaws.{FreeFrom, start-in-room}
-use Rattle.cap_owners_spec.specs.Traced.{over, valuation}
+use Rattle.cap_owners_spec.specs.Traced.{valuation}
 use Rattle.cap_owners_spec.specs.Track.{TrackedRegion, tracked_at}
-use Rattle.cap_owners_spec.specs.Walks.{Taking, nothing_taken, no_items}
+use Rattle.cap_owners_spec.specs.Walks.{nothing_taken, no_items}
 use Rattle.cap_owners_fills_laws.proofs.Drawn.{IsMetBy, Tells}
 use Rattle.cap_account.proofs.Stocked.{part_stock}
 use Rattle.cap_owners_passes_laws.proofs.Parted.{none-held}
-use Rattle.cap_owners_passes_laws.proofs.Takes.{owner_of, IsTracked, AreNameTerms, AreBelow, TakesFrom, TakesTo, TakesLaw}
+use Rattle.cap_owners_passes_laws.proofs.Takes.{IsTracked, AreNameTerms, AreBelow, TakesFrom, TakesTo, TakesLaw}
 use Rattle.cap_owners_passes_laws.proofs.TakesAll.{takes}
 use Rattle.cap_owners_passes_laws.proofs.Guards.{guard-steps}
 use Rattle.cap_owners_passes_laws.proofs.Creates.{create-takes}
@@ -158,12 +157,15 @@ made-told p U (c ∷ cs) (r ∷ rs) h o n =
           | inl q ↦ inl (ap (option_map
               (λ (r : TrackedRegion). known_as r.owned.region.kind r.owned.region.args
               (Some r.owned.region.state))) skip ∙ q)
-          | inr q ↦ inr (skip ∙ q.0, λ m. elim m [
-            | inl here ↦
-                let same = ap (λ (w : Owner). w.number) h.0.owner in
-                not-same r.owned.region.number n e (omega (arith, ints, here, same))
-            | inr later ↦ q.1 later
-          ])
+          | inr q ↦ inr (
+            skip ∙ q.0,
+            λ m. elim m [
+              | inl here ↦
+                  let same = ap (λ (w : Owner). w.number) h.0.owner in
+                  not-same r.owned.region.number n e (omega (arith, ints, here, same))
+              | inr later ↦ q.1 later
+            ],
+          )
         ]
 
 -- behind those of a track
@@ -182,8 +184,11 @@ behind (r ∷ rs) ss n = by (same_number r.owned.region.number n) refl (behind r
         × (tracked_at (r ∷ (rs ++ ss)) n ≡ Some q))
         ⊎ ((tracked_at (r ∷ rs) n ≡ None) × (tracked_at (r ∷ (rs ++ ss)) n ≡ tracked_at ss n))
     by true e rest =
-        inl (r, ap (λ b. if b then Some r else tracked_at rs n) e,
-        ap (λ b. if b then Some r else tracked_at (rs ++ ss) n) e)
+        inl (
+          r,
+          ap (λ b. if b then Some r else tracked_at rs n) e,
+          ap (λ b. if b then Some r else tracked_at (rs ++ ss) n) e,
+        )
     by false e rest =
         let skip = ap (λ b. if b then Some r else tracked_at rs n) e in
         let skips = ap (λ b. if b then Some r else tracked_at (rs ++ ss) n) e in

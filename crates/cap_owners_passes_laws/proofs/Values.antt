@@ -1,17 +1,14 @@
 -- By which value an atom is met that a walk takes out of a piece.
-use Rattle.std.proofs.Common.{◌≡◌, ◌≢◌, ◌⊎◌, inl, inr, ℕ, zero, suc, ◌+◌, ◌<◌, ℤ, pos, negsuc, ◌*ℤ◌, ◌<ℤ◌, Bool, true, false, List, [], ◌∷◌, ◌++◌, length, Option, Some, None, refl, sym, ap, ◌∙◌, subst, arith}
+use Rattle.std.proofs.Common.{◌≡◌, ◌⊎◌, inl, inr, ℕ, zero, suc, ℤ, Bool, true, false, List, [], ◌++◌, length, Option, Some, None, refl, sym, ap, ◌∙◌, subst}
 use Rattle.std.specs.Prelude.{slice_get, if◌then◌else◌}
 use Rattle.std.specs.List.{AllZip}
-use Rattle.std.proofs.lemmas.Slice.Zip.{AllZip-long}
-use Rattle.std.proofs.lemmas.Int.{ints}
-use Rattle.cap_lin.specs.Linear.{Linear, variable}
-use Rattle.cap_lin.specs.Values.{Valuation, value, amount}
+use Rattle.cap_lin.specs.Linear.{Linear}
+use Rattle.cap_lin.specs.Values.{Valuation, value}
 use Rattle.cap_lin.specs.declared.row.Sort.{Sort}
-use Rattle.cap_lin.specs.declared.row.Sort.TheVariants.{Int, Perm}
+use Rattle.cap_lin.specs.declared.row.Sort.TheVariants.{Int}
 use Rattle.cap_galg.specs.Elements.{Element}
 use Rattle.cap_gsolve.specs.declared.piece.Form.{Form}
 use Rattle.cap_gsolve.specs.declared.piece.Form.TheVariants as form
-use Rattle.cap_gsolve.specs.declared.piece.Piece.{Piece}
 use Rattle.cap_farkas.specs.declared.cert.Cert.{Cert}
 use Rattle.cap_syntax.specs.declared.place.Place.{Place}
 use Rattle.cap_prog.specs.declared.assertion.Slot.{Slot}
@@ -21,9 +18,9 @@ use Rattle.cap_prog.specs.declared.assertion.Asked.TheVariants.{One, Share, Src,
 use Rattle.cap_prog.specs.Program.{atom, Items, item}
 use Rattle.cap_prog.specs.Scopes.{SlotFits}
 use Rattle.cap_goal_spec.specs.Terms.{lone_variable}
-use Rattle.cap_goal_spec.specs.States.{PlainEnv, PlainState, PlainGoal}
+use Rattle.cap_goal_spec.specs.States.{PlainEnv, PlainState}
 use Rattle.cap_goal_spec.specs.Choices.{PlainTrees}
-use Rattle.cap_goal_spec.specs.Environments.{zero_value, term_of, is_determined, Reading, settled, open_to, stuck, read_name, reading, asked_slot}
+use Rattle.cap_goal_spec.specs.Environments.{zero_value, is_determined, Reading, settled, open_to, stuck, read_name, reading, asked_slot}
 use Rattle.cap_rules.specs.Making.{env_at}
 use Rattle.cap_rules.specs.Taking.{Cut, cut_form, cut_share, cut_source, cut_tokens, cut_new_tokens, cut_index, cut_onwards}
 use Rattle.cap_machine_accounts.specs.Assertions.{NameValue, a_number, HasNameSort}
@@ -36,7 +33,7 @@ use Rattle.cap_account_states.proofs.Adding.{PieceOver}
 use Rattle.cap_account_states.proofs.Alike.{Alike, alike-same, value-alike}
 use Rattle.cap_account_states.proofs.Brought.{Brings, piece_brings}
 use Rattle.cap_account_states.proofs.Checked.{Checked}
-use Rattle.cap_account_states.proofs.Guarding.{FormOver, asked_of, first_term, open_term, OpenGets, CutFrom, is_open, is_open_reading}
+use Rattle.cap_account_states.proofs.Guarding.{FormOver, asked_of, first_term, open_term, OpenGets, CutFrom, is_open}
 use Rattle.cap_account_states.proofs.Guards.{open_sorts}
 use Rattle.cap_account_states.proofs.Matching.{met_env}
 use Rattle.cap_account_states.proofs.Meets.{Usable, usable-old, Old}
@@ -45,7 +42,7 @@ use Rattle.cap_account_states.proofs.Terms.{Over, vars-more}
 use Rattle.cap_account_states.proofs.Wants.{Wants}
 use Rattle.cap_account_assertions.proofs.Coarser.{then-alike}
 use Rattle.cap_account_assertions.proofs.TakeSteps.{Job}
-use Rattle.cap_owners_spec.specs.Traced.{Traced, traced, past_width, untold, over, valuation}
+use Rattle.cap_owners_spec.specs.Traced.{Traced, traced, past_width, untold, valuation}
 use Rattle.cap_owners_spec.specs.Filling.{met, atom_met}
 use Rattle.cap_owners_spec.specs.Walks.{Taking, asked_reading, new_share}
 use Rattle.cap_owners_laws.specs.Owned.{IsTold}
