@@ -86,25 +86,32 @@ module _ (p : Checked) (regions : AllByRecursion (RegionFits p.program) p.progra
         (piece_brings (is_open asked (env_at s j.env)) (slice_get s.guards i))
         (atom place n k m asked) more
     guard-taken-by trees i (suc (suc zero)) place n k m (Tok x) more f h =
-        none-taken p.program ks T j v s c st.ready st.backed (Children p.N trees) i place n k m x more f h
+        none-taken p.program ks T j v s c st.ready st.backed (Children p.N trees) i place n k m x
+        more f h
     guard-taken-by trees i (suc (suc zero)) place n k m One more f h =
-        piece-taken p.program ks T j v s c st.ready st.backed (Children p.N trees) i 2 place n k m One more st.low f h
+        piece-taken p.program ks T j v s c st.ready st.backed (Children p.N trees) i 2
+        place n k m One more st.low f h
     guard-taken-by trees i (suc (suc zero)) place n k m (Share x) more f h =
-        piece-taken p.program ks T j v s c st.ready st.backed (Children p.N trees) i 2 place n k m (Share x) more st.low f
-        h
+        piece-taken p.program ks T j v s c st.ready st.backed (Children p.N trees) i 2
+        place n k m (Share x) more st.low f h
     guard-taken-by trees i (suc (suc zero)) place n k m (Src x) more f h =
-        piece-taken p.program ks T j v s c st.ready st.backed (Children p.N trees) i 2 place n k m (Src x) more st.low f h
+        piece-taken p.program ks T j v s c st.ready st.backed (Children p.N trees) i 2
+        place n k m (Src x) more st.low f h
     guard-taken-by trees i (suc (suc zero)) place n k m (At x) more f h =
-        piece-taken p.program ks T j v s c st.ready st.backed (Children p.N trees) i 2 place n k m (At x) more st.low f h
+        piece-taken p.program ks T j v s c st.ready st.backed (Children p.N trees) i 2
+        place n k m (At x) more st.low f h
     guard-taken-by trees i (suc (suc zero)) place n k m (From x) more f h =
-        piece-taken p.program ks T j v s c st.ready st.backed (Children p.N trees) i 2 place n k m (From x) more st.low f h
+        piece-taken p.program ks T j v s c st.ready st.backed (Children p.N trees) i 2
+        place n k m (From x) more st.low f h
     guard-taken-by trees i zero place n k m asked more f h =
-        piece-taken p.program ks T j v s c st.ready st.backed (Children p.N trees) i 0 place n k m asked more st.low f h
+        piece-taken p.program ks T j v s c st.ready st.backed (Children p.N trees) i 0
+        place n k m asked more st.low f h
     guard-taken-by trees i (suc zero) place n k m asked more f h =
-        piece-taken p.program ks T j v s c st.ready st.backed (Children p.N trees) i 1 place n k m asked more st.low f h
+        piece-taken p.program ks T j v s c st.ready st.backed (Children p.N trees) i 1
+        place n k m asked more st.low f h
     guard-taken-by trees i (suc (suc (suc way))) place n k m asked more f h =
-        piece-taken p.program ks T j v s c st.ready st.backed (Children p.N trees) i (suc (suc (suc way))) place n k m
-        asked more st.low f h
+        piece-taken p.program ks T j v s c st.ready st.backed (Children p.N trees) i
+        (suc (suc (suc way))) place n k m asked more st.low f h
 
     module _ (i : PlainItem) (more : Items) (are : j.items ≡ item i more) (trees : PlainTrees)
         (small : trees_size trees ≤ size) where
@@ -149,10 +156,12 @@ module _ (p : Checked) (regions : AllByRecursion (RegionFits p.program) p.progra
     took-node (cell place x y) more are (node (by_cell i cs) trees) le h =
         let f = (subst (AreFit p.program j.scope) are st.fits).0 in
         goes-then (cell place x y) more are trees (omega (arith, le))
-        (cell-taken p.program ks T j v s c st.ready st.backed (Children p.N trees) i place x y more f.0 f.1 (p.step h))
+        (cell-taken p.program ks T j v s c st.ready st.backed (Children p.N trees) i place x y more
+        f.0 f.1 (p.step h))
     took-node (fact place n k args x) more are (node (by_region i cs) trees) le h =
         goes-then (fact place n k args x) more are trees (omega (arith, le))
-        (fact-taken p.program ks T j v s c st.ready st.backed (Children p.N trees) i place n k args x more
+        (fact-taken p.program ks T j v s c st.ready st.backed (Children p.N trees) i place n k args
+        x more
         (subst (AreFit p.program j.scope) are st.fits).0 (p.step h))
     took-node (fact place n k args x) more are (node (by_create case) trees) le h =
         created place n k args x more are trees (omega (arith, le)) case j.most refl (p.step h)

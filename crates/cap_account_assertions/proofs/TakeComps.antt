@@ -154,7 +154,8 @@ module _ (p : PlainProgram) (ks : List ℕ) (T : Table) (j : Job) (v : Valuation
       AreFit p j.scope (append_items (side_items b) more) → SideTold b
   side-told b f bd m fits =
       let op = side_op b in
-      let holds = (row_of-means v (term_in choice_env x.left) op (term_in choice_env x.right) x.sort).1 m in
+      let holds = (row_of-means v (term_in choice_env x.left) op (term_in choice_env x.right)
+      x.sort).1 m in
       record {
         holds = holds;
         says = row-said p ks T j v s c st backed (λ gs. Unit {0}) x op f bd holds;

@@ -77,7 +77,8 @@ module _ (p : PlainProgram) (ks : List ℕ) (T : Table) (j : Job) (v : Valuation
       pub term : Linear
       pub is_term : term_of (env_at s j.env) n ≡ Some term
       pub full : Converts (algebra_of p k) k v term held other
-      pub comes : Comes (without_full s.rows s.guards (side_pieces held term k) >>= adding other term) P
+      pub comes :
+          Comes (without_full s.rows s.guards (side_pieces held term k) >>= adding other term) P
 
     pub asks : Comes (at_convert p s m side n k i (remaining j more)) P → Asks
     asks h =

@@ -217,21 +217,22 @@ module _ (p : PlainProgram) (ks : List ℕ) (T : Table) (j : Job) (v : Valuation
 
 module _ (p : Checked) (ks : List ℕ) (T : Table) (next : ℤ) (lim : Holding) (j : Job)
     (v : Valuation) (s : PlainState) (c : Stock) (st : TakeStart p.program ks T next lim j v s c)
-    (size : ℕ) (law : TookLaw p ks size) (trees : PlainTrees) (small : trees_size trees ≤ size) where
-  pub took-taken :
-      {bs : List Bring} (i : PlainItem) (more : Items) → j.items ≡ item i more →
-      AreFit p.program j.scope more →
-      ItemTaken p.program ks T j v s c (Children p.N trees) bs i more →
-      Took p ks T next j v s c (suc size)
-  took-taken {bs} i more e f r =
-      took-item p ks T next j v s c r.head i more e r.claim size (suc size) (omega arith)
-      (law T next lim (with_items j more) trees r.head.w r.head.after r.head.left small r.goes
-      (start-after p.program ks T next lim j more v s c st r.head f))
+    (size : ℕ) (law : TookLaw p ks size) (trees : PlainTrees) (small : trees_size trees ≤ size)
+  where
+    pub took-taken :
+        {bs : List Bring} (i : PlainItem) (more : Items) → j.items ≡ item i more →
+        AreFit p.program j.scope more →
+        ItemTaken p.program ks T j v s c (Children p.N trees) bs i more →
+        Took p ks T next j v s c (suc size)
+    took-taken {bs} i more e f r =
+        took-item p ks T next j v s c r.head i more e r.claim size (suc size) (omega arith)
+        (law T next lim (with_items j more) trees r.head.w r.head.after r.head.left small r.goes
+        (start-after p.program ks T next lim j more v s c st r.head f))
 
-  pub took-turned :
-      ItemsTurned p.program ks T j v s c (Children p.N trees) →
-      Took p ks T next j v s c (suc size)
-  took-turned r =
-      took-other p ks T next j v s c r.head r.rest r.turns size (suc size) (omega arith)
-      (law T next lim (with_items j r.rest) trees r.head.w r.head.after r.head.left small r.goes
-      (start-after p.program ks T next lim j r.rest v s c st r.head r.fits))
+    pub took-turned :
+        ItemsTurned p.program ks T j v s c (Children p.N trees) →
+        Took p ks T next j v s c (suc size)
+    took-turned r =
+        took-other p ks T next j v s c r.head r.rest r.turns size (suc size) (omega arith)
+        (law T next lim (with_items j r.rest) trees r.head.w r.head.after r.head.left small r.goes
+        (start-after p.program ks T next lim j r.rest v s c st r.head r.fits))

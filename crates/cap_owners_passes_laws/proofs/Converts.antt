@@ -70,7 +70,8 @@ module _ (p : Checked) (ks : List ℕ) (T : Table) (next : ℤ) (lim : Holding) 
         more_facts = sym (join-nil top.fill.facts);
         met = λ U g w l a x q r d under.
             let le = inside-second pp no_stock q in
-            let out = draws-all-more pp U a it q (both pp no_stock q) r r le (inside-same pp r) d in (
+            let out = draws-all-more pp U a it q (both pp no_stock q) r r le (inside-same pp r) d
+            in (
               met-items pp U a it it (both pp no_stock q) r (sym refl) out
                   ∙ items-met-out pp U a it q (both pp no_stock q) r r le (inside-same pp r) d,
               told-items pp U a it it (both pp no_stock q) r (sym refl) out

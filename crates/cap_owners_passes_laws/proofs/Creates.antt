@@ -1,6 +1,6 @@
 -- A walk creates a region: its case is taken, the region is made, and the fact is taken again.
-use Rattle.std.proofs.Common.{◌≡◌, ◌⊎◌, inl, inr, ℕ, zero, suc, ◌-◌, ◌<◌, ◌≤◌, ℤ, pos, ◌+ℤ◌, ◌≤ℤ◌, ◌<ℤ◌, false, List, [], ◌∷◌, ◌++◌, length, Option, Some, None, refl, sym, ap, ◌∙◌, subst, arith}
-use Rattle.std.specs.Prelude.{slice_get, IsSomeAnd}
+use Rattle.std.proofs.Common.{◌≡◌, ◌⊎◌, inl, inr, ℕ, zero, suc, ◌-◌, ◌<◌, ◌≤◌, ℤ, pos, ◌+ℤ◌, ◌<ℤ◌, false, List, [], ◌∷◌, ◌++◌, length, Some, refl, sym, ap, ◌∙◌, subst, arith}
+use Rattle.std.specs.Prelude.{slice_get}
 use Rattle.std.specs.List.{AllByRecursion}
 use Rattle.std.proofs.lemmas.Int.{ints}
 use Rattle.std.proofs.lemmas.Slice.Zip.{AllZip-long}
@@ -18,13 +18,10 @@ use Rattle.cap_rules.specs.Rules.{creates}
 use Rattle.cap_rules_nodes.specs.Nodes.{goals_left}
 use Rattle.cap_machine_accounts.specs.Assertions.{NameValue, a_number, HasNameSort}
 use Rattle.cap_account_resources.specs.Parts.{known_as, Table}
-use Rattle.cap_account_resources.proofs.Covering.{IsPartOf, part-trans}
 use Rattle.cap_account_resources.proofs.Interference.{Holding, ArePartOf}
-use Rattle.cap_account_resources.proofs.Lists.{all-more, all-both, join-assoc}
-use Rattle.cap_account_resources.proofs.Monoid.{atom, both as plus}
-use Rattle.cap_account_resources.proofs.Owners.{owned, guards_of_all, Numbered, no-cells-in, numbered-up}
-use Rattle.cap_account_resources.proofs.Room.{all_guards, with_known, part-join}
-use Rattle.cap_account_resources.proofs.Stocks.{Stock, no_stock, guard_stock, both, Inside, stock-laws, reordered, inside-same, inside-trans, inside-first, inside-both, inside-guards}
+use Rattle.cap_account_resources.proofs.Lists.{all-more, join-assoc}
+use Rattle.cap_account_resources.proofs.Room.{all_guards, with_known}
+use Rattle.cap_account_resources.proofs.Stocks.{Stock, no_stock, guard_stock, both, stock-laws}
 use Rattle.cap_account_resources.proofs.Tables.{extends-states, extends-trans}
 use Rattle.cap_account_states.specs.Nodes.{Comes}
 use Rattle.cap_account_states.proofs.Alike.{alike-same}
@@ -49,21 +46,19 @@ use Rattle.cap_owners_values_laws.proofs.More.{sorted-more, number-told}
 use Rattle.cap_owners_walks_laws.proofs.Leading.{Left, node-leads}
 use Rattle.cap_account_assertions.proofs.Follows.{Follows}
 use Rattle.cap_account_assertions.proofs.Named.{set_to}
-use Rattle.cap_goal_spec.specs.Terms.{lone_variable}
 use Rattle.cap_goal_spec.specs.Environments.{term_of}
-use Rattle.cap_lin.specs.Linear.{Linear}
 use Rattle.cap_owners_spec.specs.Track.{TrackedRegion}
 use Rattle.cap_owners_passes_laws.proofs.Takes.{IsTracked}
 use Rattle.cap_account.proofs.Stocked.{part_stock}
 use Rattle.cap_owners_passes_laws.proofs.Rests.{into, below-wide}
-use Rattle.cap_owners_passes_laws.proofs.Parted.{none-held}
+use Rattle.cap_owners_passes_laws.proofs.Parted.{none-held, left-cells, left-guards}
 use Rattle.cap_owners_passes_laws.proofs.Names.{NamesSo, names-in-so, names-told}
 use Rattle.cap_owners_passes_laws.proofs.Meets.{met-items, told-items}
-use Rattle.cap_owners_passes_laws.proofs.Takes.{IsNameTerm, AreNameTerms, AreBelow, TakesFrom, taking_from, Taking_into, IsTooWide, TakesTo, TakesLaw}
+use Rattle.cap_owners_passes_laws.proofs.Takes.{AreNameTerms, more-term, AreBelow, TakesFrom, taking_from, Taking_into, IsTooWide, TakesTo, TakesLaw}
 use Rattle.cap_owners_passes_laws.proofs.Steps.{node-to, node-wide, AtNode}
 use Rattle.cap_owners_passes_laws.proofs.Plain.{Starting}
 use Rattle.cap_owners_passes_laws.proofs.TakesAll.{CreateTakes}
-use Rattle.cap_owners_passes_laws.proofs.Tracked.{all-tracked-on, tracked-on, zip-join, made-from, made-below, with-between}
+use Rattle.cap_owners_passes_laws.proofs.Tracked.{all-tracked-on, tracked-on, zip-join, created-between, created-below}
 use Rattle.cap_owners_passes_laws.proofs.Made.{made_as, is-tracked}
 
 module _ (p : Checked) (regions : AllByRecursion (RegionFits p.program) p.program.regions)
@@ -94,6 +89,15 @@ module _ (p : Checked) (regions : AllByRecursion (RegionFits p.program) p.progra
 
   abbrev new : List NameValue
   new = vs ++ a_number next ∷ []
+
+  -- a walk gets the region's number, and is to take its case
+  abbrev CreatePasses : Type 0
+  CreatePasses =
+      (enter : Interpreting) (w : Walk) (under : List Taking) →
+      pass_task enter p.program s (by_create case)
+      (to_take (item (fact place n k args x) more) j.env j.most j.statement) j.tasks
+      (taking_from p ks next vs top under w)
+      ≡ on 0 (taking_from p ks (next +ℤ pos 1) new nothing_taken (top ∷ under) w)
 
   module _ (a : CaseStart p.program ks T next lim of_fact (valuation vs) s c k case left
       (fact place n k args x) more Here) where
@@ -247,59 +251,8 @@ module _ (p : Checked) (regions : AllByRecursion (RegionFits p.program) p.progra
 
           same-env : env_at ends j.env ≡ env_at s j.env
           same-env =
-              envs-stay p ks T next lim of_fact v s c k case left (fact place n k args x) more Here a
-              size f.start some_left t0 (tasks_of again) There m j.env f.start.ready.there
-
-          more-name : (u : Linear) → IsNameTerm s.sorts u → IsNameTerm t0.after.sorts u
-          more-name u (inr h) =
-              inr (vars-more (λ y. slice_get s.sorts y ≡ Some Int)
-              (λ y. slice_get t0.after.sorts y ≡ Some Int) (λ y e. stays.goes_on.sorts y Int e)
-              u.parts h)
-          more-name u (inl h) = inl (by (lone_variable u) h)
-            where
-              by :
-                  (o : Option ℕ) → IsSomeAnd o (λ y. y < length s.sorts) →
-                  IsSomeAnd o (λ y. y < length t0.after.sorts)
-              by None h = h
-              by (Some y) h = (let l = stays.goes_on.count in omega (arith, h, l))
-
-          -- what is held then is of what was held
-          left-cells : (b z : ℤ) → t0.left.cells b z ≤ c.cells b z
-          left-cells b z =
-              let pp = p.program in
-              let e = ap (λ (q : Stock). q.cells b z) t0.budget.1 in
-              let none = no-cells-in pp t0.new b z in omega (arith, e, none)
-
-          left-guards :
-              (i : ℤ) →
-              IsPartOf p.program ((both p.program (part_stock top.part) t0.left).guards i)
-              (lim_then i)
-          left-guards i =
-              let pp = p.program in
-              let q = part_stock top.part in
-              let full = guard_stock next (all_guards pp k) in
-              let guards = guards_of_all pp t0.new in
-              let atoms = q ∷ c ∷ full ∷ guards ∷ [] in
-              let one = plus (atom 0) (plus (plus (atom 1) (atom 2)) (atom 3)) in
-              let other = plus (plus (plus (atom 0) (atom 1)) (atom 2)) (atom 3) in
-              let le = inside-both pp q q t0.left (both pp (both pp c full) guards)
-              (inside-same pp q)
-              (inside-trans pp t0.left
-              (both pp (both pp t0.left t0.given) (owned pp t0.new))
-              (both pp (both pp c full) guards)
-              (inside-trans pp t0.left (both pp t0.left t0.given)
-              (both pp (both pp t0.left t0.given) (owned pp t0.new))
-              (inside-first pp t0.left t0.given)
-              (inside-first pp (both pp t0.left t0.given) (owned pp t0.new))) t0.budget) in
-              let there = subst (Inside pp (both pp q t0.left))
-              (reordered pp atoms one other refl) le in
-              part-trans pp ((both pp q t0.left).guards i)
-              ((both pp (both pp (both pp q c) full) guards).guards i) (lim_then i)
-              (inside-guards pp (both pp q t0.left) (both pp (both pp (both pp q c) full) guards)
-              there i)
-              (part-join pp ((both pp (both pp q c) full).guards i)
-              (lim_with pp lim next k i) (guards.guards i)
-              (part-join pp ((both pp q c).guards i) (lim i) (full.guards i) (f.guards i)))
+              envs-stay p ks T next lim of_fact v s c k case left (fact place n k args x) more Here
+              a size f.start some_left t0 (tasks_of again) There m j.env f.start.ready.there
 
           from-again :
               TakesFrom p ks knows t0.later lim_then again t.values t0.w ends t0.left top.part
@@ -309,12 +262,17 @@ module _ (p : Checked) (regions : AllByRecursion (RegionFits p.program) p.progra
             valued = t.valued;
             sorted = t.sorted;
             terms = λ i u e.
-                more-name u (f.terms i u (ap (λ es. term_of es i) (sym same-env) ∙ e));
+                more-term s.sorts t0.after.sorts stays.goes_on.sorts stays.goes_on.count u
+                (f.terms i u (ap (λ es. term_of es i) (sym same-env) ∙ e));
             heap = f.heap;
             cells = λ b z.
-                let l = left-cells b z in
+                let l = left-cells p.program t0.new t0.left t0.given c
+                (guard_stock next (all_guards p.program k)) t0.budget b z in
                 let h = f.cells b z in omega (arith, l, h);
-            guards = left-guards;
+            guards =
+                left-guards p.program t0.new t0.left t0.given c
+                (guard_stock next (all_guards p.program k)) t0.budget (part_stock top.part) lim
+                f.guards;
           }
 
           -- the regions of a walk then
@@ -322,31 +280,15 @@ module _ (p : Checked) (regions : AllByRecursion (RegionFits p.program) p.progra
               (w : Walk) → AreBelow next w.regions →
               with_region region (w.regions ++ t.made) ≡ w.regions ++ region ∷ t.made
           in-place w low =
-              with-between region w.regions t.made
-              (all-more (λ r. r.owned.region.number <ℤ next) (λ r. r.owned.region.number <ℤ b)
-              (λ r l. (let e = number-next in omega (arith, ints, l, e))) w.regions low)
-              (all-more (λ r. (next +ℤ pos 1) ≤ℤ r.owned.region.number)
-              (λ r. b <ℤ r.owned.region.number)
-              (λ r l. (let e = number-next in omega (arith, ints, l, e))) t.made
-              (made-from p.program t0.U (next +ℤ pos 1) t0.later t0.created t.made
-              (subst (λ os. Numbered (next +ℤ pos 1) os t0.later) t0.are_created t0.made.numbered)
-              t.are_made))
+              created-between p.program t0.U next t0.later t0.new t0.made.numbered t0.created
+              t0.are_created t.made t.are_made region number-next w.regions low
 
           then-below :
               (w : Walk) → AreBelow next w.regions →
               AreBelow t0.later (w.regions ++ region ∷ t.made)
           then-below w low =
-              let up = numbered-up (next +ℤ pos 1) t0.later t0.new t0.made.numbered in
-              let e = number-next in
-              all-both (λ r. r.owned.region.number <ℤ t0.later) w.regions (region ∷ t.made)
-              (all-more (λ r. r.owned.region.number <ℤ next)
-              (λ r. r.owned.region.number <ℤ t0.later)
-              (λ r l. omega (arith, ints, l, up)) w.regions low) (
-                omega (arith, ints, up, e),
-                made-below p.program t0.U (next +ℤ pos 1) t0.later t0.created t.made
-                    (subst (λ os. Numbered (next +ℤ pos 1) os t0.later) t0.are_created
-                    t0.made.numbered) t.are_made,
-              )
+              created-below p.program t0.U next t0.later t0.new t0.made.numbered t0.created
+              t0.are_created t.made t.are_made region number-next w.regions low
 
           -- the walk of all
           abbrev Leads : Walk → List Taking → Interpreting → Type 0
@@ -423,6 +365,15 @@ module _ (p : Checked) (regions : AllByRecursion (RegionFits p.program) p.progra
                       })) (sym (join-assoc w.regions (region ∷ t.made) u.made));
                 })
 
+        -- with the region in its place
+        abbrev made_walk : Walk → List Taking → ℕ → ℤ → List NameValue → ℤ → Walk
+        made_walk w under params b names z = record w {
+          values = t.values;
+          next = t0.later;
+          taken = top ∷ under;
+          regions = with_region (made_as b k params case names z t.taken) (w.regions ++ t.made);
+        }
+
         -- by what is computed at the region
         abbrev MadePass : Walk → List Taking → Interpreting → Traced Descent
         MadePass w under enter =
@@ -433,51 +384,24 @@ module _ (p : Checked) (regions : AllByRecursion (RegionFits p.program) p.progra
             (q : Traced (List NameValue)) → number_in t.values (fresh s) ≡ o →
             names_in t.values (env_at t0.after (length s.envs)) ≡ q →
             MadePass w under enter
-            ≡ (o >>= λ b. q >>= λ names. number_in names a.z.state >>= λ z. on 0 (record w {
-              values = t.values;
-              next = t0.later;
-              taken = top ∷ under;
-              regions = with_region (made_as b k a.y.params case names z t.taken)
-                  (w.regions ++ t.made);
-            }))
+            ≡ (o >>= λ b. q >>= λ names. number_in names a.z.state >>= λ z.
+            on 0 (made_walk w under a.y.params b names z))
         made-by enter w under o q eo eq =
             ap (λ h. found h >>= λ y. found (slice_get y.cases case) >>= λ x.
             number_in t.values (fresh s) >>= λ b.
             names_in t.values (env_at t0.after (length s.envs)) >>= λ names.
-            number_in names x.state >>= λ z. on 0 (record w {
-              values = t.values;
-              next = t0.later;
-              taken = top ∷ under;
-              regions = with_region (made_as b k y.params case names z t.taken)
-                  (w.regions ++ t.made);
-            })) a.is_type
+            number_in names x.state >>= λ z. on 0 (made_walk w under y.params b names z)) a.is_type
             ∙ ap (λ h. found h >>= λ x.
             number_in t.values (fresh s) >>= λ b.
             names_in t.values (env_at t0.after (length s.envs)) >>= λ names.
-            number_in names x.state >>= λ z. on 0 (record w {
-              values = t.values;
-              next = t0.later;
-              taken = top ∷ under;
-              regions = with_region (made_as b k a.y.params case names z t.taken)
-                  (w.regions ++ t.made);
-            })) a.is_case
+            number_in names x.state >>= λ z. on 0 (made_walk w under a.y.params b names z))
+            a.is_case
             ∙ (λ i. eo i >>= λ b. eq i >>= λ names. number_in names a.z.state >>= λ z.
-            on 0 (record w {
-              values = t.values;
-              next = t0.later;
-              taken = top ∷ under;
-              regions = with_region (made_as b k a.y.params case names z t.taken)
-                  (w.regions ++ t.made);
-            }))
+            on 0 (made_walk w under a.y.params b names z))
 
         module _ (d : PlainTree) (tree_is : t0.children ≡ tree d no_trees)
             (node_is : d ≡ node (by_made cs) below)
-            (passes :
-            (enter : Interpreting) (w : Walk) (under : List Taking) →
-            pass_task enter p.program s (by_create case)
-            (to_take (item (fact place n k args x) more) j.env j.most j.statement) j.tasks
-            (taking_from p ks next vs top under w)
-            ≡ on 0 (taking_from p ks (next +ℤ pos 1) new nothing_taken (top ∷ under) w)) where
+            (passes : CreatePasses) where
           -- the walk to the region that is to be made
           to-make :
               (enter : Interpreting) (w : Walk) (under : List Taking) → AreBelow next w.regions →
@@ -527,13 +451,7 @@ module _ (p : Checked) (regions : AllByRecursion (RegionFits p.program) p.progra
               to-make enter w under low
               ∙ (λ i. walk_below enter p.program false below (m.comes.0 i)
               ((made-by enter w under (traced b) (traced names) eb en
-              ∙ ap (λ o. o >>= λ z. on 0 (record w {
-                values = t.values;
-                next = t0.later;
-                taken = top ∷ under;
-                regions = with_region (made_as b k a.y.params case names z t.taken)
-                    (w.regions ++ t.made);
-              })) ez) i))
+              ∙ ap (λ o. o >>= λ z. on 0 (made_walk w under a.y.params b names z)) ez) i))
               ∙ ap (λ rs. into enter p.program below
               (goals_of (ends m names so b z eb ez) (tasks_of again)) (record w {
                 values = t.values;
@@ -564,13 +482,7 @@ module _ (p : Checked) (regions : AllByRecursion (RegionFits p.program) p.progra
               by past_width ez =
                   wide-at (λ enter w under.
                   made-by enter w under (traced b) (traced names) eo eq
-                  ∙ ap (λ o. o >>= λ z. on 0 (record w {
-                    values = t.values;
-                    next = t0.later;
-                    taken = top ∷ under;
-                    regions = with_region (made_as b k a.y.params case names z t.taken)
-                        (w.regions ++ t.made);
-                  })) ez)
+                  ∙ ap (λ o. o >>= λ z. on 0 (made_walk w under a.y.params b names z)) ez)
               by (traced z) ez = made-at b z names eo eq ez
 
           made-answer : Answer
@@ -580,11 +492,7 @@ module _ (p : Checked) (regions : AllByRecursion (RegionFits p.program) p.progra
 
       -- by the node at which it is to be made
       make-node :
-          ((enter : Interpreting) (w : Walk) (under : List Taking) →
-          pass_task enter p.program s (by_create case)
-          (to_take (item (fact place n k args x) more) j.env j.most j.statement) j.tasks
-          (taking_from p ks next vs top under w)
-          ≡ on 0 (taking_from p ks (next +ℤ pos 1) new nothing_taken (top ∷ under) w)) →
+          CreatePasses →
           (d : PlainTree) → p.N d t0.after (make ∷ tasks_of again) →
           t0.children ≡ tree d no_trees → trees_size (tree d no_trees) ≤ size → Answer
       make-node passes (node (by_absurd y) below) hd e small =
@@ -594,21 +502,13 @@ module _ (p : Checked) (regions : AllByRecursion (RegionFits p.program) p.progra
       make-node passes d hd e small = absurd (p.step hd).1
 
       case-took :
-          ((enter : Interpreting) (w : Walk) (under : List Taking) →
-          pass_task enter p.program s (by_create case)
-          (to_take (item (fact place n k args x) more) j.env j.most j.statement) j.tasks
-          (taking_from p ks next vs top under w)
-          ≡ on 0 (taking_from p ks (next +ℤ pos 1) new nothing_taken (top ∷ under) w)) → Answer
+          CreatePasses → Answer
       case-took passes =
           let d = lone-child p.N t0.children t0.after (make ∷ tasks_of again) t0.goes in
           make-node passes d.0 d.1 d.2 (subst (λ ts. trees_size ts ≤ size) d.2 t0.no_larger)
 
     case-answer :
-        ((enter : Interpreting) (w : Walk) (under : List Taking) →
-        pass_task enter p.program s (by_create case)
-        (to_take (item (fact place n k args x) more) j.env j.most j.statement) j.tasks
-        (taking_from p ks next vs top under w)
-        ≡ on 0 (taking_from p ks (next +ℤ pos 1) new nothing_taken (top ∷ under) w)) → Answer
+        CreatePasses → Answer
     case-answer passes =
         elim (law T (next +ℤ pos 1) (lim_with p.program lim next k) of_case kids new
         (fresh_values s (valuation vs) next) at_case held nothing_taken le a.comes.1 from-case) [

@@ -146,8 +146,8 @@ module _ (p : Checked) (ks : List ℕ) (T : Table) (next : ℤ) (lim : Holding) 
     part-has-room a e ea is =
         let pp = p.program in
         let q = g.piece in
-        let o = all-at (PieceOver (Usable ks s.sorts)) s.guards k q f.start.ready.grounded.pieces_over
-        g.at in
+        let o = all-at (PieceOver (Usable ks s.sorts)) s.guards k q
+        f.start.ready.grounded.pieces_over g.at in
         let at : a ≡ value g.w.whole q.region =
         number-is vs q.region a ea
         ∙ sym (usable-alike ks s (valuation vs) g.w g.alike q.region o.0) in

@@ -113,11 +113,11 @@ module _ (p : Checked) (ks : List ℕ) (T : Table) (next : ℤ) (lim : Holding) 
           Valued (Src x) more kids f g ns
       by stuck e = absurd (read e)
       by (settled t) e =
-          settled-value p ks T next lim j vs s c top k way cs place n r m (Src x) more kids f g ns so
-          refl t refl e (λ y. refl)
+          settled-value p ks T next lim j vs s c top k way cs place n r m (Src x) more kids f g ns
+          so refl t refl e (λ y. refl)
       by (open_to o) e =
-          counted-open p ks T next lim j vs s c top k way cs place n r m (Src x) more kids f g ns so
-          refl tt (λ q. absurd (cc)) refl refl
+          counted-open p ks T next lim j vs s c top k way cs place n r m (Src x) more kids f g ns
+          so refl tt (λ q. absurd (cc)) refl refl
           (asked-fits j.scope (slice_get p.program.regions r) m (Src x) f.start.fits.0.1)
           (λ d y. refl) o e
 
@@ -129,11 +129,11 @@ module _ (p : Checked) (ks : List ℕ) (T : Table) (next : ℤ) (lim : Holding) 
           Valued (Tok x) more kids f g ns
       by stuck e = absurd (read e)
       by (settled t) e =
-          settled-value p ks T next lim j vs s c top k way cs place n r m (Tok x) more kids f g ns so
-          refl t refl e (λ y. refl)
+          settled-value p ks T next lim j vs s c top k way cs place n r m (Tok x) more kids f g ns
+          so refl t refl e (λ y. refl)
       by (open_to o) e =
-          counted-open p ks T next lim j vs s c top k way cs place n r m (Tok x) more kids f g ns so
-          refl tt (λ q. absurd (cc)) refl refl
+          counted-open p ks T next lim j vs s c top k way cs place n r m (Tok x) more kids f g ns
+          so refl tt (λ q. absurd (cc)) refl refl
           (asked-fits j.scope (slice_get p.program.regions r) m (Tok x) f.start.fits.0.1)
           (λ d y. refl) o e
 
@@ -145,11 +145,11 @@ module _ (p : Checked) (ks : List ℕ) (T : Table) (next : ℤ) (lim : Holding) 
           Valued (At x) more kids f g ns
       by stuck e = absurd (read e)
       by (settled t) e =
-          settled-value p ks T next lim j vs s c top k way cs place n r m (At x) more kids f g ns so
-          refl t refl e (λ y. refl)
+          settled-value p ks T next lim j vs s c top k way cs place n r m (At x) more kids f g ns
+          so refl t refl e (λ y. refl)
       by (open_to o) e =
-          counted-open p ks T next lim j vs s c top k way cs place n r m (At x) more kids f g ns so
-          refl tt (λ q. absurd (cc)) refl refl
+          counted-open p ks T next lim j vs s c top k way cs place n r m (At x) more kids f g ns
+          so refl tt (λ q. absurd (cc)) refl refl
           (asked-fits j.scope (slice_get p.program.regions r) m (At x) f.start.fits.0.1)
           (λ d y. refl) o e
 
@@ -164,8 +164,8 @@ module _ (p : Checked) (ks : List ℕ) (T : Table) (next : ℤ) (lim : Holding) 
           settled-value p ks T next lim j vs s c top k way cs place n r m (From x) more kids f g ns
           so refl t refl e (λ y. refl)
       by (open_to o) e =
-          counted-open p ks T next lim j vs s c top k way cs place n r m (From x) more kids f g ns so
-          refl tt (λ q. absurd (cc)) refl refl
+          counted-open p ks T next lim j vs s c top k way cs place n r m (From x) more kids f g ns
+          so refl tt (λ q. absurd (cc)) refl refl
           (asked-fits j.scope (slice_get p.program.regions r) m (From x) f.start.fits.0.1)
           (λ d y. refl) o e
 
@@ -181,12 +181,13 @@ module _ (p : Checked) (ks : List ℕ) (T : Table) (next : ℤ) (lim : Holding) 
           so (ap is_open_reading e) t refl e (λ y. refl)
       by (open_to o) e =
           let a = share-form x g.piece.form g.cut_from in
-          share-value p ks T next lim j vs s c top k way cs place n r m x more kids f g ns so o e a.0
-          a.1 (asked-fits j.scope (slice_get p.program.regions r) m (Share x) f.start.fits.0.1)
+          share-value p ks T next lim j vs s c top k way cs place n r m x more kids f g ns so o e
+          a.0 a.1 (asked-fits j.scope (slice_get p.program.regions r) m (Share x) f.start.fits.0.1)
 
   valued : (asked : Asked) → ByReading asked
   valued One more kids f g ns so read =
-      unique-value p ks T next lim j vs s c top k way cs place n r m One more kids f g ns so refl refl
+      unique-value p ks T next lim j vs s c top k way cs place n r m One more kids f g ns so refl
+      refl
   valued (Share x) more kids f g ns so read = share-valued x more kids f g ns so read
   valued (Src x) more kids f g ns so read = src-valued x more kids f g ns so read
   valued (Tok x) more kids f g ns so read = tok-valued x more kids f g ns so read
@@ -257,7 +258,8 @@ guard-steps p ks T next lim j vs s c top i (suc zero) cs place n k m asked more 
     cut-step p ks T next lim j vs s c top i 1 cs place n k m asked more kids f
     (node-leads p (by_guard i 1 cs) kids s
     (tasks_of (with_items j (item (atom place n k m asked) more))) h) (λ t w. refl)
-guard-steps p ks T next lim j vs s c top i (suc (suc (suc way))) cs place n k m asked more kids f h =
+guard-steps p ks T next lim j vs s c top i (suc (suc (suc way))) cs place n k m asked more kids f
+    h =
     cut-step p ks T next lim j vs s c top i (suc (suc (suc way))) cs place n k m asked more kids f
     (node-leads p (by_guard i (suc (suc (suc way))) cs) kids s
     (tasks_of (with_items j (item (atom place n k m asked) more))) h) (λ t w. refl)

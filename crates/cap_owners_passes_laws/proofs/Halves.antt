@@ -1,4 +1,5 @@
--- A walk takes half of a share: the half is a new variable, or there is none over the one denominator.
+-- A walk takes half of a share: the half is a new variable, or there is none over the one
+-- denominator.
 use Rattle.std.proofs.Common.{◌≡◌, ◌⊎◌, inl, inr, ℕ, ◌<◌, ℤ, pos, negsuc, ◌*ℤ◌, ◌<ℤ◌, Bool, true, false, List, [], ◌∷◌, ◌++◌, length, Option, Some, None, refl, sym, ap, ◌∙◌, subst, arith}
 use Rattle.std.specs.Prelude.{slice_get, unwrap_or, if◌then◌else◌, ◌==◌, ◌%◌, ◌/◌, IsSomeAnd}
 use Rattle.std.specs.List.{AllZip}
@@ -48,7 +49,7 @@ use Rattle.cap_owners_values_laws.proofs.More.{sorted-more}
 use Rattle.cap_owners_passes_laws.proofs.Parted.{own-form}
 use Rattle.cap_owners_passes_laws.proofs.Names.{NamesSo, IsValue, names-so, name-so, met-names, met-terms, lone-term, variable-is, at-last}
 use Rattle.cap_owners_passes_laws.proofs.Elements.{amount-told}
-use Rattle.cap_owners_passes_laws.proofs.Takes.{IsNameTerm, AreNameTerms}
+use Rattle.cap_owners_passes_laws.proofs.Takes.{IsNameTerm, AreNameTerms, more-term}
 use Rattle.cap_owners_passes_laws.proofs.Plain.{Starting}
 use Rattle.cap_owners_passes_laws.proofs.Cuts.{Found, Value}
 
@@ -59,20 +60,6 @@ half-told (pos n) l e = by (n % 2 == 0) e
     by true e = absurd (cc)
     by false e = absurd (cc)
 half-told (negsuc n) l e = omega (arith, ints, l)
-
--- a name's term is one with more variables
-pub more-term :
-    (os : List Sort) (o : Sort) (t : Linear) → IsNameTerm os t → IsNameTerm (os ++ o ∷ []) t
-more-term os o t (inr h) =
-    inr (vars-more (λ x. slice_get os x ≡ Some Int) (λ x. slice_get (os ++ o ∷ []) x ≡ Some Int)
-    (λ x e. get-first os (o ∷ []) x Int e) t.parts h)
-more-term os o t (inl h) = inl (by (lone_variable t) h)
-  where
-    by :
-        (m : Option ℕ) → IsSomeAnd m (λ x. x < length os) →
-        IsSomeAnd m (λ x. x < length (os ++ o ∷ []))
-    by None h = h
-    by (Some x) h = (let l = push-length os o in omega (arith, h, l))
 
 -- what names stood for they stand for with a variable more
 more-names :
@@ -243,7 +230,9 @@ module _ (p : Checked) (ks : List ℕ) (T : Table) (next : ℤ) (lim : Holding) 
               (subst (AreNameTerms (s.sorts ++ Perm ∷ [])) (sym later)
               (met-terms (IsNameTerm (s.sorts ++ Perm ∷ [])) env (reading env x)
               (variable (length s.sorts)) (inl (omega (arith, bigger)))
-              (λ i t e. more-term s.sorts Perm t (f.terms i t e))));
+              (λ i t e. more-term s.sorts (s.sorts ++ Perm ∷ [])
+              (λ y q e. get-first s.sorts (Perm ∷ []) y q e) (omega (arith, bigger)) t
+              (f.terms i t e))));
           names = subst (λ e. NamesSo u e (met (reading env x) y fill).names) (sym later) names;
           by = vs ++ y ∷ [];
           term = variable (length s.sorts);

@@ -1,4 +1,4 @@
--- What names stand for, and the values of the names of a fill: they are the same, and stay so where a
+-- What names stand for, and the values of a fill's names: they are the same, and stay so where a
 -- slot is met.
 use Rattle.std.proofs.Common.{◌≡◌, ◌≢◌, ◌⊎◌, inl, inr, ℕ, zero, suc, ◌-◌, ◌<◌, ℤ, pos, ◌*ℤ◌, Bool, true, false, List, [], ◌∷◌, ◌++◌, length, Option, Some, None, refl, sym, ap, ◌∙◌, subst, arith}
 use Rattle.std.specs.Prelude.{slice_get, slice_set, unwrap_or, is_some, if◌then◌else◌, ◌&&◌, IsSomeAnd}

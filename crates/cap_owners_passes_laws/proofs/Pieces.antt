@@ -44,7 +44,8 @@ module _ (p : Checked) (ks : List ℕ) (T : Table) (next : ℤ) (lim : Holding) 
     (vs : List NameValue) (s : PlainState) (c : Stock) (top : Taking) where
   pub none-step :
       (k : ℕ) (cs : List Cert) (place : Place) (n r m : ℕ) (x : Slot) (more : Items)
-      (kids : PlainTrees) → Starting p ks T next lim j vs s c top (item (atom place n r m (Tok x)) more) →
+      (kids : PlainTrees) →
+      Starting p ks T next lim j vs s c top (item (atom place n r m (Tok x)) more) →
       p.N (node (by_guard k 2 cs) kids) s
       (tasks_of (with_items j (item (atom place n r m (Tok x)) more))) →
       Wide p ks T next lim j vs s c top (item (atom place n r m (Tok x)) more)

@@ -1,4 +1,4 @@
--- A walk takes a conditional item, and guards that are converted first: other items are to be taken.
+-- A walk takes one side of a conditional item: other items are to be taken.
 use Rattle.std.proofs.Common.{◌≡◌, ◌⊎◌, inl, inr, ℕ, suc, ◌≤◌, ℤ, Bool, true, false, ◌==◌, if◌then◌else◌, List, [], ◌∷◌, ◌++◌, length, option_to_list, Option, Some, None, refl, sym, ap, ◌∙◌, subst, arith}
 use Rattle.cap_lin.specs.Values.{Valuation}
 use Rattle.cap_lin.specs.Solves.{value_by_sort, Relates}
@@ -128,7 +128,8 @@ module _ (p : Checked) (ks : List ℕ) (T : Table) (next : ℤ) (lim : Holding) 
       refl b
 
   abbrev goal_at : Bool → Option PlainGoal
-  goal_at b = goal_of (state_of b) (tasks_of (with_items of_choice (append_items (items_of b) more)))
+  goal_at b =
+      goal_of (state_of b) (tasks_of (with_items of_choice (append_items (items_of b) more)))
 
   -- the trees of this side
   abbrev trees_of : Bool → PlainTrees
@@ -233,7 +234,8 @@ module _ (p : Checked) (ks : List ℕ) (T : Table) (next : ℤ) (lim : Holding) 
   side-met true U a q r k d = (refl, refl)
   side-met false U a q r k d = (refl, refl)
 
-  side-fewer : (b : Bool) → suc (trees_size (trees_of b)) ≤ trees_size (tree (node by_cases kids) no_trees)
+  side-fewer :
+      (b : Bool) → suc (trees_size (trees_of b)) ≤ trees_size (tree (node by_cases kids) no_trees)
   side-fewer true =
       let e = trees-sizes (length (option_to_list (goal_at true))) kids in omega (arith, e)
   side-fewer false =

@@ -1,7 +1,7 @@
 -- A walk over a Take: items are taken one after the other, and regions are created. It comes to the
--- goals to which taking leads, at the values at which the state holds there; on top of what is taken
--- is then by what the items are met, and what they own.
-use Rattle.std.proofs.Common.{◌≡◌, ◌⊎◌, ℕ, ◌+◌, ◌-◌, ◌<◌, ◌≤◌, ℤ, ◌<ℤ◌, true, List, ◌∷◌, ◌++◌, length, Some}
+-- goals to which taking leads, at the values at which the state holds there. On top of what is
+-- taken is then by what the items are met, and what they own.
+use Rattle.std.proofs.Common.{◌≡◌, ◌⊎◌, inl, inr, ℕ, ◌+◌, ◌-◌, ◌<◌, ◌≤◌, ℤ, ◌<ℤ◌, true, List, ◌∷◌, ◌++◌, length, Option, Some, None, arith}
 use Rattle.std.specs.Prelude.{slice_get, IsSomeAnd}
 use Rattle.std.specs.List.{AllByRecursion, AllZip}
 use Rattle.cap_lin.specs.Linear.{Linear}
@@ -26,7 +26,7 @@ use Rattle.cap_account_states.proofs.Alike.{Alike}
 use Rattle.cap_account_states.proofs.Checked.{Checked}
 use Rattle.cap_account_states.proofs.Meets.{Old}
 use Rattle.cap_account_states.proofs.Naming.{Means, values_in}
-use Rattle.cap_account_states.proofs.Terms.{Over}
+use Rattle.cap_account_states.proofs.Terms.{Over, vars-more}
 use Rattle.cap_account_assertions.proofs.Asserted.{OwnsCase}
 use Rattle.cap_account_assertions.proofs.Laws.{Creation}
 use Rattle.cap_account_assertions.proofs.TreeSizes.{trees_size}
@@ -49,6 +49,21 @@ IsNameTerm sorts t =
 abbrev pub AreNameTerms : List Sort → PlainEnv → Type 0
 AreNameTerms sorts env =
     (x : ℕ) (t : Linear) → term_of env x ≡ Some t → IsNameTerm sorts t
+
+-- a name's term is one with more variables
+pub more-term :
+    (os us : List Sort) →
+    ((x : ℕ) (o : Sort) → slice_get os x ≡ Some o → slice_get us x ≡ Some o) →
+    length os ≤ length us → (t : Linear) → IsNameTerm os t → IsNameTerm us t
+more-term os us more le t (inr h) =
+    inr (vars-more (λ x. slice_get os x ≡ Some Int) (λ x. slice_get us x ≡ Some Int)
+    (λ x e. more x Int e) t.parts h)
+more-term os us more le t (inl h) = inl (by (lone_variable t) h)
+  where
+    by :
+        (m : Option ℕ) → IsSomeAnd m (λ x. x < length os) → IsSomeAnd m (λ x. x < length us)
+    by None h = h
+    by (Some x) h = omega (arith, h, le)
 
 -- ---- regions that are created
 
@@ -104,9 +119,9 @@ module _ (p : Checked) (ks : List ℕ) where
       (enter : Interpreting) (w : Walk) (rest : List Taking) → AreBelow next w.regions →
       Taking_into enter j trees s (taking_from next vs top rest w) ≡ past_width
 
-  -- The items are taken so, by soundness's law, at these values. What is on top then is by what they
-  -- are met, at all values alike to these, and what they own; where there are none its names stay as
-  -- they are. Each region that was created stands behind the walk's, as it is tracked.
+  -- The items are taken so, by soundness's law, at these values. By what they are met at all values
+  -- alike to these is on top then, with what they own; where there are none its names stay as they
+  -- are. Each region that was created stands behind the walk's, as it is tracked.
   pub record TakesTo (T : Table) (next : ℤ) (j : Job) (trees : PlainTrees) (vs : List NameValue)
       (v : Valuation) (s : PlainState) (c : Stock) (top : Taking) (most_trees : ℕ) : Type 0 where
     pub took : Took p ks T next j v s c most_trees

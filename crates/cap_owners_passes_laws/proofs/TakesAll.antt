@@ -148,14 +148,14 @@ module _ (p : Checked) (ks : List ℕ) (guards : GuardSteps p ks) (creates : Cre
 
   pub takes : (size : ℕ) → TakesLaw p ks size
   takes zero T next lim j trees vs v s c top le h f =
-      takes-items zero (λ less e. absurd (no-zero less e)) T next lim j trees vs v s c top le j.items
-      h f
+      takes-items zero (λ less e. absurd (no-zero less e)) T next lim j trees vs v s c top le
+      j.items h f
     where
       no-zero : (n : ℕ) → 0 ≡ suc n → ⊥
       no-zero n e = omega (arith, e)
   takes (suc size) T next lim j trees vs v s c top le h f =
-      takes-items (suc size) (λ less e. subst (TakesLaw p ks) (same size less e) (takes size)) T next
-      lim j trees vs v s c top le j.items h f
+      takes-items (suc size) (λ less e. subst (TakesLaw p ks) (same size less e) (takes size)) T
+      next lim j trees vs v s c top le j.items h f
     where
       same : (m n : ℕ) → suc m ≡ suc n → m ≡ n
       same m n e = omega (arith, e)

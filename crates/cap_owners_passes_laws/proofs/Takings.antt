@@ -1,5 +1,5 @@
--- What comes of taking along a walk, for those who take: by what the items are met, and which table the
--- regions tell then.
+-- What comes of taking along a walk, for those who take: by what the items are met, and which table
+-- the regions tell then.
 use Rattle.std.proofs.Common.{◌≡◌, ◌⊎◌, inl, inr, ℕ, ◌<◌, ◌≤◌, ℤ, Bool, true, false, List, [], ◌∷◌, ◌++◌, length, map, Option, Some, None, refl, sym, ap, ◌∙◌, subst, arith}
 use Rattle.std.specs.Prelude.{option_map, if◌then◌else◌}
 use Rattle.std.specs.List.{AllByRecursion, AllZip}
@@ -206,7 +206,8 @@ tells-made p T U next later new m cs are rs ss h tells n =
     elim (behind rs ss n) [
       | inl q ↦
           let r = q.0 in
-          let known = known_as r.owned.region.kind r.owned.region.args (Some r.owned.region.state) in
+          let known = known_as r.owned.region.kind r.owned.region.args
+          (Some r.owned.region.state) in
           let tell = option_map (λ (r : TrackedRegion). known_as r.owned.region.kind
           r.owned.region.args (Some r.owned.region.state)) in
           ap tell q.2 ∙ sym (m.extends n known (sym (tells n) ∙ ap tell q.1))

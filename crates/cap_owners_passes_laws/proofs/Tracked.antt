@@ -1,5 +1,6 @@
--- Regions that are created along a walk: they stand behind the others, in the order of their numbers.
-use Rattle.std.proofs.Common.{◌≡◌, ◌≢◌, ℕ, suc, ◌≤◌, ℤ, pos, ◌+ℤ◌, ◌≤ℤ◌, ◌<ℤ◌, Bool, true, false, List, [], ◌∷◌, ◌++◌, length, map, take, drop, refl, ap, ◌∙◌, arith}
+-- Regions that are created along a walk: they stand behind the others, in the order of their
+-- numbers.
+use Rattle.std.proofs.Common.{◌≡◌, ◌≢◌, ℕ, suc, ◌≤◌, ℤ, pos, ◌+ℤ◌, ◌≤ℤ◌, ◌<ℤ◌, Bool, true, false, List, [], ◌∷◌, ◌++◌, length, map, take, drop, refl, ap, ◌∙◌, arith, subst}
 use Rattle.std.specs.Prelude.{int_lt}
 use Rattle.std.specs.List.{AllByRecursion, AllZip}
 use Rattle.std.proofs.lemmas.Int.{ints}
@@ -7,7 +8,7 @@ use Rattle.cap_lin.specs.Linear.{same_number}
 use Rattle.cap_prog.specs.Program.{PlainProgram}
 use Rattle.cap_machine_accounts.specs.Assertions.{NameValue, AreWhole}
 use Rattle.cap_account_resources.specs.Parts.{Table}
-use Rattle.cap_account_resources.proofs.Lists.{all-more}
+use Rattle.cap_account_resources.proofs.Lists.{all-more, all-both}
 use Rattle.cap_account_resources.proofs.Order.{same-int}
 use Rattle.cap_account_resources.proofs.Owners.{Owner, Numbered, numbered-up}
 use Rattle.cap_account_resources.proofs.Tables.{KeepsStates}
@@ -135,6 +136,36 @@ with-between r (s ∷ rs) ss l h =
     (λ e. omega (arith, ints, a, e)) in
     let m = lt-not r.owned.region.number s.owned.region.number (omega (arith, ints, a)) in
     rw (n, m) (ap (λ ts. s ∷ ts) (with-between r rs ss l.1 h))
+
+-- a region between a walk's and those that were numbered behind it
+module _ (p : PlainProgram) (U : Table) (next later : ℤ) (new : List Owner)
+    (numbered : Numbered (next +ℤ pos 1) new later) (cs : List Creation)
+    (are : new ≡ map (λ c. c.owner) cs) (made : List TrackedRegion)
+    (as_tracked : AllZip (IsTracked p U) cs made) (r : TrackedRegion)
+    (here : r.owned.region.number ≡ next) (rs : List TrackedRegion) (low : AreBelow next rs) where
+  counted : Numbered (next +ℤ pos 1) (map (λ c. c.owner) cs) later
+  counted = subst (λ os. Numbered (next +ℤ pos 1) os later) are numbered
+
+  pub created-between : with_region r (rs ++ made) ≡ rs ++ r ∷ made
+  created-between =
+      with-between r rs made
+      (all-more (λ s. s.owned.region.number <ℤ next)
+      (λ s. s.owned.region.number <ℤ r.owned.region.number)
+      (λ s l. omega (arith, ints, l, here)) rs low)
+      (all-more (λ s. (next +ℤ pos 1) ≤ℤ s.owned.region.number)
+      (λ s. r.owned.region.number <ℤ s.owned.region.number)
+      (λ s l. omega (arith, ints, l, here)) made
+      (made-from p U (next +ℤ pos 1) later cs made counted as_tracked))
+
+  pub created-below : AreBelow later (rs ++ r ∷ made)
+  created-below =
+      let up = numbered-up (next +ℤ pos 1) later new numbered in
+      all-both (λ s. s.owned.region.number <ℤ later) rs (r ∷ made)
+      (all-more (λ s. s.owned.region.number <ℤ next) (λ s. s.owned.region.number <ℤ later)
+      (λ s l. omega (arith, ints, l, up)) rs low) (
+        omega (arith, ints, up, here),
+        made-below p U (next +ℤ pos 1) later cs made counted as_tracked,
+      )
 
 -- ---- arguments
 
