@@ -7,8 +7,8 @@ use Rattle.std.proofs.lemmas.Int.{ints}
 use Rattle.cap_lin.specs.Linear.{same_number}
 use Rattle.cap_lin.specs.Values.{Valuation}
 use Rattle.cap_prog.specs.WellFormed.{RegionFits}
-use Rattle.cap_prog.specs.Program.{PlainProgram}
-use Rattle.cap_goal_spec.specs.States.{PlainState}
+use Rattle.cap_prog.specs.Program.{Items, PlainProgram}
+use Rattle.cap_goal_spec.specs.States.{PlainState, PlainTask}
 use Rattle.cap_goal_spec.specs.Choices.{PlainTrees}
 use Rattle.cap_rules.specs.Making.{env_at}
 use Rattle.cap_machine.specs.Machine.{Heap}
@@ -20,7 +20,7 @@ use Rattle.cap_account_resources.proofs.Lists.{Among}
 use Rattle.cap_account_resources.proofs.Order.{same-int, same-refl}
 use Rattle.cap_account_resources.proofs.Owners.{Owner, numbers_of}
 use Rattle.cap_account_resources.proofs.Room.{room}
-use Rattle.cap_account_resources.proofs.Stocks.{Stock, both, stock-laws}
+use Rattle.cap_account_resources.proofs.Stocks.{Stock, no_stock, both, stock-laws, inside-same}
 use Rattle.cap_account_resources.proofs.Tables.{FitsRoom}
 use Rattle.cap_account_states.proofs.Alike.{alike-same}
 use Rattle.cap_account_states.proofs.Backed.{Backed}
@@ -30,7 +30,10 @@ use Rattle.cap_account_states.proofs.Meets.{Old}
 use Rattle.cap_account_states.proofs.Naming.{values_in, values-mean}
 use Rattle.cap_account_assertions.proofs.Laws.{StateAt, IsOwner, Creation}
 use Rattle.cap_account_assertions.proofs.TakeSteps.{Job, MadeFrom}
-use Rattle.cap_account_assertions.proofs.TakenLaws.{FreeFrom, start-in-room}
+use Rattle.cap_account_assertions.proofs.TakenLaws.{FreeFrom, job_of, start-in-room}
+use Rattle.cap_account_assertions.proofs.TakenStill.{still-of}
+use Rattle.cap_owners_passes_laws.proofs.Meets.{items-met-kept, items-told-kept, items-met-out, items-told-out}
+use Rattle.cap_prog.specs.Scopes.{Scope}
 use Rattle.cap_owners_spec.specs.Traced.{valuation}
 use Rattle.cap_owners_spec.specs.Track.{TrackedRegion, tracked_at}
 use Rattle.cap_owners_spec.specs.Walks.{nothing_taken, no_items}
@@ -103,6 +106,41 @@ module _ (p : Checked) (ks : List ℕ) (T : Table) (next : ℤ) (j : Job) (vs : 
         t.part
         ∙ ap (λ q. both p.program q t.took.given) none-held
         ∙ (stock-laws p.program).zero_left t.took.given
+
+-- where none may be created, what is held has the items, met by what is on top
+pub still-met :
+    (p : Checked) (ks : List ℕ) (T : Table) (sc : Scope) (e n : ℕ) (items : Items)
+    (ts : List PlainTask) (trees : PlainTrees) (vs : List NameValue) (v : Valuation)
+    (s : PlainState) (held : Stock) (next : ℤ) (size : ℕ)
+    (t : TakesTo p ks T next (job_of sc e 0 n items ts) trees vs v s held nothing_taken size) →
+    no_items items ≡ false →
+    IsMetBy p.program T (values_in t.took.w (env_at t.took.after e)) items held
+    ((still-of p ks T sc e n items ts v s held next size t.took).met t.took.w
+    (alike-same (Old t.took.after) t.took.w) (values_in t.took.w (env_at t.took.after e))
+    (values-mean sc t.took.w (env_at t.took.after e))).0
+    ((still-of p ks T sc e n items ts v s held next size t.took).met t.took.w
+    (alike-same (Old t.took.after) t.took.w) (values_in t.took.w (env_at t.took.after e))
+    (values-mean sc t.took.w (env_at t.took.after e))).1 t.taken.fill
+still-met p ks T sc e n items ts trees vs v s held next size t some =
+    let pp = p.program in
+    let X = values_in t.took.w (env_at t.took.after e) in
+    let d = t.took.draws t.took.w (alike-same (Old t.took.after) t.took.w) X
+    (values-mean sc t.took.w (env_at t.took.after e)) no_stock in
+    let m = taken-met p ks T next (job_of sc e 0 n items ts) vs s held trees v size t some no_stock
+    in
+    record {
+      names = m.names;
+      wildcards =
+          items-met-out pp T X items (both pp t.took.given no_stock) held no_stock no_stock _
+          (inside-same pp no_stock) _
+          ∙ items-met-kept pp t.took.U T _ X items (both pp t.took.given no_stock) no_stock d
+          ∙ m.wildcards;
+      facts =
+          items-told-out pp T X items (both pp t.took.given no_stock) held no_stock no_stock _
+          (inside-same pp no_stock) _
+          ∙ items-told-kept pp t.took.U T _ X items (both pp t.took.given no_stock) no_stock d
+          ∙ m.facts;
+    }
 
 -- ---- tables
 
