@@ -16,7 +16,7 @@ use Rattle.cap_goal_spec.specs.Choices.{PlainTree, by_absurd, by_create, by_made
 use Rattle.cap_rules.specs.Making.{fresh, env_at}
 use Rattle.cap_rules.specs.Rules.{creates}
 use Rattle.cap_rules_nodes.specs.Nodes.{goals_left}
-use Rattle.cap_machine_accounts.specs.Assertions.{NameValue, a_number, HasNameSort}
+use Rattle.cap_machine_accounts.specs.Assertions.{NameValue, a_number}
 use Rattle.cap_account_resources.specs.Parts.{known_as, Table}
 use Rattle.cap_account_resources.proofs.Interference.{Holding, ArePartOf}
 use Rattle.cap_account_resources.proofs.Lists.{all-more, join-assoc}
@@ -42,7 +42,7 @@ use Rattle.cap_owners_spec.specs.Traced.{Traced, traced, past_width, untold, ◌
 use Rattle.cap_owners_spec.specs.Filling.{names_in}
 use Rattle.cap_owners_spec.specs.Walks.{Taking, nothing_taken, Walk, Descent, on, with_region, Interpreting, pass_task, walk_below}
 use Rattle.cap_owners_values_laws.proofs.Numbers.{valuation-number, number-is}
-use Rattle.cap_owners_values_laws.proofs.More.{sorted-more, number-told}
+use Rattle.cap_owners_values_laws.proofs.More.{FitsSort, sorted-more, number-told}
 use Rattle.cap_owners_walks_laws.proofs.Leading.{Left, node-leads}
 use Rattle.cap_account_assertions.proofs.Follows.{Follows}
 use Rattle.cap_account_assertions.proofs.Named.{set_to}
@@ -114,7 +114,7 @@ module _ (p : Checked) (regions : AllByRecursion (RegionFits p.program) p.progra
     held = both p.program c (guard_stock next (all_guards p.program k))
 
     size-same : length vs ≡ length s.sorts
-    size-same = AllZip-long HasNameSort s.sorts vs f.sorted
+    size-same = AllZip-long FitsSort s.sorts vs f.sorted
 
     case-terms : AreNameTerms (s.sorts ++ Int ∷ []) (env_at at_case (length s.envs))
     case-terms i t e =

@@ -13,7 +13,7 @@ use Rattle.cap_goal_spec.specs.States.{PlainEnv, PlainState, to_take, PlainGoal}
 use Rattle.cap_goal_spec.specs.Choices.{by_guard, node, PlainTrees, no_trees, tree}
 use Rattle.cap_rules.specs.Making.{env_at}
 use Rattle.cap_machine_accounts.specs.Parts.{Part, guard_at, atom_guard}
-use Rattle.cap_machine_accounts.specs.Assertions.{NameValue, HasNameSort}
+use Rattle.cap_machine_accounts.specs.Assertions.{NameValue}
 use Rattle.cap_account_resources.specs.Parts.{Table}
 use Rattle.cap_account_resources.proofs.Covering.{join_marks, part-trans}
 use Rattle.cap_account_resources.proofs.Interference.{Holding}
@@ -39,7 +39,7 @@ use Rattle.cap_owners_spec.specs.Traced.{Traced, traced, past_width, untold, ◌
 use Rattle.cap_owners_spec.specs.Filling.{met, atom_met, asked_element, with_more}
 use Rattle.cap_owners_spec.specs.Walks.{Taking, Walk, on, asked_reading, new_share, Interpreting, pass_piece, pass_task}
 use Rattle.cap_owners_values_laws.proofs.Numbers.{number-is}
-use Rattle.cap_owners_values_laws.proofs.More.{number-told}
+use Rattle.cap_owners_values_laws.proofs.More.{FitsSort, number-told}
 use Rattle.cap_account.proofs.Stocked.{part_stock}
 use Rattle.cap_owners_laws.specs.Owned.{IsTold}
 use Rattle.cap_owners_parts_laws.proofs.Pieces.{more-told}
@@ -80,7 +80,7 @@ module _ (p : Checked) (ks : List ℕ) (T : Table) (next : ℤ) (lim : Holding) 
     pub new_is : vs ++ new_share asked (asked_reading env asked) value_is ≡ new
     pub alike : Alike (Old s) (valuation vs) (valuation new)
     pub brings : Brings (valuation new) (length s.sorts) bs
-    pub sorted : AllZip HasNameSort g.after.sorts new
+    pub sorted : AllZip FitsSort g.after.sorts new
     pub terms : AreNameTerms g.after.sorts g.later
     pub names :
         NamesSo (valuation new) g.later

@@ -24,7 +24,7 @@ use Rattle.cap_goal_spec.specs.States.{PlainEnv, PlainState}
 use Rattle.cap_goal_spec.specs.Choices.{PlainTrees}
 use Rattle.cap_goal_spec.specs.Environments.{zero_value, term_of, open_to, reading}
 use Rattle.cap_rules.specs.Making.{env_at}
-use Rattle.cap_machine_accounts.specs.Assertions.{NameValue, HasNameSort}
+use Rattle.cap_machine_accounts.specs.Assertions.{NameValue}
 use Rattle.cap_account_resources.specs.Parts.{Table}
 use Rattle.cap_account_resources.proofs.Interference.{Holding}
 use Rattle.cap_account_resources.proofs.Lists.{all-at, push-length, get-first, within}
@@ -45,7 +45,7 @@ use Rattle.cap_owners_spec.specs.Traced.{Traced, traced, past_width, untold, ◌
 use Rattle.cap_owners_spec.specs.Filling.{met, atom_met}
 use Rattle.cap_owners_spec.specs.Walks.{Taking, asked_reading, new_share}
 use Rattle.cap_owners_values_laws.proofs.Numbers.{valuation-share, amount-is, half-is}
-use Rattle.cap_owners_values_laws.proofs.More.{sorted-more}
+use Rattle.cap_owners_values_laws.proofs.More.{FitsSort, sorted-more}
 use Rattle.cap_owners_passes_laws.proofs.Parted.{own-form}
 use Rattle.cap_owners_passes_laws.proofs.Names.{NamesSo, IsValue, names-so, name-so, met-names, met-terms, lone-term, variable-is, at-last}
 use Rattle.cap_owners_passes_laws.proofs.Elements.{amount-told}
@@ -120,7 +120,7 @@ module _ (p : Checked) (ks : List ℕ) (T : Table) (next : ℤ) (lim : Holding) 
   Here = Value p ks T next lim j vs s c top k way cs place n r m (Share x) more kids f g ns
 
   size : length vs ≡ length s.sorts
-  size = AllZip-long HasNameSort s.sorts vs f.sorted
+  size = AllZip-long FitsSort s.sorts vs f.sorted
 
   piece-over : FormOver (Usable ks s.sorts) g.piece.form
   piece-over =
@@ -223,8 +223,8 @@ module _ (p : Checked) (ks : List ℕ) (T : Table) (next : ℤ) (lim : Holding) 
           alike = alike;
           brings = half-brings;
           sorted =
-              subst (λ os. AllZip HasNameSort os (vs ++ y ∷ [])) (sym sorts)
-              (sorted-more s.sorts vs Perm y f.sorted tt);
+              subst (λ os. AllZip FitsSort os (vs ++ y ∷ [])) (sym sorts)
+              (sorted-more s.sorts vs Perm y f.sorted refl);
           terms =
               subst (λ os. AreNameTerms os g.later) (sym sorts)
               (subst (AreNameTerms (s.sorts ++ Perm ∷ [])) (sym later)

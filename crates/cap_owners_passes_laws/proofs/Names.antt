@@ -16,7 +16,7 @@ use Rattle.cap_prog.specs.Scopes.{Scope, HasSort, SlotFits}
 use Rattle.cap_goal_spec.specs.Terms.{lone_variable}
 use Rattle.cap_goal_spec.specs.States.{PlainEnv}
 use Rattle.cap_goal_spec.specs.Environments.{zero_value, term_of, bound_term, is_determined, with_name, Reading, settled, open_to, stuck, read_name, reading}
-use Rattle.cap_machine_accounts.specs.Assertions.{NameValue, a_number, a_fraction, HasNameSort}
+use Rattle.cap_machine_accounts.specs.Assertions.{NameValue, a_number, a_fraction}
 use Rattle.cap_account_resources.proofs.Lists.{some-same, none-some, join-nil, get-or-set, get-or-other, set-length}
 use Rattle.cap_account_resources.proofs.Order.{turned}
 use Rattle.cap_gsolve.proofs.Amounts.{zero-amount, zero-value}
@@ -29,26 +29,26 @@ use Rattle.cap_owners_spec.specs.Track.{Fill}
 use Rattle.cap_owners_spec.specs.Filling.{bound_value, name_value, names_in, met}
 use Rattle.cap_owners_fills_laws.proofs.Drawn.{slot_met}
 use Rattle.cap_owners_values_laws.proofs.Numbers.{number-is, was-traced, traced-same}
-use Rattle.cap_owners_values_laws.proofs.More.{number-told}
+use Rattle.cap_owners_values_laws.proofs.More.{FitsSort, number-told}
 
 -- ---- terms over whole numbers
 
 -- a variable of sort Int has a whole number
 pub whole-at :
-    (os : List Sort) (vs : List NameValue) → AllZip HasNameSort os vs → (x : ℕ) →
+    (os : List Sort) (vs : List NameValue) → AllZip FitsSort os vs → (x : ℕ) →
     slice_get os x ≡ Some Int → IsWholeAt (valuation vs) x
 whole-at os vs h x e = by (value_at vs x) (sort-at os vs h x e)
   where
     sort-at :
-        (os : List Sort) (vs : List NameValue) → AllZip HasNameSort os vs → (x : ℕ) →
-        slice_get os x ≡ Some Int → HasNameSort Int (value_at vs x)
+        (os : List Sort) (vs : List NameValue) → AllZip FitsSort os vs → (x : ℕ) →
+        slice_get os x ≡ Some Int → FitsSort Int (value_at vs x)
     sort-at [] vs h x e = absurd (none-some e)
     sort-at (o ∷ os) [] h x e = absurd h
     sort-at (o ∷ os) (v ∷ vs) h zero e =
-        subst (λ o. HasNameSort o v) (some-same o Int e) h.0
+        subst (λ o. FitsSort o v) (some-same o Int e) h.0
     sort-at (o ∷ os) (v ∷ vs) h (suc x) e = sort-at os vs h.1 x e
 
-    by : (v : NameValue) → HasNameSort Int v → numerator_of v ≡ number_of v *ℤ pos over
+    by : (v : NameValue) → FitsSort Int v → numerator_of v ≡ number_of v *ℤ pos over
     by (a_number z) k = refl
     by (a_fraction n d) k = absurd k
 
@@ -61,7 +61,7 @@ whole-term v t h =
     ∙ turned (denominator v.fraction) (value v.whole t)
 
 pub int-term :
-    (os : List Sort) (vs : List NameValue) → AllZip HasNameSort os vs → (t : Linear) →
+    (os : List Sort) (vs : List NameValue) → AllZip FitsSort os vs → (t : Linear) →
     Over (λ x. slice_get os x ≡ Some Int) t →
     amount (valuation vs).fraction t ≡ value (valuation vs).whole t *ℤ pos over
 int-term os vs h t o =
@@ -245,7 +245,7 @@ each-length {A} {B} f (x ∷ xs) ys e =
     let b = was-traced (each f xs) (λ zs. traced (a.0 ∷ zs)) ys a.2 in
     ap length (sym (traced-same (a.0 ∷ b.0) ys b.2)) ∙ ap suc (each-length f xs b.0 b.1)
 
-module _ (vs : List NameValue) (os : List Sort) (sorted : AllZip HasNameSort os vs) where
+module _ (vs : List NameValue) (os : List Sort) (sorted : AllZip FitsSort os vs) where
   -- a name's value is its term's
   value-so :
       (t : Linear) (y : NameValue) →

@@ -12,7 +12,7 @@ use Rattle.cap_prog.specs.Scopes.{Scope, HasSort, SlotFits}
 use Rattle.cap_goal_spec.specs.Terms.{lone_variable}
 use Rattle.cap_goal_spec.specs.States.{PlainEnv}
 use Rattle.cap_goal_spec.specs.Environments.{zero_value, term_of, with_name, Reading, settled, open_to, stuck, reading}
-use Rattle.cap_machine_accounts.specs.Assertions.{NameValue, a_number, HasNameSort, SlotsAre}
+use Rattle.cap_machine_accounts.specs.Assertions.{NameValue, a_number, SlotsAre}
 use Rattle.cap_account_resources.proofs.Lists.{some-same, none-some, join-nil, join-assoc, set-length}
 use Rattle.cap_account_states.proofs.Facts.{all_met_env}
 use Rattle.cap_account_states.proofs.Matching.{met_env}
@@ -24,7 +24,7 @@ use Rattle.cap_owners_spec.specs.Traced.{over as total}
 use Rattle.cap_owners_spec.specs.Track.{Fill}
 use Rattle.cap_owners_spec.specs.Filling.{met_at, met_by_term, all_met}
 use Rattle.cap_owners_values_laws.proofs.Numbers.{number-is}
-use Rattle.cap_owners_values_laws.proofs.More.{number-told}
+use Rattle.cap_owners_values_laws.proofs.More.{FitsSort, number-told}
 use Rattle.cap_owners_fills_laws.proofs.Drawn.{slots_met}
 use Rattle.cap_owners_laws.specs.Owned.{IsTold}
 use Rattle.cap_owners_parts_laws.proofs.Telling.{told-more}
@@ -72,7 +72,7 @@ BoundToo e f = (x : ℕ) (t : Linear) → term_of e x ≡ Some t → (u : Linear
 -- ---- all slots
 
 module _ (ks : List ℕ) (sc : Scope) (sorts : List Sort) (vs : List NameValue)
-    (sorted : AllZip HasNameSort sorts vs) (first later : PlainEnv) where
+    (sorted : AllZip FitsSort sorts vs) (first later : PlainEnv) where
   abbrev v : Valuation
   v = valuation vs
 

@@ -7,7 +7,7 @@ use Rattle.cap_goal_spec.specs.States.{PlainState, to_take, PlainGoal, goal, goa
 use Rattle.cap_goal_spec.specs.Choices.{PlainChoice, node, PlainTrees, no_trees, tree}
 use Rattle.cap_rules.specs.Making.{env_at}
 use Rattle.cap_rules_nodes.specs.Nodes.{goals_left}
-use Rattle.cap_machine_accounts.specs.Assertions.{NameValue, HasNameSort}
+use Rattle.cap_machine_accounts.specs.Assertions.{NameValue}
 use Rattle.cap_account_resources.specs.Parts.{Table}
 use Rattle.cap_account_resources.proofs.Lists.{join-assoc, join-nil}
 use Rattle.cap_account_resources.proofs.Covering.{part-trans}
@@ -35,6 +35,7 @@ use Rattle.cap_account.proofs.Stocked.{part_stock}
 use Rattle.cap_owners_passes_laws.proofs.Rests.{into, below-wide}
 use Rattle.cap_owners_passes_laws.proofs.Meets.{item-met-kept, item-told-kept, met-same, told-same, met-items, told-items}
 use Rattle.cap_owners_passes_laws.proofs.Takes.{AreNameTerms, TakesFrom, taking_from, Taking_into, IsTooWide, TakesTo}
+use Rattle.cap_owners_values_laws.proofs.More.{FitsSort}
 
 -- what is left and what was taken are of what there was
 apart-cells :
@@ -66,7 +67,7 @@ module _ (p : Checked) (ks : List ℕ) (T : Table) (next : ℤ) where
     pub goes : Open p.N children head.after (tasks_of (with_items j rest))
     pub values : List NameValue
     pub valued : head.w ≡ valuation values
-    pub sorted : AllZip HasNameSort head.after.sorts values
+    pub sorted : AllZip FitsSort head.after.sorts values
     pub terms : AreNameTerms head.after.sorts (env_at head.after j.env)
     pub now : Taking
     pub names : values_in head.w (env_at head.after j.env) ≡ valuation now.fill.names
@@ -307,7 +308,7 @@ module _ (p : Checked) (ks : List ℕ) (T : Table) (next : ℤ) where
     pub record Passed (bs : List Bring) (taken : Goes bs) : Type 0 where
       pub values : List NameValue
       pub valued : taken.head.w ≡ valuation values
-      pub sorted : AllZip HasNameSort taken.head.after.sorts values
+      pub sorted : AllZip FitsSort taken.head.after.sorts values
       pub terms : AreNameTerms taken.head.after.sorts (env_at taken.head.after j.env)
       pub now : Taking
       pub names :

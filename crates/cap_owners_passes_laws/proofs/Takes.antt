@@ -16,7 +16,7 @@ use Rattle.cap_goal_spec.specs.Choices.{PlainTrees}
 use Rattle.cap_rules.specs.Making.{env_at}
 use Rattle.cap_machine.specs.Machine.{Heap}
 use Rattle.cap_machine_accounts.specs.Parts.{Part}
-use Rattle.cap_machine_accounts.specs.Assertions.{NameValue, HasNameSort}
+use Rattle.cap_machine_accounts.specs.Assertions.{NameValue}
 use Rattle.cap_account_resources.specs.Parts.{cells_of, Table}
 use Rattle.cap_account_resources.proofs.Interference.{Holding, ArePartOf}
 use Rattle.cap_account_resources.proofs.Stocks.{Stock, both}
@@ -37,6 +37,7 @@ use Rattle.cap_owners_spec.specs.Track.{TrackedRegion}
 use Rattle.cap_owners_spec.specs.Walks.{Taking, Walk, no_items, Interpreting, Halt}
 use Rattle.cap_owners_fills_laws.proofs.Drawn.{items_met, items_told, IsMetBy}
 use Rattle.cap_owners_passes_laws.proofs.Rests.{into}
+use Rattle.cap_owners_values_laws.proofs.More.{FitsSort}
 
 -- ---- names
 
@@ -98,7 +99,7 @@ module _ (p : Checked) (ks : List ℕ) where
       (v : Valuation) (s : PlainState) (c : Stock) (q : Part) : Type 0 where
     pub start : TakeStart p.program ks T next lim j v s c
     pub valued : v ≡ valuation vs
-    pub sorted : AllZip HasNameSort s.sorts vs
+    pub sorted : AllZip FitsSort s.sorts vs
     pub terms : AreNameTerms s.sorts (env_at s j.env)
     pub heap : Heap
     pub cells : (a z : ℤ) → cells_of q.cells a z + c.cells a z ≤ cells_of heap a z
@@ -127,7 +128,7 @@ module _ (p : Checked) (ks : List ℕ) where
     pub took : Took p ks T next j v s c most_trees
     pub values : List NameValue
     pub valued : took.w ≡ valuation values
-    pub sorted : AllZip HasNameSort took.after.sorts values
+    pub sorted : AllZip FitsSort took.after.sorts values
     pub terms : AreNameTerms took.after.sorts (env_at took.after j.env)
     pub taken : Taking
     pub names :

@@ -13,7 +13,7 @@ use Rattle.cap_goal_spec.specs.Choices.{PlainTrees}
 use Rattle.cap_rules.specs.Making.{env_at}
 use Rattle.cap_machine.specs.Machine.{Heap}
 use Rattle.cap_machine_accounts.specs.Parts.{no_part}
-use Rattle.cap_machine_accounts.specs.Assertions.{NameValue, HasNameSort}
+use Rattle.cap_machine_accounts.specs.Assertions.{NameValue}
 use Rattle.cap_account_resources.specs.Parts.{cells_of, Known, known_as, Table}
 use Rattle.cap_account_resources.proofs.Interference.{ArePartOf}
 use Rattle.cap_account_resources.proofs.Lists.{Among}
@@ -44,6 +44,7 @@ use Rattle.cap_owners_passes_laws.proofs.Takes.{IsTracked, AreNameTerms, AreBelo
 use Rattle.cap_owners_passes_laws.proofs.TakesAll.{takes}
 use Rattle.cap_owners_passes_laws.proofs.Guards.{guard-steps}
 use Rattle.cap_owners_passes_laws.proofs.Creates.{create-takes}
+use Rattle.cap_owners_values_laws.proofs.More.{FitsSort}
 
 -- ---- the law
 
@@ -59,7 +60,7 @@ module _ (p : Checked) (ks : List ℕ) (T : Table) (next : ℤ) (j : Job) (vs : 
       StateAt p.program ks T j.scope j.env (valuation vs) s →
       AllByRecursion (λ k. k < length s.sorts) ks → AreFit p.program j.scope j.items →
       Backed p.program (valuation vs) s c → FitsRoom p.program T c → FreeFrom T next →
-      AllZip HasNameSort s.sorts vs → AreNameTerms s.sorts (env_at s j.env) → (h : Heap) →
+      AllZip FitsSort s.sorts vs → AreNameTerms s.sorts (env_at s j.env) → (h : Heap) →
       ((a z : ℤ) → c.cells a z ≤ cells_of h a z) →
       TakesFrom p ks T next (room p.program T) j vs (valuation vs) s c no_part
   from-room at low fits backed inside free sorted terms h cells = record {

@@ -23,7 +23,7 @@ use Rattle.cap_goal_spec.specs.Choices.{PlainTrees}
 use Rattle.cap_goal_spec.specs.Environments.{zero_value, is_determined, Reading, settled, open_to, stuck, read_name, reading, asked_slot}
 use Rattle.cap_rules.specs.Making.{env_at}
 use Rattle.cap_rules.specs.Taking.{Cut, cut_form, cut_share, cut_source, cut_tokens, cut_new_tokens, cut_index, cut_onwards}
-use Rattle.cap_machine_accounts.specs.Assertions.{NameValue, a_number, HasNameSort}
+use Rattle.cap_machine_accounts.specs.Assertions.{NameValue, a_number}
 use Rattle.cap_account_resources.specs.Parts.{Table}
 use Rattle.cap_account_resources.proofs.Lists.{join-nil, all-at}
 use Rattle.cap_account_resources.proofs.Interference.{Holding}
@@ -51,6 +51,7 @@ use Rattle.cap_owners_passes_laws.proofs.Elements.{IsAskedValue, IsCounted, sett
 use Rattle.cap_owners_passes_laws.proofs.Takes.{IsNameTerm, AreNameTerms}
 use Rattle.cap_owners_passes_laws.proofs.Plain.{Starting}
 use Rattle.cap_owners_passes_laws.proofs.Cuts.{Found, Value}
+use Rattle.cap_owners_values_laws.proofs.More.{FitsSort}
 
 -- ---- slots
 
@@ -216,7 +217,7 @@ module _ (p : Checked) (ks : List ℕ) (T : Table) (next : ℤ) (lim : Holding) 
     new_is = ap (λ us. vs ++ us) none ∙ join-nil vs;
     alike = alike-same (Old s) v;
     brings = no-brings v;
-    sorted = subst (λ os. AllZip HasNameSort os vs) (sym no-sorts) f.sorted;
+    sorted = subst (λ os. AllZip FitsSort os vs) (sym no-sorts) f.sorted;
     terms = subst (λ os. AreNameTerms os g.later) (sym no-sorts) terms;
     names = names;
     by = by;
