@@ -48,24 +48,24 @@ pub record AtCell (p : Checked) (G : List PlainGoal → Type 0) (V : Table) (par
     (ns : List ℤ) (fn : PlainFunction) (fixed : List NameValue) (f : Frame) (h : Home) (n : ℕ)
     (a : PlainAct) (b : Block) (x : ℤ) (v0 : Valuation) (s0 : PlainState) (ms : List Bool) : Type 0
   where
-  pub ks : List ℕ
-  pub v : Valuation
-  pub named : v ≡ mark_values v0 (length s0.sorts) ms
-  pub s : PlainState
-  pub marked : (with_marks s0 (rivals s0) ms).value ≡ Some s
-  pub agree : Agree (Old s0) v0 v
-  pub kept : (x : ℕ) → Free ks x → x < length s.sorts → x < length s0.sorts
-  pub regions : regions_of v s.opened ≡ ns
-  pub names : (i : ℕ) (o : Sort) → slice_get fn.fixed i ≡ Some o → Free ks (h.fixed + i)
-  pub ready :
-      Ready p.program V (opened_table ns V) part ks v s held h fn fixed (with_rest f b)
-  pub j : ℕ
-  pub c : Cell
-  pub is : slice_get s.cells j ≡ Some c
-  pub address : value v.whole c.0 ≡ x
-  pub goals :
-      Comes (acted s j c a)
-      (λ states. G (flat_map (λ t. goals_of t (then_close n (length s.opened) b h)) states))
+    pub ks : List ℕ
+    pub v : Valuation
+    pub named : v ≡ mark_values v0 (length s0.sorts) ms
+    pub s : PlainState
+    pub marked : (with_marks s0 (rivals s0) ms).value ≡ Some s
+    pub agree : Agree (Old s0) v0 v
+    pub kept : (x : ℕ) → Free ks x → x < length s.sorts → x < length s0.sorts
+    pub regions : regions_of v s.opened ≡ ns
+    pub names : (i : ℕ) (o : Sort) → slice_get fn.fixed i ≡ Some o → Free ks (h.fixed + i)
+    pub ready :
+        Ready p.program V (opened_table ns V) part ks v s held h fn fixed (with_rest f b)
+    pub j : ℕ
+    pub c : Cell
+    pub is : slice_get s.cells j ≡ Some c
+    pub address : value v.whole c.0 ≡ x
+    pub goals :
+        Comes (acted s j c a)
+        (λ states. G (flat_map (λ t. goals_of t (then_close n (length s.opened) b h)) states))
 
 -- what an attempt comes to is its value
 state-itself :

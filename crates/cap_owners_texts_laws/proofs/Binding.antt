@@ -214,209 +214,209 @@ module _ (types : List TypedName) where
 -- ---- items outside
 
 module _ (rs : List RegionTree) (own : Option Word) (types : List TypedName) (scope : NameScope)
-    where
-  abbrev pub Binds : Items → Occurrence → Type 0
-  Binds items o = WhereBound scope (λ x. is_bound_by x items ≡ true) o
+  where
+    abbrev pub Binds : Items → Occurrence → Type 0
+    Binds items o = WhereBound scope (λ x. is_bound_by x items ≡ true) o
 
-  abbrev BoundPart : Items → PlacedItem → Type 0
-  BoundPart items i = AllByRecursion (Binds items) (item_occurrences types i)
+    abbrev BoundPart : Items → PlacedItem → Type 0
+    BoundPart items i = AllByRecursion (Binds items) (item_occurrences types i)
 
-  abbrev IsRight : PlacedItem → Type 0
-  IsRight i = item_findings rs own types scope i.1 ≡ []
+    abbrev IsRight : PlacedItem → Type 0
+    IsRight i = item_findings rs own types scope i.1 ≡ []
 
-  args-bind :
-      (args : List (Place × SlotTree)) →
-      AllByRecursion
-      (WhereBound scope (λ x. list_any (is_slot x) (map (λ a. slot_program scope a.1) args) ≡ true))
-      (flat_map (λ (a : Place × SlotTree). slot_occurrences false Int a.1) args)
-  args-bind [] = tt
-  args-bind (a ∷ args) =
-      let rest = λ (x : ℕ). list_any (is_slot x)
-      (map (λ (b : Place × SlotTree). slot_program scope b.1) args) in
-      let here = λ (x : ℕ). is_slot x (slot_program scope a.1) in
-      let P = WhereBound scope (λ x. (here x || rest x) ≡ true) in
-      each_append P (slot_occurrences false Int a.1)
-      (flat_map (λ (b : Place × SlotTree). slot_occurrences false Int b.1) args)
-      (bound-weaker scope (λ x. here x ≡ true) (λ x. (here x || rest x) ≡ true)
-      (λ x e. or-left (here x) (rest x) e) (slot_occurrences false Int a.1)
-      (slot-binds scope Int a.1))
-      (bound-weaker scope (λ x. rest x ≡ true) (λ x. (here x || rest x) ≡ true)
-      (λ x e. or-right (here x) (rest x) e)
-      (flat_map (λ (b : Place × SlotTree). slot_occurrences false Int b.1) args) (args-bind args))
+    args-bind :
+        (args : List (Place × SlotTree)) →
+        AllByRecursion
+        (WhereBound scope (λ x. list_any (is_slot x) (map (λ a. slot_program scope a.1) args) ≡ true))
+        (flat_map (λ (a : Place × SlotTree). slot_occurrences false Int a.1) args)
+    args-bind [] = tt
+    args-bind (a ∷ args) =
+        let rest = λ (x : ℕ). list_any (is_slot x)
+        (map (λ (b : Place × SlotTree). slot_program scope b.1) args) in
+        let here = λ (x : ℕ). is_slot x (slot_program scope a.1) in
+        let P = WhereBound scope (λ x. (here x || rest x) ≡ true) in
+        each_append P (slot_occurrences false Int a.1)
+        (flat_map (λ (b : Place × SlotTree). slot_occurrences false Int b.1) args)
+        (bound-weaker scope (λ x. here x ≡ true) (λ x. (here x || rest x) ≡ true)
+        (λ x e. or-left (here x) (rest x) e) (slot_occurrences false Int a.1)
+        (slot-binds scope Int a.1))
+        (bound-weaker scope (λ x. rest x ≡ true) (λ x. (here x || rest x) ≡ true)
+        (λ x e. or-right (here x) (rest x) e)
+        (flat_map (λ (b : Place × SlotTree). slot_occurrences false Int b.1) args) (args-bind args))
 
-  one-slot :
-      (s : Sort) (t : SlotTree) →
-      AllByRecursion (WhereBound scope (λ x. is_slot x (slot_program scope t) ≡ true))
-      (slot_occurrences false s t ++ [])
-  one-slot s t =
-      each_append (WhereBound scope (λ x. is_slot x (slot_program scope t) ≡ true))
-      (slot_occurrences false s t) [] (slot-binds scope s t) tt
+    one-slot :
+        (s : Sort) (t : SlotTree) →
+        AllByRecursion (WhereBound scope (λ x. is_slot x (slot_program scope t) ≡ true))
+        (slot_occurrences false s t ++ [])
+    one-slot s t =
+        each_append (WhereBound scope (λ x. is_slot x (slot_program scope t) ≡ true))
+        (slot_occurrences false s t) [] (slot-binds scope s t) tt
 
-  atom-binds :
-      (s : Sort) (g : GuardTree) →
-      AllByRecursion
-      (WhereBound scope (λ x. is_slot x (asked_slot (asked_program scope g)) ≡ true))
-      (flat_map (slot_occurrences false s) (atom_slots g))
-  atom-binds s (alone w) = tt
-  atom-binds s (amount w p t q) = one-slot s t
-  atom-binds s (count Source p w q t r) = one-slot s t
-  atom-binds s (count Tokens p w q t r) = one-slot s t
-  atom-binds s (count At p w q t r) = one-slot s t
-  atom-binds s (count From p w q t r) = one-slot s t
+    atom-binds :
+        (s : Sort) (g : GuardTree) →
+        AllByRecursion
+        (WhereBound scope (λ x. is_slot x (asked_slot (asked_program scope g)) ≡ true))
+        (flat_map (slot_occurrences false s) (atom_slots g))
+    atom-binds s (alone w) = tt
+    atom-binds s (amount w p t q) = one-slot s t
+    atom-binds s (count Source p w q t r) = one-slot s t
+    atom-binds s (count Tokens p w q t r) = one-slot s t
+    atom-binds s (count At p w q t r) = one-slot s t
+    atom-binds s (count From p w q t r) = one-slot s t
 
-  atoms-bind :
-      (k : NumberedRegion) (r : Word) (gs : List GuardTree) →
-      AllByRecursion (Binds (atoms_program (Some k) scope r gs))
-      (flat_map (atom_occurrences false (Some k)) gs)
-  atoms-bind k r [] = tt
-  atoms-bind k r (g ∷ gs) =
-      let s = amount_sort (declared_kind (Some k) g) g in
-      let rest = λ (x : ℕ). is_bound_by x (atoms_program (Some k) scope r gs) in
-      let here = λ (x : ℕ). is_slot x (asked_slot (asked_program scope g)) in
-      each_append (Binds (atoms_program (Some k) scope r (g ∷ gs)))
-      (atom_occurrences false (Some k) g) (flat_map (atom_occurrences false (Some k)) gs)
-      (bound-weaker scope (λ x. here x ≡ true) (λ x. (here x || rest x) ≡ true)
-      (λ x e. or-left (here x) (rest x) e) (atom_occurrences false (Some k) g) (atom-binds s g))
-      (bound-weaker scope (λ x. rest x ≡ true) (λ x. (here x || rest x) ≡ true)
-      (λ x e. or-right (here x) (rest x) e) (flat_map (atom_occurrences false (Some k)) gs)
-      (atoms-bind k r gs))
+    atoms-bind :
+        (k : NumberedRegion) (r : Word) (gs : List GuardTree) →
+        AllByRecursion (Binds (atoms_program (Some k) scope r gs))
+        (flat_map (atom_occurrences false (Some k)) gs)
+    atoms-bind k r [] = tt
+    atoms-bind k r (g ∷ gs) =
+        let s = amount_sort (declared_kind (Some k) g) g in
+        let rest = λ (x : ℕ). is_bound_by x (atoms_program (Some k) scope r gs) in
+        let here = λ (x : ℕ). is_slot x (asked_slot (asked_program scope g)) in
+        each_append (Binds (atoms_program (Some k) scope r (g ∷ gs)))
+        (atom_occurrences false (Some k) g) (flat_map (atom_occurrences false (Some k)) gs)
+        (bound-weaker scope (λ x. here x ≡ true) (λ x. (here x || rest x) ≡ true)
+        (λ x e. or-left (here x) (rest x) e) (atom_occurrences false (Some k) g) (atom-binds s g))
+        (bound-weaker scope (λ x. rest x ≡ true) (λ x. (here x || rest x) ≡ true)
+        (λ x e. or-right (here x) (rest x) e) (flat_map (atom_occurrences false (Some k)) gs)
+        (atoms-bind k r gs))
 
-  held-bind :
-      (r : Word) (gs : List GuardTree) (o : Option NumberedRegion) → held_findings o r gs ≡ [] →
-      AllByRecursion (Binds (atoms_program o scope r gs)) (flat_map (atom_occurrences false o) gs)
-  held-bind r gs None e = cons_not_nil e
-  held-bind r gs (Some k) e = atoms-bind k r gs
+    held-bind :
+        (r : Word) (gs : List GuardTree) (o : Option NumberedRegion) → held_findings o r gs ≡ [] →
+        AllByRecursion (Binds (atoms_program o scope r gs)) (flat_map (atom_occurrences false o) gs)
+    held-bind r gs None e = cons_not_nil e
+    held-bind r gs (Some k) e = atoms-bind k r gs
 
-  item-binds :
-      (i : ItemTree) → IsRight (false, i) → BoundPart (item_program rs types scope i) (false, i)
-  item-binds (holds p) h = tt
-  item-binds (fails p) h = tt
-  item-binds (fact k p r args q s e) h =
-      let y = variable_of scope r.text in
-      let named = λ (x : ℕ). y == x in
-      let given = λ (x : ℕ). list_any (is_slot x)
-      (map (λ (a : Place × SlotTree). slot_program scope a.1) args) in
-      let last = λ (x : ℕ). is_slot x (slot_program scope s) in
-      let all = λ (x : ℕ). (named x || (given x || last x)) || false in
-      let P = WhereBound scope (λ x. all x ≡ true) in (
-        λ b. or-left (named y || (given y || last y)) false
-            (or-left (named y) (given y || last y) (same-itself y)),
-        each_append P (flat_map (λ (a : Place × SlotTree). slot_occurrences false Int a.1) args)
-            (slot_occurrences false Int s)
-            (bound-weaker scope (λ x. given x ≡ true) (λ x. all x ≡ true)
-            (λ x d. or-left (named x || (given x || last x)) false
-            (or-right (named x) (given x || last x) (or-left (given x) (last x) d)))
-            (flat_map (λ (a : Place × SlotTree). slot_occurrences false Int a.1) args)
-            (args-bind args))
-            (bound-weaker scope (λ x. last x ≡ true) (λ x. all x ≡ true)
-            (λ x d. or-left (named x || (given x || last x)) false
-            (or-right (named x) (given x || last x) (or-right (given x) (last x) d)))
-            (slot_occurrences false Int s) (slot-binds scope Int s)),
-      )
-  item-binds (guards r p g) h = (
-    λ b. absurd (true≢false (sym b)),
-    held-bind r (held_atoms g) (type_of types r.text)
-        (nothing_front (held_findings (type_of types r.text) r (held_atoms g)) _
-        (nothing_behind (region_findings scope r) _ h)),
-  )
-  item-binds (cell t p s) h =
-      let last = λ (x : ℕ). is_slot x (slot_program scope s) in
-      each_append (WhereBound scope (λ x. (last x || false) ≡ true)) (unbound (term_words t))
-      (slot_occurrences false Int s)
-      (none-bound scope (λ x. (last x || false) ≡ true) (unbound (term_words t))
-      (unbound-loose (term_words t)))
-      (bound-weaker scope (λ x. last x ≡ true) (λ x. (last x || false) ≡ true)
-      (λ x e. or-left (last x) false e) (slot_occurrences false Int s) (slot-binds scope Int s))
-  item-binds (compare c) h =
-      none-bound scope (λ x. is_bound_by x (item_program rs types scope (compare c)) ≡ true)
-      (unbound (comparison_words c)) (unbound-loose (comparison_words c))
-  item-binds (choose c p a q b) h =
-      none-bound scope (λ x. is_bound_by x (item_program rs types scope (choose c p a q b)) ≡ true)
-      (unbound (comparison_words c)) (unbound-loose (comparison_words c))
+    item-binds :
+        (i : ItemTree) → IsRight (false, i) → BoundPart (item_program rs types scope i) (false, i)
+    item-binds (holds p) h = tt
+    item-binds (fails p) h = tt
+    item-binds (fact k p r args q s e) h =
+        let y = variable_of scope r.text in
+        let named = λ (x : ℕ). y == x in
+        let given = λ (x : ℕ). list_any (is_slot x)
+        (map (λ (a : Place × SlotTree). slot_program scope a.1) args) in
+        let last = λ (x : ℕ). is_slot x (slot_program scope s) in
+        let all = λ (x : ℕ). (named x || (given x || last x)) || false in
+        let P = WhereBound scope (λ x. all x ≡ true) in (
+          λ b. or-left (named y || (given y || last y)) false
+              (or-left (named y) (given y || last y) (same-itself y)),
+          each_append P (flat_map (λ (a : Place × SlotTree). slot_occurrences false Int a.1) args)
+              (slot_occurrences false Int s)
+              (bound-weaker scope (λ x. given x ≡ true) (λ x. all x ≡ true)
+              (λ x d. or-left (named x || (given x || last x)) false
+              (or-right (named x) (given x || last x) (or-left (given x) (last x) d)))
+              (flat_map (λ (a : Place × SlotTree). slot_occurrences false Int a.1) args)
+              (args-bind args))
+              (bound-weaker scope (λ x. last x ≡ true) (λ x. all x ≡ true)
+              (λ x d. or-left (named x || (given x || last x)) false
+              (or-right (named x) (given x || last x) (or-right (given x) (last x) d)))
+              (slot_occurrences false Int s) (slot-binds scope Int s)),
+        )
+    item-binds (guards r p g) h = (
+      λ b. absurd (true≢false (sym b)),
+      held-bind r (held_atoms g) (type_of types r.text)
+          (nothing_front (held_findings (type_of types r.text) r (held_atoms g)) _
+          (nothing_behind (region_findings scope r) _ h)),
+    )
+    item-binds (cell t p s) h =
+        let last = λ (x : ℕ). is_slot x (slot_program scope s) in
+        each_append (WhereBound scope (λ x. (last x || false) ≡ true)) (unbound (term_words t))
+        (slot_occurrences false Int s)
+        (none-bound scope (λ x. (last x || false) ≡ true) (unbound (term_words t))
+        (unbound-loose (term_words t)))
+        (bound-weaker scope (λ x. last x ≡ true) (λ x. (last x || false) ≡ true)
+        (λ x e. or-left (last x) false e) (slot_occurrences false Int s) (slot-binds scope Int s))
+    item-binds (compare c) h =
+        none-bound scope (λ x. is_bound_by x (item_program rs types scope (compare c)) ≡ true)
+        (unbound (comparison_words c)) (unbound-loose (comparison_words c))
+    item-binds (choose c p a q b) h =
+        none-bound scope (λ x. is_bound_by x (item_program rs types scope (choose c p a q b)) ≡ true)
+        (unbound (comparison_words c)) (unbound-loose (comparison_words c))
 
-  -- ---- assertions
+    -- ---- assertions
 
-  loose-part : (items : Items) (i : PlacedItem) → LoosePart types i → BoundPart items i
-  loose-part items i h =
-      none-bound scope (λ x. is_bound_by x items ≡ true) (item_occurrences types i) h
+    loose-part : (items : Items) (i : PlacedItem) → LoosePart types i → BoundPart items i
+    loose-part items i h =
+        none-bound scope (λ x. is_bound_by x items ≡ true) (item_occurrences types i) h
 
-  item-outside :
-      (i : ItemTree) → AllByRecursion IsRight (item_parts false i) →
-      AllByRecursion (BoundPart (item_program rs types scope i)) (item_parts false i)
-  item-outside (holds p) h = (item-binds (holds p) h.0, tt)
-  item-outside (fails p) h = (item-binds (fails p) h.0, tt)
-  item-outside (fact k p r args q s e) h = (item-binds (fact k p r args q s e) h.0, tt)
-  item-outside (guards r p g) h = (item-binds (guards r p g) h.0, tt)
-  item-outside (cell t p s) h = (item-binds (cell t p s) h.0, tt)
-  item-outside (compare c) h = (item-binds (compare c) h.0, tt)
-  item-outside (choose c p a q b) h =
-      let items = item_program rs types scope (choose c p a q b) in (
-        item-binds (choose c p a q b) h.0,
-        each_weaker (LoosePart types) (BoundPart items) (loose-part items)
-            (side_parts a ++ side_parts b)
-            (each_append (LoosePart types) (side_parts a) (side_parts b) (side-inside types a)
-            (side-inside types b)),
-      )
+    item-outside :
+        (i : ItemTree) → AllByRecursion IsRight (item_parts false i) →
+        AllByRecursion (BoundPart (item_program rs types scope i)) (item_parts false i)
+    item-outside (holds p) h = (item-binds (holds p) h.0, tt)
+    item-outside (fails p) h = (item-binds (fails p) h.0, tt)
+    item-outside (fact k p r args q s e) h = (item-binds (fact k p r args q s e) h.0, tt)
+    item-outside (guards r p g) h = (item-binds (guards r p g) h.0, tt)
+    item-outside (cell t p s) h = (item-binds (cell t p s) h.0, tt)
+    item-outside (compare c) h = (item-binds (compare c) h.0, tt)
+    item-outside (choose c p a q b) h =
+        let items = item_program rs types scope (choose c p a q b) in (
+          item-binds (choose c p a q b) h.0,
+          each_weaker (LoosePart types) (BoundPart items) (loose-part items)
+              (side_parts a ++ side_parts b)
+              (each_append (LoosePart types) (side_parts a) (side_parts b) (side-inside types a)
+              (side-inside types b)),
+        )
 
-  front-part :
-      (a b : Items) (i : PlacedItem) → BoundPart a i → BoundPart (append_items a b) i
-  front-part a b i h =
-      bound-weaker scope (λ x. is_bound_by x a ≡ true)
-      (λ x. is_bound_by x (append_items a b) ≡ true) (λ x e. bound-front x a b e)
-      (item_occurrences types i) h
+    front-part :
+        (a b : Items) (i : PlacedItem) → BoundPart a i → BoundPart (append_items a b) i
+    front-part a b i h =
+        bound-weaker scope (λ x. is_bound_by x a ≡ true)
+        (λ x. is_bound_by x (append_items a b) ≡ true) (λ x e. bound-front x a b e)
+        (item_occurrences types i) h
 
-  behind-part :
-      (a b : Items) (i : PlacedItem) → BoundPart b i → BoundPart (append_items a b) i
-  behind-part a b i h =
-      bound-weaker scope (λ x. is_bound_by x b ≡ true)
-      (λ x. is_bound_by x (append_items a b) ≡ true) (λ x e. bound-behind x a b e)
-      (item_occurrences types i) h
+    behind-part :
+        (a b : Items) (i : PlacedItem) → BoundPart b i → BoundPart (append_items a b) i
+    behind-part a b i h =
+        bound-weaker scope (λ x. is_bound_by x b ≡ true)
+        (λ x. is_bound_by x (append_items a b) ≡ true) (λ x e. bound-behind x a b e)
+        (item_occurrences types i) h
 
-  -- the first item, and then the others
-  both-outside :
-      (i : ItemTree) (more : ItemTrees) →
-      AllByRecursion (BoundPart (item_program rs types scope i)) (item_parts false i) →
-      AllByRecursion (BoundPart (items_program rs types scope more)) (items_parts false more) →
-      AllByRecursion
-      (BoundPart (append_items (item_program rs types scope i) (items_program rs types scope more)))
-      (item_parts false i ++ items_parts false more)
-  both-outside i more h k =
-      let a = item_program rs types scope i in
-      let b = items_program rs types scope more in
-      each_append (BoundPart (append_items a b)) (item_parts false i) (items_parts false more)
-      (each_weaker (BoundPart a) (BoundPart (append_items a b)) (front-part a b)
-      (item_parts false i) h)
-      (each_weaker (BoundPart b) (BoundPart (append_items a b)) (behind-part a b)
-      (items_parts false more) k)
+    -- the first item, and then the others
+    both-outside :
+        (i : ItemTree) (more : ItemTrees) →
+        AllByRecursion (BoundPart (item_program rs types scope i)) (item_parts false i) →
+        AllByRecursion (BoundPart (items_program rs types scope more)) (items_parts false more) →
+        AllByRecursion
+        (BoundPart (append_items (item_program rs types scope i) (items_program rs types scope more)))
+        (item_parts false i ++ items_parts false more)
+    both-outside i more h k =
+        let a = item_program rs types scope i in
+        let b = items_program rs types scope more in
+        each_append (BoundPart (append_items a b)) (item_parts false i) (items_parts false more)
+        (each_weaker (BoundPart a) (BoundPart (append_items a b)) (front-part a b)
+        (item_parts false i) h)
+        (each_weaker (BoundPart b) (BoundPart (append_items a b)) (behind-part a b)
+        (items_parts false more) k)
 
-  items-outside :
-      (more : ItemTrees) → AllByRecursion IsRight (items_parts false more) →
-      AllByRecursion (BoundPart (items_program rs types scope more)) (items_parts false more)
-  items-outside no_item h = tt
-  items-outside (and_item p i more) h =
-      both-outside i more
-      (item-outside i (each_front IsRight (item_parts false i) (items_parts false more) h))
-      (items-outside more (each_behind IsRight (item_parts false i) (items_parts false more) h))
+    items-outside :
+        (more : ItemTrees) → AllByRecursion IsRight (items_parts false more) →
+        AllByRecursion (BoundPart (items_program rs types scope more)) (items_parts false more)
+    items-outside no_item h = tt
+    items-outside (and_item p i more) h =
+        both-outside i more
+        (item-outside i (each_front IsRight (item_parts false i) (items_parts false more) h))
+        (items-outside more (each_behind IsRight (item_parts false i) (items_parts false more) h))
 
-  -- each occurrence in a binding position binds the variable of its name
-  pub assertion-binds :
-      (a : AssertionTree) →
-      flat_map (λ (i : PlacedItem). item_findings rs own types scope i.1) (placed_items a) ≡ [] →
-      AllByRecursion (Binds (assertion_program rs types scope a))
-      (occurrences types (placed_items a))
-  assertion-binds (assertion i more) e =
-      let h = nothing_flat (λ (j : PlacedItem). item_findings rs own types scope j.1)
-      (item_parts false i ++ items_parts false more) e in
-      let items = append_items (item_program rs types scope i) (items_program rs types scope more)
-      in
-      all-flat (Binds items) (item_occurrences types) (item_parts false i ++ items_parts false more)
-      (both-outside i more
-      (item-outside i (each_front IsRight (item_parts false i) (items_parts false more) h))
-      (items-outside more (each_behind IsRight (item_parts false i) (items_parts false more) h)))
+    -- each occurrence in a binding position binds the variable of its name
+    pub assertion-binds :
+        (a : AssertionTree) →
+        flat_map (λ (i : PlacedItem). item_findings rs own types scope i.1) (placed_items a) ≡ [] →
+        AllByRecursion (Binds (assertion_program rs types scope a))
+        (occurrences types (placed_items a))
+    assertion-binds (assertion i more) e =
+        let h = nothing_flat (λ (j : PlacedItem). item_findings rs own types scope j.1)
+        (item_parts false i ++ items_parts false more) e in
+        let items = append_items (item_program rs types scope i) (items_program rs types scope more)
+        in
+        all-flat (Binds items) (item_occurrences types) (item_parts false i ++ items_parts false more)
+        (both-outside i more
+        (item-outside i (each_front IsRight (item_parts false i) (items_parts false more) h))
+        (items-outside more (each_behind IsRight (item_parts false i) (items_parts false more) h)))
 
-  pub clause-binds :
-      (c : Option ClauseTree) →
-      flat_map (λ (i : PlacedItem). item_findings rs own types scope i.1) (clause_parts c) ≡ [] →
-      AllByRecursion (Binds (clause_program rs types scope c)) (occurrences types (clause_parts c))
-  clause-binds None e = tt
-  clause-binds (Some c) e = assertion-binds c.assertion e
+    pub clause-binds :
+        (c : Option ClauseTree) →
+        flat_map (λ (i : PlacedItem). item_findings rs own types scope i.1) (clause_parts c) ≡ [] →
+        AllByRecursion (Binds (clause_program rs types scope c)) (occurrences types (clause_parts c))
+    clause-binds None e = tt
+    clause-binds (Some c) e = assertion-binds c.assertion e

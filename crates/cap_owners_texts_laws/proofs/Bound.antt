@@ -206,8 +206,7 @@ module _ (rs : List RegionTree) (fs : List FunctionTree) (f : FunctionTree) wher
         AllBind (all_statements (statements_program g n ss))
     statements-bound n no_statement a = tt
     statements-bound n (then_statement s ss) a =
-        let x = inner-bound n s (each_front Nothing (statement_parts s) (statements_parts ss) a) in
-        (
+        let x = inner-bound n s (each_front Nothing (statement_parts s) (statements_parts ss) a) in (
           x.0,
           each_append (λ (t : PlainStatement). InvariantBinds fn t.act)
               (block_statements (act_program g n s))

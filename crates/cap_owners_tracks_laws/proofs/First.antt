@@ -164,162 +164,162 @@ module _ (program : PlainProgram) (trees : List (Option PlainTree)) (well : IsWe
 
   module _ (m : Meeting) (e : meets_all main.requires (first_meeting main args heap) ≡ traced
       (Some m))
-      where
-    abbrev fixed : List NameValue
-    fixed = fixed_values main m.fill
+    where
+      abbrev fixed : List NameValue
+      fixed = fixed_values main m.fill
 
-    met : Meets (Taken d main args heap is_main arity) first m
-    met =
-        subst (On (Result (Taken d main args heap is_main arity) first)) e
-        (all-met program main.requires first (fits-before d main args heap is_main arity))
+      met : Meets (Taken d main args heap is_main arity) first m
+      met =
+          subst (On (Result (Taken d main args heap is_main arity) first)) e
+          (all-met program main.requires first (fits-before d main args heap is_main arity))
 
-    abbrev begins : Start program main args heap fixed
-    begins = start-of d main args heap is_main arity positive m met
+      abbrev begins : Start program main args heap fixed
+      begins = start-of d main args heap is_main arity positive m met
 
-    drawn : AreDrawn program (valuation m.fill.names) main.requires first m
-    drawn =
-        items-drawn program (valuation m.fill.names) main.requires (range_with_len 0 main.params)
-        (textual.main main is_main) first m (fits-before d main args heap is_main arity) e
-        (λ x b. refl)
+      drawn : AreDrawn program (valuation m.fill.names) main.requires first m
+      drawn =
+          items-drawn program (valuation m.fill.names) main.requires (range_with_len 0 main.params)
+          (textual.main main is_main) first m (fits-before d main args heap is_main arity) e
+          (λ x b. refl)
 
-    -- whatever the table
-    still :
-        (U : Table) →
-        StillItems program no_regions U (valuation m.fill.names) main.requires part
-        (part_stock (whole_part m.heap)) drawn.draws
-    still U =
-        items-still program no_regions U (valuation m.fill.names) main.requires part
-        (part_stock (whole_part m.heap)) drawn.draws
-        (subst (AllByRecursion (StaysTold no_regions U)) (sym drawn.told) tt)
-
-    abbrev owned : (U : Table) → OwnsRequires program U part main args fixed
-    owned U = record {
-      values = valuation m.fill.names;
-      args_are = met-args d main args heap is_main arity m met;
-      fixed_are = met-fixed d main args heap is_main arity m met;
-      met = (part_stock (whole_part m.heap), (still U).drawn);
-    }
-
-    over_names : AllByRecursion IsOver m.fill.names
-    over_names = met.extends.shares (over-before d main args heap is_main arity)
-
-    fits : AllZip FitsSort main.fixed (fixed_values main m.fill)
-    fits =
-        fit-over main.fixed fixed begins.values_fit
-        (all-taken IsOver (length main.fixed) (drop (fixed_start main) m.fill.names)
-        (all-dropped IsOver (fixed_start main) m.fill.names over_names))
-
-    have : NamesFit (requires_scope main) m.fill.names
-    have o x h = elim (requires-early main x o h) [
-      | inl k ↦
-          let z = there-is args x (let l = k.0 in omega (arith, l, arity)) in
-          sort-at m.fill.names first.fill.names over_names x (a_number z.0) o met.extends.kinds
-          (get-first (map a_number args)
-          (replicate main.locals (a_number (pos 0)) ++ map unset main.fixed) x (a_number z.0)
-          (map-at a_number args x z.0 z.1)) (ap (λ s. is_whole (unset s)) k.1)
-      | inr k ↦
-          let a = map-length a_number args in
-          let b = rep-length main.locals (a_number (pos 0)) in
-          let q = k.1 in
-          let at : x ≡ length (map a_number args)
-          + (length (replicate main.locals (a_number (pos 0))) + k.0) = omega
-          (arith, a, b, q, arity)
-          in
-          sort-at m.fill.names first.fill.names over_names x (unset o) o met.extends.kinds
-          (ap (slice_get first.fill.names) at
-          ∙ get-second (map a_number args)
-          (replicate main.locals (a_number (pos 0)) ++ map unset main.fixed)
-          (length (replicate main.locals (a_number (pos 0))) + k.0)
-          ∙ get-second (replicate main.locals (a_number (pos 0))) (map unset main.fixed) k.0
-          ∙ map-at unset main.fixed k.0 o k.2) refl
-    ]
-
-    module _ (q : Place) (root : root_at d (function_unit program.main) body_root ≡ Some q) where
-      abbrev t : TrackedFrame
-      t = begun d main args heap is_main arity m q
-
-      abbrev handed : GivenAssertion
-      handed = record {
-        stability = root_at d (function_unit program.main) requires_root;
-        values = map a_number args ++ fixed;
-        fill = m.fill;
-      }
-
-      -- what it was handed is met by that very fill
-      current :
-          (rs : List TrackedRegion) → fill_now d rs (Some handed) ≡ traced (Some m.fill)
-      current rs =
-          ap (λ fs. (if list_all (λ x. is_in_state x.1 (tracked_at rs x.0)) fs then traced m.fill
-          else filled_again d rs handed handed.stability) >>= λ (f : Fill). traced (Some f))
-          drawn.facts
-
-      again :
+      -- whatever the table
+      still :
           (U : Table) →
-          RequiresAgain p trees well program.main main is_main args fixed None arity
-          begins.values_fit fits part U handed
-      again U = record {
-        own = owned U;
-        fills = inl (record {
-          fill = m.fill;
-          met = record {
-            names = λ some. refl;
-            wildcards = (still U).met ∙ sym drawn.wildcards;
-            facts = (still U).told ∙ drawn.told ∙ sym drawn.facts;
-          };
-          have = have;
-          comes = λ rs tells. inr (current rs);
-        });
+          StillItems program no_regions U (valuation m.fill.names) main.requires part
+          (part_stock (whole_part m.heap)) drawn.draws
+      still U =
+          items-still program no_regions U (valuation m.fill.names) main.requires part
+          (part_stock (whole_part m.heap)) drawn.draws
+          (subst (AllByRecursion (StaysTold no_regions U)) (sym drawn.told) tt)
+
+      abbrev owned : (U : Table) → OwnsRequires program U part main args fixed
+      owned U = record {
+        values = valuation m.fill.names;
+        args_are = met-args d main args heap is_main arity m met;
+        fixed_are = met-fixed d main args heap is_main arity m met;
+        met = (part_stock (whole_part m.heap), (still U).drawn);
       }
 
-      -- the first frame has all of the heap
-      abbrev whole : TrackedFrame
-      whole = record t { held = record t.held { part = whole_part heap } }
+      over_names : AllByRecursion IsOver m.fill.names
+      over_names = met.extends.shares (over-before d main args heap is_main arity)
 
-      main-tied :
-          Tied p trees part no_regions fixed (new_frame program.main main args None) whole
-      main-tied =
-          let n = program.main in
-          let s = entered p trees well n main is_main args fixed None arity begins.values_fit fits
-          part
-          in
-          let h = home_of at_entry main n in
-          let g = gives-goal s main.requires h main.body in
-          body-tied p trees well n main is_main args fixed None arity begins.values_fit fits part
-          no_regions (whole-roomy program heap) q
-          (is-root program trees valid n main is_main body_root s main.requires
-          (running main.body h) g.0 g.1 (ap (λ o. slice_get (optional_roots o n) 2) is_main) q root)
-          handed (λ U r. again U) whole refl
+      fits : AllZip FitsSort main.fixed (fixed_values main m.fill)
+      fits =
+          fit-over main.fixed fixed begins.values_fit
+          (all-taken IsOver (length main.fixed) (drop (fixed_start main) m.fill.names)
+          (all-dropped IsOver (fixed_start main) m.fill.names over_names))
 
-      -- ---- the track
+      have : NamesFit (requires_scope main) m.fill.names
+      have o x h = elim (requires-early main x o h) [
+        | inl k ↦
+            let z = there-is args x (let l = k.0 in omega (arith, l, arity)) in
+            sort-at m.fill.names first.fill.names over_names x (a_number z.0) o met.extends.kinds
+            (get-first (map a_number args)
+            (replicate main.locals (a_number (pos 0)) ++ map unset main.fixed) x (a_number z.0)
+            (map-at a_number args x z.0 z.1)) (ap (λ s. is_whole (unset s)) k.1)
+        | inr k ↦
+            let a = map-length a_number args in
+            let b = rep-length main.locals (a_number (pos 0)) in
+            let q = k.1 in
+            let at : x ≡ length (map a_number args)
+            + (length (replicate main.locals (a_number (pos 0))) + k.0) = omega
+            (arith, a, b, q, arity)
+            in
+            sort-at m.fill.names first.fill.names over_names x (unset o) o met.extends.kinds
+            (ap (slice_get first.fill.names) at
+            ∙ get-second (map a_number args)
+            (replicate main.locals (a_number (pos 0)) ++ map unset main.fixed)
+            (length (replicate main.locals (a_number (pos 0))) + k.0)
+            ∙ get-second (replicate main.locals (a_number (pos 0))) (map unset main.fixed) k.0
+            ∙ map-at unset main.fixed k.0 o k.2) refl
+      ]
 
-      abbrev tracked : List (List TrackedFrame)
-      tracked = (main_track heap t).threads
+      module _ (q : Place) (root : root_at d (function_unit program.main) body_root ≡ Some q) where
+        abbrev t : TrackedFrame
+        t = begun d main args heap is_main arity m q
 
-      only :
-          EachTied p trees no_regions ((new_frame program.main main args None ∷ []) ∷ []) tracked
-      only zero th ts x y =
-          subst (λ u. StackTied p trees no_regions u ts)
-          (some-same (new_frame program.main main args None ∷ []) th x)
-          (subst (StackTied p trees no_regions (new_frame program.main main args None ∷ []))
-          (some-same (whole ∷ []) ts y)
-          (main-tied, tt))
-      only (suc i) th ts x y = absurd (none-some x)
+        abbrev handed : GivenAssertion
+        handed = record {
+          stability = root_at d (function_unit program.main) requires_root;
+          values = map a_number args ++ fixed;
+          fill = m.fill;
+        }
 
-      track-kept : Kept p trees (start program args heap) (main_track heap t)
-      track-kept =
-          let stable : Stable program = valid-stable program trees well valid in
-          let roots : UnitRoots p = unit-roots p (roots-listed program trees valid) in
-          let laws : Statements p = statements p well roots stable in
-          record {
-            sound = body-begins p laws.bodies heap main fixed args begins;
-            stacks =
-                subst
-                (λ (o : Option PlainFunction). EachTied p trees no_regions
-                (option_to_list (option_map (λ f. new_frame program.main f args None) o) ∷ [])
-                tracked) (sym is_main) only;
-            regions = tt;
-            numbered = tt;
-          }
+        -- what it was handed is met by that very fill
+        current :
+            (rs : List TrackedRegion) → fill_now d rs (Some handed) ≡ traced (Some m.fill)
+        current rs =
+            ap (λ fs. (if list_all (λ x. is_in_state x.1 (tracked_at rs x.0)) fs then traced m.fill
+            else filled_again d rs handed handed.stability) >>= λ (f : Fill). traced (Some f))
+            drawn.facts
+
+        again :
+            (U : Table) →
+            RequiresAgain p trees well program.main main is_main args fixed None arity
+            begins.values_fit fits part U handed
+        again U = record {
+          own = owned U;
+          fills = inl (record {
+            fill = m.fill;
+            met = record {
+              names = λ some. refl;
+              wildcards = (still U).met ∙ sym drawn.wildcards;
+              facts = (still U).told ∙ drawn.told ∙ sym drawn.facts;
+            };
+            have = have;
+            comes = λ rs tells. inr (current rs);
+          });
+        }
+
+        -- the first frame has all of the heap
+        abbrev whole : TrackedFrame
+        whole = record t { held = record t.held { part = whole_part heap } }
+
+        main-tied :
+            Tied p trees part no_regions fixed (new_frame program.main main args None) whole
+        main-tied =
+            let n = program.main in
+            let s = entered p trees well n main is_main args fixed None arity begins.values_fit fits
+            part
+            in
+            let h = home_of at_entry main n in
+            let g = gives-goal s main.requires h main.body in
+            body-tied p trees well n main is_main args fixed None arity begins.values_fit fits part
+            no_regions (whole-roomy program heap) q
+            (is-root program trees valid n main is_main body_root s main.requires
+            (running main.body h) g.0 g.1 (ap (λ o. slice_get (optional_roots o n) 2) is_main) q root)
+            handed (λ U r. again U) whole refl
+
+        -- ---- the track
+
+        abbrev tracked : List (List TrackedFrame)
+        tracked = (main_track heap t).threads
+
+        only :
+            EachTied p trees no_regions ((new_frame program.main main args None ∷ []) ∷ []) tracked
+        only zero th ts x y =
+            subst (λ u. StackTied p trees no_regions u ts)
+            (some-same (new_frame program.main main args None ∷ []) th x)
+            (subst (StackTied p trees no_regions (new_frame program.main main args None ∷ []))
+            (some-same (whole ∷ []) ts y)
+            (main-tied, tt))
+        only (suc i) th ts x y = absurd (none-some x)
+
+        track-kept : Kept p trees (start program args heap) (main_track heap t)
+        track-kept =
+            let stable : Stable program = valid-stable program trees well valid in
+            let roots : UnitRoots p = unit-roots p (roots-listed program trees valid) in
+            let laws : Statements p = statements p well roots stable in
+            record {
+              sound = body-begins p laws.bodies heap main fixed args begins;
+              stacks =
+                  subst
+                  (λ (o : Option PlainFunction). EachTied p trees no_regions
+                  (option_to_list (option_map (λ f. new_frame program.main f args None) o) ∷ [])
+                  tracked) (sym is_main) only;
+              regions = tt;
+              numbered = tt;
+            }
 
   -- ---- whatever the start comes to
 

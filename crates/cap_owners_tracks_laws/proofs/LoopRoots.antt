@@ -29,9 +29,11 @@ within-least low high (n ∷ ns) h =
 within-range : (low n : ℕ) → Within low (low + n) (range_with_len low n)
 within-range low zero = omega arith
 within-range low (suc n) =
-    let e : low + 1 + n ≡ low + suc n = omega arith in
-    (omega arith, subst (λ k. Within (low + 1) k (range_with_len (low + 1) n)) e
-        (within-range (low + 1) n))
+    let e : low + 1 + n ≡ low + suc n = omega arith in (
+      omega arith,
+      subst (λ k. Within (low + 1) k (range_with_len (low + 1) n)) e
+          (within-range (low + 1) n),
+    )
 
 -- those of one list, and then those of another
 record Parted (low high : ℕ) (ns ms : List ℕ) : Type 0 where

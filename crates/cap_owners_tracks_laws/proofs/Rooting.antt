@@ -44,39 +44,39 @@ module _ (p : PlainProgram) (all : List GoalNode) where
       (λ n m. f n (among-right n (root_nodes p t g) (all_root_nodes p ts gs) m)) e
 
 module _ (program : PlainProgram) (trees : List (Option PlainTree)) (valid : Valid program trees)
-    where
-  abbrev d : Proved
-  d = record { program = program; trees = trees }
+  where
+    abbrev d : Proved
+    d = record { program = program; trees = trees }
 
-  -- the tree of a root derives, and its nodes are those of the program
-  pub root-node :
-      (u : PlainUnit) (i : ℕ) (q : Place) →
-      root_at (record { program = program; trees = trees }) u i ≡ Some q →
-      (nodes_of program trees).N q.tree q.goal.state q.goal.tasks
-  unfolding program_nodes
-  root-node u i q e =
-      places-listed program (program_nodes program trees) trees (all_roots program) _ q
-      valid.derivations (λ n m. m) e
+    -- the tree of a root derives, and its nodes are those of the program
+    pub root-node :
+        (u : PlainUnit) (i : ℕ) (q : Place) →
+        root_at (record { program = program; trees = trees }) u i ≡ Some q →
+        (nodes_of program trees).N q.tree q.goal.state q.goal.tasks
+    unfolding program_nodes
+    root-node u i q e =
+        places-listed program (program_nodes program trees) trees (all_roots program) _ q
+        valid.derivations (λ n m. m) e
 
-  -- a root that gives something, and then has these tasks
-  pub is-root :
-      (n : ℕ) (f : PlainFunction) → slice_get program.functions n ≡ Some f → (i : ℕ)
-      (s : PlainState) (items : Items) (ts : List PlainTask) (g : PlainGoal) →
-      goal_of s (to_give items 0 0 ∷ ts) ≡ Some g →
-      slice_get (roots program (function_unit n)) i
-      ≡ Some (goal_of s (to_give items 0 0 ∷ ts)) →
-      (q : Place) →
-      root_at (record { program = program; trees = trees }) (function_unit n) i ≡ Some q →
-      IsRoot (nodes_of program trees) trees q s (to_give items 0 0 ∷ ts)
-  is-root n f is i s items ts g has at q e =
-      let r = function-rooted program trees valid n f is i g (at ∙ ap Some has) in
-      let same : g ≡ q.goal = ap (λ (x : Place). x.goal)
-      (some-same (record { goal = g; tree = r.tree }) q (sym r.is_root ∙ e)) in
-      let goals : option_to_list (goal_of s (to_give items 0 0 ∷ ts)) ≡ q.goal ∷ [] =
-      ap option_to_list has ∙ ap (λ x. x ∷ []) same in
-      record {
-        goes =
-            subst (Children (nodes_of program trees).N (tree q.tree no_trees)) (sym goals)
-            (root-node (function_unit n) i q e, tt);
-        goal_is = goals;
-      }
+    -- a root that gives something, and then has these tasks
+    pub is-root :
+        (n : ℕ) (f : PlainFunction) → slice_get program.functions n ≡ Some f → (i : ℕ)
+        (s : PlainState) (items : Items) (ts : List PlainTask) (g : PlainGoal) →
+        goal_of s (to_give items 0 0 ∷ ts) ≡ Some g →
+        slice_get (roots program (function_unit n)) i
+        ≡ Some (goal_of s (to_give items 0 0 ∷ ts)) →
+        (q : Place) →
+        root_at (record { program = program; trees = trees }) (function_unit n) i ≡ Some q →
+        IsRoot (nodes_of program trees) trees q s (to_give items 0 0 ∷ ts)
+    is-root n f is i s items ts g has at q e =
+        let r = function-rooted program trees valid n f is i g (at ∙ ap Some has) in
+        let same : g ≡ q.goal = ap (λ (x : Place). x.goal)
+        (some-same (record { goal = g; tree = r.tree }) q (sym r.is_root ∙ e)) in
+        let goals : option_to_list (goal_of s (to_give items 0 0 ∷ ts)) ≡ q.goal ∷ [] =
+        ap option_to_list has ∙ ap (λ x. x ∷ []) same in
+        record {
+          goes =
+              subst (Children (nodes_of program trees).N (tree q.tree no_trees)) (sym goals)
+              (root-node (function_unit n) i q e, tt);
+          goal_is = goals;
+        }

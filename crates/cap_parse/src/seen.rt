@@ -7,7 +7,8 @@ ghost use Rattle.cap_parse_laws.specs.Readers.{ahead, next_token};
 ghost use Rattle.cap_parse_laws.specs.Versions.{is_caper, is_two, is_word, is_before_index, worded};
 ghost use Rattle.cap_parse.specs.Parsing.{first_place};
 ghost use Rattle.cap_parse.specs.Reads.{IsRead};
-ghost use Rattle.cap_parse.specs.Sights.{is_keyword_at, seen_at, spot_behind, sight_view};
+ghost use Rattle.cap_parse.specs.Sights.{is_keyword_at, seen_at, seen_from_spot, spot_behind};
+ghost use Rattle.cap_parse.specs.Sights.{sight_view};
 
 use crate::cursor::Stop;
 use cap_parse_laws::{Class, are_same, class_of, keyword_class};
@@ -118,6 +119,16 @@ impl Spot {
         }
     }
 
+    /// The class of the first of these tokens as it is seen, or that of the end.
+    fn ahead(self, tokens: &[Token]) -> Class
+        ensures { result ≡ ahead (seen_from_spot self tokens.now) }
+    {
+        match tokens {
+            [token, ..] => self.class(token),
+            [] => Class::End,
+        }
+    }
+
     /// The token as it is seen.
     fn sight<'a>(self, token: &'a Token) -> Sight<'a>
         ensures { sight_view result ≡ seen_at self token.now }
@@ -140,21 +151,26 @@ impl Spot {
     }
 }
 
-/// Tokens that are still to be read. Contracts see their list, each token as the grammar sees it.
+/// Tokens that are still to be read, and the class of the next one, for which readers ask again and
+/// again. Contracts see their list, each token as the grammar sees it.
 #[derive(Drop)]
 pub(crate) struct Seen<'a> {
     tokens: &'a [Token],
     spot: Spot,
+    class: Class,
 }
 
 impl<'a> Model for Seen<'a> {
-    ghost use Rattle.std.specs.Prelude.{List};
+    ghost use Rattle.std.specs.Prelude.{◌≡◌, List};
     ghost use Rattle.cap_syntax.specs.declared.token.Token.{Token};
+    ghost use Rattle.cap_parse_laws.specs.Readers.{ahead};
     ghost use Rattle.cap_parse.specs.Sights.{seen_from_spot};
 
     ghost Value = { List Token };
 
     ghost view = { λ s. seen_from_spot s.spot s.tokens.now };
+
+    ghost invariant = { λ s. s.class ≡ ahead (seen_from_spot s.spot s.tokens.now) };
 }
 
 impl<'a> Seen<'a> {
@@ -165,6 +181,7 @@ impl<'a> Seen<'a> {
         Seen {
             tokens,
             spot: Spot::Start,
+            class: Spot::Start.ahead(tokens),
         }
     }
 
@@ -172,10 +189,7 @@ impl<'a> Seen<'a> {
     pub(crate) fn ahead(&self) -> Class
         ensures { result ≡ ahead self.now }
     {
-        match self.tokens {
-            [token, ..] => self.spot.class(token),
-            [] => Class::End,
-        }
+        self.class
     }
 
     pub(crate) fn next(&mut self) -> Result<Sight<'a>, Stop>
@@ -184,8 +198,12 @@ impl<'a> Seen<'a> {
         match self.tokens {
             [token, rest @ ..] => {
                 let sight = self.spot.sight(token);
-                self.spot = self.spot.behind(token);
-                self.tokens = rest;
+                let spot = self.spot.behind(token);
+                *self = Seen {
+                    tokens: rest,
+                    spot,
+                    class: spot.ahead(rest),
+                };
                 Ok(sight)
             }
             [] => Err(Stop::Unexpected),
