@@ -2,6 +2,7 @@
 //! certificates with which it is settled.
 #![tactic(auto)]
 
+mod asking;
 mod closing;
 mod settling;
 mod starting;

@@ -15,5 +15,10 @@ loop-listed-preserved-in-Continue-branch-2 c =
     let all = into_iter_items c.loop-listed.listed-iterator in
     let more = into_iter_items c.next.new.self in
     let q : all ≡ x ∷ more = grind (arith, common_steps) in
-    let h = rw c.deref.ensures.value at c.in_ok-survives.ensures in
-    surviving-keeps k a.state.now a.fact.now a.known.now c.loop-listed.rest.items c.push.new.self.items all more x c.loop-listed.notes c.survives.new.notes c.in_ok-survives.field-0 (surviving k a.state.now a.fact.now a.known.now (list_view a.list.items) a.notes.now) q c.in_ok-push.ensures.items h c.if-branch.true c.loop-listed.invariant
+    let i = c.loop-listed.invariant in
+    let on = surviving-keeps k a.state.now a.fact.now a.known.now c.loop-listed.rest.items
+    c.push.new.self.items all more x c.loop-listed.notes c.survives.new.notes
+    c.in_ok-survives.field-0
+    (surviving k a.state.now a.fact.now a.known.now (list_view a.list.items) a.notes.now) q
+    c.in_ok-push.ensures.items c.in_ok-survives.ensures.survives c.if-branch.true (i.0, i.1) in
+    (on.0, on.1, c.in_ok-survives.ensures.asked)

@@ -12,11 +12,11 @@ use Rattle.cap_closure_decide.proofs.Refuting.{adds-same, failure-fails}
 use Rattle.cap_closure.proofs.Attempts.{made-succeeds, wide-fails}
 use Rattle.cap_closure.proofs.testing.proves_at_target.Goals as goal
 
-pub returns-in-Ok : goal.returns-in-Ok
-returns-in-Ok c =
+pub returns-in-Ok-clause-proves : goal.returns-in-Ok-clause-proves
+returns-in-Ok-clause-proves c =
     let a = c.args in
     let s = a.state.now in
-    let rows = a.rows.items in
+    let rows = a.rows.now.items in
     let x = (action_view a.action.now).target in
     let t = term_over (λ i. get_or a.names.now i zero_value) x in
     let steps = term_over_steps (λ i. get_or a.names.now i zero_value) x in
@@ -25,11 +25,12 @@ returns-in-Ok c =
     adds-same c.proves_at.result a.notes.now c.proves_at.new.notes (succeeds (prove_at s rows t (a.row.now ∷ []))) (succeeds (prove_closed s (a.row.now ∷ []) (action_view a.action.now) a.names.now (Some rows)))
     (sym (made-succeeds (value_over a.names.now x) (λ u. prove_at s rows u (a.row.now ∷ [])) t a.notes.now (all_narrow t steps h.0))) k
 
-pub returns : goal.returns
-returns c =
+pub returns-in_ok-note_failure-in-Err-clause-proves :
+    goal.returns-in_ok-note_failure-in-Err-clause-proves
+returns-in_ok-note_failure-in-Err-clause-proves c =
     let a = c.args in
     let s = a.state.now in
-    let rows = a.rows.items in
+    let rows = a.rows.now.items in
     let x = (action_view a.action.now).target in
     let t = term_over (λ i. get_or a.names.now i zero_value) x in
     let steps = term_over_steps (λ i. get_or a.names.now i zero_value) x in
