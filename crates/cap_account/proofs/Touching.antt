@@ -60,7 +60,7 @@ recells-one q old new a z o had puts = record {
 }
 
 -- the machine's test is that of numbers
-same-test : (a b : ℤ) → compared Equal a b ≡ same_number a b
+pub same-test : (a b : ℤ) → compared Equal a b ≡ same_number a b
 same-test a b = by (compared Equal a b) refl
   where
     by : (t : Bool) → compared Equal a b ≡ t → compared Equal a b ≡ same_number a b
@@ -80,7 +80,7 @@ module _ (p : Checked) (ls : Statements p) (stable : Stable p.program) (x : Turn
   abbrev V : Table
   V = account_table x.a
 
-  abbrev Heaped : PlainAct → Block → Linear → Type 0
+  abbrev pub Heaped : PlainAct → Block → Linear → Type 0
   Heaped a b t =
       HeapStep p (account_table x.a) (share_by (owners x.a.regions)) (part_stock x.held.part)
       x.c.heap x.held.fixed x.frame a b t
@@ -95,18 +95,18 @@ module _ (p : Checked) (ls : Statements p) (stable : Stable p.program) (x : Turn
       (world P (scene p x)) ok (before-act p x l a b s V (relies-same P part.guards V))
 
   -- the cell gets another content, and the frame goes on as another one
-  record Outcome (a : PlainAct) (b : Block) (t : Linear) (h : Heaped a b t) : Type 0 where
-    heap : Heap
-    content : Option ℤ
-    frame : Frame
-    is : after_act a x.frame b h.content ≡ (content, frame)
-    callee : callee_of frame x.held ≡ callee_of x.frame x.held
-    puts :
+  pub record Outcome (a : PlainAct) (b : Block) (t : Linear) (h : Heaped a b t) : Type 0 where
+    pub heap : Heap
+    pub content : Option ℤ
+    pub frame : Frame
+    pub is : after_act a x.frame b h.content ≡ (content, frame)
+    pub callee : callee_of frame x.held ≡ callee_of x.frame x.held
+    pub puts :
         (c y : ℤ) →
         cells_of heap c y + one_cell (value_in x.frame.store t) h.content c y
         ≡ cells_of x.c.heap c y + new_content (value_in x.frame.store t) content c y
 
-  abbrev touching :
+  abbrev pub touching :
       (a : PlainAct) (b : Block) (t : Linear) (h : Heaped a b t) → Outcome a b t h → Stride p x
   touching a b t h o = record {
     heap = o.heap;
@@ -135,7 +135,7 @@ module _ (p : Checked) (ls : Statements p) (stable : Stable p.program) (x : Turn
     };
   }
 
-  touched :
+  abbrev pub touched :
       (a : PlainAct) (b : Block) (t : Linear) (h : Heaped a b t) (o : Outcome a b t h)
       (event : Event) → accesses event ≡ Some (value_in x.frame.store t) →
       ((new : List (List Held)) (left : List Part) → StaysOn (stepping x) new left →

@@ -13,19 +13,20 @@ use Rattle.cap_prog.specs.Program.{PlainItem, Items, item, PlainCase, PlainRegio
 use Rattle.cap_prog.specs.Scopes.{Scope, region_scope}
 use Rattle.cap_prog.specs.WellFormed.{FactFits, CaseFits, RegionFits}
 use Rattle.cap_goal_spec.specs.States.{PlainEnv, PlainState, PlainTask, PlainGoal, to_take, to_make, goals_of}
-use Rattle.cap_goal_spec.specs.Environments.{zero_value, term_of, region_env}
+use Rattle.cap_goal_spec.specs.Environments.{zero_value, term_of, bound, region_env}
 use Rattle.cap_rules.specs.Attempts.{Attempt, ◌>>=◌, need, found, each}
 use Rattle.cap_rules.specs.Making.{determined_slot, with_env, fresh, fact_of, env_at}
 use Rattle.cap_rules.specs.Taking.{with_new_region, case_env}
 use Rattle.cap_rules.specs.Rules.{leaves, stays, at_create}
 use Rattle.cap_account_resources.specs.Parts.{Table}
-use Rattle.cap_account_resources.proofs.Lists.{get-or-push, push-length, all-at, all-more}
+use Rattle.cap_account_resources.proofs.Lists.{map-length, get-or-push, push-length, all-at, all-more}
 use Rattle.cap_account_resources.proofs.Marks.{free}
 use Rattle.cap_account_resources.proofs.Covering.{join_marks, free-right}
 use Rattle.cap_account_resources.proofs.Interference.{Holding}
 use Rattle.cap_account_resources.proofs.Room.{all_guards, alone, alone-away, part-join}
 use Rattle.cap_account_resources.proofs.Stocks.{Stock, guard_stock, both}
 use Rattle.cap_account_states.specs.Nodes.{Comes}
+use Rattle.cap_account_states.proofs.Scopes.{length-join}
 use Rattle.cap_account_states.proofs.Attempts.{comes-bind, after-found, after-need, after-env, env_added}
 use Rattle.cap_account_states.proofs.Terms.{Over}
 use Rattle.cap_account_states.proofs.Meets.{Usable, same-fresh, meets-env}
@@ -224,6 +225,7 @@ pub record CaseStart (p : PlainProgram) (ks : List ℕ) (T : Table) (next : ℤ)
   pub env_over : EnvOver (Usable ks (s.sorts ++ Int ∷ []) Int) env
   pub first : term_of env 0 ≡ Some (fresh s)
   pub room : y.params ≤ length env
+  pub size : length env ≡ y.params + length z.names
   pub start :
       TakeStart p ks T (next +ℤ pos 1) (lim_with p lim next k)
       (case_job j s y z k n left (tasks_of (fact_job j i more left))) (fresh_values s v next)
@@ -276,6 +278,12 @@ case-start p regions ks T next lim j v s c n m k left args x i more P comes st s
           b.tail_over;
       first = refl;
       room = omega (arith, far);
+      size =
+          (let count = b.size in
+          let arity = b.arity in
+          let m = length-join (bound b.terms) b.tail in
+          let k = map-length Some b.terms in
+          omega (arith, count, arity, m, k));
       start = record {
         ready =
             state-at p ks T (region_scope b.y b.z.names) (length s.envs) w t q known there

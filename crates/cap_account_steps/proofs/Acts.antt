@@ -57,6 +57,7 @@ module _ (p : Checked) (G : List PlainGoal → Type 0) (V : Table) (part held : 
     pub count : length before ≡ number
     pub opened : t.opened ≡ k.s.opened
     pub sorts : t.sorts ≡ k.s.sorts
+    pub facts : t.facts ≡ k.s.facts
     pub goals :
         G (flat_map (λ u. goals_of u (then_close n (length k.s.opened) r.1.rest h))
         (before ++ t ∷ behind))
@@ -119,6 +120,7 @@ module _ (p : Checked) (G : List PlainGoal → Type 0) (V : Table) (part held : 
         count = refl;
         opened = refl;
         sorts = refl;
+        facts = refl;
         goals = k.goals.1;
         ready = ready-local p.program V (W a k) part k.ks k.v k.s
             (recelled held (value_in f.store x) (content a k) (Some (content a k))) h fn fixed
@@ -142,6 +144,7 @@ module _ (p : Checked) (G : List PlainGoal → Type 0) (V : Table) (part held : 
         count = refl;
         opened = refl;
         sorts = refl;
+        facts = refl;
         goals = all.1;
         ready = ready-content p.program V (W a k) part k.ks k.v k.s held h fn fixed (g a k) k.ready
             k.j k.c k.is (value_in f.store x) k.address new (value_in f.store t) (term-over a k t)
@@ -174,6 +177,7 @@ module _ (p : Checked) (G : List PlainGoal → Type 0) (V : Table) (part held : 
         count = refl;
         opened = refl;
         sorts = refl;
+        facts = refl;
         goals = each.1;
         ready = ready-local p.program V (W a k) part k.ks k.v s1
             (recelled held (value_in f.store x) z (Some (z +ℤ added))) h fn fixed (g a k) r1 y k.c.1
@@ -193,6 +197,7 @@ module _ (p : Checked) (G : List PlainGoal → Type 0) (V : Table) (part held : 
         count = refl;
         opened = refl;
         sorts = refl;
+        facts = refl;
         goals = k.goals.1;
         ready = ready-gone p.program V (W a k) part k.ks k.v k.s held h fn fixed (g a k) k.ready k.j
             k.c k.is (value_in f.store x) k.address;
@@ -260,6 +265,7 @@ module _ (p : Checked) (G : List PlainGoal → Type 0) (V : Table) (part held : 
           count = refl;
           opened = refl;
           sorts = refl;
+          facts = refl;
           goals = both-states;
           ready = ready-local p.program V (W swap k) part k.ks k.v s2 held' h fn fixed (g swap k) r2
               y one_value (pos 1) b tt (value-number k.v.whole (pos 1));
@@ -280,6 +286,7 @@ module _ (p : Checked) (G : List PlainGoal → Type 0) (V : Table) (part held : 
           count = refl;
           opened = refl;
           sorts = refl;
+          facts = refl;
           goals = both-states;
           ready = ready-local p.program V (W swap k) part k.ks k.v (row_added k.s unmet) held' h fn
               fixed (g swap k) r1 y zero_value (pos 0) b tt (value-number k.v.whole (pos 0));

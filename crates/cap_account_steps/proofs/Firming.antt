@@ -176,7 +176,7 @@ pub record Firmed (p : PlainProgram) (ks : List ℕ) (T : Table) (v : Valuation)
   pub over : AllByRecursion (AllOver (Usable [] s.sorts Int)) s.facts
 
 -- a fact, its state included, over variables none of which is kept free any more
-over-free :
+pub over-free :
     (ks : List ℕ) (sorts : List Sort) (f : PlainFact) → FactOver (Usable ks sorts Int) f →
     LooseState ks sorts f → AllOver (Usable [] sorts Int) f
 over-free ks sorts f o l =

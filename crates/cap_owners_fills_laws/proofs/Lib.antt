@@ -1,4 +1,5 @@
 pub mod Drawn
+pub mod Amounts
 pub mod Still
 pub mod Giving
 pub mod Siding

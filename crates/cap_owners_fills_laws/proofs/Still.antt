@@ -2,16 +2,17 @@
 use Rattle.std.proofs.Common.{◌≡◌, inl, inr, ℕ, ℤ, ◌&&◌, Bool, true, false, List, [], ◌∷◌, ◌++◌, Option, Some, None, refl, sym, ap, ◌∙◌, subst}
 use Rattle.std.specs.Prelude.{option_map}
 use Rattle.std.specs.List.{AllByRecursion, list_all}
+use Rattle.cap_lin.specs.Linear.{same_number}
 use Rattle.cap_lin.specs.Values.{Valuation}
 use Rattle.cap_prog.specs.Program.{PlainItem, compare, choose, fact, atom, cell, Items, none, item, PlainProgram}
 use Rattle.cap_account_resources.specs.Parts.{Known, known_as, Table}
-use Rattle.cap_account_resources.proofs.Lists.{some-same, all-first, all-second}
-use Rattle.cap_account_resources.proofs.Order.{same-int}
+use Rattle.cap_account_resources.proofs.Lists.{some-same, all-first, all-second, all-both}
+use Rattle.cap_account_resources.proofs.Order.{same-int, same-refl}
 use Rattle.cap_account_resources.proofs.Stocks.{Stock}
 use Rattle.cap_account_assertions.proofs.Asserted.{Draws, DrawsAll}
 use Rattle.cap_owners_spec.specs.Track.{Fill, TrackedRegion, tracked_at}
 use Rattle.cap_owners_spec.specs.Steps.{is_in_state, is_current}
-use Rattle.cap_owners_fills_laws.proofs.Drawn.{item_met, items_met, item_told, items_told, IsMetBy, Tells}
+use Rattle.cap_owners_fills_laws.proofs.Drawn.{item_met, items_met, item_told, items_told, IsMetBy, IsMetOr, Tells}
 
 -- what the one table tells of this region and state, the other does
 abbrev pub StaysTold : Table → Table → ℤ × ℤ → Type 0
@@ -78,39 +79,58 @@ abbrev state_told : Option Known → Option ℤ
 state_told None = None
 state_told (Some e) = e.state
 
-module _ (rs : List TrackedRegion) (T U : Table) (tells : Tells rs U) (keeps : KeepsTypes T U) where
-  in-state :
-      (n z : ℤ) → is_in_state z (tracked_at rs n) ≡ true → StaysTold T U (n, z)
-  in-state n z e k zs t = by (tracked_at rs n) refl e
+-- the state is this one
+abbrev state_in : ℤ → Option ℤ → Bool
+state_in z None = false
+state_in z (Some y) = same_number y z
+
+-- the table tells of the states of all facts
+abbrev pub is_known : Table → Fill → Bool
+is_known U f = list_all (λ x. state_in x.1 (state_told (U x.0))) f.facts
+
+-- what is met is current just where the table tells so
+module _ (rs : List TrackedRegion) (U : Table) (tells : Tells rs U) where
+  state-known :
+      (n z : ℤ) → is_in_state z (tracked_at rs n) ≡ state_in z (state_told (U n))
+  state-known n z = by (tracked_at rs n) ∙ ap (λ o. state_in z (state_told o)) (tells n)
     where
       by :
-          (o : Option TrackedRegion) → tracked_at rs n ≡ o → is_in_state z o ≡ true →
-          U n ≡ Some (known_as k zs (Some z))
-      by None q h = absurd (cc)
-      by (Some r) q h =
-          let c = keeps n k zs z t in
-          let is : U n
-          ≡ Some (known_as r.owned.region.kind r.owned.region.args (Some r.owned.region.state)) =
-          sym (tells n)
-          ∙ ap (option_map (λ (r : TrackedRegion).
-          known_as r.owned.region.kind r.owned.region.args (Some r.owned.region.state))) q in
-          let same : c.0 ≡ r.owned.region.state =
-          some-same c.0 r.owned.region.state (ap state_told (sym c.1 ∙ is)) in
-          c.1
-          ∙ ap (λ y. Some (known_as k zs (Some y)))
-          (same ∙ same-int r.owned.region.state z h)
+          (o : Option TrackedRegion) →
+          is_in_state z o
+          ≡ state_in z (state_told (option_map (λ (r : TrackedRegion).
+          known_as r.owned.region.kind r.owned.region.args (Some r.owned.region.state)) o))
+      by None = refl
+      by (Some r) = refl
+
+  pub current-known : (f : Fill) → is_current rs f ≡ is_known U f
+  current-known f = by f.facts
+    where
+      by :
+          (xs : List (ℤ × ℤ)) →
+          list_all (λ x. is_in_state x.1 (tracked_at rs x.0)) xs
+          ≡ list_all (λ x. state_in x.1 (state_told (U x.0))) xs
+      by [] = refl
+      by (x ∷ xs) = λ i. state-known x.0 x.1 i && by xs i
+
+module _ (T U : Table) (keeps : KeepsTypes T U) where
+  in-state : (n z : ℤ) → state_in z (state_told (U n)) ≡ true → StaysTold T U (n, z)
+  in-state n z e k zs t =
+      let c = keeps n k zs z t in
+      c.1
+      ∙ ap (λ y. Some (known_as k zs (Some y)))
+      (same-int c.0 z (sym (ap (λ o. state_in z (state_told o)) c.1) ∙ e))
 
   all-in-state :
-      (xs : List (ℤ × ℤ)) → list_all (λ x. is_in_state x.1 (tracked_at rs x.0)) xs ≡ true →
+      (xs : List (ℤ × ℤ)) → list_all (λ x. state_in x.1 (state_told (U x.0))) xs ≡ true →
       AllByRecursion (StaysTold T U) xs
   all-in-state [] e = tt
   all-in-state (x ∷ xs) e =
-      by (is_in_state x.1 (tracked_at rs x.0)) refl e (λ h. all-in-state xs h)
+      by (state_in x.1 (state_told (U x.0))) refl e (λ h. all-in-state xs h)
     where
       by :
-          (b : Bool) → is_in_state x.1 (tracked_at rs x.0) ≡ b →
-          (b && list_all (λ x. is_in_state x.1 (tracked_at rs x.0)) xs) ≡ true →
-          (list_all (λ x. is_in_state x.1 (tracked_at rs x.0)) xs ≡ true →
+          (b : Bool) → state_in x.1 (state_told (U x.0)) ≡ b →
+          (b && list_all (λ x. state_in x.1 (state_told (U x.0))) xs) ≡ true →
+          (list_all (λ x. state_in x.1 (state_told (U x.0))) xs ≡ true →
           AllByRecursion (StaysTold T U) xs) → AllByRecursion (StaysTold T U) (x ∷ xs)
       by true q h rest = (in-state x.0 x.1 q, rest h)
       by false q h rest = absurd (cc)
@@ -121,11 +141,11 @@ module _ (rs : List TrackedRegion) (T U : Table) (tells : Tells rs U) (keeps : K
     pub drawn : DrawsAll p U a items q r
     pub met : IsMetBy p U a items q r drawn f
 
-  pub current-met :
+  pub known-met :
       (p : PlainProgram) (a : Valuation) (items : Items) (q r : Stock)
       (d : DrawsAll p T a items q r) (f : Fill) → IsMetBy p T a items q r d f →
-      is_current rs f ≡ true → MetStill p a items q r f
-  current-met p a items q r d f m e =
+      is_known U f ≡ true → MetStill p a items q r f
+  known-met p a items q r d f m e =
       let k = items-still p T U a items q r d
       (subst (AllByRecursion (StaysTold T U)) (sym m.facts) (all-in-state f.facts e)) in
       record {
@@ -136,3 +156,91 @@ module _ (rs : List TrackedRegion) (T U : Table) (tells : Tells rs U) (keeps : K
           facts = k.told ∙ m.facts;
         };
       }
+
+  -- also where the names may be any
+  pub record MetStillOr (p : PlainProgram) (a : Valuation) (items : Items) (q r : Stock)
+      (f : Fill) : Type 0 where
+    pub drawn : DrawsAll p U a items q r
+    pub met : IsMetOr p U a items q r drawn f
+
+  pub known-met-or :
+      (p : PlainProgram) (a : Valuation) (items : Items) (q r : Stock)
+      (d : DrawsAll p T a items q r) (f : Fill) → IsMetOr p T a items q r d f →
+      is_known U f ≡ true → MetStillOr p a items q r f
+  known-met-or p a items q r d f m e =
+      let k = items-still p T U a items q r d
+      (subst (AllByRecursion (StaysTold T U)) (sym m.facts) (all-in-state f.facts e)) in
+      record {
+        drawn = k.drawn;
+        met = record {
+          names = m.names;
+          wildcards = k.met ∙ m.wildcards;
+          facts = k.told ∙ m.facts;
+        };
+      }
+
+  pub current-met :
+      (rs : List TrackedRegion) → Tells rs U → (p : PlainProgram) (a : Valuation) (items : Items)
+      (q r : Stock) (d : DrawsAll p T a items q r) (f : Fill) → IsMetBy p T a items q r d f →
+      is_current rs f ≡ true → MetStill p a items q r f
+  current-met rs tells p a items q r d f m e =
+      known-met p a items q r d f m (sym (current-known rs U tells f) ∙ e)
+
+-- ---- just now
+
+-- what is told of a fact, the table does
+abbrev IsToldBy : Table → ℤ × ℤ → Type 0
+IsToldBy T x = (k : ℕ) × (zs : List ℤ) × (T x.0 ≡ Some (known_as k zs (Some x.1)))
+
+module _ (p : PlainProgram) (T : Table) (a : Valuation) where
+  mutual
+    item-known :
+        (i : PlainItem) (q r : Stock) (d : Draws p T a i q r) →
+        AllByRecursion (IsToldBy T) (item_told p T a i q r d)
+    item-known (compare c) q r d = tt
+    item-known (choose c x y) q r (inl d) = items-known x q r d.1
+    item-known (choose c x y) q r (inr d) = items-known y q r d.1
+    item-known (fact place n k args s) q r d = ((k, d.0.0, d.0.2), tt)
+    item-known (atom place n k i asked) q r d = tt
+    item-known (cell place x s) q r d = tt
+
+    items-known :
+        (xs : Items) (q r : Stock) (d : DrawsAll p T a xs q r) →
+        AllByRecursion (IsToldBy T) (items_told p T a xs q r d)
+    items-known none q r d = tt
+    items-known (item i more) q r d =
+        all-both (IsToldBy T) (item_told p T a i q d.0 d.1) (items_told p T a more d.0 r d.2)
+        (item-known i q d.0 d.1) (items-known more d.0 r d.2)
+
+  module _ (rs : List TrackedRegion) (tells : Tells rs T) where
+    state-now : (x : ℤ × ℤ) → IsToldBy T x → is_in_state x.1 (tracked_at rs x.0) ≡ true
+    state-now x k = by (tracked_at rs x.0) refl
+      where
+        by :
+            (o : Option TrackedRegion) → tracked_at rs x.0 ≡ o → is_in_state x.1 o ≡ true
+        by None q = absurd (
+            let e = ap (option_map (λ (r : TrackedRegion).
+            known_as r.owned.region.kind r.owned.region.args (Some r.owned.region.state))) q in
+            let f = sym e ∙ tells x.0 ∙ k.2 in cc)
+        by (Some r) q =
+            let e = ap (option_map (λ (r : TrackedRegion).
+            known_as r.owned.region.kind r.owned.region.args (Some r.owned.region.state))) q in
+            let same : Some r.owned.region.state ≡ Some x.1 =
+            ap state_told (sym e ∙ tells x.0 ∙ k.2) in
+            ap (λ z. same_number z x.1) (some-same r.owned.region.state x.1 same)
+            ∙ same-refl x.1
+
+    all-now :
+        (xs : List (ℤ × ℤ)) → AllByRecursion (IsToldBy T) xs →
+        list_all (λ x. is_in_state x.1 (tracked_at rs x.0)) xs ≡ true
+    all-now [] h = refl
+    all-now (x ∷ xs) h =
+        ap (λ b. b && list_all (λ x. is_in_state x.1 (tracked_at rs x.0)) xs) (state-now x h.0)
+        ∙ all-now xs h.1
+
+    -- what is met by this table is current
+    pub met-now :
+        (items : Items) (q r : Stock) (d : DrawsAll p T a items q r) (f : Fill) →
+        items_told p T a items q r d ≡ f.facts → is_current rs f ≡ true
+    met-now items q r d f e =
+        all-now f.facts (subst (AllByRecursion (IsToldBy T)) e (items-known items q r d))

@@ -1,7 +1,6 @@
 -- The text shows what is owned along a run.
-use Rattle.std.proofs.Common.{◌≡◌, inl, inr, ℕ, suc, List, [], ◌∷◌, length, Bool, true, false, Option, Some, None, refl, subst}
+use Rattle.std.proofs.Common.{◌≡◌, inl, inr, ℕ, suc, ℤ, List, [], ◌∷◌, length, Bool, true, false, Option, Some, None, refl, subst}
 use Rattle.std.specs.Prelude.{slice_get}
-use Rattle.std.specs.FinMap.{from_entries}
 use Rattle.cap_rules.specs.cap_goal_spec.cap_prog.Program.{PlainFunction, PlainProgram}
 use Rattle.cap_rules.specs.cap_goal_spec.cap_prog.WellFormed.{IsWellFormed}
 use Rattle.cap_rules.specs.cap_goal_spec.Choices.{PlainTree}
@@ -12,15 +11,14 @@ use Rattle.cap_machine.specs.Machine.{Heap, Configuration, Outcome, next, fault,
 use Rattle.cap_machine.specs.Ready.{ahead}
 use Rattle.cap_machine.specs.Results.{entry_steps, are_narrow}
 use Rattle.cap_machine_accounts.specs.Safety.{IfStepped, Start}
-use Rattle.cap_replay.specs.declared.entries.Schedule.{Schedule}
 use Rattle.cap_replay.specs.RunText.{step_line, RunText}
 use Rattle.cap_owners_spec.specs.Traced.{Traced, traced, past_width, untold}
 use Rattle.cap_owners_spec.specs.Track.{Track}
 use Rattle.cap_owners_spec.specs.Steps.{Proved, follow}
 use Rattle.cap_owners_spec.specs.Start.{first_track}
-use Rattle.cap_owners_spec.specs.Owners.{shown, told, advanced, owned_from, begun, owners_text}
+use Rattle.cap_owners_spec.specs.Owners.{shown, told, advanced, owned_from, begun}
 use Rattle.cap_owners_laws.specs.Laws.{StartsAreExact}
-use Rattle.cap_owners_laws.specs.Owned.{IsTold, IsTrackOf, GoesOver, IsOwnedFrom, IsTextual, proved, RunsAreOwned, StartsAreTold, ShowsStep, ShowsOutcome, ShowsOwned, IsOwnedText, TextsAreOwned}
+use Rattle.cap_owners_laws.specs.Owned.{IsTold, IsTrackOf, GoesOver, IsOwnedFrom, IsTextual, proved, RunsAreOwned, StartsAreTold, ShowsStep, ShowsOutcome, ShowsOwned, IsOwnedText, owned_text, TextsAreOwned}
 
 module _ (d : Proved) where
   -- where a run is owned its first track is as said
@@ -81,52 +79,45 @@ same-main : (a b : PlainFunction) (o : Option PlainFunction) → o ≡ Some a �
 same-main a b o x y = cc
 
 module _ (exact : StartsAreExact) (runs : RunsAreOwned) (starts : StartsAreTold) where
-  module _ (p : PlainProgram) (trees : List (Option PlainTree)) (s : Schedule)
-      (well : IsWellFormed p) (textual : IsTextual p) (valid : Valid p trees) (main : PlainFunction)
-      (is_main : slice_get p.functions p.main ≡ Some main)
-      (arity : length s.args.items ≡ main.params)
-      (positive : IsPositive (from_entries s.heap.items)) where
+  module _ (p : PlainProgram) (trees : List (Option PlainTree)) (args : List ℤ) (heap : Heap)
+      (es : List Entry) (well : IsWellFormed p) (textual : IsTextual p) (valid : Valid p trees)
+      (main : PlainFunction) (is_main : slice_get p.functions p.main ≡ Some main)
+      (arity : length args ≡ main.params) (positive : IsPositive heap) where
     abbrev d : Proved
     d = proved p trees
 
-    abbrev heap : Heap
-    heap = from_entries s.heap.items
-
     abbrev c : Configuration
-    c = start p s.args.items heap
+    c = start p args heap
 
     by-start :
-        (o : Traced (Option Track)) → first_track d s.args.items heap ≡ o →
-        IsTold (λ x. Unit {0}) o →
-        IsOwnedText p trees s (begun (shown d c (owned_from d 0 c s.entries.items)) o)
+        (o : Traced (Option Track)) → first_track d args heap ≡ o → IsTold (λ x. Unit {0}) o →
+        IsOwnedText p trees args heap es (begun (shown d c (owned_from d 0 c es)) o)
     by-start (traced None) e h = λ m fixed x.
-        exact.unmet d main s.args.items heap is_main arity e fixed
-        (subst (λ f. Start p f s.args.items heap fixed)
+        exact.unmet d main args heap is_main arity e fixed
+        (subst (λ f. Start p f args heap fixed)
         (same-main m main (slice_get p.functions p.main) x.is_main is_main) x)
     by-start (traced (Some k)) e h =
-        let m = exact.met d main s.args.items heap k is_main arity positive e in
-        let r = runs p trees well textual valid main s.args.items heap k s.entries.items is_main
-        arity positive e in
+        let m = exact.met d main args heap k is_main arity positive e in
+        let r = runs p trees well textual valid main args heap k es is_main arity positive e in
         inr (
           main,
           m.0,
           k,
-          owned_from d 0 c s.entries.items k,
+          owned_from d 0 c es k,
           m.1,
           m.2,
-          owned-here d s.entries.items c k r,
-          owned-shown d s.entries.items 0 c k r,
+          owned-here d es c k r,
+          owned-shown d es 0 c k r,
           refl,
         )
     by-start past_width e h = inl refl
     by-start untold e h = absurd h
 
-    pub text-owned : IsOwnedText p trees s (owners_text p trees s)
-    unfolding owners_text
+    text-owned : IsOwnedText p trees args heap es (owned_text (proved p trees) args heap es)
     text-owned =
-        by-start (first_track d s.args.items heap) refl
-        (starts p trees well textual valid main s.args.items heap is_main arity)
+        by-start (first_track d args heap) refl
+        (starts p trees well textual valid main args heap is_main arity)
 
   pub texts-owned : TextsAreOwned
-  texts-owned p trees s well textual valid main is_main arity positive =
-      text-owned p trees s well textual valid main is_main arity positive
+  texts-owned p trees args heap es well textual valid main is_main arity positive =
+      text-owned p trees args heap es well textual valid main is_main arity positive

@@ -4,7 +4,6 @@
 -- brought. The derivation always tells of the next step.
 use Rattle.std.specs.Prelude.{◌≡◌, ◌⊎◌, ℕ, suc, ◌+◌, ◌<◌, ℤ, pos, ◌+ℤ◌, true, false, List, [], ◌∷◌, ◌++◌, map, length, slice_get, Option, Some, None}
 use Rattle.std.specs.List.{AllByRecursion, range_with_len}
-use Rattle.std.specs.FinMap.{from_entries}
 use Rattle.cap_rules.specs.cap_goal_spec.cap_lin.Linear.{Linear}
 use Rattle.cap_rules.specs.cap_goal_spec.cap_prog.declared.assertion.Slot.{Slot}
 use Rattle.cap_rules.specs.cap_goal_spec.cap_prog.declared.assertion.Slot.TheVariants.{Any, Is}
@@ -27,7 +26,6 @@ use Rattle.cap_machine_accounts.specs.Accounts.{Held, table, IsValidAccount}
 use Rattle.cap_machine_accounts.specs.Following.{Follows}
 use Rattle.cap_machine_accounts.specs.Safety.{KeepsContracts, IfStepped, first_account, Start}
 use Rattle.cap_replay.specs.declared.playing.End.TheVariants.{Ended, NotEnabled, Wide}
-use Rattle.cap_replay.specs.declared.entries.Schedule.{Schedule}
 use Rattle.cap_replay.specs.RunText.{step_line, RunText, ends, in_front}
 use Rattle.cap_outline_laws.specs.Holding.{HoldsAt}
 use Rattle.cap_outline_laws.specs.Laws.{OneIs}
@@ -37,7 +35,7 @@ use Rattle.cap_owners_spec.specs.Walks.{Halt, stands, leaves}
 use Rattle.cap_owners_spec.specs.Steps.{Proved, frame_walk, follow}
 use Rattle.cap_owners_spec.specs.Start.{first_track}
 use Rattle.cap_owners_spec.specs.Texts.{account_text}
-use Rattle.cap_owners_spec.specs.Owners.{start_line, owners_text}
+use Rattle.cap_owners_spec.specs.Owners.{shown, owned_from, start_line, begun}
 
 -- ---- what comes
 
@@ -238,31 +236,36 @@ ShowsOwned d n c k (e ∷ es) r =
     (λ after later more. ShowsOwned d (suc n) after later es more))
     (step d.program c e)
 
--- where the text of a schedule with accounts is none, the schedule's start is none; else it begins
--- with the account of a start, and shows the run from there
-abbrev pub IsOwnedText : PlainProgram → List (Option PlainTree) → Schedule → Option RunText → Type 0
-IsOwnedText p trees s None =
-    (main : PlainFunction) (fixed : List NameValue) →
-    ¬ Start p main s.args.items (from_entries s.heap.items) fixed
-IsOwnedText p trees s (Some r) =
+-- where a text with accounts is none, the arguments and the heap are no start; else it begins with
+-- the account of a start, and shows the run from there along these entries
+abbrev pub IsOwnedText :
+    PlainProgram → List (Option PlainTree) → List ℤ → Heap → List Entry → Option RunText → Type 0
+IsOwnedText p trees args heap es None =
+    (main : PlainFunction) (fixed : List NameValue) → ¬ Start p main args heap fixed
+IsOwnedText p trees args heap es (Some r) =
     (r ≡ ends (Wide 0))
     ⊎ ((main : PlainFunction) × (fixed : List NameValue) × (k : Track) × (more : RunText)
-    × Start p main s.args.items (from_entries s.heap.items) fixed
-    × (account_of k ≡ first_account (from_entries s.heap.items) fixed)
-    × IsTrackOf (proved p trees) (start p s.args.items (from_entries s.heap.items)) k
-    × ShowsOwned (proved p trees) 0 (start p s.args.items (from_entries s.heap.items)) k
-    s.entries.items more
-    × (r ≡ in_front start_line
-    (in_front (account_text p (start p s.args.items (from_entries s.heap.items)) (account_of k))
-    more)))
+    × Start p main args heap fixed
+    × (account_of k ≡ first_account heap fixed)
+    × IsTrackOf (proved p trees) (start p args heap) k
+    × ShowsOwned (proved p trees) 0 (start p args heap) k es more
+    × (r
+    ≡ in_front start_line
+    (in_front (account_text p (start p args heap) (account_of k)) more)))
 
--- by a valid derivation, for a schedule that has as many arguments as main and positive addresses
+-- the text of the run with its accounts
+abbrev pub owned_text : Proved → List ℤ → Heap → List Entry → Option RunText
+owned_text d args heap es =
+    begun (shown d (start d.program args heap) (owned_from d 0 (start d.program args heap) es))
+    (first_track d args heap)
+
+-- by a valid derivation, for as many arguments as main has and positive addresses
 abbrev pub TextsAreOwned : Type 0
 TextsAreOwned =
-    (p : PlainProgram) (trees : List (Option PlainTree)) (s : Schedule) → IsWellFormed p →
-    IsTextual p → Valid p trees → (main : PlainFunction) → slice_get p.functions p.main ≡ Some main →
-    length s.args.items ≡ main.params → IsPositive (from_entries s.heap.items) →
-    IsOwnedText p trees s (owners_text p trees s)
+    (p : PlainProgram) (trees : List (Option PlainTree)) (args : List ℤ) (heap : Heap)
+    (es : List Entry) → IsWellFormed p → IsTextual p → Valid p trees → (main : PlainFunction) →
+    slice_get p.functions p.main ≡ Some main → length args ≡ main.params → IsPositive heap →
+    IsOwnedText p trees args heap es (owned_text (proved p trees) args heap es)
 
 -- the text's promise follows from that of runs
 abbrev pub OwnedRunsAreShown : Type 0

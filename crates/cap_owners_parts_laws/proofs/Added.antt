@@ -3,6 +3,8 @@ use Rattle.std.proofs.Common.{◌≡◌, ℕ, ℤ, List, [], ◌∷◌, ◌++◌
 use Rattle.std.specs.List.{AllByRecursion}
 use Rattle.cap_lin.specs.Linear.{Linear}
 use Rattle.cap_lin.specs.Values.{Valuation, value}
+use Rattle.cap_lin.specs.declared.row.Sort.{Sort}
+use Rattle.cap_lin.specs.declared.row.Sort.TheVariants.{Int}
 use Rattle.cap_galg.specs.Elements.{Element}
 use Rattle.cap_galg.specs.Algebras.{atom_element}
 use Rattle.cap_gsolve.specs.declared.piece.Piece.{Piece}
@@ -14,15 +16,18 @@ use Rattle.cap_goal_spec.specs.States.{PlainState}
 use Rattle.cap_machine_accounts.specs.Parts.{algebra_of}
 use Rattle.cap_account_resources.proofs.Marks.{Mark, free}
 use Rattle.cap_account_resources.proofs.Covering.{join_marks, mark, free-right, Covered, Together, together}
-use Rattle.cap_account_resources.proofs.Stocks.{Stock, cell_stock, both, Composes, same-stock}
+use Rattle.cap_account_resources.proofs.Stocks.{Stock, cell_stock, guard_stock, both, Composes, same-stock}
 use Rattle.cap_account_states.proofs.Pieces.{AllFit, element-of, elements-of, mark-joined}
 use Rattle.cap_account_states.proofs.PiecesHeld.{piece_stock, piece-mark}
-use Rattle.cap_account_states.proofs.Adding.{piece_added, merged-fit}
-use Rattle.cap_account_states.proofs.Backed.{Backed}
+use Rattle.cap_account_states.proofs.Adding.{PieceOver, piece_added, merged-fit}
+use Rattle.cap_account_states.proofs.Alike.{Alike, value-alike, need-alike}
+use Rattle.cap_account_states.proofs.Backed.{Backed, Grounded}
+use Rattle.cap_account_states.proofs.Compatible.{pieces-more, form-alike}
+use Rattle.cap_account_states.proofs.Meets.{Usable, need}
 use Rattle.cap_account_assertions.proofs.GiveTerms.{need-join}
 use Rattle.cap_owners_parts_laws.proofs.Forms.{form-only}
 use Rattle.cap_owners_parts_laws.proofs.Pieces.{AreForms, pieces_stock, piece-at, pieces-at}
-use Rattle.cap_owners_parts_laws.proofs.Held.{IsOf, covered-is}
+use Rattle.cap_owners_parts_laws.proofs.Held.{IsOf, covered-is, own-of}
 
 -- ---- what a state has is one
 
@@ -38,6 +43,60 @@ forms-only v (g ∷ gs) (x ∷ xs) (y ∷ ys) f h =
     ap (λ z. z ∷ xs) (form-only v g.form x y f.0 h.0)
     ∙ ap (λ zs. y ∷ zs) (forms-only v gs xs ys f.1 h.1)
 
+-- ---- at alike values, and in other states
+
+module _ (p : PlainProgram) (P : ℕ → Type 0) (v w : Valuation) (l : Alike P v w) where
+  forms-alike :
+      (gs : List Piece) (xs : List Element) → AllByRecursion (PieceOver (λ o. P)) gs →
+      AreForms v gs xs → AreForms w gs xs
+  forms-alike [] [] o f = tt
+  forms-alike [] (x ∷ xs) o f = absurd f
+  forms-alike (g ∷ gs) [] o f = absurd f
+  forms-alike (g ∷ gs) (x ∷ xs) o f =
+      (form-alike P v w l g.form o.0.1 x f.0, forms-alike gs xs o.1 f.1)
+
+  pieces-alike :
+      (gs : List Piece) (xs : List Element) → AllByRecursion (PieceOver (λ o. P)) gs →
+      pieces_stock p w gs xs ≡ pieces_stock p v gs xs
+  pieces-alike [] xs o = refl
+  pieces-alike (g ∷ gs) [] o = refl
+  pieces-alike (g ∷ gs) (x ∷ xs) o = λ i.
+      both p
+      (guard_stock (value-alike P v w l g.region o.0.0 i)
+      (mark g.kind (atom_element (algebra_of p g.kind) g.atom x)))
+      (pieces-alike gs xs o.1 i)
+
+-- at values that are alike on what it uses a state has the same
+pub of-at :
+    (p : PlainProgram) (s : PlainState) (ks : List ℕ) (P : ℕ → Type 0) (v w : Valuation)
+    (q : Stock) → ((o : Sort) (x : ℕ) → Usable ks s.sorts o x → P x) → Alike P v w →
+    Grounded p ks v s → IsOf p v s q → IsOf p w s q
+of-at p s ks P v w q uses l g h =
+    let over = pieces-more (Usable ks s.sorts) (λ o. P) uses s.guards g.pieces_over in
+    record {
+      elements = h.elements;
+      forms = forms-alike p P v w l s.guards h.elements over h.forms;
+      cells = λ a z.
+          h.cells a z
+          ∙ sym (need-alike (Usable ks s.sorts) P v w (uses Int) l s.cells g.meets.cells_over a z);
+      guards = λ n.
+          h.guards n
+          ∙ ap (λ (r : Stock). r.guards n)
+          (sym (pieces-alike p P v w l s.guards h.elements over));
+    }
+
+-- and one with the same cells and pieces
+pub of-same :
+    (p : PlainProgram) (s t : PlainState) (v : Valuation) (q : Stock) → t.cells ≡ s.cells →
+    t.guards ≡ s.guards → IsOf p v s q → IsOf p v t q
+of-same p s t v q e f h = record {
+  elements = h.elements;
+  forms = subst (λ gs. AreForms v gs h.elements) (sym f) h.forms;
+  cells = λ a z. h.cells a z ∙ ap (λ cs. need v cs a z) (sym e);
+  guards = λ n.
+      h.guards n ∙ ap (λ gs. (pieces_stock p v gs h.elements).guards n) (sym f);
+}
+
 module _ (p : PlainProgram) (v : Valuation) where
   pub one-of : (s : PlainState) (q r : Stock) → IsOf p v s q → IsOf p v s r → q ≡ r
   one-of s q r h k =
@@ -49,22 +108,27 @@ module _ (p : PlainProgram) (v : Valuation) where
 
   -- ---- a cell more
 
+  pub with-cell :
+      (s : PlainState) (a t : Linear) (q : Stock) → IsOf p v s q →
+      IsOf p v (record s { cells = s.cells ++ (a, t) ∷ [] })
+      (both p q (cell_stock (value v.whole a) (value v.whole t)))
+  with-cell s a t q h = record {
+    elements = h.elements;
+    forms = h.forms;
+    cells = λ x z.
+        let e = h.cells x z in
+        let j = need-join v s.cells ((a, t) ∷ []) x z in
+        omega (arith, e, j);
+    guards = λ n. free-right p (q.guards n) ∙ h.guards n;
+  }
+
   pub cell-more :
       (s : PlainState) (a t : Linear) (q r : Stock) → IsOf p v s q →
       IsOf p v (record s { cells = s.cells ++ (a, t) ∷ [] }) r →
       r ≡ both p q (cell_stock (value v.whole a) (value v.whole t))
   cell-more s a t q r h k =
-      same-stock r (both p q (cell_stock (value v.whole a) (value v.whole t)))
-      (λ x z.
-      let e = h.cells x z in
-      let f = k.cells x z in
-      let j = need-join v s.cells ((a, t) ∷ []) x z in
-      omega (arith, e, f, j))
-      (λ n. k.guards n
-      ∙ ap (λ xs. (pieces_stock p v s.guards xs).guards n)
-      (forms-only v s.guards k.elements h.elements k.forms h.forms)
-      ∙ sym (h.guards n)
-      ∙ sym (free-right p (q.guards n)))
+      one-of (record s { cells = s.cells ++ (a, t) ∷ [] }) r
+      (both p q (cell_stock (value v.whole a) (value v.whole t))) k (with-cell s a t q h)
 
   -- ---- a piece more
 
@@ -133,3 +197,15 @@ module _ (p : PlainProgram) (v : Valuation) where
       (b.guards n)
       (λ none. ne n (ap (λ w. join_marks p w ((piece_stock p v g y).guards n)) (h.guards n) ∙ none))
       ∙ ap (λ w. join_marks p w ((piece_stock p v g y).guards n)) (sym (h.guards n)))
+
+  -- where something backs the state with the piece, it has just that more
+  pub with-piece :
+      (s : PlainState) (g : Piece) (y : Element) (held whole q : Stock) → AllFit p s.guards →
+      Fits (algebra_of p g.kind) g → IsFormElement v g.form y → Backed p v s held →
+      Backed p v (piece_added p s g) whole → IsOf p v s q →
+      Composes (both p q (piece_stock p v g y)) →
+      IsOf p v (piece_added p s g) (both p q (piece_stock p v g y))
+  with-piece s g y held whole q fits fit o b c h ne =
+      let own = own-of p v (piece_added p s g) whole (merged-fit p s.guards g fits fit) c in
+      subst (IsOf p v (piece_added p s g))
+      (piece-more s g y held q own.own fits fit o b h own.just ne) own.just

@@ -77,6 +77,32 @@ module _ (p : PlainProgram) (v : Valuation) where
         inside-by p r q (λ a z. (let e = h.cells a z in let l = b.cells a z in omega (arith, e, l)))
         (λ n. subst (λ m. IsPartOf p m (q.guards n)) (sym (at-region n)) (b.guards n).part)
 
+  -- ---- what a state has
+
+  -- a stock that is just that
+  pub record Own (s : PlainState) (held : Stock) : Type 0 where
+    pub own : Stock
+    pub just : IsOf p v s own
+    pub backed : Backed p v s own
+    pub inside : Inside p own held
+
+  -- whatever backs a state has it
+  pub own-of : (s : PlainState) (held : Stock) → AllFit p s.guards → Backed p v s held → Own s held
+  own-of s held fit b =
+      let xs = backed-elements s held b in
+      let own : Stock = record {
+        cells = need v s.cells;
+        guards = (pieces_stock p v s.guards xs.0).guards;
+      } in
+      let just : IsOf p v s own =
+      record { elements = xs.0; forms = xs.1; cells = λ a z. refl; guards = λ n. refl } in
+      record {
+        own = own;
+        just = just;
+        backed = own-backed s held own fit b just;
+        inside = own-inside s held own fit b just;
+      }
+
 -- ---- the part of a state
 
 no-cells-of :

@@ -1,5 +1,5 @@
 -- A walk converts guards: the item stays.
-use Rattle.std.proofs.Common.{◌⊎◌, inr, ℕ, ℤ, List, [], refl, sym, ◌∙◌, arith}
+use Rattle.std.proofs.Common.{◌⊎◌, inl, inr, ℕ, ℤ, List, [], refl, sym, ◌∙◌, arith}
 use Rattle.cap_syntax.specs.declared.place.Place.{Place}
 use Rattle.cap_farkas.specs.declared.cert.Cert.{Cert}
 use Rattle.cap_prog.specs.declared.assertion.Asked.{Asked}
@@ -21,7 +21,9 @@ use Rattle.cap_owners_spec.specs.Walks.{Taking}
 use Rattle.cap_owners_walks_laws.proofs.Leading.{node-leads}
 use Rattle.cap_account.proofs.Stocked.{part_stock}
 use Rattle.cap_owners_passes_laws.proofs.Meets.{items-met-out, items-told-out, met-items, told-items}
-use Rattle.cap_owners_passes_laws.proofs.Takes.{taking_from}
+use Rattle.cap_rules.specs.Making.{env_at}
+use Rattle.cap_owners_passes_laws.proofs.Names.{shaped-same}
+use Rattle.cap_owners_passes_laws.proofs.Takes.{taking_on}
 use Rattle.cap_owners_passes_laws.proofs.Steps.{node-to, AtNode}
 use Rattle.cap_owners_passes_laws.proofs.Plain.{Starting, Wide, Steps, named_top, with-names}
 
@@ -64,6 +66,9 @@ module _ (p : Checked) (ks : List ℕ) (T : Table) (next : ℤ) (lim : Holding) 
         terms = f.terms;
         now = named_top p ks T next lim j vs s c top ns;
         names = so.same;
+        have = so.fits;
+        binds = λ x has e. inl e;
+        shaped = shaped-same j.scope vs (env_at s j.env) (env_at s j.env) ns so (λ b. b);
         wildcards = [];
         facts = [];
         more_wildcards = sym (join-nil top.fill.wildcards);
@@ -78,10 +83,10 @@ module _ (p : Checked) (ks : List ℕ) (T : Table) (next : ℤ) (lim : Holding) 
                   ∙ items-told-out pp U a it q (both pp no_stock q) r r le (inside-same pp r) d,
             );
         part = sym (none-right pp (part_stock top.part));
-        leads = λ enter w under.
-            node-to p ks T next enter one more j (by_convert m side cs) kids s
+        leads = λ seating enter w under.
+            node-to p ks T next seating enter one more j (by_convert m side cs) kids s
             (goals_of turned.head.after (tasks_of (with_items of_atom it)))
-            (taking_from p ks next vs top under w)
-            (taking_from p ks next vs (named_top p ks T next lim j vs s c top ns) under w)
+            (taking_on p ks vs top under w)
+            (taking_on p ks vs (named_top p ks T next lim j vs s c top ns) under w)
             turned.goes.0 (pass enter w under);
       }))

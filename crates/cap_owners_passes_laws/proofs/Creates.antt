@@ -1,5 +1,5 @@
 -- A walk creates a region: its case is taken, the region is made, and the fact is taken again.
-use Rattle.std.proofs.Common.{◌≡◌, ◌⊎◌, inl, inr, ℕ, zero, suc, ◌-◌, ◌<◌, ◌≤◌, ℤ, pos, ◌+ℤ◌, ◌<ℤ◌, false, List, [], ◌∷◌, ◌++◌, length, Some, refl, sym, ap, ◌∙◌, subst, arith}
+use Rattle.std.proofs.Common.{◌≡◌, ◌⊎◌, inl, inr, ℕ, zero, suc, ◌+◌, ◌-◌, ◌<◌, ◌≤◌, ℤ, pos, ◌+ℤ◌, ◌<ℤ◌, Bool, List, [], ◌∷◌, ◌++◌, length, Some, refl, sym, ap, ◌∙◌, subst, arith}
 use Rattle.std.specs.Prelude.{slice_get}
 use Rattle.std.specs.List.{AllByRecursion}
 use Rattle.std.proofs.lemmas.Int.{ints}
@@ -20,6 +20,7 @@ use Rattle.cap_machine_accounts.specs.Assertions.{NameValue, a_number}
 use Rattle.cap_account_resources.specs.Parts.{known_as, Table}
 use Rattle.cap_account_resources.proofs.Interference.{Holding, ArePartOf}
 use Rattle.cap_account_resources.proofs.Lists.{all-more, join-assoc}
+use Rattle.cap_account_states.proofs.Scopes.{length-join}
 use Rattle.cap_account_resources.proofs.Room.{all_guards, with_known}
 use Rattle.cap_account_resources.proofs.Stocks.{Stock, no_stock, guard_stock, both, stock-laws}
 use Rattle.cap_account_resources.proofs.Tables.{extends-states, extends-trans}
@@ -50,11 +51,11 @@ use Rattle.cap_goal_spec.specs.Environments.{term_of}
 use Rattle.cap_owners_spec.specs.Track.{TrackedRegion}
 use Rattle.cap_owners_passes_laws.proofs.Takes.{IsTracked}
 use Rattle.cap_account.proofs.Stocked.{part_stock}
-use Rattle.cap_owners_passes_laws.proofs.Rests.{into, below-wide}
+use Rattle.cap_owners_passes_laws.proofs.Rests.{walks_into, below-wide}
 use Rattle.cap_owners_passes_laws.proofs.Parted.{none-held, left-cells, left-guards}
-use Rattle.cap_owners_passes_laws.proofs.Names.{NamesSo, names-in-so, names-told}
+use Rattle.cap_owners_passes_laws.proofs.Names.{NamesSo, SharesBound, shares-more, names-in-so, names-told}
 use Rattle.cap_owners_passes_laws.proofs.Meets.{met-items, told-items}
-use Rattle.cap_owners_passes_laws.proofs.Takes.{AreNameTerms, more-term, AreBelow, TakesFrom, taking_from, Taking_into, IsTooWide, TakesTo, TakesLaw}
+use Rattle.cap_owners_passes_laws.proofs.Takes.{AreNameTerms, more-term, AreBelow, TakesFrom, taking_from, Taking_into, IsTooWide, IsWide, wide-on, either-on, either-at, WalksTo, along-at, TakesTo, AlongLaw}
 use Rattle.cap_owners_passes_laws.proofs.Steps.{node-to, node-wide, AtNode}
 use Rattle.cap_owners_passes_laws.proofs.Plain.{Starting}
 use Rattle.cap_owners_passes_laws.proofs.TakesAll.{CreateTakes}
@@ -62,7 +63,7 @@ use Rattle.cap_owners_passes_laws.proofs.Tracked.{all-tracked-on, tracked-on, zi
 use Rattle.cap_owners_passes_laws.proofs.Made.{made_as, is-tracked}
 
 module _ (p : Checked) (regions : AllByRecursion (RegionFits p.program) p.program.regions)
-    (ks : List ℕ) (size : ℕ) (law : TakesLaw p ks size) (T : Table) (next : ℤ) (lim : Holding)
+    (ks : List ℕ) (size : ℕ) (law : AlongLaw p ks size) (T : Table) (next : ℤ) (lim : Holding)
     (j : Job) (vs : List NameValue) (s : PlainState) (c : Stock) (top : Taking) (case : ℕ)
     (place : Place) (n k : ℕ) (args : List Slot) (x : Slot) (more : Items) (kids : PlainTrees)
     (le : trees_size kids ≤ size)
@@ -190,7 +191,8 @@ module _ (p : Checked) (regions : AllByRecursion (RegionFits p.program) p.progra
             There (tasks_of again)
 
         module _ (m : Made) (names : List NameValue)
-            (so : NamesSo (valuation t.values) (env_at t0.after (length s.envs)) names) (b z : ℤ)
+            (so : NamesSo of_case.scope t.values
+            (env_at t0.after (length s.envs)) names) (b z : ℤ)
             (number : number_in t.values (fresh s) ≡ traced b)
             (state : number_in names a.z.state ≡ traced z) where
           abbrev region : TrackedRegion
@@ -215,6 +217,9 @@ module _ (p : Checked) (regions : AllByRecursion (RegionFits p.program) p.progra
               ∙ ap (λ q. both p.program q t0.given) none-held
               ∙ (stock-laws p.program).zero_left t0.given)
 
+          sized : length names ≡ a.y.params + length a.z.names
+          sized = so.size ∙ t0.follows.size ∙ ap length a.env_is ∙ a.size
+
           under-one : (values_in t0.w (env_at t0.after (length s.envs))).fraction.under ≡ over - 1
           under-one = ap (λ (u : Valuation). u.fraction.under) t.valued
 
@@ -232,7 +237,7 @@ module _ (p : Checked) (regions : AllByRecursion (RegionFits p.program) p.progra
               let met = t.met w (alike-same (Old t0.after) w) X mean no_stock under-one in
               is-tracked p.program ks t0.U next w t0.after t0.left t0.given a.y a.z k case
               (length s.envs) (fresh s) (tasks_of again) There a.is_type a.is_case pending m names
-              names-same so.size t.taken gives b number-next z
+              names-same so.size so.fits sized t.taken gives b number-next z
               (number-is names a.z.state z state) d (met.0 ∙ sym t.more_wildcards)
               (met.1 ∙ sym t.more_facts)
 
@@ -291,26 +296,27 @@ module _ (p : Checked) (regions : AllByRecursion (RegionFits p.program) p.progra
               t0.are_created t.made t.are_made region number-next w.regions low
 
           -- the walk of all
-          abbrev Leads : Walk → List Taking → Interpreting → Type 0
-          Leads w under enter =
-              Taking_into p ks enter of_fact all s (taking_from p ks next vs top under w)
-              ≡ Taking_into p ks enter again below ends
+          abbrev Leads : Walk → List Taking → Bool → Interpreting → Type 0
+          Leads w under seating enter =
+              Taking_into p ks seating enter of_fact all s (taking_from p ks next vs top under w)
+              ≡ Taking_into p ks seating enter again below ends
               (taking_from p ks t0.later t.values top under
               (record w { regions = w.regions ++ region ∷ t.made }))
 
           module _
               (leads :
-              (enter : Interpreting) (w : Walk) (under : List Taking) → AreBelow next w.regions →
-              Leads w under enter) where
+              (seating : Bool) (enter : Interpreting) (w : Walk) (under : List Taking) →
+              AreBelow next w.regions →
+              Leads w under seating enter) where
             create-to :
                 (few : ℕ) → few ≤ size →
                 (IsTooWide p ks t0.later again below t.values ends top
                 ⊎ TakesTo p ks knows t0.later again below t.values t0.w ends t0.left top few) →
                 Answer
             create-to few small (inl wide) =
-                inl (λ enter w under low.
-                leads enter w under low
-                ∙ wide enter (record w { regions = w.regions ++ region ∷ t.made }) under
+                inl (λ seating enter w under low.
+                leads seating enter w under low
+                ∙ wide seating enter (record w { regions = w.regions ++ region ∷ t.made }) under
                 (then-below w low))
             create-to few small (inr u) =
                 let pp = p.program in
@@ -319,6 +325,23 @@ module _ (p : Checked) (regions : AllByRecursion (RegionFits p.program) p.progra
                 (extends-trans t0.U knows u.took.U
                 (told-extends t0.U next (known_as k m.args (Some m.state)) pending.absent)
                 u.took.made.extends) in
+                let begun = t.counted in
+                let later = u.counted in
+                let count = length-join t.made u.made in
+                let counted : u.took.later ≡ next +ℤ pos (length (region ∷ (t.made ++ u.made))) =
+                omega (arith, ints, begun, later, count) in
+                let all_walks : WalksTo p ks next of_fact all vs s top u.took.children u.took.after
+                u.values u.took.later u.taken (region ∷ (t.made ++ u.made)) = λ seating enter w under low.
+                leads seating enter w under low
+                ∙ u.walks seating enter (record w { regions = w.regions ++ region ∷ t.made }) under
+                (then-below w low)
+                ∙ ap (λ rs. walks_into seating enter pp u.took.children
+                (goals_of u.took.after j.tasks) (record w {
+                  values = u.values;
+                  next = u.took.later;
+                  taken = u.taken ∷ under;
+                  regions = rs;
+                })) (sym (join-assoc w.regions (region ∷ t.made) u.made)) in
                 inr (record {
                   took = took-both p ks size T next lim of_fact v s c (fact place n k args x) more
                       refl k case left most f.start Here a t0 There m few small u.took;
@@ -328,6 +351,22 @@ module _ (p : Checked) (regions : AllByRecursion (RegionFits p.program) p.progra
                   terms = u.terms;
                   taken = u.taken;
                   names = λ some. u.names (λ e. absurd (cc));
+                  have = λ some. u.have (λ e. absurd (cc));
+                  binds = u.binds;
+                  grows = (
+                    a_number next ∷ (t.grows.0 ++ u.grows.0),
+                    u.grows.1
+                        ∙ ap (λ us. us ++ u.grows.0) t.grows.1
+                        ∙ sym (join-assoc new t.grows.0 u.grows.0)
+                        ∙ sym (join-assoc vs (a_number next ∷ []) (t.grows.0 ++ u.grows.0)),
+                  );
+                  shaped = λ b.
+                      let env = env_at s j.env in
+                      let grown = shares-more j.scope new t.grows.0 env
+                      (shares-more j.scope vs (a_number next ∷ []) env b) in
+                      let k = u.shaped (subst (SharesBound j.scope t.values) (sym same-env)
+                      (subst (λ us. SharesBound j.scope us env) (sym t.grows.1) grown)) in
+                      (k.0, λ some. k.1 (λ e. absurd (cc)));
                   wildcards = u.wildcards;
                   facts = u.facts;
                   more_wildcards = u.more_wildcards;
@@ -352,17 +391,12 @@ module _ (p : Checked) (regions : AllByRecursion (RegionFits p.program) p.progra
                         (all-tracked-on pp t0.U u.took.U first t0.created t.made t.are_made)
                         u.are_made,
                   );
-                  walks = λ enter w under low.
-                      leads enter w under low
-                      ∙ u.walks enter (record w { regions = w.regions ++ region ∷ t.made }) under
-                      (then-below w low)
-                      ∙ ap (λ rs. into enter pp u.took.children
-                      (goals_of u.took.after j.tasks) (record w {
-                        values = u.values;
-                        next = u.took.later;
-                        taken = u.taken ∷ under;
-                        regions = rs;
-                      })) (sym (join-assoc w.regions (region ∷ t.made) u.made));
+                  counted = counted;
+                  along =
+                      along-at p ks next u.took.later of_fact all vs s top u.took.children
+                      u.took.after u.values u.taken (region ∷ (t.made ++ u.made)) some_left counted
+                      all_walks;
+                  walks = all_walks;
                 })
 
         -- with the region in its place
@@ -404,32 +438,33 @@ module _ (p : Checked) (regions : AllByRecursion (RegionFits p.program) p.progra
             (passes : CreatePasses) where
           -- the walk to the region that is to be made
           to-make :
-              (enter : Interpreting) (w : Walk) (under : List Taking) → AreBelow next w.regions →
-              Taking_into p ks enter of_fact all s (taking_from p ks next vs top under w)
-              ≡ walk_below enter p.program false below
+              (seating : Bool) (enter : Interpreting) (w : Walk) (under : List Taking) →
+              AreBelow next w.regions →
+              Taking_into p ks seating enter of_fact all s (taking_from p ks next vs top under w)
+              ≡ walk_below enter p.program seating below
               (goals_left p.program (goal t0.after (make ∷ tasks_of again)) (by_made cs))
               (MadePass w under enter)
-          to-make enter w under low =
-              node-to p ks T next enter (fact place n k args x) more j (by_create case) kids s
+          to-make seating enter w under low =
+              node-to p ks T next seating enter (fact place n k args x) more j (by_create case) kids s
               (goals_of at_case (tasks_of of_case)) (taking_from p ks next vs top under w)
               (taking_from p ks (next +ℤ pos 1) new nothing_taken (top ∷ under) w) a.comes.0
               (passes enter w under)
-              ∙ t.walks enter w (top ∷ under)
+              ∙ t.walks seating enter w (top ∷ under)
               (all-more (λ r. r.owned.region.number <ℤ next)
               (λ r. r.owned.region.number <ℤ (next +ℤ pos 1)) (λ r l. omega (arith, ints, l))
               w.regions low)
-              ∙ ap (λ ts. into enter p.program ts (goals_of t0.after (make ∷ tasks_of again))
+              ∙ ap (λ ts. walks_into seating enter p.program ts (goals_of t0.after (make ∷ tasks_of again))
               (at_make w under)) (tree_is ∙ ap (λ d. tree d no_trees) node_is)
 
           wide-at :
               ((enter : Interpreting) (w : Walk) (under : List Taking) →
               MadePass w under enter ≡ past_width) → Answer
           wide-at h =
-              inl (λ enter w under low.
+              inl (λ seating enter w under low.
               let gs = goals_left p.program (goal t0.after (make ∷ tasks_of again)) (by_made cs) in
-              to-make enter w under low
-              ∙ ap (walk_below enter p.program false below gs) (h enter w under)
-              ∙ below-wide enter p.program false below gs)
+              to-make seating enter w under low
+              ∙ ap (walk_below enter p.program seating below gs) (h enter w under)
+              ∙ below-wide enter p.program seating below gs)
 
           made-of : Made
           made-of =
@@ -444,15 +479,15 @@ module _ (p : Checked) (regions : AllByRecursion (RegionFits p.program) p.progra
               number_in names a.z.state ≡ traced z → Answer
           made-at b z names eb en ez =
               let m = made-of in
-              let so = names-in-so t.values t0.after.sorts t.sorted
-              (env_at t0.after (length s.envs)) names t.terms en in
+              let so = names-in-so t.values t0.after.sorts t.sorted ks of_case.scope
+              (env_at t0.after (length s.envs)) names t0.ready.placed t.terms en in
               create-to m names so b z eb ez
-              (λ enter w under low.
-              to-make enter w under low
-              ∙ (λ i. walk_below enter p.program false below (m.comes.0 i)
+              (λ seating enter w under low.
+              to-make seating enter w under low
+              ∙ (λ i. walk_below enter p.program seating below (m.comes.0 i)
               ((made-by enter w under (traced b) (traced names) eb en
               ∙ ap (λ o. o >>= λ z. on 0 (made_walk w under a.y.params b names z)) ez) i))
-              ∙ ap (λ rs. into enter p.program below
+              ∙ ap (λ rs. walks_into seating enter p.program below
               (goals_of (ends m names so b z eb ez) (tasks_of again)) (record w {
                 values = t.values;
                 next = t0.later;
@@ -460,9 +495,10 @@ module _ (p : Checked) (regions : AllByRecursion (RegionFits p.program) p.progra
                 regions = rs;
               })) (in-place m names so b z eb ez w low))
               size (omega arith)
+              (either-on p ks t0.later again below t.values (ends m names so b z eb ez) top
               (law (knows m names so b z eb ez) t0.later (lim_then m names so b z eb ez) again below
               t.values t0.w (ends m names so b z eb ez) t0.left top small m.comes.1
-              (from-again m names so b z eb ez))
+              (from-again m names so b z eb ez)))
 
           made-any :
               (o : Traced ℤ) (q : Traced (List NameValue)) → number_in t.values (fresh s) ≡ o →
@@ -512,12 +548,14 @@ module _ (p : Checked) (regions : AllByRecursion (RegionFits p.program) p.progra
     case-answer passes =
         elim (law T (next +ℤ pos 1) (lim_with p.program lim next k) of_case kids new
         (fresh_values s (valuation vs) next) at_case held nothing_taken le a.comes.1 from-case) [
-          | inl wide ↦ inl (λ enter w under low.
-              node-to p ks T next enter (fact place n k args x) more j (by_create case) kids s
+          | inl wide ↦ inl (λ seating enter w under low.
+              let too_wide = wide-on p ks (next +ℤ pos 1) of_case kids new at_case nothing_taken
+              wide in
+              node-to p ks T next seating enter (fact place n k args x) more j (by_create case) kids s
               (goals_of at_case (tasks_of of_case)) (taking_from p ks next vs top under w)
               (taking_from p ks (next +ℤ pos 1) new nothing_taken (top ∷ under) w) a.comes.0
               (passes enter w under)
-              ∙ wide enter w (top ∷ under)
+              ∙ too_wide seating enter w (top ∷ under)
               (all-more (λ r. r.owned.region.number <ℤ next)
               (λ r. r.owned.region.number <ℤ (next +ℤ pos 1)) (λ r l. omega (arith, ints, l))
               w.regions low))
@@ -545,8 +583,8 @@ module _ (p : Checked) (regions : AllByRecursion (RegionFits p.program) p.progra
       by : (o : Traced (List NameValue)) → names_in vs (env_at s j.env) ≡ o → Answer
       by untold q = absurd (names-told vs s.sorts f.sorted (env_at s j.env) q)
       by past_width q =
-          inl (λ enter w under low.
-          node-wide p ks T next enter (fact place n k args x) more j (by_create case) kids s
+          inl (λ seating enter w under low.
+          node-wide p ks T next seating enter (fact place n k args x) more j (by_create case) kids s
           (taking_from p ks next vs top under w) (at enter w under past_width q))
       by (traced ns) q =
           case-answer
@@ -568,11 +606,13 @@ create-takes p regions ks size law T next lim j vs s c top case place n k args x
         (remaining (with_items j (item (fact place n k args x) more)) more) left)
         (AtNode p ks T next j (fact place n k args x) more (by_create case) kids vs (valuation vs)
         s c top) →
-        IsTooWide p ks next (with_items j (item (fact place n k args x) more))
+        IsWide p ks next (with_items j (item (fact place n k args x) more))
         (tree (node (by_create case) kids) no_trees) vs s top
         ⊎ TakesTo p ks T next (with_items j (item (fact place n k args x) more))
         (tree (node (by_create case) kids) no_trees) vs (valuation vs) s c top (suc size)
     by zero e h = absurd h.1
     by (suc left) e h =
-        create-here p regions ks size law T next lim j vs s c top case place n k args x more kids le
-        f left e h
+        either-at p ks next (with_items j (item (fact place n k args x) more))
+        (tree (node (by_create case) kids) no_trees) vs s top (omega (arith, e))
+        (create-here p regions ks size law T next lim j vs s c top case place n k args x more kids le
+        f left e h)

@@ -7,10 +7,12 @@ use Rattle.cap_lin.specs.Linear.{Linear}
 use Rattle.cap_galg.specs.Elements.{Element}
 use Rattle.cap_syntax.specs.declared.place.Place.{Place}
 use Rattle.cap_farkas.specs.declared.cert.Cert.{Cert}
+use Rattle.cap_lin.specs.declared.row.Sort.TheVariants.{Perm}
 use Rattle.cap_prog.specs.declared.assertion.Asked.{Asked}
 use Rattle.cap_prog.specs.Program.{atom, Items, item}
 use Rattle.cap_goal_spec.specs.States.{PlainEnv, PlainState, to_take, PlainGoal}
 use Rattle.cap_goal_spec.specs.Choices.{by_guard, node, PlainTrees, no_trees, tree}
+use Rattle.cap_goal_spec.specs.Environments.{asked_slot}
 use Rattle.cap_rules.specs.Making.{env_at}
 use Rattle.cap_machine_accounts.specs.Parts.{Part, guard_at, atom_guard}
 use Rattle.cap_machine_accounts.specs.Assertions.{NameValue}
@@ -25,7 +27,7 @@ use Rattle.cap_account_resources.proofs.Stocks.{Stock, guard_stock, both, inside
 use Rattle.cap_account_states.proofs.Alike.{Alike, usable-alike}
 use Rattle.cap_account_states.proofs.Brought.{Bring, Brings, piece_brings}
 use Rattle.cap_account_states.proofs.Checked.{Checked}
-use Rattle.cap_account_states.proofs.Guarding.{asked_of, is_open}
+use Rattle.cap_account_states.proofs.Guarding.{open_term, asked_of, is_open}
 use Rattle.cap_account_states.proofs.Items.{fits-more}
 use Rattle.cap_account_states.proofs.Meets.{Usable, Old}
 use Rattle.cap_account_states.proofs.Naming.{values_in, at-env}
@@ -43,9 +45,10 @@ use Rattle.cap_owners_values_laws.proofs.More.{FitsSort, number-told}
 use Rattle.cap_account.proofs.Stocked.{part_stock}
 use Rattle.cap_owners_laws.specs.Owned.{IsTold}
 use Rattle.cap_owners_parts_laws.proofs.Pieces.{more-told}
-use Rattle.cap_owners_passes_laws.proofs.Names.{NamesSo, met-facts}
+use Rattle.cap_owners_passes_laws.proofs.Bindings.{IsBoundIn, slot-binds}
+use Rattle.cap_owners_passes_laws.proofs.Names.{NamesSo, IsShaped, shaped-so, SharesBound, met-facts}
 use Rattle.cap_owners_passes_laws.proofs.Elements.{IsAskedValue, asked_value, asked-so, asked-met-so, asked-wildcards}
-use Rattle.cap_owners_passes_laws.proofs.Takes.{AreNameTerms, taking_from}
+use Rattle.cap_owners_passes_laws.proofs.Takes.{AreNameTerms, taking_on}
 use Rattle.cap_owners_passes_laws.proofs.Steps.{node-wide, AtNode, Passed, item-step}
 use Rattle.cap_owners_passes_laws.proofs.Plain.{Starting, Wide, Steps, named_top}
 
@@ -83,8 +86,9 @@ module _ (p : Checked) (ks : List ℕ) (T : Table) (next : ℤ) (lim : Holding) 
     pub sorted : AllZip FitsSort g.after.sorts new
     pub terms : AreNameTerms g.after.sorts g.later
     pub names :
-        NamesSo (valuation new) g.later
+        NamesSo j.scope new g.later
         (met (asked_reading env asked) value_is (record top.fill { names = ns })).names
+    pub keeps : SharesBound j.scope vs env → SharesBound j.scope new g.later
     pub by : List NameValue
     pub term : Linear
     pub is_value : IsAskedValue asked (valuation by) term value_is
@@ -101,9 +105,9 @@ module _ (p : Checked) (ks : List ℕ) (T : Table) (next : ℤ) (lim : Holding) 
       (enter : Interpreting) (w : Walk) (under : List Taking) →
       pass_task enter p.program s (by_guard k way cs)
       (to_take (item (atom place n r m asked) more) j.env j.most j.statement) j.tasks
-      (taking_from p ks next vs top under w)
+      (taking_on p ks vs top under w)
       ≡ pass_piece p.program s env k r m asked (named_top p ks T next lim j vs s c top ns)
-      (taking_from p ks next vs top under w)
+      (taking_on p ks vs top under w)
 
   -- by what is computed
   piece-by :
@@ -113,21 +117,21 @@ module _ (p : Checked) (ks : List ℕ) (T : Table) (next : ℤ) (lim : Holding) 
       atom_met vs ns g.piece.form (asked_reading env asked) ≡ y →
       pass_task enter p.program s (by_guard k way cs)
       (to_take (item (atom place n r m asked) more) j.env j.most j.statement) j.tasks
-      (taking_from p ks next vs top under w)
+      (taking_on p ks vs top under w)
       ≡ (a >>= λ a. y >>= λ y. asked_element asked y >>= λ e.
       with_more top.part a (atom_guard p.program r m e) >>= λ q.
-      on 0 (taking_from p ks next (vs ++ new_share asked (asked_reading env asked) y)
+      on 0 (taking_on p ks (vs ++ new_share asked (asked_reading env asked) y)
       (piece_top ns y q) under w))
   piece-by g ns pass enter w under a y ea ey =
       pass enter w under
       ∙ ap (λ o. found o >>= λ d. number_in vs d.region >>= λ a.
       atom_met vs ns d.form (asked_reading env asked) >>= λ y. asked_element asked y >>= λ e.
       with_more top.part a (atom_guard p.program r m e) >>= λ q.
-      on 0 (taking_from p ks next (vs ++ new_share asked (asked_reading env asked) y)
+      on 0 (taking_on p ks (vs ++ new_share asked (asked_reading env asked) y)
       (piece_top ns y q) under w)) g.at
       ∙ (λ i. ea i >>= λ a. ey i >>= λ y. asked_element asked y >>= λ e.
       with_more top.part a (atom_guard p.program r m e) >>= λ q.
-      on 0 (taking_from p ks next (vs ++ new_share asked (asked_reading env asked) y)
+      on 0 (taking_on p ks (vs ++ new_share asked (asked_reading env asked) y)
       (piece_top ns y q) under w))
 
   module _ (g : Found) (ns : List NameValue) (x : Value g ns) where
@@ -194,6 +198,18 @@ module _ (p : Checked) (ks : List ℕ) (T : Table) (next : ℤ) (lim : Holding) 
           terms = subst (AreNameTerms g.after.sorts) (sym here) x.terms;
           now = piece_top ns x.value_is q;
           names = ap (values_in (valuation x.new)) here ∙ x.names.same;
+          have = x.names.fits;
+          binds_it = λ i has e.
+              subst (λ d. IsBoundIn d i) (sym here)
+              (subst (λ d. IsBoundIn d i) (sym g.later_is)
+              (slot-binds env (asked_slot asked) (open_term asked g.piece.form (length s.sorts)) i
+              (f.start.ready.placed.room i Perm has) e));
+          shaped =
+              subst (λ d. IsShaped j.scope vs env x.new d (piece_top ns x.value_is q).fill.names)
+              (sym here)
+              (shaped-so j.scope vs env x.new g.later (piece_top ns x.value_is q).fill.names
+              (new_share asked (asked_reading env asked) x.value_is) (sym x.new_is) x.names
+              x.keeps);
           wildcards = asked_value asked x.value_is;
           facts = [];
           more_wildcards = asked-wildcards env asked x.value_is (record top.fill { names = ns });
@@ -209,14 +225,14 @@ module _ (p : Checked) (ks : List ℕ) (T : Table) (next : ℤ) (lim : Holding) 
           passes = λ enter w under.
               piece-by g ns pass enter w under (traced a) (traced x.value_is) ea x.found_it
               ∙ ap (λ o. o >>= λ e. with_more top.part a (atom_guard pp r m e) >>= λ q.
-              on 0 (taking_from p ks next
+              on 0 (taking_on p ks
               (vs ++ new_share asked (asked_reading env asked) x.value_is)
               (piece_top ns x.value_is q) under w)) ee
               ∙ ap (λ o. o >>= λ q.
-              on 0 (taking_from p ks next
+              on 0 (taking_on p ks
               (vs ++ new_share asked (asked_reading env asked) x.value_is)
               (piece_top ns x.value_is q) under w)) eq
-              ∙ ap (λ us. on 0 (taking_from p ks next us (piece_top ns x.value_is q) under w))
+              ∙ ap (λ us. on 0 (taking_on p ks us (piece_top ns x.value_is q) under w))
               x.new_is;
         }
 
@@ -236,16 +252,16 @@ module _ (p : Checked) (ks : List ℕ) (T : Table) (next : ℤ) (lim : Holding) 
         (guard_stock a (Some (atom_guard p.program r m e)))) o → Answer
     piece-put pass a e ea ee is untold eq put = absurd put
     piece-put pass a e ea ee is past_width eq put =
-        inl (λ enter w under below.
-        node-wide p ks T next enter (atom place n r m asked) more j (by_guard k way cs) kids s
-        (taking_from p ks next vs top under w)
+        inl (λ seating enter w under below.
+        node-wide p ks T next seating enter (atom place n r m asked) more j (by_guard k way cs) kids s
+        (taking_on p ks vs top under w)
         (piece-by g ns pass enter w under (traced a) (traced x.value_is) ea x.found_it
         ∙ ap (λ o. o >>= λ e. with_more top.part a (atom_guard p.program r m e) >>= λ q.
-        on 0 (taking_from p ks next
+        on 0 (taking_on p ks
         (vs ++ new_share asked (asked_reading env asked) x.value_is)
         (piece_top ns x.value_is q) under w)) ee
         ∙ ap (λ o. o >>= λ q.
-        on 0 (taking_from p ks next
+        on 0 (taking_on p ks
         (vs ++ new_share asked (asked_reading env asked) x.value_is)
         (piece_top ns x.value_is q) under w)) eq))
     piece-put pass a e ea ee is (traced q) eq put =
@@ -260,12 +276,12 @@ module _ (p : Checked) (ks : List ℕ) (T : Table) (next : ℤ) (lim : Holding) 
         asked_element asked x.value_is ≡ o → IsTold (λ e. e ≡ g.taken) o → Answer
     piece-asked pass a ea untold eo so = absurd so
     piece-asked pass a ea past_width eo so =
-        inl (λ enter w under below.
-        node-wide p ks T next enter (atom place n r m asked) more j (by_guard k way cs) kids s
-        (taking_from p ks next vs top under w)
+        inl (λ seating enter w under below.
+        node-wide p ks T next seating enter (atom place n r m asked) more j (by_guard k way cs) kids s
+        (taking_on p ks vs top under w)
         (piece-by g ns pass enter w under (traced a) (traced x.value_is) ea x.found_it
         ∙ ap (λ o. o >>= λ e. with_more top.part a (atom_guard p.program r m e) >>= λ q.
-        on 0 (taking_from p ks next
+        on 0 (taking_on p ks
         (vs ++ new_share asked (asked_reading env asked) x.value_is)
         (piece_top ns x.value_is q) under w)) eo))
     piece-asked pass a ea (traced e) eo so =
@@ -278,9 +294,9 @@ module _ (p : Checked) (ks : List ℕ) (T : Table) (next : ℤ) (lim : Holding) 
         PiecePasses ns → (o : Traced ℤ) → number_in vs g.piece.region ≡ o → Answer
     piece-at pass untold eo = absurd (number-told vs g.piece.region eo)
     piece-at pass past_width eo =
-        inl (λ enter w under below.
-        node-wide p ks T next enter (atom place n r m asked) more j (by_guard k way cs) kids s
-        (taking_from p ks next vs top under w)
+        inl (λ seating enter w under below.
+        node-wide p ks T next seating enter (atom place n r m asked) more j (by_guard k way cs) kids s
+        (taking_on p ks vs top under w)
         (piece-by g ns pass enter w under past_width
         (atom_met vs ns g.piece.form (asked_reading env asked)) eo refl))
     piece-at pass (traced a) eo =
@@ -306,12 +322,12 @@ module _ (p : Checked) (ks : List ℕ) (T : Table) (next : ℤ) (lim : Holding) 
           (tree (node (by_guard k way cs) kids) no_trees)
       by untold eo = absurd (number-told vs g.piece.region eo)
       by past_width eo =
-          inl (λ enter w under below.
-          node-wide p ks T next enter (atom place n r m asked) more j (by_guard k way cs) kids s
-          (taking_from p ks next vs top under w)
+          inl (λ seating enter w under below.
+          node-wide p ks T next seating enter (atom place n r m asked) more j (by_guard k way cs) kids s
+          (taking_on p ks vs top under w)
           (piece-by g ns pass enter w under past_width past_width eo wide))
       by (traced a) eo =
-          inl (λ enter w under below.
-          node-wide p ks T next enter (atom place n r m asked) more j (by_guard k way cs) kids s
-          (taking_from p ks next vs top under w)
+          inl (λ seating enter w under below.
+          node-wide p ks T next seating enter (atom place n r m asked) more j (by_guard k way cs) kids s
+          (taking_on p ks vs top under w)
           (piece-by g ns pass enter w under (traced a) past_width eo wide))

@@ -40,9 +40,10 @@ use Rattle.cap_owners_fills_laws.proofs.Drawn.{slot_met, slots_met}
 use Rattle.cap_owners_walks_laws.proofs.Leading.{node-leads}
 use Rattle.cap_account.proofs.Stocked.{part_stock}
 use Rattle.cap_owners_laws.specs.Owned.{IsTold}
-use Rattle.cap_owners_passes_laws.proofs.Names.{met-terms}
-use Rattle.cap_owners_passes_laws.proofs.Slots.{MetSo, all-met}
-use Rattle.cap_owners_passes_laws.proofs.Takes.{IsNameTerm, AreNameTerms, taking_from}
+use Rattle.cap_owners_passes_laws.proofs.Bindings.{fact-int}
+use Rattle.cap_owners_passes_laws.proofs.Names.{met-terms, IsShaped, shaped-same, SharesBound}
+use Rattle.cap_owners_passes_laws.proofs.Slots.{MetSo, all-met, shares-all}
+use Rattle.cap_owners_passes_laws.proofs.Takes.{IsNameTerm, AreNameTerms, taking_on}
 use Rattle.cap_owners_passes_laws.proofs.Steps.{node-wide, AtNode, Passed, item-step}
 use Rattle.cap_owners_passes_laws.proofs.Plain.{Starting, Wide, Steps, named_top, with-names}
 
@@ -105,10 +106,10 @@ module _ (p : Checked) (ks : List ℕ) (T : Table) (next : ℤ) (lim : Holding) 
       (enter : Interpreting) (w : Walk) (under : List Taking) →
       pass_task enter p.program s (by_region k cs)
       (to_take (item (fact place n r args y) more) j.env j.most j.statement) j.tasks
-      (taking_from p ks next vs top under w)
+      (taking_on p ks vs top under w)
       ≡ pass_item p.program s (by_region k cs) (fact place n r args y) more j.env j.most
       j.statement j.tasks (named_top p ks T next lim j vs s c top ns)
-      (taking_from p ks next vs top under w)
+      (taking_on p ks vs top under w)
 
   abbrev named : List NameValue → Fill
   named ns = record top.fill { names = ns }
@@ -121,16 +122,16 @@ module _ (p : Checked) (ks : List ℕ) (T : Table) (next : ℤ) (lim : Holding) 
       all_met vs (map (reading env) slots) (terms g) (named ns) ≡ x →
       pass_task enter p.program s (by_region k cs)
       (to_take (item (fact place n r args y) more) j.env j.most j.statement) j.tasks
-      (taking_from p ks next vs top under w)
+      (taking_on p ks vs top under w)
       ≡ (a >>= λ a. z >>= λ z. x >>= λ x.
-      on 0 (taking_from p ks next vs (fact_top x a z) under w))
+      on 0 (taking_on p ks vs (fact_top x a z) under w))
   fact-by g ns pass enter w under a z x ea ez ex =
       pass enter w under
       ∙ ap (λ o. found o >>= λ d. number_in vs d.region >>= λ a. number_in vs d.state >>= λ z.
       all_met vs (map (reading env) slots) (d.region ∷ (d.args ++ d.state ∷ [])) (named ns)
-      >>= λ x. on 0 (taking_from p ks next vs (fact_top x a z) under w)) g.is_fact
+      >>= λ x. on 0 (taking_on p ks vs (fact_top x a z) under w)) g.is_fact
       ∙ (λ i. ea i >>= λ a. ez i >>= λ z. ex i >>= λ x.
-      on 0 (taking_from p ks next vs (fact_top x a z) under w))
+      on 0 (taking_on p ks vs (fact_top x a z) under w))
 
   abbrev TopSo : Found → List NameValue → Fill → Type 0
   TopSo g ns x =
@@ -165,6 +166,18 @@ module _ (p : Checked) (ks : List ℕ) (T : Table) (next : ℤ) (lim : Holding) 
             (terms-over (Usable ks s.sorts Int) d g.firm g.over)) f.terms);
         now = fact_top x a z;
         names = ap (values_in v) later ∙ so.0.same;
+        have = so.0.fits;
+        binds_it = λ x has e.
+            absurd (fact-int j.scope x n args y f.start.fits.0.0
+            (slots-fit j.scope (slice_get p.program.regions r) args y f.start.fits.0.1) has e);
+        shaped =
+            subst (λ e. IsShaped j.scope vs env vs e (fact_top x a z).fill.names) (sym later)
+            (shaped-same j.scope vs env g.met.later (fact_top x a z).fill.names so.0
+            (λ b. subst (SharesBound j.scope vs) (sym g.met.later_is)
+            (shares-all j.scope vs env slots (terms g) (
+              (f.start.fits.0.0, tt),
+              slots-fit j.scope (slice_get p.program.regions r) args y f.start.fits.0.1,
+            ) b)));
         wildcards = slots_met args zs ++ slot_met y sz;
         facts = (a, z) ∷ [];
         more_wildcards =
@@ -205,19 +218,19 @@ module _ (p : Checked) (ks : List ℕ) (T : Table) (next : ℤ) (lim : Holding) 
       absurd (number-told vs g.fact_there.state ez)
   fact-at g ns pass (traced a) (traced z) untold ea ez ex so = absurd so
   fact-at g ns pass past_width z x ea ez ex so =
-      inl (λ enter w under below.
-      node-wide p ks T next enter (fact place n r args y) more j (by_region k cs) kids s
-      (taking_from p ks next vs top under w)
+      inl (λ seating enter w under below.
+      node-wide p ks T next seating enter (fact place n r args y) more j (by_region k cs) kids s
+      (taking_on p ks vs top under w)
       (fact-by g ns pass enter w under past_width z x ea ez ex))
   fact-at g ns pass (traced a) past_width x ea ez ex so =
-      inl (λ enter w under below.
-      node-wide p ks T next enter (fact place n r args y) more j (by_region k cs) kids s
-      (taking_from p ks next vs top under w)
+      inl (λ seating enter w under below.
+      node-wide p ks T next seating enter (fact place n r args y) more j (by_region k cs) kids s
+      (taking_on p ks vs top under w)
       (fact-by g ns pass enter w under (traced a) past_width x ea ez ex))
   fact-at g ns pass (traced a) (traced z) past_width ea ez ex so =
-      inl (λ enter w under below.
-      node-wide p ks T next enter (fact place n r args y) more j (by_region k cs) kids s
-      (taking_from p ks next vs top under w)
+      inl (λ seating enter w under below.
+      node-wide p ks T next seating enter (fact place n r args y) more j (by_region k cs) kids s
+      (taking_on p ks vs top under w)
       (fact-by g ns pass enter w under (traced a) (traced z) past_width ea ez ex))
   fact-at g ns pass (traced a) (traced z) (traced x) ea ez ex so =
       inr (item-step p ks T next j (fact place n r args y) more (by_region k cs) kids vs v s c top

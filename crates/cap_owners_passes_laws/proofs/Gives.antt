@@ -22,7 +22,7 @@ use Rattle.cap_machine_accounts.specs.Assertions.{NameValue}
 use Rattle.cap_account_resources.specs.Parts.{Table}
 use Rattle.cap_account_resources.proofs.Lists.{some-same, join-nil, join-assoc, all-first, all-second}
 use Rattle.cap_account_resources.proofs.Order.{unless-relates}
-use Rattle.cap_account_resources.proofs.Stocks.{Stock, both, Composes, inside-same}
+use Rattle.cap_account_resources.proofs.Stocks.{Stock, both, Composes, stock-laws, none-right, inside-same}
 use Rattle.cap_account_states.specs.Nodes.{Comes, Children, Open}
 use Rattle.cap_account_states.proofs.Attempts.{comes-bind, after-comparison, row_added}
 use Rattle.cap_account_states.proofs.Meets.{solves}
@@ -45,10 +45,13 @@ use Rattle.cap_owners_spec.specs.Filling as filling
 use Rattle.cap_owners_spec.specs.Walks.{Walk, Descent, descends, bringing, side_child, no_items, left_fill, Interpreting, pass_parting, Halt, walk_below}
 use Rattle.cap_owners_values_laws.proofs.More.{FitsSort}
 use Rattle.cap_owners_fills_laws.proofs.Drawn.{item_met, items_met, met-join}
+use Rattle.cap_owners_fills_laws.proofs.Amounts.{item_drawn, items_drawn, drawn-join}
 use Rattle.cap_owners_fills_laws.proofs.Giving as giving
 use Rattle.cap_owners_fills_laws.proofs.Siding.{is_first, side-picked}
 use Rattle.cap_owners_walks_laws.proofs.Leading.{comes-itself, node-leads}
-use Rattle.cap_owners_passes_laws.proofs.Rests.{into, below-wide}
+use Rattle.cap_owners_passes_laws.proofs.Rests.{walks_into, below-wide}
+use Rattle.cap_owners_parts_laws.proofs.Held.{IsOf}
+use Rattle.cap_owners_passes_laws.proofs.Exactly.{of-step, item-just}
 use Rattle.cap_owners_passes_laws.proofs.Sorting.{SortsSo, sides-sorted, item-sorted}
 
 -- a walk goes there, or a number on its way is too wide
@@ -57,39 +60,39 @@ GoesTo x y = (x ≡ past_width) ⊎ (x ≡ y)
 
 -- ---- into the trees of two sides
 
-module _ (enter : Interpreting) (p : PlainProgram) where
+module _ (seating : Bool) (enter : Interpreting) (p : PlainProgram) where
   below-first :
       (ks : PlainTrees) (one : Option PlainGoal) (g : PlainGoal) (hs : List PlainGoal) (w : Walk) →
       one ≡ Some g →
-      walk_below enter p false ks (option_to_list one ++ hs) (traced (descends (Some 0) w))
-      ≡ into enter p (first_trees (length (option_to_list one)) ks) (option_to_list one) w
+      walk_below enter p seating ks (option_to_list one ++ hs) (traced (descends (Some 0) w))
+      ≡ walks_into seating enter p (first_trees (length (option_to_list one)) ks) (option_to_list one) w
   below-first ks one g hs w e =
       subst (λ o.
-      walk_below enter p false ks (option_to_list o ++ hs) (traced (descends (Some 0) w))
-      ≡ into enter p (first_trees (length (option_to_list o)) ks) (option_to_list o) w) (sym e)
+      walk_below enter p seating ks (option_to_list o ++ hs) (traced (descends (Some 0) w))
+      ≡ walks_into seating enter p (first_trees (length (option_to_list o)) ks) (option_to_list o) w) (sym e)
       (by ks)
     where
       by :
           (ks : PlainTrees) →
-          walk_below enter p false ks (g ∷ hs) (traced (descends (Some 0) w))
-          ≡ into enter p (first_trees 1 ks) (g ∷ []) w
+          walk_below enter p seating ks (g ∷ hs) (traced (descends (Some 0) w))
+          ≡ walks_into seating enter p (first_trees 1 ks) (g ∷ []) w
       by no_trees = refl
       by (tree t ts) = refl
 
   below-later :
       (ks : PlainTrees) (one : Option PlainGoal) (g : PlainGoal) (hs : List PlainGoal) (w : Walk) →
       one ≡ Some g →
-      walk_below enter p false ks (option_to_list one ++ hs) (traced (descends (Some 1) w))
-      ≡ into enter p (later_trees (length (option_to_list one)) ks) hs w
+      walk_below enter p seating ks (option_to_list one ++ hs) (traced (descends (Some 1) w))
+      ≡ walks_into seating enter p (later_trees (length (option_to_list one)) ks) hs w
   below-later ks one g hs w e =
       subst (λ o.
-      walk_below enter p false ks (option_to_list o ++ hs) (traced (descends (Some 1) w))
-      ≡ into enter p (later_trees (length (option_to_list o)) ks) hs w) (sym e) (by ks hs)
+      walk_below enter p seating ks (option_to_list o ++ hs) (traced (descends (Some 1) w))
+      ≡ walks_into seating enter p (later_trees (length (option_to_list o)) ks) hs w) (sym e) (by ks hs)
     where
       by :
           (ks : PlainTrees) (hs : List PlainGoal) →
-          walk_below enter p false ks (g ∷ hs) (traced (descends (Some 1) w))
-          ≡ into enter p (later_trees 1 ks) hs w
+          walk_below enter p seating ks (g ∷ hs) (traced (descends (Some 1) w))
+          ≡ walks_into seating enter p (later_trees 1 ks) hs w
       by no_trees [] = refl
       by no_trees (h ∷ hs) = refl
       by (tree t ts) hs = refl
@@ -137,26 +140,44 @@ module _ (p : Checked) (T : Table) (sc : Scope) (e : ℕ) (names : List NameValu
     pub valued : given.w ≡ valuation values
     pub sorted : AllZip FitsSort given.after.sorts values
     pub walks :
-        (enter : Interpreting) (w : Walk) (fs : List (ℤ × ℤ)) →
+        (seating : Bool) (enter : Interpreting) (w : Walk) (fs : List (ℤ × ℤ)) →
         GoesTo
-        (into enter p.program trees (goals_of s (to_give items e n ∷ ts))
+        (walks_into seating enter p.program trees (goals_of s (to_give items e n ∷ ts))
         (to_start items vs ws fs w))
-        (into enter p.program given.children (goals_of given.after ts) (to_end items values w))
+        (walks_into seating enter p.program given.children (goals_of given.after ts) (to_end items values w))
+
+  -- a state that has just a stock has just so much more once it is given
+  abbrev JustMore : (v : Valuation) (s : PlainState) → IsGiven v s → Stock → Type 0
+  JustMore v s given more =
+      (q : Stock) → IsOf p.program v s q → IsOf p.program given.w given.after (both p.program q more)
+
+  pub record GivesJust (items : Items) (trees : PlainTrees) (vs ws : List NameValue)
+      (v : Valuation) (s : PlainState) (more : Stock) : Type 0 where
+    pub gives : GivesTo items trees vs ws v s
+    pub just : JustMore v s gives.given more
+
+  -- what is drawn
+  abbrev drawn_by :
+      (way : PlainTrees → PlainTrees) (items : Items) (v : Valuation) (s : PlainState) →
+      IsDue way items v s → Stock
+  drawn_by way items v s d = items_drawn p.program T a items d.left d.rest d.draws
 
   -- midway in the node of a state, with these items left
   record ListTo (items : Items) (kids : PlainTrees) (gs : List PlainGoal) (s0 : PlainState)
-      (vs : List NameValue) (g : filling.Giving) (v : Valuation) (s : PlainState) : Type 0 where
+      (vs : List NameValue) (g : filling.Giving) (v : Valuation) (s : PlainState) (more : Stock)
+      : Type 0 where
     given : IsGiven v s
+    just : JustMore v s given more
     values : List NameValue
     valued : given.w ≡ valuation values
     sorted : AllZip FitsSort given.after.sorts values
     walks :
-        (enter : Interpreting) (w : Walk) (ws : List NameValue) (fs : List (ℤ × ℤ)) →
+        (seating : Bool) (enter : Interpreting) (w : Walk) (ws : List NameValue) (fs : List (ℤ × ℤ)) →
         GoesTo
-        (walk_below enter p.program false kids gs
+        (walk_below enter p.program seating kids gs
         (pass_parting s0 e n ts (fill_of ws fs) (filling.give_all names items g)
         (record w { values = vs }) (filling.parting items)))
-        (into enter p.program given.children (goals_of given.after ts)
+        (walks_into seating enter p.program given.children (goals_of given.after ts)
         (record w { values = values; fill = None }))
 
   -- the goals of the node are these, and each has its tree
@@ -187,16 +208,18 @@ module _ (p : Checked) (T : Table) (sc : Scope) (e : ℕ) (names : List NameValu
       (kids : PlainTrees) (gs : List PlainGoal) (s0 : PlainState) (vs : List NameValue)
       (g : filling.Giving) (v : Valuation) (s : PlainState) →
       Comes (give p.program s e n ts items) (Here kids gs) → (d : IsDue way items v s) →
-      So way items vs g v s d → Sorted vs g s → ListTo items kids gs s0 vs g v s
+      So way items vs g v s d → Sorted vs g s →
+      ListTo items kids gs s0 vs g v s (drawn_by way items v s d)
 
   none-to : (way : PlainTrees → PlainTrees) → ListLeads way none
   none-to way kids gs s0 vs g v s h d so sorted = record {
     given = (given-none p T sc e a total goal_is ne n ts way kids v s h.1.1 d).given;
+    just = λ q o. subst (IsOf p.program v s) (sym (none-right p.program q)) o;
     values = vs ++ g.new;
     valued = so.values;
     sorted = sorted;
-    walks = λ enter w ws fs.
-        inr (ap (λ hs. walk_below enter p.program false kids hs
+    walks = λ seating enter w ws fs.
+        inr (ap (λ hs. walk_below enter p.program seating kids hs
         (traced (descends (Some 0) (record w { values = vs ++ g.new; fill = None })))) h.1.0);
   }
 
@@ -210,7 +233,7 @@ module _ (p : Checked) (T : Table) (sc : Scope) (e : ℕ) (names : List NameValu
       Comes (give_item p.program s e i)
       (λ t. Comes (give p.program t e n ts more) (Here kids gs)) →
       (d : IsDue way (item i more) v s) → So way (item i more) vs g v s d → Sorted vs g s →
-      ListTo (item i more) kids gs s0 vs g v s
+      ListTo (item i more) kids gs s0 vs g v s (drawn_by way (item i more) v s d)
   after-to way i more plain law same_parting same_all kids gs s0 vs g v s h d so sorted =
       let P = λ (t : PlainState). Comes (give p.program t e n ts more) (Here kids gs) in
       let Q = λ (t : PlainState). ((give_item p.program s e i).value ≡ Some t) × P t in
@@ -237,20 +260,35 @@ module _ (p : Checked) (T : Table) (sc : Scope) (e : ℕ) (names : List NameValu
       let same_state = some-same y.0 x.after (sym y.2.0 ∙ x.comes.0) in
       let r = law kids gs s0 vs now x.w x.after x.comes.1 x.due next
       (subst (Sorted vs now) same_state y.1.sorted) in
+      -- and it has just what is drawn
+      let z = item-just p.program T sc e a total goal_is way ne i plain more v s Q d hq in
+      let one = item_drawn p.program T a i d.left d.draws.0 d.draws.1 in
       record {
         given = (given-on p T e v x.w total s x.after ts goal_is r.given.children x.onward
             (record { given = r.given; along = refl })).given;
+        just = λ q o.
+            subst (IsOf p.program r.given.w r.given.after)
+            (ap (both p.program (both p.program q one))
+            (ap (λ (y : StillDrawn p.program T sc e a total goal_is way more).
+            items_drawn p.program T a more y.0 y.1 y.2) x.drawn)
+            ∙ (stock-laws p.program).assoc q one
+            (items_drawn p.program T a more d.draws.0 d.rest d.draws.2))
+            (r.just (both p.program q one)
+            (subst (λ w. IsOf p.program w x.after (both p.program q one))
+            (ap (λ (f : Filled). f.values) (z.filled ∙ sym x.filled))
+            (subst (λ t. IsOf p.program z.w t (both p.program q one))
+            (some-same z.after x.after (sym z.comes.0 ∙ x.comes.0)) (z.just q o))));
         values = r.values;
         valued = r.valued;
         sorted = r.sorted;
-        walks = λ enter w ws fs.
-            let same = ap (λ all. walk_below enter p.program false kids gs
+        walks = λ seating enter w ws fs.
+            let same = ap (λ all. walk_below enter p.program seating kids gs
             (pass_parting s0 e n ts (fill_of ws fs) all (record w { values = vs })
             (filling.parting (item i more)))) (same_all g)
-            ∙ ap (λ o. walk_below enter p.program false kids gs
+            ∙ ap (λ o. walk_below enter p.program seating kids gs
             (pass_parting s0 e n ts (fill_of ws fs) (filling.give_all names more now)
             (record w { values = vs }) o)) same_parting in
-            elim (r.walks enter w ws fs) [
+            elim (r.walks seating enter w ws fs) [
               | inl wide ↦ inl (same ∙ wide)
               | inr on ↦ inr (same ∙ on)
             ];
@@ -264,7 +302,8 @@ module _ (p : Checked) (T : Table) (sc : Scope) (e : ℕ) (names : List NameValu
       (way : PlainTrees → PlainTrees) (items : Items) → items_size items ≤ size →
       (ks : PlainTrees) (vs ws : List NameValue) (v : Valuation) (s : PlainState) →
       Open p.N ks s (to_give items e n ∷ ts) → (d : IsDue way items v s) → v ≡ valuation vs →
-      AllZip FitsSort s.sorts vs → ws ≡ met_by way items v s d → GivesTo items ks vs ws v s
+      AllZip FitsSort s.sorts vs → ws ≡ met_by way items v s d →
+      GivesJust items ks vs ws v s (drawn_by way items v s d)
 
   remains-give :
       (s : PlainState) (items : Items) →
@@ -305,15 +344,19 @@ module _ (p : Checked) (T : Table) (sc : Scope) (e : ℕ) (names : List NameValu
         items_met p.program T a (item (choose c x y) more) d.left d.rest d.draws
         ≡ items_met p.program T a side d.left d.draws.0 took
         ++ items_met p.program T a more d.draws.0 d.rest d.draws.2 →
+        items_drawn p.program T a (item (choose c x y) more) d.left d.rest d.draws
+        ≡ both p.program (items_drawn p.program T a side d.left d.draws.0 took)
+        (items_drawn p.program T a more d.draws.0 d.rest d.draws.2) →
         items_size (append_items side more) ≤ size → (ls : PlainTrees) →
         Open p.N ls t (to_give (append_items side more) e n ∷ ts) → (b : Bool) →
         (holds_by names c ≡ past_width) ⊎ (holds_by names c ≡ traced b) →
         rest_of b ≡ append_items side more →
-        ((enter : Interpreting) (w : Walk) → walk_below enter p.program false kids gs
+        ((seating : Bool) (enter : Interpreting) (w : Walk) → walk_below enter p.program seating kids gs
         (traced (descends (side_child b (goals_of s0 (to_give (append_items x more) e n ∷ ts))) w))
-        ≡ into enter p.program ls (goals_of t (to_give (append_items side more) e n ∷ ts)) w) →
+        ≡ walks_into seating enter p.program ls (goals_of t (to_give (append_items side more) e n ∷ ts)) w) →
         ListTo (item (choose c x y) more) kids gs s0 vs g v s
-    side-to fit took filled fills met small ls open_there b picked side_is walks =
+        (drawn_by way (item (choose c x y) more) v s d)
+    side-to fit took filled fills met drawn small ls open_there b picked side_is walks =
         let due = side-due p T sc e a total goal_is ne n ts way c x y side more v s t d m fit took
         filled fills in
         let behind = λ (ks : PlainTrees). items_trees p.program T a more false d.draws.0 d.rest
@@ -321,37 +364,43 @@ module _ (p : Checked) (T : Table) (sc : Scope) (e : ℕ) (names : List NameValu
         let all = append_items side more in
         let given_so = giving.sides-give sc names vs ok
         (met_by way (item (choose c x y) more) v s d) c g (filled_at e v s) d.fit.0 so in
-        let r = law behind all small ls (vs ++ now.new) now.wildcards m.w t open_there due
+        let all_just = law behind all small ls (vs ++ now.new) now.wildcards m.w t open_there due
         (ap (λ (f : Filled). f.values) filled ∙ given_so.values) sorted
         (given_so.wildcards
         ∙ ap (λ ws. ws ++ left)
         (met ∙ sym (met-join p.program T a side more d.left d.draws.0 d.rest took d.draws.2))) in
+        let r = all_just.gives in
         record {
           given = (given-on p T e v m.w total s t ts goal_is r.given.children
               (onward-step sc e a v s t m) (record { given = r.given; along = refl })).given;
+          just = λ q o.
+              subst (λ z. IsOf p.program r.given.w r.given.after (both p.program q z))
+              (drawn-join p.program T a side more d.left d.draws.0 d.rest took d.draws.2
+              ∙ sym drawn)
+              (all_just.just q (of-step p.program T sc e a v s t d.held q d.underway m o));
           values = r.values;
           valued = r.valued;
           sorted = r.sorted;
-          walks = λ enter w ws fs. elim picked [
+          walks = λ seating enter w ws fs. elim picked [
             | inl wide ↦
-                inl (ap (λ o. walk_below enter p.program false kids gs (o >>= side_walk ws fs w))
-                wide ∙ below-wide enter p.program false kids gs)
+                inl (ap (λ o. walk_below enter p.program seating kids gs (o >>= side_walk ws fs w))
+                wide ∙ below-wide enter p.program seating kids gs)
             | inr told ↦
-                let there = ap (λ o. walk_below enter p.program false kids gs
+                let there = ap (λ o. walk_below enter p.program seating kids gs
                 (o >>= side_walk ws fs w)) told
-                ∙ ap (λ it. walk_below enter p.program false kids gs
+                ∙ ap (λ it. walk_below enter p.program seating kids gs
                 (traced (descends
                 (side_child b (goals_of s0 (to_give (append_items x more) e n ∷ ts)))
                 (record (bringing (record w { values = vs }) now.new) {
                   fill = left_fill it (fill_of ws fs) now;
                 })))) side_is
-                ∙ walks enter (record (bringing (record w { values = vs }) now.new) {
+                ∙ walks seating enter (record (bringing (record w { values = vs }) now.new) {
                   fill = left_fill all (fill_of ws fs) now;
                 }) in
-                elim (r.walks enter (record w { fill = None }) fs) [
+                elim (r.walks seating enter (record w { fill = None }) fs) [
                   | inl wide ↦ inl (there ∙ wide)
                   | inr on ↦ inr (there ∙ on
-                      ∙ ap (λ o. into enter p.program r.given.children (goals_of r.given.after ts)
+                      ∙ ap (λ o. walks_into seating enter p.program r.given.children (goals_of r.given.after ts)
                       (record w { values = r.values; fill = o }))
                       (none-either (no_items all) None refl))
                 ]
@@ -390,32 +439,36 @@ module _ (p : Checked) (T : Table) (sc : Scope) (e : ℕ) (names : List NameValu
       (items_met p.program T a (item (choose c x y) more) d.left d.rest d.draws
       ≡ item_met p.program T a (choose c x y) d.left d.draws.0 o
       ++ items_met p.program T a more d.draws.0 d.rest d.draws.2) →
+      (items_drawn p.program T a (item (choose c x y) more) d.left d.rest d.draws
+      ≡ both p.program (item_drawn p.program T a (choose c x y) d.left d.draws.0 o)
+      (items_drawn p.program T a more d.draws.0 d.rest d.draws.2)) →
       (holds_by names c ≡ past_width) ⊎ (holds_by names c ≡ traced (is_first o)) →
-      ListTo (item (choose c x y) more) kids gs s0 vs g v s) [
-        | inl w ↦ λ fills met picked.
+      ListTo (item (choose c x y) more) kids gs s0 vs g v s
+      (drawn_by way (item (choose c x y) more) v s d)) [
+        | inl w ↦ λ fills met drawn picked.
             side-to way c x y x more kids gs s0 vs g v s d so (after c.op)
             (sides-row sc e a v s c c.op _ sg w.0) sides_sorted size law
             (all-first (ItemFits p.program sc) (all_items x) (all_items y) fit) w.1 sg.filled fills
-            met small_x k.left k.first true picked refl
-            (λ enter w. ap (λ hs. walk_below enter p.program false kids hs
+            met drawn small_x k.left k.first true picked refl
+            (λ seating enter w. ap (λ hs. walk_below enter p.program seating kids hs
             (traced (descends (side_child true (goals_of s0 (todo x))) w))) second.1.0
-            ∙ ap (λ o. walk_below enter p.program false kids
+            ∙ ap (λ o. walk_below enter p.program seating kids
             (option_to_list one ++ option_to_list other)
             (traced (descends (side_child true (option_to_list o)) w))) at.1
-            ∙ below-first enter p.program kids one there.0 (option_to_list other) w there.1)
-        | inr w ↦ λ fills met picked.
+            ∙ below-first seating enter p.program kids one there.0 (option_to_list other) w there.1)
+        | inr w ↦ λ fills met drawn picked.
             side-to way c x y y more kids gs s0 vs g v s d so (after (opposite c.op))
             (sides-row sc e a v s c (opposite c.op) _ sg (unless-relates c.op _ _ w.0)) sides_sorted size
             law
             (all-second (ItemFits p.program sc) (all_items x) (all_items y) fit) w.1 sg.filled fills
-            met small_y k.right k.second false picked refl
-            (λ enter w. ap (λ hs. walk_below enter p.program false kids hs
+            met drawn small_y k.right k.second false picked refl
+            (λ seating enter w. ap (λ hs. walk_below enter p.program seating kids hs
             (traced (descends (side_child false (goals_of s0 (todo x))) w))) second.1.0
-            ∙ ap (λ o. walk_below enter p.program false kids
+            ∙ ap (λ o. walk_below enter p.program seating kids
             (option_to_list one ++ option_to_list other)
             (traced (descends (side_child false (option_to_list o)) w))) at.1
-            ∙ below-later enter p.program kids one there.0 (option_to_list other) w there.1)
-      ]) d.fills refl (side-picked p.program T names c x y d.left d.draws.0 d.draws.1)
+            ∙ below-later seating enter p.program kids one there.0 (option_to_list other) w there.1)
+      ]) d.fills refl refl (side-picked p.program T names c x y d.left d.draws.0 d.draws.1)
 
   -- ---- all items
 
@@ -453,7 +506,7 @@ module _ (p : Checked) (T : Table) (sc : Scope) (e : ℕ) (names : List NameValu
       (vs ws : List NameValue) (v : Valuation) (s : PlainState) →
       p.N t s (to_give (item i more) e n ∷ ts) → (d : IsDue way (item i more) v s) →
       v ≡ valuation vs → AllZip FitsSort s.sorts vs → ws ≡ met_by way (item i more) v s d →
-      GivesTo (item i more) (tree t no_trees) vs ws v s
+      GivesJust (item i more) (tree t no_trees) vs ws v s (drawn_by way (item i more) v s d)
   node-to way size law i more le (node (by_absurd c) ks) vs ws v s h d is sorted met =
       absurd ((p.step h).0.0 v (solves [] v s d.underway.ready.meets))
   node-to way size law i more le (node by_give ks) vs ws v s h d is sorted met =
@@ -471,34 +524,42 @@ module _ (p : Checked) (T : Table) (sc : Scope) (e : ℕ) (names : List NameValu
         wildcards = met;
       }) (subst (AllZip FitsSort s.sorts) (sym same) sorted) in
       record {
-        given = r.given;
-        values = r.values;
-        valued = r.valued;
-        sorted = r.sorted;
-        walks = λ enter w fs.
-            r.walks enter (record w { fill = Some (fill_of ws fs) }) ws fs;
+        gives = record {
+          given = r.given;
+          values = r.values;
+          valued = r.valued;
+          sorted = r.sorted;
+          walks = λ seating enter w fs.
+              r.walks seating enter (record w { fill = Some (fill_of ws fs) }) ws fs;
+        };
+        just = r.just;
       }
   node-to way size law i more le t vs ws v s h d is sorted met = absurd (p.step h).1
 
   pub all-to : (size : ℕ) → AllLead size
   all-to size way none le ks vs ws v s h d is sorted met = record {
-    given = (given-none p T sc e a total goal_is ne n ts way ks v s h d).given;
-    values = vs;
-    valued = is;
-    sorted = sorted;
-    walks = λ enter w fs. inr refl;
+    gives = record {
+      given = (given-none p T sc e a total goal_is ne n ts way ks v s h d).given;
+      values = vs;
+      valued = is;
+      sorted = sorted;
+      walks = λ seating enter w fs. inr refl;
+    };
+    just = λ q o. subst (IsOf p.program v s) (sym (none-right p.program q)) o;
   }
   all-to zero way (item i more) le ks vs ws v s h d is sorted met =
       absurd (let q = size-positive i in omega (arith, le, q))
   all-to (suc size) way (item i more) le ks vs ws v s h d is sorted met =
       let t = lone-child p.N ks s (to_give (item i more) e n ∷ ts) h in
-      subst (λ ls. GivesTo (item i more) ls vs ws v s) (sym t.2)
+      subst (λ ls. GivesJust (item i more) ls vs ws v s (drawn_by way (item i more) v s d))
+      (sym t.2)
       (node-to way size (all-to size) i more (omega (arith, le)) t.0 vs ws v s t.1 d is sorted met)
 
 -- ---- the law
 
--- items that are drawn out of a part, at the values of a fill's names, are given along the walk
-pub gives-to :
+-- items that are drawn out of a part, at the values of a fill's names, are given along the walk; and
+-- the state then has just what is drawn more
+pub gives-just :
     (p : Checked) (T : Table) (sc : Scope) (e n : ℕ) (names : List NameValue)
     (ok : giving.NamesFit sc names) (held h r : Stock) (items : Items) (ts : List PlainTask)
     (remains : (s : PlainState) → (g : PlainGoal) × (goal_of s ts ≡ Some g)) (trees : PlainTrees)
@@ -508,10 +569,11 @@ pub gives-to :
     (d : DrawsAll p.program T (valuation names) items h r) →
     Backed p.program (valuation vs) s held → (ne : Composes (both p.program held h)) →
     AllZip FitsSort s.sorts vs →
-    GivesTo p T sc e names ok (both p.program held h)
+    GivesJust p T sc e names ok (both p.program held h)
     (fill_items p.program T (valuation names) items h r d (filled_at e (valuation vs) s)) ne n ts
     remains [] items trees vs (items_met p.program T (valuation names) items h r d) (valuation vs) s
-gives-to p T sc e n names ok held h r items ts remains trees vs s hd at firm m fit d b ne sorted =
+    (items_drawn p.program T (valuation names) items h r d)
+gives-just p T sc e n names ok held h r items ts remains trees vs s hd at firm m fit d b ne sorted =
     all-to p T sc e names ok (both p.program held h)
     (fill_items p.program T (valuation names) items h r d (filled_at e (valuation vs) s)) ne n ts
     remains [] (items_size items)
@@ -542,3 +604,20 @@ gives-to p T sc e n names ok held h r items ts remains trees vs s hd at firm m f
       leads = λ ks. refl;
       room = inside-same p.program (both p.program held h);
     }) refl sorted (sym (join-nil (items_met p.program T (valuation names) items h r d)))
+
+pub gives-to :
+    (p : Checked) (T : Table) (sc : Scope) (e n : ℕ) (names : List NameValue)
+    (ok : giving.NamesFit sc names) (held h r : Stock) (items : Items) (ts : List PlainTask)
+    (remains : (s : PlainState) → (g : PlainGoal) × (goal_of s ts ≡ Some g)) (trees : PlainTrees)
+    (vs : List NameValue) (s : PlainState) → Open p.N trees s (to_give items e n ∷ ts) →
+    StateAt p.program [] T sc e (valuation vs) s → AllByRecursion IsFirm s.facts →
+    Means sc (valuation vs) (env_at s e) (valuation names) → AreFit p.program sc items →
+    (d : DrawsAll p.program T (valuation names) items h r) →
+    Backed p.program (valuation vs) s held → (ne : Composes (both p.program held h)) →
+    AllZip FitsSort s.sorts vs →
+    GivesTo p T sc e names ok (both p.program held h)
+    (fill_items p.program T (valuation names) items h r d (filled_at e (valuation vs) s)) ne n ts
+    remains [] items trees vs (items_met p.program T (valuation names) items h r d) (valuation vs) s
+gives-to p T sc e n names ok held h r items ts remains trees vs s hd at firm m fit d b ne sorted =
+    (gives-just p T sc e n names ok held h r items ts remains trees vs s hd at firm m fit d b ne
+    sorted).gives

@@ -40,7 +40,7 @@ use Rattle.cap_owners_spec.specs.Filling.{atom_met}
 use Rattle.cap_owners_spec.specs.Walks.{Taking, Walk, asked_reading, pass_piece, pass_guard}
 use Rattle.cap_owners_walks_laws.proofs.Leading.{node-leads}
 use Rattle.cap_owners_passes_laws.proofs.Names.{NamesSo}
-use Rattle.cap_owners_passes_laws.proofs.Takes.{taking_from}
+use Rattle.cap_owners_passes_laws.proofs.Takes.{taking_on}
 use Rattle.cap_owners_passes_laws.proofs.Steps.{AtNode}
 use Rattle.cap_owners_passes_laws.proofs.Plain.{Starting, Wide, Steps, named_top, with-names}
 use Rattle.cap_owners_passes_laws.proofs.TakesAll.{GuardSteps}
@@ -102,7 +102,7 @@ module _ (p : Checked) (ks : List ℕ) (T : Table) (next : ℤ) (lim : Holding) 
       (more : Items) (kids : PlainTrees)
       (f : Starting p ks T next lim j vs s c top (item (atom place n r m asked) more))
       (g : Found p ks T next lim j vs s c top k way cs place n r m asked more kids f)
-      (ns : List NameValue) → NamesSo (valuation vs) (env_at s j.env) ns →
+      (ns : List NameValue) → NamesSo j.scope vs (env_at s j.env) ns →
       (reading (env_at s j.env) (asked_slot asked) ≡ stuck → ⊥) → Valued asked more kids f g ns
 
   src-valued : (x : Slot) → ByReading (Src x)
@@ -221,7 +221,7 @@ module _ (p : Checked) (ks : List ℕ) (T : Table) (next : ℤ) (lim : Holding) 
       way place n r m asked more f.start.low f.start.fits.0 h in
       piece-step p ks T next lim j vs s c top k way cs place n r m asked more kids f g ns
       (λ enter w under. pass enter w under
-      ∙ is (named_top p ks T next lim j vs s c top ns) (taking_from p ks next vs top under w))
+      ∙ is (named_top p ks T next lim j vs s c top ns) (taking_on p ks vs top under w))
       (valued asked more kids f g ns so
       (piece-read s k way n r m asked (remaining of_atom more) P h)))
 

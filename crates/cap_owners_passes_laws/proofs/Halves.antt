@@ -1,6 +1,6 @@
 -- A walk takes half of a share: the half is a new variable, or there is none over the one
 -- denominator.
-use Rattle.std.proofs.Common.{◌≡◌, ◌⊎◌, inl, inr, ℕ, ◌<◌, ℤ, pos, negsuc, ◌*ℤ◌, ◌<ℤ◌, Bool, true, false, List, [], ◌∷◌, ◌++◌, length, Option, Some, None, refl, sym, ap, ◌∙◌, subst, arith}
+use Rattle.std.proofs.Common.{◌≡◌, ◌⊎◌, inl, inr, ℕ, zero, suc, ◌<◌, ℤ, pos, negsuc, ◌*ℤ◌, ◌<ℤ◌, Bool, true, false, List, [], ◌∷◌, ◌++◌, length, Option, Some, None, refl, sym, ap, ◌∙◌, subst, arith}
 use Rattle.std.specs.Prelude.{slice_get, unwrap_or, if◌then◌else◌, ◌==◌, ◌%◌, ◌/◌, IsSomeAnd}
 use Rattle.std.specs.List.{AllZip}
 use Rattle.std.proofs.lemmas.Slice.Zip.{AllZip-long}
@@ -18,7 +18,7 @@ use Rattle.cap_prog.specs.declared.assertion.Slot.{Slot}
 use Rattle.cap_prog.specs.declared.assertion.Slot.TheVariants.{Is}
 use Rattle.cap_prog.specs.declared.assertion.Asked.TheVariants.{Share}
 use Rattle.cap_prog.specs.Program.{atom, Items, item}
-use Rattle.cap_prog.specs.Scopes.{SlotFits}
+use Rattle.cap_prog.specs.Scopes.{Scope, SlotFits}
 use Rattle.cap_goal_spec.specs.Terms.{lone_variable}
 use Rattle.cap_goal_spec.specs.States.{PlainEnv, PlainState}
 use Rattle.cap_goal_spec.specs.Choices.{PlainTrees}
@@ -47,7 +47,7 @@ use Rattle.cap_owners_spec.specs.Walks.{Taking, asked_reading, new_share}
 use Rattle.cap_owners_values_laws.proofs.Numbers.{valuation-share, amount-is, half-is}
 use Rattle.cap_owners_values_laws.proofs.More.{FitsSort, sorted-more}
 use Rattle.cap_owners_passes_laws.proofs.Parted.{own-form}
-use Rattle.cap_owners_passes_laws.proofs.Names.{NamesSo, IsValue, names-so, name-so, met-names, met-terms, lone-term, variable-is, at-last}
+use Rattle.cap_owners_passes_laws.proofs.Names.{NamesSo, IsShare, SharesBound, shares-met, shares-more, IsValue, names-so, name-so, met-names, met-terms, lone-term, variable-is, at-last}
 use Rattle.cap_owners_passes_laws.proofs.Elements.{amount-told}
 use Rattle.cap_owners_passes_laws.proofs.Takes.{IsNameTerm, AreNameTerms, more-term}
 use Rattle.cap_owners_passes_laws.proofs.Plain.{Starting}
@@ -61,13 +61,24 @@ half-told (pos n) l e = by (n % 2 == 0) e
     by false e = absurd (cc)
 half-told (negsuc n) l e = omega (arith, ints, l)
 
+-- a variable that was there has its value
+share-back :
+    (vs : List NameValue) (y : NameValue) (u : ℕ) → u < length vs →
+    IsShare (value_at (vs ++ y ∷ []) u) → IsShare (value_at vs u)
+share-back [] y u l h = absurd (omega (arith, l))
+share-back (v ∷ vs) y zero l h = h
+share-back (v ∷ vs) y (suc u) l h = share-back vs y u (omega (arith, l)) h
+
 -- what names stood for they stand for with a variable more
 more-names :
-    (os : List Sort) (vs : List NameValue) (y : NameValue) (env : PlainEnv) (ns : List NameValue) →
-    Agree (λ x. x < length os) (valuation vs) (valuation (vs ++ y ∷ [])) →
-    AreNameTerms os env → NamesSo (valuation vs) env ns → NamesSo (valuation (vs ++ y ∷ [])) env ns
-more-names os vs y env ns a terms so =
-    names-so (vs ++ y ∷ []) env ns so.size (λ x. by x (term_of env x) refl (name-so vs env ns so x))
+    (sc : Scope) (os : List Sort) (vs : List NameValue) (y : NameValue) (env : PlainEnv)
+    (ns : List NameValue) → Agree (λ x. x < length os) (valuation vs) (valuation (vs ++ y ∷ [])) →
+    length vs ≡ length os → AreNameTerms os env → NamesSo sc vs env ns →
+    NamesSo sc (vs ++ y ∷ []) env ns
+more-names sc os vs y env ns a count terms so =
+    names-so sc (vs ++ y ∷ []) env ns so.size so.fits
+    (λ b x t has e. so.shares (λ x t has e. before t (terms x t e) (b x t has e)) x t has e)
+    (λ x. by x (term_of env x) refl (name-so sc vs env ns so x))
   where
     u : Valuation
     u = valuation (vs ++ y ∷ [])
@@ -83,6 +94,22 @@ more-names os vs y env ns a terms so =
             Over (λ x. x < length os) t
         lone None e h = absurd h
         lone (Some x) e h = subst (Over (λ x. x < length os)) (sym (lone-term t x e)) (h, tt)
+
+    -- the variables are the old ones
+    before :
+        (t : Linear) → IsNameTerm os t →
+        IsSomeAnd (lone_variable t) (λ u. IsShare (value_at (vs ++ y ∷ []) u)) →
+        IsSomeAnd (lone_variable t) (λ u. IsShare (value_at vs u))
+    before t i h = at (lone_variable t) refl h
+      where
+        at :
+            (o : Option ℕ) → lone_variable t ≡ o →
+            IsSomeAnd o (λ u. IsShare (value_at (vs ++ y ∷ []) u)) →
+            IsSomeAnd o (λ u. IsShare (value_at vs u))
+        at None e h = h
+        at (Some u) e h =
+            let low = (subst (Over (λ x. x < length os)) (lone-term t u e) (old t i)).0 in
+            share-back vs y u (omega (arith, low, count)) h
 
     by :
         (x : ℕ) (o : Option Linear) → term_of env x ≡ o →
@@ -104,7 +131,7 @@ module _ (p : Checked) (ks : List ℕ) (T : Table) (next : ℤ) (lim : Holding) 
     (cs : List Cert) (place : Place) (n r m : ℕ) (x : Slot) (more : Items) (kids : PlainTrees)
     (f : Starting p ks T next lim j vs s c top (item (atom place n r m (Share x)) more))
     (g : Found p ks T next lim j vs s c top k way cs place n r m (Share x) more kids f)
-    (ns : List NameValue) (so : NamesSo (valuation vs) (env_at s j.env) ns) (o : Option ℕ)
+    (ns : List NameValue) (so : NamesSo j.scope vs (env_at s j.env) ns) (o : Option ℕ)
     (opens : reading (env_at s j.env) x ≡ open_to o) (a : Linear)
     (share : g.piece.form ≡ form.Share a) (fit : SlotFits j.scope Perm x) where
   abbrev v : Valuation
@@ -213,7 +240,7 @@ module _ (p : Checked) (ks : List ℕ) (T : Table) (next : ℤ) (lim : Holding) 
         (variable-is (vs ++ y ∷ []) (length vs))) in
         let names = met-names ks j.scope s.sorts (vs ++ y ∷ []) env Perm x
         (variable (length s.sorts)) y fill f.start.ready.placed fit
-        (more-names s.sorts vs y env ns agrees f.terms so) is in
+        (more-names j.scope s.sorts vs y env ns agrees size f.terms so) is refl (λ e. refl) in
         let bigger = push-length s.sorts Perm in
         record {
           value_is = y;
@@ -233,7 +260,15 @@ module _ (p : Checked) (ks : List ℕ) (T : Table) (next : ℤ) (lim : Holding) 
               (λ i t e. more-term s.sorts (s.sorts ++ Perm ∷ [])
               (λ y q e. get-first s.sorts (Perm ∷ []) y q e) (omega (arith, bigger)) t
               (f.terms i t e))));
-          names = subst (λ e. NamesSo u e (met (reading env x) y fill).names) (sym later) names;
+          names =
+              subst (λ e. NamesSo j.scope (vs ++ y ∷ []) e (met (reading env x) y fill).names)
+              (sym later) names;
+          keeps = λ b.
+              subst (SharesBound j.scope (vs ++ y ∷ [])) (sym later)
+              (shares-met j.scope (vs ++ y ∷ []) env Perm x (variable (length s.sorts)) fit
+              (λ e. subst (λ i. IsShare (value_at (vs ++ y ∷ []) i)) size
+              (subst IsShare (sym (at-last vs y)) refl))
+              (shares-more j.scope vs (y ∷ []) env b));
           by = vs ++ y ∷ [];
           term = variable (length s.sorts);
           is_value = ap a_share (sym (is.share));

@@ -1,6 +1,6 @@
 -- Items are given by a fill, also where there are none: the state that holds then, and that a walk
 -- comes to it.
-use Rattle.std.proofs.Common.{◌≡◌, inr, ℕ, ◌-◌, List, [], ◌∷◌, Option, Some, None, refl, ap, subst}
+use Rattle.std.proofs.Common.{◌≡◌, inr, ℕ, ◌-◌, false, List, [], ◌∷◌, Option, Some, None, refl, sym, ap, subst}
 use Rattle.std.specs.List.{AllByRecursion, AllZip}
 use Rattle.cap_lin.specs.Values.{Valuation}
 use Rattle.cap_prog.specs.Program.{Items, none, item}
@@ -10,7 +10,7 @@ use Rattle.cap_goal_spec.specs.Choices.{PlainTrees}
 use Rattle.cap_rules.specs.Making.{env_at}
 use Rattle.cap_machine_accounts.specs.Assertions.{NameValue}
 use Rattle.cap_account_resources.specs.Parts.{Table}
-use Rattle.cap_account_resources.proofs.Stocks.{Stock, both, Composes, inside-first}
+use Rattle.cap_account_resources.proofs.Stocks.{Stock, both, Composes, none-right, inside-first}
 use Rattle.cap_account_states.specs.Nodes.{Open}
 use Rattle.cap_account_states.proofs.Backed.{IsFirm, Backed, Grounded, GoesOn}
 use Rattle.cap_account_states.proofs.Checked.{Checked}
@@ -28,33 +28,39 @@ use Rattle.cap_owners_spec.specs.Track.{Fill}
 use Rattle.cap_owners_spec.specs.Walks.{Walk, Interpreting}
 use Rattle.cap_owners_values_laws.proofs.More.{FitsSort}
 use Rattle.cap_owners_fills_laws.proofs.Drawn.{items_met, IsMetOr}
+use Rattle.cap_owners_fills_laws.proofs.Amounts.{items_drawn}
 use Rattle.cap_owners_fills_laws.proofs.Giving.{NamesFit}
+use Rattle.cap_owners_parts_laws.proofs.Held.{IsOf}
 use Rattle.cap_owners_passes_laws.proofs.Rests.{into}
-use Rattle.cap_owners_passes_laws.proofs.Gives.{GoesTo, gives-to}
+use Rattle.cap_owners_passes_laws.proofs.Gives.{GoesTo, gives-just}
 
 -- what is drawn at these values is drawn at the names' values, of the same wildcards
 record DrawnSo (p : Checked) (W : Table) (names : List NameValue) (items : Items) (h r : Stock)
-    (ws : List NameValue) : Type 0 where
+    (ws : List NameValue) (amount : Stock) : Type 0 where
   draws : DrawsAll p.program W (valuation names) items h r
   met : items_met p.program W (valuation names) items h r draws ≡ ws
+  drawn : items_drawn p.program W (valuation names) items h r draws ≡ amount
 
 drawn-so :
     (p : Checked) (W : Table) (a : Valuation) (items : Items) (h r : Stock)
     (d : DrawsAll p.program W a items h r) (names ws : List NameValue) → a ≡ valuation names →
-    items_met p.program W a items h r d ≡ ws → DrawnSo p W names items h r ws
+    items_met p.program W a items h r d ≡ ws →
+    DrawnSo p W names items h r ws (items_drawn p.program W a items h r d)
 drawn-so p W a items h r d names ws e m =
+    let amount = items_drawn p.program W a items h r d in
     let k = subst
-    (λ v. (d : DrawsAll p.program W v items h r) × (items_met p.program W v items h r d ≡ ws)) e
-    (d, m) in
-    record { draws = k.0; met = k.1 }
+    (λ v. (d : DrawsAll p.program W v items h r) × (items_met p.program W v items h r d ≡ ws)
+    × (items_drawn p.program W v items h r d ≡ amount)) e
+    (d, m, refl) in
+    record { draws = k.0; met = k.1; drawn = k.2 }
 
 module _ (p : Checked) (W : Table) (sc : Scope) (e n : ℕ) (held h : Stock) (ts : List PlainTask)
     (remains : (s : PlainState) → (g : PlainGoal) × (goal_of s ts ≡ Some g))
     (ne : Composes (both p.program held h)) where
-  -- behind the items the state holds of what was held and of what was given, and a walk that is to
-  -- give them by the fill comes there
+  -- behind the items the state holds of what was held and of what was given, it has just so much
+  -- more, and a walk that is to give them by the fill comes there
   pub record GivenSo (items : Items) (x : Fill) (trees : PlainTrees) (vs : List NameValue)
-      (s : PlainState) : Type 0 where
+      (s : PlainState) (more : Stock) : Type 0 where
     pub w : Valuation
     pub after : PlainState
     pub children : PlainTrees
@@ -63,6 +69,9 @@ module _ (p : Checked) (W : Table) (sc : Scope) (e n : ℕ) (held h : Stock) (ts
     pub facts : Facts [] w W after
     pub firm : AllByRecursion IsFirm after.facts
     pub backed : Backed p.program w after (both p.program held h)
+    pub just :
+        (q : Stock) → IsOf p.program (valuation vs) s q →
+        IsOf p.program w after (both p.program q more)
     pub agree : Agree (Old s) (valuation vs) w
     pub goes_on : GoesOn s after
     pub values : List NameValue
@@ -85,7 +94,8 @@ module _ (p : Checked) (W : Table) (sc : Scope) (e n : ℕ) (held h : Stock) (ts
       StateAt p.program [] W sc e (valuation vs) s → AllByRecursion IsFirm s.facts →
       (a.fraction.under ≡ over - 1 → Means sc (valuation vs) (env_at s e) a) →
       AreFit p.program sc items → Backed p.program (valuation vs) s held →
-      AllZip FitsSort s.sorts vs → GivenSo items x trees vs s
+      AllZip FitsSort s.sorts vs →
+      GivenSo items x trees vs s (items_drawn p.program W a items h r d)
   given-so none x a r d m ok trees vs s goes at firm means fit b sorted =
       let on = onward-none e (valuation vs) s in
       record {
@@ -99,6 +109,7 @@ module _ (p : Checked) (W : Table) (sc : Scope) (e n : ℕ) (held h : Stock) (ts
         backed =
             backed-more p.program (valuation vs) s held (both p.program held h)
             (inside-first p.program held h) b;
+        just = λ q o. subst (IsOf p.program (valuation vs) s) (sym (none-right p.program q)) o;
         agree = on.agree;
         goes_on = on.goes_on;
         values = vs;
@@ -110,9 +121,10 @@ module _ (p : Checked) (W : Table) (sc : Scope) (e n : ℕ) (held h : Stock) (ts
   given-so (item i more) x a r d m ok trees vs s goes at firm means fit b sorted =
       let named = m.names refl in
       let k = drawn-so p W a (item i more) h r d x.names x.wildcards named m.wildcards in
-      let g = gives-to p W sc e n x.names ok held h r (item i more) ts remains trees vs s goes at firm
-      (subst (Means sc (valuation vs) (env_at s e)) named
+      let all = gives-just p W sc e n x.names ok held h r (item i more) ts remains trees vs s goes at
+      firm (subst (Means sc (valuation vs) (env_at s e)) named
       (means (ap (λ (u : Valuation). u.fraction.under) named))) fit k.draws b ne sorted in
+      let g = all.gives in
       record {
         w = g.given.w;
         after = g.given.after;
@@ -122,6 +134,9 @@ module _ (p : Checked) (W : Table) (sc : Scope) (e n : ℕ) (held h : Stock) (ts
         facts = g.given.facts;
         firm = g.given.firm;
         backed = g.given.backed;
+        just = λ q o.
+            subst (λ z. IsOf p.program g.given.w g.given.after (both p.program q z)) k.drawn
+            (all.just q o);
         agree = g.given.agree;
         goes_on = g.given.goes_on;
         values = g.values;
@@ -137,5 +152,5 @@ module _ (p : Checked) (W : Table) (sc : Scope) (e n : ℕ) (held h : Stock) (ts
               fill = Some (record { names = x.names; wildcards = ws; facts = x.facts });
             }))
             (into enter p.program g.given.children (goals_of g.given.after ts)
-            (record w { values = g.values; fill = None }))) k.met (g.walks enter w x.facts);
+            (record w { values = g.values; fill = None }))) k.met (g.walks false enter w x.facts);
       }

@@ -1,10 +1,12 @@
 pub mod Rests
 pub mod Sorting
+pub mod Exactly
 pub mod Gives
 pub mod Handed
 pub mod Parted
 pub mod Takes
 pub mod Names
+pub mod Bindings
 pub mod Meets
 pub mod Steps
 pub mod Plain

@@ -1,10 +1,11 @@
 -- A region is made along a walk: what it is, and by what it has its case.
-use Rattle.std.proofs.Common.{◌≡◌, ℕ, suc, ◌-◌, ℤ, List, ◌∷◌, length, map, take, drop, Some, refl, sym, ap, ◌∙◌, subst, arith}
+use Rattle.std.proofs.Common.{◌≡◌, ℕ, suc, ◌+◌, ◌-◌, ℤ, List, ◌∷◌, length, map, take, drop, Some, refl, sym, ap, ◌∙◌, subst, arith}
 use Rattle.std.specs.Prelude.{slice_get}
 use Rattle.std.specs.List.{AllByRecursion}
 use Rattle.cap_lin.specs.Linear.{Linear}
 use Rattle.cap_lin.specs.Values.{Valuation, value}
 use Rattle.cap_prog.specs.Program.{PlainCase, PlainRegionType, PlainProgram}
+use Rattle.cap_prog.specs.Scopes.{region_scope}
 use Rattle.cap_goal_spec.specs.States.{PlainState, PlainTask, PlainGoal}
 use Rattle.cap_rules.specs.Making.{env_at}
 use Rattle.cap_machine_accounts.specs.Assertions.{NameValue, AreWhole, CompHolds}
@@ -24,6 +25,7 @@ use Rattle.cap_owners_spec.specs.Traced.{number_of, valuation}
 use Rattle.cap_owners_spec.specs.Track.{TrackedRegion}
 use Rattle.cap_owners_spec.specs.Walks.{Taking}
 use Rattle.cap_owners_fills_laws.proofs.Drawn.{items_met, items_told, IsMetBy}
+use Rattle.cap_owners_fills_laws.proofs.Giving.{NamesFit}
 use Rattle.cap_account.proofs.Stocked.{part_stock}
 use Rattle.cap_owners_passes_laws.proofs.Meets.{items-met-kept, items-told-kept, items-met-out, items-told-out}
 use Rattle.cap_owners_passes_laws.proofs.Takes.{owner_of, IsTracked}
@@ -51,7 +53,9 @@ module _ (p : PlainProgram) (ks : List ℕ) (U : Table) (n : ℤ) (w : Valuation
     (is_case : slice_get y.cases c ≡ Some z) (h : Pending p ks U n w s left given y z e t)
     (m : RegionMade p ks U n w s left given k c e P ts) (names : List NameValue)
     (same : values_in w (env_at s e) ≡ valuation names) (size : length names ≡ length (env_at s e))
-    (top : Taking) (gives : given ≡ part_stock top.part) (a : ℤ) (number : a ≡ n) (b : ℤ)
+    (fits : NamesFit (region_scope y z.names) names)
+    (sized : length names ≡ y.params + length z.names) (top : Taking)
+    (gives : given ≡ part_stock top.part) (a : ℤ) (number : a ≡ n) (b : ℤ)
     (state : b ≡ value (valuation names).whole z.state) where
   abbrev X : Valuation
   X = values_in w (env_at s e)
@@ -163,6 +167,15 @@ module _ (p : PlainProgram) (ks : List ℕ) (U : Table) (n : ℤ) (w : Valuation
         IsTracked p (with_known U n (known_as k m.args (Some m.state)))
         (creation_of n k m.args m.state given c (env_at s e)) region
     is-tracked =
-        let there = subst (λ (o : Owner). (oc : OwnsCase p V o c (valuation names)) × MetSo o oc)
-        owner-same ((owns-here, refl, same), met-here) in
-        record { owner = owner-same; number = refl; own = there.0; met = there.1 }
+        let there = subst (λ (o : Owner). (oc : OwnsCase p V o c (valuation names)) × MetSo o oc
+        × NamesFit (region_scope oc.0.type oc.0.case.names) names
+        × (length names ≡ oc.0.type.params + length oc.0.case.names))
+        owner-same ((owns-here, refl, same), met-here, fits, sized) in
+        record {
+          owner = owner-same;
+          number = refl;
+          own = there.0;
+          met = there.1;
+          fits = there.2;
+          size = there.3;
+        }

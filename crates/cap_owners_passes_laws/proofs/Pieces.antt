@@ -1,5 +1,6 @@
 -- A walk takes guards: none, or out of a piece.
 use Rattle.std.proofs.Common.{◌⊎◌, inr, ℕ, ℤ, List, [], refl, sym}
+use Rattle.std.specs.Prelude.{slice_get}
 use Rattle.std.specs.Prelude.{◌==◌}
 use Rattle.cap_syntax.specs.declared.place.Place.{Place}
 use Rattle.cap_farkas.specs.declared.cert.Cert.{Cert}
@@ -28,6 +29,9 @@ use Rattle.cap_owners_spec.specs.Traced.{valuation}
 use Rattle.cap_owners_spec.specs.Walks.{Taking}
 use Rattle.cap_owners_walks_laws.proofs.Leading.{node-leads}
 use Rattle.cap_account.proofs.Stocked.{part_stock}
+use Rattle.cap_rules.specs.Making.{env_at}
+use Rattle.cap_owners_passes_laws.proofs.Bindings.{slot-int, tok-fits}
+use Rattle.cap_owners_passes_laws.proofs.Names.{shaped-same}
 use Rattle.cap_owners_passes_laws.proofs.Steps.{AtNode, item-step}
 use Rattle.cap_owners_passes_laws.proofs.Plain.{Starting, Wide, Steps, named_top, with-names}
 
@@ -76,6 +80,11 @@ module _ (p : Checked) (ks : List ℕ) (T : Table) (next : ℤ) (lim : Holding) 
         terms = f.terms;
         now = named_top p ks T next lim j vs s c top ns;
         names = so.same;
+        have = so.fits;
+        binds_it = λ x has e.
+            absurd (slot-int j.scope x (Is u)
+            (tok-fits j.scope (slice_get pp.regions r) m (Is u) f.start.fits.0.1) has e);
+        shaped = shaped-same j.scope vs (env_at s j.env) (env_at s j.env) ns so (λ b. b);
         wildcards = [];
         facts = [];
         more_wildcards = sym (join-nil top.fill.wildcards);

@@ -28,6 +28,7 @@ use Rattle.cap_account_states.proofs.Naming.{values_in, at-env}
 use Rattle.cap_account_states.proofs.Terms.{vars-more}
 use Rattle.cap_account_assertions.proofs.TakeSteps.{Job, with_items, tasks_of}
 use Rattle.cap_account_assertions.proofs.TakeComps.{compare-taken}
+use Rattle.cap_account_states.proofs.Matching.{met_env}
 use Rattle.cap_account_assertions.proofs.TakeCells.{need-apart, CellFound, AfterCell, cell-found, cell-goes}
 use Rattle.cap_owners_spec.specs.Traced.{Traced, traced, past_width, untold, ◌>>=◌, found, over, valuation, number_in}
 use Rattle.cap_owners_spec.specs.Filling.{names_in, met}
@@ -39,8 +40,9 @@ use Rattle.cap_owners_walks_laws.proofs.Leading.{node-leads}
 use Rattle.cap_account.proofs.Stocked.{part_stock}
 use Rattle.cap_owners_laws.specs.Owned.{IsTold}
 use Rattle.cap_owners_parts_laws.proofs.Putting.{cells-told}
-use Rattle.cap_owners_passes_laws.proofs.Names.{NamesSo, IsValue, int-term, names-in-so, names-told, met-names, met-terms, slot_value, slot-value, met-wildcards, met-facts}
-use Rattle.cap_owners_passes_laws.proofs.Takes.{IsNameTerm, AreNameTerms, TakesFrom, taking_from, IsTooWide}
+use Rattle.cap_owners_passes_laws.proofs.Bindings.{not-both, slot-int}
+use Rattle.cap_owners_passes_laws.proofs.Names.{NamesSo, IsShaped, shaped-same, shares-met, int-only, IsValue, int-term, names-in-so, names-told, met-names, met-terms, slot_value, slot-value, met-wildcards, met-facts}
+use Rattle.cap_owners_passes_laws.proofs.Takes.{IsNameTerm, AreNameTerms, TakesFrom, taking_on, IsWide}
 use Rattle.cap_owners_passes_laws.proofs.Steps.{Step, node-wide, AtNode, Passed, item-step}
 
 module _ (p : Checked) (ks : List ℕ) (T : Table) (next : ℤ) (lim : Holding) (j : Job)
@@ -50,7 +52,7 @@ module _ (p : Checked) (ks : List ℕ) (T : Table) (next : ℤ) (lim : Holding) 
   Starting items = TakesFrom p ks T next lim (with_items j items) vs (valuation vs) s c top.part
 
   abbrev pub Wide : Items → PlainTrees → Type 0
-  Wide items trees = IsTooWide p ks next (with_items j items) trees vs s top
+  Wide items trees = IsWide p ks next (with_items j items) trees vs s top
 
   abbrev pub Steps : Items → PlainTrees → Type 0
   Steps items trees =
@@ -72,12 +74,12 @@ module _ (p : Checked) (ks : List ℕ) (T : Table) (next : ℤ) (lim : Holding) 
     -- the names' values come to these, or are too wide
     pub with-names :
         Passes → Starting (item i more) →
-        ((ns : List NameValue) → NamesSo (valuation vs) (env_at s j.env) ns →
+        ((ns : List NameValue) → NamesSo j.scope vs (env_at s j.env) ns →
         ((enter : Interpreting) (w : Walk) (under : List Taking) →
         pass_task enter p.program s ch (to_take (item i more) j.env j.most j.statement) j.tasks
-        (taking_from p ks next vs top under w)
+        (taking_on p ks vs top under w)
         ≡ pass_item p.program s ch i more j.env j.most j.statement j.tasks (named_top ns)
-        (taking_from p ks next vs top under w)) →
+        (taking_on p ks vs top under w)) →
         Wide (item i more) (tree (node ch kids) no_trees)
         ⊎ Steps (item i more) (tree (node ch kids) no_trees)) →
         Wide (item i more) (tree (node ch kids) no_trees)
@@ -88,15 +90,15 @@ module _ (p : Checked) (ks : List ℕ) (T : Table) (next : ℤ) (lim : Holding) 
             (enter : Interpreting) (w : Walk) (under : List Taking)
             (o : Traced (List NameValue)) → names_in vs (env_at s j.env) ≡ o →
             pass_task enter p.program s ch (to_take (item i more) j.env j.most j.statement) j.tasks
-            (taking_from p ks next vs top under w)
+            (taking_on p ks vs top under w)
             ≡ ((o >>= λ ns. traced (named_top ns)) >>= λ t.
             pass_item p.program s ch i more j.env j.most j.statement j.tasks t
-            (taking_from p ks next vs top under w))
+            (taking_on p ks vs top under w))
         at enter w under o q =
-            unfolds enter (taking_from p ks next vs top under w)
+            unfolds enter (taking_on p ks vs top under w)
             ∙ ap (λ o. (o >>= λ ns. traced (named_top ns)) >>= λ t.
             pass_item p.program s ch i more j.env j.most j.statement j.tasks t
-            (taking_from p ks next vs top under w)) q
+            (taking_on p ks vs top under w)) q
 
         by :
             (o : Traced (List NameValue)) → names_in vs (env_at s j.env) ≡ o →
@@ -104,11 +106,13 @@ module _ (p : Checked) (ks : List ℕ) (T : Table) (next : ℤ) (lim : Holding) 
             ⊎ Steps (item i more) (tree (node ch kids) no_trees)
         by untold q = absurd (names-told vs s.sorts f.sorted (env_at s j.env) q)
         by past_width q =
-            inl (λ enter w under below.
-            node-wide p ks T next enter i more j ch kids s (taking_from p ks next vs top under w)
+            inl (λ seating enter w under below.
+            node-wide p ks T next seating enter i more j ch kids s (taking_on p ks vs top under w)
             (at enter w under past_width q))
         by (traced ns) q =
-            k ns (names-in-so vs s.sorts f.sorted (env_at s j.env) ns f.terms q)
+            k ns
+            (names-in-so vs s.sorts f.sorted ks j.scope (env_at s j.env) ns f.start.ready.placed
+            f.terms q)
             (λ enter w under. at enter w under (traced ns) q)
 
   -- ---- a comparison
@@ -134,6 +138,9 @@ module _ (p : Checked) (ks : List ℕ) (T : Table) (next : ℤ) (lim : Holding) 
         terms = f.terms;
         now = named_top ns;
         names = so.same;
+        have = so.fits;
+        binds_it = λ x has e. absurd (not-both e);
+        shaped = shaped-same j.scope vs (env_at s j.env) (env_at s j.env) ns so (λ b. b);
         wildcards = [];
         facts = [];
         more_wildcards = sym (join-nil top.fill.wildcards);
@@ -169,9 +176,9 @@ module _ (p : Checked) (ks : List ℕ) (T : Table) (next : ℤ) (lim : Holding) 
         (enter : Interpreting) (w : Walk) (under : List Taking) →
         pass_task enter p.program s (by_cell k cs)
         (to_take (item (cell place x y) more) j.env j.most j.statement) j.tasks
-        (taking_from p ks next vs top under w)
+        (taking_on p ks vs top under w)
         ≡ pass_item p.program s (by_cell k cs) (cell place x y) more j.env j.most j.statement
-        j.tasks (named_top ns) (taking_from p ks next vs top under w)
+        j.tasks (named_top ns) (taking_on p ks vs top under w)
 
     -- by the numbers
     cell-by :
@@ -180,18 +187,18 @@ module _ (p : Checked) (ks : List ℕ) (T : Table) (next : ℤ) (lim : Holding) 
         number_in vs g.cell_there.1 ≡ n →
         pass_task enter p.program s (by_cell k cs)
         (to_take (item (cell place x y) more) j.env j.most j.statement) j.tasks
-        (taking_from p ks next vs top under w)
-        ≡ (m >>= λ a. n >>= λ z. on 0 (taking_from p ks next vs (cell_top ns a z) under w))
+        (taking_on p ks vs top under w)
+        ≡ (m >>= λ a. n >>= λ z. on 0 (taking_on p ks vs (cell_top ns a z) under w))
     cell-by g ns pass enter w under m n em en =
         pass enter w under
         ∙ ap (λ o. found o >>= λ d. number_in vs d.0 >>= λ a. number_in vs d.1 >>= λ z.
-        on 0 (taking_from p ks next vs (cell_top ns a z) under w)) g.is_cell
+        on 0 (taking_on p ks vs (cell_top ns a z) under w)) g.is_cell
         ∙ (λ i. em i >>= λ a. en i >>= λ z.
-        on 0 (taking_from p ks next vs (cell_top ns a z) under w))
+        on 0 (taking_on p ks vs (cell_top ns a z) under w))
 
     -- at these numbers
     cell-passed :
-        (g : Found) (ns : List NameValue) → NamesSo (valuation vs) (env_at s j.env) ns →
+        (g : Found) (ns : List NameValue) → NamesSo j.scope vs (env_at s j.env) ns →
         CellPasses ns → (a z : ℤ) → number_in vs g.cell_there.0 ≡ traced a →
         number_in vs g.cell_there.1 ≡ traced z →
         ((b u : ℤ) →
@@ -217,7 +224,7 @@ module _ (p : Checked) (ks : List ℕ) (T : Table) (next : ℤ) (lim : Holding) 
           share = int-term s.sorts vs f.sorted d.1 int ∙ ap (λ u. u *ℤ pos over) (sym zis);
         } in
         let names = met-names ks j.scope s.sorts vs env Int y d.1 (a_number z) fill
-        f.start.ready.placed f.start.fits.0.1 so is in
+        f.start.ready.placed f.start.fits.0.1 so is tt (λ e. int-only e) in
         record {
           values = vs;
           valued = refl;
@@ -227,6 +234,13 @@ module _ (p : Checked) (ks : List ℕ) (T : Table) (next : ℤ) (lim : Holding) 
               (met-terms (IsNameTerm s.sorts) env (reading env y) d.1 (inr int) f.terms);
           now = cell_top ns a z;
           names = ap (values_in v) later ∙ names.same;
+          have = names.fits;
+          binds_it = λ x has e. absurd (slot-int j.scope x y f.start.fits.0.1 has e);
+          shaped =
+              subst (λ e. IsShaped j.scope vs env vs e (cell_top ns a z).fill.names) (sym later)
+              (shaped-same j.scope vs env (met_env env (reading env y) d.1)
+              (cell_top ns a z).fill.names names
+              (shares-met j.scope vs env Int y d.1 f.start.fits.0.1 (λ e. int-only e)));
           wildcards = slot_value y (a_number z);
           facts = [];
           more_wildcards = met-wildcards env y (a_number z) fill;
@@ -243,7 +257,7 @@ module _ (p : Checked) (ks : List ℕ) (T : Table) (next : ℤ) (lim : Holding) 
         }
 
     cell-at :
-        (g : Found) (ns : List NameValue) → NamesSo (valuation vs) (env_at s j.env) ns →
+        (g : Found) (ns : List NameValue) → NamesSo j.scope vs (env_at s j.env) ns →
         CellPasses ns → (m n : Traced ℤ) → number_in vs g.cell_there.0 ≡ m →
         number_in vs g.cell_there.1 ≡ n →
         IsTold (λ (r : Part). (r.guards ≡ top.part.guards)
@@ -253,14 +267,14 @@ module _ (p : Checked) (ks : List ℕ) (T : Table) (next : ℤ) (lim : Holding) 
         Wide (item (cell place x y) more) (tree (node (by_cell k cs) kids) no_trees)
         ⊎ Steps (item (cell place x y) more) (tree (node (by_cell k cs) kids) no_trees)
     cell-at g ns so pass past_width n em en put =
-        inl (λ enter w under below.
-        node-wide p ks T next enter (cell place x y) more j (by_cell k cs) kids s
-        (taking_from p ks next vs top under w)
+        inl (λ seating enter w under below.
+        node-wide p ks T next seating enter (cell place x y) more j (by_cell k cs) kids s
+        (taking_on p ks vs top under w)
         (cell-by g ns pass enter w under past_width n em en))
     cell-at g ns so pass (traced a) past_width em en put =
-        inl (λ enter w under below.
-        node-wide p ks T next enter (cell place x y) more j (by_cell k cs) kids s
-        (taking_from p ks next vs top under w)
+        inl (λ seating enter w under below.
+        node-wide p ks T next seating enter (cell place x y) more j (by_cell k cs) kids s
+        (taking_on p ks vs top under w)
         (cell-by g ns pass enter w under (traced a) past_width em en))
     cell-at g ns so pass untold n em en put = absurd (number-told vs g.cell_there.0 em)
     cell-at g ns so pass (traced a) untold em en put =

@@ -34,7 +34,11 @@ use Rattle.cap_owners_walks_laws.proofs.Leading.{Left, node-leads}
 
 -- ---- walks into trees
 
--- into the tree of the first of these goals
+-- into the tree of the first of these goals, on the way to a seat or not
+abbrev pub walks_into :
+    Bool → Interpreting → PlainProgram → PlainTrees → List PlainGoal → Walk → Traced Halt
+walks_into seating enter p ks gs w = walk_below enter p seating ks gs (traced (descends (Some 0) w))
+
 abbrev pub into : Interpreting → PlainProgram → PlainTrees → List PlainGoal → Walk → Traced Halt
 into enter p ks gs w = walk_below enter p false ks gs (traced (descends (Some 0) w))
 

@@ -31,10 +31,11 @@ use Rattle.cap_owners_fills_laws.proofs.Siding.{holds-told}
 use Rattle.cap_owners_values_laws.proofs.Numbers.{TakesSide, side-is}
 use Rattle.cap_owners_walks_laws.proofs.Leading.{node-leads}
 use Rattle.cap_account.proofs.Stocked.{part_stock}
-use Rattle.cap_owners_passes_laws.proofs.Rests.{into}
-use Rattle.cap_owners_passes_laws.proofs.Names.{NamesSo}
+use Rattle.cap_owners_passes_laws.proofs.Rests.{walks_into}
+use Rattle.cap_owners_passes_laws.proofs.Bindings.{bound-behind}
+use Rattle.cap_owners_passes_laws.proofs.Names.{NamesSo, shaped-same}
 use Rattle.cap_owners_passes_laws.proofs.Meets.{item-met-out, item-told-out, met-apart, told-apart, met-items, told-items}
-use Rattle.cap_owners_passes_laws.proofs.Takes.{taking_from}
+use Rattle.cap_owners_passes_laws.proofs.Takes.{taking_on}
 use Rattle.cap_owners_passes_laws.proofs.Steps.{node-wide, AtNode}
 use Rattle.cap_owners_passes_laws.proofs.Plain.{Starting, Wide, Steps, named_top, with-names}
 
@@ -68,13 +69,13 @@ same-some s rows (to_make k c i x n ∷ ts) = tt
 same-some s rows (to_close b n ∷ ts) = tt
 same-some s rows (to_shift o c m i n ∷ ts) = tt
 
-module _ (enter : Interpreting) (p : Checked) where
+module _ (seating : Bool) (enter : Interpreting) (p : Checked) where
   first-side :
       (kids : PlainTrees) (o one two : Option PlainGoal) → SameSome o one →
       Children p.N kids (option_to_list one ++ option_to_list two) → (w : Walk) →
-      walk_below enter p.program false kids (option_to_list one ++ option_to_list two)
+      walk_below enter p.program seating kids (option_to_list one ++ option_to_list two)
       (traced (descends (side_child true (option_to_list o)) w))
-      ≡ into enter p.program (first_trees (length (option_to_list one)) kids) (option_to_list one) w
+      ≡ walks_into seating enter p.program (first_trees (length (option_to_list one)) kids) (option_to_list one) w
   first-side no_trees None None None e h w = refl
   first-side (tree t ts) None None (Some g) e h w = refl
   first-side (tree t ts) (Some g) (Some h) two e k w = refl
@@ -87,9 +88,9 @@ module _ (enter : Interpreting) (p : Checked) where
   second-side :
       (kids : PlainTrees) (o one two : Option PlainGoal) → SameSome o one →
       Children p.N kids (option_to_list one ++ option_to_list two) → (w : Walk) →
-      walk_below enter p.program false kids (option_to_list one ++ option_to_list two)
+      walk_below enter p.program seating kids (option_to_list one ++ option_to_list two)
       (traced (descends (side_child false (option_to_list o)) w))
-      ≡ into enter p.program (later_trees (length (option_to_list one)) kids) (option_to_list two) w
+      ≡ walks_into seating enter p.program (later_trees (length (option_to_list one)) kids) (option_to_list two) w
   second-side kids None None two e h w = refl
   second-side (tree t ts) (Some g) (Some h) two e k w = refl
   second-side no_trees (Some g) (Some h) two e k w = absurd k
@@ -140,13 +141,14 @@ module _ (p : Checked) (ks : List ℕ) (T : Table) (next : ℤ) (lim : Holding) 
   ChoicePasses ns =
       (enter : Interpreting) (w : Walk) (under : List Taking) →
       pass_task enter p.program s by_cases (to_take all j.env j.most j.statement) j.tasks
-      (taking_from p ks next vs top under w)
+      (taking_on p ks vs top under w)
       ≡ pass_item p.program s by_cases (choose x y z) more j.env j.most j.statement j.tasks
-      (named_top p ks T next lim j vs s c top ns) (taking_from p ks next vs top under w)
+      (named_top p ks T next lim j vs s c top ns) (taking_on p ks vs top under w)
 
   -- the comparison comes to what is told
   side-known :
-      (ns : List NameValue) → NamesSo (valuation vs) (env_at s j.env) ns → (b : Bool) → Tells b →
+      (ns : List NameValue) → NamesSo j.scope vs (env_at s j.env) ns → (b : Bool) →
+      Tells b →
       (o : Traced Bool) → holds_by ns x ≡ o → (o ≡ past_width) ⊎ (o ≡ traced b)
   side-known ns so b t past_width e = inl refl
   side-known ns so b t untold e = absurd (holds-told ns x e)
@@ -176,17 +178,17 @@ module _ (p : Checked) (ks : List ℕ) (T : Table) (next : ℤ) (lim : Holding) 
       goals_left p.program (goal s (tasks_of of_choice)) by_cases
       ≡ option_to_list (goal_at true) ++ option_to_list (goal_at false) →
       Children p.N kids (option_to_list (goal_at true) ++ option_to_list (goal_at false)) →
-      (enter : Interpreting) (w : Walk) (under : List Taking) →
-      into enter p.program (tree (node by_cases kids) no_trees) (goals_of s (tasks_of of_choice))
-      (taking_from p ks next vs top under w)
-      ≡ into enter p.program (trees_of b) (option_to_list (goal_at b))
-      (taking_from p ks next vs (named_top p ks T next lim j vs s c top ns) under w)
-  side-leads b ns pass e goals there enter w under =
-      (λ i. walk_below enter p.program false kids (goals i)
+      (seating : Bool) (enter : Interpreting) (w : Walk) (under : List Taking) →
+      walks_into seating enter p.program (tree (node by_cases kids) no_trees) (goals_of s (tasks_of of_choice))
+      (taking_on p ks vs top under w)
+      ≡ walks_into seating enter p.program (trees_of b) (option_to_list (goal_at b))
+      (taking_on p ks vs (named_top p ks T next lim j vs s c top ns) under w)
+  side-leads b ns pass e goals there seating enter w under =
+      (λ i. walk_below enter p.program seating kids (goals i)
       ((pass enter w under
       ∙ ap (λ o. o >>= λ b. traced (descends (side_child b
       (goals_of s (to_take (append_items y more) j.env j.most j.statement ∷ j.tasks)))
-      (taking_from p ks next vs (named_top p ks T next lim j vs s c top ns) under w))) e) i))
+      (taking_on p ks vs (named_top p ks T next lim j vs s c top ns) under w))) e) i))
       ∙ by b
     where
       same :
@@ -198,23 +200,23 @@ module _ (p : Checked) (ks : List ℕ) (T : Table) (next : ℤ) (lim : Holding) 
 
       by :
           (b : Bool) →
-          walk_below enter p.program false kids
+          walk_below enter p.program seating kids
           (option_to_list (goal_at true) ++ option_to_list (goal_at false))
           (traced (descends (side_child b
           (goals_of s (to_take (append_items y more) j.env j.most j.statement ∷ j.tasks)))
-          (taking_from p ks next vs (named_top p ks T next lim j vs s c top ns) under w)))
-          ≡ into enter p.program (trees_of b) (option_to_list (goal_at b))
-          (taking_from p ks next vs (named_top p ks T next lim j vs s c top ns) under w)
+          (taking_on p ks vs (named_top p ks T next lim j vs s c top ns) under w)))
+          ≡ walks_into seating enter p.program (trees_of b) (option_to_list (goal_at b))
+          (taking_on p ks vs (named_top p ks T next lim j vs s c top ns) under w)
       by true =
-          first-side enter p kids
+          first-side seating enter p kids
           (goal_of s (to_take (append_items y more) j.env j.most j.statement ∷ j.tasks))
           (goal_at true) (goal_at false) same there
-          (taking_from p ks next vs (named_top p ks T next lim j vs s c top ns) under w)
+          (taking_on p ks vs (named_top p ks T next lim j vs s c top ns) under w)
       by false =
-          second-side enter p kids
+          second-side seating enter p kids
           (goal_of s (to_take (append_items y more) j.env j.most j.statement ∷ j.tasks))
           (goal_at true) (goal_at false) same there
-          (taking_from p ks next vs (named_top p ks T next lim j vs s c top ns) under w)
+          (taking_on p ks vs (named_top p ks T next lim j vs s c top ns) under w)
 
   -- what is drawn of the side is what is met
   side-met :
@@ -251,7 +253,7 @@ module _ (p : Checked) (ks : List ℕ) (T : Table) (next : ℤ) (lim : Holding) 
       children-later p.N kids (option_to_list (goal_at true)) (option_to_list (goal_at false)) h
 
   side-step :
-      (b : Bool) (ns : List NameValue) → NamesSo (valuation vs) (env_at s j.env) ns →
+      (b : Bool) (ns : List NameValue) → NamesSo j.scope vs (env_at s j.env) ns →
       ChoicePasses ns → Tells b → holds_by ns x ≡ traced b →
       goals_left p.program (goal s (tasks_of of_choice)) by_cases
       ≡ option_to_list (goal_at true) ++ option_to_list (goal_at false) →
@@ -278,6 +280,9 @@ module _ (p : Checked) (ks : List ℕ) (T : Table) (next : ℤ) (lim : Holding) 
         terms = f.terms;
         now = named_top p ks T next lim j vs s c top ns;
         names = so.same;
+        have = so.fits;
+        binds = λ i has e. inl (bound-behind i (items_of b) more e);
+        shaped = shaped-same j.scope vs (env_at s j.env) (env_at s j.env) ns so (λ b. b);
         wildcards = [];
         facts = [];
         more_wildcards = sym (join-nil top.fill.wildcards);
@@ -304,7 +309,7 @@ module _ (p : Checked) (ks : List ℕ) (T : Table) (next : ℤ) (lim : Holding) 
                   ∙ sym (told-apart pp U a xs more q r d),
             );
         part = sym (none-right pp (part_stock top.part));
-        leads = λ enter w under. side-leads b ns pass e goals there enter w under;
+        leads = λ seating enter w under. side-leads b ns pass e goals there seating enter w under;
       }
 
   pub choose-step :
@@ -321,12 +326,12 @@ module _ (p : Checked) (ks : List ℕ) (T : Table) (next : ℤ) (lim : Holding) 
       (AtNode p ks T next j (choose x y z) more by_cases kids vs (valuation vs) s c top)
       f.start.fits (node-leads p by_cases kids s (tasks_of of_choice) h) in
       elim (side-known ns so g.side g.told (holds_by ns x) refl) [
-        | inl wide ↦ inl (λ enter w under below.
-            node-wide p ks T next enter (choose x y z) more j by_cases kids s
-            (taking_from p ks next vs top under w)
+        | inl wide ↦ inl (λ seating enter w under below.
+            node-wide p ks T next seating enter (choose x y z) more j by_cases kids s
+            (taking_on p ks vs top under w)
             (pass enter w under
             ∙ ap (λ o. o >>= λ b. traced (descends (side_child b
             (goals_of s (to_take (append_items y more) j.env j.most j.statement ∷ j.tasks)))
-            (taking_from p ks next vs (named_top p ks T next lim j vs s c top ns) under w))) wide))
+            (taking_on p ks vs (named_top p ks T next lim j vs s c top ns) under w))) wide))
         | inr told ↦ inr (side-step g.side ns so pass g.told told g.goes.0 g.goes.1)
       ])

@@ -5,7 +5,7 @@ use Rattle.std.specs.List.{AllByRecursion, AllZip}
 use Rattle.cap_lin.specs.Linear.{Linear}
 use Rattle.cap_lin.specs.Values.{Valuation, value}
 use Rattle.cap_lin.specs.declared.row.Sort.{Sort}
-use Rattle.cap_lin.specs.declared.row.Sort.TheVariants.{Int}
+use Rattle.cap_lin.specs.declared.row.Sort.TheVariants.{Int, Perm}
 use Rattle.cap_prog.specs.declared.assertion.Slot.{Slot}
 use Rattle.cap_prog.specs.declared.assertion.Slot.TheVariants.{Any, Is}
 use Rattle.cap_prog.specs.Scopes.{Scope, HasSort, SlotFits}
@@ -24,11 +24,11 @@ use Rattle.cap_owners_spec.specs.Traced.{over as total}
 use Rattle.cap_owners_spec.specs.Track.{Fill}
 use Rattle.cap_owners_spec.specs.Filling.{met_at, met_by_term, all_met}
 use Rattle.cap_owners_values_laws.proofs.Numbers.{number-is}
-use Rattle.cap_owners_values_laws.proofs.More.{FitsSort, number-told}
+use Rattle.cap_owners_values_laws.proofs.More.{FitsSort, number-fits, number-told}
 use Rattle.cap_owners_fills_laws.proofs.Drawn.{slots_met}
 use Rattle.cap_owners_laws.specs.Owned.{IsTold}
 use Rattle.cap_owners_parts_laws.proofs.Telling.{told-more}
-use Rattle.cap_owners_passes_laws.proofs.Names.{NamesSo, int-term, lone-term, LoneOr, no_name, one_name, lone-or, lone-fits, closed-reading, open-reading, bound-reading, names-set}
+use Rattle.cap_owners_passes_laws.proofs.Names.{NamesSo, int-term, lone-term, LoneOr, no_name, one_name, lone-or, lone-fits, closed-reading, open-reading, bound-reading, names-set, sort-same, SharesBound, shares-before, shares-met, int-only}
 
 -- ---- environments
 
@@ -65,6 +65,18 @@ all-keeps env (x ∷ xs) [] i u e = e
 all-keeps env (x ∷ xs) (t ∷ ts) i u e =
     all-keeps (met_env env (reading env x) t) xs ts i u (met-keeps env x t i u e)
 
+-- what is bound to shares stays so where whole numbers are met
+pub shares-all :
+    (sc : Scope) (vs : List NameValue) (env : PlainEnv) (xs : List Slot) (ts : List Linear) →
+    AllByRecursion (SlotFits sc Int) xs → SharesBound sc vs env →
+    SharesBound sc vs (all_met_env env xs ts)
+shares-all sc vs env [] [] fit b = b
+shares-all sc vs env [] (t ∷ ts) fit b = b
+shares-all sc vs env (x ∷ xs) [] fit b = b
+shares-all sc vs env (x ∷ xs) (t ∷ ts) fit b =
+    shares-all sc vs (met_env env (reading env x) t) xs ts fit.1
+    (shares-met sc vs env Int x t fit.0 (λ e. int-only e) b)
+
 -- names that are bound in one are so in the other
 abbrev pub BoundToo : PlainEnv → PlainEnv → Type 0
 BoundToo e f = (x : ℕ) (t : Linear) → term_of e x ≡ Some t → (u : Linear) × (term_of f x ≡ Some u)
@@ -79,7 +91,7 @@ module _ (ks : List ℕ) (sc : Scope) (sorts : List Sort) (vs : List NameValue)
   -- what comes of a fill
   abbrev pub MetSo : List Slot → List Linear → Fill → Fill → Type 0
   MetSo xs ts f g =
-      NamesSo v later g.names
+      NamesSo sc vs later g.names
       × (g.wildcards ≡ f.wildcards ++ slots_met xs (map (value v.whole) ts))
       × (g.facts ≡ f.facts)
 
@@ -120,9 +132,9 @@ module _ (ks : List ℕ) (sc : Scope) (sorts : List Sort) (vs : List NameValue)
       (over : Over (Usable ks sorts Int) t)
       (is : later ≡ all_met_env (met_env env (reading env (Is u)) t) xs ts)
       (more : BoundToo first env) (are : value (values_in v later).whole u ≡ value v.whole t)
-      (so : NamesSo v env f.names) (rest : Fill → Traced Fill)
+      (so : NamesSo sc vs env f.names) (rest : Fill → Traced Fill)
       (go : (e : PlainEnv) (g : Fill) → Placed ks sc sorts e → later ≡ all_met_env e xs ts →
-      BoundToo first e → NamesSo v e g.names → IsTold (MetSo xs ts g) (rest g)) where
+      BoundToo first e → NamesSo sc vs e g.names → IsTold (MetSo xs ts g) (rest g)) where
     abbrev Told : Reading → Type 0
     Told r = IsTold (MetSo xs ts f) (met_by_term vs r t f >>= rest)
 
@@ -146,13 +158,14 @@ module _ (ks : List ℕ) (sc : Scope) (sorts : List Sort) (vs : List NameValue)
         go (with_name env x t) (met_at (Some x) (a_number z) f)
         (placed-met env x t i over pl) (later-by (open_to (Some x)) opens)
         (subst (λ q. BoundToo first (met_env env q t)) opens (bound-met env (Is u) t more))
-        (names-set vs env (with_name env x t) f.names x t (a_number z) so room
+        (names-set sc vs env (with_name env x t) f.names x t (a_number z) so room
         (set-length env x (Some t)) (term-same env x t room)
         (λ i ne. term-other env x i t ne) (record {
           whole = sym e;
           share =
               int-term sorts vs sorted t (int-of t over) ∙ ap (λ y. y *ℤ pos total) (sym e);
-        }))))
+        }) (λ o i. number-fits o z)
+        (λ k. int-only (sort-same sc Int Perm x i k)) (shares-before sc vs env x t en))))
     slot-at x l None (Some y) em en =
         let i = lone-fits sc Int u x l fit in
         let bound = later-by (settled u) (bound-reading env u x y l en) in
@@ -165,13 +178,13 @@ module _ (ks : List ℕ) (sc : Scope) (sorts : List Sort) (vs : List NameValue)
         subst Told (sym (open-reading first u x l em))
         (number-met (Some x) t f (MetSo xs ts f) rest (λ z e.
         go env (met_at (Some x) (a_number z) f) pl bound more
-        (names-set vs env env f.names x y (a_number z) so (pl.room x Int i) refl en
+        (names-set sc vs env env f.names x y (a_number z) so (pl.room x Int i) refl en
         (λ i ne. refl) (record {
           whole = same ∙ sym e;
           share =
               int-term sorts vs sorted y (int-of y (pl.over x Int i y en))
               ∙ ap (λ k. k *ℤ pos total) (same ∙ sym e);
-        }))))
+        }) (λ o i. number-fits o z) (λ k. int-only (sort-same sc Int Perm x i k)) (λ b. b))))
 
     slot-met : Told (reading first (Is u))
     slot-met = by (lone-or u)
@@ -194,10 +207,10 @@ module _ (ks : List ℕ) (sc : Scope) (sorts : List Sort) (vs : List NameValue)
       (env : PlainEnv) (xs : List Slot) (ts : List Linear) (f : Fill) → Placed ks sc sorts env →
       AllByRecursion (SlotFits sc Int) xs → AllByRecursion (Over (Usable ks sorts Int)) ts →
       later ≡ all_met_env env xs ts → BoundToo first env →
-      SlotsAre (values_in v later) xs (map (value v.whole) ts) → NamesSo v env f.names →
+      SlotsAre (values_in v later) xs (map (value v.whole) ts) → NamesSo sc vs env f.names →
       IsTold (MetSo xs ts f) (all_met vs (map (reading first) xs) ts f)
   all-met env [] [] f pl fit over is more are so =
-      (subst (λ e. NamesSo v e f.names) (sym is) so, sym (join-nil f.wildcards), refl)
+      (subst (λ e. NamesSo sc vs e f.names) (sym is) so, sym (join-nil f.wildcards), refl)
   all-met env [] (t ∷ ts) f pl fit over is more are so = absurd are
   all-met env (x ∷ xs) [] f pl fit over is more are so = absurd are
   all-met env (Any ∷ xs) (t ∷ ts) f pl fit over is more are so =

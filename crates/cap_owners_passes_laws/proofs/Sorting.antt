@@ -46,25 +46,27 @@ use Rattle.cap_owners_fills_laws.proofs.Giving.{NamesFit, are_bound, set-bound, 
 
 -- ---- facts
 
--- it comes to a state with the same variables and environments, of which this holds
+-- it comes to a state with the same variables and environments, cells and pieces, of which this holds
 abbrev Keeps : PlainState → (PlainState → Type 0) → Type 0
-Keeps s P = (t : PlainState) × (t.sorts ≡ s.sorts) × (t.envs ≡ s.envs) × P t
+Keeps s P =
+    (t : PlainState) × (t.sorts ≡ s.sorts) × (t.envs ≡ s.envs) × P t × (t.cells ≡ s.cells)
+    × (t.guards ≡ s.guards)
 
 keeps-equalities :
     (as' bs : List Linear) (s : PlainState) (P : PlainState → Type 0) →
     Comes (with_equalities s as' bs) P → Keeps s P
-keeps-equalities [] [] s P h = (s, refl, refl, h.1)
-keeps-equalities [] (b ∷ bs) s P h = (s, refl, refl, h.1)
-keeps-equalities (a ∷ as') [] s P h = (s, refl, refl, h.1)
+keeps-equalities [] [] s P h = (s, refl, refl, h.1, refl, refl)
+keeps-equalities [] (b ∷ bs) s P h = (s, refl, refl, h.1, refl, refl)
+keeps-equalities (a ∷ as') [] s P h = (s, refl, refl, h.1, refl, refl)
 keeps-equalities (a ∷ as') (b ∷ bs) s P h =
     let k = keeps-equalities as' bs (row_added s (row_of a Equal b Int)) P
     (after-comparison s a Equal b Int (λ s'. with_equalities s' as' bs) P h) in
-    (k.0, k.1, k.2, k.3)
+    (k.0, k.1, k.2, k.3, k.4, k.5)
 
 keeps-same :
     (s : PlainState) (f : PlainFact) (o : Option PlainFact) (P : PlainState → Type 0) →
     Comes (with_same s f o) P → Keeps s P
-keeps-same s f None P h = (s, refl, refl, h.1)
+keeps-same s f None P h = (s, refl, refl, h.1, refl, refl)
 keeps-same s f (Some g) P h =
     let k = keeps-equalities g.args f.args s
     (λ s'. Comes (with_comparison s' g.state Equal f.state Int) P)
@@ -74,6 +76,8 @@ keeps-same s f (Some g) P h =
       k.1,
       k.2,
       comes-comparison k.0 g.state Equal f.state Int P k.3,
+      k.4,
+      k.5,
     )
 
 keeps-false :
@@ -83,10 +87,12 @@ keeps-false s true P h = (
   refl,
   refl,
   comes-comparison s zero_value Equal one_value Int P h,
+  refl,
+  refl,
 )
-keeps-false s false P h = (s, refl, refl, h.1)
+keeps-false s false P h = (s, refl, refl, h.1, refl, refl)
 
-keeps-fact :
+pub keeps-fact :
     (s : PlainState) (f : PlainFact) (P : PlainState → Type 0) → Comes (with_fact s f) P →
     Keeps s P
 keeps-fact s f P h =
@@ -107,6 +113,8 @@ keeps-fact s f P h =
           (λ facts. Comes (unit (record m.0 { facts = facts })) P)
           (comes-bind (appended (without_first (is_of_region f) s.facts) f)
           (λ facts. unit (record m.0 { facts = facts })) P m.3)).1,
+      m.4 ∙ k.4,
+      m.5 ∙ k.5,
     )
 
 -- ---- names

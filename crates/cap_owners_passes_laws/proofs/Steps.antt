@@ -1,6 +1,7 @@
 -- One step of a Take along a walk, put before the rest.
-use Rattle.std.proofs.Common.{◌≡◌, ◌⊎◌, inl, inr, ℕ, suc, ◌+◌, ◌-◌, ◌≤◌, ℤ, false, List, [], ◌∷◌, ◌++◌, refl, sym, ap, ◌∙◌, subst, arith}
+use Rattle.std.proofs.Common.{◌≡◌, ◌⊎◌, inl, inr, ℕ, suc, ◌+◌, ◌-◌, ◌≤◌, ℤ, pos, ◌+ℤ◌, Bool, true, List, [], ◌∷◌, ◌++◌, refl, sym, ap, ◌∙◌, subst, arith}
 use Rattle.std.specs.List.{AllZip}
+use Rattle.std.proofs.lemmas.Int.{ints}
 use Rattle.cap_lin.specs.Values.{Valuation}
 use Rattle.cap_prog.specs.Program.{PlainItem, Items, none, item, PlainProgram}
 use Rattle.cap_goal_spec.specs.States.{PlainState, to_take, PlainGoal, goal, goals_of}
@@ -8,6 +9,9 @@ use Rattle.cap_goal_spec.specs.Choices.{PlainChoice, node, PlainTrees, no_trees,
 use Rattle.cap_rules.specs.Making.{env_at}
 use Rattle.cap_rules_nodes.specs.Nodes.{goals_left}
 use Rattle.cap_machine_accounts.specs.Assertions.{NameValue}
+use Rattle.cap_lin.specs.declared.row.Sort.TheVariants.{Perm}
+use Rattle.cap_prog.specs.Scopes.{HasSort}
+use Rattle.cap_goal_spec.specs.Environments.{binds}
 use Rattle.cap_account_resources.specs.Parts.{Table}
 use Rattle.cap_account_resources.proofs.Lists.{join-assoc, join-nil}
 use Rattle.cap_account_resources.proofs.Covering.{part-trans}
@@ -30,11 +34,14 @@ use Rattle.cap_account_assertions.proofs.TakeSteps.{Job, tasks_of, with_items, T
 use Rattle.cap_owners_spec.specs.Traced.{past_width, over, valuation}
 use Rattle.cap_owners_spec.specs.Walks.{Taking, Walk, on, Interpreting, pass_task, walk_below}
 use Rattle.cap_owners_fills_laws.proofs.Drawn.{item_met, items_met, item_told, items_told}
+use Rattle.cap_owners_fills_laws.proofs.Giving.{NamesFit}
 use Rattle.cap_owners_walks_laws.proofs.Leading.{Left}
 use Rattle.cap_account.proofs.Stocked.{part_stock}
-use Rattle.cap_owners_passes_laws.proofs.Rests.{into, below-wide}
+use Rattle.cap_owners_passes_laws.proofs.Rests.{walks_into, below-wide}
 use Rattle.cap_owners_passes_laws.proofs.Meets.{item-met-kept, item-told-kept, met-same, told-same, met-items, told-items}
-use Rattle.cap_owners_passes_laws.proofs.Takes.{AreNameTerms, TakesFrom, taking_from, Taking_into, IsTooWide, TakesTo}
+use Rattle.cap_owners_passes_laws.proofs.Bindings.{IsBoundIn, BindsOr, binds-item, not-both}
+use Rattle.cap_owners_passes_laws.proofs.Names.{IsShaped}
+use Rattle.cap_owners_passes_laws.proofs.Takes.{AreNameTerms, TakesFrom, taking_on, Taking_into, IsWide, TakesTo}
 use Rattle.cap_owners_values_laws.proofs.More.{FitsSort}
 
 -- what is left and what was taken are of what there was
@@ -71,6 +78,10 @@ module _ (p : Checked) (ks : List ℕ) (T : Table) (next : ℤ) where
     pub terms : AreNameTerms head.after.sorts (env_at head.after j.env)
     pub now : Taking
     pub names : values_in head.w (env_at head.after j.env) ≡ valuation now.fill.names
+    pub have : NamesFit j.scope now.fill.names
+    pub binds : BindsOr j.scope j.items rest (env_at head.after j.env)
+    pub shaped :
+        IsShaped j.scope vs (env_at s j.env) values (env_at head.after j.env) now.fill.names
     pub wildcards : List NameValue
     pub facts : List (ℤ × ℤ)
     pub more_wildcards : now.fill.wildcards ≡ top.fill.wildcards ++ wildcards
@@ -87,10 +98,10 @@ module _ (p : Checked) (ks : List ℕ) (T : Table) (next : ℤ) where
         ≡ facts ++ items_told p.program U a rest q r d)
     pub part : part_stock now.part ≡ both p.program (part_stock top.part) head.taken
     pub leads :
-        (enter : Interpreting) (w : Walk) (under : List Taking) →
-        Taking_into p ks enter j trees s (taking_from p ks next vs top under w)
-        ≡ Taking_into p ks enter (with_items j rest) children head.after
-        (taking_from p ks next values now under w)
+        (seating : Bool) (enter : Interpreting) (w : Walk) (under : List Taking) →
+        Taking_into p ks seating enter j trees s (taking_on p ks vs top under w)
+        ≡ Taking_into p ks seating enter (with_items j rest) children head.after
+        (taking_on p ks values now under w)
 
   module _ (j : Job) (trees : PlainTrees) (vs : List NameValue) (v : Valuation) (s : PlainState)
       (c : Stock) (top : Taking) (x : Step j trees vs v s c top) where
@@ -141,6 +152,21 @@ module _ (p : Checked) (ks : List ℕ) (T : Table) (next : ℤ) where
           terms = r.terms;
           taken = r.taken;
           names = λ some. r.names (λ e. x.names);
+          have = λ some. r.have (λ e. x.have);
+          binds = λ y has e. elim (x.binds y has e) [
+            | inl k ↦ r.binds y has k
+            | inr b ↦ (b.0, t.follows.stays y Perm has b.0 b.1)
+          ];
+          grows = (
+            x.shaped.grows.0 ++ r.grows.0,
+            r.grows.1
+                ∙ ap (λ us. us ++ r.grows.0) x.shaped.grows.1
+                ∙ sym (join-assoc vs x.shaped.grows.0 r.grows.0),
+          );
+          shaped = λ b.
+              let k = x.shaped.keeps b in
+              let m = r.shaped k in
+              (m.0, λ some. m.1 (λ e. (x.shaped.size, x.shaped.shares k)));
           wildcards = x.wildcards ++ r.wildcards;
           facts = x.facts ++ r.facts;
           more_wildcards =
@@ -177,18 +203,23 @@ module _ (p : Checked) (ks : List ℕ) (T : Table) (next : ℤ) where
               ∙ (stock-laws pp).assoc (part_stock top.part) h.taken t.given;
           made = r.made;
           are_made = r.are_made;
-          walks = λ enter w under below.
-              x.leads enter w under ∙ r.walks enter w under below;
+          counted = r.counted;
+          along = λ seating enter w under below.
+              x.leads seating enter w under ∙ r.along seating enter w under below;
+          walks = λ seating enter w under below.
+              x.leads seating enter (record w { next = next }) under
+              ∙ r.walks seating enter w under below;
         }
 
     pub step-to :
         (few many : ℕ) → few ≤ many →
-        (IsTooWide p ks next behind x.children x.values x.head.after x.now
+        (IsWide p ks next behind x.children x.values x.head.after x.now
         ⊎ TakesTo p ks T next behind x.children x.values x.head.w x.head.after x.head.left x.now
         few) →
-        IsTooWide p ks next j trees vs s top ⊎ TakesTo p ks T next j trees vs v s c top many
+        IsWide p ks next j trees vs s top ⊎ TakesTo p ks T next j trees vs v s c top many
     step-to few many le (inl wide) =
-        inl (λ enter w under below. x.leads enter w under ∙ wide enter w under below)
+        inl (λ seating enter w under below.
+        x.leads seating enter w under ∙ wide seating enter w under below)
     step-to few many le (inr r) = inr (step-took few many le r)
 
   -- ---- no items
@@ -242,6 +273,10 @@ module _ (p : Checked) (ks : List ℕ) (T : Table) (next : ℤ) where
         terms = f.terms;
         taken = top;
         names = λ some. some refl;
+        have = λ some. some refl;
+        binds = λ x has e. absurd (not-both e);
+        grows = ([], sym (join-nil vs));
+        shaped = λ b. (b, λ some. some refl);
         wildcards = [];
         facts = [];
         more_wildcards = sym (join-nil top.fill.wildcards);
@@ -255,8 +290,18 @@ module _ (p : Checked) (ks : List ℕ) (T : Table) (next : ℤ) where
         part = sym (none-right p.program (part_stock top.part));
         made = [];
         are_made = tt;
-        walks = λ enter w under below.
-            ap (λ rs. into enter p.program trees (goals_of s j.tasks) (record w {
+        counted = omega (arith, ints);
+        along = λ seating enter w under below.
+            let more : w.next ≡ w.next +ℤ pos 0 = omega (arith, ints) in
+            let same = sym (join-nil w.regions) in
+            λ i. walks_into seating enter p.program trees (goals_of s j.tasks) (record w {
+              values = vs;
+              next = more i;
+              taken = top ∷ under;
+              regions = same i;
+            });
+        walks = λ seating enter w under below.
+            ap (λ rs. walks_into seating enter p.program trees (goals_of s j.tasks) (record w {
               values = vs;
               next = next;
               taken = top ∷ under;
@@ -268,28 +313,29 @@ module _ (p : Checked) (ks : List ℕ) (T : Table) (next : ℤ) where
 
   -- a node's choice leaves one goal, which is gone to
   pub node-to :
-      (enter : Interpreting) (i : PlainItem) (more : Items) (j : Job) (ch : PlainChoice)
+      (seating : Bool) (enter : Interpreting) (i : PlainItem) (more : Items) (j : Job) (ch : PlainChoice)
       (kids : PlainTrees) (s : PlainState) (gs : List PlainGoal) (w u : Walk) →
       goals_left p.program
       (goal s (to_take (item i more) j.env j.most j.statement ∷ j.tasks)) ch ≡ gs →
       pass_task enter p.program s ch (to_take (item i more) j.env j.most j.statement) j.tasks w
       ≡ on 0 u →
-      Taking_into p ks enter (with_items j (item i more)) (tree (node ch kids) no_trees) s w
-      ≡ into enter p.program kids gs u
-  node-to enter i more j ch kids s gs w u e h =
-      λ k. walk_below enter p.program false kids (e k) (h k)
+      Taking_into p ks seating enter (with_items j (item i more)) (tree (node ch kids) no_trees) s w
+      ≡ walks_into seating enter p.program kids gs u
+  node-to seating enter i more j ch kids s gs w u e h =
+      λ k. walk_below enter p.program seating kids (e k) (h k)
 
   pub node-wide :
-      (enter : Interpreting) (i : PlainItem) (more : Items) (j : Job) (ch : PlainChoice)
+      (seating : Bool) (enter : Interpreting) (i : PlainItem) (more : Items) (j : Job) (ch : PlainChoice)
       (kids : PlainTrees) (s : PlainState) (w : Walk) →
       pass_task enter p.program s ch (to_take (item i more) j.env j.most j.statement) j.tasks w
       ≡ past_width →
-      Taking_into p ks enter (with_items j (item i more)) (tree (node ch kids) no_trees) s w
+      Taking_into p ks seating enter (with_items j (item i more)) (tree (node ch kids) no_trees) s w
       ≡ past_width
-  node-wide enter i more j ch kids s w h =
+  node-wide seating enter i more j ch kids s w h =
       let gs = goals_left p.program
       (goal s (to_take (item i more) j.env j.most j.statement ∷ j.tasks)) ch in
-      ap (walk_below enter p.program false kids gs) h ∙ below-wide enter p.program false kids gs
+      ap (walk_below enter p.program seating kids gs) h
+      ∙ below-wide enter p.program seating kids gs
 
   -- ---- an item goes
 
@@ -313,6 +359,13 @@ module _ (p : Checked) (ks : List ℕ) (T : Table) (next : ℤ) where
       pub now : Taking
       pub names :
           values_in taken.head.w (env_at taken.head.after j.env) ≡ valuation now.fill.names
+      pub have : NamesFit j.scope now.fill.names
+      pub binds_it :
+          (x : ℕ) → HasSort j.scope Perm x → binds x i ≡ true →
+          IsBoundIn (env_at taken.head.after j.env) x
+      pub shaped :
+          IsShaped j.scope vs (env_at s j.env) values (env_at taken.head.after j.env)
+          now.fill.names
       pub wildcards : List NameValue
       pub facts : List (ℤ × ℤ)
       pub more_wildcards : now.fill.wildcards ≡ top.fill.wildcards ++ wildcards
@@ -329,8 +382,8 @@ module _ (p : Checked) (ks : List ℕ) (T : Table) (next : ℤ) where
       pub passes :
           (enter : Interpreting) (w : Walk) (under : List Taking) →
           pass_task enter p.program s ch (to_take (item i more) j.env j.most j.statement) j.tasks
-          (taking_from p ks next vs top under w)
-          ≡ on 0 (taking_from p ks next values now under w)
+          (taking_on p ks vs top under w)
+          ≡ on 0 (taking_on p ks values now under w)
 
     pub item-step :
         AreFit p.program j.scope more → (bs : List Bring) (taken : Goes bs) → Passed bs taken →
@@ -358,6 +411,9 @@ module _ (p : Checked) (ks : List ℕ) (T : Table) (next : ℤ) where
           terms = x.terms;
           now = x.now;
           names = x.names;
+          have = x.have;
+          binds = binds-item j.scope i more (env_at h.after j.env) x.binds_it;
+          shaped = x.shaped;
           wildcards = x.wildcards;
           facts = x.facts;
           more_wildcards = x.more_wildcards;
@@ -372,8 +428,8 @@ module _ (p : Checked) (ks : List ℕ) (T : Table) (next : ℤ) where
                     (item-told-kept pp T U f a i (both pp h.taken q) q k ∙ here.1),
               );
           part = x.part;
-          leads = λ enter w under.
-              node-to enter i more j ch kids s (goals_of h.after (tasks_of (with_items j more)))
-              (taking_from p ks next vs top under w)
-              (taking_from p ks next x.values x.now under w) taken.goes.0 (x.passes enter w under);
+          leads = λ seating enter w under.
+              node-to seating enter i more j ch kids s (goals_of h.after (tasks_of (with_items j more)))
+              (taking_on p ks vs top under w)
+              (taking_on p ks x.values x.now under w) taken.goes.0 (x.passes enter w under);
         }

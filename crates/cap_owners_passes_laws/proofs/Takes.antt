@@ -1,7 +1,7 @@
 -- A walk over a Take: items are taken one after the other, and regions are created. It comes to the
 -- goals to which taking leads, at the values at which the state holds there. On top of what is
 -- taken is then by what the items are met, and what they own.
-use Rattle.std.proofs.Common.{◌≡◌, ◌⊎◌, inl, inr, ℕ, ◌+◌, ◌-◌, ◌<◌, ◌≤◌, ℤ, ◌<ℤ◌, true, List, ◌∷◌, ◌++◌, length, Option, Some, None, arith}
+use Rattle.std.proofs.Common.{◌≡◌, ◌⊎◌, inl, inr, ℕ, ◌+◌, ◌-◌, ◌<◌, ◌≤◌, ℤ, ◌<ℤ◌, pos, ◌+ℤ◌, Bool, true, List, ◌∷◌, ◌++◌, length, Option, Some, None, refl, sym, ap, ◌∙◌, arith}
 use Rattle.std.specs.Prelude.{slice_get, IsSomeAnd}
 use Rattle.std.specs.List.{AllByRecursion, AllZip}
 use Rattle.cap_lin.specs.Linear.{Linear}
@@ -9,6 +9,7 @@ use Rattle.cap_lin.specs.Values.{Valuation}
 use Rattle.cap_lin.specs.declared.row.Sort.{Sort}
 use Rattle.cap_lin.specs.declared.row.Sort.TheVariants.{Int}
 use Rattle.cap_prog.specs.Program.{PlainProgram}
+use Rattle.cap_prog.specs.Scopes.{Scope, region_scope}
 use Rattle.cap_goal_spec.specs.Terms.{lone_variable}
 use Rattle.cap_goal_spec.specs.States.{PlainEnv, PlainState, goals_of}
 use Rattle.cap_goal_spec.specs.Environments.{term_of}
@@ -36,7 +37,10 @@ use Rattle.cap_owners_spec.specs.Traced.{Traced, past_width, over, valuation}
 use Rattle.cap_owners_spec.specs.Track.{TrackedRegion}
 use Rattle.cap_owners_spec.specs.Walks.{Taking, Walk, no_items, Interpreting, Halt}
 use Rattle.cap_owners_fills_laws.proofs.Drawn.{items_met, items_told, IsMetBy}
-use Rattle.cap_owners_passes_laws.proofs.Rests.{into}
+use Rattle.cap_owners_fills_laws.proofs.Giving.{NamesFit}
+use Rattle.cap_owners_passes_laws.proofs.Names.{SharesBound, NamesShare}
+use Rattle.cap_owners_passes_laws.proofs.Bindings.{Binds}
+use Rattle.cap_owners_passes_laws.proofs.Rests.{walks_into}
 use Rattle.cap_owners_values_laws.proofs.More.{FitsSort}
 
 -- ---- names
@@ -86,10 +90,20 @@ pub record IsTracked (p : PlainProgram) (U : Table) (c : Creation) (r : TrackedR
     pub met :
         IsMetBy p U own.0.values own.0.case.items (part_stock r.owned.part) own.0.met.0 own.0.met.1
         r.fill
+    pub fits : NamesFit (region_scope own.0.type own.0.case.names) r.fill.names
+    pub size : length r.fill.names ≡ own.0.type.params + length own.0.case.names
+
+-- there is a value for each name, and a share for each that is bound and is one
+abbrev pub HasShares : Scope → PlainEnv → List NameValue → Type 0
+HasShares sc env ns = (length ns ≡ length env) × NamesShare sc env ns
 
 -- all numbers are below this one
 abbrev pub AreBelow : ℤ → List TrackedRegion → Type 0
 AreBelow next rs = AllByRecursion (λ r. r.owned.region.number <ℤ next) rs
+
+-- where regions may be created they are numbered from here on
+abbrev pub IsNumbered : ℕ → ℤ → Walk → Type 0
+IsNumbered most next w = 0 < most → (w.next ≡ next) × AreBelow next w.regions
 
 -- ---- what is taken
 
@@ -110,19 +124,113 @@ module _ (p : Checked) (ks : List ℕ) where
   taking_from next vs top rest w = record w { values = vs; next = next; taken = top ∷ rest }
 
   abbrev pub Taking_into :
-      Interpreting → Job → PlainTrees → PlainState → Walk → Traced Halt
-  Taking_into enter j trees s w = into enter p.program trees (goals_of s (tasks_of j)) w
+      Bool → Interpreting → Job → PlainTrees → PlainState → Walk → Traced Halt
+  Taking_into seating enter j trees s w =
+      walks_into seating enter p.program trees (goals_of s (tasks_of j)) w
 
   -- a number on the way is too wide
   abbrev pub IsTooWide :
       ℤ → Job → PlainTrees → List NameValue → PlainState → Taking → Type 0
   IsTooWide next j trees vs s top =
-      (enter : Interpreting) (w : Walk) (rest : List Taking) → AreBelow next w.regions →
-      Taking_into enter j trees s (taking_from next vs top rest w) ≡ past_width
+      (seating : Bool) (enter : Interpreting) (w : Walk) (rest : List Taking) → AreBelow next w.regions →
+      Taking_into seating enter j trees s (taking_from next vs top rest w) ≡ past_width
+
+  -- a walk that is to take these items, whichever number a region of its would get
+  abbrev pub taking_on : List NameValue → Taking → List Taking → Walk → Walk
+  taking_on vs top rest w = record w { values = vs; taken = top ∷ rest }
+
+  abbrev pub IsWide :
+      ℤ → Job → PlainTrees → List NameValue → PlainState → Taking → Type 0
+  IsWide next j trees vs s top =
+      (seating : Bool) (enter : Interpreting) (w : Walk) (rest : List Taking) → IsNumbered j.most next w →
+      Taking_into seating enter j trees s (taking_on vs top rest w) ≡ past_width
+
+  -- one is where the other is, if regions may be created
+  pub wide-on :
+      (next : ℤ) (j : Job) (trees : PlainTrees) (vs : List NameValue) (s : PlainState)
+      (top : Taking) → IsWide next j trees vs s top → IsTooWide next j trees vs s top
+  wide-on next j trees vs s top wide seating enter w rest below =
+      wide seating enter (record w { next = next }) rest (λ l. (refl, below))
+
+  pub either-on :
+      (next : ℤ) (j : Job) (trees : PlainTrees) (vs : List NameValue) (s : PlainState)
+      (top : Taking) {A : Type 0} → IsWide next j trees vs s top ⊎ A →
+      IsTooWide next j trees vs s top ⊎ A
+  either-on next j trees vs s top (inl wide) = inl (wide-on next j trees vs s top wide)
+  either-on next j trees vs s top (inr x) = inr x
+
+  pub wide-at :
+      (next : ℤ) (j : Job) (trees : PlainTrees) (vs : List NameValue) (s : PlainState)
+      (top : Taking) → 0 < j.most → IsTooWide next j trees vs s top → IsWide next j trees vs s top
+  wide-at next j trees vs s top some wide seating enter w rest numbered =
+      let n = numbered some in
+      (λ i. Taking_into seating enter j trees s
+      (record w { values = vs; next = n.0 i; taken = top ∷ rest }))
+      ∙ wide seating enter w rest n.1
+
+  pub either-at :
+      (next : ℤ) (j : Job) (trees : PlainTrees) (vs : List NameValue) (s : PlainState)
+      (top : Taking) {A : Type 0} → 0 < j.most → IsTooWide next j trees vs s top ⊎ A →
+      IsWide next j trees vs s top ⊎ A
+  either-at next j trees vs s top some (inl wide) =
+      inl (wide-at next j trees vs s top some wide)
+  either-at next j trees vs s top some (inr x) = inr x
+
+  -- it comes to these trees and this state, at these values and with this on top, whichever number a
+  -- region of its would get
+  abbrev pub AlongTo :
+      ℤ → Job → PlainTrees → List NameValue → PlainState → Taking → PlainTrees → PlainState →
+      List NameValue → Taking → List TrackedRegion → Type 0
+  AlongTo next j trees vs s top children after values taken made =
+      (seating : Bool) (enter : Interpreting) (w : Walk) (rest : List Taking) → IsNumbered j.most next w →
+      Taking_into seating enter j trees s (taking_on vs top rest w)
+      ≡ walks_into seating enter p.program children (goals_of after j.tasks) (record w {
+        values = values;
+        next = w.next +ℤ pos (length made);
+        taken = taken ∷ rest;
+        regions = w.regions ++ made;
+      })
+
+  -- and so where the next region has this number
+  abbrev pub WalksTo :
+      ℤ → Job → PlainTrees → List NameValue → PlainState → Taking → PlainTrees → PlainState →
+      List NameValue → ℤ → Taking → List TrackedRegion → Type 0
+  WalksTo next j trees vs s top children after values later taken made =
+      (seating : Bool) (enter : Interpreting) (w : Walk) (rest : List Taking) → AreBelow next w.regions →
+      Taking_into seating enter j trees s (taking_from next vs top rest w)
+      ≡ walks_into seating enter p.program children (goals_of after j.tasks) (record w {
+        values = values;
+        next = later;
+        taken = taken ∷ rest;
+        regions = w.regions ++ made;
+      })
+
+  -- one is the other, if regions may be created
+  pub along-at :
+      (next later : ℤ) (j : Job) (trees : PlainTrees) (vs : List NameValue) (s : PlainState)
+      (top : Taking) (children : PlainTrees) (after : PlainState) (values : List NameValue)
+      (taken : Taking) (made : List TrackedRegion) → 0 < j.most →
+      later ≡ next +ℤ pos (length made) →
+      WalksTo next j trees vs s top children after values later taken made →
+      AlongTo next j trees vs s top children after values taken made
+  along-at next later j trees vs s top children after values taken made some counted walks
+      seating enter w rest numbered =
+      let n = numbered some in
+      let same : later ≡ w.next +ℤ pos (length made) =
+      counted ∙ ap (λ m. m +ℤ pos (length made)) (sym n.0) in
+      (λ i. Taking_into seating enter j trees s
+      (record w { values = vs; next = n.0 i; taken = top ∷ rest }))
+      ∙ walks seating enter w rest n.1
+      ∙ (λ i. walks_into seating enter p.program children (goals_of after j.tasks) (record w {
+        values = values;
+        next = same i;
+        taken = taken ∷ rest;
+        regions = w.regions ++ made;
+      }))
 
   -- The items are taken so, by soundness's law, at these values. By what they are met at all values
-  -- alike to these is on top then, with what they own; where there are none its names stay as they
-  -- are. Each region that was created stands behind the walk's, as it is tracked.
+  -- alike to these is on top then, with what they own, and its names' values are of their sorts; where
+  -- there are none its names stay as they are. Each region that was created stands behind the walk's, as it is tracked.
   pub record TakesTo (T : Table) (next : ℤ) (j : Job) (trees : PlainTrees) (vs : List NameValue)
       (v : Valuation) (s : PlainState) (c : Stock) (top : Taking) (most_trees : ℕ) : Type 0 where
     pub took : Took p ks T next j v s c most_trees
@@ -134,6 +242,16 @@ module _ (p : Checked) (ks : List ℕ) where
     pub names :
         (no_items j.items ≡ true → values_in v (env_at s j.env) ≡ valuation top.fill.names) →
         values_in took.w (env_at took.after j.env) ≡ valuation taken.fill.names
+    pub have :
+        (no_items j.items ≡ true → NamesFit j.scope top.fill.names) →
+        NamesFit j.scope taken.fill.names
+    pub grows : (ws : List NameValue) × (values ≡ vs ++ ws)
+    pub binds : Binds j.scope j.items (env_at took.after j.env)
+    pub shaped :
+        SharesBound j.scope vs (env_at s j.env) →
+        SharesBound j.scope values (env_at took.after j.env)
+        × ((no_items j.items ≡ true → HasShares j.scope (env_at s j.env) top.fill.names) →
+        HasShares j.scope (env_at took.after j.env) taken.fill.names)
     pub wildcards : List NameValue
     pub facts : List (ℤ × ℤ)
     pub more_wildcards : taken.fill.wildcards ≡ top.fill.wildcards ++ wildcards
@@ -149,17 +267,20 @@ module _ (p : Checked) (ks : List ℕ) where
     pub part : part_stock taken.part ≡ both p.program (part_stock top.part) took.given
     pub made : List TrackedRegion
     pub are_made : AllZip (IsTracked p.program took.U) took.created made
+    pub counted : took.later ≡ next +ℤ pos (length made)
+    pub along : AlongTo next j trees vs s top took.children took.after values taken made
     pub walks :
-        (enter : Interpreting) (w : Walk) (rest : List Taking) → AreBelow next w.regions →
-        Taking_into enter j trees s (taking_from next vs top rest w)
-        ≡ into enter p.program took.children (goals_of took.after j.tasks) (record w {
-          values = values;
-          next = took.later;
-          taken = taken ∷ rest;
-          regions = w.regions ++ made;
-        })
+        WalksTo next j trees vs s top took.children took.after values took.later taken made
 
   -- so it is, or a walk is too wide
+  abbrev pub AlongLaw : ℕ → Type 0
+  AlongLaw most_trees =
+      (T : Table) (next : ℤ) (lim : Holding) (j : Job) (trees : PlainTrees) (vs : List NameValue)
+      (v : Valuation) (s : PlainState) (c : Stock) (top : Taking) → trees_size trees ≤ most_trees →
+      Open p.N trees s (tasks_of j) → TakesFrom T next lim j vs v s c top.part →
+      IsWide next j trees vs s top ⊎ TakesTo T next j trees vs v s c top most_trees
+
+  -- of walks that have this number for the next region
   abbrev pub TakesLaw : ℕ → Type 0
   TakesLaw most_trees =
       (T : Table) (next : ℤ) (lim : Holding) (j : Job) (trees : PlainTrees) (vs : List NameValue)

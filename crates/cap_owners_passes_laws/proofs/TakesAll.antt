@@ -19,7 +19,7 @@ use Rattle.cap_account_assertions.proofs.TreeSizes.{tree_size, trees_size}
 use Rattle.cap_account_assertions.proofs.TakeSteps.{Job, tasks_of, with_items}
 use Rattle.cap_owners_spec.specs.Traced.{valuation}
 use Rattle.cap_owners_spec.specs.Walks.{Taking}
-use Rattle.cap_owners_passes_laws.proofs.Takes.{TakesFrom, IsTooWide, TakesTo, TakesLaw}
+use Rattle.cap_owners_passes_laws.proofs.Takes.{TakesFrom, IsWide, TakesTo, AlongLaw}
 use Rattle.cap_owners_passes_laws.proofs.Steps.{from-there, step-to, none-to}
 use Rattle.cap_owners_passes_laws.proofs.Plain.{Starting, Wide, Steps, compare-step, cell-step}
 use Rattle.cap_owners_passes_laws.proofs.Facts.{fact-step}
@@ -43,24 +43,24 @@ GuardSteps p ks =
 -- a region is created, where the law holds of smaller trees
 abbrev pub CreateTakes : Checked → List ℕ → Type 0
 CreateTakes p ks =
-    (size : ℕ) → TakesLaw p ks size → (T : Table) (next : ℤ) (lim : Holding) (j : Job)
+    (size : ℕ) → AlongLaw p ks size → (T : Table) (next : ℤ) (lim : Holding) (j : Job)
     (vs : List NameValue) (s : PlainState) (c : Stock) (top : Taking) (case : ℕ) (place : Place)
     (n k : ℕ) (args : List Slot) (x : Slot) (more : Items) (kids : PlainTrees) →
     trees_size kids ≤ size →
     Starting p ks T next lim j vs s c top (item (fact place n k args x) more) →
     p.N (node (by_create case) kids) s
     (tasks_of (with_items j (item (fact place n k args x) more))) →
-    IsTooWide p ks next (with_items j (item (fact place n k args x) more))
+    IsWide p ks next (with_items j (item (fact place n k args x) more))
     (tree (node (by_create case) kids) no_trees) vs s top
     ⊎ TakesTo p ks T next (with_items j (item (fact place n k args x) more))
     (tree (node (by_create case) kids) no_trees) vs (valuation vs) s c top (suc size)
 
 module _ (p : Checked) (ks : List ℕ) (guards : GuardSteps p ks) (creates : CreateTakes p ks) where
-  module _ (size : ℕ) (law : TakesLaw p ks size) (T : Table) (next : ℤ) (lim : Holding) (j : Job)
+  module _ (size : ℕ) (law : AlongLaw p ks size) (T : Table) (next : ℤ) (lim : Holding) (j : Job)
       (vs : List NameValue) (s : PlainState) (c : Stock) (top : Taking) where
     abbrev Comes : Items → PlainTrees → Type 0
     Comes items trees =
-        IsTooWide p ks next (with_items j items) trees vs s top
+        IsWide p ks next (with_items j items) trees vs s top
         ⊎ TakesTo p ks T next (with_items j items) trees vs (valuation vs) s c top (suc size)
 
     -- a step, and then the others
@@ -115,38 +115,38 @@ module _ (p : Checked) (ks : List ℕ) (guards : GuardSteps p ks) (creates : Cre
 
   -- all items, where the law holds of smaller trees
   takes-items :
-      (size : ℕ) → ((less : ℕ) → size ≡ suc less → TakesLaw p ks less) → (T : Table) (next : ℤ)
+      (size : ℕ) → ((less : ℕ) → size ≡ suc less → AlongLaw p ks less) → (T : Table) (next : ℤ)
       (lim : Holding) (j : Job) (trees : PlainTrees) (vs : List NameValue) (v : Valuation)
       (s : PlainState) (c : Stock) (top : Taking) → trees_size trees ≤ size → (is : Items) →
       Open p.N trees s (tasks_of (with_items j is)) →
       TakesFrom p ks T next lim (with_items j is) vs v s c top.part →
-      IsTooWide p ks next (with_items j is) trees vs s top
+      IsWide p ks next (with_items j is) trees vs s top
       ⊎ TakesTo p ks T next (with_items j is) trees vs v s c top size
   takes-items size law T next lim j trees vs v s c top le none h f =
       inr (none-to p ks T next lim j trees vs v s c top size le h f)
   takes-items size law T next lim j trees vs v s c top le (item i more) h f =
       let d = lone-child p.N trees s (to_take (item i more) j.env j.most j.statement ∷ j.tasks) h in
-      subst (λ ts. IsTooWide p ks next (with_items j (item i more)) ts vs s top
+      subst (λ ts. IsWide p ks next (with_items j (item i more)) ts vs s top
       ⊎ TakesTo p ks T next (with_items j (item i more)) ts vs v s c top size) (sym d.2)
       (by size law d.0 (subst (λ ts. trees_size ts ≤ size) d.2 le) d.1 v f.valued f)
     where
       by :
-          (size : ℕ) → ((less : ℕ) → size ≡ suc less → TakesLaw p ks less) → (d : PlainTree) →
+          (size : ℕ) → ((less : ℕ) → size ≡ suc less → AlongLaw p ks less) → (d : PlainTree) →
           trees_size (tree d no_trees) ≤ size → p.N d s (tasks_of (with_items j (item i more))) →
           (v : Valuation) → v ≡ valuation vs →
           TakesFrom p ks T next lim (with_items j (item i more)) vs v s c top.part →
-          IsTooWide p ks next (with_items j (item i more)) (tree d no_trees) vs s top
+          IsWide p ks next (with_items j (item i more)) (tree d no_trees) vs s top
           ⊎ TakesTo p ks T next (with_items j (item i more)) (tree d no_trees) vs v s c top size
       by zero law (node x below) le k v e f = absurd (omega (arith, le))
       by (suc less) law d le k v e f =
           subst (λ u. TakesFrom p ks T next lim (with_items j (item i more)) vs u s c top.part →
-          IsTooWide p ks next (with_items j (item i more)) (tree d no_trees) vs s top
+          IsWide p ks next (with_items j (item i more)) (tree d no_trees) vs s top
           ⊎ TakesTo p ks T next (with_items j (item i more)) (tree d no_trees) vs u s c top
           (suc less)) (sym e)
           (λ g. takes-node less (law less refl) T next lim j vs s c top i more d g
           (omega (arith, le)) k) f
 
-  pub takes : (size : ℕ) → TakesLaw p ks size
+  pub takes : (size : ℕ) → AlongLaw p ks size
   takes zero T next lim j trees vs v s c top le h f =
       takes-items zero (λ less e. absurd (no-zero less e)) T next lim j trees vs v s c top le
       j.items h f
@@ -154,7 +154,7 @@ module _ (p : Checked) (ks : List ℕ) (guards : GuardSteps p ks) (creates : Cre
       no-zero : (n : ℕ) → 0 ≡ suc n → ⊥
       no-zero n e = omega (arith, e)
   takes (suc size) T next lim j trees vs v s c top le h f =
-      takes-items (suc size) (λ less e. subst (TakesLaw p ks) (same size less e) (takes size)) T
+      takes-items (suc size) (λ less e. subst (AlongLaw p ks) (same size less e) (takes size)) T
       next lim j trees vs v s c top le j.items h f
     where
       same : (m n : ℕ) → suc m ≡ suc n → m ≡ n

@@ -31,16 +31,16 @@ use Rattle.cap_account_states.proofs.Naming.{values_in, values-mean}
 use Rattle.cap_account_assertions.proofs.Laws.{StateAt, IsOwner, Creation}
 use Rattle.cap_account_assertions.proofs.TakeSteps.{Job, MadeFrom}
 use Rattle.cap_account_assertions.proofs.TakenLaws.{FreeFrom, job_of, start-in-room}
-use Rattle.cap_account_assertions.proofs.TakenStill.{still-of}
+use Rattle.cap_account_assertions.proofs.TakenStill.{still-of, start-as-it-is}
 use Rattle.cap_owners_passes_laws.proofs.Meets.{items-met-kept, items-told-kept, items-met-out, items-told-out}
 use Rattle.cap_prog.specs.Scopes.{Scope}
 use Rattle.cap_owners_spec.specs.Traced.{valuation}
 use Rattle.cap_owners_spec.specs.Track.{TrackedRegion, tracked_at}
 use Rattle.cap_owners_spec.specs.Walks.{nothing_taken, no_items}
-use Rattle.cap_owners_fills_laws.proofs.Drawn.{IsMetBy, Tells}
+use Rattle.cap_owners_fills_laws.proofs.Drawn.{IsMetBy, IsMetOr, Tells}
 use Rattle.cap_account.proofs.Stocked.{part_stock}
 use Rattle.cap_owners_passes_laws.proofs.Parted.{none-held}
-use Rattle.cap_owners_passes_laws.proofs.Takes.{IsTracked, AreNameTerms, AreBelow, TakesFrom, TakesTo, TakesLaw}
+use Rattle.cap_owners_passes_laws.proofs.Takes.{IsTracked, AreNameTerms, AreBelow, TakesFrom, either-on, TakesTo, AlongLaw, TakesLaw}
 use Rattle.cap_owners_passes_laws.proofs.TakesAll.{takes}
 use Rattle.cap_owners_passes_laws.proofs.Guards.{guard-steps}
 use Rattle.cap_owners_passes_laws.proofs.Creates.{create-takes}
@@ -48,10 +48,18 @@ use Rattle.cap_owners_values_laws.proofs.More.{FitsSort}
 
 -- ---- the law
 
+pub takes-along :
+    (p : Checked) → AllByRecursion (RegionFits p.program) p.program.regions → (ks : List ℕ)
+    (size : ℕ) → AlongLaw p ks size
+takes-along p regions ks = takes p ks (guard-steps p ks) (create-takes p regions ks)
+
+-- of walks that have this number for the next region
 pub takes-law :
     (p : Checked) → AllByRecursion (RegionFits p.program) p.program.regions → (ks : List ℕ)
     (size : ℕ) → TakesLaw p ks size
-takes-law p regions ks = takes p ks (guard-steps p ks) (create-takes p regions ks)
+takes-law p regions ks size T next lim j trees vs v s c top le goes f =
+    either-on p ks next j trees vs s top
+    (takes-along p regions ks size T next lim j trees vs v s c top le goes f)
 
 module _ (p : Checked) (ks : List ℕ) (T : Table) (next : ℤ) (j : Job) (vs : List NameValue)
     (s : PlainState) (c : Stock) where
@@ -77,9 +85,52 @@ module _ (p : Checked) (ks : List ℕ) (T : Table) (next : ℤ) (j : Job) (vs : 
         (sym (ap (λ q. both p.program q c) none-held ∙ (stock-laws p.program).zero_left c)) inside;
   }
 
+  -- from what is within the room, where none may be created
+  pub from-still :
+      j.most ≡ 0 → StateAt p.program ks T j.scope j.env (valuation vs) s →
+      AllByRecursion (λ k. k < length s.sorts) ks → AreFit p.program j.scope j.items →
+      Backed p.program (valuation vs) s c → FitsRoom p.program T c → AllZip FitsSort s.sorts vs →
+      AreNameTerms s.sorts (env_at s j.env) → (h : Heap) →
+      ((a z : ℤ) → c.cells a z ≤ cells_of h a z) →
+      TakesFrom p ks T next (room p.program T) j vs (valuation vs) s c no_part
+  from-still none at low fits backed inside sorted terms h cells = record {
+    start = start-as-it-is p.program ks T next j none (valuation vs) s c at low fits backed inside;
+    valued = refl;
+    sorted = sorted;
+    terms = terms;
+    heap = h;
+    cells = λ a z.
+        let e = ap (λ (q : Stock). q.cells a z) none-held in
+        let l = cells a z in omega (arith, e, l);
+    guards =
+        subst (λ q. ArePartOf p.program q.guards (room p.program T))
+        (sym (ap (λ q. both p.program q c) none-held ∙ (stock-laws p.program).zero_left c)) inside;
+  }
+
   module _ (trees : PlainTrees) (v : Valuation) (size : ℕ)
       (t : TakesTo p ks T next j trees vs v s c nothing_taken size) where
     -- what there is to be taken is met by what is on top
+    pub taken-met-or :
+        (r : Stock) →
+        IsMetOr p.program t.took.U (values_in t.took.w (env_at t.took.after j.env)) j.items
+        (both p.program t.took.given r) r
+        (t.took.draws t.took.w (alike-same (Old t.took.after) t.took.w)
+        (values_in t.took.w (env_at t.took.after j.env))
+        (values-mean j.scope t.took.w (env_at t.took.after j.env)) r) t.taken.fill
+    taken-met-or r =
+        let w = t.took.w in
+        let env = env_at t.took.after j.env in
+        let met = t.met w (alike-same (Old t.took.after) w) (values_in w env)
+        (values-mean j.scope w env) r (ap (λ (u : Valuation). u.fraction.under) t.valued) in
+        record {
+          names = λ some. t.names (λ e. absurd (true-false (sym e ∙ some)));
+          wildcards = met.0 ∙ sym t.more_wildcards;
+          facts = met.1 ∙ sym t.more_facts;
+        }
+      where
+        true-false : true ≡ false → ⊥
+        true-false e = cc
+
     pub taken-met :
         no_items j.items ≡ false → (r : Stock) →
         IsMetBy p.program t.took.U (values_in t.took.w (env_at t.took.after j.env)) j.items
@@ -88,18 +139,8 @@ module _ (p : Checked) (ks : List ℕ) (T : Table) (next : ℤ) (j : Job) (vs : 
         (values_in t.took.w (env_at t.took.after j.env))
         (values-mean j.scope t.took.w (env_at t.took.after j.env)) r) t.taken.fill
     taken-met some r =
-        let w = t.took.w in
-        let env = env_at t.took.after j.env in
-        let met = t.met w (alike-same (Old t.took.after) w) (values_in w env)
-        (values-mean j.scope w env) r (ap (λ (u : Valuation). u.fraction.under) t.valued) in
-        record {
-          names = t.names (λ e. absurd (true-false (sym e ∙ some)));
-          wildcards = met.0 ∙ sym t.more_wildcards;
-          facts = met.1 ∙ sym t.more_facts;
-        }
-      where
-        true-false : true ≡ false → ⊥
-        true-false e = cc
+        let m = taken-met-or r in
+        record { names = m.names some; wildcards = m.wildcards; facts = m.facts }
 
     -- and the part has what is given
     pub taken-part : part_stock t.taken.part ≡ t.took.given
@@ -109,25 +150,24 @@ module _ (p : Checked) (ks : List ℕ) (T : Table) (next : ℤ) (j : Job) (vs : 
         ∙ (stock-laws p.program).zero_left t.took.given
 
 -- where none may be created, what is held has the items, met by what is on top
-pub still-met :
+pub still-met-or :
     (p : Checked) (ks : List ℕ) (T : Table) (sc : Scope) (e n : ℕ) (items : Items)
     (ts : List PlainTask) (trees : PlainTrees) (vs : List NameValue) (v : Valuation)
     (s : PlainState) (held : Stock) (next : ℤ) (size : ℕ)
     (t : TakesTo p ks T next (job_of sc e 0 n items ts) trees vs v s held nothing_taken size) →
-    no_items items ≡ false →
-    IsMetBy p.program T (values_in t.took.w (env_at t.took.after e)) items held
+    IsMetOr p.program T (values_in t.took.w (env_at t.took.after e)) items held
     ((still-of p ks T sc e n items ts v s held next size t.took).met t.took.w
     (alike-same (Old t.took.after) t.took.w) (values_in t.took.w (env_at t.took.after e))
     (values-mean sc t.took.w (env_at t.took.after e))).0
     ((still-of p ks T sc e n items ts v s held next size t.took).met t.took.w
     (alike-same (Old t.took.after) t.took.w) (values_in t.took.w (env_at t.took.after e))
     (values-mean sc t.took.w (env_at t.took.after e))).1 t.taken.fill
-still-met p ks T sc e n items ts trees vs v s held next size t some =
+still-met-or p ks T sc e n items ts trees vs v s held next size t =
     let pp = p.program in
     let X = values_in t.took.w (env_at t.took.after e) in
     let d = t.took.draws t.took.w (alike-same (Old t.took.after) t.took.w) X
     (values-mean sc t.took.w (env_at t.took.after e)) no_stock in
-    let m = taken-met p ks T next (job_of sc e 0 n items ts) vs s held trees v size t some no_stock
+    let m = taken-met-or p ks T next (job_of sc e 0 n items ts) vs s held trees v size t no_stock
     in
     record {
       names = m.names;
@@ -143,10 +183,27 @@ still-met p ks T sc e n items ts trees vs v s held next size t some =
           ∙ m.facts;
     }
 
+pub still-met :
+    (p : Checked) (ks : List ℕ) (T : Table) (sc : Scope) (e n : ℕ) (items : Items)
+    (ts : List PlainTask) (trees : PlainTrees) (vs : List NameValue) (v : Valuation)
+    (s : PlainState) (held : Stock) (next : ℤ) (size : ℕ)
+    (t : TakesTo p ks T next (job_of sc e 0 n items ts) trees vs v s held nothing_taken size) →
+    no_items items ≡ false →
+    IsMetBy p.program T (values_in t.took.w (env_at t.took.after e)) items held
+    ((still-of p ks T sc e n items ts v s held next size t.took).met t.took.w
+    (alike-same (Old t.took.after) t.took.w) (values_in t.took.w (env_at t.took.after e))
+    (values-mean sc t.took.w (env_at t.took.after e))).0
+    ((still-of p ks T sc e n items ts v s held next size t.took).met t.took.w
+    (alike-same (Old t.took.after) t.took.w) (values_in t.took.w (env_at t.took.after e))
+    (values-mean sc t.took.w (env_at t.took.after e))).1 t.taken.fill
+still-met p ks T sc e n items ts trees vs v s held next size t some =
+    let m = still-met-or p ks T sc e n items ts trees vs v s held next size t in
+    record { names = m.names some; wildcards = m.wildcards; facts = m.facts }
+
 -- ---- tables
 
 -- what a track tells at a number
-abbrev told_at : List TrackedRegion → ℤ → Option Known
+abbrev pub told_at : List TrackedRegion → ℤ → Option Known
 told_at rs n =
     option_map
     (λ (r : TrackedRegion). known_as r.owned.region.kind r.owned.region.args
@@ -160,7 +217,7 @@ not-same a b e q =
     apart e = cc
 
 -- regions that were created are told of as they are in the table, and no others
-made-told :
+pub made-told :
     (p : PlainProgram) (U : Table) (cs : List Creation) (rs : List TrackedRegion) →
     AllZip (IsTracked p U) cs rs → AllByRecursion (IsOwner p U) (map (λ c. c.owner) cs) → (n : ℤ) →
     (told_at rs n ≡ U n)
@@ -208,7 +265,7 @@ made-told p U (c ∷ cs) (r ∷ rs) h o n =
         ]
 
 -- behind those of a track
-behind :
+pub behind :
     (rs ss : List TrackedRegion) (n : ℤ) →
     ((r : TrackedRegion) × (tracked_at rs n ≡ Some r) × (tracked_at (rs ++ ss) n ≡ Some r))
     ⊎ ((tracked_at rs n ≡ None) × (tracked_at (rs ++ ss) n ≡ tracked_at ss n))

@@ -42,6 +42,8 @@ tracked-on p U V k c r t =
             items-told-kept p U V k o.values o.case.items (part_stock r.owned.part) o.met.0 o.met.1
             ∙ t.met.facts;
       };
+      fits = t.fits;
+      size = t.size;
     }
 
 pub all-tracked-on :

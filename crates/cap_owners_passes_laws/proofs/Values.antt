@@ -46,7 +46,7 @@ use Rattle.cap_owners_spec.specs.Traced.{Traced, traced, past_width, untold, val
 use Rattle.cap_owners_spec.specs.Filling.{met, atom_met}
 use Rattle.cap_owners_spec.specs.Walks.{Taking, asked_reading, new_share}
 use Rattle.cap_owners_laws.specs.Owned.{IsTold}
-use Rattle.cap_owners_passes_laws.proofs.Names.{NamesSo, IsValue, int-term, met-names, met-terms}
+use Rattle.cap_owners_passes_laws.proofs.Names.{NamesSo, SharesBound, shares-met, int-only, IsValue, int-term, met-names, met-terms}
 use Rattle.cap_owners_passes_laws.proofs.Elements.{IsAskedValue, IsCounted, settled-found, open-found}
 use Rattle.cap_owners_passes_laws.proofs.Takes.{IsNameTerm, AreNameTerms}
 use Rattle.cap_owners_passes_laws.proofs.Plain.{Starting}
@@ -176,7 +176,7 @@ module _ (p : Checked) (ks : List ℕ) (T : Table) (next : ℤ) (lim : Holding) 
     (cs : List Cert) (place : Place) (n r m : ℕ) (asked : Asked) (more : Items) (kids : PlainTrees)
     (f : Starting p ks T next lim j vs s c top (item (atom place n r m asked) more))
     (g : Found p ks T next lim j vs s c top k way cs place n r m asked more kids f)
-    (ns : List NameValue) (so : NamesSo (valuation vs) (env_at s j.env) ns)
+    (ns : List NameValue) (so : NamesSo j.scope vs (env_at s j.env) ns)
     (closed : is_open asked (env_at s j.env) ≡ false) where
   abbrev v : Valuation
   v = valuation vs
@@ -206,11 +206,12 @@ module _ (p : Checked) (ks : List ℕ) (T : Table) (next : ℤ) (lim : Holding) 
       (y : NameValue) (by : List NameValue) (t : Linear) →
       atom_met vs ns g.piece.form (asked_reading env asked) ≡ traced y →
       new_share asked (asked_reading env asked) y ≡ [] → AreNameTerms s.sorts g.later →
-      NamesSo (valuation vs) g.later
+      NamesSo j.scope vs g.later
       (met (asked_reading env asked) y (record top.fill { names = ns })).names →
+      (SharesBound j.scope vs env → SharesBound j.scope vs g.later) →
       IsAskedValue asked (valuation by) t y → Wants (valuation by) (asked_of asked t) g.taken →
       Here
-  closed-value y by t found none terms names is wants = record {
+  closed-value y by t found none terms names keeps is wants = record {
     value_is = y;
     new = vs;
     found_it = found;
@@ -220,6 +221,7 @@ module _ (p : Checked) (ks : List ℕ) (T : Table) (next : ℤ) (lim : Holding) 
     sorted = subst (λ os. AllZip FitsSort os vs) (sym no-sorts) f.sorted;
     terms = subst (λ os. AreNameTerms os g.later) (sym no-sorts) terms;
     names = names;
+    keeps = keeps;
     by = by;
     term = t;
     is_value = is;
@@ -260,9 +262,10 @@ module _ (p : Checked) (ks : List ℕ) (T : Table) (next : ℤ) (lim : Holding) 
           inr (closed-value y ns t q
           (ap (λ d. new_share asked d y) (slot ∙ e) ∙ none y)
           (subst (AreNameTerms s.sorts) (sym later) f.terms)
-          (subst (λ d. NamesSo (valuation vs) g.later
+          (subst (λ d. NamesSo j.scope vs g.later
           (met d y (record top.fill { names = ns })).names) (sym (slot ∙ e))
-          (subst (λ u. NamesSo (valuation vs) u ns) (sym later) so)) h wanted)
+          (subst (λ u. NamesSo j.scope vs u ns) (sym later) so))
+          (subst (SharesBound j.scope vs) (sym later)) h wanted)
 
   -- a unique guard has no slot
   pub unique-value :
@@ -298,9 +301,10 @@ module _ (p : Checked) (ks : List ℕ) (T : Table) (next : ℤ) (lim : Holding) 
       by (traced y) q h =
           inr (closed-value y ns zero_value q (ap (λ b. new_share b (asked_reading env b) y) is)
           (subst (AreNameTerms s.sorts) (sym later) f.terms)
-          (subst (λ d. NamesSo (valuation vs) g.later
+          (subst (λ d. NamesSo j.scope vs g.later
           (met d y (record top.fill { names = ns })).names) (sym read)
-          (subst (λ u. NamesSo (valuation vs) u ns) (sym later) so)) h wanted)
+          (subst (λ u. NamesSo j.scope vs u ns) (sym later) so))
+          (subst (SharesBound j.scope vs) (sym later)) h wanted)
 
   -- the slot of a count is open
   pub counted-open :
@@ -359,13 +363,16 @@ module _ (p : Checked) (ks : List ℕ) (T : Table) (next : ℤ) (lim : Holding) 
           }) in
           let names = met-names ks j.scope s.sorts vs env Int (asked_slot asked)
           (first_term g.piece.form) y (record top.fill { names = ns }) f.start.ready.placed fit so
-          value_is in
+          value_is (subst (FitsSort Int) (sym is) tt) (λ e. int-only e) in
           inr (closed-value y vs (first_term g.piece.form) q (none (asked_reading env asked) y)
           (subst (AreNameTerms s.sorts) (sym later)
           (met-terms (IsNameTerm s.sorts) env (reading env (asked_slot asked))
           (first_term g.piece.form) (inr int) f.terms))
-          (subst (λ d. NamesSo (valuation vs) g.later
+          (subst (λ d. NamesSo j.scope vs g.later
           (met d y (record top.fill { names = ns })).names) (sym slot)
-          (subst (λ u. NamesSo (valuation vs) u
+          (subst (λ u. NamesSo j.scope vs u
           (met (reading env (asked_slot asked)) y (record top.fill { names = ns })).names)
-          (sym later) names)) h wanted)
+          (sym later) names))
+          (λ b. subst (SharesBound j.scope vs) (sym later)
+          (shares-met j.scope vs env Int (asked_slot asked) (first_term g.piece.form) fit
+          (λ e. int-only e) b)) h wanted)

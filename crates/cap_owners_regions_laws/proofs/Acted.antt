@@ -36,7 +36,7 @@ use Rattle.cap_owners_spec.specs.Walks.{Walk, Descent, descends, Interpreting, w
 use Rattle.cap_owners_values_laws.proofs.More.{FitsSort}
 use Rattle.cap_owners_fills_laws.proofs.Drawn.{Tells}
 use Rattle.cap_owners_walks_laws.proofs.Leading.{Left, node-leads}
-use Rattle.cap_owners_passes_laws.proofs.Rests.{into, below-wide}
+use Rattle.cap_owners_passes_laws.proofs.Rests.{walks_into, below-wide}
 use Rattle.cap_owners_passes_laws.proofs.Gives.{GoesTo}
 use Rattle.cap_owners_regions_laws.proofs.Enters.{below-at, sorted-join}
 use Rattle.cap_owners_regions_laws.proofs.Freely.{closing-at, store-at, marks-agree, mark_sorts, marks-shape, marks-size, marks-sorted}
@@ -195,30 +195,30 @@ module _ (p : Checked) (V : Table) (share : ℤ → Stock) (part : Stock) (fn : 
 
   -- a walk comes there by the step, unless a number leaves its bounds
   pub act-walks :
-      (enter : Interpreting) (w : Walk) (ev : Event) (more : List Event) →
+      (seating : Bool) (enter : Interpreting) (w : Walk) (ev : Event) (more : List Event) →
       act_child ev ≡ act_number a f content → Tells w.regions V →
       GoesTo
-      (into enter p.program (tree (node (by_act j cs ms) ks) no_trees)
+      (walks_into seating enter p.program (tree (node (by_act j cs ms) ks) no_trees)
       (goal s (running (first l a b) h) ∷ []) (record w { values = vs; events = ev ∷ more }))
-      (into enter p.program act_trees (goals_of done.t act_tasks)
+      (walks_into seating enter p.program act_trees (goals_of done.t act_tasks)
       (record w { values = vs ++ marked_values v (zip (rivals s) ms); events = more }))
-  act-walks enter w ev more is tells =
+  act-walks seating enter w ev more is tells =
       let pp = p.program in
       let gs = goals_left pp (goal s (running (first l a b) h)) (by_act j cs ms) in
       let w0 = record w { values = vs; events = more } in
       let w1 = bringing w0 (marked_values v (zip (rivals s) ms)) in
       let m = among in
-      let there = ap (λ us. walk_below enter pp false ks us
+      let there = ap (λ us. walk_below enter pp seating ks us
       (traced (descends (Some (act_child ev)) w1))) (done.goals.0 ∙ m.are)
-      ∙ ap (λ n. walk_below enter pp false ks (m.sooner ++ (m.own ∷ m.later))
+      ∙ ap (λ n. walk_below enter pp seating ks (m.sooner ++ (m.own ∷ m.later))
       (traced (descends (Some n) w1))) (is ∙ sym done.count ∙ sym m.count)
-      ∙ below-at enter p ks m.sooner m.later m.own w1
+      ∙ below-at seating enter p ks m.sooner m.later m.own w1
       (subst (Children p.N ks) m.are done.goals.1)
-      ∙ ap (λ us. into enter pp act_trees us w1) (sym m.is_own) in
+      ∙ ap (λ us. walks_into seating enter pp act_trees us w1) (sym m.is_own) in
       elim (act-so w0 V s j cs ms a ev tells exact) [
         | inl wide ↦
-            inl (ap (walk_below enter pp false ks gs) wide ∙ below-wide enter pp false ks gs)
-        | inr d ↦ inr (ap (walk_below enter pp false ks gs) (d.1 ∙ ap traced d.2) ∙ there)
+            inl (ap (walk_below enter pp seating ks gs) wide ∙ below-wide enter pp seating ks gs)
+        | inr d ↦ inr (ap (walk_below enter pp seating ks gs) (d.1 ∙ ap traced d.2) ∙ there)
       ]
 
   -- ---- what is known there
@@ -236,7 +236,7 @@ module _ (p : Checked) (V : Table) (share : ℤ → Stock) (part : Stock) (fn : 
       (sorted-join s.sorts (mark_sorts bs) vs (marked_values v (zip (rivals s) ms)) sorted
       (marks-sorted v (rivals s) ms count))
 
-  act-agree :
+  pub act-agree :
       AreSorted s.sorts vs → Agree (Steady cell.ks done.t) cell.v (valuation act_values)
   act-agree sorted =
       marks-agree cell.ks s done.t cell.v vs (marked_values v (zip (rivals s) ms))

@@ -1,8 +1,8 @@
 -- By what a contract or an invariant is met by now: by what it was, while its regions are in the
 -- same states, and else along the tree of its stability. So a frame is given just what it has.
-use Rattle.std.proofs.Common.{◌≡◌, ℕ, ◌+◌, ℤ, Bool, true, false, List, [], ◌∷◌, length, Option, Some, None, refl, sym, ap, ◌∙◌, subst, arith, ◌≤◌, pos}
+use Rattle.std.proofs.Common.{◌≡◌, inr, ℕ, ◌+◌, ℤ, Bool, true, false, List, [], ◌∷◌, length, Option, Some, None, refl, sym, ap, ◌∙◌, subst, arith, ◌≤◌}
 use Rattle.std.specs.Prelude.{if◌then◌else◌}
-use Rattle.std.specs.List.{AllByRecursion, list_all}
+use Rattle.std.specs.List.{AllByRecursion}
 use Rattle.cap_lin.specs.Linear.{Linear, variable}
 use Rattle.cap_lin.specs.Values.{Valuation}
 use Rattle.cap_lin.specs.declared.row.Sort.TheVariants.{Int}
@@ -30,19 +30,18 @@ use Rattle.cap_account_assertions.proofs.Asserted.{DrawsAll, OwnsRequires, OwnsE
 use Rattle.cap_account_assertions.proofs.Laws.{Reached}
 use Rattle.cap_account_steps.proofs.Entries.{entry_root, exit_root, loop_root}
 use Rattle.cap_account_steps.proofs.RootNames.{LocalsBound, whole-kept, fixed-kept, root_start}
-use Rattle.cap_owners_spec.specs.Traced.{traced, ◌>>=◌, valuation}
-use Rattle.cap_owners_spec.specs.Track.{Fill, Place, TrackedRegion, GivenAssertion, tracked_at}
+use Rattle.cap_owners_spec.specs.Traced.{Traced, traced, ◌>>=◌, valuation}
+use Rattle.cap_owners_spec.specs.Track.{Fill, Place, TrackedRegion, GivenAssertion}
 use Rattle.cap_owners_spec.specs.Walks.{no_items}
-use Rattle.cap_owners_spec.specs.Steps.{is_in_state, is_current, filled_again, fill_now}
-use Rattle.cap_owners_fills_laws.proofs.Drawn.{items_told, IsMetBy, Tells}
+use Rattle.cap_owners_spec.specs.Steps.{Proved, filled_again, fill_now}
+use Rattle.cap_owners_fills_laws.proofs.Drawn.{items_told, IsMetOr, Tells}
 use Rattle.cap_owners_fills_laws.proofs.Giving.{NamesFit}
-use Rattle.cap_owners_fills_laws.proofs.Still.{KeepsTypes, current-met}
+use Rattle.cap_owners_fills_laws.proofs.Still.{KeepsTypes, is_known, current-known, known-met-or}
 use Rattle.cap_owners_regions_laws.proofs.Regiven.{AreSorted}
 use Rattle.cap_owners_regions_laws.proofs.Remet.{MetAgain}
 use Rattle.cap_owners_regions_laws.proofs.Refilled.{refilled}
 use Rattle.cap_owners_regions_laws.proofs.Reowned.{met-moved}
-use Rattle.cap_owners_regions_laws.proofs.Stills.{AreBelow, StillsLaw}
-use Rattle.cap_owners_regions_laws.proofs.Telling.{ToldSo, told-here, told-same, told-more, told-on}
+use Rattle.cap_owners_regions_laws.proofs.Telling.{ToldFor, for-more, for-on}
 
 -- names are kept where they are the same
 same-kept : (sc : Scope) (env : PlainEnv) (a : Valuation) → NamesKept sc env a a
@@ -69,15 +68,22 @@ pub record RootTree (p : Checked) (root : Root) (items : Items) (store : List Li
       ≡ q.goal ∷ []
   pub over : AllByRecursion (Over (Usable [] (sorts_of root.f root.l root.rs) Int)) store
 
-module _ (p : Checked) (wf : IsWellFormed p.program) (still : StillsLaw p)
+module _ (p : Checked) (wf : IsWellFormed p.program)
     (trees : List (Option PlainTree)) (T U : Table) (h : Stock) (heap : Heap)
     (within : (a z : ℤ) → h.cells a z ≤ cells_of heap a z) (reached : Reached p.program T U h)
-    (g : GivenAssertion) (rs : List TrackedRegion) (tells : Tells rs U)
-    (below : AreBelow (pos (1 + length rs)) rs) where
+    (g : GivenAssertion) where
+  abbrev d : Proved
+  d = record { program = p.program; trees = trees }
+
+  -- what it comes to by whichever regions
+  abbrev pub Filling : List TrackedRegion → Traced (Option Fill)
+  Filling rs = fill_now (record { program = p.program; trees = trees }) rs (Some g)
+
   module _ (r : Stock) (root : Root) (items : Items) (fits : AreFit p.program root.sc items)
-      (ok : NamesFit root.sc g.fill.names) (d : DrawsAll p.program T root.a items h r)
-      (met : IsMetBy p.program T root.a items h r d g.fill) (store : List Linear)
-      (means : Means root.sc (valuation g.values) (root_names root) (valuation g.fill.names))
+      (ok : NamesFit root.sc g.fill.names) (k : DrawsAll p.program T root.a items h r)
+      (met : IsMetOr p.program T root.a items h r k g.fill) (store : List Linear)
+      (means : no_items items ≡ false →
+      Means root.sc (valuation g.values) (root_names root) (valuation g.fill.names))
       (sorted : AreSorted (sorts_of root.f root.l root.rs) g.values)
       (rooted : no_items items ≡ false →
       (q : Place) × (g.stability ≡ Some q) × RootTree p root items store q) where
@@ -87,15 +93,15 @@ module _ (p : Checked) (wf : IsWellFormed p.program) (still : StillsLaw p)
       pub kept : NamesKept root.sc (root_names root) root.a a
       pub rest : Stock
       pub drawn : DrawsAll p.program U a items h rest
-      pub meets : IsMetBy p.program U a items h rest drawn x
+      pub meets : IsMetOr p.program U a items h rest drawn x
       pub fitting : NamesFit root.sc x.names
 
     keeps : KeepsTypes T U
     keeps m j zs c e = let q = reached.relies m j zs c e in (q.0, q.2)
 
-    still-met : is_current rs g.fill ≡ true → MetNow g.fill
+    still-met : is_known U g.fill ≡ true → MetNow g.fill
     still-met e =
-        let m = current-met rs T U tells keeps p.program root.a items h r d g.fill met e in
+        let m = known-met-or T U keeps p.program root.a items h r k g.fill met e in
         record {
           a = root.a;
           kept = same-kept root.sc (root_names root) root.a;
@@ -105,73 +111,71 @@ module _ (p : Checked) (wf : IsWellFormed p.program) (still : StillsLaw p)
           fitting = ok;
         }
 
-    none-current : no_items items ≡ true → is_current rs g.fill ≡ true
+    none-current : no_items items ≡ true → is_known U g.fill ≡ true
     none-current e =
-        ap (λ xs. list_all (λ x. is_in_state x.1 (tracked_at rs x.0)) xs)
-        (sym met.facts ∙ told-none p.program T root.a items e h r d)
+        ap (λ xs. is_known U (record g.fill { facts = xs }))
+        (sym met.facts ∙ told-none p.program T root.a items e h r k)
 
     again :
         no_items items ≡ false →
-        ToldSo MetNow
-        (filled_again (record { program = p.program; trees = trees }) rs g g.stability)
+        ToldFor U MetNow
+        (λ rs. filled_again (record { program = p.program; trees = trees }) rs g g.stability)
     again some =
         let q = rooted some in
-        let n = met-moved p.program T root.a (valuation g.fill.names) items h r g.fill met.names d
-        met in
-        let at = refilled p wf still trees T U h r heap within reached root g.fill ok items some
-        fits n.0
-        n.1.wildcards store q.2.over g.values means sorted q.0 q.2.goes q.2.is_goal g refl refl rs
-        tells below in
-        subst (λ o. ToldSo MetNow
-        (filled_again (record { program = p.program; trees = trees }) rs g o)) (sym q.1)
-        (told-more (MetAgain p U h root.sc items (root_start root store) g.fill) MetNow
-        (filled_again (record { program = p.program; trees = trees }) rs g (Some q.0))
+        let same = met.names some in
+        let n = met-moved p.program T root.a (valuation g.fill.names) items h r g.fill same k
+        (record { names = same; wildcards = met.wildcards; facts = met.facts }) in
+        let at = refilled p wf trees T U h r heap within reached root g.fill ok items some fits n.0
+        n.1.wildcards store q.2.over g.values (means some) sorted q.0 q.2.goes q.2.is_goal g refl
+        refl in
+        subst (λ o. ToldFor U MetNow (λ rs. filled_again d rs g o)) (sym q.1)
+        (for-more U (MetAgain p U h root.sc items (root_start root store) g.fill) MetNow
+        (λ rs. filled_again d rs g (Some q.0))
         (λ x m. record {
           a = valuation x.names;
           kept =
               subst (λ u. NamesKept root.sc (root_names root) u (valuation x.names))
-              (sym met.names) m.kept;
+              (sym same) m.kept;
           rest = m.owns.0;
           drawn = m.owns.1;
-          meets = m.met;
+          meets = record {
+            names = λ i. m.met.names;
+            wildcards = m.met.wildcards;
+            facts = m.met.facts;
+          };
           fitting = m.fits;
         }) at)
 
+    -- by whether it is current
+    filling :
+        (b : Bool) → is_known U g.fill ≡ b → (rs : List TrackedRegion) → Tells rs U →
+        Filling rs
+        ≡ ((if b then traced g.fill else filled_again (record {
+          program = p.program;
+          trees = trees;
+        }) rs g g.stability)
+        >>= λ f. traced (Some f))
+    filling b e rs tells =
+        ap (λ t. (if t then traced g.fill else filled_again d rs g g.stability)
+        >>= λ f. traced (Some f)) (current-known rs U tells g.fill ∙ e)
+
     now-by :
-        (t : Bool) → is_current rs g.fill ≡ t → (n : Bool) → no_items items ≡ n →
-        ToldSo (λ o. (x : Fill) × (o ≡ Some x) × MetNow x)
-        (fill_now (record { program = p.program; trees = trees }) rs (Some g))
-    now-by true e n k =
-        told-same (λ o. (x : Fill) × (o ≡ Some x) × MetNow x)
-        (fill_now (record { program = p.program; trees = trees }) rs (Some g))
-        (traced (Some g.fill))
-        (ap (λ t. (if t then traced g.fill
-        else filled_again (record { program = p.program; trees = trees }) rs g g.stability)
-        >>= λ f. traced (Some f)) e)
-        (told-here (λ o. (x : Fill) × (o ≡ Some x) × MetNow x) (Some g.fill)
-        (g.fill, refl, still-met e))
-    now-by false e true k = absurd (let q = none-current k in differ (sym q ∙ e))
+        (t : Bool) → is_known U g.fill ≡ t → (n : Bool) → no_items items ≡ n →
+        ToldFor U (λ o. (x : Fill) × (o ≡ Some x) × MetNow x) Filling
+    now-by true e n i =
+        inr (Some g.fill, (g.fill, refl, still-met e), (λ rs tells. inr (filling true e rs tells)))
+    now-by false e true i = absurd (let q = none-current i in differ (sym q ∙ e))
       where
         differ : true ≡ false → ⊥
         differ e = cc
-    now-by false e false k =
-        told-same (λ o. (x : Fill) × (o ≡ Some x) × MetNow x)
-        (fill_now (record { program = p.program; trees = trees }) rs (Some g))
-        (filled_again (record { program = p.program; trees = trees }) rs g g.stability
-        >>= λ f. traced (Some f))
-        (ap (λ t. (if t then traced g.fill
-        else filled_again (record { program = p.program; trees = trees }) rs g g.stability)
-        >>= λ f. traced (Some f)) e)
-        (told-on MetNow (λ o. (x : Fill) × (o ≡ Some x) × MetNow x)
-        (filled_again (record { program = p.program; trees = trees }) rs g g.stability)
-        (λ f. traced (Some f)) (again k)
-        (λ x m. told-here (λ o. (x : Fill) × (o ≡ Some x) × MetNow x) (Some x) (x, refl, m)))
+    now-by false e false i =
+        for-on U MetNow (λ o. (x : Fill) × (o ≡ Some x) × MetNow x)
+        (λ rs. filled_again d rs g g.stability) Filling (λ f. Some f)
+        (λ rs tells. filling false e rs tells) (λ x m. (x, refl, m)) (again i)
 
     -- by what it is met by now
-    pub filled-now :
-        ToldSo (λ o. (x : Fill) × (o ≡ Some x) × MetNow x)
-        (fill_now (record { program = p.program; trees = trees }) rs (Some g))
-    filled-now = now-by (is_current rs g.fill) refl (no_items items) refl
+    pub filled-now : ToldFor U (λ o. (x : Fill) × (o ≡ Some x) × MetNow x) Filling
+    filled-now = now-by (is_known U g.fill) refl (no_items items) refl
 
   -- ---- contracts and invariants
 
@@ -181,7 +185,7 @@ module _ (p : Checked) (wf : IsWellFormed p.program) (still : StillsLaw p)
     pub fill : Fill
     pub is : o ≡ Some fill
     pub own : OwnsRequires p.program U h f args fixed
-    pub met : IsMetBy p.program U own.values f.requires h own.met.0 own.met.1 fill
+    pub met : IsMetOr p.program U own.values f.requires h own.met.0 own.met.1 fill
     pub fits : NamesFit (requires_scope f) fill.names
 
   pub requires-now :
@@ -189,23 +193,22 @@ module _ (p : Checked) (wf : IsWellFormed p.program) (still : StillsLaw p)
       length args ≡ f.params → ValuesFit f.fixed fixed →
       AreFit p.program (requires_scope f) f.requires →
       (own : OwnsRequires p.program T h f args fixed) →
-      IsMetBy p.program T own.values f.requires h own.met.0 own.met.1 g.fill →
+      IsMetOr p.program T own.values f.requires h own.met.0 own.met.1 g.fill →
       NamesFit (requires_scope f) g.fill.names → (store : List Linear) →
+      (no_items f.requires ≡ false →
       Means (requires_scope f) (valuation g.values) (root_names (entry_root f n own.values))
-      (valuation g.fill.names) →
+      (valuation g.fill.names)) →
       AreSorted (sorts_of f 0 []) g.values →
       (no_items f.requires ≡ false →
       (q : Place) × (g.stability ≡ Some q)
       × RootTree p (entry_root f n own.values) f.requires store q) →
-      ToldSo (RequiresNow f args fixed)
-      (fill_now (record { program = p.program; trees = trees }) rs (Some g))
+      ToldFor U (RequiresNow f args fixed) Filling
   requires-now n f args fixed size fit fits own met ok store means sorted rooted =
       let root = entry_root f n own.values in
       let P = λ (o : Option Fill).
       (x : Fill) × (o ≡ Some x)
       × MetNow own.met.0 root f.requires fits ok own.met.1 met store means sorted rooted x in
-      told-more P (RequiresNow f args fixed)
-      (fill_now (record { program = p.program; trees = trees }) rs (Some g))
+      for-more U P (RequiresNow f args fixed) Filling
       (λ o m.
       let k = m.2 in
       record {
@@ -230,7 +233,7 @@ module _ (p : Checked) (wf : IsWellFormed p.program) (still : StillsLaw p)
     pub fill : Fill
     pub is : o ≡ Some fill
     pub own : OwnsEnsures p.program U h f args fixed v
-    pub met : IsMetBy p.program U own.values f.ensures.items h own.met.0 own.met.1 fill
+    pub met : IsMetOr p.program U own.values f.ensures.items h own.met.0 own.met.1 fill
     pub fits : NamesFit (ensures_scope f f.ensures.names) fill.names
 
   pub ensures-now :
@@ -238,16 +241,16 @@ module _ (p : Checked) (wf : IsWellFormed p.program) (still : StillsLaw p)
       length args ≡ f.params → ValuesFit f.fixed fixed →
       AreFit p.program (ensures_scope f f.ensures.names) f.ensures.items →
       (own : OwnsEnsures p.program T h f args fixed v) →
-      IsMetBy p.program T own.values f.ensures.items h own.met.0 own.met.1 g.fill →
+      IsMetOr p.program T own.values f.ensures.items h own.met.0 own.met.1 g.fill →
       NamesFit (ensures_scope f f.ensures.names) g.fill.names → (store : List Linear) →
+      (no_items f.ensures.items ≡ false →
       Means (ensures_scope f f.ensures.names) (valuation g.values)
-      (root_names (exit_root f n f.ensures.names own.values)) (valuation g.fill.names) →
+      (root_names (exit_root f n f.ensures.names own.values)) (valuation g.fill.names)) →
       AreSorted (sorts_of f 0 (Int ∷ [])) g.values →
       (no_items f.ensures.items ≡ false →
       (q : Place) × (g.stability ≡ Some q)
       × RootTree p (exit_root f n f.ensures.names own.values) f.ensures.items store q) →
-      ToldSo (EnsuresNow f args fixed v)
-      (fill_now (record { program = p.program; trees = trees }) rs (Some g))
+      ToldFor U (EnsuresNow f args fixed v) Filling
   ensures-now n f args fixed v size fit fits own met ok store means sorted rooted =
       let new = f.ensures.names in
       let root = exit_root f n new own.values in
@@ -256,8 +259,7 @@ module _ (p : Checked) (wf : IsWellFormed p.program) (still : StillsLaw p)
       let P = λ (o : Option Fill).
       (x : Fill) × (o ≡ Some x)
       × MetNow own.met.0 root f.ensures.items fits ok own.met.1 met store means sorted rooted x in
-      told-more P (EnsuresNow f args fixed v)
-      (fill_now (record { program = p.program; trees = trees }) rs (Some g))
+      for-more U P (EnsuresNow f args fixed v) Filling
       (λ o m.
       let k = m.2 in
       record {
@@ -289,7 +291,7 @@ module _ (p : Checked) (wf : IsWellFormed p.program) (still : StillsLaw p)
     pub fill : Fill
     pub is : o ≡ Some fill
     pub own : OwnsInvariant p.program U h f store fixed i
-    pub met : IsMetBy p.program U own.values i.items h own.met.0 own.met.1 fill
+    pub met : IsMetOr p.program U own.values i.items h own.met.0 own.met.1 fill
     pub fits : NamesFit (invariant_scope f i.names) fill.names
 
   pub invariant-now :
@@ -297,16 +299,16 @@ module _ (p : Checked) (wf : IsWellFormed p.program) (still : StillsLaw p)
       length at ≡ fixed_start f → ValuesFit f.fixed fixed →
       AreFit p.program (invariant_scope f i.names) i.items →
       (own : OwnsInvariant p.program T h f at fixed i) →
-      IsMetBy p.program T own.values i.items h own.met.0 own.met.1 g.fill →
+      IsMetOr p.program T own.values i.items h own.met.0 own.met.1 g.fill →
       NamesFit (invariant_scope f i.names) g.fill.names → (store : List Linear) →
+      (no_items i.items ≡ false →
       Means (invariant_scope f i.names) (valuation g.values)
-      (root_names (loop_root f n i.names own.values)) (valuation g.fill.names) →
+      (root_names (loop_root f n i.names own.values)) (valuation g.fill.names)) →
       AreSorted (sorts_of f f.locals []) g.values →
       (no_items i.items ≡ false →
       (q : Place) × (g.stability ≡ Some q)
       × RootTree p (loop_root f n i.names own.values) i.items store q) →
-      ToldSo (InvariantNow f i at fixed)
-      (fill_now (record { program = p.program; trees = trees }) rs (Some g))
+      ToldFor U (InvariantNow f i at fixed) Filling
   invariant-now n f i at fixed size fit fits own met ok store means sorted rooted =
       let root = loop_root f n i.names own.values in
       let known : LocalsBound root = λ j l. (
@@ -316,8 +318,7 @@ module _ (p : Checked) (wf : IsWellFormed p.program) (still : StillsLaw p)
       let P = λ (o : Option Fill).
       (x : Fill) × (o ≡ Some x)
       × MetNow own.met.0 root i.items fits ok own.met.1 met store means sorted rooted x in
-      told-more P (InvariantNow f i at fixed)
-      (fill_now (record { program = p.program; trees = trees }) rs (Some g))
+      for-more U P (InvariantNow f i at fixed) Filling
       (λ o m.
       let k = m.2 in
       record {

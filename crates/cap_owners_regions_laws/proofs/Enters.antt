@@ -1,6 +1,6 @@
 -- A walk over a node that enters a region: it comes to the case by which the region owns its part
 -- by now, with that part given, and the state there holds at the walk's values.
-use Rattle.std.proofs.Common.{◌≡◌, ◌⊎◌, inl, inr, ℕ, zero, suc, ℤ, true, false, List, [], ◌∷◌, ◌++◌, length, map, drop, replicate, Option, Some, None, refl, sym, ap, ◌∙◌, subst}
+use Rattle.std.proofs.Common.{◌≡◌, ◌⊎◌, inl, inr, ℕ, zero, suc, ℤ, Bool, true, List, [], ◌∷◌, ◌++◌, length, map, drop, replicate, Option, Some, None, refl, sym, ap, ◌∙◌, subst}
 use Rattle.std.specs.Prelude.{slice_get, nat_eq, nat_lt, if◌then◌else◌}
 use Rattle.std.specs.List.{AllByRecursion}
 use Rattle.std.proofs.lemmas.Slice.Zip.{AllZip-long}
@@ -46,7 +46,7 @@ use Rattle.cap_owners_spec.specs.Walks.{Walk, descends, Interpreted, Interpretin
 use Rattle.cap_owners_fills_laws.proofs.Drawn.{items_met, IsMetBy, Tells}
 use Rattle.cap_owners_fills_laws.proofs.Giving.{NamesFit}
 use Rattle.cap_owners_walks_laws.proofs.Leading.{Left, node-leads}
-use Rattle.cap_owners_passes_laws.proofs.Rests.{into, told-region, below-wide}
+use Rattle.cap_owners_passes_laws.proofs.Rests.{walks_into, told-region, below-wide}
 use Rattle.cap_owners_passes_laws.proofs.Gives.{GoesTo, GivesTo, gives-to}
 use Rattle.cap_owners_regions_laws.proofs.Entered.{entered_walk, enter-so, valuation-entered, chosen, owning_world}
 use Rattle.cap_owners_regions_laws.proofs.Regiven.{AreSorted, either-way}
@@ -57,16 +57,17 @@ use Rattle.cap_owners_regions_laws.proofs.Telling.{ToldSo}
 
 -- behind so many goals is one, and into its tree the walk goes
 pub below-at :
-    (enter : Interpreting) (p : Checked) (ks : PlainTrees) (before behind : List PlainGoal)
+    (seating : Bool) (enter : Interpreting) (p : Checked) (ks : PlainTrees)
+    (before behind : List PlainGoal)
     (g : PlainGoal) (w : Walk) → Children p.N ks (before ++ (g ∷ behind)) →
-    walk_below enter p.program false ks (before ++ (g ∷ behind))
+    walk_below enter p.program seating ks (before ++ (g ∷ behind))
     (traced (descends (Some (length before)) w))
-    ≡ into enter p.program (first_trees 1 (later_trees (length before) ks)) (g ∷ []) w
-below-at enter p no_trees [] behind g w h = absurd h
-below-at enter p (tree t ts) [] behind g w h = refl
-below-at enter p no_trees (b ∷ before) behind g w h = absurd h
-below-at enter p (tree t ts) (b ∷ before) behind g w h =
-    below-at enter p ts before behind g w h.1
+    ≡ walks_into seating enter p.program (first_trees 1 (later_trees (length before) ks)) (g ∷ []) w
+below-at seating enter p no_trees [] behind g w h = absurd h
+below-at seating enter p (tree t ts) [] behind g w h = refl
+below-at seating enter p no_trees (b ∷ before) behind g w h = absurd h
+below-at seating enter p (tree t ts) (b ∷ before) behind g w h =
+    below-at seating enter p ts before behind g w h.1
 
 -- ---- values of sorts
 
@@ -90,7 +91,8 @@ sorted-drop (suc m) names (n ∷ ns) h = sorted-drop m names ns h.1
 module _ (p : Checked) (program : IsWellFormed p.program) (along : GivenAlongLaw p)
     (V : Table) (share : ℤ → Stock) (part : Stock) (heap : Heap)
     (world : World p.program V share part heap) (fn : PlainFunction) (fixed : List NameValue)
-    (size : length fixed ≡ length fn.fixed) (f0 : Frame) (h0 : Home) (enter : Interpreting) where
+    (size : length fixed ≡ length fn.fixed) (f0 : Frame) (h0 : Home) (seating : Bool)
+    (enter : Interpreting) where
   -- one region more is open: the state holds so at these values
   pub record EntersTo (vs : List NameValue) (s : PlainState) (i : ℕ) (ts : List PlainTask)
       : Type 0 where
@@ -124,7 +126,7 @@ module _ (p : Checked) (program : IsWellFormed p.program) (along : GivenAlongLaw
     EntersSo w ev more h =
         (h ≡ past_width)
         ⊎ ((t : EntersTo vs s i (running (first l a b) h0)) × (fill : Option Fill)
-        × (h ≡ into enter p.program (tree t.child no_trees)
+        × (h ≡ walks_into seating enter p.program (tree t.child no_trees)
         (goal t.after (running (first l a b) h0) ∷ [])
         (record w { values = t.values; events = ev ∷ more; fill = fill })))
 
@@ -407,10 +409,10 @@ module _ (p : Checked) (program : IsWellFormed p.program) (along : GivenAlongLaw
 
           into-case :
               (w : Walk) →
-              walk_below enter p.program false ks
+              walk_below enter p.program seating ks
               (goals_left p.program (goal s ts) (by_enter i cs))
               (traced (descends (Some x.case) w))
-              ≡ into enter p.program (first_trees 1 (later_trees own.number ks))
+              ≡ walks_into seating enter p.program (first_trees 1 (later_trees own.number ks))
               (goals_of s2 (to_give c.items (length s.envs) l.number ∷ ts)) w
           into-case w =
               let cg = case-goal (with_opened s i e.f) e.f l.number ts e.k.cases own.number own.case
@@ -421,13 +423,13 @@ module _ (p : Checked) (program : IsWellFormed p.program) (along : GivenAlongLaw
               let og = own-goal c.items in
               let num = cg.count leaves-one in
               let there_goals = ap (λ us. cg.before ++ (us ++ cg.behind)) og.1 in
-              ap (λ gs. walk_below enter p.program false ks gs (traced (descends (Some x.case) w)))
+              ap (λ gs. walk_below enter p.program seating ks gs (traced (descends (Some x.case) w)))
               (at.0 ∙ there_goals)
-              ∙ ap (λ m. walk_below enter p.program false ks (cg.before ++ (og.0 ∷ cg.behind))
+              ∙ ap (λ m. walk_below enter p.program seating ks (cg.before ++ (og.0 ∷ cg.behind))
               (traced (descends (Some m) w))) (sym own-so.0 ∙ sym num)
-              ∙ below-at enter p ks cg.before cg.behind og.0 w
+              ∙ below-at seating enter p ks cg.before cg.behind og.0 w
               (subst (Children p.N ks) there_goals at.1)
-              ∙ (λ j. into enter p.program (first_trees 1 (later_trees (num j) ks)) (sym og.1 j) w)
+              ∙ (λ j. walks_into seating enter p.program (first_trees 1 (later_trees (num j) ks)) (sym og.1 j) w)
 
           abbrev last_fill : Option Fill
           last_fill = if no_items c.items then Some x.fill else None
@@ -435,11 +437,11 @@ module _ (p : Checked) (program : IsWellFormed p.program) (along : GivenAlongLaw
           goes-there :
               (w : Walk) (ev : Event) (more : List Event) →
               GoesTo
-              (walk_below enter p.program false ks
+              (walk_below enter p.program seating ks
               (goals_left p.program (goal s ts) (by_enter i cs))
               (traced (descends (Some x.case)
               (entered_walk e.k x (record w { values = vs; events = ev ∷ more })))))
-              (into enter p.program (tree child.0 no_trees) (goal g.given.after ts ∷ [])
+              (walks_into seating enter p.program (tree child.0 no_trees) (goal g.given.after ts ∷ [])
               (record w { values = g.values; events = ev ∷ more; fill = last_fill }))
           goes-there w ev more =
               let w3 = entered_walk e.k x (record w { values = vs; events = ev ∷ more }) in
@@ -449,7 +451,7 @@ module _ (p : Checked) (program : IsWellFormed p.program) (along : GivenAlongLaw
                 facts = x.fill.facts;
               }) at-names.meets in
               let begin = into-case w3
-              ∙ ap (λ u. into enter p.program (first_trees 1 (later_trees own.number ks))
+              ∙ ap (λ u. walks_into seating enter p.program (first_trees 1 (later_trees own.number ks))
               (goals_of s2 (to_give c.items (length s.envs) l.number ∷ ts))
               (record w3 { fill = u }))
               (sym (either-way (no_items c.items) (Some x.fill) (Some (record {
@@ -458,17 +460,17 @@ module _ (p : Checked) (program : IsWellFormed p.program) (along : GivenAlongLaw
                     items_met p.program V (valuation names) c.items (share n) own.met.0 at-names.d;
                 facts = x.fill.facts;
               })) (Some x.fill) refl (ap Some same_fill))) in
-              elim (g.walks enter w3 x.fill.facts) [
+              elim (g.walks seating enter w3 x.fill.facts) [
                 | inl wide ↦ inl (begin ∙ wide)
                 | inr on ↦ inr (begin ∙ on
-                    ∙ ap (λ us. into enter p.program us (goal g.given.after ts ∷ [])
+                    ∙ ap (λ us. walks_into seating enter p.program us (goal g.given.after ts ∷ [])
                     (record w { values = g.values; events = ev ∷ more; fill = last_fill })) child.2)
               ]
 
           comes-there :
               (w : Walk) (ev : Event) (more : List Event) →
               EntersSo w ev more
-              (walk_below enter p.program false ks
+              (walk_below enter p.program seating ks
               (goals_left p.program (goal s ts) (by_enter i cs))
               (traced (descends (Some x.case)
               (entered_walk e.k x (record w { values = vs; events = ev ∷ more })))))
@@ -480,7 +482,7 @@ module _ (p : Checked) (program : IsWellFormed p.program) (along : GivenAlongLaw
         there-by :
             (w : Walk) (ev : Event) (more : List Event) →
             EntersSo w ev more
-            (walk_below enter p.program false ks
+            (walk_below enter p.program seating ks
             (goals_left p.program (goal s ts) (by_enter i cs))
             (traced (descends (Some x.case)
             (entered_walk e.k x (record w { values = vs; events = ev ∷ more })))))
@@ -488,15 +490,15 @@ module _ (p : Checked) (program : IsWellFormed p.program) (along : GivenAlongLaw
 
     -- a walk comes there with its steps still to come, unless a number leaves its bounds
     pub enter-node :
-        ((rs : List TrackedRegion) → Tells rs V → (r : TrackedRegion) (m : ℤ) (j : ℕ) (zs : List ℤ)
-        (z : ℤ) → V m ≡ Some (known_as j zs (Some z)) → tracked_at rs m ≡ Some r →
-        ToldSo (RegionMet p V m j zs z (share m)) (enter rs r)) →
         (w : Walk) (ev : Event) (more : List Event) → Tells w.regions V →
+        ((r : TrackedRegion) (m : ℤ) (j : ℕ) (zs : List ℤ) (z : ℤ) →
+        V m ≡ Some (known_as j zs (Some z)) → tracked_at w.regions m ≡ Some r →
+        ToldSo (RegionMet p V m j zs z (share m)) (enter w.regions r)) →
         EntersSo w ev more
-        (into enter p.program (tree (node (by_enter i cs) ks) no_trees)
+        (walks_into seating enter p.program (tree (node (by_enter i cs) ks) no_trees)
         (goal s (running (first l a b) h0) ∷ [])
         (record w { values = vs; events = ev ∷ more }))
-    enter-node told w ev more tells =
+    enter-node w ev more tells told =
         let e = entry in
         let f = e.f in
         let n = value v.whole f.region in
@@ -506,14 +508,14 @@ module _ (p : Checked) (program : IsWellFormed p.program) (along : GivenAlongLaw
         let r = told-region w.regions V n f.kind zs z tells is in
         let w0 = record w { values = vs; events = ev ∷ more } in
         elim (enter-so enter p.program s i w0 f e.k r.0 (RegionMet p V n f.kind zs z (share n))
-        e.is_fact e.is_type r.1 (told w.regions tells r.0 n f.kind zs z is r.1)) [
+        e.is_fact e.is_type r.1 (told r.0 n f.kind zs z is r.1)) [
           | inl wide ↦
-              inl (ap (walk_below enter p.program false ks
+              inl (ap (walk_below enter p.program seating ks
               (goals_left p.program (goal s ts) (by_enter i cs))) wide
-              ∙ below-wide enter p.program false ks
+              ∙ below-wide enter p.program seating ks
               (goals_left p.program (goal s ts) (by_enter i cs)))
           | inr d ↦
-              let same = ap (walk_below enter p.program false ks
+              let same = ap (walk_below enter p.program seating ks
               (goals_left p.program (goal s ts) (by_enter i cs))) (d.1 ∙ ap traced d.2.1) in
               elim (there-by e d.2.0 d.2.2 w ev more) [
                 | inl wide ↦ inl (same ∙ wide)

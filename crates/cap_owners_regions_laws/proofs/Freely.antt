@@ -121,13 +121,13 @@ mark_sorts (true ∷ ms) = mark_sorts ms
 mark_sorts (false ∷ ms) = Int ∷ mark_sorts ms
 
 -- a pair without a mark, where the state has room for a variable more or not
-abbrev loosened_at : PlainState → Rival → PlainState
+abbrev pub loosened_at : PlainState → Rival → PlainState
 loosened_at s x = record s {
   sorts = s.sorts ++ Int ∷ [];
   facts = slice_set s.facts x.number (loosened x.fact (fresh s));
 }
 
-abbrev unmarked_as : PlainState → Rival → Bool → Attempt PlainState
+abbrev pub unmarked_as : PlainState → Rival → Bool → Attempt PlainState
 unmarked_as s x b =
     comparison_row x.opened.region Unequal x.fact.region Int >>= λ _.
     ((need b >>= λ _. unit (s.sorts ++ Int ∷ [])) >>= λ sorts. unit (record s { sorts = sorts }))

@@ -39,7 +39,7 @@ module _ (ks : List ℕ) (sorts : List Sort) (n z : ℤ) where
   abbrev pub Kept : PlainFact → Type 0
   Kept f = LooseState ks sorts f × Over (Free ks) f.region
 
-  one-length : (f : PlainFact) (vs : List NameValue) → length (firm_one f n z vs) ≡ length vs
+  pub one-length : (f : PlainFact) (vs : List NameValue) → length (firm_one f n z vs) ≡ length vs
   one-length f vs = by (f.loose && same_number (value (valuation vs).whole f.region) n)
     where
       by :
@@ -100,7 +100,7 @@ module _ (ks : List ℕ) (sorts : List Sort) (n z : ℤ) where
       by false = h
 
   -- a loose fact of the region gets it
-  one-sets :
+  pub one-sets :
       (f : PlainFact) (vs : List NameValue) → length sorts ≡ length vs → LooseState ks sorts f →
       f.loose ≡ true → value (valuation vs).whole f.region ≡ n →
       value_at (firm_one f n z vs) (lone f.state) ≡ a_number z
@@ -119,7 +119,7 @@ module _ (ks : List ℕ) (sorts : List Sort) (n z : ℤ) where
       (lone u)) q.1
       ∙ get-or-set vs q.0 (a_number z) (a_number (pos 0)) (omega (arith, low, count))
 
-  one-agrees :
+  pub one-agrees :
       (f : PlainFact) (vs : List NameValue) → LooseState ks sorts f →
       Agree (Free ks) (valuation vs) (valuation (firm_one f n z vs))
   one-agrees f vs loose = record {

@@ -14,3 +14,14 @@ pub mod Enters
 pub mod Freely
 pub mod Joins
 pub mod Acted
+pub mod Says
+pub mod Open
+pub mod OwnedSo
+pub mod Closes
+pub mod Picks
+pub mod Shutting
+pub mod ClosesOne
+pub mod ClosesAll
+pub mod Marked
+pub mod ActCloses
+pub mod EntersAll

@@ -1,6 +1,6 @@
 -- A contract or an invariant that was met is met again along the tree of its stability, at the
 -- values with which its root began.
-use Rattle.std.proofs.Common.{◌≡◌, inl, ℕ, zero, suc, ◌+◌, ◌*ℤ◌, false, List, [], ◌∷◌, ◌++◌, length, Option, Some, None, refl, sym, ap, ◌∙◌, subst, arith, ◌≤◌, ℤ, pos, replicate, ◌<◌}
+use Rattle.std.proofs.Common.{◌≡◌, inl, ℕ, zero, suc, ◌+◌, ◌*ℤ◌, false, List, [], ◌∷◌, ◌++◌, length, Option, Some, None, refl, sym, ap, ◌∙◌, subst, arith, ◌≤◌, ℤ, replicate, ◌<◌}
 use Rattle.std.specs.Prelude.{slice_get, unwrap_or}
 use Rattle.std.specs.List.{AllByRecursion}
 use Rattle.cap_lin.specs.Linear.{Linear, variable}
@@ -34,16 +34,16 @@ use Rattle.cap_account_assertions.proofs.Laws.{StateAt, Reached}
 use Rattle.cap_account_steps.proofs.Exact.{all-each}
 use Rattle.cap_account_steps.proofs.RootNames.{root_start}
 use Rattle.cap_owners_spec.specs.Traced.{number_of, numerator_of, value_at, valuation, ◌>>=◌}
-use Rattle.cap_owners_spec.specs.Track.{Fill, Place, TrackedRegion, GivenAssertion}
+use Rattle.cap_owners_spec.specs.Track.{Fill, Place, GivenAssertion}
 use Rattle.cap_owners_spec.specs.Walks.{nothing_taken, no_items, walk}
 use Rattle.cap_owners_spec.specs.Steps.{beginning, none_entered, taken_in_end, filled_again}
 use Rattle.cap_owners_values_laws.proofs.More.{FitsSort}
-use Rattle.cap_owners_fills_laws.proofs.Drawn.{items_met, Tells}
+use Rattle.cap_owners_fills_laws.proofs.Drawn.{items_met}
 use Rattle.cap_owners_fills_laws.proofs.Giving.{NamesFit}
 use Rattle.cap_owners_regions_laws.proofs.Regiven.{AreSorted, given-again}
 use Rattle.cap_owners_regions_laws.proofs.Remet.{MetAgain, remains, walk-meets}
-use Rattle.cap_owners_regions_laws.proofs.Stills.{IsNameTerm, AreNameTerms, AreBelow, StillsLaw}
-use Rattle.cap_owners_regions_laws.proofs.Telling.{ToldSo}
+use Rattle.cap_owners_passes_laws.proofs.Takes.{IsNameTerm, AreNameTerms}
+use Rattle.cap_owners_regions_laws.proofs.Telling.{ToldFor}
 
 -- ---- values of sorts
 
@@ -127,7 +127,7 @@ root-terms root =
 
 -- ---- met again
 
-module _ (p : Checked) (wf : IsWellFormed p.program) (still : StillsLaw p)
+module _ (p : Checked) (wf : IsWellFormed p.program)
     (trees : List (Option PlainTree)) (T U : Table) (h r : Stock) (heap : Heap)
     (within : (a z : ℤ) → h.cells a z ≤ cells_of heap a z) (reached : Reached p.program T U h)
     (root : Root) (f : Fill)
@@ -177,21 +177,20 @@ module _ (p : Checked) (wf : IsWellFormed p.program) (still : StillsLaw p)
       goals_of (root_start root store)
       (to_give items 0 0 ∷ to_rest 0 0 ∷ to_take items 1 0 0 ∷ [])
       ≡ q.goal ∷ [] →
-      (g : GivenAssertion) → g.values ≡ vs → g.fill ≡ f → (rs : List TrackedRegion) →
-      Tells rs U → AreBelow (pos (1 + length rs)) rs →
-      ToldSo (MetAgain p U h root.sc items (root_start root store) f)
-      (filled_again (record { program = p.program; trees = trees }) rs g (Some q))
-  refilled q goes is_goal g same_values same_fill rs tells below =
+      (g : GivenAssertion) → g.values ≡ vs → g.fill ≡ f →
+      ToldFor U (MetAgain p U h root.sc items (root_start root store) f)
+      (λ rs. filled_again (record { program = p.program; trees = trees }) rs g (Some q))
+  refilled q goes is_goal g same_values same_fill =
       let given = given-again p wf T U root.sc f ok h r reached items (to_take items 1 0 0 ∷ [])
-      (remains p wf still T U root.sc f ok h r reached items some heap within)
+      (remains p wf T U root.sc f ok h r reached items some heap within)
       (tree q.tree no_trees) vs s goes starts tt means fits d met nothing sorted in
-      subst (λ us. ToldSo (MetAgain p U h root.sc items s f)
-      (walk none_entered p.program false q.tree q.goal
+      subst (λ us. ToldFor U (MetAgain p U h root.sc items s f)
+      (λ rs. walk none_entered p.program false q.tree q.goal
       (beginning rs us (nothing_taken ∷ []) (Some g.fill) []) >>= taken_in_end)) (sym same_values)
-      (subst (λ x. ToldSo (MetAgain p U h root.sc items s f)
-      (walk none_entered p.program false q.tree q.goal
+      (subst (λ x. ToldFor U (MetAgain p U h root.sc items s f)
+      (λ rs. walk none_entered p.program false q.tree q.goal
       (beginning rs vs (nothing_taken ∷ []) (Some x) []) >>= taken_in_end)) (sym same_fill)
-      (walk-meets p wf still T U root.sc f ok h r reached items some heap within vs s
+      (walk-meets p wf T U root.sc f ok h r reached items some heap within vs s
       (root-placed root) means
       (root-terms root) refl (omega arith) fits (tree q.tree no_trees) given q refl is_goal
-      none_entered rs tells below))
+      none_entered))

@@ -224,7 +224,7 @@ module _ (p : Checked) (wf : IsWellFormed p.program) (T U : Table) (sc : Scope) 
                   wildcards = items_met p.program T (valuation f.names) items h r d;
                   facts = f.facts;
                 })) (Some f) refl (ap Some same-fill))) in
-                elim (g.walks enter (record w { fill = Some f }) f.facts) [
+                elim (g.walks false enter (record w { fill = Some f }) f.facts) [
                   | inl wide ↦ inl (begin ∙ wide)
                   | inr on ↦ elim (m.walks enter (record w { fill = end }) tells) [
                     | inl wide ↦ inl (begin ∙ on ∙ wide)

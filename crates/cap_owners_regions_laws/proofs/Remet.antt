@@ -1,6 +1,6 @@
 -- What a contract or an invariant was met by is met again along the tree of its stability, by the
 -- table to which others led.
-use Rattle.std.proofs.Common.{◌≡◌, inl, inr, ◌<◌, false, List, [], ◌∷◌, length, Some, None, refl, sym, ap, ◌∙◌, subst, arith, ◌+◌, ◌≤◌, ℤ, pos, Option, ℕ}
+use Rattle.std.proofs.Common.{◌≡◌, inl, inr, ◌<◌, false, List, [], ◌∷◌, length, Some, None, refl, sym, ap, ◌∙◌, subst, arith, ◌≤◌, ℤ, Option, ℕ}
 use Rattle.std.specs.Prelude.{slice_get, IsSomeAnd, if◌then◌else◌}
 use Rattle.std.specs.List.{AllByRecursion}
 use Rattle.cap_lin.specs.declared.row.Sort.TheVariants.{Int}
@@ -35,9 +35,11 @@ use Rattle.cap_owners_spec.specs.Steps.{beginning, taken_in_end}
 use Rattle.cap_owners_fills_laws.proofs.Drawn.{IsMetBy, Tells}
 use Rattle.cap_owners_fills_laws.proofs.Giving.{NamesFit}
 use Rattle.cap_owners_passes_laws.proofs.Rests.{into}
-use Rattle.cap_owners_regions_laws.proofs.Telling.{ToldSo, told-here, told-same}
+use Rattle.cap_owners_passes_laws.proofs.Gives.{GoesTo}
+use Rattle.cap_owners_regions_laws.proofs.Telling.{ToldFor}
 use Rattle.cap_owners_regions_laws.proofs.Regiven.{Regiven}
-use Rattle.cap_owners_regions_laws.proofs.Stills.{AreNameTerms, AreBelow, StillTo, StillsTo, StillsLaw, names-stay}
+use Rattle.cap_owners_passes_laws.proofs.Takes.{AreNameTerms}
+use Rattle.cap_owners_regions_laws.proofs.Stills.{StillTo, StillsTo, stills, names-stay}
 
 -- where there are no goals a walk leaves
 pub leaves-there :
@@ -54,7 +56,7 @@ module _ (p : Checked) (U : Table) (h : Stock) (sc : Scope) (items : Items) wher
     pub owns : Owns p.program U h (valuation x.names) items
     pub met : IsMetBy p.program U (valuation x.names) items h owns.0 owns.1 x
 
-module _ (p : Checked) (wf : IsWellFormed p.program) (law : StillsLaw p) (T U : Table) (sc : Scope)
+module _ (p : Checked) (wf : IsWellFormed p.program) (T U : Table) (sc : Scope)
     (f : Fill) (ok : NamesFit sc f.names) (h r : Stock) (reached : Reached p.program T U h)
     (items : Items) (some : no_items items ≡ false) (heap : Heap)
     (within : (a z : ℤ) → h.cells a z ≤ cells_of heap a z) where
@@ -108,13 +110,11 @@ module _ (p : Checked) (wf : IsWellFormed p.program) (law : StillsLaw p) (T U : 
           lone-more None h = absurd h
           lone-more (Some y) h = (let n = g.goes_on.count in omega (arith, h, n))
 
-      takes :
-          (enter : Interpreting) (w : Walk) → AreBelow w.next w.regions →
-          StillsTo p [] U sc 1 enter g.values h g.after items 0 [] g.children w
+      takes : StillsTo p [] U sc 1 g.values h g.after items 0 [] g.children
       takes =
-          law [] U sc 1 0 items [] g.children g.values g.after h g.goes there tt fits g.backed
-          (fits-relied p.program T U h reached.full reached.relies reached.room) g.sorted
-          still-alone heap within
+          stills p wf.regions [] U sc 1 0 items [] g.children g.values g.after h g.goes there tt
+          fits g.backed (fits-relied p.program T U h reached.full reached.relies reached.room)
+          g.sorted still-alone heap within
 
       ends : (t : StillTo p [] U sc 1 g.values h g.after items []) →
           MetAgain p U h sc items s f t.top.fill
@@ -135,37 +135,68 @@ module _ (p : Checked) (wf : IsWellFormed p.program) (law : StillsLaw p) (T U : 
             met = m.met;
           }
 
-      -- a walk that begins with the fill
+      -- walks that begin with the fill
       pub walk-meets :
           (q : Place) → trees ≡ tree q.tree no_trees →
           goals_of s (to_give items 0 0 ∷ to_rest 0 0 ∷ to_take items 1 0 0 ∷ []) ≡ q.goal ∷ [] →
-          (enter : Interpreting) (rs : List TrackedRegion) → Tells rs U →
-          AreBelow (pos (1 + length rs)) rs → ToldSo (MetAgain p U h sc items s f)
-          (walk enter p.program false q.tree q.goal
+          (enter : Interpreting) →
+          ToldFor U (MetAgain p U h sc items s f)
+          (λ rs. walk enter p.program false q.tree q.goal
           (beginning rs vs (nothing_taken ∷ []) (Some f) []) >>= taken_in_end)
-      walk-meets q is_tree is_goal enter rs tells below =
-          let start = beginning rs vs (nothing_taken ∷ []) (Some f) [] in
-          let given_then = record start {
+      walk-meets q is_tree is_goal enter =
+          elim takes [
+            | inl wide ↦
+                inl (λ rs tells. elim (given rs tells) [
+                  | inl w ↦ ap (λ o. o >>= taken_in_end) (enters rs ∙ w)
+                  | inr on ↦
+                      ap (λ o. o >>= taken_in_end) (enters rs ∙ on ∙ wide enter (given_then rs))
+                ])
+            | inr t ↦ inr (
+              t.0.top.fill,
+              ends t.0,
+              (λ rs tells. elim (given rs tells) [
+                | inl w ↦ inl (ap (λ o. o >>= taken_in_end) (enters rs ∙ w))
+                | inr on ↦
+                    inr (ap (λ o. o >>= taken_in_end)
+                    (enters rs ∙ on ∙ t.1 enter (given_then rs)
+                    ∙ leaves-there enter p t.0.children
+                    (record (given_then rs) { values = t.0.values; taken = t.0.top ∷ [] })))
+              ]),
+            )
+          ]
+        where
+          start : List TrackedRegion → Walk
+          start rs = beginning rs vs (nothing_taken ∷ []) (Some f) []
+
+          given_then : List TrackedRegion → Walk
+          given_then rs = record (beginning rs vs (nothing_taken ∷ []) (Some f) []) {
             values = g.values;
             taken = [];
             fill = if no_items items then Some f else None;
-          } in
-          let enters : walk enter p.program false q.tree q.goal start
-          ≡ into enter p.program trees
-          (goals_of s (to_give items 0 0 ∷ to_rest 0 0 ∷ to_take items 1 0 0 ∷ [])) start =
-          λ i. into enter p.program (sym is_tree i) (sym is_goal i) start in
-          elim (g.walks enter start tells) [
-            | inl wide ↦ inl (ap (λ o. o >>= taken_in_end) (enters ∙ wide))
-            | inr on ↦ elim (takes enter given_then below) [
-              | inl wide ↦ inl (ap (λ o. o >>= taken_in_end) (enters ∙ on ∙ wide))
-              | inr t ↦
-                  told-same (MetAgain p U h sc items s f)
-                  (walk enter p.program false q.tree q.goal start >>= taken_in_end)
-                  (traced t.0.top.fill)
-                  (ap (λ o. o >>= taken_in_end)
-                  (enters ∙ on ∙ t.1
-                  ∙ leaves-there enter p t.0.children
-                  (record given_then { values = t.0.values; taken = t.0.top ∷ [] })))
-                  (told-here (MetAgain p U h sc items s f) t.0.top.fill (ends t.0))
-            ]
-          ]
+          }
+
+          tasks : List PlainTask
+          tasks = to_give items 0 0 ∷ to_rest 0 0 ∷ to_take items 1 0 0 ∷ []
+
+          enters :
+              (rs : List TrackedRegion) →
+              walk enter p.program false q.tree q.goal
+              (beginning rs vs (nothing_taken ∷ []) (Some f) [])
+              ≡ into enter p.program trees (goals_of s tasks)
+              (beginning rs vs (nothing_taken ∷ []) (Some f) [])
+          enters rs =
+              λ i. into enter p.program (sym is_tree i) (sym is_goal i)
+              (beginning rs vs (nothing_taken ∷ []) (Some f) [])
+
+          given :
+              (rs : List TrackedRegion) → Tells rs U →
+              GoesTo
+              (into enter p.program trees (goals_of s tasks)
+              (beginning rs vs (nothing_taken ∷ []) (Some f) []))
+              (into enter p.program g.children (goals_of g.after (to_take items 1 0 0 ∷ []))
+              (record (beginning rs vs (nothing_taken ∷ []) (Some f) []) {
+                values = g.values;
+                fill = if no_items items then Some f else None;
+              }))
+          given rs tells =
+              g.walks enter (beginning rs vs (nothing_taken ∷ []) (Some f) []) tells

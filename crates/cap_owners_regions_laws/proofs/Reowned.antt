@@ -1,5 +1,5 @@
 -- By what a region owns its part by now: as it was closed, or along the tree of its case.
-use Rattle.std.proofs.Common.{◌≡◌, inl, inr, ℕ, suc, ◌-◌, ◌<◌, ℤ, ◌*ℤ◌, Bool, true, false, List, [], ◌∷◌, length, map, Option, Some, None, refl, sym, ap, ◌∙◌, subst, arith, ◌+◌, ◌≤◌, pos}
+use Rattle.std.proofs.Common.{◌≡◌, inl, inr, ℕ, suc, ◌-◌, ◌<◌, ℤ, ◌*ℤ◌, Bool, true, false, List, [], ◌∷◌, length, map, Option, Some, None, refl, sym, ap, ◌∙◌, subst, arith, ◌≤◌}
 use Rattle.std.specs.Prelude.{slice_get, if◌then◌else◌}
 use Rattle.std.specs.List.{AllByRecursion}
 use Rattle.cap_lin.specs.Values.{Valuation, denominator, value}
@@ -49,7 +49,6 @@ use Rattle.cap_owners_fills_laws.proofs.Still.{KeepsTypes, current-met}
 use Rattle.cap_owners_passes_laws.proofs.Rests.{into}
 use Rattle.cap_owners_regions_laws.proofs.Regiven.{AreSorted, Regiven, given-again}
 use Rattle.cap_owners_regions_laws.proofs.Reshut.{RegionMet, Told, pick-node}
-use Rattle.cap_owners_regions_laws.proofs.Stills.{AreBelow, StillsLaw}
 use Rattle.cap_owners_regions_laws.proofs.Telling.{ToldSo, told-here, told-same, told-known, found-so}
 
 -- ---- values of names
@@ -144,7 +143,7 @@ module _ (p : Checked) (y : PlainRegionType) (k : ℕ) (c : PlainCase)
         vars-more R (Old s) old g.state.parts fact-movable.over.2,
       )
 
-  module _ (wf : IsWellFormed p.program) (still : StillsLaw p) (T U : Table)
+  module _ (wf : IsWellFormed p.program) (T U : Table)
       (h r : Stock) (heap : Heap) (within : (a z : ℤ) → h.cells a z ≤ cells_of heap a z)
       (reached : Reached p.program T U h) (before : T n ≡ Some (known_as k args (Some b)))
       (after : U n ≡ Some (known_as k args (Some b)))
@@ -209,11 +208,11 @@ module _ (p : Checked) (y : PlainRegionType) (k : ℕ) (c : PlainCase)
           (q : Place) → trees ≡ tree q.tree no_trees →
           goals_of (case_state y k c) (to_give c.items 0 0 ∷ to_rest 0 0 ∷ to_close false 0 ∷ [])
           ≡ q.goal ∷ [] →
-          (rs : List TrackedRegion) → Tells rs U → AreBelow (pos (1 + length rs)) rs →
+          (rs : List TrackedRegion) → Tells rs U →
           ToldSo (RegionMet p U n k args b h)
           (walk none_entered p.program false q.tree q.goal (beginning rs f.names [] (Some f) [])
           >>= closed_in_end n)
-      walk-owns q is_tree is_goal rs tells below =
+      walk-owns q is_tree is_goal rs tells =
           let pp = p.program in
           let start = beginning rs f.names [] (Some f) [] in
           let given_then = record start { fill = if no_items c.items then Some f else None } in
@@ -236,10 +235,10 @@ module _ (p : Checked) (y : PlainRegionType) (k : ℕ) (c : PlainCase)
                 (enters ∙ on
                 ∙ ap (λ ks. into none_entered pp ks (goal g.after tasks ∷ [])
                 (record given_then { values = g.values })) child.2))
-                (pick-node p still U h room n k args b after g.values g.after known g.sorted heap
-                within none_entered given_then tells below
-                (subst (AllByRecursion (Told p still U h room n k args b after g.values g.after
-                known g.sorted heap within none_entered given_then tells below))
+                (pick-node p wf U h room n k args b after g.values g.after known g.sorted heap
+                within none_entered given_then tells
+                (subst (AllByRecursion (Told p wf U h room n k args b after g.values g.after
+                known g.sorted heap within none_entered given_then tells))
                 (sym g.goes_on.opened) ((later, y, movable), tt)) child.0 child.1)
           ]
 
@@ -247,7 +246,7 @@ module _ (p : Checked) (y : PlainRegionType) (k : ℕ) (c : PlainCase)
         (q : Place) → trees ≡ tree q.tree no_trees →
         goals_of (case_state y k c) (to_give c.items 0 0 ∷ to_rest 0 0 ∷ to_close false 0 ∷ [])
         ≡ q.goal ∷ [] →
-        (rs : List TrackedRegion) → Tells rs U → AreBelow (pos (1 + length rs)) rs →
+        (rs : List TrackedRegion) → Tells rs U →
         ToldSo (RegionMet p U n k args b h)
         (walk none_entered p.program false q.tree q.goal (beginning rs f.names [] (Some f) [])
         >>= closed_in_end n)
@@ -265,7 +264,7 @@ met-moved p T a b items q r f e d m =
 
 -- A region that is owned by a table from which others led: the case and the fill that a walk comes
 -- to are those by which it owns its part by this table.
-module _ (p : Checked) (wf : IsWellFormed p.program) (still : StillsLaw p)
+module _ (p : Checked) (wf : IsWellFormed p.program)
     (trees : List (Option PlainTree)) (T U : Table) (r : TrackedRegion) (h : Stock) (heap : Heap)
     (within : (a z : ℤ) → h.cells a z ≤ cells_of heap a z) (reached : Reached p.program T U h)
     (before : T r.owned.region.number
@@ -279,7 +278,7 @@ module _ (p : Checked) (wf : IsWellFormed p.program) (still : StillsLaw p)
     (ok : NamesFit (region_scope own.type own.case.names) r.fill.names)
     (sorted : AreSorted (region_sorts own.type own.case.names) r.fill.names)
     (root : CaseRooted p trees r.owned.region.kind own.type r.case own.case)
-    (rs : List TrackedRegion) (tells : Tells rs U) (below : AreBelow (pos (1 + length rs)) rs) where
+    (rs : List TrackedRegion) (tells : Tells rs U) where
   abbrev n : ℤ
   n = r.owned.region.number
 
@@ -300,7 +299,7 @@ module _ (p : Checked) (wf : IsWellFormed p.program) (still : StillsLaw p)
 
   still-owned : is_current rs r.fill ≡ true → Q (as_closed r)
   still-owned e =
-      let m = current-met rs T U tells keeps p.program own.values own.case.items h own.met.0
+      let m = current-met T U keeps rs tells p.program own.values own.case.items h own.met.0
       own.met.1 r.fill met e in
       record {
         own = record {
@@ -339,9 +338,9 @@ module _ (p : Checked) (wf : IsWellFormed p.program) (still : StillsLaw p)
       (root-owns p own.type k own.case own.is_type type_fits fits r.fill ok n args b own.arity
       (subst (λ u. AreWhole u 0 (n ∷ args)) met.names own.args_are)
       (ap (λ (u : Valuation). value u.whole own.case.state) (sym met.names) ∙ own.state_is) wf
-      still T U h own.met.0 heap within reached before after drawn.0 drawn.1.wildcards
+      T U h own.met.0 heap within reached before after drawn.0 drawn.1.wildcards
       (subst (λ u. AllByRecursion (CompHolds u) own.case.when) met.names own.conditions) sorted
-      (tree root.place.tree no_trees) root.goes root.place refl root.is_goal rs tells below)
+      (tree root.place.tree no_trees) root.goes root.place refl root.is_goal rs tells)
 
   owned-by :
       (t : Bool) → is_current rs r.fill ≡ t →

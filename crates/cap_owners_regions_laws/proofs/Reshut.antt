@@ -10,7 +10,7 @@ use Rattle.cap_lin.specs.declared.row.Sort.TheVariants.{Int}
 use Rattle.cap_farkas.specs.declared.cert.Cert.{Cert}
 use Rattle.cap_prog.specs.Program.{PlainRegionType}
 use Rattle.cap_prog.specs.Scopes.{Scope, HasSort, known, whole_numbers, region_scope, region_sorts}
-use Rattle.cap_prog.specs.WellFormed.{CaseFits}
+use Rattle.cap_prog.specs.WellFormed.{IsWellFormed, CaseFits}
 use Rattle.cap_machine.specs.Machine.{Heap}
 use Rattle.cap_machine_accounts.specs.Assertions.{NameValue, AreWhole}
 use Rattle.cap_goal_spec.specs.States.{PlainFact, PlainState, to_close, to_shift, with_state, PlainGoal, goal}
@@ -54,7 +54,8 @@ use Rattle.cap_owners_regions_laws.proofs.Landing.{Lands, lands, node-lands}
 use Rattle.cap_owners_regions_laws.proofs.Regiven.{AreSorted}
 use Rattle.cap_owners_regions_laws.proofs.Remet.{leaves-there}
 use Rattle.cap_owners_regions_laws.proofs.Shifts.{shut_region, shut_walk, shift-so, shift-wide}
-use Rattle.cap_owners_regions_laws.proofs.Stills.{AreNameTerms, AreBelow, named_by, StillTo, StillsLaw}
+use Rattle.cap_owners_passes_laws.proofs.Takes.{AreNameTerms}
+use Rattle.cap_owners_regions_laws.proofs.Stills.{named_by, StillTo, stills}
 use Rattle.cap_owners_regions_laws.proofs.Telling.{ToldSo, told-here, told-same, tracked-number, put-here}
 
 -- ---- over one node
@@ -96,7 +97,7 @@ pub record RegionMet (p : Checked) (U : Table) (n : ℤ) (k : ℕ) (args : List 
 -- ---- values of a case's names
 
 -- as many values as sorts, each of its sort
-sorted-names :
+pub sorted-names :
     (os : List Sort) (ns : List NameValue) → length ns ≡ length os →
     ((x : ℕ) (o : Sort) → slice_get os x ≡ Some o → FitsSort o (value_at ns x)) → AreSorted os ns
 sorted-names [] [] e f = tt
@@ -109,7 +110,7 @@ all-known : (n : ℕ) → map Some (replicate n Int) ≡ whole_numbers n
 all-known zero = refl
 all-known (suc n) = ap (λ sc. Some Int ∷ sc) (all-known n)
 
-known-sort :
+pub known-sort :
     (y : PlainRegionType) (names : List Sort) (x : ℕ) (o : Sort) →
     slice_get (region_sorts y names) x ≡ Some o → HasSort (region_scope y names) o x
 known-sort y names x o e =
@@ -118,12 +119,12 @@ known-sort y names x o e =
     ∙ ap (λ sc. sc ++ known names) (all-known y.params)))
     ∙ map-at Some (region_sorts y names) x o e
 
-module _ (p : Checked) (law : StillsLaw p) (U : Table) (h : Stock) (room : FitsRoom p.program U h)
-    (n : ℤ) (k : ℕ) (args : List ℤ) (b : ℤ) (there : U n ≡ Some (known_as k args (Some b)))
+module _ (p : Checked) (wf : IsWellFormed p.program) (U : Table) (h : Stock)
+    (room : FitsRoom p.program U h) (n : ℤ) (k : ℕ) (args : List ℤ) (b : ℤ) (there : U n ≡ Some (known_as k args (Some b)))
     (vs : List NameValue) (s : PlainState) (known : IsKnown p.program [] U (valuation vs) s h)
     (sorted : AreSorted s.sorts vs) (heap : Heap)
     (within : (a z : ℤ) → h.cells a z ≤ cells_of heap a z) (enter : Interpreting) (w : Walk)
-    (tells : Tells w.regions U) (under : AreBelow w.next w.regions) where
+    (tells : Tells w.regions U) where
   -- the opened region's fact, and its type
   abbrev pub Told : PlainFact → Type 0
   Told f =
@@ -396,11 +397,11 @@ module _ (p : Checked) (law : StillsLaw p) (U : Table) (h : Stock) (room : FitsR
       (ap (λ es. term_of es x) (sym last) ∙ g))) in
       let begin = ap (λ gs. into enter pp kids gs
       (record w { values = vs; taken = nothing_taken ∷ w.taken }) >>= closed_in_end n) land.0 in
-      elim (law [] U sc e 0 q.x.items tasks kids vs start h land.1
+      elim (stills p wf.regions [] U sc e 0 q.x.items tasks kids vs start h land.1
       (state-at pp [] U sc e (valuation vs) start h now (omega (arith, size))
       (subst (Placed [] sc s.sorts) (sym last) q.placed)) tt fits.items.items now.backed room sorted
-      alone heap within enter w under) [
-        | inl wide ↦ inl (begin ∙ ap (λ x. x >>= closed_in_end n) wide)
+      alone heap within) [
+        | inl wide ↦ inl (begin ∙ ap (λ x. x >>= closed_in_end n) (wide enter w))
         | inr t ↦
             let d = lone-child p.N t.0.children t.0.after tasks t.0.goes in
             told-same (RegionMet p U n k args b h)
@@ -410,7 +411,7 @@ module _ (p : Checked) (law : StillsLaw p) (U : Table) (h : Stock) (room : FitsR
             (into enter p.program (tree d.0 no_trees) (goal t.0.after tasks ∷ [])
             (record w { values = t.0.values; taken = t.0.top ∷ w.taken })
             >>= closed_in_end n)
-            (begin ∙ ap (λ x. x >>= closed_in_end n) t.1
+            (begin ∙ ap (λ x. x >>= closed_in_end n) (t.1 enter w)
             ∙ ap (λ ks. into enter p.program ks (goal t.0.after tasks ∷ [])
             (record w { values = t.0.values; taken = t.0.top ∷ w.taken })
             >>= closed_in_end n) d.2)

@@ -1,14 +1,15 @@
--- Taking along a walk where no region may be created: what is held is met by the fill on top.
-use Rattle.std.proofs.Common.{◌≡◌, ◌⊎◌, ℕ, ◌<◌, ◌*ℤ◌, false, List, ◌∷◌, length, Some, sym, ap, ◌∙◌, ◌≤◌, ℤ, ◌<ℤ◌}
-use Rattle.std.specs.Prelude.{slice_get, IsSomeAnd}
-use Rattle.std.specs.List.{AllByRecursion}
+-- Taking along a walk where no region may be created: what is held is met by the fill on top, as a
+-- Take leads there.
+use Rattle.std.proofs.Common.{◌≡◌, ◌⊎◌, inl, inr, ℕ, ◌<◌, ◌*ℤ◌, true, false, List, [], ◌∷◌, ◌++◌, length, map, Some, refl, sym, ap, ◌∙◌, subst, arith, ◌≤◌, ℤ, pos, ◌+ℤ◌}
+use Rattle.std.specs.List.{AllByRecursion, AllZip}
+use Rattle.std.proofs.lemmas.Int.{ints}
 use Rattle.cap_lin.specs.Linear.{Linear}
-use Rattle.cap_lin.specs.Values.{denominator}
+use Rattle.cap_lin.specs.Values.{Valuation, denominator}
 use Rattle.cap_lin.specs.declared.row.Sort.{Sort}
 use Rattle.cap_lin.specs.declared.row.Sort.TheVariants.{Int, Perm}
-use Rattle.cap_prog.specs.Program.{Items}
+use Rattle.cap_prog.specs.Program.{Items, PlainProgram}
 use Rattle.cap_prog.specs.Scopes.{Scope, HasSort}
-use Rattle.cap_goal_spec.specs.Terms.{lone_variable}
+use Rattle.cap_prog.specs.WellFormed.{RegionFits}
 use Rattle.cap_goal_spec.specs.States.{PlainEnv, PlainState, PlainTask, to_take, goals_of}
 use Rattle.cap_goal_spec.specs.Environments.{term_of}
 use Rattle.cap_goal_spec.specs.Choices.{PlainTrees}
@@ -16,41 +17,37 @@ use Rattle.cap_rules.specs.Making.{env_at}
 use Rattle.cap_machine.specs.Machine.{Heap}
 use Rattle.cap_machine_accounts.specs.Assertions.{NameValue}
 use Rattle.cap_account_resources.specs.Parts.{cells_of, Table}
+use Rattle.cap_account_resources.proofs.Lists.{join-nil}
+use Rattle.cap_account_resources.proofs.Owners.{Owner}
+use Rattle.cap_account_resources.proofs.Room.{room as room_of}
 use Rattle.cap_account_resources.proofs.Stocks.{Stock}
 use Rattle.cap_account_resources.proofs.Tables.{FitsRoom}
 use Rattle.cap_account_states.specs.Nodes.{Open}
+use Rattle.cap_account_states.proofs.Alike.{alike-same}
 use Rattle.cap_account_states.proofs.Backed.{Backed}
 use Rattle.cap_account_states.proofs.Checked.{Checked}
 use Rattle.cap_account_states.proofs.Items.{AreFit}
 use Rattle.cap_account_states.proofs.Meets.{Usable, usable-old, Old}
-use Rattle.cap_account_states.proofs.Naming.{Placed, Means, Stays}
+use Rattle.cap_account_states.proofs.Naming.{Placed, Means, Stays, values_in, values-mean}
 use Rattle.cap_account_states.proofs.Terms.{Over, vars-more, Agree, value-agree, amount-agree}
 use Rattle.cap_account_assertions.proofs.Again.{NamesKept}
 use Rattle.cap_account_assertions.proofs.Asserted.{Owns}
 use Rattle.cap_account_assertions.proofs.Follows.{Follows}
-use Rattle.cap_account_assertions.proofs.Laws.{StateAt}
-use Rattle.cap_owners_spec.specs.Traced.{traced, past_width, untold, valuation}
+use Rattle.cap_account_assertions.proofs.Laws.{StateAt, Creation}
+use Rattle.cap_account_assertions.proofs.TakenLaws.{job_of}
+use Rattle.cap_account_assertions.proofs.TakenStill.{still-of}
+use Rattle.cap_account_assertions.proofs.TreeSizes.{trees_size}
+use Rattle.cap_owners_spec.specs.Traced.{Traced, traced, past_width, untold, valuation}
 use Rattle.cap_owners_spec.specs.Track.{Fill, TrackedRegion}
 use Rattle.cap_owners_spec.specs.Filling.{names_in}
-use Rattle.cap_owners_spec.specs.Walks.{Taking, Walk, nothing_taken, no_items, Interpreting}
+use Rattle.cap_owners_spec.specs.Walks.{Taking, Walk, nothing_taken, no_items, Interpreting, Halt}
 use Rattle.cap_owners_fills_laws.proofs.Drawn.{IsMetBy}
 use Rattle.cap_owners_fills_laws.proofs.Giving.{NamesFit}
 use Rattle.cap_owners_passes_laws.proofs.Rests.{into}
+use Rattle.cap_owners_passes_laws.proofs.Names.{NamesSo, names-in-so, names-told}
+use Rattle.cap_owners_passes_laws.proofs.Takes.{IsTracked, AreNameTerms, TakesTo}
+use Rattle.cap_owners_passes_laws.proofs.Takings.{takes-along, from-still, still-met-or}
 use Rattle.cap_owners_regions_laws.proofs.Regiven.{AreSorted}
-
--- a name stands for a variable alone, or for a whole number
-abbrev pub IsNameTerm : List Sort → Linear → Type 0
-IsNameTerm sorts t =
-    IsSomeAnd (lone_variable t) (λ x. x < length sorts)
-    ⊎ Over (λ x. slice_get sorts x ≡ Some Int) t
-
-abbrev pub AreNameTerms : List Sort → PlainEnv → Type 0
-AreNameTerms sorts env =
-    (x : ℕ) (t : Linear) → term_of env x ≡ Some t → IsNameTerm sorts t
-
--- all numbers are below this one
-abbrev pub AreBelow : ℤ → List TrackedRegion → Type 0
-AreBelow next rs = AllByRecursion (λ r. r.owned.region.number <ℤ next) rs
 
 -- the names as they are in a fill
 abbrev pub named_by : List NameValue → Fill → Fill
@@ -86,17 +83,22 @@ module _ (p : Checked) (ks : List ℕ) (T : Table) (sc : Scope) (e : ℕ) where
         (ns : List NameValue) → names_in values (env_at after e) ≡ traced ns →
         NamesMet values after held items top ns
 
-  -- a walk that begins to take them comes there, unless a number leaves its bounds
+  -- a walk begins to take them
+  abbrev pub Stilling :
+      Interpreting → List NameValue → PlainState → Items → ℕ → List PlainTask → PlainTrees →
+      Walk → Traced Halt
+  Stilling enter vs s items n ts trees w =
+      into enter p.program trees (goals_of s (to_take items e 0 n ∷ ts))
+      (record w { values = vs; taken = nothing_taken ∷ w.taken })
+
+  -- all walks come there, or each comes to a number that leaves its bounds
   abbrev pub StillsTo :
-      Interpreting → List NameValue → Stock → PlainState → Items → ℕ → List PlainTask →
-      PlainTrees → Walk → Type 0
-  StillsTo enter vs held s items n ts trees w =
-      (into enter p.program trees (goals_of s (to_take items e 0 n ∷ ts))
-      (record w { values = vs; taken = nothing_taken ∷ w.taken })
-      ≡ past_width)
+      List NameValue → Stock → PlainState → Items → ℕ → List PlainTask → PlainTrees → Type 0
+  StillsTo vs held s items n ts trees =
+      ((enter : Interpreting) (w : Walk) → Stilling enter vs s items n ts trees w ≡ past_width)
       ⊎ ((t : StillTo vs held s items ts)
-      × (into enter p.program trees (goals_of s (to_take items e 0 n ∷ ts))
-      (record w { values = vs; taken = nothing_taken ∷ w.taken })
+      × ((enter : Interpreting) (w : Walk) →
+      Stilling enter vs s items n ts trees w
       ≡ into enter p.program t.children (goals_of t.after ts)
       (record w { values = t.values; taken = t.top ∷ w.taken })))
 
@@ -110,8 +112,131 @@ StillsLaw p =
     AreFit p.program sc items → Backed p.program (valuation vs) s held →
     FitsRoom p.program T held → AreSorted s.sorts vs → AreNameTerms s.sorts (env_at s e) →
     (heap : Heap) →
-    ((a z : ℤ) → held.cells a z ≤ cells_of heap a z) → (enter : Interpreting) (w : Walk) →
-    AreBelow w.next w.regions → StillsTo p ks T sc e enter vs held s items n ts trees w
+    ((a z : ℤ) → held.cells a z ≤ cells_of heap a z) →
+    StillsTo p ks T sc e vs held s items n ts trees
+
+-- ---- the law
+
+-- without creations no region is tracked
+none-tracked :
+    (p : PlainProgram) (U : Table) (new : List Owner) (cs : List Creation)
+    (rs : List TrackedRegion) → new ≡ [] → new ≡ map (λ c. c.owner) cs →
+    AllZip (IsTracked p U) cs rs → rs ≡ []
+none-tracked p U new [] [] e k h = refl
+none-tracked p U new [] (r ∷ rs) e k h = absurd h
+none-tracked p U new (c ∷ cs) rs e k h =
+    let a = ap (λ (os : List Owner). length os) e in
+    let b = ap (λ (os : List Owner). length os) k in
+    absurd (omega (arith, a, b))
+
+-- what a Take leads to
+module _ (p : Checked) (ks : List ℕ) (T : Table) (sc : Scope) (e n : ℕ) (items : Items)
+    (ts : List PlainTask) (trees : PlainTrees) (vs : List NameValue) (s : PlainState) (held : Stock)
+    (next : ℤ) (size : ℕ)
+    (t : TakesTo p ks T next (job_of sc e 0 n items ts) trees vs (valuation vs) s held nothing_taken
+    size) where
+  abbrev env : PlainEnv
+  env = env_at t.took.after e
+
+  -- the values of its names
+  abbrev named : Valuation
+  named = values_in t.took.w (env_at t.took.after e)
+
+  -- it is owned at values, and met by a fill
+  abbrev OwnedBy : Fill → Valuation → Type 0
+  OwnedBy x a =
+      (o : Owns p.program T held a items) × IsMetBy p.program T a items held o.0 o.1 x
+
+  -- by names of which these are the values
+  named-met :
+      (ns : List NameValue) → named ≡ valuation ns → NamesFit sc ns →
+      NamesMet p ks T sc e t.values t.took.after held items t.taken ns
+  named-met ns is fits =
+      let still = still-of p ks T sc e n items ts (valuation vs) s held next size t.took in
+      let owns : Owns p.program T held named items =
+      still.met t.took.w (alike-same (Old t.took.after) t.took.w) named
+      (values-mean sc t.took.w env) in
+      let met = still-met-or p ks T sc e n items ts trees vs (valuation vs) s held next size t in
+      let all : OwnedBy (named_by ns t.taken.fill) (valuation ns) =
+      subst (OwnedBy (named_by ns t.taken.fill)) is
+      (owns, record { names = is; wildcards = met.wildcards; facts = met.facts }) in
+      record {
+        fits = fits;
+        means =
+            subst (Means sc (valuation t.values) env) is
+            (subst (λ u. Means sc u env named) t.valued (values-mean sc t.took.w env));
+        owns = all.0;
+        met = all.1;
+      }
+
+  -- and nothing is made
+  nothing-made : t.made ≡ []
+  nothing-made =
+      none-tracked p.program t.took.U t.took.new t.took.created t.made (t.took.none_made refl)
+      t.took.are_created t.are_made
+
+  still-so : AreFit p.program sc items → StillTo p ks T sc e vs held s items ts
+  still-so fits =
+      let still = still-of p ks T sc e n items ts (valuation vs) s held next size t.took in
+      let after = t.took.after in
+      record {
+        values = t.values;
+        after = t.took.after;
+        children = t.took.children;
+        goes = t.took.goes;
+        follows = subst (λ u. Follows sc e (valuation vs) s u after) t.valued t.took.follows;
+        ready = subst (λ u. StateAt p.program ks T sc e u after) t.valued still.ready;
+        sorted = t.sorted;
+        top = t.taken;
+        on_top = λ some.
+            let none = λ (q : no_items items ≡ true). true-false (sym q ∙ some) in
+            named-met t.taken.fill.names (t.names (λ q. absurd (none q)))
+            (t.have (λ q. absurd (none q)));
+        told = names-told t.values after.sorts t.sorted env;
+        counted = λ ns q. (so ns q).size;
+        by_names = λ ns q.
+            named-met ns (ap (λ u. values_in u env) t.valued ∙ (so ns q).same) (so ns q).fits;
+      }
+    where
+      true-false : true ≡ false → ⊥
+      true-false q = cc
+
+      so :
+          (ns : List NameValue) → names_in t.values env ≡ traced ns →
+          NamesSo sc t.values env ns
+      so ns q =
+          names-in-so t.values t.took.after.sorts t.sorted ks sc env ns t.took.ready.placed t.terms
+          q
+
+-- what is held is met by the fill on top, or a number is too wide
+pub stills :
+    (p : Checked) → AllByRecursion (RegionFits p.program) p.program.regions → StillsLaw p
+unfolding still-so
+stills p regions ks T sc e n items ts trees vs s held goes at low fits backed room sorted terms heap
+    within =
+    let j = job_of sc e 0 n items ts in
+    elim (takes-along p regions ks (trees_size trees) T (pos 0) (room_of p.program T) j trees vs
+    (valuation vs) s held nothing_taken (omega arith) goes
+    (from-still p ks T (pos 0) j vs s held refl at low fits backed room sorted terms heap within)) [
+      | inl wide ↦ inl (λ enter w. wide false enter w w.taken (λ l. absurd (omega (arith, l))))
+      | inr t ↦
+          let none = nothing-made p ks T sc e n items ts trees vs s held (pos 0) (trees_size trees)
+          t in
+          let count = ap (λ (rs : List TrackedRegion). length rs) none in
+          inr (
+            still-so p ks T sc e n items ts trees vs s held (pos 0) (trees_size trees) t fits,
+            (λ enter w.
+                let next : w.next +ℤ pos (length t.made) ≡ w.next = omega (arith, ints, count) in
+                let same = ap (λ rs. w.regions ++ rs) none ∙ join-nil w.regions in
+                t.along false enter w w.taken (λ l. absurd (omega (arith, l)))
+                ∙ (λ i. into enter p.program t.took.children (goals_of t.took.after ts) (record w {
+                  values = t.values;
+                  next = next i;
+                  taken = t.taken ∷ w.taken;
+                  regions = same i;
+                }))),
+          )
+    ]
 
 -- names that stay bound have their values
 pub names-stay :

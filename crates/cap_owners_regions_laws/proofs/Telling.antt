@@ -1,16 +1,18 @@
--- Parts of a walk that come to something unless a number leaves its bounds, and the regions of a
--- track where one of them is put in its place.
+-- Parts of a walk that come to something unless a number leaves its bounds, also by whatever regions
+-- tell a table; and the regions of a track where one of them is put in its place.
 use Rattle.std.proofs.Common.{◌≡◌, ◌≢◌, ◌⊎◌, inl, inr, ℤ, Bool, true, false, List, [], ◌∷◌, cond, Option, Some, refl, sym, ap, ◌∙◌, subst}
 use Rattle.std.specs.Prelude.{int_lt, if◌then◌else◌}
 use Rattle.cap_lin.specs.Linear.{Linear, same_number}
 use Rattle.cap_lin.specs.Values.{value}
 use Rattle.cap_machine_accounts.specs.Assertions.{NameValue}
+use Rattle.cap_account_resources.specs.Parts.{Table}
 use Rattle.cap_account_resources.proofs.Lists.{some-same, none-some}
 use Rattle.cap_account_resources.proofs.Order.{same-int, same-refl}
 use Rattle.cap_owners_spec.specs.Traced.{Traced, traced, past_width, untold, ◌>>=◌, found, valuation, number_in}
 use Rattle.cap_owners_spec.specs.Track.{TrackedRegion, tracked_at}
 use Rattle.cap_owners_spec.specs.Walks.{with_region}
 use Rattle.cap_owners_values_laws.proofs.Numbers.{number-is}
+use Rattle.cap_owners_fills_laws.proofs.Drawn.{Tells}
 use Rattle.cap_owners_values_laws.proofs.More.{number-told}
 
 -- ---- told of, or too wide
@@ -72,6 +74,56 @@ number-so vs t = by (number_in vs t) refl
     by (traced z) e = inr (z, e, number-is vs t z e)
     by past_width e = inl e
     by untold e = absurd (number-told vs t e)
+
+-- ---- by whatever regions tell a table
+
+-- Whichever regions tell the table, a number leaves its bounds; or it comes to the same, of which
+-- this holds, unless one does.
+abbrev pub ToldFor :
+    {A : Type 0} → Table → (A → Type 0) → (List TrackedRegion → Traced A) → Type 0
+ToldFor {A} U P f =
+    ((rs : List TrackedRegion) → Tells rs U → f rs ≡ past_width)
+    ⊎ ((x : A) × P x
+    × ((rs : List TrackedRegion) → Tells rs U → (f rs ≡ past_width) ⊎ (f rs ≡ traced x)))
+
+pub for-more :
+    {A : Type 0} (U : Table) (P Q : A → Type 0) (f : List TrackedRegion → Traced A) →
+    ((x : A) → P x → Q x) → ToldFor U P f → ToldFor U Q f
+for-more U P Q f h t = elim t [
+  | inl wide ↦ inl wide
+  | inr x ↦ inr (x.0, h x.0 x.1, x.2)
+]
+
+-- by one of them
+pub for-one :
+    {A : Type 0} (U : Table) (P : A → Type 0) (f : List TrackedRegion → Traced A) →
+    ToldFor U P f → (rs : List TrackedRegion) → Tells rs U → ToldSo P (f rs)
+for-one U P f t rs tells = elim t [
+  | inl wide ↦ inl (wide rs tells)
+  | inr x ↦ elim (x.2 rs tells) [
+    | inl wide ↦ inl wide
+    | inr e ↦ inr (x.0, e, x.1)
+  ]
+]
+
+-- and a part that comes to something else of it
+pub for-on :
+    {A B : Type 0} (U : Table) (P : A → Type 0) (Q : B → Type 0)
+    (f : List TrackedRegion → Traced A) (g : List TrackedRegion → Traced B) (h : A → B) →
+    ((rs : List TrackedRegion) → Tells rs U → g rs ≡ (f rs >>= λ x. traced (h x))) →
+    ((x : A) → P x → Q (h x)) → ToldFor U P f → ToldFor U Q g
+for-on U P Q f g h same more t = elim t [
+  | inl wide ↦
+      inl (λ rs tells. same rs tells ∙ ap (λ o. o >>= λ x. traced (h x)) (wide rs tells))
+  | inr x ↦ inr (
+    h x.0,
+    more x.0 x.1,
+    (λ rs tells. elim (x.2 rs tells) [
+      | inl wide ↦ inl (same rs tells ∙ ap (λ o. o >>= λ x. traced (h x)) wide)
+      | inr e ↦ inr (same rs tells ∙ ap (λ o. o >>= λ x. traced (h x)) e)
+    ]),
+  )
+]
 
 -- ---- a region is put in its place
 

@@ -3,11 +3,15 @@ pub mod Onward
 pub mod Staying
 pub mod Stepping
 pub mod Ordinary
+pub mod Standing
 pub mod Making
+pub mod Created
 pub mod Returned
-pub mod Called
-pub mod Forked
 pub mod Owing
+pub mod OwnTerms
+pub mod Owed
 pub mod Paying
+pub mod Paid
 pub mod Turned
 pub mod Looped
+pub mod Renewed

@@ -29,7 +29,7 @@ use Rattle.cap_owners_steps_laws.proofs.Stepping.{map-still, same-stock}
 -- ---- lists
 
 -- what holds of an element may rest on that it is one
-all-with :
+pub all-with :
     {A : Type 0} (P Q : A → Type 0) (rs : List A) → ((r : A) → Among r rs → P r → Q r) →
     AllByRecursion P rs → AllByRecursion Q rs
 all-with P Q [] f h = tt
@@ -51,7 +51,7 @@ region-one q r e =
       part = same i;
     }
 
-regions-one : (qs rs : List OwnedRegion) → owners qs ≡ owners rs → qs ≡ rs
+pub regions-one : (qs rs : List OwnedRegion) → owners qs ≡ owners rs → qs ≡ rs
 regions-one [] [] e = refl
 regions-one [] (r ∷ rs) e =
     absurd (let n = ap (λ (os : List Owner). length os) e in omega (arith, n))
@@ -61,7 +61,7 @@ regions-one (q ∷ qs) (r ∷ rs) e =
     (λ i. region-one q r (some-same (owner_of q) (owner_of r) (ap (λ os. slice_get os 0) e)) i ∷ qs)
     ∙ ap (λ ys. r ∷ ys) (regions-one qs rs (ap (drop 1) e))
 
-numbered-join :
+pub numbered-join :
     (n : ℤ) (as' bs : List Region) → AreNumbered n as' → AreNumbered (n +ℤ pos (length as')) bs →
     AreNumbered n (as' ++ bs)
 numbered-join n [] bs h k =

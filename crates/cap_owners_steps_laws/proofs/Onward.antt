@@ -42,6 +42,7 @@ use Rattle.cap_owners_values_laws.proofs.More.{FitsSort, sorted-more, number-mor
 use Rattle.cap_owners_walks_laws.proofs.Passing.{more}
 use Rattle.cap_owners_walks_laws.proofs.Leading.{LeadsOn, set-leads, check-leads}
 use Rattle.cap_owners_tracks_laws.proofs.Tied.{StopsSo, IsTidy, derivation, IsAtNode}
+use Rattle.cap_owners_parts_laws.proofs.Held.{IsOf}
 use Rattle.cap_owners_parts_laws.proofs.Putting.{IsCellAt}
 use Rattle.cap_owners_steps_laws.proofs.Sides.{side_of, branch-leads, turn-leads, alloc-leads}
 
@@ -181,6 +182,14 @@ module _ (p : Checked) (trees : List (Option PlainTree)) (U : Table) (fn : Plain
   related store c true e = met-relates c.op (value_in store c.left) (value_in store c.right) e
   related store c false e = unmet-relates c.op (value_in store c.left) (value_in store c.right) e
 
+  -- and the state has what it had
+  pub record LedSame (event : Event) (part : Stock) (f g : Frame) (tasks : Home → List PlainTask)
+      (d : PlainTree) (n : Node p part U fn fixed f tasks d) : Type 0 where
+    pub led_on : LedOn event part part f g tasks d n
+    pub same :
+        (has : Stock) → IsOf p.program n.v n.state has →
+        IsOf p.program led_on.sits.at_node.v led_on.sits.at_node.state has
+
   -- the frame goes on where the store leads it
   sided :
       (part : Stock) (f : Frame) (tasks : Home → List PlainTask) (d : PlainTree) (c : Comp)
@@ -188,11 +197,20 @@ module _ (p : Checked) (trees : List (Option PlainTree)) (U : Table) (fn : Plain
       (n : Node p part U fn fixed f tasks d) →
       LeadsOn p d (goal n.state (tasks n.home)) (Branch taken)
       (row_added n.state (store_row n.state (side_of c.op taken) c)) n.home b →
-      LedOn (Branch taken) part part f (with_rest f b) tasks d n
+      LedSame (Branch taken) part f (with_rest f b) tasks d n
+  unfolding led
   sided part f tasks d c taken b fits e n lead =
-      led (Branch taken) part f (with_rest f b) tasks d n
-      (chosen p part U fn fixed f tasks d lead.tree_there b c (side_of c.op taken) fits n lead.valid
-      (related f.store c taken e)).sits lead refl refl refl
+      let to = (chosen p part U fn fixed f tasks d lead.tree_there b c (side_of c.op taken) fits n
+      lead.valid (related f.store c taken e)).sits in
+      record {
+        led_on = led (Branch taken) part f (with_rest f b) tasks d n to lead refl refl refl;
+        same = λ has x. record {
+          elements = x.elements;
+          forms = x.forms;
+          cells = x.cells;
+          guards = x.guards;
+        };
+      }
 
   module _ (part : Stock) (f : Frame) (l : Label) (rest : Block) (c : Comp)
       (fits : CompFits (body_scope fn) c) (taken : Bool) (is : holds f.store c ≡ taken) where
@@ -208,24 +226,32 @@ module _ (p : Checked) (trees : List (Option PlainTree)) (U : Table) (fn : Plain
         (λ h. to_run h (first l (branch c a b) rest)) u ks n
     branch-on a b (node by_if ks) n =
         let r = first l (branch c a b) rest in
-        sided part (with_rest f r) (running r) (node by_if ks) c taken
+        (sided part (with_rest f r) (running r) (node by_if ks) c taken
         (if taken then append a rest else append b rest) fits is n
-        (branch-leads p ks n.state n.home l c a b rest taken n.valid)
+        (branch-leads p ks n.state n.home l c a b rest taken n.valid)).led_on
     branch-on a b d n = absurd (p.step n.valid).1
 
-    pub turn-on :
+    pub turn-same :
+        (i : PlainAssertion) (a : Block) (d : PlainTree) →
+        (n : Node p part U fn fixed f (λ h. to_turn h (first l (loop c i a) rest) ∷ []) d) →
+        LedSame (Branch taken) part f
+        (with_rest f (if taken then append a (first l (loop c i a) rest) else rest))
+        (λ h. to_turn h (first l (loop c i a) rest) ∷ []) d n
+    turn-same i a (node (by_absurd u) ks) n =
+        given-up p part U fn fixed f (λ h. to_turn h (first l (loop c i a) rest)) u ks n
+    turn-same i a (node by_turn ks) n =
+        sided part f (λ h. to_turn h (first l (loop c i a) rest) ∷ []) (node by_turn ks) c taken
+        (if taken then append a (first l (loop c i a) rest) else rest) fits is n
+        (turn-leads p ks n.state n.home l c i a rest taken n.valid)
+    turn-same i a d n = absurd (p.step n.valid).1
+
+    abbrev pub turn-on :
         (i : PlainAssertion) (a : Block) (d : PlainTree) →
         (n : Node p part U fn fixed f (λ h. to_turn h (first l (loop c i a) rest) ∷ []) d) →
         LedOn (Branch taken) part part f
         (with_rest f (if taken then append a (first l (loop c i a) rest) else rest))
         (λ h. to_turn h (first l (loop c i a) rest) ∷ []) d n
-    turn-on i a (node (by_absurd u) ks) n =
-        given-up p part U fn fixed f (λ h. to_turn h (first l (loop c i a) rest)) u ks n
-    turn-on i a (node by_turn ks) n =
-        sided part f (λ h. to_turn h (first l (loop c i a) rest) ∷ []) (node by_turn ks) c taken
-        (if taken then append a (first l (loop c i a) rest) else rest) fits is n
-        (turn-leads p ks n.state n.home l c i a rest taken n.valid)
-    turn-on i a d n = absurd (p.step n.valid).1
+    turn-on i a d n = (turn-same i a d n).led_on
 
   -- ---- allocations
 

@@ -140,7 +140,7 @@ module _ (p : Checked) (trees : List (Option PlainTree)) (stable : Stable p.prog
     now event = stepped p trees stable x x.turn.c.heap x.top.held.part.cells x.turn.frame event
 
     -- the frame is tied before these statements, which are its next ones
-    tied-before :
+    pub tied-before :
         (b : Block) → x.turn.frame.rest ≡ b →
         Tied p trees (part_stock x.top.held.part) (account_table (account_of x.track))
         x.top.held.fixed (with_rest x.turn.frame b) x.top

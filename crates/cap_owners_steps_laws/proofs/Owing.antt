@@ -1,13 +1,13 @@
--- A frame that returns: its walk comes to a Take of what its function ensures, at the values of the
--- walk.
-use Rattle.std.proofs.Common.{◌≡◌, ◌⊎◌, inl, inr, pos, ◌+◌, false, List, [], ◌∷◌, ◌++◌, length, Option, Some, refl, sym, ap, ◌∙◌, subst}
+-- A frame whose statement owes an assertion: its walk comes to a Take of that and nothing else, at the
+-- values of the walk. A frame that returns owes what its function ensures.
+use Rattle.std.proofs.Common.{◌≡◌, ◌⊎◌, inl, inr, pos, ◌+◌, false, List, [], ◌∷◌, ◌++◌, length, Option, Some, refl, sym, ap, ◌∙◌, subst, ℕ}
 use Rattle.std.specs.List.{AllZip}
 use Rattle.cap_lin.specs.Linear.{Linear}
 use Rattle.cap_lin.specs.Values.{Valuation}
-use Rattle.cap_prog.specs.Program.{Label, give_back, Block, first, PlainFunction}
+use Rattle.cap_prog.specs.Program.{Label, give_back, Block, first, PlainFunction, Items}
 use Rattle.cap_prog.specs.WellFormed.{IsWellFormed}
-use Rattle.cap_goal_spec.specs.States.{Home, PlainTask, to_run, to_take, goal, goals_of}
-use Rattle.cap_goal_spec.specs.Choices.{by_absurd, by_return, PlainTree, node, PlainTrees}
+use Rattle.cap_goal_spec.specs.States.{Home, PlainTask, to_run, to_take, goal, goals_of, PlainEnv, PlainState}
+use Rattle.cap_goal_spec.specs.Choices.{by_absurd, by_return, PlainTree, node, PlainTrees, PlainChoice}
 use Rattle.cap_machine.specs.Machine.{Frame, with_rest}
 use Rattle.cap_machine.specs.declared.event.Event.{Event}
 use Rattle.cap_machine_accounts.specs.Assertions.{NameValue}
@@ -31,7 +31,7 @@ use Rattle.cap_account_steps.proofs.Returning.{return_env, return-leads}
 use Rattle.cap_owners_spec.specs.Traced.{Traced, traced, past_width, untold, ◌>>=◌, valuation}
 use Rattle.cap_owners_spec.specs.Track.{TrackedRegion, TrackedFrame}
 use Rattle.cap_owners_spec.specs.Walks.{Walk, nothing_taken, Interpreting, Halt, stands, leaves, walk, walk_below, descends}
-use Rattle.cap_owners_spec.specs.Steps.{Proved, interpreted, frame_walk}
+use Rattle.cap_owners_spec.specs.Steps.{interpreted, frame_walk}
 use Rattle.cap_owners_laws.specs.Owned.{IsTold}
 use Rattle.cap_owners_values_laws.proofs.More.{FitsSort}
 use Rattle.cap_owners_fills_laws.proofs.Drawn.{Tells}
@@ -68,52 +68,120 @@ node_at p part T fn fixed f tasks t n w a size = record {
       (λ x o e. e) refl size n.store;
 }
 
-module _ (p : Checked) (trees : List (Option PlainTree)) (wf : IsWellFormed p.program)
-    (law : TakenLaw p) (part : Stock) (T : Table) (roomy : Roomy p.program T part)
-    (fn : PlainFunction) (fixed : List NameValue) (f : Frame) (l : Label) (t : Linear) (b : Block)
-    (ok : FrameOk p.program fn fixed (with_rest f (first l (give_back t) b)))
-    (rs : List TrackedRegion) (event : Event) where
-  abbrev r0 : Block
-  r0 = first l (give_back t) b
+-- ---- what is owed
 
+-- what a statement owes: the choice at its node, the environment of the names in a state, the items
+pub record Debt : Type 0 where
+  pub statement : Block
+  pub choice : PlainChoice
+  pub env : PlainState → Home → PlainEnv
+  pub items : Items
+  pub number : ℕ
+
+module _ (p : Checked) (trees : List (Option PlainTree)) (part : Stock) (T : Table)
+    (fixed : List NameValue) (f : Frame) (u : Debt) (rs : List TrackedRegion) (event : Event) where
   abbrev enter : Interpreting
   enter = interpreted (derivation p trees)
 
-  -- a walk is to take what the function ensures, and nothing else, at the values at which the node
-  -- holds of the frame
-  pub record Owing (o : Traced Halt) : Type 0 where
+  abbrev owing : Frame
+  owing = with_rest f u.statement
+
+  -- a walk is to take the items, and nothing else, at the values at which the node holds of the frame
+  pub record IsDue (fn : PlainFunction) (o : Traced Halt) : Type 0 where
     pub ks : PlainTrees
     pub w : Walk
-    pub n : Node p part T fn fixed (with_rest f (first l (give_back t) b))
-        (running (first l (give_back t) b)) (node by_return ks)
+    pub n : Node p part T fn fixed (with_rest f u.statement) (running u.statement)
+        (node u.choice ks)
     pub valued : n.v ≡ valuation w.values
     pub sorted : AllZip FitsSort n.state.sorts w.values
     pub regions : w.regions ≡ rs
     pub next : w.next ≡ pos (1 + length rs)
     pub taken : w.taken ≡ nothing_taken ∷ []
     pub goes :
-        Open p.N ks
-        (env_added n.state (return_env p wf law part T fn fixed roomy n.state n.home t))
-        (to_take fn.ensures.items (length n.state.envs) 3 l.number ∷ [])
+        Open p.N ks (env_added n.state (u.env n.state n.home))
+        (to_take u.items (length n.state.envs) 3 u.number ∷ [])
     pub walks :
         o
         ≡ into (interpreted (derivation p trees)) p.program ks
-        (goals_of (env_added n.state (return_env p wf law part T fn fixed roomy n.state n.home t))
-        (to_take fn.ensures.items (length n.state.envs) 3 l.number ∷ [])) w
+        (goals_of (env_added n.state (u.env n.state n.home))
+        (to_take u.items (length n.state.envs) 3 u.number ∷ [])) w
+
+  -- from each node at which the frame may sit
+  abbrev pub DueLaw : PlainFunction → Type 0
+  DueLaw fn =
+      (d : PlainTree) →
+      (n : Node p part T fn fixed (with_rest f u.statement) (running u.statement) d) (w : Walk) →
+      n.v ≡ valuation w.values → AllZip FitsSort n.state.sorts w.values → w.regions ≡ rs →
+      w.next ≡ pos (1 + length rs) →
+      IsDue fn
+      (walk (interpreted (derivation p trees)) p.program false d
+      (goal n.state (running u.statement n.home)) (record w { events = event ∷ [] }))
+
+  module _ (top : TrackedFrame)
+      (tied : Tied p trees part T fixed (with_rest f u.statement) top) (tells : Tells rs T)
+      (law : DueLaw tied.stood.fn) where
+    abbrev now : Sits p part T tied.stood.fn fixed (with_rest f u.statement)
+    now = tied.stood.all T (relies-same p.program part.guards T)
+
+    -- it owes, or its walk is too wide
+    abbrev pub DueThere : Traced Halt → Type 0
+    DueThere o = (o ≡ past_width) ⊎ IsDue tied.stood.fn o
+
+    pub frame-due :
+        DueThere (frame_walk (derivation p trees) false rs top (top.since ++ event ∷ []))
+    frame-due =
+        by (frame_walk (derivation p trees) false rs top top.since) refl
+        (tied.walks T (relies-same p.program part.guards T) rs tells)
+      where
+        by :
+            (o : Traced Halt) → frame_walk (derivation p trees) false rs top top.since ≡ o →
+            IsTold (StopsSo (IsAtNode p trees rs part T tied.stood.fn fixed
+            (with_rest f u.statement)
+            (tied.stood.all T (relies-same p.program part.guards T)))) o →
+            DueThere (frame_walk (derivation p trees) false rs top (top.since ++ event ∷ []))
+        by past_width e h =
+            inl (frame-goes-on (derivation p trees) false rs top top.since event []
+            ∙ ap (λ o. o >>= goes_on (interpreted (derivation p trees)) p.program false
+            (event ∷ [])) e)
+        by untold e h = absurd h
+        by (traced (leaves w)) e h = absurd h
+        by (traced (stands q w)) e a =
+            let n = node_at p part T tied.stood.fn fixed (with_rest f u.statement)
+            (running u.statement) now.tree now.at_node (valuation w.values) a.alike
+            (values-length tied.stood.fn.fixed fixed tied.stood.ok.values) in
+            let same = frame-goes-on (derivation p trees) false rs top top.since event []
+            ∙ ap (λ o. o >>= goes_on (interpreted (derivation p trees)) p.program false
+            (event ∷ [])) e
+            ∙ (λ i. walk (interpreted (derivation p trees)) p.program false (a.tree i) (a.goal_is i)
+            (record w { events = a.tidy.events i ++ event ∷ [] })) in
+            subst DueThere (sym same)
+            (inr (law now.tree n w refl a.tidy.sorted a.tidy.regions a.tidy.next))
+
+-- ---- a frame that returns
+
+module _ (p : Checked) (trees : List (Option PlainTree)) (wf : IsWellFormed p.program)
+    (law : TakenLaw p) (part : Stock) (T : Table) (roomy : Roomy p.program T part)
+    (fixed : List NameValue) (f : Frame) (l : Label) (t : Linear) (b : Block)
+    (rs : List TrackedRegion) (event : Event) (fn : PlainFunction)
+    (ok : FrameOk p.program fn fixed (with_rest f (first l (give_back t) b))) where
+  -- what it owes
+  abbrev pub return_debt : Debt
+  return_debt = record {
+    statement = first l (give_back t) b;
+    choice = by_return;
+    env = λ s h. return_env p wf law part T fn fixed roomy s h t;
+    items = fn.ensures.items;
+    number = l.number;
+  }
 
   -- from the node at which the frame sits
-  owing-node :
-      (d : PlainTree) →
-      (n : Node p part T fn fixed (with_rest f (first l (give_back t) b))
-      (running (first l (give_back t) b)) d) (w : Walk) → n.v ≡ valuation w.values →
-      AllZip FitsSort n.state.sorts w.values → w.regions ≡ rs → w.next ≡ pos (1 + length rs) →
-      Owing
-      (walk (interpreted (derivation p trees)) p.program false d
-      (goal n.state (running (first l (give_back t) b) n.home))
-      (record w { events = event ∷ [] }))
-  owing-node (node (by_absurd c) ks) n w valued sorted regions next =
-      given-up p part T fn fixed (with_rest f r0) (λ h. to_run h r0) c ks n
-  owing-node (node by_return ks) n w valued sorted regions next =
+  pub return-due : DueLaw p trees part T fixed f return_debt rs event fn
+  return-due (node (by_absurd c) ks) n w valued sorted regions next =
+      given-up p part T fn fixed (with_rest f (first l (give_back t) b))
+      (λ h. to_run h (first l (give_back t) b)) c ks n
+  return-due (node by_return ks) n w valued sorted regions next =
+      let r0 = first l (give_back t) b in
+      let enter = interpreted (derivation p trees) in
       let g = goal n.state (running r0 n.home) in
       let q = return-leads p wf law part T fn fixed roomy f l t b ks ok n (Left p by_return ks g)
       (node-leads p by_return ks n.state (running r0 n.home) n.valid) in
@@ -131,55 +199,4 @@ module _ (p : Checked) (trees : List (Option PlainTree)) (wf : IsWellFormed p.pr
         walks =
             ap (λ gs. walk_below enter p.program false ks gs (traced (descends (Some 0) there))) q.0;
       }
-  owing-node d n w valued sorted regions next = absurd (p.step n.valid).1
-
--- ---- from a frame that is tied
-
-module _ (p : Checked) (trees : List (Option PlainTree)) (wf : IsWellFormed p.program)
-    (law : TakenLaw p) (part : Stock) (T : Table) (roomy : Roomy p.program T part)
-    (fixed : List NameValue) (f : Frame) (l : Label) (t : Linear) (b : Block)
-    (rs : List TrackedRegion) (event : Event) (top : TrackedFrame)
-    (tied : Tied p trees part T fixed (with_rest f (first l (give_back t) b)) top)
-    (tells : Tells rs T) where
-  abbrev mine : Proved
-  mine = derivation p trees
-
-  abbrev now : Sits p part T tied.stood.fn fixed (with_rest f (first l (give_back t) b))
-  now = tied.stood.all T (relies-same p.program part.guards T)
-
-  -- it owes, or its walk is too wide
-  abbrev pub OwesThere : Traced Halt → Type 0
-  OwesThere o =
-      (o ≡ past_width)
-      ⊎ Owing p trees wf law part T roomy tied.stood.fn fixed f l t b tied.stood.ok rs event o
-
-  pub frame-owes :
-      OwesThere (frame_walk (derivation p trees) false rs top (top.since ++ event ∷ []))
-  frame-owes =
-      by (frame_walk mine false rs top top.since) refl
-      (tied.walks T (relies-same p.program part.guards T) rs tells)
-    where
-      by :
-          (o : Traced Halt) → frame_walk (derivation p trees) false rs top top.since ≡ o →
-          IsTold (StopsSo (IsAtNode p trees rs part T tied.stood.fn fixed
-          (with_rest f (first l (give_back t) b))
-          (tied.stood.all T (relies-same p.program part.guards T)))) o →
-          OwesThere (frame_walk (derivation p trees) false rs top (top.since ++ event ∷ []))
-      by past_width e h =
-          inl (frame-goes-on (derivation p trees) false rs top top.since event []
-          ∙ ap (λ o. o >>= goes_on (interpreted (derivation p trees)) p.program false (event ∷ []))
-          e)
-      by untold e h = absurd h
-      by (traced (leaves w)) e h = absurd h
-      by (traced (stands q w)) e a =
-          let n = node_at p part T tied.stood.fn fixed (with_rest f (first l (give_back t) b))
-          (running (first l (give_back t) b)) now.tree now.at_node (valuation w.values) a.alike
-          (values-length tied.stood.fn.fixed fixed tied.stood.ok.values) in
-          let same = frame-goes-on (derivation p trees) false rs top top.since event []
-          ∙ ap (λ o. o >>= goes_on (interpreted (derivation p trees)) p.program false (event ∷ []))
-          e
-          ∙ (λ i. walk (interpreted (derivation p trees)) p.program false (a.tree i) (a.goal_is i)
-          (record w { events = a.tidy.events i ++ event ∷ [] })) in
-          subst OwesThere (sym same)
-          (inr (owing-node p trees wf law part T roomy tied.stood.fn fixed f l t b tied.stood.ok rs
-          event now.tree n w refl a.tidy.sorted a.tidy.regions a.tidy.next))
+  return-due d n w valued sorted regions next = absurd (p.step n.valid).1

@@ -29,8 +29,8 @@ use Rattle.cap_owners_tracks_laws.proofs.Saying.{track-tells}
 use Rattle.cap_owners_tracks_laws.proofs.Steps.{TurnKept, GoesKept, EachTurn, DoesKept}
 use Rattle.cap_owners_tracks_laws.proofs.Turns.{own, stack-tied}
 use Rattle.cap_owners_steps_laws.proofs.Making.{MadeSo}
-use Rattle.cap_owners_steps_laws.proofs.Returned.{EndsSo, Regains, ended-kept, went-back}
-use Rattle.cap_owners_steps_laws.proofs.Owing.{Owing, frame-owes}
+use Rattle.cap_owners_steps_laws.proofs.Returned.{EndsSo, AllDrawn, ended-kept, went-back}
+use Rattle.cap_owners_steps_laws.proofs.Owing.{Debt, IsDue, frame-due, return_debt, return-due}
 
 bind-wide :
     {A B : Type 0} (o : Traced A) (f : A → Traced B) → o ≡ past_width → (o >>= f) ≡ past_width
@@ -49,16 +49,16 @@ module _ (p : Checked) (trees : List (Option PlainTree)) (ls : Statements p)
         Tied p trees (part_stock x.top.held.part) (account_table (account_of x.track))
         x.top.held.fixed (with_rest x.turn.frame (first l (give_back t) b)) x.top
 
-  abbrev result_of : ReturnHere → ℤ
+  abbrev pub result_of : ReturnHere → ℤ
   result_of r = value_in r.x.turn.frame.store r.t
 
-  abbrev walk_then : ReturnHere → Event → Traced Halt
+  abbrev pub walk_then : ReturnHere → Event → Traced Halt
   walk_then r event =
       frame_walk (derivation p trees) false r.x.track.regions r.x.top
       (r.x.top.since ++ event ∷ [])
 
   -- what a walk that owes comes to: what is given up is what the function ensures, met by a fill; the
-  -- walk ends with it, and with the regions that were made; and whoever waits has just that more
+  -- walk ends with it, and with the regions that were made; and all that is given up is drawn
   pub record Pays (r : ReturnHere) (event : Event) : Type 0 where
     pub gives :
         Returns p.program (part_stock r.x.top.held.part) (account_table (account_of r.x.track))
@@ -76,18 +76,28 @@ module _ (p : Checked) (trees : List (Option PlainTree)) (ls : Statements p)
         (EndsSo p trees ls stable r.x r.tied.stood.fn r.tied.stood.ok.is_fn (result_of r) gives fill
         made so)
         (walk_then r event)
-    pub regains :
-        (c : TrackedFrame) (cs : List TrackedFrame) → r.x.below ≡ c ∷ cs →
-        Regains p trees ls stable r.x r.tied.stood.fn r.tied.stood.ok.is_fn (result_of r) gives fill
-        made so c
+    pub drawn :
+        AllDrawn p trees ls stable r.x r.tied.stood.fn r.tied.stood.ok.is_fn (result_of r) gives fill
+        made so
+
+  -- what the function ensures is to be taken
+  abbrev pub owing_debt : ReturnHere → Event → Debt
+  owing_debt r event =
+      return_debt p trees wf law (part_stock r.x.top.held.part) (account_table (account_of r.x.track))
+      (roomy p.program (account_scene p (own p trees r.x))) r.x.top.held.fixed r.x.turn.frame r.l r.t
+      r.b r.x.track.regions event r.tied.stood.fn r.tied.stood.ok
+
+  abbrev pub Owing : ReturnHere → Event → Type 0
+  Owing r event =
+      IsDue p trees (part_stock r.x.top.held.part) (account_table (account_of r.x.track))
+      r.x.top.held.fixed r.x.turn.frame (owing_debt r event) r.x.track.regions event
+      r.tied.stood.fn (walk_then r event)
 
   -- by what is owed
   abbrev pub PayLaw : Type 0
   PayLaw =
       (r : ReturnHere) (event : Event) →
-      Owing p trees wf law (part_stock r.x.top.held.part) (account_table (account_of r.x.track))
-      (roomy p.program (account_scene p (own p trees r.x))) r.tied.stood.fn r.x.top.held.fixed
-      r.x.turn.frame r.l r.t r.b r.tied.stood.ok r.x.track.regions event (walk_then r event) →
+      Owing r event →
       (walk_then r event ≡ past_width) ⊎ Pays r event
 
   module _ (pay : PayLaw) (r : ReturnHere) where
@@ -96,10 +106,12 @@ module _ (p : Checked) (trees : List (Option PlainTree)) (ls : Statements p)
 
     paid : (event : Event) → (walk_then r event ≡ past_width) ⊎ Pays r event
     paid event =
-        elim (frame-owes p trees wf law (part_stock x.top.held.part)
-        (account_table (account_of x.track)) (roomy p.program (account_scene p (own p trees x)))
-        x.top.held.fixed x.turn.frame r.l r.t r.b x.track.regions event x.top r.tied
-        (track-tells x.track)) [
+        elim (frame-due p trees (part_stock x.top.held.part) (account_table (account_of x.track))
+        x.top.held.fixed x.turn.frame (owing_debt r event) x.track.regions event x.top r.tied
+        (track-tells x.track)
+        (return-due p trees wf law (part_stock x.top.held.part) (account_table (account_of x.track))
+        (roomy p.program (account_scene p (own p trees x))) x.top.held.fixed x.turn.frame r.l r.t r.b
+        x.track.regions event r.tied.stood.fn r.tied.stood.ok)) [
           | inl wide ↦ inl wide
           | inr owes ↦ pay r event owes
         ]
@@ -160,7 +172,7 @@ module _ (p : Checked) (trees : List (Option PlainTree)) (ls : Statements p)
           | inr pays ↦
               went-back p trees ls stable x r.tied.stood.fn r.tied.stood.ok.is_fn (result_of r)
               pays.gives pays.fill pays.made pays.so f fs c cs e k pays.met pays.fits pays.ends
-              (pays.regains c cs k)
+              pays.drawn
         ]
 
   -- returns, by what is owed

@@ -1,5 +1,5 @@
 -- A return: the caller gets what the frame gives up, and is tied again; a thread without one ends.
-use Rattle.std.proofs.Common.{◌≡◌, ℤ, false, List, [], ◌∷◌, ◌++◌, map, Option, Some, None, refl, sym, ap, ◌∙◌, subst}
+use Rattle.std.proofs.Common.{◌≡◌, ◌≤◌, ℤ, false, List, [], ◌∷◌, ◌++◌, map, Option, Some, None, refl, sym, ap, ◌∙◌, subst, arith}
 use Rattle.std.specs.Prelude.{slice_get, slice_set}
 use Rattle.cap_prog.specs.Program.{PlainFunction}
 use Rattle.cap_prog.specs.Scopes.{ensures_scope}
@@ -9,16 +9,17 @@ use Rattle.cap_machine.specs.declared.event.Event.{Event}
 use Rattle.cap_machine.specs.declared.event.Event.TheVariants.{Return, End}
 use Rattle.cap_machine_accounts.specs.Parts.{Part}
 use Rattle.cap_machine_accounts.specs.Accounts.{Held}
-use Rattle.cap_account_resources.specs.Parts.{Table}
+use Rattle.cap_account_resources.specs.Parts.{cells_of, Table}
 use Rattle.cap_account_resources.proofs.Interference.{relies-same}
 use Rattle.cap_account_resources.proofs.Lists.{join-nil, map-set}
-use Rattle.cap_account_resources.proofs.Stocks.{Stock, both, Inside, stock-laws, inside-trans, inside-first, inside-both, inside-same}
+use Rattle.cap_account_resources.proofs.Stocks.{Stock, both, Inside, stock-laws, inside-trans, inside-first, inside-both, inside-same, inside-cells}
 use Rattle.cap_account_states.proofs.Checked.{Checked}
 use Rattle.cap_account_steps.proofs.Regained.{Stable}
 use Rattle.cap_account_steps.proofs.Frames.{Returns}
 use Rattle.cap_account_steps.proofs.Statements.{Statements}
 use Rattle.cap_account.proofs.Stocked.{part_stock, frames_stock, account_table, callee_of, AllWait, Turn, spot_of}
-use Rattle.cap_account.proofs.Successors.{others, Stride, all, cut, cut-is, account, left-inside}
+use Rattle.cap_account.proofs.Successors.{scene as account_scene, others, Stride, all, cut, cut-is, account, left-inside}
+use Rattle.cap_account.proofs.Changes.{cells-after}
 use Rattle.cap_account.proofs.Succeeding.{below-wait}
 use Rattle.cap_account.proofs.Handing.{cut-roomy}
 use Rattle.cap_account.proofs.Returning.{receiving, giving, ends, goes-back}
@@ -27,7 +28,8 @@ use Rattle.cap_owners_spec.specs.Track.{Fill, TrackedRegion, TrackedFrame, Track
 use Rattle.cap_owners_spec.specs.Walks.{Taking, Walk, Halt, leaves}
 use Rattle.cap_owners_spec.specs.Steps.{Proved, Moved, Scene, walk_of, standing, ended_walk, received, gives_result, tracks_return, moved, after_move, followed, follow}
 use Rattle.cap_owners_laws.specs.Owned.{IsTold, GoesOver}
-use Rattle.cap_owners_fills_laws.proofs.Drawn.{IsMetOr}
+use Rattle.cap_owners_fills_laws.proofs.Amounts.{items_drawn}
+use Rattle.cap_owners_fills_laws.proofs.Drawn.{IsMetOr, Tells}
 use Rattle.cap_owners_fills_laws.proofs.Giving.{NamesFit}
 use Rattle.cap_owners_parts_laws.proofs.Telling.{told-on}
 use Rattle.cap_owners_tracks_laws.proofs.Tied.{derivation, Tied, AllWaitTied, StackTied, EachTied, Kept}
@@ -35,11 +37,9 @@ use Rattle.cap_owners_tracks_laws.proofs.Steps.{TurnKept, GoesKept}
 use Rattle.cap_owners_tracks_laws.proofs.Turns.{own}
 use Rattle.cap_owners_tracks_laws.proofs.Later.{below-tied, threads-tied}
 use Rattle.cap_owners_steps_laws.proofs.Stepping.{same-stock}
-use Rattle.cap_owners_steps_laws.proofs.Making.{MadeSo, Goes_to, made-goes}
-
--- the frame has this part
-abbrev pub with_part : TrackedFrame → Part → TrackedFrame
-with_part t q = record t { held = record t.held { part = q } }
+use Rattle.cap_owners_tracks_laws.proofs.Saying.{track-tells}
+use Rattle.cap_owners_steps_laws.proofs.Standing.{with_part, StandsWith, stands-just}
+use Rattle.cap_owners_steps_laws.proofs.Making.{MadeSo, Goes_to, made-table, made-goes}
 
 module _ (p : Checked) (trees : List (Option PlainTree)) (ls : Statements p)
     (stable : Stable p.program) (x : TurnKept p trees) (fn : PlainFunction)
@@ -229,10 +229,23 @@ module _ (p : Checked) (trees : List (Option PlainTree)) (ls : Statements p)
   abbrev pub Regains : TrackedFrame → Type 0
   Regains c =
       (rs : List TrackedRegion) → rs ≡ x.track.regions ++ made →
-      IsTold (λ t.
-      (q : Part) × (t ≡ with_part (regaining c) q)
-      × (part_stock q ≡ both p.program (part_stock c.held.part) gives.given))
+      IsTold
+      (StandsWith (regaining c) (both p.program (part_stock c.held.part) gives.given))
       (standing (derivation p trees) rs (regaining c))
+
+  -- all that is given up is drawn
+  abbrev pub AllDrawn : Type 0
+  AllDrawn =
+      items_drawn p.program gives.over.U gives.meets.values fn.ensures.items gives.given
+      gives.meets.met.0 gives.meets.met.1
+      ≡ gives.given
+
+  -- the regions tell the table that there is then
+  tells-then : (rs : List TrackedRegion) → rs ≡ x.track.regions ++ made → Tells rs gives.over.U
+  tells-then rs e =
+      subst (λ rs. Tells rs U) (sym e)
+      (subst (Tells (x.track.regions ++ made)) (made-table p trees stable x y refl made so [])
+      (track-tells (record { regions = x.track.regions ++ made; threads = [] })))
 
   module _ (f : Frame) (fs : List Frame) (c : TrackedFrame) (cs : List TrackedFrame)
       (is_below : x.turn.below ≡ f ∷ fs) (is_waiting : x.below ≡ c ∷ cs)
@@ -278,10 +291,19 @@ module _ (p : Checked) (trees : List (Option PlainTree)) (ls : Statements p)
         (inside-first P (frames_stock P (held x.below)) _))))
         (left-inside p stable turn y)
 
+    -- the heap has it
+    cells-held : (a z : ℤ) → more.cells a z ≤ cells_of x.turn.c.heap a z
+    cells-held a z =
+        let i = inside-cells p.program more (all p stable turn y) more-all a z in
+        let l = cells-after p.program (account_scene p turn) x.turn.c.heap gives.given
+        (Stride.change y) a z in
+        omega (arith, i, l)
+
     tied-back : Tied p trees more gives.over.U c.held.fixed back (regaining c)
     tied-back =
         waits.0.back U (relies-same p.program (part_stock c.held.part).guards U) gives.given v fn
-        is_fn (cut-roomy p stable turn y more more-all) gives.meets fill met fits
+        is_fn (cut-roomy p stable turn y more more-all) x.turn.c.heap
+        (λ a z. (let l = cells-held a z in omega (arith, l))) gives.meets fill met fits
 
     stack-back :
         (q : Part) → part_stock q ≡ more →
@@ -301,12 +323,19 @@ module _ (p : Checked) (trees : List (Option PlainTree)) (ls : Statements p)
         ap (λ r. record { part = r; fixed = c.held.fixed } ∷ held cs)
         (same-stock (cut p stable turn y more) q (cut-is p stable turn y more more-all ∙ sym e))
 
+    regains : AllDrawn → Regains c
+    regains drawn rs e =
+        stands-just p trees more x.turn.c.heap cells-held (regaining c) rs
+        (waits.0.regains U (relies-same p.program (part_stock c.held.part).guards U) gives.given v fn
+        is_fn (cut-roomy p stable turn y more more-all) gives.meets fill met fits drawn rs
+        (tells-then rs e))
+
     pub went-back :
         IsTold EndsSo
         (walk_of (derivation p trees) false
         (scene (receives x.turn.frame.destination v f ∷ fs)) (Return v)) →
-        Regains c → GoesKept p trees x (returns (spot_of x.turn) v (f ∷ fs))
-    went-back ended regains =
+        AllDrawn → GoesKept p trees x (returns (spot_of x.turn) v (f ∷ fs))
+    went-back ended drawn =
         let Q = λ (k : Track).
         GoesOver d x.turn.thread (Return v) x.turn.c (after (back ∷ fs)) x.track k
         × Kept p trees (after (back ∷ fs)) k in
@@ -314,37 +343,11 @@ module _ (p : Checked) (trees : List (Option PlainTree)) (ls : Statements p)
         returned-told (back ∷ fs) (Return v) Q refl ended (λ w r.
         subst (λ ts. IsTold (λ ts. Q (later ts)) (gives_result d (scene (back ∷ fs)) v ts (fill, w)))
         (sym is_waiting)
-        (told-on (λ t.
-        (q : Part) × (t ≡ with_part (regaining c) q)
-        × (part_stock q ≡ both p.program (part_stock c.held.part) gives.given))
-        (λ ts. Q (later ts)) (standing d w.regions (regaining c)) (λ t. traced (t ∷ cs))
-        (regains w.regions r) (λ t k.
+        (told-on (StandsWith (regaining c) more) (λ ts. Q (later ts))
+        (standing d w.regions (regaining c)) (λ t. traced (t ∷ cs))
+        (regains drawn w.regions r) (λ t k.
         subst (λ t. Q (later (t ∷ cs))) (sym k.1)
         (goes-kept (back ∷ fs) (Return v)
         (record { part = cut p stable turn y more; fixed = c.held.fixed } ∷ held cs)
         (with_part (regaining c) k.0 ∷ cs) (joined-is k.0 k.2) (g.1, g.2, g.3, g.4)
         (stack-back k.0 k.2)))))
-
-  -- ---- whoever waits
-
-  pub returned-kept :
-      IsMetOr p.program gives.over.U gives.meets.values fn.ensures.items gives.given
-      gives.meets.met.0 gives.meets.met.1 fill →
-      NamesFit (ensures_scope fn fn.ensures.names) fill.names →
-      ((fs : List Frame) (event : Event) →
-      IsTold EndsSo (walk_of (derivation p trees) false (scene fs) event)) →
-      ((c : TrackedFrame) (cs : List TrackedFrame) → x.below ≡ c ∷ cs → Regains c) →
-      GoesKept p trees x (returns (spot_of x.turn) v x.turn.below)
-  returned-kept met fits ended regains =
-      by x.turn.below x.below refl refl (below-tied p trees stable x y)
-    where
-      by :
-          (fs : List Frame) (ts : List TrackedFrame) → x.turn.below ≡ fs → x.below ≡ ts →
-          AllWaitTied p trees gives.over.U (callee_of x.turn.frame x.top.held) fs ts →
-          GoesKept p trees x (returns (spot_of x.turn) v fs)
-      by [] [] e k w = ended-kept e k (ended [] (End v))
-      by [] (t ∷ ts) e k w = absurd w
-      by (f ∷ fs) [] e k w = absurd w
-      by (f ∷ fs) (c ∷ cs) e k w =
-          went-back f fs c cs e k met fits
-          (ended (receives x.turn.frame.destination v f ∷ fs) (Return v)) (regains c cs k)

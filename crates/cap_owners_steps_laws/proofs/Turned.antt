@@ -11,7 +11,7 @@ use Rattle.cap_prog.specs.WellFormed.{IsWellFormed}
 use Rattle.cap_goal_spec.specs.States.{PlainState, Home, PlainTask, to_give, to_turn, goal}
 use Rattle.cap_goal_spec.specs.Terms.{variables_from}
 use Rattle.cap_goal_spec.specs.Roots.{at_loop, home_of, root_env, root_state}
-use Rattle.cap_goal_spec.specs.Choices.{PlainTree}
+use Rattle.cap_goal_spec.specs.Choices.{PlainTree, node, by_absurd, by_turn}
 use Rattle.cap_machine.specs.declared.event.Event.TheVariants.{Branch}
 use Rattle.cap_machine.specs.Machine.{Frame, holds, with_rest}
 use Rattle.cap_machine_accounts.specs.Assertions.{NameValue, a_number}
@@ -19,28 +19,38 @@ use Rattle.cap_account_resources.specs.Parts.{Table}
 use Rattle.cap_account_resources.proofs.Lists.{all-both}
 use Rattle.cap_account_resources.proofs.Interference.{Relies}
 use Rattle.cap_account_resources.proofs.Stocks.{Stock}
-use Rattle.cap_account_resources.proofs.Tables.{fits-relied}
+use Rattle.cap_account_resources.proofs.Tables.{FitsRoom, fits-relied}
+use Rattle.cap_account_states.proofs.Alike.{Alike}
+use Rattle.cap_account_states.proofs.Attempts.{row_added, store_row}
 use Rattle.cap_account_states.proofs.Checked.{Checked}
 use Rattle.cap_account_states.proofs.Meets.{Usable, Old}
 use Rattle.cap_account_states.proofs.Naming.{Ready}
-use Rattle.cap_account_states.proofs.Roots.{values-length, Root, root_values, fixed-usable, root-ready, root-fixed, root-whole, variables-values, variables-join, variables-over}
-use Rattle.cap_account_states.proofs.Terms.{Over, Agree}
+use Rattle.cap_account_states.proofs.Roots.{Root, root_values, fixed-usable, root-ready, root-fixed, root-whole, variables-values, variables-join, variables-over}
+use Rattle.cap_account_states.proofs.Terms.{Over}
 use Rattle.cap_account_assertions.proofs.Asserted.{OwnsInvariant}
 use Rattle.cap_account_steps.proofs.Entries.{loop_root, low-variable}
-use Rattle.cap_account_steps.proofs.Frames.{Roomy}
+use Rattle.cap_account_steps.proofs.Frames.{Node, Roomy}
+use Rattle.cap_account_steps.proofs.Local.{given-up}
 use Rattle.cap_account_steps.proofs.Points.{Point, FrameOk, point-next, point-again, point-act}
 use Rattle.cap_account_steps.proofs.Stores.{Store}
 use Rattle.cap_owners_spec.specs.Traced.{valuation}
-use Rattle.cap_owners_spec.specs.Track.{Place, GivenAssertion, TrackedFrame}
-use Rattle.cap_owners_spec.specs.Steps.{frame_walk}
-use Rattle.cap_owners_spec.specs.Walks.{no_items}
+use Rattle.cap_owners_spec.specs.Track.{Place, TrackedRegion, GivenAssertion, TrackedFrame}
+use Rattle.cap_owners_spec.specs.Steps.{interpreted, frame_walk}
+use Rattle.cap_owners_spec.specs.Walks.{Walk, no_items, walk}
 use Rattle.cap_owners_values_laws.proofs.More.{FitsSort}
+use Rattle.cap_owners_fills_laws.proofs.Amounts.{items_drawn}
+use Rattle.cap_owners_fills_laws.proofs.Drawn.{Tells}
 use Rattle.cap_owners_fills_laws.proofs.Giving.{NamesFit}
+use Rattle.cap_owners_walks_laws.proofs.Passing.{more}
+use Rattle.cap_owners_parts_laws.proofs.Held.{IsOf}
+use Rattle.cap_owners_parts_laws.proofs.Added.{of-same}
 use Rattle.cap_owners_laws.specs.Owned.{IsTold}
-use Rattle.cap_owners_tracks_laws.proofs.Tied.{StopsSo, derivation, IsAtNode, Tied}
-use Rattle.cap_owners_tracks_laws.proofs.Roots.{OwnsBare, MetAgain, IsRoot, begun_at, LedTo, led-to}
+use Rattle.cap_owners_tracks_laws.proofs.Tied.{StopsSo, derivation, IsAtNode, Tied, HasJust}
+use Rattle.cap_owners_tracks_laws.proofs.Agreeing.{AgreeBy}
+use Rattle.cap_owners_tracks_laws.proofs.Roots.{OwnsBare, IsRefilled, MetAgain, IsRoot, begun_at, LedTo, LedWith, led-to, led-just}
 use Rattle.cap_owners_tracks_laws.proofs.RootValues.{values-sorted, values-agree, bare_names, bare-whole, bare-are, bare-have}
-use Rattle.cap_owners_tracks_laws.proofs.Bodies.{owns-none}
+use Rattle.cap_owners_tracks_laws.proofs.Bodies.{owns-none, node-has}
+use Rattle.cap_owners_steps_laws.proofs.Sides.{side_of, turn-leads}
 use Rattle.cap_owners_steps_laws.proofs.Onward.{LedOn, turn-on}
 
 module _ (p : Checked) (trees : List (Option PlainTree)) (wf : IsWellFormed p.program)
@@ -111,9 +121,9 @@ module _ (p : Checked) (trees : List (Option PlainTree)) (wf : IsWellFormed p.pr
     agrees-there :
         (names : List NameValue) → me.values ≡ valuation names →
         NamesFit (invariant_scope fn inv.names) names →
-        Agree (Old turned) (root_values top) (valuation loop_values)
+        AgreeBy turned.sorts (root_values top) (valuation loop_values)
     agrees-there names named have =
-        values-agree top refl names named have f.store ok.size fixed ok.values fits me.store_is
+        values-agree top refl names named f.store ok.size fixed ok.values fits me.store_is
         me.fixed_are
 
   -- where nothing is asked for, any names do
@@ -157,6 +167,73 @@ module _ (p : Checked) (trees : List (Option PlainTree)) (wf : IsWellFormed p.pr
       MetAgain p trees U part (invariant_scope fn inv.names) inv.items
       (OwnsInvariant p.program U part fn f.store fixed inv) (λ m. m.values) (λ m. m.met) y
 
+  -- over the comparison a state has what it had
+  turn-keeps :
+      (U : Table) (d : PlainTree)
+      (n : Node p part U fn fixed f (λ h. to_turn h (first l (loop c inv body) b) ∷ []) d)
+      (has : Stock) → IsOf p.program n.v n.state has → (w : Walk) →
+      Alike (Old n.state) n.v (valuation w.values) → w.events ≡ [] →
+      IsTold (StopsSo (HasJust p trees has))
+      (walk (interpreted (derivation p trees)) p.program false d
+      (goal n.state (to_turn n.home (first l (loop c inv body) b) ∷ []))
+      (more w (Branch (holds f.store c) ∷ [])))
+  turn-keeps U (node (by_absurd u) ks) n has just w alike none =
+      given-up p part U fn fixed f (λ h. to_turn h (first l (loop c inv body) b)) u ks n
+  turn-keeps U (node by_turn ks) n has just w alike none =
+      let taken = holds f.store c in
+      let enter = interpreted (derivation p trees) in
+      let Q = StopsSo (HasJust p trees has) in
+      let g = goal n.state (at_turn n.home) in
+      let lead = turn-leads p ks n.state n.home l c inv body b taken n.valid in
+      let k = node-has p trees part U fn fixed f at_turn (node by_turn ks) n has just
+      (record w { events = [] }) alike in
+      let later = row_added n.state (store_row n.state (side_of c.op taken) c) in
+      subst (IsTold Q)
+      (sym ((λ i. walk enter p.program false (node by_turn ks) g
+      (record w { events = none i ++ Branch taken ∷ [] }))
+      ∙ lead.walks enter w))
+      (record {
+        pieces_fit = k.pieces_fit;
+        backed = record { cells = k.backed.cells; guards = k.backed.guards };
+        just = of-same p.program n.state later (valuation w.values) has refl refl k.just;
+      })
+  turn-keeps U d n has just w alike none = absurd (p.step n.valid).1
+
+  -- by the table by which it has its invariant, met as it was, and all of it is drawn, its state
+  -- behind the comparison has just that
+  pub turn-has :
+      (U : Table) → FitsRoom p.program U part → (q : Place) →
+      IsRoot p trees q turned
+      (to_give inv.items 0 0
+      ∷ to_turn (home_of at_loop fn f.function) (first l (loop c inv body) b) ∷ []) →
+      (y : GivenAssertion) (own : OwnsInvariant p.program U part fn f.store fixed inv) →
+      IsRefilled p trees U (invariant_scope fn inv.names) inv.items own.values part own.met.0
+      own.met.1 y →
+      items_drawn p.program U own.values inv.items part own.met.0 own.met.1 ≡ part →
+      (t : TrackedFrame) (rs : List TrackedRegion) → Tells rs U →
+      IsTold (StopsSo (HasJust p trees part))
+      (frame_walk (derivation p trees) false rs (begun_at p trees t q loop_values y)
+      (Branch (holds f.store c) ∷ []))
+  turn-has U room q root y own met drawn t rs tells =
+      let frame = begun_at p trees t q loop_values y in
+      let Q = StopsSo (HasJust p trees part) in
+      let x = subst (LedWith p trees U part fn fixed f at_turn frame) drawn
+      (led-just p trees U part room (invariant_scope fn inv.names) inv.items
+      (point-act p.program fn l (loop c inv body) b ok.point).1.items.items at_turn h (λ s. refl)
+      turned (record { facts = refl; guards = refl; cells = refl; rows = refl; opened = refl }) q
+      root fn fixed f ok.values turned-over t loop_values y
+      (OwnsInvariant p.program U part fn f.store fixed inv) (λ m. m.values) (λ m. m.met)
+      (λ m. root_values (loop_root fn f.function inv.names m.values)) (λ m. ready-there U m)
+      (λ m. store-there U m)
+      (values-sorted (fn.params + fn.locals) f.store fn.fixed fixed ok.size fits)
+      (λ m names named have. agrees-there U m names named have) (λ e. bare-own U e) own met) in
+      elim (x.led.walks rs tells (Branch (holds f.store c) ∷ [])) [
+        | inl wide ↦ subst (IsTold Q) (sym wide) tt
+        | inr z ↦
+            subst (IsTold Q) (sym z.there)
+            (turn-keeps U x.led.tree x.led.at_node part x.just z.w z.alike z.tidy.events)
+      ]
+
   module _ (T : Table) (roomy : Roomy p.program T part) (q : Place)
       (root : IsRoot p trees q turned
       (to_give inv.items 0 0 ∷ at_turn (home_of at_loop fn f.function))) (y : GivenAssertion)
@@ -173,8 +250,9 @@ module _ (p : Checked) (trees : List (Option PlainTree)) (wf : IsWellFormed p.pr
         (invariant_scope fn inv.names) inv.items
         (point-act p.program fn l (loop c inv body) b ok.point).1.items.items at_turn h
         (λ s. refl) turned
-        (record { facts = refl; guards = refl; cells = refl; opened = refl }) q root fn fixed f
-        (values-length fn.fixed fixed ok.values) turned-over t loop_values y
+        (record { facts = refl; guards = refl; cells = refl; rows = refl; opened = refl }) q root
+        fn fixed f
+        ok.values turned-over t loop_values y
         (OwnsInvariant p.program U part fn f.store fixed inv) (λ m. m.values) (λ m. m.met)
         (λ m. root_values (loop_root fn f.function inv.names m.values)) (λ m. ready-there U m)
         (λ m. store-there U m)

@@ -5,20 +5,21 @@ use Rattle.cap_lin.specs.Values.{Valuation}
 use Rattle.cap_prog.specs.Program.{Items}
 use Rattle.cap_prog.specs.Scopes.{Scope}
 use Rattle.cap_goal_spec.specs.Choices.{PlainTree}
-use Rattle.cap_machine.specs.Machine.{Frame}
+use Rattle.cap_machine.specs.Machine.{Frame, receives}
 use Rattle.cap_machine_accounts.specs.Assertions.{NameValue}
 use Rattle.cap_machine_accounts.specs.Accounts.{Held}
 use Rattle.cap_account_resources.specs.Parts.{Table}
-use Rattle.cap_account_resources.proofs.Stocks.{Stock}
+use Rattle.cap_account_resources.proofs.Stocks.{Stock, both}
 use Rattle.cap_account_states.proofs.Checked.{Checked}
 use Rattle.cap_account_assertions.proofs.Asserted.{Owns}
+use Rattle.cap_account.proofs.Stocked.{Callee}
 use Rattle.cap_owners_spec.specs.Traced.{Traced, traced, past_width, untold}
 use Rattle.cap_owners_spec.specs.Track.{Fill, TrackedRegion, GivenAssertion, TrackedFrame}
 use Rattle.cap_owners_spec.specs.Steps.{fill_now}
 use Rattle.cap_owners_fills_laws.proofs.Drawn.{IsMetOr, Tells}
 use Rattle.cap_owners_fills_laws.proofs.Giving.{NamesFit}
 use Rattle.cap_owners_laws.specs.Owned.{IsTold}
-use Rattle.cap_owners_tracks_laws.proofs.Tied.{derivation, Tied}
+use Rattle.cap_owners_tracks_laws.proofs.Tied.{derivation, Tied, received_by, WaitsTied}
 use Rattle.cap_owners_tracks_laws.proofs.Roots.{MetAgain}
 
 -- what is told of by a fill is the fill, or a number is too wide
@@ -58,3 +59,18 @@ module _ (p : Checked) (trees : List (Option PlainTree)) where
       Tied p trees part T fixed f (record t { held = h })
   tied-held part T fixed f t h tied =
       record { stood = tied.stood; fits = tied.fits; walks = tied.walks }
+
+  -- nor does the walk of one that waits
+  pub waits-held :
+      (part : Stock) (T : Table) (fixed : List NameValue) (f : Frame) (y : Callee)
+      (t : TrackedFrame) (h : Held) → WaitsTied p trees part T fixed f y t →
+      WaitsTied p trees part T fixed f y (record t { held = h })
+  waits-held part T fixed f y t h w = record {
+    waited = w.waited;
+    seated = w.seated;
+    back = λ U relies handed v g is_fn room heap within owns x met fits.
+        tied-held (both p.program part handed) U fixed (receives y.destination v f)
+        (received_by p trees y v t x) h
+        (w.back U relies handed v g is_fn room heap within owns x met fits);
+    regains = w.regains;
+  }

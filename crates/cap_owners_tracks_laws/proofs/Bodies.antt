@@ -8,7 +8,7 @@ use Rattle.cap_lin.specs.declared.row.Sort.TheVariants.{Int}
 use Rattle.cap_prog.specs.Program.{Items, none, item, PlainProgram, PlainFunction}
 use Rattle.cap_prog.specs.Scopes.{requires_scope}
 use Rattle.cap_prog.specs.WellFormed.{IsWellFormed}
-use Rattle.cap_goal_spec.specs.States.{PlainState, Home, to_give, goal}
+use Rattle.cap_goal_spec.specs.States.{PlainState, Home, PlainTask, to_give, goal}
 use Rattle.cap_goal_spec.specs.Terms.{variables_from}
 use Rattle.cap_goal_spec.specs.Environments.{zero_value}
 use Rattle.cap_goal_spec.specs.Roots.{at_entry, home_of, root_env, root_state}
@@ -19,29 +19,36 @@ use Rattle.cap_account_resources.specs.Parts.{Table}
 use Rattle.cap_account_resources.proofs.Lists.{map-join, all-both}
 use Rattle.cap_account_resources.proofs.Interference.{Relies}
 use Rattle.cap_account_resources.proofs.Stocks.{Stock, inside-same}
-use Rattle.cap_account_resources.proofs.Tables.{fits-relied}
+use Rattle.cap_account_resources.proofs.Tables.{FitsRoom, fits-relied}
+use Rattle.cap_account_states.proofs.Alike.{Alike}
 use Rattle.cap_account_states.proofs.Checked.{Checked}
-use Rattle.cap_account_states.proofs.Meets.{Usable, Old}
+use Rattle.cap_account_states.proofs.KnowsLater.{backed-at}
+use Rattle.cap_account_states.proofs.Meets.{Usable, usable-old, Old}
 use Rattle.cap_account_states.proofs.Naming.{Ready}
-use Rattle.cap_account_states.proofs.Roots.{values-length, function-fits, Root, root_values, fixed-usable, root-ready, root-fixed, root-whole, variables-values, map-zero, variables-over, zeros-over}
+use Rattle.cap_account_states.proofs.Roots.{function-fits, Root, root_values, fixed-usable, root-ready, root-fixed, root-whole, variables-values, map-zero, variables-over, zeros-over}
 use Rattle.cap_account_states.proofs.Scopes.{rep-length, length-join}
-use Rattle.cap_account_states.proofs.Terms.{Over, Agree}
+use Rattle.cap_account_states.proofs.Terms.{Over}
 use Rattle.cap_account_assertions.proofs.Asserted.{Owns, OwnsRequires}
 use Rattle.cap_account_steps.proofs.Entries.{take-all, entry_root, low-variable}
-use Rattle.cap_account_steps.proofs.Frames.{Sits, Roomy}
+use Rattle.cap_account_steps.proofs.Frames.{Node, Sits, Roomy}
 use Rattle.cap_account_steps.proofs.Points.{FrameOk}
 use Rattle.cap_account_steps.proofs.Stores.{Store, running}
 use Rattle.cap_owners_spec.specs.Traced.{valuation}
 use Rattle.cap_owners_spec.specs.Track.{Place, TrackedRegion, GivenAssertion, TrackedFrame}
-use Rattle.cap_owners_spec.specs.Walks.{no_items, Interpreting, walk}
+use Rattle.cap_owners_spec.specs.Walks.{Walk, no_items, Interpreting, walk}
 use Rattle.cap_owners_spec.specs.Steps.{interpreted, frame_walk}
 use Rattle.cap_owners_values_laws.proofs.More.{FitsSort}
+use Rattle.cap_owners_fills_laws.proofs.Amounts.{items_drawn}
+use Rattle.cap_owners_fills_laws.proofs.Drawn.{Tells}
 use Rattle.cap_owners_fills_laws.proofs.Giving.{NamesFit}
 use Rattle.cap_owners_laws.specs.Owned.{IsTold}
+use Rattle.cap_owners_parts_laws.proofs.Held.{IsOf, own-backed}
+use Rattle.cap_owners_parts_laws.proofs.Added.{of-at}
 use Rattle.cap_owners_walks_laws.proofs.Leading.{stops-running}
 use Rattle.cap_owners_walks_laws.proofs.Passing.{more}
-use Rattle.cap_owners_tracks_laws.proofs.Tied.{StopsSo, derivation, IsAtNode, Tied}
-use Rattle.cap_owners_tracks_laws.proofs.Roots.{OwnsBare, MetAgain, IsRoot, begun_at, IsThere, LedTo, led-to}
+use Rattle.cap_owners_tracks_laws.proofs.Tied.{StopsSo, derivation, IsAtNode, Tied, HasJust}
+use Rattle.cap_owners_tracks_laws.proofs.Agreeing.{AgreeBy}
+use Rattle.cap_owners_tracks_laws.proofs.Roots.{OwnsBare, IsRefilled, MetAgain, IsRoot, begun_at, IsThere, LedTo, LedWith, led-to, led-just}
 use Rattle.cap_owners_tracks_laws.proofs.RootValues.{values-sorted, values-agree, bare_names, bare-whole, bare-are, bare-have}
 
 -- where nothing is asked for, it is owned
@@ -54,6 +61,26 @@ owns-none p U q a (item i more) e = absurd (cc)
 module _ (p : Checked) (trees : List (Option PlainTree)) where
   abbrev enter : Interpreting
   enter = interpreted (derivation p trees)
+
+  -- ---- a node's state, by alike values
+
+  -- where it has just so much, it does at them
+  pub node-has :
+      (part : Stock) (U : Table) (fn : PlainFunction) (fixed : List NameValue) (f : Frame)
+      (tasks : Home → List PlainTask) (d : PlainTree) (n : Node p part U fn fixed f tasks d)
+      (has : Stock) → IsOf p.program n.v n.state has → (w : Walk) →
+      Alike (Old n.state) n.v (valuation w.values) →
+      HasJust p trees has (record { goal = goal n.state (tasks n.home); tree = d }) w
+  node-has part U fn fixed f tasks d n has just w alike =
+      let s = n.state in
+      let v = valuation w.values in
+      record {
+        pieces_fit = n.grounded.pieces_fit;
+        backed =
+            backed-at p.program s [] (Old s) n.v v has (usable-old [] s.sorts) alike n.grounded
+            (own-backed p.program n.v s part has n.grounded.pieces_fit n.backed just);
+        just = of-at p.program s [] (Old s) n.v v has (usable-old [] s.sorts) alike n.grounded just;
+      }
 
   -- ---- a frame that is led to its statements
 
@@ -105,6 +132,28 @@ module _ (p : Checked) (trees : List (Option PlainTree)) where
             | inr x ↦ stops-there U r rs x
           ]);
     }
+
+  -- where the state has just so much, its walk stops there
+  pub led-has :
+      (part : Stock) (U : Table) (fn : PlainFunction) (fixed : List NameValue) (f : Frame)
+      (t : TrackedFrame) (has : Stock) →
+      LedWith p trees U part fn fixed f (running f.rest) t has → (rs : List TrackedRegion) →
+      Tells rs U →
+      IsTold (StopsSo (HasJust p trees has)) (frame_walk (derivation p trees) false rs t [])
+  led-has part U fn fixed f t has x rs tells =
+      elim (x.led.walks rs tells []) [
+        | inl wide ↦ subst (IsTold (StopsSo (HasJust p trees has))) (sym wide) tt
+        | inr y ↦
+            let n = x.led.at_node in
+            let d = x.led.tree in
+            let goes = y.there
+            ∙ (λ i. walk enter p.program false d (goal n.state (running f.rest n.home))
+            (record y.w { events = y.tidy.events i ++ [] }))
+            ∙ stops-running p enter d n.state n.home f.rest [] y.w in
+            subst (IsTold (StopsSo (HasJust p trees has))) (sym goes)
+            (node-has part U fn fixed f (running f.rest) d n has x.just
+            (record y.w { events = [] }) y.alike)
+      ]
 
   -- ---- bodies
 
@@ -165,10 +214,10 @@ module _ (p : Checked) (trees : List (Option PlainTree)) where
       agrees-there :
           (names : List NameValue) → me.values ≡ valuation names →
           NamesFit (requires_scope g) names →
-          Agree (Old entered) (root_values top) (valuation entry_values)
+          AgreeBy entered.sorts (root_values top) (valuation entry_values)
       agrees-there names named have =
           let all : length args ≡ g.params + 0 = omega (arith, count) in
-          values-agree top refl names named have args all fixed fit fits me.args_are
+          values-agree top refl names named args all fixed fit fits me.args_are
           me.fixed_are
 
     -- where nothing is asked for, any names do
@@ -224,11 +273,37 @@ module _ (p : Checked) (trees : List (Option PlainTree)) where
         (λ U r. led-to p trees U part (fits-relied p.program T U part roomy.full r roomy.room)
         (requires_scope g) g.requires (function-fits p.program wf n g is_g).requires.items
         (running g.body) h (λ s. refl) entered
-        (record { facts = refl; guards = refl; cells = refl; opened = refl }) q root g fixed f
-        (values-length g.fixed fixed fit) entered-over t entry_values y
+        (record { facts = refl; guards = refl; cells = refl; rows = refl; opened = refl }) q root g fixed f
+        fit entered-over t entry_values y
         (OwnsRequires p.program U part g args fixed) (λ m. m.values) (λ m. m.met)
         (λ m. root_values (entry_root g n m.values)) (λ m. ready-there U m) (λ m. store-there U m)
         (let all : length args ≡ g.params + 0 = omega (arith, count) in
         values-sorted (g.params + 0) args g.fixed fixed all fits)
         (λ m names named have. agrees-there U m names named have) (λ e. bare-own U e) (again U r))
         empty
+
+    -- by the table by which it has its `requires`, met as it was, and all of it is drawn, its state
+    -- has just that
+    pub body-has :
+        (U : Table) → FitsRoom p.program U part → (q : Place) →
+        IsRoot p trees q entered (to_give g.requires 0 0 ∷ running g.body (home_of at_entry g n)) →
+        (y : GivenAssertion) (own : OwnsRequires p.program U part g args fixed) →
+        IsRefilled p trees U (requires_scope g) g.requires own.values part own.met.0 own.met.1 y →
+        items_drawn p.program U own.values g.requires part own.met.0 own.met.1 ≡ part →
+        (t : TrackedFrame) (rs : List TrackedRegion) → Tells rs U →
+        IsTold (StopsSo (HasJust p trees part))
+        (frame_walk (derivation p trees) false rs (begun_at p trees t q entry_values y) [])
+    body-has U room q root y own met drawn t rs tells =
+        led-has part U g fixed f (begun_at p trees t q entry_values y) part
+        (subst (LedWith p trees U part g fixed f (running g.body) (begun_at p trees t q entry_values y))
+        drawn
+        (led-just p trees U part room (requires_scope g) g.requires
+        (function-fits p.program wf n g is_g).requires.items (running g.body) h (λ s. refl) entered
+        (record { facts = refl; guards = refl; cells = refl; rows = refl; opened = refl }) q root g
+        fixed f fit entered-over t entry_values y (OwnsRequires p.program U part g args fixed)
+        (λ m. m.values) (λ m. m.met) (λ m. root_values (entry_root g n m.values))
+        (λ m. ready-there U m) (λ m. store-there U m)
+        (let all : length args ≡ g.params + 0 = omega (arith, count) in
+        values-sorted (g.params + 0) args g.fixed fixed all fits)
+        (λ m names named have. agrees-there U m names named have) (λ e. bare-own U e) own met)) rs
+        tells

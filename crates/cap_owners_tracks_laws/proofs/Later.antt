@@ -60,6 +60,7 @@ module _ (p : Checked) (trees : List (Option PlainTree)) (V U : Table) where
     };
     seated = λ W q. h.seated W (relies-trans p.program part.guards V U W r q);
     back = λ W q. h.back W (relies-trans p.program part.guards V U W r q);
+    regains = λ W q. h.regains W (relies-trans p.program part.guards V U W r q);
   }
 
   pub region-later :
@@ -79,6 +80,7 @@ module _ (p : Checked) (trees : List (Option PlainTree)) (V U : Table) where
     number = h.number;
     met = h.met;
     fits = h.fits;
+    sorted = h.sorted;
   }
 
   -- ---- stacks, whose parts are within what relies on it

@@ -6,6 +6,7 @@ pub mod Turns
 pub mod Later
 pub mod Seats
 pub mod Waiting
+pub mod Agreeing
 pub mod RootValues
 pub mod Roots
 pub mod Rooting

@@ -1,15 +1,17 @@
 -- The root of a loop at which a frame stands: the loop is found by the number of its statement.
 use Rattle.std.proofs.Common.{◌≡◌, inl, inr, ℕ, zero, suc, ◌+◌, ◌*◌, ◌≤◌, Bool, true, false, true≢false, cond, find, nat_lt, List, [], ◌∷◌, ◌++◌, map, flat_map, length, Some, None, refl, sym, ap, ◌∙◌, subst, arith, eqb-true, ltb-true}
-use Rattle.std.specs.Prelude.{slice_get, position}
+use Rattle.std.specs.Prelude.{slice_get, position, ◌==◌}
 use Rattle.std.specs.List.{position_or_len, range_with_len}
 use Rattle.std.proofs.lemmas.List.Folds.{find_at}
+use Rattle.std.proofs.lemmas.Bool.{lt-ltb}
+use Rattle.std.proofs.lemmas.Bool.Decides.{nat_tests}
 use Rattle.cap_prog.specs.declared.assertion.Comp.{Comp}
 use Rattle.cap_prog.specs.Program.{PlainAssertion, Label, PlainAct, set, read, write, cas, faa, dispose, alloc, call, fork, branch, loop, check, give_back, Block, done, first, append, PlainStatement, PlainFunction, PlainProgram}
 use Rattle.cap_prog.specs.Parts.{block_statements, all_statements}
 use Rattle.cap_goal_spec.specs.Roots.{LoopPoint, loops_of, loops_in, at_loop, home_of, from_given, loop_roots}
 use Rattle.cap_goal_spec.specs.States.{to_turn}
 use Rattle.cap_outline_spec.specs.Standing.{first_number}
-use Rattle.cap_account_resources.proofs.Lists.{Among, some-same, none-some, there-is, map-at}
+use Rattle.cap_account_resources.proofs.Lists.{Among, some-same, none-some, there-is, map-at, within}
 use Rattle.cap_account_steps.proofs.Points.{Point, loop_point, point-loop}
 use Rattle.cap_owners_spec.specs.Steps.{same_statement, loop_number}
 
@@ -226,6 +228,44 @@ loop-at p fn l c inv body b point numbered i e =
     let same : i ≡ j.0 = one-place 1 (1 + size) (loop_numbers ws) i j.0 l.number ascend
     (map-at f ws i w.0 w.1 ∙ ap Some n) (map-at f ws j.0 (loop_point l c inv body b) j.1) in
     ap (slice_get ws) same ∙ j.1
+
+-- and the number is found
+same-itself : (n : ℕ) → (n == n) ≡ true
+same-itself n = grind (arith, nat_tests)
+
+found-there :
+    {A : Type 0} (p : A → Bool) (xs : List A) (x : A) → Among x xs → p x ≡ true →
+    (y : A) × (find p xs ≡ Some y)
+found-there p [] x h e = absurd h
+found-there p (y ∷ ys) x h e = by (p y) refl h (λ k. found-there p ys x k e)
+  where
+    by :
+        (b : Bool) → p y ≡ b → Among x (y ∷ ys) →
+        (Among x ys → (z : _) × (find p ys ≡ Some z)) →
+        (z : _) × (cond b (Some y) (find p ys) ≡ Some z)
+    by true q h go = (y, refl)
+    by false q (inl k) go = absurd (true≢false (sym e ∙ ap p (sym k) ∙ q))
+    by false q (inr k) go = go k
+
+position-there :
+    {A : Type 0} (p : A → Bool) (xs : List A) (x : A) → Among x xs → p x ≡ true →
+    (i : ℕ) × (position p xs ≡ Some i)
+position-there p xs x h e =
+    let y = found-there p xs x h e in
+    let l = within xs (position_or_len p xs) y.0 (sym (find_at p xs) ∙ y.1) in (
+      position_or_len p xs,
+      ap (λ b. cond b (Some (position_or_len p xs)) None)
+          (lt-ltb (position_or_len p xs) (length xs) l),
+    )
+
+pub loop-there :
+    (p : PlainProgram) (fn : PlainFunction) (l : Label) (c : Comp) (inv : PlainAssertion)
+    (body b : Block) → Point p fn (first l (loop c inv body) b) →
+    (i : ℕ) × (loop_number fn (first l (loop c inv body) b) ≡ Some i)
+loop-there p fn l c inv body b point =
+    position-there (λ (w : LoopPoint). same_statement (first_number w.block)
+    (first_number (first l (loop c inv body) b))) (loops_in fn.body done)
+    (loop_point l c inv body b) (point-loop p fn l c inv body b point) (same-itself l.number)
 
 -- ---- its roots
 

@@ -8,17 +8,18 @@ use Rattle.cap_lin.specs.Values.{Valuation, denominator}
 use Rattle.cap_lin.specs.declared.row.Sort.{Sort}
 use Rattle.cap_lin.specs.declared.row.Sort.TheVariants.{Int, Perm}
 use Rattle.cap_prog.specs.Program.{PlainFunction}
-use Rattle.cap_prog.specs.Scopes.{HasSort, fixed_start}
+use Rattle.cap_prog.specs.Scopes.{HasSort, fixed_start, result_name}
 use Rattle.cap_machine_accounts.specs.Assertions.{NameValue, a_number, a_fraction, HasNameSort, ValuesFit, IsNamed, AreNamed, AreWhole}
 use Rattle.cap_account_resources.proofs.Lists.{some-same, within, there-is, map-length, map-at, get-first, get-second, join-nil}
 use Rattle.cap_account_resources.proofs.Order.{cancel}
-use Rattle.cap_account_states.proofs.Roots.{values-length, fits-at, place, place-low, place-high, sorts_of, Root, root_values}
-use Rattle.cap_account_states.proofs.Scopes.{Position, param, local, fixed as at_fixed, result, extra, length-join, rep-length}
-use Rattle.cap_account_states.proofs.Terms.{Agree}
+use Rattle.cap_account_states.proofs.Roots.{values-length, fits-at, place, place-low, place-high, sorts_of, fixed-usable, Root, root_names, root_values, root-placed, root-means}
+use Rattle.cap_account_states.proofs.Naming.{Means}
+use Rattle.cap_account_states.proofs.Scopes.{Position, param, local, fixed as at_fixed, result, extra, length-join, rep-length, rep-in}
 use Rattle.cap_account_states.proofs.Values.{normal, normal-whole, normal-perm, named-at, named-of, whole-at, whole-of}
 use Rattle.cap_owners_spec.specs.Traced.{over, value_at, number_of, numerator_of, valuation}
-use Rattle.cap_owners_values_laws.proofs.More.{FitsSort}
+use Rattle.cap_owners_values_laws.proofs.More.{FitsSort, number-fits, sorted-more}
 use Rattle.cap_owners_fills_laws.proofs.Giving.{NamesFit}
+use Rattle.cap_owners_tracks_laws.proofs.Agreeing.{AgreeBy, means-by}
 
 -- ---- lists of values
 
@@ -28,17 +29,34 @@ value-there [] x y e = absurd (cc)
 value-there (v ∷ vs) zero y e = cc
 value-there (v ∷ vs) (suc x) y e = value-there vs x y e
 
+-- whole numbers and then values of these sorts
+numbers-sorted :
+    (k : ℕ) (zs : List ℤ) (os : List Sort) (ys : List NameValue) → length zs ≡ k →
+    AllZip FitsSort os ys → AllZip FitsSort (replicate k Int ++ os) (map a_number zs ++ ys)
+numbers-sorted zero [] os ys e h = h
+numbers-sorted zero (z ∷ zs) os ys e h = absurd (omega (arith, e))
+numbers-sorted (suc k) [] os ys e h = absurd (omega (arith, e))
+numbers-sorted (suc k) (z ∷ zs) os ys e h =
+    (tt, numbers-sorted k zs os ys (omega (arith, e)) h)
+
 -- whole numbers and then the fixed names' values are of the sorts of a root's variables
 pub values-sorted :
     (k : ℕ) (zs : List ℤ) (os : List Sort) (fixed : List NameValue) → length zs ≡ k →
     AllZip FitsSort os fixed →
     AllZip FitsSort (replicate k Int ++ (os ++ [])) (map a_number zs ++ fixed)
-values-sorted zero [] os fixed e h =
-    subst (λ ss. AllZip FitsSort ss fixed) (sym (join-nil os)) h
-values-sorted zero (z ∷ zs) os fixed e h = absurd (omega (arith, e))
-values-sorted (suc k) [] os fixed e h = absurd (omega (arith, e))
-values-sorted (suc k) (z ∷ zs) os fixed e h =
-    (tt, values-sorted k zs os fixed (omega (arith, e)) h)
+values-sorted k zs os fixed e h =
+    numbers-sorted k zs (os ++ []) fixed e
+    (subst (λ ss. AllZip FitsSort ss fixed) (sym (join-nil os)) h)
+
+-- and behind them the result
+pub result-sorted :
+    (k : ℕ) (zs : List ℤ) (os : List Sort) (fixed : List NameValue) (u : ℤ) → length zs ≡ k →
+    AllZip FitsSort os fixed →
+    AllZip FitsSort (replicate k Int ++ (os ++ Int ∷ []))
+    (map a_number zs ++ (fixed ++ a_number u ∷ []))
+result-sorted k zs os fixed u e h =
+    numbers-sorted k zs (os ++ Int ∷ []) (fixed ++ a_number u ∷ []) e
+    (sorted-more os fixed Int (a_number u) h tt)
 
 zip-at :
     (os : List Sort) (ys : List NameValue) (i : ℕ) (o : Sort) (y : NameValue) →
@@ -51,16 +69,12 @@ zip-at (p ∷ os) (z ∷ ys) (suc i) o y h e k = zip-at os ys i o y h.1 e k
 
 -- ---- at a root
 
--- no share has a number
-number-there : (y : NameValue) → FitsSort Perm y → number_of y ≡ pos 0
-number-there (a_number z) h = h
-number-there (a_fraction n d) h = refl
-
-module _ (root : Root) (none : root.rs ≡ []) (names : List NameValue)
-    (named : root.a ≡ valuation names) (have : NamesFit root.sc names) (zs : List ℤ)
+module _ (root : Root) (us : List ℤ) (results : root.rs ≡ replicate (length us) Int)
+    (names : List NameValue) (named : root.a ≡ valuation names) (zs : List ℤ)
     (count : length zs ≡ root.f.params + root.l) (fixed : List NameValue)
     (fit : ValuesFit root.f.fixed fixed) (fits : AllZip FitsSort root.f.fixed fixed)
-    (whole : AreWhole root.a 0 zs) (are : AreNamed root.a (fixed_start root.f) fixed) where
+    (whole : AreWhole root.a 0 zs) (are : AreNamed root.a (fixed_start root.f) fixed)
+    (ends : AreWhole root.a (result_name root.f) us) where
   abbrev f : PlainFunction
   f = root.f
 
@@ -71,15 +85,16 @@ module _ (root : Root) (none : root.rs ≡ []) (names : List NameValue)
   a = root.a
 
   abbrev vs : List NameValue
-  vs = map a_number zs ++ fixed
+  vs = map a_number zs ++ (fixed ++ map a_number us)
 
   below : denominator a.fraction ≡ pos over
   below = ap (λ (v : Valuation). denominator v.fraction) named
 
-  -- the values of a variable by both
+  -- the values of a variable by both: its number, if it is of sort Int, and its share
   abbrev SameAt : ℕ → Type 0
   SameAt x =
-      ((valuation vs).whole x ≡ (root_values root).whole x)
+      (slice_get (sorts_of root.f root.l root.rs) x ≡ Some Int →
+      (valuation vs).whole x ≡ (root_values root).whole x)
       × ((valuation vs).fraction.numerator x ≡ (root_values root).fraction.numerator x)
 
   -- where the variable has this value, and stands for a name of which this holds
@@ -87,7 +102,7 @@ module _ (root : Root) (none : root.rs ≡ []) (names : List NameValue)
       (x k : ℕ) (y : NameValue) → value_at vs x ≡ y → place cut root.gap x ≡ k →
       number_of y ≡ a.whole k → numerator_of y ≡ (normal root.sc a).fraction.numerator k → SameAt x
   same-by x k y e i n m = (
-    ap number_of e ∙ n ∙ ap a.whole (sym i),
+    (λ q. ap number_of e ∙ n ∙ ap a.whole (sym i)),
     ap numerator_of e ∙ m ∙ ap (λ j. (normal root.sc a).fraction.numerator j) (sym i),
   )
 
@@ -100,8 +115,8 @@ module _ (root : Root) (none : root.rs ≡ []) (names : List NameValue)
   same-low : (x : ℕ) → x < cut → SameAt x
   same-low x l =
       let z = there-is zs x (omega (arith, l, count)) in
-      let there = get-first (map a_number zs) fixed x (a_number z.0) (map-at a_number zs x z.0 z.1)
-      in
+      let there = get-first (map a_number zs) (fixed ++ map a_number us) x (a_number z.0)
+      (map-at a_number zs x z.0 z.1) in
       let n : 0 + x ≡ x = omega arith in
       let is : a.whole x ≡ z.0 = ap a.whole (sym n) ∙ whole-at a 0 zs x z.0 whole z.1 in
       same-by x x (a_number z.0) (value-there vs x (a_number z.0) there)
@@ -123,14 +138,19 @@ module _ (root : Root) (none : root.rs ≡ []) (names : List NameValue)
   same-fixed i Perm (a_number z) s h one k e = absurd h
   same-fixed i Perm (a_fraction n d) s h one k e =
       let x = fixed_start f + i in
+      let at = place-fixed i in
       let in_scope = root.fixed_in i Perm s in
-      let zero : a.whole x ≡ pos 0 = ap (λ (v : Valuation). v.whole x) named
-      ∙ number-there (value_at names x) (have Perm x in_scope) in
       let same : a.fraction.numerator x *ℤ pos (suc d) ≡ n *ℤ pos (suc d) =
-      k ∙ ap (λ m. n *ℤ m) below ∙ ap (λ m. n *ℤ pos (suc m)) (sym one) in
-      same-by (cut + i) x (a_fraction n d) e (place-fixed i) (sym zero)
-      (sym (cancel (a.fraction.numerator x) n (pos (suc d)) (omega (arith, ints)) same)
-      ∙ sym (normal-perm root.sc a x in_scope))
+      k ∙ ap (λ m. n *ℤ m) below ∙ ap (λ m. n *ℤ pos (suc m)) (sym one) in (
+        (λ q. absurd (other (some-same Perm Int (sym (fixed-usable root i Perm s) ∙ q)))),
+        ap numerator_of e
+            ∙ sym (cancel (a.fraction.numerator x) n (pos (suc d)) (omega (arith, ints)) same)
+            ∙ sym (normal-perm root.sc a x in_scope)
+            ∙ ap (λ j. (normal root.sc a).fraction.numerator j) (sym at),
+      )
+    where
+      other : Perm ≡ Int → ⊥
+      other q = absurd (cc)
 
   same-high : (i : ℕ) → i < length f.fixed → SameAt (cut + i)
   same-high i l =
@@ -140,10 +160,34 @@ module _ (root : Root) (none : root.rs ≡ []) (names : List NameValue)
       let m = map-length a_number zs in
       let at : cut + i ≡ length (map a_number zs) + i = omega (arith, m, count) in
       let there : slice_get vs (cut + i) ≡ Some y.0 =
-      ap (slice_get vs) at ∙ get-second (map a_number zs) fixed i ∙ y.1 in
+      ap (slice_get vs) at
+      ∙ get-second (map a_number zs) (fixed ++ map a_number us) i
+      ∙ get-first fixed (map a_number us) i y.0 y.1 in
       same-fixed i o.0 y.0 o.1 (fits-at f.fixed fixed i o.0 y.0 fit o.1 y.1)
       (zip-at f.fixed fixed i o.0 y.0 fits o.1 y.1) (named-at a (fixed_start f) fixed i y.0 are y.1)
       (value-there vs (cut + i) y.0 there)
+
+  -- that of the result
+  same-last : (j : ℕ) → j < length us → SameAt (cut + (length f.fixed + j))
+  same-last j l =
+      let n = values-length f.fixed fixed fit in
+      let u = there-is us j l in
+      let m = map-length a_number zs in
+      let k : ℕ = result_name f + j in
+      let x : ℕ = cut + (length f.fixed + j) in
+      let at : cut + (length f.fixed + j) ≡ length (map a_number zs) + (length fixed + j) =
+      omega (arith, m, count, n) in
+      let there : slice_get vs (cut + (length f.fixed + j)) ≡ Some (a_number u.0) =
+      ap (slice_get vs) at
+      ∙ get-second (map a_number zs) (fixed ++ map a_number us) (length fixed + j)
+      ∙ get-second fixed (map a_number us) j
+      ∙ map-at a_number us j u.0 u.1 in
+      let is : a.whole (result_name f + j) ≡ u.0 = whole-at a (result_name f) us j u.0 ends u.1 in
+      let placed : place cut root.gap (cut + (length f.fixed + j)) ≡ result_name f + j =
+      place-fixed (length f.fixed + j) ∙ omega arith in
+      let known = ap (λ (os : List Sort). slice_get os j) results ∙ rep-in (length us) j Int l in
+      same-by x k (a_number u.0) (value-there vs x (a_number u.0) there) placed (sym is)
+      (whole-share k u.0 (root.rs_in j known) is)
 
   -- all variables of the root
   same-at : (x : ℕ) → x < length (sorts_of root.f root.l root.rs) → SameAt x
@@ -153,20 +197,58 @@ module _ (root : Root) (none : root.rs ≡ []) (names : List NameValue)
         let n = rep-length cut Int in
         let m = length-join (replicate cut Int) (f.fixed ++ root.rs) in
         let k = length-join f.fixed root.rs in
-        let q : length root.rs ≡ 0 = ap (λ (os : List Sort). length os) none in
-        let i = x - cut in
-        let e : cut + (x - cut) ≡ x = omega (arith, high) in
-        subst SameAt e (same-high (x - cut) (omega (arith, high, l, n, m, k, q)))
+        let q = ap (λ (os : List Sort). length os) results in
+        let r = rep-length (length us) Int in
+        elim (cases_lt (x - cut) (length f.fixed)) [
+          | inl low ↦
+              let e : cut + (x - cut) ≡ x = omega (arith, high) in
+              subst SameAt e (same-high (x - cut) low)
+          | inr more ↦
+              let e : cut + (length f.fixed + (x - cut - length f.fixed)) ≡ x =
+              omega (arith, high, more) in
+              subst SameAt e
+              (same-last (x - cut - length f.fixed) (omega (arith, high, more, l, n, m, k, q, r)))
+        ]
   ]
 
-  pub values-agree :
-      Agree (λ x. x < length (sorts_of root.f root.l root.rs)) (root_values root)
-      (valuation (map a_number zs ++ fixed))
-  values-agree = record {
+  pub all-agree :
+      AgreeBy (sorts_of root.f root.l root.rs) (root_values root)
+      (valuation (map a_number zs ++ (fixed ++ map a_number us)))
+  all-agree = record {
     under = sym (ap (λ (v : Valuation). v.fraction.under) named);
-    whole = λ x l. (same-at x l).0;
+    whole = λ x e. (same-at x (within (sorts_of root.f root.l root.rs) x Int e)).0 e;
     share = λ x l. (same-at x l).1;
   }
+
+  -- what the names mean there
+  pub names-known :
+      Means root.sc (valuation (map a_number zs ++ (fixed ++ map a_number us))) (root_names root)
+      (valuation names)
+  names-known =
+      subst (Means root.sc (valuation vs) (root_names root)) named
+      (means-by (sorts_of root.f root.l root.rs) (root_values root) (valuation vs) all-agree root.sc
+      (root_names root) root.a (root-placed root) (root-means root))
+
+-- where there is no result
+module _ (root : Root) (none : root.rs ≡ []) (names : List NameValue)
+    (named : root.a ≡ valuation names) (zs : List ℤ)
+    (count : length zs ≡ root.f.params + root.l) (fixed : List NameValue)
+    (fit : ValuesFit root.f.fixed fixed) (fits : AllZip FitsSort root.f.fixed fixed)
+    (whole : AreWhole root.a 0 zs) (are : AreNamed root.a (fixed_start root.f) fixed) where
+  pub values-agree :
+      AgreeBy (sorts_of root.f root.l root.rs) (root_values root)
+      (valuation (map a_number zs ++ fixed))
+  values-agree =
+      subst (λ ys. AgreeBy (sorts_of root.f root.l root.rs) (root_values root)
+      (valuation (map a_number zs ++ ys))) (join-nil fixed)
+      (all-agree root [] none names named zs count fixed fit fits whole are tt)
+
+  pub values-known :
+      Means root.sc (valuation (map a_number zs ++ fixed)) (root_names root) (valuation names)
+  values-known =
+      subst (λ ys. Means root.sc (valuation (map a_number zs ++ ys)) (root_names root)
+      (valuation names)) (join-nil fixed)
+      (names-known root [] none names named zs count fixed fit fits whole are tt)
 
 -- ---- where nothing is given
 
@@ -180,13 +262,6 @@ numbers-at :
 numbers-at zero x l = absurd (omega (arith, l))
 numbers-at (suc n) zero l = refl
 numbers-at (suc n) (suc x) l = numbers-at n x (omega (arith, l))
-
-number-fits : (o : Sort) (z : ℤ) → Int ≡ o → FitsSort o (a_number z)
-number-fits o z e = subst (λ s. FitsSort s (a_number z)) e tt
-
-zero-fits : (o : Sort) → FitsSort o (a_number (pos 0))
-zero-fits Int = tt
-zero-fits Perm = refl
 
 -- Values of all names of a function's root by those that the frame knows; where the assertion has
 -- no items these serve as well as any.
@@ -283,17 +358,17 @@ module _ (root : Root) (zs : List ℤ) (count : length zs ≡ root.f.params + ro
   pub bare-have : NamesFit root.sc bare_names
   bare-have o x h = by (root.at_position x o h)
     where
-      low : x < start → Int ≡ o → FitsSort o (value_at bare_names x)
-      low l e =
+      low : x < start → FitsSort o (value_at bare_names x)
+      low l =
           let z = bare-number x l in
-          subst (FitsSort o) (sym z.1) (number-fits o z.0 e)
+          subst (FitsSort o) (sym z.1) (number-fits o z.0)
 
       beyond : start + length root.f.fixed ≤ x → FitsSort o (value_at bare_names x)
-      beyond l = subst (FitsSort o) (sym (bare-beyond x l)) (zero-fits o)
+      beyond l = subst (FitsSort o) (sym (bare-beyond x l)) (number-fits o (pos 0))
 
       by : Position root.f root.new x o → FitsSort o (value_at bare_names x)
-      by (param q e) = low (omega (arith, q)) e
-      by (local i q w e) = low (omega (arith, q, w)) e
+      by (param q e) = low (omega (arith, q))
+      by (local i q w e) = low (omega (arith, q, w))
       by (at_fixed i q e) =
           let n = values-length root.f.fixed fixed fit in
           let l = within root.f.fixed i o e in

@@ -1,6 +1,6 @@
 -- A frame at a root: what it was handed is given to it again, and behind that it is at a node, to
 -- which its walk leads.
-use Rattle.std.proofs.Common.{◌≡◌, ◌⊎◌, inl, inr, false, Bool, true, if◌then◌else◌, List, [], ◌∷◌, length, Option, Some, None, refl, sym, ap, ◌∙◌, subst, arith}
+use Rattle.std.proofs.Common.{◌≡◌, ◌⊎◌, inl, inr, false, Bool, true, if◌then◌else◌, List, [], ◌∷◌, Option, Some, None, refl, sym, ap, ◌∙◌, subst, arith}
 use Rattle.std.specs.Prelude.{option_to_list}
 use Rattle.std.specs.List.{AllByRecursion, AllZip}
 use Rattle.cap_lin.specs.Values.{Valuation}
@@ -9,23 +9,23 @@ use Rattle.cap_prog.specs.Program.{Items, none, item, PlainProgram, PlainFunctio
 use Rattle.cap_prog.specs.Scopes.{Scope}
 use Rattle.cap_goal_spec.specs.States.{PlainState, Home, PlainTask, to_give, PlainGoal, goal, goal_of, goals_of}
 use Rattle.cap_goal_spec.specs.Choices.{PlainTree, PlainTrees, no_trees, tree}
-use Rattle.cap_rules.specs.Making.{env_at}
 use Rattle.cap_machine.specs.declared.event.Event.{Event}
 use Rattle.cap_machine.specs.Machine.{Frame}
-use Rattle.cap_machine_accounts.specs.Assertions.{NameValue}
+use Rattle.cap_machine_accounts.specs.Assertions.{NameValue, ValuesFit}
 use Rattle.cap_account_resources.specs.Parts.{Table}
 use Rattle.cap_account_resources.proofs.Covering.{covered-none}
 use Rattle.cap_account_resources.proofs.Stocks.{Stock, no_stock, both, Composes, stock-laws}
 use Rattle.cap_account_resources.proofs.Tables.{FitsRoom, fits-composes}
 use Rattle.cap_account_states.specs.Nodes.{Children, Open}
-use Rattle.cap_account_states.proofs.Alike.{Alike, alike-same, agree-alike, meets-alike}
+use Rattle.cap_account_states.proofs.Alike.{Alike, alike-same, agree-alike}
 use Rattle.cap_account_states.proofs.Backed.{IsFirm, Backed}
 use Rattle.cap_account_states.proofs.Checked.{Checked, lone-child}
 use Rattle.cap_account_states.proofs.Filled.{Filled, filled_at}
 use Rattle.cap_account_states.proofs.Items.{AreFit}
 use Rattle.cap_account_states.proofs.Meets.{Usable, Old}
-use Rattle.cap_account_states.proofs.Naming.{Ready, means-on}
-use Rattle.cap_account_states.proofs.Terms.{Over, Agree}
+use Rattle.cap_account_states.proofs.Naming.{Ready}
+use Rattle.cap_account_states.proofs.Roots.{values-length}
+use Rattle.cap_account_states.proofs.Terms.{Over}
 use Rattle.cap_account_assertions.proofs.Asserted.{DrawsAll, Owns}
 use Rattle.cap_account_assertions.proofs.Filling.{fill_items}
 use Rattle.cap_account_assertions.proofs.GiveLaw.{given-law}
@@ -37,30 +37,15 @@ use Rattle.cap_owners_spec.specs.Track.{Fill, Place, TrackedRegion, GivenAsserti
 use Rattle.cap_owners_spec.specs.Walks.{Walk, descends, no_items, Interpreting, walk, walk_below, walk_from}
 use Rattle.cap_owners_spec.specs.Steps.{beginning, interpreted, fill_now, frame_walk}
 use Rattle.cap_owners_values_laws.proofs.More.{FitsSort}
+use Rattle.cap_owners_fills_laws.proofs.Amounts.{items_drawn, drawn-none}
 use Rattle.cap_owners_fills_laws.proofs.Drawn.{items_met, IsMetBy, IsMetOr, Tells}
 use Rattle.cap_owners_fills_laws.proofs.Giving.{NamesFit}
 use Rattle.cap_owners_walks_laws.proofs.Passing.{more}
+use Rattle.cap_owners_parts_laws.proofs.Held.{IsOf}
 use Rattle.cap_owners_passes_laws.proofs.Rests.{into}
-use Rattle.cap_owners_passes_laws.proofs.Gives.{GoesTo, GivesTo, gives-to}
+use Rattle.cap_owners_passes_laws.proofs.Gives.{GoesTo, GivesTo, GivesJust, gives-just}
 use Rattle.cap_owners_tracks_laws.proofs.Tied.{IsTidy, derivation}
-
--- a state without facts, pieces and cells, in which no region is open
-pub record IsBare (s : PlainState) : Type 0 where
-  pub facts : s.facts ≡ []
-  pub guards : s.guards ≡ []
-  pub cells : s.cells ≡ []
-  pub opened : s.opened ≡ []
-
--- other values that agree on the variables
-pub ready-agrees :
-    (sc : Scope) (a v w : Valuation) (s : PlainState) → Agree (Old s) v w → Ready sc 0 a v s →
-    Ready sc 0 a w s
-ready-agrees sc a v w s g r = record {
-  meets = meets-alike [] v w s (agree-alike (Old s) v w g) r.meets;
-  there = r.there;
-  placed = r.placed;
-  means = means-on [] sc s v w (env_at s 0) a r.placed g r.means;
-}
+use Rattle.cap_owners_tracks_laws.proofs.Agreeing.{IsBare, AgreeBy, ready-by, store-by}
 
 -- a table owns nothing, at the values of names of this scope
 pub record OwnsBare (sc : Scope) (M : Type 0) (values : M → Valuation) : Type 0 where
@@ -148,6 +133,12 @@ module _ (p : Checked) (trees : List (Option PlainTree)) where
         (frame_walk (derivation p trees) false rs t es ≡ past_width)
         ⊎ IsThere U part fn fixed f tasks tree at_node t rs es
 
+  -- and its state has just so much
+  pub record LedWith (U : Table) (part : Stock) (fn : PlainFunction) (fixed : List NameValue)
+      (f : Frame) (tasks : Home → List PlainTask) (t : TrackedFrame) (has : Stock) : Type 0 where
+    pub led : LedTo U part fn fixed f tasks t
+    pub just : IsOf p.program led.at_node.v led.at_node.state has
+
   -- ---- at the root
 
   module _ (U : Table) (part : Stock) (room : FitsRoom p.program U part) (sc : Scope)
@@ -213,38 +204,60 @@ module _ (p : Checked) (trees : List (Option PlainTree)) where
         GivesTo p U sc 0 x.names have part goal whole 0 ts remains [] items ks vs ws
         (valuation vs) s
 
+    -- just so much more
+    abbrev GivesAllJust :
+        (x : Fill) → NamesFit sc x.names → Filled → List NameValue → List NameValue → Stock →
+        Type 0
+    GivesAllJust x have goal vs ws more =
+        GivesJust p U sc 0 x.names have part goal whole 0 ts remains [] items ks vs ws
+        (valuation vs) s more
+
+    nothing-in : (v : Valuation) → IsOf p.program v s no_stock
+    nothing-in v = record {
+      elements = [];
+      forms = rw bare.guards tt;
+      cells = λ a z. rw bare.cells refl;
+      guards = λ n. rw bare.guards refl;
+    }
+
     -- and a walk leads there, by what the assertion is met
     gives-all :
         (vs : List NameValue) (a : Valuation) (r : Stock)
         (d : DrawsAll p.program U a items part r) (x : Fill) (have : NamesFit sc x.names) →
         IsMetBy p.program U a items part r d x → Ready sc 0 a (valuation vs) s →
         AllZip FitsSort s.sorts vs →
-        GivesAll x have (fill_items p.program U a items part r d (filled_at 0 (valuation vs) s)) vs
-        x.wildcards
+        GivesAllJust x have
+        (fill_items p.program U a items part r d (filled_at 0 (valuation vs) s)) vs x.wildcards
+        (items_drawn p.program U a items part r d)
     gives-all vs a r d x have met ready sorted =
         subst
-        (GivesAll x have (fill_items p.program U a items part r d (filled_at 0 (valuation vs) s))
-        vs) met.wildcards
+        (λ ws. GivesAllJust x have
+        (fill_items p.program U a items part r d (filled_at 0 (valuation vs) s)) vs ws
+        (items_drawn p.program U a items part r d)) met.wildcards
         (subst
         (λ b. (k : DrawsAll p.program U b items part r) → Ready sc 0 b (valuation vs) s →
-        GivesAll x have (fill_items p.program U b items part r k (filled_at 0 (valuation vs) s)) vs
-        (items_met p.program U b items part r k)) (sym met.names) by_names d ready)
+        GivesAllJust x have
+        (fill_items p.program U b items part r k (filled_at 0 (valuation vs) s)) vs
+        (items_met p.program U b items part r k) (items_drawn p.program U b items part r k))
+        (sym met.names) by_names d ready)
       where
         by_names :
             (k : DrawsAll p.program U (valuation x.names) items part r) →
             Ready sc 0 (valuation x.names) (valuation vs) s →
-            GivesAll x have
+            GivesAllJust x have
             (fill_items p.program U (valuation x.names) items part r k
             (filled_at 0 (valuation vs) s)) vs
             (items_met p.program U (valuation x.names) items part r k)
+            (items_drawn p.program U (valuation x.names) items part r k)
         by_names k ready =
             subst
             (λ y. (ne : Composes y) →
-            GivesTo p U sc 0 x.names have y
+            GivesJust p U sc 0 x.names have y
             (fill_items p.program U (valuation x.names) items part r k
             (filled_at 0 (valuation vs) s)) ne 0 ts remains [] items ks vs
-            (items_met p.program U (valuation x.names) items part r k) (valuation vs) s) alone
-            (λ ne. gives-to p U sc 0 0 x.names have no_stock part r items ts remains ks
+            (items_met p.program U (valuation x.names) items part r k) (valuation vs) s
+            (items_drawn p.program U (valuation x.names) items part r k)) alone
+            (λ ne. gives-just p U sc 0 0 x.names have no_stock part r items ts remains ks
             vs s root.goes (bare-at (valuation x.names) (valuation vs) ready) firm-here ready.means
             fit k (nothing-backed (valuation vs)) ne sorted) whole
 
@@ -271,7 +284,7 @@ module _ (p : Checked) (trees : List (Option PlainTree)) where
         (λ i. walk_below enter p.program false ks (sym root.goal_is i)
         (traced (descends (Some 0) w)))
         ∙ ap start (sym same) in
-        elim (g.walks enter w y.facts) [
+        elim (g.walks false enter w y.facts) [
           | inl wide ↦ inl (here ∙ wide)
           | inr on ↦ inr (here ∙ on)
         ]
@@ -279,7 +292,7 @@ module _ (p : Checked) (trees : List (Option PlainTree)) where
     -- ---- the node behind it
 
     module _ (fn : PlainFunction) (fixed : List NameValue) (f : Frame)
-        (size : length fixed ≡ length fn.fixed)
+        (known : ValuesFit fn.fixed fixed)
         (over : AllByRecursion (Over (Usable [] s.sorts Int)) s.store) where
       child :
           (v : Valuation) (goal_is : Filled) (gv : Given p U 0 v part s ts goal_is) →
@@ -302,7 +315,8 @@ module _ (p : Checked) (trees : List (Option PlainTree)) where
         firm = gv.firm;
         backed = gv.backed;
         store = store-alike v gv.w s gv.after h fn fixed f over
-            (agree-alike (Old s) v gv.w gv.agree) gv.goes_on.sorts gv.goes_on.store size st;
+            (agree-alike (Old s) v gv.w gv.agree) gv.goes_on.sorts gv.goes_on.store
+            (values-length fn.fixed fixed known) st;
       }
 
       -- What was handed over comes to a fill, at these values. The items are given by the other;
@@ -317,42 +331,50 @@ module _ (p : Checked) (trees : List (Option PlainTree)) where
           ⊎ (fill_now (derivation p trees) rs (Some z) ≡ traced (Some x))) →
           Ready sc 0 a (valuation vs) s → AllZip FitsSort s.sorts vs →
           Store (valuation vs) s h fn fixed f →
-          LedTo U part fn fixed f tasks (begun_at t q vs z)
+          LedWith U part fn fixed f tasks (begun_at t q vs z)
+          (items_drawn p.program U a items part r d)
       led-by-fill t vs z a r d x y same met have comes ready sorted st =
           let goal_is = fill_items p.program U a items part r d (filled_at 0 (valuation vs) s) in
-          let g = gives-all vs a r d y have met ready sorted in
+          let all = gives-all vs a r d y have met ready sorted in
+          let g = all.gives in
           let gv = g.given in
           let k = child (valuation vs) goal_is gv in
           record {
-            tree = k.0;
-            at_node = node_there (valuation vs) goal_is gv st;
-            walks = λ rs tells es.
-                let from = λ (o : Traced (Option Fill)). o >>= λ (x : Option Fill).
-                walk_from enter p.program false q (beginning rs vs [] x es) in
-                elim (comes rs tells) [
-                  | inl wide ↦ inl (ap from wide)
-                  | inr is ↦ elim (walk-gives x y same have goal_is vs g rs es) [
-                    | inl wide ↦ inl (ap from is ∙ wide)
-                    | inr on ↦ inr (record {
-                      w = behind rs x g.values [];
-                      there =
-                          ap from is
-                          ∙ on
-                          ∙ (λ i. walk_below enter p.program false (k.2 i)
-                          (option_to_list (lone gv.after i))
-                          (traced (descends (Some 0) (behind rs x g.values es))));
-                      alike =
-                          subst (Alike (Old gv.after) gv.w) g.valued
-                          (alike-same (Old gv.after) gv.w);
-                      tidy = record {
-                        sorted = g.sorted;
-                        regions = refl;
-                        next = refl;
-                        events = refl;
-                      };
-                    })
-                  ]
-                ];
+            led = record {
+              tree = k.0;
+              at_node = node_there (valuation vs) goal_is gv st;
+              walks = λ rs tells es.
+                  let from = λ (o : Traced (Option Fill)). o >>= λ (x : Option Fill).
+                  walk_from enter p.program false q (beginning rs vs [] x es) in
+                  elim (comes rs tells) [
+                    | inl wide ↦ inl (ap from wide)
+                    | inr is ↦ elim (walk-gives x y same have goal_is vs g rs es) [
+                      | inl wide ↦ inl (ap from is ∙ wide)
+                      | inr on ↦ inr (record {
+                        w = behind rs x g.values [];
+                        there =
+                            ap from is
+                            ∙ on
+                            ∙ (λ i. walk_below enter p.program false (k.2 i)
+                            (option_to_list (lone gv.after i))
+                            (traced (descends (Some 0) (behind rs x g.values es))));
+                        alike =
+                            subst (Alike (Old gv.after) gv.w) g.valued
+                            (alike-same (Old gv.after) gv.w);
+                        tidy = record {
+                          sorted = g.sorted;
+                          regions = refl;
+                          next = refl;
+                          events = refl;
+                        };
+                      })
+                    ]
+                  ];
+            };
+            just =
+                subst (IsOf p.program gv.w gv.after)
+                ((stock-laws p.program).zero_left (items_drawn p.program U a items part r d))
+                (all.just no_stock (nothing-in (valuation vs)));
           }
 
       -- it is too wide, wherever the state holds
@@ -376,7 +398,7 @@ module _ (p : Checked) (trees : List (Option PlainTree)) where
           (v : M → Valuation) (ready : (m : M) → Ready sc 0 (values m) (v m) s)
           (store : (m : M) → Store (v m) s h fn fixed f) (sorted : AllZip FitsSort s.sorts vs)
           (agrees : (m : M) (names : List NameValue) → values m ≡ valuation names →
-          NamesFit sc names → Agree (Old s) (v m) (valuation vs)) where
+          NamesFit sc names → AgreeBy s.sorts (v m) (valuation vs)) where
         led-at :
             (m : M) (x z : Fill) → (if no_items items then Some x else Some z) ≡ Some x →
             IsMetBy p.program U (values m) items part (owns m).0 (owns m).1 z →
@@ -384,24 +406,29 @@ module _ (p : Checked) (trees : List (Option PlainTree)) where
             ((rs : List TrackedRegion) → Tells rs U →
             (fill_now (derivation p trees) rs (Some y) ≡ past_width)
             ⊎ (fill_now (derivation p trees) rs (Some y) ≡ traced (Some x))) →
-            LedTo U part fn fixed f tasks (begun_at t q vs y)
+            LedWith U part fn fixed f tasks (begun_at t q vs y)
+            (items_drawn p.program U (values m) items part (owns m).0 (owns m).1)
         led-at m x z same met have comes =
             let g = agrees m z.names met.names have in
             led-by-fill t vs y (values m) (owns m).0 (owns m).1 x z same met have comes
-            (ready-agrees sc (values m) (v m) (valuation vs) s g (ready m)) sorted
-            (store-alike (v m) (valuation vs) s s h fn fixed f over
-            (agree-alike (Old s) (v m) (valuation vs) g) (λ x o e. e) refl size (store m))
+            (ready-by sc (values m) (v m) vs s bare sorted g (ready m)) sorted
+            (store-by (v m) (valuation vs) s h fn fixed f over g known (store m))
 
         led-filled :
             (no_items items ≡ true → OwnsBare sc M values) → (m : M) →
             IsRefilled U sc items (values m) part (owns m).0 (owns m).1 y → (b : Bool) →
-            no_items items ≡ b → LedTo U part fn fixed f tasks (begun_at t q vs y)
+            no_items items ≡ b →
+            LedWith U part fn fixed f tasks (begun_at t q vs y)
+            (items_drawn p.program U (values m) items part (owns m).0 (owns m).1)
         led-filled bare m k true e =
             let o = bare e in
             let z : Fill = record { names = o.names; wildcards = []; facts = [] } in
-            led-at o.own k.fill z (ap (λ b. if b then Some k.fill else Some z) e)
+            subst (LedWith U part fn fixed f tasks (begun_at t q vs y))
+            (drawn-none p.program U (values o.own) items part (owns o.own).0 (owns o.own).1 e
+            ∙ sym (drawn-none p.program U (values m) items part (owns m).0 (owns m).1 e))
+            (led-at o.own k.fill z (ap (λ b. if b then Some k.fill else Some z) e)
             (bare-met p.program U items e (values o.own) part (owns o.own).0 (owns o.own).1 o.names
-            o.named) o.have k.comes
+            o.named) o.have k.comes)
         led-filled bare m k false e =
             led-at m k.fill k.fill (ap (λ b. if b then Some k.fill else Some k.fill) e)
             (record {
@@ -417,8 +444,16 @@ module _ (p : Checked) (trees : List (Option PlainTree)) where
             MetAgain U part sc items M values owns y →
             LedTo U part fn fixed f tasks (begun_at t q vs y)
         led-to bare met = elim met.fills [
-          | inl m ↦ led-filled bare met.own m (no_items items) refl
+          | inl m ↦ (led-filled bare met.own m (no_items items) refl).led
           | inr wide ↦
               led-too-wide t vs y (values met.own) (v met.own) (owns met.own) wide
               (ready met.own) (store met.own)
         ]
+
+        -- where that is still met as it was, its state has just what is drawn
+        pub led-just :
+            (no_items items ≡ true → OwnsBare sc M values) → (m : M) →
+            IsRefilled U sc items (values m) part (owns m).0 (owns m).1 y →
+            LedWith U part fn fixed f tasks (begun_at t q vs y)
+            (items_drawn p.program U (values m) items part (owns m).0 (owns m).1)
+        led-just bare m k = led-filled bare m k (no_items items) refl

@@ -4,7 +4,7 @@ use Rattle.std.proofs.Common.{◌≡◌, ◌⊎◌, inl, inr, ℕ, false, List, 
 use Rattle.std.specs.List.{AllByRecursion, AllZip}
 use Rattle.cap_lin.specs.Values.{Valuation}
 use Rattle.cap_lin.specs.declared.row.Sort.TheVariants.{Int}
-use Rattle.cap_prog.specs.Program.{Items, none, item, Block, PlainFunction}
+use Rattle.cap_prog.specs.Program.{Items, none, item, Block, PlainFunction, PlainProgram}
 use Rattle.cap_prog.specs.WellFormed.{IsWellFormed}
 use Rattle.cap_goal_spec.specs.States.{PlainState, Home, PlainTask, to_run, to_give, to_rest, goal, goals_of}
 use Rattle.cap_goal_spec.specs.Choices.{PlainTree, node, PlainTrees, no_trees, tree}
@@ -19,13 +19,13 @@ use Rattle.cap_account_states.proofs.Alike.{Alike, alike-same, agree-alike}
 use Rattle.cap_account_states.proofs.Backed.{IsFirm, Backed, Grounded}
 use Rattle.cap_account_states.proofs.Checked.{Checked, lone-child}
 use Rattle.cap_account_states.proofs.Facts.{Facts}
-use Rattle.cap_account_states.proofs.Meets.{Usable, Old}
+use Rattle.cap_account_states.proofs.Meets.{Usable, usable-old, Old}
 use Rattle.cap_account_states.proofs.Roots.{values-length}
 use Rattle.cap_account_steps.proofs.Points.{FrameOk}
 use Rattle.cap_account_steps.proofs.Stores.{Store, running, store-alike}
 use Rattle.cap_account_steps.proofs.Frames.{Sits}
 use Rattle.cap_account_steps.proofs.Worlds.{Exact, AllOver}
-use Rattle.cap_account_steps.proofs.Turning.{Reaching, backed-before}
+use Rattle.cap_account_steps.proofs.Turning.{AsBefore, Reaching, backed-before}
 use Rattle.cap_account_steps.proofs.RestLaws.{exact-facts}
 use Rattle.cap_owners_spec.specs.Traced.{traced, valuation}
 use Rattle.cap_owners_spec.specs.Track.{Place, TrackedRegion, TrackedFrame}
@@ -34,9 +34,19 @@ use Rattle.cap_owners_spec.specs.Steps.{beginning, interpreted, frame_walk}
 use Rattle.cap_owners_values_laws.proofs.More.{FitsSort}
 use Rattle.cap_owners_fills_laws.proofs.Drawn.{Tells}
 use Rattle.cap_owners_laws.specs.Owned.{IsTold, IsWaiting}
+use Rattle.cap_owners_parts_laws.proofs.Held.{IsOf}
+use Rattle.cap_owners_parts_laws.proofs.Added.{of-at, of-same}
 use Rattle.cap_owners_walks_laws.proofs.Leading.{stops-running}
 use Rattle.cap_owners_passes_laws.proofs.Rests.{RestsTo, rests-to}
-use Rattle.cap_owners_tracks_laws.proofs.Tied.{StopsSo, IsTidy, derivation, IsAtNode, Tied, IsSeated}
+use Rattle.cap_owners_tracks_laws.proofs.Tied.{StopsSo, IsTidy, derivation, IsAtNode, Tied, IsSeated, HasJust}
+
+-- a state whose facts have rested has what it had
+pub of-before :
+    (p : PlainProgram) (v w : Valuation) (s t : PlainState) (q : Stock) → AsBefore v w s t →
+    Grounded p [] v s → IsOf p v s q → IsOf p w t q
+of-before p v w s t q c g h =
+    of-same p s t w q c.cells c.guards
+    (of-at p s [] (Old s) v w q (usable-old [] s.sorts) (agree-alike (Old s) v w c.agree) g h)
 
 module _ (p : Checked) (trees : List (Option PlainTree)) where
   -- At these values a state holds of the frame and of what it has: its facts, which may be loose,
@@ -182,25 +192,53 @@ module _ (p : Checked) (trees : List (Option PlainTree)) where
           })
           (record (beginning rs vs [] None []) { values = at.values })
 
+      -- a walk stops there, unless a number leaves its bounds
+      walks-so :
+          (P : Place → Walk → Type 0) (rs : List TrackedRegion) → Tells rs U →
+          StopsSo P (stop rs) →
+          IsTold (StopsSo P)
+          (walk (interpreted (derivation p trees)) p.program false q.tree q.goal
+          (beginning rs vs [] None []))
+      walks-so P rs tells there =
+          walks-to wf part T fn fixed f ok fits room (running f.rest) q vs seat U r (StopsSo P)
+          (stop rs) rs tells
+          ((λ i. walk_below (interpreted (derivation p trees)) p.program false (child.2 i)
+          (goals_of at.rest.after (running f.rest seat.home))
+          (traced (descends (Some 0) (record (beginning rs vs [] None []) { values = at.values }))))
+          ∙ stops-running p (interpreted (derivation p trees)) child.0 at.rest.after seat.home
+          f.rest [] (record (beginning rs vs [] None []) { values = at.values })) there
+
       walks :
           (rs : List TrackedRegion) → Tells rs U →
           IsTold (StopsSo (IsAtNode p trees rs part U fn fixed f sits))
           (walk (interpreted (derivation p trees)) p.program false q.tree q.goal
           (beginning rs vs [] None []))
-      walks rs tells =
-          walks-to wf part T fn fixed f ok fits room (running f.rest) q vs seat U r
-          (StopsSo (IsAtNode p trees rs part U fn fixed f sits)) (stop rs) rs tells
-          ((λ i. walk_below (interpreted (derivation p trees)) p.program false (child.2 i)
-          (goals_of at.rest.after (running f.rest seat.home))
-          (traced (descends (Some 0) (record (beginning rs vs [] None []) { values = at.values }))))
-          ∙ stops-running p (interpreted (derivation p trees)) child.0 at.rest.after seat.home
-          f.rest [] (record (beginning rs vs [] None []) { values = at.values })) (record {
-            tree = refl;
-            goal_is = refl;
-            alike =
-                subst (Alike (Old at.rest.after) at.rest.w) at.valued
-                (alike-same (Old at.rest.after) at.rest.w);
-            tidy = tidy wf part T fn fixed f ok fits room (running f.rest) q vs seat U r rs;
+      walks rs tells = walks-so (IsAtNode p trees rs part U fn fixed f sits) rs tells (record {
+        tree = refl;
+        goal_is = refl;
+        alike =
+            subst (Alike (Old at.rest.after) at.rest.w) at.valued
+            (alike-same (Old at.rest.after) at.rest.w);
+        tidy = tidy wf part T fn fixed f ok fits room (running f.rest) q vs seat U r rs;
+      })
+
+      -- where the seat's state has just the part, so has the one there
+      pub seat-has :
+          IsOf p.program (valuation vs) seat.state part → (rs : List TrackedRegion) → Tells rs U →
+          IsTold (StopsSo (HasJust p trees part))
+          (walk (interpreted (derivation p trees)) p.program false q.tree q.goal
+          (beginning rs vs [] None []))
+      seat-has just rs tells =
+          let s' = at.rest.after in
+          walks-so (HasJust p trees part) rs tells (record {
+            pieces_fit = at.rest.grounded.pieces_fit;
+            backed =
+                subst (λ v. Backed p.program v s' part) at.valued
+                (backed-then wf part T fn fixed f ok fits room (running f.rest) q vs seat U r);
+            just =
+                subst (λ v. IsOf p.program v s' part) at.valued
+                (of-before p.program (valuation vs) at.rest.w seat.state s' part at.rest.as_before
+                seat.grounded just);
           })
 
     pub seat-tied :
@@ -276,7 +314,8 @@ module _ (p : Checked) (trees : List (Option PlainTree)) where
       (fixed : List NameValue) (f : Frame) (ok : FrameOk p.program fn fixed f)
       (fits : TableFits p.program T) (room : FitsRoom p.program T part) (items : Items) (e m : ℕ)
       (q : Place) (vs : List NameValue)
-      (seat : Seat part T fn fixed f (given_first items e m f.rest) q vs) (U : Table)
+      (seat : Seat part T fn fixed f (given_first items e m f.rest) q vs)
+      (just : IsOf p.program (valuation vs) seat.state part) (U : Table)
       (r : Relies p.program part.guards T U) where
     abbrev waits_at : RestsTo p part T U
         (record { regions = wf.regions; fits = fits; room = room; relies = r }) seat.number
@@ -284,7 +323,7 @@ module _ (p : Checked) (trees : List (Option PlainTree)) where
     waits_at =
         rested wf part T fn fixed f ok fits room (given_first items e m f.rest) q vs seat U r
 
-    -- the state holds at the values of the walk
+    -- the state holds at the values of the walk, and has just the part
     seated-there :
         (rs : List TrackedRegion) (x : Place) → x.goal.state ≡ waits_at.rest.after →
         p.N x.tree x.goal.state x.goal.tasks → IsWaiting f seat.home x.goal.tasks →
@@ -308,6 +347,9 @@ module _ (p : Checked) (trees : List (Option PlainTree)) where
           firm = on (λ s v. AllByRecursion IsFirm s.facts) waits_at.rest.firm;
           backed = on (λ s v. Backed p.program v s part)
               (backed-then wf part T fn fixed f ok fits room due q vs seat U r);
+          just = on (λ s v. IsOf p.program v s part)
+              (of-before p.program (valuation vs) waits_at.rest.w seat.state waits_at.rest.after
+              part waits_at.rest.as_before seat.grounded just);
           store = on (λ s v. Store v s seat.home fn fixed f)
               (store-then wf part T fn fixed f ok fits room due q vs seat U r);
           tidy =

@@ -1,17 +1,17 @@
 -- The invariant of a run with its track: what soundness keeps of each frame, tied to where the frame's
 -- walk stops and to the values there.
-use Rattle.std.proofs.Common.{◌≡◌, ℕ, ◌+◌, ℤ, pos, false, List, [], ◌∷◌, ◌++◌, map, length, Option, Some}
+use Rattle.std.proofs.Common.{◌≡◌, ℕ, ◌+◌, ◌≤◌, ℤ, pos, false, List, [], ◌∷◌, ◌++◌, map, length, Option, Some}
 use Rattle.std.specs.Prelude.{slice_get, slice_set}
 use Rattle.std.specs.List.{AllByRecursion, AllZip}
 use Rattle.cap_prog.specs.Program.{PlainFunction, PlainProgram}
-use Rattle.cap_prog.specs.Scopes.{ensures_scope, region_scope}
+use Rattle.cap_prog.specs.Scopes.{ensures_scope, region_scope, region_sorts}
 use Rattle.cap_goal_spec.specs.States.{PlainState, Home, goal}
 use Rattle.cap_goal_spec.specs.Choices.{PlainTree}
 use Rattle.cap_goal_spec.specs.Roots.{function_unit}
-use Rattle.cap_machine.specs.Machine.{Frame, Thread, Configuration, receives}
+use Rattle.cap_machine.specs.Machine.{Heap, Frame, Thread, Configuration, receives}
 use Rattle.cap_machine_accounts.specs.Assertions.{NameValue, a_number}
 use Rattle.cap_machine_accounts.specs.Accounts.{table}
-use Rattle.cap_account_resources.specs.Parts.{known_as, Table}
+use Rattle.cap_account_resources.specs.Parts.{cells_of, known_as, Table}
 use Rattle.cap_account_resources.proofs.Interference.{Relies}
 use Rattle.cap_account_resources.proofs.Stocks.{Stock, both}
 use Rattle.cap_account_states.proofs.Alike.{Alike}
@@ -19,6 +19,7 @@ use Rattle.cap_account_states.proofs.Checked.{Checked}
 use Rattle.cap_account_states.proofs.Meets.{Old}
 use Rattle.cap_account_states.proofs.Facts.{Facts}
 use Rattle.cap_account_states.proofs.Backed.{IsFirm, Backed, Grounded}
+use Rattle.cap_account_states.proofs.Pieces.{AllFit}
 use Rattle.cap_account_assertions.proofs.Asserted.{OwnsRegion, OwnsEnsures}
 use Rattle.cap_account_assertions.proofs.Laws.{Reached}
 use Rattle.cap_account_steps.proofs.Stores.{Store, running}
@@ -32,6 +33,8 @@ use Rattle.cap_owners_spec.specs.Walks.{Walk, Halt, stands, leaves}
 use Rattle.cap_owners_spec.specs.Steps.{Proved, root_at, ensures_root, frame_walk}
 use Rattle.cap_owners_laws.specs.Owned.{IsTold, IsWaiting, AreNumbered}
 use Rattle.cap_owners_values_laws.proofs.More.{FitsSort}
+use Rattle.cap_owners_parts_laws.proofs.Held.{IsOf}
+use Rattle.cap_owners_fills_laws.proofs.Amounts.{items_drawn}
 use Rattle.cap_owners_fills_laws.proofs.Drawn.{IsMetBy, IsMetOr, Tells}
 use Rattle.cap_owners_fills_laws.proofs.Giving.{NamesFit}
 
@@ -89,7 +92,7 @@ module _ (p : Checked) (trees : List (Option PlainTree)) where
     });
   }
 
-  -- the state of a node at which it waits holds of it
+  -- the state of a node at which it waits holds of it, and has just its part
   pub record IsSeated (rs : List TrackedRegion) (part : Stock) (U : Table) (fn : PlainFunction)
       (fixed : List NameValue) (f : Frame) (q : Place) (w : Walk) : Type 0 where
     pub home : Home
@@ -100,11 +103,19 @@ module _ (p : Checked) (trees : List (Option PlainTree)) where
     pub facts : Facts [] (valuation w.values) U q.goal.state
     pub firm : AllByRecursion IsFirm q.goal.state.facts
     pub backed : Backed p.program (valuation w.values) q.goal.state part
+    pub just : IsOf p.program (valuation w.values) q.goal.state part
     pub store : Store (valuation w.values) q.goal.state home fn fixed f
     pub tidy : IsTidy rs q.goal.state w
 
-  -- whatever others do, its walk stops where it waits, and with whatever the callee hands over it is
-  -- tied again, given by what that is met, at values of the names' sorts
+  -- a state has just this part
+  pub record HasJust (part : Stock) (q : Place) (w : Walk) : Type 0 where
+    pub pieces_fit : AllFit p.program q.goal.state.guards
+    pub backed : Backed p.program (valuation w.values) q.goal.state part
+    pub just : IsOf p.program (valuation w.values) q.goal.state part
+
+  -- whatever others do, its walk stops where it waits, and with whatever the callee hands over, out
+  -- of what some heap has, it is tied again, given by what that is met, at values of the names' sorts.
+  -- Where that is all drawn, its state just then has its part and that, and no more.
   pub record WaitsTied (part : Stock) (T : Table) (fixed : List NameValue) (f : Frame) (y : Callee)
       (t : TrackedFrame) : Type 0 where
     pub waited : Waits p part T fixed f y.destination y.function y.arguments y.fixed
@@ -115,11 +126,24 @@ module _ (p : Checked) (trees : List (Option PlainTree)) where
     pub back :
         (U : Table) → Relies p.program part.guards T U → (handed : Stock) (v : ℤ)
         (g : PlainFunction) → slice_get p.program.functions y.function ≡ Some g →
-        Roomy p.program U (both p.program part handed) →
+        Roomy p.program U (both p.program part handed) → (heap : Heap) →
+        ((a z : ℤ) → handed.cells a z ≤ cells_of heap a z) →
         (owns : OwnsEnsures p.program U handed g y.arguments y.fixed v) → (x : Fill) →
         IsMetOr p.program U owns.values g.ensures.items handed owns.met.0 owns.met.1 x →
         NamesFit (ensures_scope g g.ensures.names) x.names →
         Tied (both p.program part handed) U fixed (receives y.destination v f) (received_by y v t x)
+    pub regains :
+        (U : Table) → Relies p.program part.guards T U → (handed : Stock) (v : ℤ)
+        (g : PlainFunction) → slice_get p.program.functions y.function ≡ Some g →
+        Roomy p.program U (both p.program part handed) →
+        (owns : OwnsEnsures p.program U handed g y.arguments y.fixed v) → (x : Fill) →
+        IsMetOr p.program U owns.values g.ensures.items handed owns.met.0 owns.met.1 x →
+        NamesFit (ensures_scope g g.ensures.names) x.names →
+        items_drawn p.program U owns.values g.ensures.items handed owns.met.0 owns.met.1
+        ≡ handed →
+        (rs : List TrackedRegion) → Tells rs U →
+        IsTold (StopsSo (HasJust (both p.program part handed)))
+        (frame_walk derivation false rs (received_by y v t x) t.since)
 
   -- ---- stacks
 
@@ -158,6 +182,7 @@ module _ (p : Checked) (trees : List (Option PlainTree)) where
         IsMetBy p.program T own.values own.case.items (part_stock r.owned.part) own.met.0 own.met.1
         r.fill
     pub fits : NamesFit (region_scope own.type own.case.names) r.fill.names
+    pub sorted : AllZip FitsSort (region_sorts own.type own.case.names) r.fill.names
 
   -- ---- all together
 

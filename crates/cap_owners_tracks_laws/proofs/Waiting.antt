@@ -1,8 +1,8 @@
 -- A frame that waits for the result of a call: whatever others do, its walk stops where it waits; and
 -- once it has the result it is given what the callee promised, as that is met by then, and sits where
 -- its walk stops.
-use Rattle.std.proofs.Common.{◌≡◌, inl, inr, ℕ, suc, ◌+◌, ◌-◌, ◌<◌, ℤ, pos, ◌*ℤ◌, false, List, [], ◌∷◌, ◌++◌, length, map, Option, Some, None, refl, sym, ap, ◌∙◌, subst, arith}
-use Rattle.std.specs.Prelude.{slice_get, slice_set, get_or}
+use Rattle.std.proofs.Common.{◌≡◌, ◌≢◌, ◌⊎◌, inl, inr, ℕ, suc, ◌-◌, ◌<◌, ◌≤◌, ℤ, ◌*ℤ◌, false, List, [], ◌∷◌, ◌++◌, length, map, Option, Some, None, refl, sym, ap, ◌∙◌, subst, arith}
+use Rattle.std.specs.Prelude.{slice_get, slice_set, get_or, if◌then◌else◌}
 use Rattle.std.specs.List.{AllByRecursion, AllZip}
 use Rattle.std.proofs.lemmas.Slice.Zip.{AllZip-long}
 use Rattle.cap_lin.specs.Values.{Valuation, denominator}
@@ -11,60 +11,61 @@ use Rattle.cap_lin.specs.declared.row.Sort.TheVariants.{Int, Perm}
 use Rattle.cap_prog.specs.Program.{Items, Label, Block, PlainFunction}
 use Rattle.cap_prog.specs.Scopes.{Scope, fixed_start, ensures_scope}
 use Rattle.cap_prog.specs.WellFormed.{IsWellFormed}
-use Rattle.cap_goal_spec.specs.States.{PlainState, Home, PlainTask, to_run, to_give, to_rest, PlainGoal, goal, goal_of, goals_of}
-use Rattle.cap_goal_spec.specs.Choices.{PlainTree, PlainTrees, no_trees, tree}
-use Rattle.cap_goal_spec.specs.Environments.{term_of}
+use Rattle.cap_goal_spec.specs.States.{PlainState, Home, PlainTask, to_give, PlainGoal, goal, goal_of, goals_of}
+use Rattle.cap_goal_spec.specs.Choices.{PlainTree, no_trees, tree}
 use Rattle.cap_goal_spec.specs.Roots.{function_unit}
 use Rattle.cap_rules.specs.Making.{env_at}
-use Rattle.cap_machine.specs.Machine.{Frame, value_in, with_rest, receives}
-use Rattle.cap_machine_accounts.specs.Assertions.{NameValue, a_number, ValuesFit, AreNamed}
-use Rattle.cap_account_resources.specs.Parts.{Table}
+use Rattle.cap_machine.specs.Machine.{Heap, Frame, value_in, with_rest, receives}
+use Rattle.cap_machine_accounts.specs.Assertions.{NameValue, a_number, ValuesFit}
+use Rattle.cap_account_resources.specs.Parts.{cells_of, Table}
 use Rattle.cap_account_resources.proofs.Interference.{Relies, relies-same, relies-trans, relies-less}
 use Rattle.cap_account_resources.proofs.Lists.{some-same, map-length, get-first, push-length}
 use Rattle.cap_account_resources.proofs.Stocks.{Stock, both, Composes, inside-first, inside-second, inside-guards}
-use Rattle.cap_account_resources.proofs.Tables.{TableFits, FitsRoom, fits-composes, fits-less, fits-relied}
-use Rattle.cap_account_states.specs.Nodes.{Open}
+use Rattle.cap_account_resources.proofs.Tables.{fits-composes, fits-less, fits-relied}
 use Rattle.cap_account_states.proofs.Alike.{Alike, alike-same, alike-trans, alike-less, agree-alike}
 use Rattle.cap_account_states.proofs.Backed.{IsFirm, IsOpened, Backed, Grounded}
 use Rattle.cap_account_states.proofs.Checked.{Checked, lone-child}
 use Rattle.cap_account_states.proofs.Facts.{FactHolds, FactOver, Facts}
-use Rattle.cap_account_states.proofs.Items.{AreFit}
-use Rattle.cap_account_states.proofs.Meets.{Usable, Old, new-whole}
+use Rattle.cap_account_states.proofs.Meets.{Usable, Old, new-whole, with-agrees}
 use Rattle.cap_account_states.proofs.Naming.{Placed, placed-more, Means, means-on}
 use Rattle.cap_account_states.proofs.Roots.{values-length, function-fits}
-use Rattle.cap_account_assertions.proofs.Asserted.{DrawsAll, OwnsEnsures}
+use Rattle.cap_account_assertions.proofs.Asserted.{OwnsEnsures}
 use Rattle.cap_account_assertions.proofs.Laws.{StateAt, GivenLaw, TakenLaw, Reached, RestsLaw}
 use Rattle.cap_account_assertions.proofs.Named.{set_to}
 use Rattle.cap_account_steps.proofs.Points.{FrameOk}
 use Rattle.cap_account_steps.proofs.Stores.{Store, running}
-use Rattle.cap_account_steps.proofs.Callees.{value_for, fixed_values, fixed-fit}
-use Rattle.cap_account_steps.proofs.CallSite.{Caller, TakenHere, kept, s1, args_are, a1, env2, callee_fixed}
-use Rattle.cap_account_steps.proofs.Calling.{store-received, back_start, after_call, reached-left, waits-here}
+use Rattle.cap_account_steps.proofs.Callees.{fixed_values, fixed-fit}
+use Rattle.cap_account_steps.proofs.CallSite.{Caller, TakenHere, kept, args_are, a1, env2, callee_fixed}
+use Rattle.cap_account_steps.proofs.Calling.{store-received, after_call, reached-left, waits-here}
 use Rattle.cap_account_steps.proofs.Entering.{firm-exact, firm-over}
 use Rattle.cap_account_steps.proofs.Exact.{all-two}
-use Rattle.cap_account_steps.proofs.Frames.{Sits, Roomy, Stands, waits_so}
+use Rattle.cap_account_steps.proofs.Frames.{Sits, Roomy, Stands}
 use Rattle.cap_account_steps.proofs.Regained.{Stable}
 use Rattle.cap_account_steps.proofs.RestLaws.{exact-facts}
 use Rattle.cap_account_steps.proofs.Results.{with_result, alike4, result-there, result-value, firm2, grounded2, facts2, backed2, placed2, means3}
 use Rattle.cap_account_steps.proofs.Turning.{Reaching, backed-before}
 use Rattle.cap_account_steps.proofs.Worlds.{Exact, AllOver}
 use Rattle.cap_account.proofs.Stocked.{Callee}
-use Rattle.cap_owners_spec.specs.Traced.{Traced, traced, past_width, over, ◌>>=◌, valuation}
+use Rattle.cap_owners_spec.specs.Traced.{traced, past_width, over, ◌>>=◌, valuation}
 use Rattle.cap_owners_spec.specs.Track.{Fill, Place, TrackedRegion, GivenAssertion, TrackedFrame}
-use Rattle.cap_owners_spec.specs.Walks.{Walk, Interpreting, descends, no_items, Halt, stands, walk, walk_below, walk_from}
-use Rattle.cap_owners_spec.specs.Steps.{root_at, ensures_root, beginning, fill_now, interpreted, frame_walk}
+use Rattle.cap_owners_spec.specs.Walks.{Interpreting, descends, Halt, stands, walk_below, walk_from}
+use Rattle.cap_owners_spec.specs.Steps.{root_at, ensures_root, beginning, filled_again, fill_now, interpreted, frame_walk}
 use Rattle.cap_owners_laws.specs.Owned.{IsTold}
 use Rattle.cap_owners_values_laws.proofs.More.{FitsSort}
 use Rattle.cap_owners_values_laws.proofs.Changed.{valuation-put, sorted-put, same-put}
+use Rattle.cap_owners_fills_laws.proofs.Amounts.{items_drawn}
 use Rattle.cap_owners_fills_laws.proofs.Drawn.{IsMetOr, Tells}
+use Rattle.cap_owners_fills_laws.proofs.Still.{met-now}
 use Rattle.cap_owners_fills_laws.proofs.Giving.{NamesFit}
 use Rattle.cap_owners_walks_laws.proofs.Leading.{stops-running}
 use Rattle.cap_owners_passes_laws.proofs.Rests.{into, RestsTo, rests-to}
 use Rattle.cap_owners_passes_laws.proofs.Gives.{GoesTo}
 use Rattle.cap_owners_passes_laws.proofs.Handed.{GivenSo, given-so}
 use Rattle.cap_owners_parts_laws.proofs.Telling.{told-on}
-use Rattle.cap_owners_tracks_laws.proofs.Tied.{StopsSo, IsTidy, derivation, IsAtNode, Tied, received_by, IsSeated, WaitsTied}
-use Rattle.cap_owners_tracks_laws.proofs.Seats.{Seat, given_first, seat-waits}
+use Rattle.cap_owners_parts_laws.proofs.Held.{IsOf}
+use Rattle.cap_owners_parts_laws.proofs.Added.{of-at}
+use Rattle.cap_owners_tracks_laws.proofs.Tied.{StopsSo, derivation, IsAtNode, Tied, received_by, HasJust, WaitsTied}
+use Rattle.cap_owners_tracks_laws.proofs.Seats.{of-before, Seat, seat-waits}
 
 -- ---- what was handed over, by a later table
 
@@ -88,19 +89,48 @@ module _ (p : Checked) (trees : List (Option PlainTree)) where
         IsTold (λ o. o ≡ Some fill)
         (fill_now (derivation p trees) rs (Some (given_back n args fixed r x)))
 
+  -- a number is too wide, whichever regions tell the table
+  abbrev pub IsTooWide : Table → ℕ → List ℤ → List NameValue → ℤ → Fill → Type 0
+  IsTooWide W n args fixed r x =
+      (rs : List TrackedRegion) → Tells rs W →
+      fill_now (derivation p trees) rs (Some (given_back n args fixed r x)) ≡ past_width
+
+  -- so it is by a table to which others led, of what some heap has
   abbrev pub AgainLaw : Type 0
   AgainLaw =
       (U W : Table) (handed : Stock) (n : ℕ) (g : PlainFunction) →
-      slice_get p.program.functions n ≡ Some g → Reached p.program U W handed →
-      (args : List ℤ) (fixed : List NameValue) (r : ℤ) → length args ≡ g.params →
-      ValuesFit g.fixed fixed → AllZip FitsSort g.fixed fixed →
+      slice_get p.program.functions n ≡ Some g → Reached p.program U W handed → (heap : Heap) →
+      ((a z : ℤ) → handed.cells a z ≤ cells_of heap a z) → (args : List ℤ)
+      (fixed : List NameValue) (r : ℤ) → length args ≡ g.params → ValuesFit g.fixed fixed → AllZip FitsSort g.fixed fixed →
       (owns : OwnsEnsures p.program U handed g args fixed r) (x : Fill) →
       IsMetOr p.program U owns.values g.ensures.items handed owns.met.0 owns.met.1 x →
       NamesFit (ensures_scope g g.ensures.names) x.names →
-      AgainTo W handed n g args fixed r x
+      IsTooWide W n args fixed r x ⊎ AgainTo W handed n g args fixed r x
+
+  -- by the table by which it was handed over it is met as it was
+  abbrev again-now :
+      (U : Table) (handed : Stock) (n : ℕ) (g : PlainFunction) (args : List ℤ)
+      (fixed : List NameValue) (r : ℤ) (owns : OwnsEnsures p.program U handed g args fixed r)
+      (x : Fill) → IsMetOr p.program U owns.values g.ensures.items handed owns.met.0 owns.met.1 x →
+      NamesFit (ensures_scope g g.ensures.names) x.names → AgainTo U handed n g args fixed r x
+  again-now U handed n g args fixed r owns x met fits =
+      let d = derivation p trees in
+      record {
+        owns = owns;
+        fill = x;
+        met = met;
+        fits = fits;
+        told = λ rs tells.
+            let back = given_back n args fixed r x in
+            subst (λ b. IsTold (λ o. o ≡ Some x)
+            ((if b then traced x else filled_again d rs back back.stability) >>= λ f.
+            traced (Some f)))
+            (sym (met-now p.program U owns.values rs tells g.ensures.items handed owns.met.0
+            owns.met.1 x met.facts)) refl;
+      }
 
 -- values of fixed names, over the one denominator
-fixed-sorted :
+pub fixed-sorted :
     (a : Valuation) (x : ℕ) (os : List Sort) → a.fraction.under ≡ over - 1 →
     AllZip FitsSort os (fixed_values a x os)
 fixed-sorted a x [] e = tt
@@ -129,7 +159,8 @@ module _ (p : Checked) (trees : List (Option PlainTree)) (program : IsWellFormed
     (stays : receives c.x c.z (with_rest f b) ≡ with_rest f b) (q : Place)
     (tree_is : tk.children ≡ tree q.tree no_trees)
     (goal_is : goals_of tk.after
-    (after_call p program give take rests stable c.g (length c.s.envs) l h b) ≡ q.goal ∷ []) where
+    (after_call p program give take rests stable c.g (length c.s.envs) l h b) ≡ q.goal ∷ [])
+    (just : IsOf p.program tk.w tk.after tk.left) where
   abbrev ts : List PlainTask
   ts = after_call p program give take rests stable c.g (length c.s.envs) l h b
 
@@ -218,6 +249,27 @@ module _ (p : Checked) (trees : List (Option PlainTree)) (program : IsWellFormed
             (result-there p part T f.store c ts tk r) tt;
       }
 
+  -- whatever the result, the state has just what it has
+  just-result : (r : ℤ) → IsOf p.program (valuation (with_it r)) tk.after tk.left
+  just-result r =
+      let n = length c.s.sorts in
+      let w = with_result p part T f.store c ts tk r in
+      let apart = λ (x : ℕ). x ≢ n in
+      subst (λ u. IsOf p.program u tk.after tk.left) (valued r)
+      (of-at p.program tk.after (kept p part T f.store c) apart tk.w w tk.left (λ o x i. i.1.0)
+      (agree-alike apart tk.w w
+      (with-agrees apart tk.w n r (r *ℤ denominator tk.w.fraction) (λ x i. i)))
+      tk.ready.grounded just)
+
+  abbrev SeatJust : Frame → List NameValue → Type 0
+  SeatJust g xs =
+      (x : Seat p trees tk.left tk.U fn fixed g due q xs)
+      × IsOf p.program (valuation xs) x.state tk.left
+
+  seat-just : (r : ℤ) → SeatJust (receives c.x r (with_rest f b)) (with_it r)
+  unfolding seat
+  seat-just r = (seat r, just-result r)
+
   -- while there is no result, its variable has the value that the destination has
   same-values : with_it c.z ≡ vs
   same-values =
@@ -226,10 +278,10 @@ module _ (p : Checked) (trees : List (Option PlainTree)) (program : IsWellFormed
       ∙ tk.alike.whole result_at (let i = push-length c.s.sorts Int in omega (arith, i))
       ∙ new-whole c.v result_at c.z (c.z *ℤ denominator c.v.fraction))
 
-  seat-first : Seat p trees tk.left tk.U fn fixed (with_rest f b) due q vs
+  seat-first : SeatJust (with_rest f b) vs
   seat-first =
-      subst (Seat p trees tk.left tk.U fn fixed (with_rest f b) due q) same-values
-      (subst (λ g. Seat p trees tk.left tk.U fn fixed g due q (with_it c.z)) stays (seat c.z))
+      subst (SeatJust (with_rest f b)) same-values
+      (subst (λ g. SeatJust g (with_it c.z)) stays (seat-just c.z))
 
   at-once : Reached p.program tk.U tk.U tk.left
   at-once =
@@ -263,26 +315,33 @@ module _ (p : Checked) (trees : List (Option PlainTree)) (program : IsWellFormed
     abbrev g : Frame
     g = receives c.x r (with_rest f b)
 
-    module _ (W : Table)
-        (on : Relies p.program (both p.program tk.left handed).guards U W) where
-      -- the promise is met by the later table
-      ag : AgainTo p trees W handed n c.g (args_are p part T f.store c)
-          (callee_fixed p part T f.store c ts tk) r x
-      ag =
-          let P = p.program in
-          again U W handed n c.g is_g (record {
-            fits = room.fits;
-            full = room.full;
-            room = fits-less P U handed whole (inside-second P tk.left handed) room.room;
-            relies =
-                relies-less P handed.guards whole.guards U W
-                (inside-guards P handed whole (inside-second P tk.left handed)) on;
-          }) (args_are p part T f.store c) (callee_fixed p part T f.store c ts tk) r
-          (map-length (value_in f.store) c.args ∙ c.size)
-          (fixed-fit (a1 p part T f.store c ts tk) (fixed_start c.g) c.g.fixed)
-          (fixed-sorted (a1 p part T f.store c ts tk) (fixed_start c.g) c.g.fixed
-          (ap (λ (u : Valuation). u.fraction.under) named)) owns x met fits
+    -- the promise is met by the later table
+    again-at :
+        (heap : Heap) → ((a z : ℤ) → handed.cells a z ≤ cells_of heap a z) → (W : Table) →
+        Relies p.program (both p.program tk.left handed).guards U W →
+        IsTooWide p trees W n (args_are p part T f.store c) (callee_fixed p part T f.store c ts tk)
+        r x
+        ⊎ AgainTo p trees W handed n c.g (args_are p part T f.store c)
+        (callee_fixed p part T f.store c ts tk) r x
+    again-at heap within W on =
+        let P = p.program in
+        again U W handed n c.g is_g (record {
+          fits = room.fits;
+          full = room.full;
+          room = fits-less P U handed whole (inside-second P tk.left handed) room.room;
+          relies =
+              relies-less P handed.guards whole.guards U W
+              (inside-guards P handed whole (inside-second P tk.left handed)) on;
+        }) heap within (args_are p part T f.store c) (callee_fixed p part T f.store c ts tk) r
+        (map-length (value_in f.store) c.args ∙ c.size)
+        (fixed-fit (a1 p part T f.store c ts tk) (fixed_start c.g) c.g.fixed)
+        (fixed-sorted (a1 p part T f.store c ts tk) (fixed_start c.g) c.g.fixed
+        (ap (λ (u : Valuation). u.fraction.under) named)) owns x met fits
 
+    module _ (W : Table)
+        (on : Relies p.program (both p.program tk.left handed).guards U W)
+        (ag : AgainTo p trees W handed n c.g (args_are p part T f.store c)
+        (callee_fixed p part T f.store c ts tk) r x) where
       abbrev reaching : Reaching p.program tk.left tk.U W
       reaching =
           let P = p.program in record {
@@ -354,6 +413,8 @@ module _ (p : Checked) (trees : List (Option PlainTree)) (program : IsWellFormed
       -- and it is given the promise
       gv : GivenSo p W sc e l.number tk.left handed (running b h) remains composes items
           ag.fill rt.rest.children rt.values rt.rest.after
+          (items_drawn p.program W ag.owns.values c.g.ensures.items handed ag.owns.met.0
+          ag.owns.met.1)
       unfolding seat
       gv =
           given-so p W sc e l.number tk.left handed (running b h) remains composes items ag.fill
@@ -466,17 +527,15 @@ module _ (p : Checked) (trees : List (Option PlainTree)) (program : IsWellFormed
         tidy = record { sorted = gv.sorted; regions = refl; next = refl; events = refl };
       }
 
-      walks-there :
-          (rs : List TrackedRegion) → Tells rs W →
-          IsTold
-          (StopsSo (IsAtNode p trees rs (both p.program tk.left handed) W fn fixed
-          (receives c.x r (with_rest f b)) sits))
+      -- a walk comes there, or is too wide
+      walks-then :
+          (Q : Halt → Type 0) (rs : List TrackedRegion) → Tells rs W → Q (stop rs) →
+          IsTold Q
           (fill_now (derivation p trees) rs (Some (given_back p trees n
           (args_are p part T f.store c) (callee_fixed p part T f.store c ts tk) r x)) >>= λ o.
           walk_from (interpreted (derivation p trees)) p.program false q
           (beginning rs (slice_set vs (length c.s.sorts) (a_number r)) [] o []))
-      walks-there rs tells =
-          let Q = StopsSo (IsAtNode p trees rs whole W fn fixed g sits) in
+      walks-then Q rs tells there =
           told-on (λ o. o ≡ Some ag.fill) Q
           (fill_now (derivation p trees) rs (Some (given_back p trees n
           (args_are p part T f.store c) (callee_fixed p part T f.store c ts tk) r x)))
@@ -484,31 +543,126 @@ module _ (p : Checked) (trees : List (Option PlainTree)) (program : IsWellFormed
           (λ o m. subst (λ o. IsTold Q (walk_from enter p.program false q (beginning rs vs1 [] o [])))
           (sym m) (elim (stopped rs tells) [
             | inl wide ↦ subst (IsTold Q) (sym wide) tt
-            | inr on ↦ subst (IsTold Q) (sym on) (at-node rs)
+            | inr on ↦ subst (IsTold Q) (sym on) there
           ]))
+
+      -- where all that was handed over is drawn, its state has just that beside its part
+      has-just :
+          (rs : List TrackedRegion) →
+          items_drawn p.program W ag.owns.values c.g.ensures.items handed ag.owns.met.0
+          ag.owns.met.1
+          ≡ handed →
+          StopsSo (HasJust p trees (both p.program tk.left handed)) (stop rs)
+      unfolding seat
+      has-just rs drawn = record {
+        pieces_fit = gv.grounded.pieces_fit;
+        backed = subst (λ u. Backed p.program u gv.after whole) gv.valued gv.backed;
+        just =
+            subst (λ u. IsOf p.program u gv.after whole) gv.valued
+            (subst (λ z. IsOf p.program gv.w gv.after (both p.program tk.left z)) drawn
+            (gv.just tk.left (subst (λ u. IsOf p.program u s1' tk.left) rt.valued
+            (of-before p.program (valuation vs1) rt.rest.w tk.after s1' tk.left rt.rest.as_before
+            (seat r).grounded (just-result r)))));
+      }
+
+    -- soundness's frame
+    sound-back : Stands p (both p.program tk.left handed) U fixed (receives c.x r (with_rest f b))
+    sound-back =
+        ((waits-here p program give take rests stable part T roomy fn fixed
+        (values-length fn.fixed fixed ok.values) f r0 c h st n is_g l b tk ok later).back U relies
+        handed r c.g is_g room owns).stands
+
+    -- at the later table it sits, and its walk stops there
+    record BackAt (W : Table) (t : TrackedFrame) : Type 0 where
+      sits : Sits p (both p.program tk.left handed) W fn fixed (receives c.x r (with_rest f b))
+      walks :
+          (rs : List TrackedRegion) → Tells rs W →
+          IsTold
+          (StopsSo (IsAtNode p trees rs (both p.program tk.left handed) W fn fixed
+          (receives c.x r (with_rest f b)) sits))
+          (frame_walk (derivation p trees) false rs
+          (received_by p trees callee r (waiting_at t) x) [])
+
+    back-at :
+        (W : Table) → Relies p.program (both p.program tk.left handed).guards U W →
+        (t : TrackedFrame) →
+        (IsTooWide p trees W n (args_are p part T f.store c)
+        (callee_fixed p part T f.store c ts tk) r x
+        ⊎ AgainTo p trees W handed n c.g (args_are p part T f.store c)
+        (callee_fixed p part T f.store c ts tk) r x) → BackAt W t
+    back-at W on t (inr ag) = record {
+      sits = sits W on ag;
+      walks = λ rs tells.
+          walks-then W on ag
+          (StopsSo (IsAtNode p trees rs (both p.program tk.left handed) W fn fixed
+          (receives c.x r (with_rest f b)) (sits W on ag))) rs tells (at-node W on ag rs);
+    }
+    back-at W on t (inl wide) =
+        let same = some-same sound-back.fn fn (sym sound-back.ok.is_fn ∙ (later r).is_fn) in
+        let s = subst (λ k. Sits p whole W k fixed g) same (sound-back.all W on) in
+        record {
+          sits = s;
+          walks = λ rs tells.
+              let Q = StopsSo (IsAtNode p trees rs whole W fn fixed g s) in
+              subst (λ o. IsTold Q (o >>= λ o.
+              walk_from (interpreted (derivation p trees)) p.program false q
+              (beginning rs vs1 [] o []))) (sym (wide rs tells)) tt;
+        }
 
     -- so it is tied again
     pub back-tied :
-        (t : TrackedFrame) →
+        (heap : Heap) → ((a z : ℤ) → handed.cells a z ≤ cells_of heap a z) → (t : TrackedFrame) →
         Tied p trees (both p.program tk.left handed) U fixed (receives c.x r (with_rest f b))
         (received_by p trees callee r (waiting_at t) x)
-    back-tied t = record {
-      stood = record { fn = fn; ok = later r; all = λ W on. sits W on };
+    back-tied heap within t = record {
+      stood = record {
+        fn = fn;
+        ok = later r;
+        all = λ W on. (back-at W on t (again-at heap within W on)).sits;
+      };
       fits = fixed_fit;
-      walks = λ W on rs tells. walks-there W on rs tells;
+      walks = λ W on rs tells. (back-at W on t (again-at heap within W on)).walks rs tells;
     }
+
+    -- and has just that more
+    pub regains-just :
+        items_drawn p.program U owns.values c.g.ensures.items handed owns.met.0 owns.met.1
+        ≡ handed →
+        (rs : List TrackedRegion) → Tells rs U → (t : TrackedFrame) →
+        IsTold (StopsSo (HasJust p trees (both p.program tk.left handed)))
+        (frame_walk (derivation p trees) false rs (received_by p trees callee r (waiting_at t) x) [])
+    regains-just drawn rs tells t =
+        let on = relies-same p.program whole.guards U in
+        let ag = again-now p trees U handed n c.g (args_are p part T f.store c)
+        (callee_fixed p part T f.store c ts tk) r owns x met fits in
+        walks-then U on ag (StopsSo (HasJust p trees whole)) rs tells (has-just U on ag rs drawn)
 
   -- by whichever function of that number, which is the callee
   abbrev Comes_back : TrackedFrame → PlainFunction → Type 0
   Comes_back t g =
       (U : Table) → Relies p.program tk.left.guards tk.U U → (handed : Stock) (r : ℤ) →
-      Roomy p.program U (both p.program tk.left handed) →
+      Roomy p.program U (both p.program tk.left handed) → (heap : Heap) →
+      ((a z : ℤ) → handed.cells a z ≤ cells_of heap a z) →
       (owns : OwnsEnsures p.program U handed g (args_are p part T f.store c)
       (callee_fixed p part T f.store c ts tk) r) → (x : Fill) →
       IsMetOr p.program U owns.values g.ensures.items handed owns.met.0 owns.met.1 x →
       NamesFit (ensures_scope g g.ensures.names) x.names →
       Tied p trees (both p.program tk.left handed) U fixed (receives c.x r (with_rest f b))
       (received_by p trees callee r (waiting_at t) x)
+
+  abbrev Has_back : TrackedFrame → PlainFunction → Type 0
+  Has_back t g =
+      (U : Table) → Relies p.program tk.left.guards tk.U U → (handed : Stock) (r : ℤ) →
+      Roomy p.program U (both p.program tk.left handed) →
+      (owns : OwnsEnsures p.program U handed g (args_are p part T f.store c)
+      (callee_fixed p part T f.store c ts tk) r) → (x : Fill) →
+      IsMetOr p.program U owns.values g.ensures.items handed owns.met.0 owns.met.1 x →
+      NamesFit (ensures_scope g g.ensures.names) x.names →
+      items_drawn p.program U owns.values g.ensures.items handed owns.met.0 owns.met.1
+      ≡ handed →
+      (rs : List TrackedRegion) → Tells rs U →
+      IsTold (StopsSo (HasJust p trees (both p.program tk.left handed)))
+      (frame_walk (derivation p trees) false rs (received_by p trees callee r (waiting_at t) x) [])
 
   -- the frame waits
   pub call-waits :
@@ -525,9 +679,15 @@ module _ (p : Checked) (trees : List (Option PlainTree)) (program : IsWellFormed
     };
     seated = λ U r rs tells.
         seat-waits p trees program tk.left tk.U fn fixed (with_rest f b) ok at-once.fits
-        at-once.room items e l.number q vs seat-first U r t rs tells;
-    back = λ U relies handed r g is_fn room owns x met fits.
+        at-once.room items e l.number q vs seat-first.0 seat-first.1 U r t rs tells;
+    back = λ U relies handed r g is_fn room heap within owns x met fits.
         subst (Comes_back t) (some-same c.g g (sym is_g ∙ is_fn))
-        (λ U relies handed r room owns x met fits.
-        back-tied U relies handed r room owns x met fits t) U relies handed r room owns x met fits;
+        (λ U relies handed r room heap within owns x met fits.
+        back-tied U relies handed r room owns x met fits heap within t) U relies handed r room heap
+        within owns x met fits;
+    regains = λ U relies handed r g is_fn room owns x met fits drawn rs tells.
+        subst (Has_back t) (some-same c.g g (sym is_g ∙ is_fn))
+        (λ U relies handed r room owns x met fits drawn rs tells.
+        regains-just U relies handed r room owns x met fits drawn rs tells t) U relies handed r room
+        owns x met fits drawn rs tells;
   }

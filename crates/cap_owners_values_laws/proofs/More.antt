@@ -1,5 +1,5 @@
 -- A number more: values have their sorts, and are alike, as they were. And terms are told of.
-use Rattle.std.proofs.Common.{◌≡◌, ℕ, ◌+◌, ◌-◌, ◌<◌, ℤ, pos, ◌*ℤ◌, List, [], ◌∷◌, ◌++◌, sym, ap, ◌∙◌, arith}
+use Rattle.std.proofs.Common.{◌≡◌, ℕ, ◌+◌, ◌-◌, ◌<◌, ℤ, ◌*ℤ◌, List, [], ◌∷◌, ◌++◌, sym, ap, ◌∙◌, arith}
 use Rattle.std.specs.List.{AllZip}
 use Rattle.cap_rules.specs.cap_goal_spec.cap_lin.Linear.{Linear}
 use Rattle.cap_rules.specs.cap_goal_spec.cap_lin.Steps.{value_steps}
@@ -14,13 +14,23 @@ use Rattle.cap_account_assertions.proofs.Named.{set_to}
 use Rattle.cap_owners_spec.specs.Traced.{untold, over, valuation, number_in}
 use Rattle.cap_owners_values_laws.proofs.Numbers.{computed-told}
 
--- A value of the sort: a number, or a share over the one denominator. A name of either sort that
--- nothing meets has the number 0.
+-- A value of the sort: a number, or a share over the one denominator. A name that no item binds, also
+-- one of a share, has a number: a case's name that of the state.
 abbrev pub FitsSort : Sort → NameValue → Type 0
 FitsSort Int (a_number z) = Unit {0}
 FitsSort Int (a_fraction n d) = ⊥
-FitsSort Perm (a_number z) = z ≡ pos 0
+FitsSort Perm (a_number z) = Unit {0}
 FitsSort Perm (a_fraction n d) = d ≡ over - 1
+
+-- a number fits whichever sort, and what fits one fits that of a share
+pub number-fits : (o : Sort) (z : ℤ) → FitsSort o (a_number z)
+number-fits Int z = tt
+number-fits Perm z = tt
+
+pub fits-share : (o : Sort) (y : NameValue) → FitsSort o y → FitsSort Perm y
+fits-share Int (a_number z) h = tt
+fits-share Int (a_fraction n d) h = absurd h
+fits-share Perm y h = h
 
 pub sorted-more :
     (os : List Sort) (vs : List NameValue) (o : Sort) (v : NameValue) → AllZip FitsSort os vs →

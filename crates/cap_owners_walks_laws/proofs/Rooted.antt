@@ -2,7 +2,7 @@
 use Rattle.std.proofs.Common.{◌≡◌, ℕ, zero, suc, ◌+◌, ◌<◌, List, [], ◌∷◌, ◌++◌, map, flat_map, take, length, arith, Option, Some, None, refl, sym, ap, ◌∙◌, subst}
 use Rattle.std.specs.Prelude.{slice_get, unwrap_or}
 use Rattle.std.specs.List.{AllZip, range_with_len}
-use Rattle.cap_prog.specs.Program.{PlainFunction, PlainProgram}
+use Rattle.cap_prog.specs.Program.{PlainFunction, PlainRegionType, PlainProgram}
 use Rattle.cap_goal_spec.specs.States.{PlainGoal}
 use Rattle.cap_goal_spec.specs.Choices.{PlainTree}
 use Rattle.cap_goal_spec.specs.Roots.{PlainUnit, region_unit, function_unit, roots, units, all_roots}
@@ -123,3 +123,19 @@ module _ (p : PlainProgram) (trees : List (Option PlainTree)) (valid : Valid p t
       slice_get (roots p (function_unit n)) i ≡ Some (Some g) → IsRooted (function_unit n) i g
   function-rooted n f e i g h =
       root-there (function_unit n) (length p.regions + n) (function-at n f e) refl i g h
+
+  region-at :
+      (n : ℕ) (y : PlainRegionType) → slice_get p.regions n ≡ Some y →
+      slice_get (units p) n ≡ Some (region_unit n)
+  region-at n y e =
+      let z : 0 + n ≡ n = omega arith in
+      get-first (map region_unit (range_with_len 0 (length p.regions)))
+      (map function_unit (range_with_len 0 (length p.functions))) n (region_unit n)
+      (in-range region_unit 0 (length p.regions) n (within p.regions n y e)
+      ∙ ap (λ m. Some (region_unit m)) z)
+
+  -- the roots of a region type, one for each of its cases
+  pub region-rooted :
+      (n : ℕ) (y : PlainRegionType) → slice_get p.regions n ≡ Some y → (i : ℕ) (g : PlainGoal) →
+      slice_get (roots p (region_unit n)) i ≡ Some (Some g) → IsRooted (region_unit n) i g
+  region-rooted n y e i g h = root-there (region_unit n) n (region-at n y e) refl i g h

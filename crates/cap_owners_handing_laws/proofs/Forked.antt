@@ -20,7 +20,7 @@ use Rattle.cap_account.proofs.Strides.{handing}
 use Rattle.cap_account.proofs.Handing.{callee-is, caller-is, started}
 use Rattle.cap_owners_spec.specs.Traced.{Traced, traced, past_width, untold, ◌>>=◌}
 use Rattle.cap_owners_spec.specs.Track.{TrackedRegion, TrackedFrame, Track, account_of}
-use Rattle.cap_owners_spec.specs.Steps.{Proved, Moved, Scene, Handed, hands_over, tracks_fork, after_move, followed, follow}
+use Rattle.cap_owners_spec.specs.Steps.{Proved, Moved, Scene, Handed, hands_over, after_move, followed, follow}
 use Rattle.cap_owners_laws.specs.Owned.{IsTold, GoesOver}
 use Rattle.cap_owners_parts_laws.proofs.Telling.{told-on}
 use Rattle.cap_owners_tracks_laws.proofs.Tied.{derivation, Tied, AllWaitTied, StackTied, Kept}
@@ -46,6 +46,76 @@ each-push R (a ∷ xs) [] x y l f r j u v e k = absurd (omega (arith, l))
 each-push R (a ∷ xs) (b ∷ ys) x y l f r zero u v e k = f 0 u v e k
 each-push R (a ∷ xs) (b ∷ ys) x y l f r (suc j) u v e k =
     each-push R xs ys x y (omega (arith, l)) (λ n w z. f (suc n) w z) r j u v e k
+
+-- ---- the step of the track
+
+module _ (p : Checked) (trees : List (Option PlainTree)) (x : TurnKept p trees) (n : ℕ)
+    (g : PlainFunction) (args : List ℤ) (b : Block) where
+  abbrev pub forked_after : Configuration
+  forked_after = record {
+    heap = x.turn.c.heap;
+    threads = slice_set x.turn.c.threads x.turn.thread
+        (with_rest x.turn.frame b ∷ x.turn.below) ++ (new_frame n g args None ∷ []) ∷ [];
+  }
+
+  abbrev pub forked_scene : Scene
+  forked_scene = record {
+    frame = x.turn.frame;
+    after = forked_after;
+    thread = x.turn.thread;
+    top = x.top;
+    below = x.below;
+    regions = x.track.regions;
+  }
+
+  abbrev pub forked_track : Handed → Track
+  forked_track z = after_move x.track x.turn.thread (record {
+    frames = z.caller ∷ x.below;
+    forked = Some z.callee;
+    regions = z.regions;
+  })
+
+  -- it goes on from what is handed over
+  pub forked-follows :
+      follow (derivation p trees) x.track x.turn.thread (Fork (length x.turn.c.threads)) x.turn.c
+      forked_after
+      ≡ (hands_over (derivation p trees) forked_scene (Fork (length x.turn.c.threads))
+      (top_frame (slice_get forked_after.threads (length x.turn.c.threads)))
+      >>= λ z. traced (forked_track z))
+  forked-follows =
+      (λ i. followed (derivation p trees) x.track x.turn.thread
+      (Fork (length x.turn.c.threads)) forked_after (top_frame (x.turn.has_frames i))
+      (x.has_frames i))
+      ∙ told-last (hands_over (derivation p trees) forked_scene (Fork (length x.turn.c.threads))
+      (top_frame (slice_get forked_after.threads (length x.turn.c.threads))))
+    where
+      told-last :
+          (o : Traced Handed) →
+          ((o >>= λ z. traced (record {
+            frames = z.caller ∷ x.below;
+            forked = Some z.callee;
+            regions = z.regions;
+          }))
+          >>= λ (m : Moved). traced (after_move x.track x.turn.thread m))
+          ≡ (o >>= λ z. traced (forked_track z))
+      told-last (traced z) = refl
+      told-last past_width = refl
+      told-last untold = refl
+
+  -- where that is too wide, nothing follows
+  pub forked-wide :
+      hands_over (derivation p trees) forked_scene (Fork (length x.turn.c.threads))
+      (top_frame (slice_get forked_after.threads (length x.turn.c.threads)))
+      ≡ past_width →
+      GoesKept p trees x (forks (spot_of x.turn) b n args (Some g))
+  forked-wide wide =
+      let Q = λ (k : Track). GoesOver (derivation p trees) x.turn.thread
+      (Fork (length x.turn.c.threads)) x.turn.c forked_after x.track k
+      × Kept p trees forked_after k in
+      subst (IsTold Q)
+      (sym (forked-follows ∙ ap (λ o. o >>= λ z. traced (forked_track z)) wide)) tt
+
+-- ---- what it keeps
 
 module _ (p : Checked) (trees : List (Option PlainTree)) (ls : Statements p)
     (stable : Stable p.program) (x : TurnKept p trees) (n : ℕ) (g : PlainFunction)
@@ -82,22 +152,11 @@ module _ (p : Checked) (trees : List (Option PlainTree)) (ls : Statements p)
   abbrev ts : List TrackedFrame
   ts = caller ∷ x.below
 
-  abbrev pub forked_after : Configuration
-  forked_after = record {
-    heap = x.turn.c.heap;
-    threads = slice_set x.turn.c.threads x.turn.thread
-        (with_rest x.turn.frame b ∷ x.turn.below) ++ (new_frame n g args None ∷ []) ∷ [];
-  }
+  abbrev after : Configuration
+  after = forked_after p trees x n g args b
 
-  abbrev pub forked_scene : Scene
-  forked_scene = record {
-    frame = x.turn.frame;
-    after = forked_after;
-    thread = x.turn.thread;
-    top = x.top;
-    below = x.below;
-    regions = x.track.regions;
-  }
+  abbrev moves : Scene
+  moves = forked_scene p trees x n g args b
 
   abbrev later : Track
   later = record {
@@ -180,26 +239,28 @@ module _ (p : Checked) (trees : List (Option PlainTree)) (ls : Statements p)
         callee = callee;
         regions = x.track.regions ++ made;
       })
-      (hands_over (derivation p trees) forked_scene (Fork (length x.turn.c.threads))
-      (top_frame (slice_get forked_after.threads (length x.turn.c.threads)))) →
+      (hands_over (derivation p trees) (forked_scene p trees x n g args b)
+      (Fork (length x.turn.c.threads))
+      (top_frame
+      (slice_get (forked_after p trees x n g args b).threads (length x.turn.c.threads)))) →
       GoesKept p trees x (forks (spot_of x.turn) b n args (Some g))
   forked-kept told =
       let event = Fork (length x.turn.c.threads) in
       let Q = λ (k : Track).
-      GoesOver d x.turn.thread event x.turn.c forked_after x.track k
-      × Kept p trees forked_after k in
+      GoesOver d x.turn.thread event x.turn.c after x.track k × Kept p trees after k in
+      let track_of = forked_track p trees x n g args b in
       let went = started p ls stable turn n g is_g args arity K h b h.goes_on in
-      let o = hands_over d forked_scene event
-      (top_frame (slice_get forked_after.threads (length x.turn.c.threads))) in
-      subst (IsTold Q) (sym (follows-so ∙ told-last o))
+      let o = hands_over d moves event
+      (top_frame (slice_get after.threads (length x.turn.c.threads))) in
+      subst (IsTold Q) (sym (forked-follows p trees x n g args b))
       (told-on (λ z. z ≡ record {
         caller = caller;
         callee = callee;
         regions = x.track.regions ++ made;
       })
-      Q o (λ z. traced (after_fork_track z)) told
-      (λ z e. subst (λ z. Q (after_fork_track z)) (sym e)
-      (made-goes p trees stable x y refl made so forked_after event
+      Q o (λ z. traced (track_of z)) told
+      (λ z e. subst (λ z. Q (track_of z)) (sym e)
+      (made-goes p trees stable x y refl made so after event
       (slice_set (account_of x.track).threads x.turn.thread
       (record { part = cut p stable turn y h.kept; fixed = x.top.held.fixed }
       ∷ map (λ t. t.held) x.below)
@@ -210,33 +271,3 @@ module _ (p : Checked) (trees : List (Option PlainTree)) (ls : Statements p)
       (slice_set x.track.threads x.turn.thread ts) (new_frame n g args None ∷ []) (callee ∷ [])
       same-count (threads-tied p trees stable x y fs ts (tied-caller, tied-below))
       (tied-callee, tt)))))
-    where
-      after_fork_track : Handed → Track
-      after_fork_track z = after_move x.track x.turn.thread (record {
-        frames = z.caller ∷ x.below;
-        forked = Some z.callee;
-        regions = z.regions;
-      })
-
-      follows-so :
-          follow (derivation p trees) x.track x.turn.thread (Fork (length x.turn.c.threads))
-          x.turn.c forked_after
-          ≡ (tracks_fork (derivation p trees) forked_scene (length x.turn.c.threads) >>= λ m.
-          traced (after_move x.track x.turn.thread m))
-      follows-so =
-          (λ i. followed (derivation p trees) x.track x.turn.thread
-          (Fork (length x.turn.c.threads)) forked_after (top_frame (x.turn.has_frames i))
-          (x.has_frames i))
-
-      told-last :
-          (o : Traced Handed) →
-          ((o >>= λ z. traced (record {
-            frames = z.caller ∷ x.below;
-            forked = Some z.callee;
-            regions = z.regions;
-          }))
-          >>= λ (m : Moved). traced (after_move x.track x.turn.thread m))
-          ≡ (o >>= λ z. traced (after_fork_track z))
-      told-last (traced z) = refl
-      told-last past_width = refl
-      told-last untold = refl

@@ -20,7 +20,7 @@ use Rattle.cap_account.proofs.Strides.{handing}
 use Rattle.cap_account.proofs.Handing.{callee-is, caller-is, called}
 use Rattle.cap_owners_spec.specs.Traced.{Traced, traced, past_width, untold, ◌>>=◌}
 use Rattle.cap_owners_spec.specs.Track.{TrackedRegion, TrackedFrame, Track, account_of}
-use Rattle.cap_owners_spec.specs.Steps.{Proved, Moved, Scene, Handed, hands_over, tracks_call, after_move, followed, follow}
+use Rattle.cap_owners_spec.specs.Steps.{Proved, Moved, Scene, Handed, hands_over, after_move, followed, follow}
 use Rattle.cap_owners_laws.specs.Owned.{IsTold, GoesOver}
 use Rattle.cap_owners_parts_laws.proofs.Telling.{told-on}
 use Rattle.cap_owners_tracks_laws.proofs.Tied.{derivation, Tied, WaitsTied, AllWaitTied, EachTied, Kept}
@@ -29,6 +29,73 @@ use Rattle.cap_owners_tracks_laws.proofs.Turns.{own}
 use Rattle.cap_owners_tracks_laws.proofs.Later.{below-tied, threads-tied}
 use Rattle.cap_owners_steps_laws.proofs.Stepping.{same-stock}
 use Rattle.cap_owners_steps_laws.proofs.Making.{MadeSo, made-goes}
+
+-- ---- the step of the track
+
+module _ (p : Checked) (trees : List (Option PlainTree)) (x : TurnKept p trees) (n : ℕ)
+    (g : PlainFunction) (args : List ℤ) (destination : Option ℕ) (b : Block) where
+  abbrev pub called_after : Configuration
+  called_after = record {
+    heap = x.turn.c.heap;
+    threads = slice_set x.turn.c.threads x.turn.thread
+        (new_frame n g args destination ∷ with_rest x.turn.frame b ∷ x.turn.below);
+  }
+
+  abbrev pub called_scene : Scene
+  called_scene = record {
+    frame = x.turn.frame;
+    after = called_after;
+    thread = x.turn.thread;
+    top = x.top;
+    below = x.below;
+    regions = x.track.regions;
+  }
+
+  abbrev pub called_track : Handed → Track
+  called_track z = after_move x.track x.turn.thread (record {
+    frames = z.callee ∷ z.caller ∷ x.below;
+    forked = None;
+    regions = z.regions;
+  })
+
+  -- it goes on from what is handed over
+  pub called-follows :
+      follow (derivation p trees) x.track x.turn.thread Call x.turn.c called_after
+      ≡ (hands_over (derivation p trees) called_scene Call
+      (top_frame (slice_get called_after.threads x.turn.thread))
+      >>= λ z. traced (called_track z))
+  called-follows =
+      (λ i. followed (derivation p trees) x.track x.turn.thread Call called_after
+      (top_frame (x.turn.has_frames i)) (x.has_frames i))
+      ∙ told-last (hands_over (derivation p trees) called_scene Call
+      (top_frame (slice_get called_after.threads x.turn.thread)))
+    where
+      told-last :
+          (o : Traced Handed) →
+          ((o >>= λ z. traced (record {
+            frames = z.callee ∷ z.caller ∷ x.below;
+            forked = None;
+            regions = z.regions;
+          }))
+          >>= λ (m : Moved). traced (after_move x.track x.turn.thread m))
+          ≡ (o >>= λ z. traced (called_track z))
+      told-last (traced z) = refl
+      told-last past_width = refl
+      told-last untold = refl
+
+  -- where that is too wide, nothing follows
+  pub called-wide :
+      hands_over (derivation p trees) called_scene Call
+      (top_frame (slice_get called_after.threads x.turn.thread))
+      ≡ past_width →
+      GoesKept p trees x (calls (spot_of x.turn) b n args destination (Some g))
+  called-wide wide =
+      let Q = λ (k : Track). GoesOver (derivation p trees) x.turn.thread Call x.turn.c called_after
+      x.track k × Kept p trees called_after k in
+      subst (IsTold Q)
+      (sym (called-follows ∙ ap (λ o. o >>= λ z. traced (called_track z)) wide)) tt
+
+-- ---- what it keeps
 
 module _ (p : Checked) (trees : List (Option PlainTree)) (ls : Statements p)
     (stable : Stable p.program) (x : TurnKept p trees) (n : ℕ) (g : PlainFunction)
@@ -68,22 +135,11 @@ module _ (p : Checked) (trees : List (Option PlainTree)) (ls : Statements p)
   abbrev ts : List TrackedFrame
   ts = callee ∷ caller ∷ x.below
 
-  abbrev pub called_after : Configuration
-  called_after = record {
-    heap = x.turn.c.heap;
-    threads = slice_set x.turn.c.threads x.turn.thread
-        (new_frame n g args destination ∷ with_rest x.turn.frame b ∷ x.turn.below);
-  }
+  abbrev after : Configuration
+  after = called_after p trees x n g args destination b
 
-  abbrev pub called_scene : Scene
-  called_scene = record {
-    frame = x.turn.frame;
-    after = called_after;
-    thread = x.turn.thread;
-    top = x.top;
-    below = x.below;
-    regions = x.track.regions;
-  }
+  abbrev moves : Scene
+  moves = called_scene p trees x n g args destination b
 
   abbrev later : Track
   later = record {
@@ -158,58 +214,31 @@ module _ (p : Checked) (trees : List (Option PlainTree)) (ls : Statements p)
         callee = callee;
         regions = x.track.regions ++ made;
       })
-      (hands_over (derivation p trees) called_scene Call
-      (top_frame (slice_get called_after.threads x.turn.thread))) →
+      (hands_over (derivation p trees) (called_scene p trees x n g args destination b) Call
+      (top_frame
+      (slice_get (called_after p trees x n g args destination b).threads x.turn.thread))) →
       GoesKept p trees x (calls (spot_of x.turn) b n args destination (Some g))
   called-kept told =
       let Q = λ (k : Track).
-      GoesOver d x.turn.thread Call x.turn.c called_after x.track k × Kept p trees called_after k in
+      GoesOver d x.turn.thread Call x.turn.c after x.track k × Kept p trees after k in
+      let track_of = called_track p trees x n g args destination b in
       let goes = called p ls stable turn n g is_g args arity K h destination b h.goes_on in
-      let o = hands_over d called_scene Call
-      (top_frame (slice_get called_after.threads x.turn.thread)) in
-      subst (IsTold Q) (sym (follows-so ∙ told-last o))
+      let o = hands_over d moves Call (top_frame (slice_get after.threads x.turn.thread)) in
+      subst (IsTold Q) (sym (called-follows p trees x n g args destination b))
       (told-on (λ z. z ≡ record {
         caller = caller;
         callee = callee;
         regions = x.track.regions ++ made;
       })
-      Q o (λ z. traced (after_call_track z)) told
-      (λ z e. subst (λ z. Q (after_call_track z)) (sym e)
-      (made-goes p trees stable x y refl made so called_after Call
+      Q o (λ z. traced (track_of z)) told
+      (λ z e. subst (λ z. Q (track_of z)) (sym e)
+      (made-goes p trees stable x y refl made so after Call
       (slice_set (account_of x.track).threads x.turn.thread
       (record { part = cut p stable turn y h.given; fixed = h.fixed }
       ∷ record { part = cut p stable turn y h.kept; fixed = x.top.held.fixed }
       ∷ map (λ t. t.held) x.below))
       (slice_set x.track.threads x.turn.thread ts ++ []) threads-same
       (goes.1, goes.2, goes.3, goes.4)
-      (subst (EachTied p trees U called_after.threads)
+      (subst (EachTied p trees U after.threads)
       (sym (join-nil (slice_set x.track.threads x.turn.thread ts)))
       (threads-tied p trees stable x y fs ts (tied-callee, (tied-caller, tied-below)))))))
-    where
-      after_call_track : Handed → Track
-      after_call_track z = after_move x.track x.turn.thread (record {
-        frames = z.callee ∷ z.caller ∷ x.below;
-        forked = None;
-        regions = z.regions;
-      })
-
-      follows-so :
-          follow (derivation p trees) x.track x.turn.thread Call x.turn.c called_after
-          ≡ (tracks_call (derivation p trees) called_scene >>= λ m.
-          traced (after_move x.track x.turn.thread m))
-      follows-so =
-          (λ i. followed (derivation p trees) x.track x.turn.thread Call called_after
-          (top_frame (x.turn.has_frames i)) (x.has_frames i))
-
-      told-last :
-          (o : Traced Handed) →
-          ((o >>= λ z. traced (record {
-            frames = z.callee ∷ z.caller ∷ x.below;
-            forked = None;
-            regions = z.regions;
-          }))
-          >>= λ (m : Moved). traced (after_move x.track x.turn.thread m))
-          ≡ (o >>= λ z. traced (after_call_track z))
-      told-last (traced z) = refl
-      told-last past_width = refl
-      told-last untold = refl

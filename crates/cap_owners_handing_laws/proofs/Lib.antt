@@ -1,0 +1,11 @@
+pub mod Called
+pub mod Forked
+pub mod CallSites
+pub mod CallTakes
+pub mod CallSeats
+pub mod CallNames
+pub mod Handing
+pub mod Calls
+pub mod LoopHeads
+pub mod Rounds
+pub mod Loops

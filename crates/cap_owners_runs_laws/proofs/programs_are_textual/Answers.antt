@@ -1,0 +1,5 @@
+use Rattle.cap_owners_texts_laws.proofs.Textual.{textual}
+use Rattle.cap_owners_runs_laws.proofs.programs_are_textual.Goals as goal
+
+pub returns : goal.returns
+returns c = textual
