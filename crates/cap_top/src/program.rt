@@ -262,10 +262,12 @@ pub fn run<S: Shelf, K: Sink>(
         (K.seen sink.old) (K.seen sink.new) }
 
     // Where `owners` ends with the status of a run, the derivation that was given is valid, and the
-    // sink has gained what the program's run along the schedule writes, with its accounts: unless
-    // it ends before its first account, the text goes along the machine's own run, from the account
-    // of its start, and behind each step comes one account, with an entry for each frame. With
-    // status 1 it may instead be that the derivation is not accepted, as `check` says of it.
+    // sink has gained what the program's run along the schedule writes, with its accounts: the text
+    // begins with the account of its start, unless a number is too wide there, and goes along the
+    // machine's own run. No step is a fault. Behind each comes the account after it, which is
+    // valid, has a track along the derivation, follows the one before by that step, and meets the
+    // contract of a call, a fork or a return. With status 1 the derivation is not accepted, as
+    // `check` says of it.
     ensures owned { (file derivation schedule : List ℕ)
         → meant_by words.now ≡ Some (owners file derivation schedule) → EndsRun result
         → OwnsFiles (S.seen shelf.old) (S.seen shelf.new) file derivation schedule

@@ -1,7 +1,11 @@
 -- What the text of a run with its accounts shows.
 use Rattle.std.proofs.Common.{◌≡◌, ◌∙◌, inl, inr, List, length, slice_get, Option, Some, None, refl, sym, ap, subst}
 use Rattle.std.specs.Prelude.{IsSomeAnd}
+use Rattle.cap_parse_tree.specs.Tree.{ProgramTree}
 use Rattle.cap_prog.specs.Program.{PlainFunction, PlainProgram}
+use Rattle.cap_prog.specs.WellFormed.{IsWellFormed}
+use Rattle.cap_resolve_spec.specs.Stands.{Stands}
+use Rattle.cap_rules.specs.Valid.{Valid}
 use Rattle.cap_goal_spec.specs.Choices.{PlainTree}
 use Rattle.cap_account.specs.Law.{DerivationsAreSound}
 use Rattle.cap_deriv_write.specs.Spelled.{AreLines}
@@ -14,9 +18,9 @@ use Rattle.cap_owners_spec.specs.Traced.{Traced, traced, past_width, untold}
 use Rattle.cap_owners_spec.specs.Track.{Track}
 use Rattle.cap_owners_spec.specs.Steps.{Proved}
 use Rattle.cap_owners_spec.specs.Start.{first_track}
-use Rattle.cap_owners_spec.specs.Texts.{account_text}
 use Rattle.cap_owners_spec.specs.Owners.{shown, owned_from, start_line, begun}
-use Rattle.cap_owners_laws.specs.Laws.{RunsAreTheMachines, StartsAreExact}
+use Rattle.cap_owners_laws.specs.Laws.{StartsAreExact}
+use Rattle.cap_owners_laws.specs.Owned.{IsTextual, IsOwnedText, TextsAreOwned}
 use Rattle.cap_top_commands.specs.Owners.{owned_along}
 use Rattle.cap_top_commands.specs.Schedules.{TakesArguments}
 use Rattle.cap_top_commands.proofs.Accepting.{ReadingsAreLines}
@@ -51,28 +55,26 @@ module _ (p : PlainProgram) (trees : List (Option PlainTree)) (s : Progress) (ta
 
   -- ---- the text
 
-  begins : StartsAreExact → RunsAreTheMachines → IsPositive (heap_of s) → (t : Traced (Option Track))
-      → first_track proved s.args (heap_of s) ≡ t → (r : RunText) → begun from-start t ≡ Some r → ShowsOwners p s r
-  begins exact runs positive (traced None) e r h = not-none r (sym h)
-  begins exact runs positive (traced (Some k)) e r h =
-      let more : RunText = owned_from proved 0 (start_of p s) s.entries k in
-      let m = exact.met proved the-main.main s.args (heap_of s) k the-main.is_main the-main.arity positive e in
-      inl (record {
-        main = the-main.main;
-        fixed = m.0;
-        starts = m.1;
-        run = more;
-        shown = runs proved 0 (start_of p s) s.entries k m.3;
-        whole = sym (same-value (in_front start_line (from-start k)) r h)
-            ∙ ap (λ a. in_front start_line (in_front (account_text p (start_of p s) a) more)) m.2;
-      })
-  begins exact runs positive past_width e r h = inr (inl (sym (same-value _ r h)))
-  begins exact runs positive untold e r h = inr (inr (sym (same-value _ r h)))
+  from-owned : (r : RunText) → IsOwnedText p trees s.args (heap_of s) s.entries (Some r) → ShowsOwners p trees s r
+  from-owned r (inl wide) = inr wide
+  from-owned r (inr h) = inl (record {
+    main = h.0;
+    fixed = h.1;
+    track = h.2;
+    run = h.3;
+    starts = h.4;
+    first = h.5;
+    begins = h.6;
+    shown = h.7;
+    whole = h.8;
+  })
 
-  pub shows_owners : StartsAreExact → RunsAreTheMachines → IsPositive (heap_of s) → (r : RunText) → owned_along p trees s ≡ Some r
-      → ShowsOwners p s r
+  pub shows_owners : TextsAreOwned → IsWellFormed p → IsTextual p → Valid p trees → IsPositive (heap_of s) → (r : RunText)
+      → owned_along p trees s ≡ Some r → ShowsOwners p trees s r
   unfolding owned_along
-  shows_owners exact runs positive r e = begins exact runs positive (first_track proved s.args (heap_of s)) refl r e
+  shows_owners owned well textual valid positive r e =
+      from-owned r (subst (IsOwnedText p trees s.args (heap_of s) s.entries) e
+      (owned p trees s.args (heap_of s) s.entries well textual valid the-main.main the-main.is_main the-main.arity positive))
 
   -- ---- no start
 
@@ -94,8 +96,9 @@ module _ (p : PlainProgram) (trees : List (Option PlainTree)) (s : Progress) (ta
 pub starts_refused : StartsAreExact → RefusedStartsAreNone
 starts_refused exact p trees s takes e = no_start p trees s takes exact e
 
-pub owners_told : DerivationsAreSound → ReadingsAreLines → TextsAreFormed → RunsAreTheMachines → StartsAreExact → OwnersAreTold
-owners_told sound readings formed runs exact bytes lines entries p n cs o t told said r e = record {
+pub owners_told : DerivationsAreSound → ReadingsAreLines → TextsAreFormed → TextsAreOwned
+    → ((t : ProgramTree) (p : PlainProgram) → Stands t p → IsTextual p) → OwnersAreTold
+owners_told sound readings formed owned textual bytes lines entries p n cs o t told said r e = record {
   accepted = record {
     text = safe_text sound formed bytes p t said.trees said.valid;
     trees = said.trees;
@@ -105,6 +108,6 @@ owners_told sound readings formed runs exact bytes lines entries p n cs o t told
   };
   has = said.has;
   whole = e;
-  shows = shows_owners p said.trees said.has.schedule said.has.takes exact runs
+  shows = shows_owners p said.trees said.has.schedule said.has.takes owned (formed bytes p t) (textual t.tree p t.stands) said.valid
       (addresses_are_positive entries said.has.schedule said.has.reads) r e;
 }

@@ -10,12 +10,13 @@ use Rattle.cap_kernel_check.specs.Owed.{preorder}
 use Rattle.cap_machine.specs.Machine.{Heap, Configuration, start}
 use Rattle.cap_machine_accounts.specs.Assertions.{NameValue}
 use Rattle.cap_machine_accounts.specs.Safety.{first_account, Start}
-use Rattle.cap_replay.specs.declared.playing.End.TheVariants.{Stopped, Wide}
+use Rattle.cap_replay.specs.declared.playing.End.TheVariants.{Wide}
 use Rattle.cap_replay.specs.Reading.{Progress}
 use Rattle.cap_replay.specs.RunText.{RunText, ends, in_front}
+use Rattle.cap_owners_spec.specs.Track.{Track, account_of}
 use Rattle.cap_owners_spec.specs.Texts.{account_text}
 use Rattle.cap_owners_spec.specs.Owners.{start_line}
-use Rattle.cap_owners_laws.specs.Laws.{ShowsRun}
+use Rattle.cap_owners_laws.specs.Owned.{IsTrackOf, proved, ShowsOwned}
 use Rattle.cap_top_reading.specs.Refused.{IsTextOf}
 use Rattle.cap_top_commands.specs.Answers.{AreAccepted}
 use Rattle.cap_top_commands.specs.Good.{IsAccepted}
@@ -34,23 +35,29 @@ start_of p s = start p s.args (heap_of s)
 
 -- The arguments and the heap are a start of `main` at some values of its names. The text begins
 -- with the account of that start, in which `main` has the whole heap, and goes on along the
--- machine's run: each step has its line, and behind it comes one account, with an entry for each
--- frame.
-pub record ShowsFrom (p : PlainProgram) (s : Progress) (r : RunText) : Type 0 where
+-- machine's run: no step is a fault, each has its line, and behind it comes the account after it,
+-- which is valid and follows the one before by this step, and by which the contract is met where
+-- the step is a call, a fork or a return. Each account has a track: each frame is at a node of the
+-- derivation whose state holds of it. The run ends where the machine's does, or where a number is
+-- too wide.
+pub record ShowsFrom (p : PlainProgram) (trees : List (Option PlainTree)) (s : Progress)
+    (r : RunText) : Type 0 where
   pub main : PlainFunction
   pub fixed : List NameValue
   pub starts : Start p main s.args (heap_of s) fixed
+  pub track : Track
+  pub first : account_of track ≡ first_account (heap_of s) fixed
+  pub begins : IsTrackOf (proved p trees) (start_of p s) track
   pub run : RunText
-  pub shown : ShowsRun p 0 (start_of p s) s.entries run
+  pub shown : ShowsOwned (proved p trees) 0 (start_of p s) track s.entries run
   pub whole :
       r
       ≡ in_front start_line
-      (in_front (account_text p (start_of p s) (first_account (heap_of s) fixed)) run)
+      (in_front (account_text p (start_of p s) (account_of track)) run)
 
--- or it ends before its first account, at a number that is too wide, or as a derivation doesn't
--- tell of its start
-abbrev pub ShowsOwners : PlainProgram → Progress → RunText → Type 0
-ShowsOwners p s r = ShowsFrom p s r ⊎ ((r ≡ ends (Wide 0)) ⊎ (r ≡ ends (Stopped 0)))
+-- or it ends before its first account, at a number that is too wide
+abbrev pub ShowsOwners : PlainProgram → List (Option PlainTree) → Progress → RunText → Type 0
+ShowsOwners p trees s r = ShowsFrom p trees s r ⊎ (r ≡ ends (Wide 0))
 
 -- The first bytes are the text of a safe program, the second the lines of a valid derivation of all
 -- its units, the third a schedule for it, and the text is that of the run along it with its
@@ -59,7 +66,7 @@ pub record TellsOwners (bytes lines entries : List ℕ) (r : RunText) : Type 0 w
   pub accepted : IsAccepted bytes lines
   pub has : HasSchedule accepted.text.program entries
   pub whole : owned_along accepted.text.program accepted.trees has.schedule ≡ Some r
-  pub shows : ShowsOwners accepted.text.program has.schedule r
+  pub shows : ShowsOwners accepted.text.program accepted.trees has.schedule r
 
 -- so it is with what is said of a run
 abbrev pub OwnersAreTold : Type 0

@@ -6,20 +6,22 @@ ghost use Rattle.cap_top_accounts.specs.Laws.{OwnersAreTold, RefusedStartsAreNon
 use cap_account::derivations_are_sound;
 use cap_deriv_write::readings_are_lines;
 use cap_kernel_check::judged_are_valid;
-use cap_owners_laws::{runs_are_the_machines, starts_are_exact};
+use cap_owners_laws::starts_are_exact;
+use cap_owners_runs_laws::{programs_are_textual, texts_are_owned};
 use cap_top_reading::programs_of_texts_are_well_formed;
 
 /// A law: what `owners` says of the text of a program, where it is the text of a run, is what that
-/// program's run along the schedule writes, with its accounts by a valid derivation: each step has
-/// its line, and behind it comes an account with an entry for each frame.
+/// program's run along the schedule writes, with its accounts by a valid derivation: no step is a
+/// fault, each has its line, and behind it comes the account after it, which is valid, has a track
+/// along the derivation, and follows the one before.
 pub fn owners_are_told()
     ensures { OwnersAreTold }
 {
     derivations_are_sound();
     readings_are_lines();
     programs_of_texts_are_well_formed();
-    runs_are_the_machines();
-    starts_are_exact();
+    texts_are_owned();
+    programs_are_textual();
 }
 
 /// A law: a start is refused only where it is none: whatever values the names of `main`'s
