@@ -18,21 +18,14 @@ use std::alloc::{AllocError, Global};
 /// Where it is said that there is no `main`.
 const FIRST_PLACE: Place = Place { line: 1, column: 1 };
 
-/// A name in memory of its own.
-fn own(alloc: Global, name: &[u8]) -> Result<Text, AllocError>
-    ensures { IfOk result (λ text. text ≡ name.now) }
-{
-    Ok(Text::new(Vec::from_slice(alloc, name)?))
-}
-
 /// The refusal by a finding.
 fn refusal(alloc: Global, finding: &Finding<'_>) -> Result<ResolveError, AllocError>
     ensures { IfOk result (λ e. error_view e ≡ Some (finding_view finding.now)) }
 {
     let place = finding.place;
     match finding.cause {
-        Cause::Unknown(name) => Ok(ResolveError::Unknown(own(alloc, name)?, place)),
-        Cause::Twice(name) => Ok(ResolveError::Twice(own(alloc, name)?, place)),
+        Cause::Unknown(name) => Ok(ResolveError::Unknown(Text::from_slice(alloc, name)?, place)),
+        Cause::Twice(name) => Ok(ResolveError::Twice(Text::from_slice(alloc, name)?, place)),
         Cause::Arity => Ok(ResolveError::Arity(place)),
         Cause::Sort => Ok(ResolveError::Sort(place)),
         Cause::NonLinear => Ok(ResolveError::NonLinear(place)),

@@ -89,7 +89,7 @@ fn next_token(alloc: Global, rest: &[u8], place: Place) -> Result<Token, TokenEr
     if begins_barred(kind, after) {
         return Err(TokenError::BadByte(moved(place, text)));
     }
-    let text = Text::new(Vec::from_slice(alloc, text)?);
+    let text = Text::from_slice(alloc, text)?;
     Ok(Token {
         kind,
         text,
@@ -117,7 +117,7 @@ fn scan(alloc: Global, bytes: &[u8]) -> Result<Vec<Token>, TokenError>
     }
     tokens.push(Token {
         kind: TokenKind::End,
-        text: Text::new(Vec::new(alloc)),
+        text: Text::empty(alloc),
         value: 0,
         place,
     })?;

@@ -1,13 +1,15 @@
 //! Bytes of a text, as contracts see them.
-ghost use Rattle.std.specs.Prelude.{◌≡◌, IfOk};
+ghost use Rattle.std.specs.Prelude.{◌≡◌, [], IfOk};
 
+use smallvec::SmallVec;
 use std::alloc::{AllocError, Global};
 use std::marker::Model;
 
-/// The bytes of a token. Contracts see them as their list.
+/// The bytes of a token, up to 16 of them with no memory of their own. Contracts see them as their
+/// list.
 #[derive(Debug, Drop)]
 pub struct Text {
-    bytes: Vec<u8>,
+    bytes: SmallVec<u8, 16>,
 }
 
 impl Model for Text {
@@ -19,31 +21,36 @@ impl Model for Text {
 }
 
 impl Text {
-    /// The text of these bytes. Takes no memory.
-    pub fn new(bytes: Vec<u8>) -> Text
-        ensures { result ≡ bytes.items }
+    /// The text of these bytes, if there is enough memory.
+    pub fn from_slice(alloc: Global, bytes: &[u8]) -> Result<Text, AllocError>
+        ensures { IfOk result (λ text. text ≡ bytes.now) }
     {
-        Text { bytes }
+        Ok(Text {
+            bytes: SmallVec::from_slice(alloc, bytes)?,
+        })
     }
 
-    /// Gives the bytes back. Takes no memory.
-    pub fn into_bytes(self) -> Vec<u8>
-        ensures { result.items ≡ self }
+    /// The text without bytes. Takes no memory.
+    pub fn empty(alloc: Global) -> Text
+        ensures { result ≡ [] }
     {
-        self.bytes
+        Text {
+            bytes: SmallVec::new(alloc),
+        }
     }
 
     /// The bytes, to read.
+    #[inline]
     pub fn as_bytes(&self) -> &[u8]
         ensures { result.now ≡ self.now }
     {
         self.bytes.as_slice()
     }
 
-    /// The same bytes in memory of their own, if there is enough of it.
+    /// The same bytes, in memory of their own where they take some, if there is enough of it.
     pub fn copy(&self, alloc: Global) -> Result<Text, AllocError>
         ensures { IfOk result (λ copy. copy ≡ self.now) }
     {
-        Ok(Text::new(Vec::from_slice(alloc, self.bytes.as_slice())?))
+        Text::from_slice(alloc, self.as_bytes())
     }
 }

@@ -13,7 +13,7 @@ const PLACE: Place = Place { line: 1, column: 1 };
 
 fn word(alloc: Global, text: &[u8]) -> Result<Word, AllocError> {
     Ok(Word {
-        text: Text::new(Vec::from_slice(alloc, text)?),
+        text: Text::from_slice(alloc, text)?,
         place: PLACE,
     })
 }
@@ -21,7 +21,7 @@ fn word(alloc: Global, text: &[u8]) -> Result<Word, AllocError> {
 // A term that is one number.
 fn number(alloc: Global, text: &[u8], value: u64) -> Result<Term, AllocError> {
     let literal = Literal {
-        text: Text::new(Vec::from_slice(alloc, text)?),
+        text: Text::from_slice(alloc, text)?,
         value,
         place: PLACE,
     };

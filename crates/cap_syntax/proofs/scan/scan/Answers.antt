@@ -49,7 +49,7 @@ loop-rest-preserved c = record {
 
 whole : (c : In_ok-push-2) → AreTokensOf c.args.bytes.now c.push-2.new.self.items
 whole c =
-    all_are_read c.args.bytes.now c.loop-rest.tokens.items c.push-2.new.self.items c.loop-rest.rest.now c.loop-rest.place c.loop-rest.invariant.read c.loop-rest.invariant.stands (eqb-true _ 0 (sym c.is_empty.ensures ∙ c.loop-rest-test.false)) (c.in_ok-push-2.ensures.items ∙ ap (λ (t : List ℕ). c.loop-rest.tokens.items ++ (record { kind = End; text = t; value = 0; place = c.loop-rest.place }) ∷ []) (c.new-2.ensures ∙ c.new.ensures.items))
+    all_are_read c.args.bytes.now c.loop-rest.tokens.items c.push-2.new.self.items c.loop-rest.rest.now c.loop-rest.place c.loop-rest.invariant.read c.loop-rest.invariant.stands (eqb-true _ 0 (sym c.is_empty.ensures ∙ c.loop-rest-test.false)) (c.in_ok-push-2.ensures.items ∙ ap (λ (t : List ℕ). c.loop-rest.tokens.items ++ (record { kind = End; text = t; value = 0; place = c.loop-rest.place }) ∷ []) c.empty.ensures)
 
 pub returns : goal.returns
 returns c = (omega arith, whole c)
