@@ -1,3 +1,4 @@
+pub mod Lengths
 pub mod Longest
 pub mod Numbers
 pub mod Gaps

@@ -1,56 +1,50 @@
 //! The longest token at a place, and its value.
 // The longest token at the front of a text.
 
-ghost use Rattle.std.specs.Prelude.{◌≡◌, ℕ, ◌<◌, ◌≤◌, ◌&&◌, false, length, take, nat_le, IsTrue, MatchOption, slice_index};
+ghost use Rattle.std.specs.Prelude.{◌≡◌, ℕ, ◌<◌, ◌≤◌, ◌&&◌, false, length, map, take, nat_le, IsTrue, MatchOption, slice_index};
 ghost use Rattle.std.specs.List.{prefix_len, list_all};
 ghost use Rattle.std.specs.Char.{is_ascii_alphabetic, is_ascii_digit};
 ghost use Rattle.cap_syntax.specs.Spelling.{keywords, symbols, is_one_of, is_word_byte, max_literal, number_of, value_of, spells, begins_barred, IsLongest, StartsNone};
 
 use crate::token::TokenKind;
 
-const KEYWORDS: [&[u8]; 21] = [
-    b"region",
-    b"function",
-    b"requires",
-    b"ensures",
-    b"guards",
-    b"interpretation",
-    b"actions",
-    b"when",
-    b"fork",
-    b"if",
-    b"else",
-    b"while",
-    b"invariant",
-    b"assert",
-    b"return",
-    b"alloc",
-    b"CAS",
-    b"true",
-    b"false",
-    b"src",
-    b"tok",
-];
-
-const SYMBOLS: [&[u8]; 26] = [
-    b"(", b")", b"{", b"}", b"[", b"]", b",", b";", b":", b":=", b"=", b"!=", b"<", b"<=", b">",
-    b">=", b"+", b"-", b"*", b"%", b"@", b"?", b"|", b"|->", b"&*&", b"~>",
-];
-
 const MAX_LITERAL: u64 = 9223372036854775807;
 
-#[tactic(auto, unfolding(crate::specs::Spelling::keywords))]
+// Whether the text is one of these words.
+fn is_any(text: &[u8], words: &[&[u8]]) -> bool
+    ensures { result ≡ is_one_of (map (λ word. word.now) words.now) text.now }
+{
+    words.contains(&text)
+}
+
+// Whether the text is a keyword. Only those of its length are compared with it.
 fn is_keyword(text: &[u8]) -> bool
     ensures { result ≡ is_one_of keywords text.now }
 {
-    KEYWORDS.contains(&text)
+    match text.len() {
+        2 => is_any(text, &[b"if"]),
+        3 => is_any(text, &[b"CAS", b"src", b"tok"]),
+        4 => is_any(text, &[b"when", b"fork", b"else", b"true"]),
+        5 => is_any(text, &[b"while", b"alloc", b"false"]),
+        6 => is_any(text, &[b"region", b"guards", b"assert", b"return"]),
+        7 => is_any(text, &[b"ensures", b"actions"]),
+        8 => is_any(text, &[b"function", b"requires"]),
+        9 => is_any(text, &[b"invariant"]),
+        14 => is_any(text, &[b"interpretation"]),
+        _ => false,
+    }
 }
 
-#[tactic(auto, unfolding(crate::specs::Spelling::symbols))]
+// Whether the text is a symbol. Only those of its length are compared with it.
 fn is_symbol(text: &[u8]) -> bool
     ensures { result ≡ is_one_of symbols text.now }
 {
-    SYMBOLS.contains(&text)
+    match text.len() {
+        1 => b"(){}[],;:=<>+-*%@?|".contains(&text[0]),
+        2 => is_any(text, &[b":=", b"!=", b"<=", b">=", b"~>"]),
+        3 => is_any(text, &[b"|->", b"&*&"]),
+        _ => false,
+    }
 }
 
 fn is_word_byte(byte: u8) -> bool
