@@ -14,6 +14,67 @@ use crate::numbered::numbered_row;
 use cap_farkas::Multipliers;
 use cap_lin::{Kind, Row, Term};
 use std::alloc::{AllocError, Global};
+use std::marker::Model;
+
+// The multipliers of a row are made where it is on the way. Most rows aren't.
+#[derive(Drop)]
+enum TermSlot {
+    Made(Box<Term>),
+    Unmade,
+}
+
+// What there is of the multipliers of a row of a history: 0 where they aren't made.
+#[derive(Drop)]
+struct RowTerm {
+    slot: TermSlot,
+}
+
+impl Model for RowTerm {
+    ghost use Rattle.cap_lin.specs.Linear.{Linear};
+    ghost use Rattle.cap_fm.specs.Terms.{slot_term};
+
+    ghost Value = { Linear };
+
+    ghost view = { λ t. slot_term t.slot };
+}
+
+impl RowTerm {
+    fn unmade() -> RowTerm
+        ensures { result ≡ number (pos 0) }
+    {
+        RowTerm {
+            slot: TermSlot::Unmade,
+        }
+    }
+
+    fn made(alloc: Global, term: Term) -> Result<RowTerm, AllocError>
+        ensures { IfOk result (λ t. t ≡ term) }
+    {
+        Ok(RowTerm {
+            slot: TermSlot::Made(Box::new(alloc, term)?),
+        })
+    }
+
+    // The term, for which a 0 is lent.
+    fn term<'t>(&'t self, zero: &'t Term) -> &'t Term
+        requires { zero.now ≡ number (pos 0) }
+        ensures { result.now ≡ self.now }
+    {
+        match &self.slot {
+            TermSlot::Made(term) => term,
+            TermSlot::Unmade => zero,
+        }
+    }
+
+    fn into_term(self, alloc: Global) -> Term
+        ensures { result ≡ self }
+    {
+        match self.slot {
+            TermSlot::Made(term) => Box::into_inner(term),
+            TermSlot::Unmade => Term::constant(alloc, 0),
+        }
+    }
+}
 
 /// The leaf of a false row: its multiples of the input rows, which are rows and more behind them.
 /// Wide has the first result that leaves 128 bits: of the multipliers of the rows on the way, in
@@ -84,17 +145,28 @@ fn multipliers(alloc: Global, history: &[Origin], last: usize) -> Result<Term, S
     let mut terms = Vec::with_capacity(alloc, history.len())?;
     for place in 0..history.len() {
         let term = if way[place] {
-            own(alloc, history[place], &terms)?
+            own_slot(alloc, history[place], &terms)?
         } else {
-            Term::constant(alloc, 0)
+            RowTerm::unmade()
         };
         terms.push(term)?;
     }
-    Ok(terms.swap_remove(last))
+    Ok(terms.swap_remove(last).into_term(alloc))
+}
+
+fn own_slot(alloc: Global, origin: Origin, terms: &[RowTerm]) -> Result<RowTerm, SolveError>
+    requires { RowsBelow (length terms.now) (origin_view origin) }
+    ensures { IsMadeBy
+        (own_steps (origin_view origin) (term_at terms.now))
+        (multipliers_of (origin_view origin) (term_at terms.now))
+        result }
+{
+    let term = own(alloc, origin, terms)?;
+    Ok(RowTerm::made(alloc, term)?)
 }
 
 // The multipliers of a row, by those of the rows that it is a combination of.
-fn own(alloc: Global, origin: Origin, terms: &[Term]) -> Result<Term, SolveError>
+fn own(alloc: Global, origin: Origin, terms: &[RowTerm]) -> Result<Term, SolveError>
     requires { RowsBelow (length terms.now) (origin_view origin) }
     ensures { IsMadeBy
         (own_steps (origin_view origin) (term_at terms.now))
@@ -104,7 +176,10 @@ fn own(alloc: Global, origin: Origin, terms: &[Term]) -> Result<Term, SolveError
     match origin {
         Origin::Given(number) => Ok(Term::var(alloc, number)?),
         Origin::Combined(a, first, b, second) => {
-            Ok(terms[first].combination(alloc, a, &terms[second], b)?)
+            let zero = Term::constant(alloc, 0);
+            let left = terms[first].term(&zero);
+            let right = terms[second].term(&zero);
+            Ok(left.combination(alloc, a, right, b)?)
         }
     }
 }

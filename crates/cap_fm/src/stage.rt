@@ -179,6 +179,8 @@ impl<'a> Stage<'a> {
         self.count_form(Form { kind, term })
     }
 
+    // Most calls are for input rows. It stands in the loop over these, which takes less time.
+    #[inline(always)]
     fn count_form(&mut self, form: Form<'a>) -> Result<usize, SolveError>
         ensures { (inputs : ℕ) (present : List Entry) → IsStageOf inputs self.old present →
             DoesCount inputs self.old self.new present form.entry.0 form.entry.1 result }

@@ -11,8 +11,8 @@ use Rattle.cap_fm.proofs.leaf.multipliers.Goals as goal
 pub loop-place-init : goal.loop-place-init
 loop-place-init c = begun _ _ _ _ c.requires.history c.in_ok-way.ensures c.in_ok-terms.ensures.items
 
-pub own-requires : goal.own-requires
-own-requires c = rows-here _ _ _ _ _ _ _ c.loop-place.invariant c.loop-place-test.true c.deref.ensures.value
+pub own_slot-requires : goal.own_slot-requires
+own_slot-requires c = rows-here _ _ _ _ _ _ _ c.loop-place.invariant c.loop-place-test.true c.deref.ensures.value
 
 pub returns-in_err-term : goal.returns-in_err-term
 returns-in_err-term c =
@@ -34,4 +34,4 @@ pub returns : goal.returns
 returns c =
     let l : length c.args.history.now ≤ c.loop-place.place = omega arith in
     let k : c.args.last < length c.loop-place.terms.items = omega (arith, c.loop-place.invariant.count) in
-    ends _ _ _ _ _ _ c.in_ok-way.ensures c.loop-place.invariant l k c.swap_remove.ensures.value
+    ends _ _ _ _ _ _ c.in_ok-way.ensures c.loop-place.invariant l k (rw c.into_term.ensures c.swap_remove.ensures.value)

@@ -12,7 +12,7 @@ returns-in_err-combination-in-Combined c =
     let f : SFits w128 c.in-Combined.a = search rules in
     let g : SFits w128 c.in-Combined.b = search rules in
     let p = err_from_is_err_and c.from_residual-in_err-combination-in-Combined.result c.from_residual-in_err-combination-in-Combined.ensures.1 in
-    rw (p.1, p.2) (combination-fails _ _ _ _ _ _ _ _ _ _ _ (ap origin_view c.in-Combined.is) c.requires (to_z-of_z _ _ f) (to_z-of_z _ _ g) c.index-terms-first.is c.index-terms-second.is c.in_err-combination-in-Combined.ensures.exact)
+    rw (p.1, p.2) (combination-fails _ _ _ _ _ _ _ _ _ _ _ (ap origin_view c.in-Combined.is) c.requires (to_z-of_z _ _ f) (to_z-of_z _ _ g) (rw c.term-left.ensures c.index-terms-first.is) (rw c.term-right.ensures c.index-terms-second.is) c.in_err-combination-in-Combined.ensures.exact)
 
 pub returns-in_ok-var-in-Given : goal.returns-in_ok-var-in-Given
 returns-in_ok-var-in-Given c = (given-narrow _ _ _ (ap origin_view c.in-Given.is), rw c.in-Given.is c.in_ok-var-in-Given.ensures)
