@@ -24,7 +24,7 @@ use std::alloc::Global;
 // How many bytes an elimination of few rows takes, and how many more for each row.
 const ROOM: usize = 512;
 
-const ROOM_OF_ROW: usize = 160;
+const ROOM_OF_ROW: usize = 256;
 
 /// Eliminates the variables of the rows that are not Ne, of rows and more rows behind them: the
 /// leaf of a contradiction, if there is one.

@@ -160,7 +160,12 @@ fn replace_all<'a>(
     for row in rows {
         let own = stage.term(row.number).coefficient(variable);
         if own == 0 {
-            replaced.push(row)?;
+            // Moved as a whole, a row would take the bytes between its fields along.
+            replaced.push(Present {
+                kind: row.kind,
+                origin: row.origin,
+                number: row.number,
+            })?;
         } else {
             match replace(alloc, stage, row, own, equation, coefficient)? {
                 Arisen::LeftOut => {}
