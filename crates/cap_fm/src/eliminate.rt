@@ -38,7 +38,10 @@ pub fn refuted(alloc: Global, rows: &[Row], more: &[Row]) -> Result<Option<Multi
     let mut stage = Stage::with_room(alloc, &bump, count)?;
     match eliminated(alloc, &mut stage, rows, more)? {
         Reached::Rows(_) => Ok(None),
-        Reached::Contradiction(row) => Ok(Some(leaf(alloc, rows, more, stage.history(), row)?)),
+        Reached::Contradiction(row) => {
+            let leaf = leaf(alloc, &bump, rows, more, stage.history(), row)?;
+            Ok(Some(leaf))
+        }
     }
 }
 

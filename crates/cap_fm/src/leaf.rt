@@ -11,6 +11,7 @@ ghost use Rattle.cap_fm.specs.Way.{IsWay, AreEarlier, RowsBelow, steps_of, with_
 use crate::entry::{FalseRow, Origin};
 use crate::error::SolveError;
 use crate::numbered::numbered_row;
+use bumpalo::Bump;
 use cap_farkas::Multipliers;
 use cap_lin::{Kind, Row, Term};
 use std::alloc::{AllocError, Global};
@@ -18,18 +19,18 @@ use std::marker::Model;
 
 // The multipliers of a row are made where it is on the way. Most rows aren't.
 #[derive(Drop)]
-enum TermSlot {
-    Made(Box<Term>),
+enum TermSlot<'b> {
+    Made(Box<Term, &'b Bump>),
     Unmade,
 }
 
 // What there is of the multipliers of a row of a history: 0 where they aren't made.
 #[derive(Drop)]
-struct RowTerm {
-    slot: TermSlot,
+struct RowTerm<'b> {
+    slot: TermSlot<'b>,
 }
 
-impl Model for RowTerm {
+impl<'b> Model for RowTerm<'b> {
     ghost use Rattle.cap_lin.specs.Linear.{Linear};
     ghost use Rattle.cap_fm.specs.Terms.{slot_term};
 
@@ -38,8 +39,8 @@ impl Model for RowTerm {
     ghost view = { λ t. slot_term t.slot };
 }
 
-impl RowTerm {
-    fn unmade() -> RowTerm
+impl<'b> RowTerm<'b> {
+    fn unmade() -> RowTerm<'b>
         ensures { result ≡ number (pos 0) }
     {
         RowTerm {
@@ -47,11 +48,11 @@ impl RowTerm {
         }
     }
 
-    fn made(alloc: Global, term: Term) -> Result<RowTerm, AllocError>
+    fn made(bump: &'b Bump, term: Term) -> Result<RowTerm<'b>, AllocError>
         ensures { IfOk result (λ t. t ≡ term) }
     {
         Ok(RowTerm {
-            slot: TermSlot::Made(Box::new(alloc, term)?),
+            slot: TermSlot::Made(Box::new(bump, term)?),
         })
     }
 
@@ -67,7 +68,7 @@ impl RowTerm {
     }
 
     fn into_term(self, alloc: Global) -> Term
-        ensures { result ≡ self }
+        ensures { result ≡ self.entry }
     {
         match self.slot {
             TermSlot::Made(term) => Box::into_inner(term),
@@ -76,12 +77,14 @@ impl RowTerm {
     }
 }
 
-/// The leaf of a false row: its multiples of the input rows, which are rows and more behind them.
+/// The leaf of a false row: its multiples of the input rows, which are rows and more behind them. What
+/// is needed on the way alone is in the arena.
 /// Wide has the first result that leaves 128 bits: of the multipliers of the rows on the way, in
 /// the order in which these arose, of their negatives, and then of the sum by which the leaf is
 /// checked.
 pub fn leaf(
     alloc: Global,
+    bump: &Bump,
     rows: &[Row],
     more: &[Row],
     history: &[Origin],
@@ -94,19 +97,23 @@ pub fn leaf(
         (leaf_of (history_view history.now) (false_view row)).parts
         result }
 {
-    let multipliers = multipliers(alloc, history, row.origin)?;
+    let multipliers = multipliers(alloc, bump, history, row.origin)?;
     let multipliers = turned(alloc, row.kind, row.constant, multipliers)?;
     checked(alloc, rows, more, &multipliers)
 }
 
 // Marks the rows of the history that are on the way to the one at a place. An input row's mark has
 // no effect, since its multipliers take no results.
-fn way(alloc: Global, history: &[Origin], last: usize) -> Result<Vec<bool>, AllocError>
+fn way<'b>(
+    bump: &'b Bump,
+    history: &[Origin],
+    last: usize,
+) -> Result<Vec<bool, &'b Bump>, AllocError>
     requires history { AreEarlier 0 (map origin_view history.now) }
     requires last { last + 1 ≡ length history.now }
     ensures { IfOk result (λ way. IsWay (map origin_view history.now) last way.items) }
 {
-    let mut way = Vec::with_capacity(alloc, history.len())?;
+    let mut way = Vec::with_capacity(bump, history.len())?;
     way.resize(history.len(), false)?;
     way[last] = true;
     for place in (0..history.len()).rev() {
@@ -133,7 +140,12 @@ fn mark(way: &mut [bool], origin: Origin)
 
 // The multipliers of the row at a place, as a term whose variables are the numbers of the input
 // rows.
-fn multipliers(alloc: Global, history: &[Origin], last: usize) -> Result<Term, SolveError>
+fn multipliers(
+    alloc: Global,
+    bump: &Bump,
+    history: &[Origin],
+    last: usize,
+) -> Result<Term, SolveError>
     requires history { AreEarlier 0 (map origin_view history.now) }
     requires last { last + 1 ≡ length history.now }
     ensures { IsMadeBy
@@ -141,11 +153,11 @@ fn multipliers(alloc: Global, history: &[Origin], last: usize) -> Result<Term, S
         (multipliers_at (history_view history.now) last)
         result }
 {
-    let way = way(alloc, history, last)?;
-    let mut terms = Vec::with_capacity(alloc, history.len())?;
+    let way = way(bump, history, last)?;
+    let mut terms = Vec::with_capacity(bump, history.len())?;
     for place in 0..history.len() {
         let term = if way[place] {
-            own_slot(alloc, history[place], &terms)?
+            own_slot(alloc, bump, history[place], &terms)?
         } else {
             RowTerm::unmade()
         };
@@ -154,7 +166,14 @@ fn multipliers(alloc: Global, history: &[Origin], last: usize) -> Result<Term, S
     Ok(terms.swap_remove(last).into_term(alloc))
 }
 
-fn own_slot(alloc: Global, origin: Origin, terms: &[RowTerm]) -> Result<RowTerm, SolveError>
+// It stands apart, so that the loop, which passes by most rows, is short.
+#[inline(never)]
+fn own_slot<'b>(
+    alloc: Global,
+    bump: &'b Bump,
+    origin: Origin,
+    terms: &[RowTerm<'b>],
+) -> Result<RowTerm<'b>, SolveError>
     requires { RowsBelow (length terms.now) (origin_view origin) }
     ensures { IsMadeBy
         (own_steps (origin_view origin) (term_at terms.now))
@@ -162,7 +181,7 @@ fn own_slot(alloc: Global, origin: Origin, terms: &[RowTerm]) -> Result<RowTerm,
         result }
 {
     let term = own(alloc, origin, terms)?;
-    Ok(RowTerm::made(alloc, term)?)
+    Ok(RowTerm::made(bump, term)?)
 }
 
 // The multipliers of a row, by those of the rows that it is a combination of.

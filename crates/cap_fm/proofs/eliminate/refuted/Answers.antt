@@ -21,4 +21,4 @@ returns-in_err-leaf-in-Contradiction c =
 pub returns : goal.returns
 returns c =
     let a = rw c.in-Contradiction.is at (c.in_ok-eliminated.ensures (c.in_ok-stage.ensures.fits _)) in
-    code-some (c.args.rows.now ++ c.args.more.now) (stage_view c.in_ok-stage.stage) (false_view c.in-Contradiction.row) c.eliminated.new.stage c.history.result.now c.in_ok-leaf-in-Contradiction.field-0 c.in_ok-stage.ensures.view c.history.ensures a.0 c.in_ok-leaf-in-Contradiction.ensures
+    code-some (c.args.rows.now ++ c.args.more.now) (stage_view c.in_ok-stage.stage) (false_view c.in-Contradiction.row) c.eliminated.new.stage c.history.result.now c.in_ok-leaf-in-Contradiction.leaf c.in_ok-stage.ensures.view c.history.ensures a.0 c.in_ok-leaf-in-Contradiction.ensures
