@@ -77,11 +77,10 @@ impl<'b> RowTerm<'b> {
     }
 }
 
-/// The leaf of a false row: its multiples of the input rows, which are rows and more behind them. What
-/// is needed on the way alone is in the arena.
-/// Wide has the first result that leaves 128 bits: of the multipliers of the rows on the way, in
-/// the order in which these arose, of their negatives, and then of the sum by which the leaf is
-/// checked.
+/// The leaf of a false row: its multiples of the input rows, which are rows and more behind them. The
+/// arena has what is made on the way. Wide has the first result that leaves 128 bits: of the
+/// multipliers of the rows on the way, in the order in which these arose, of their negatives, and
+/// then of the sum by which the leaf is checked.
 pub fn leaf(
     alloc: Global,
     bump: &Bump,
@@ -166,7 +165,7 @@ fn multipliers(
     Ok(terms.swap_remove(last).into_term(alloc))
 }
 
-// It stands apart, so that the loop, which passes by most rows, is short.
+// It stands apart, so that the loop that calls it, which passes by most rows, is short.
 #[inline(never)]
 fn own_slot<'b>(
     alloc: Global,
