@@ -330,11 +330,16 @@ impl<'a> Cursor<'a> {
     {
         let key = self.expect(class)?;
         let assertion = self.assertion(room)?;
-        let semicolon = self.expect(Class::Semicolon)?;
-        Ok(Clause {
-            key,
-            assertion,
-            semicolon,
-        })
+        match self.expect(Class::Semicolon) {
+            Ok(semicolon) => Ok(Clause {
+                key,
+                assertion,
+                semicolon,
+            }),
+            Err(stop) => {
+                drop(assertion);
+                Err(stop)
+            }
+        }
     }
 }

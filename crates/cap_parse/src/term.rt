@@ -17,6 +17,7 @@ ghost use Rattle.cap_parse_laws.specs.declared.class.Class.TheVariants.{Star, Mi
 ghost use Rattle.cap_parse.specs.Parts.{term_in_brackets_view, read_term_in_brackets};
 ghost use Rattle.cap_parse.specs.Parts.{slot_in_brackets_view, read_slot_in_brackets};
 ghost use Rattle.cap_parse.specs.Reads.{IsRead};
+ghost use Rattle.cap_parse.specs.Parts.{related};
 
 use crate::cursor::{Cursor, Stop};
 use cap_parse_laws::Class;
@@ -191,16 +192,23 @@ impl<'a> Cursor<'a> {
         }
     }
 
+    /// The place of the next token, which is this relation's.
+    fn related(&mut self, relation: Relation) -> Result<(Relation, Place), Stop>
+        ensures { IsRead (λ r. r) result self.new.rest (related relation self.old.rest) }
+    {
+        Ok((relation, self.next_place()?))
+    }
+
     fn relation(&mut self) -> Result<(Relation, Place), Stop>
         ensures { IsRead (λ r. r) result self.new.rest (read_relation self.old.rest) }
     {
         match self.ahead() {
-            Class::Equal => Ok((Relation::Equal, self.next_place()?)),
-            Class::Unequal => Ok((Relation::Unequal, self.next_place()?)),
-            Class::Less => Ok((Relation::Less, self.next_place()?)),
-            Class::AtMost => Ok((Relation::AtMost, self.next_place()?)),
-            Class::Greater => Ok((Relation::Greater, self.next_place()?)),
-            Class::AtLeast => Ok((Relation::AtLeast, self.next_place()?)),
+            Class::Equal => self.related(Relation::Equal),
+            Class::Unequal => self.related(Relation::Unequal),
+            Class::Less => self.related(Relation::Less),
+            Class::AtMost => self.related(Relation::AtMost),
+            Class::Greater => self.related(Relation::Greater),
+            Class::AtLeast => self.related(Relation::AtLeast),
             _ => Err(Stop::Unexpected),
         }
     }
