@@ -51,7 +51,13 @@ impl<'a> Cursor<'a> {
             Class::OpenBracket => {
                 let (inner, open) = self.opening(room, Class::OpenBracket)?;
                 let slot = self.slot(inner)?;
-                let close = self.expect(Class::CloseBracket)?;
+                let close = match self.expect(Class::CloseBracket) {
+                    Ok(close) => close,
+                    Err(stop) => {
+                        drop(slot);
+                        return Err(stop);
+                    }
+                };
                 Ok(GuardAtom::Amount(name, open, slot, close))
             }
             _ => Ok(GuardAtom::Alone(name)),

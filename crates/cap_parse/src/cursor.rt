@@ -1,5 +1,8 @@
 //! A cursor over tokens: what comes next, and the readers of single tokens.
 // The tokens that are still to be read, and the steps that every production takes.
+//
+// Where reading stops behind a large part, the reader gives that part to `drop`. One call is proved
+// soon; where the compiler lets a part go, it writes out a drop for each variant and each field.
 
 ghost use Rattle.std.specs.Prelude.{◌≡◌, Ok};
 ghost use Rattle.cap_parse_laws.specs.Classes.{are_same};

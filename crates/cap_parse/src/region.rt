@@ -179,7 +179,13 @@ impl<'a> Cursor<'a> {
     {
         let open = self.expect(Class::Open)?;
         let algebra = self.algebra(room)?;
-        let close = self.expect(Class::Close)?;
+        let close = match self.expect(Class::Close) {
+            Ok(close) => close,
+            Err(stop) => {
+                drop(algebra);
+                return Err(stop);
+            }
+        };
         Ok(Declared::Bracketed(open, Box::new(self.alloc, algebra)?, close))
     }
 
@@ -203,7 +209,13 @@ impl<'a> Cursor<'a> {
             (read_joint room (grouped_at room) self.old.rest) }
     {
         let first = self.declared(room)?;
-        let more = self.more_declared(room)?;
+        let more = match self.more_declared(room) {
+            Ok(more) => more,
+            Err(stop) => {
+                drop(first);
+                return Err(stop);
+            }
+        };
         Ok(Joint { first, more })
     }
 
@@ -227,7 +239,13 @@ impl<'a> Cursor<'a> {
             (read_algebra room self.old.rest) }
     {
         let first = self.joint(room)?;
-        let more = self.more_joints(room)?;
+        let more = match self.more_joints(room) {
+            Ok(more) => more,
+            Err(stop) => {
+                drop(first);
+                return Err(stop);
+            }
+        };
         Ok(Algebra { first, more })
     }
 
@@ -249,7 +267,13 @@ impl<'a> Cursor<'a> {
             (read_several Comma (read_comparison room) self.old.rest) }
     {
         let first = self.comparison(room)?;
-        let more = self.more_comparisons(room)?;
+        let more = match self.more_comparisons(room) {
+            Ok(more) => more,
+            Err(stop) => {
+                drop(first);
+                return Err(stop);
+            }
+        };
         Ok(Separated { first, more })
     }
 
@@ -329,7 +353,13 @@ impl<'a> Cursor<'a> {
             (read_action_end room self.old.rest) }
     {
         let when = self.optional_when(room)?;
-        let semicolon = self.expect(Class::Semicolon)?;
+        let semicolon = match self.expect(Class::Semicolon) {
+            Ok(semicolon) => semicolon,
+            Err(stop) => {
+                drop(when);
+                return Err(stop);
+            }
+        };
         Ok((when, semicolon))
     }
 

@@ -77,7 +77,13 @@ impl<'a> Cursor<'a> {
     {
         let open = self.expect(Class::Open)?;
         let term = self.term(room)?;
-        let close = self.expect(Class::Close)?;
+        let close = match self.expect(Class::Close) {
+            Ok(close) => close,
+            Err(stop) => {
+                drop(term);
+                return Err(stop);
+            }
+        };
         Ok(Factor::Bracketed(open, Box::new(self.alloc, term)?, close))
     }
 
@@ -218,8 +224,20 @@ impl<'a> Cursor<'a> {
         ensures { IsRead comparison_view result self.new.rest
             (read_comparison_from room (term_view left) self.old.rest) }
     {
-        let (relation, place) = self.relation()?;
-        let right = self.term(room)?;
+        let (relation, place) = match self.relation() {
+            Ok(both) => both,
+            Err(stop) => {
+                drop(left);
+                return Err(stop);
+            }
+        };
+        let right = match self.term(room) {
+            Ok(right) => right,
+            Err(stop) => {
+                drop(left);
+                return Err(stop);
+            }
+        };
         Ok(Comparison {
             left,
             relation,
