@@ -110,7 +110,13 @@ impl<'a> Cursor<'a> {
             (read_guards room self.old.rest) }
     {
         let first = self.guard(room)?;
-        let more = self.more_guards(room)?;
+        let more = match self.more_guards(room) {
+            Ok(more) => more,
+            Err(stop) => {
+                drop(first);
+                return Err(stop);
+            }
+        };
         Ok(Separated { first, more })
     }
 
@@ -121,7 +127,13 @@ impl<'a> Cursor<'a> {
             Class::Open => {
                 let (inner, open) = self.opening(room, Class::Open)?;
                 let guards = self.guards(inner)?;
-                let close = self.expect(Class::Close)?;
+                let close = match self.expect(Class::Close) {
+                    Ok(close) => close,
+                    Err(stop) => {
+                        drop(guards);
+                        return Err(stop);
+                    }
+                };
                 Ok(Guards::Bracketed(open, guards, close))
             }
             _ => Ok(Guards::Bare(self.guards(room)?)),
@@ -296,7 +308,13 @@ impl<'a> Cursor<'a> {
             (read_assertion room self.old.rest) }
     {
         let first = self.item(room)?;
-        let more = self.more_items(room)?;
+        let more = match self.more_items(room) {
+            Ok(more) => more,
+            Err(stop) => {
+                drop(first);
+                return Err(stop);
+            }
+        };
         Ok(Assertion { first, more })
     }
 
@@ -321,7 +339,13 @@ impl<'a> Cursor<'a> {
     {
         let open = self.expect(Class::OpenBrace)?;
         let assertion = self.assertion(room)?;
-        let close = self.expect(Class::CloseBrace)?;
+        let close = match self.expect(Class::CloseBrace) {
+            Ok(close) => close,
+            Err(stop) => {
+                drop(assertion);
+                return Err(stop);
+            }
+        };
         Ok(Side {
             open,
             assertion: Box::new(self.alloc, assertion)?,

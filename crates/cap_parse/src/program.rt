@@ -119,7 +119,13 @@ impl<'a> Cursor<'a> {
             (read_contract room self.old.rest) }
     {
         let precondition = self.whole_clause(room, Class::Requires)?;
-        let postcondition = self.whole_clause(room, Class::Ensures)?;
+        let postcondition = match self.whole_clause(room, Class::Ensures) {
+            Ok(postcondition) => postcondition,
+            Err(stop) => {
+                drop(precondition);
+                return Err(stop);
+            }
+        };
         Ok(Contract {
             precondition,
             postcondition,

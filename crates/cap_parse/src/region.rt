@@ -312,15 +312,23 @@ impl<'a> Cursor<'a> {
     {
         let head = self.case_head(room)?;
         let assertion = self.assertion(room)?;
-        let semicolon = self.expect(Class::Semicolon)?;
-        let CaseHead { state, when, colon } = head;
-        Ok(Case {
-            state,
-            when,
-            colon,
-            assertion,
-            semicolon,
-        })
+        match self.expect(Class::Semicolon) {
+            Ok(semicolon) => {
+                let CaseHead { state, when, colon } = head;
+                Ok(Case {
+                    state,
+                    when,
+                    colon,
+                    assertion,
+                    semicolon,
+                })
+            }
+            Err(stop) => {
+                drop(head);
+                drop(assertion);
+                Err(stop)
+            }
+        }
     }
 
     /// The guards of an action, and a colon.
@@ -369,21 +377,29 @@ impl<'a> Cursor<'a> {
     {
         let (guards, colon) = self.action_guards(room)?;
         let transition = self.transition(room)?;
-        let (when, semicolon) = self.action_end(room)?;
-        let Transition {
-            source,
-            arrow,
-            target,
-        } = transition;
-        Ok(Action {
-            guards,
-            colon,
-            source,
-            arrow,
-            target,
-            when,
-            semicolon,
-        })
+        match self.action_end(room) {
+            Ok((when, semicolon)) => {
+                let Transition {
+                    source,
+                    arrow,
+                    target,
+                } = transition;
+                Ok(Action {
+                    guards,
+                    colon,
+                    source,
+                    arrow,
+                    target,
+                    when,
+                    semicolon,
+                })
+            }
+            Err(stop) => {
+                drop(guards);
+                drop(transition);
+                Err(stop)
+            }
+        }
     }
 
     fn cases(&mut self, room: u32) -> Result<Vec<Case>, Stop>

@@ -279,7 +279,13 @@ impl<'a> Cursor<'a> {
     {
         let (inner, open) = self.opening(room, Class::OpenBracket)?;
         let slot = self.slot(inner)?;
-        let close = self.expect(Class::CloseBracket)?;
+        let close = match self.expect(Class::CloseBracket) {
+            Ok(close) => close,
+            Err(stop) => {
+                drop(slot);
+                return Err(stop);
+            }
+        };
         Ok(SlotInBrackets { open, slot, close })
     }
 }
