@@ -148,15 +148,22 @@ impl<'a> Cursor<'a> {
         let key = self.next_place()?;
         let (inner, open) = self.opening(room, Class::Open)?;
         let operands = self.operands(inner)?;
-        let close = self.expect(Class::Close)?;
-        let Operands {
-            address,
-            first,
-            expected,
-            second,
-            new,
-        } = operands;
-        Ok(Value::Cas(key, open, address, first, expected, second, new, close))
+        match self.expect(Class::Close) {
+            Ok(close) => {
+                let Operands {
+                    address,
+                    first,
+                    expected,
+                    second,
+                    new,
+                } = operands;
+                Ok(Value::Cas(key, open, address, first, expected, second, new, close))
+            }
+            Err(stop) => {
+                drop(operands);
+                Err(stop)
+            }
+        }
     }
 
     /// What `FAA`, which comes next, begins.
@@ -168,8 +175,14 @@ impl<'a> Cursor<'a> {
         let (inner, open) = self.opening(room, Class::Open)?;
         let (address, comma) = self.operand(inner)?;
         let added = self.term(inner)?;
-        let close = self.expect(Class::Close)?;
-        Ok(Value::Faa(key, open, address, comma, added, close))
+        match self.expect(Class::Close) {
+            Ok(close) => Ok(Value::Faa(key, open, address, comma, added, close)),
+            Err(stop) => {
+                drop(address);
+                drop(added);
+                Err(stop)
+            }
+        }
     }
 
     /// A name, behind which the arguments of a call or more of a term come.
@@ -243,9 +256,17 @@ impl<'a> Cursor<'a> {
         let address = self.term_in_brackets(room)?;
         let becomes = self.expect(Class::Becomes)?;
         let value = self.term(room)?;
-        let semicolon = self.expect(Class::Semicolon)?;
-        let TermInBrackets { open, term, close } = address;
-        Ok(Statement::Store(open, term, close, becomes, value, semicolon))
+        match self.expect(Class::Semicolon) {
+            Ok(semicolon) => {
+                let TermInBrackets { open, term, close } = address;
+                Ok(Statement::Store(open, term, close, becomes, value, semicolon))
+            }
+            Err(stop) => {
+                drop(address);
+                drop(value);
+                Err(stop)
+            }
+        }
     }
 
     /// What `fork`, which comes next, begins.
