@@ -120,8 +120,10 @@ fn index_within(
     let next = next_index(alloc, &index)?;
     prove_end(alloc, ledger, state.rows(), end, &next)?;
     has_room(state)?;
-    let front = Form::Span(start.copy(alloc)?, Some(index));
-    let behind = Form::Span(next, copy_end(alloc, end)?);
+    let first = start.copy(alloc)?;
+    let last = copy_end(alloc, end)?;
+    let front = Form::Span(first, Some(index));
+    let behind = Form::Span(next, last);
     Ok(leaving(alloc, state, env, Left::Both(front, behind))?)
 }
 
@@ -140,8 +142,9 @@ fn first_index(
 {
     let next = next_index(alloc, start)?;
     prove_end(alloc, ledger, state.rows(), end, &next)?;
-    let behind = Form::Span(next, copy_end(alloc, end)?);
+    let last = copy_end(alloc, end)?;
     let same = state.copy()?;
+    let behind = Form::Span(next, last);
     Ok(naming(alloc, same, env, name, start, Left::One(behind))?)
 }
 

@@ -22,4 +22,4 @@ returns c =
     let a = c.args in
     let k = rw c.rows.ensures at c.in_ok-prove_end.ensures in
     first-goes (cut_view c.in_ok-naming.field-0) a.state.now a.env.now a.start.now a.end.now a.name c.in_ok-next.next _ _ c.in_ok-next.ensures k
-    (c.in_ok-naming.ensures ∙ rw (c.in_ok-same.ensures, c.in_ok-copy_end.ensures, c.next.view_is) refl)
+    (c.in_ok-naming.ensures ∙ rw (c.in_ok-same.ensures, c.in_ok-last.ensures) refl)

@@ -52,4 +52,4 @@ returns c =
     (claims_value _ _ _ _ _ _ _ k
     (next-within s env a e i _ c.in_ok-next.next _ _ c.in_ok-next.ensures
     (end-within s env a e i _ c.in_ok-next.next _ _ _ m
-    (room-within s env a e i _ c.in_ok-next.next _ _ c.in_ok-has_room.ensures (weaker _ _ _ (done_as _ (cut env s (form.Span a (Some i) ∷ (form.Span c.in_ok-next.next e ∷ []))) (c.in_ok-leaving.ensures ∙ rw (c.in_ok-copy.ensures, c.in_ok-copy_end.ensures, c.next.view_is) refl)))))))
+    (room-within s env a e i _ c.in_ok-next.next _ _ c.in_ok-has_room.ensures (weaker _ _ _ (done_as _ (cut env s (form.Span a (Some i) ∷ (form.Span c.in_ok-next.next e ∷ []))) (c.in_ok-leaving.ensures ∙ rw (c.in_ok-first.ensures, c.in_ok-last.ensures) refl)))))))
