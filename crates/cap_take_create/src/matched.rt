@@ -90,7 +90,31 @@ fn terms_of(alloc: Global, fact: &Fact) -> Result<Vec<&Term>, AllocError>
     Ok(terms)
 }
 
-// The environment of a number, its names matched by the slots of a region fact against a fact.
+// The environment of a number, its names matched by the slots of a region fact against a fact; a
+// slot stands for the region's name.
+fn matched_by(
+    alloc: Global,
+    ledger: &mut Ledger,
+    state: &State,
+    env: u32,
+    name: &Slot,
+    args: &[Slot],
+    slot: &Slot,
+    fact: &Fact,
+) -> Result<Env, RuleError>
+    ensures { Claims result ledger.old ledger.new
+        (slots_matched state.now.rows (env_at state.now env)
+        (name.now ∷ (args.now ++ slot.now ∷ []))
+        (fact.now.region ∷ (fact.now.args ++ fact.now.state ∷ []))) }
+{
+    let slots = slots_of(alloc, name, args, slot)?;
+    let terms = terms_of(alloc, fact)?;
+    let mut names = copy_env(alloc, state, env)?;
+    match_slots(alloc, ledger, state.rows(), &mut names, &slots, &terms)?;
+    Ok(names)
+}
+
+// The same for a region's name.
 fn matched(
     alloc: Global,
     ledger: &mut Ledger,
@@ -107,11 +131,7 @@ fn matched(
         (fact.now.region ∷ (fact.now.args ++ fact.now.state ∷ []))) }
 {
     let name = Slot::Is(Term::var(alloc, region)?);
-    let slots = slots_of(alloc, &name, args, slot)?;
-    let terms = terms_of(alloc, fact)?;
-    let mut names = copy_env(alloc, state, env)?;
-    match_slots(alloc, ledger, state.rows(), &mut names, &slots, &terms)?;
-    Ok(names)
+    matched_by(alloc, ledger, state, env, &name, args, slot, fact)
 }
 
 // The state with another environment.
@@ -119,8 +139,13 @@ fn with_names(state: &State, env: u32, names: Env) -> Result<State, AllocError>
     ensures { IfOk result (λ s. s ≡ env_replaced state.now env names) }
 {
     let mut next = state.copy()?;
-    with_env_at(&mut next, env, names)?;
-    Ok(next)
+    match with_env_at(&mut next, env, names) {
+        Ok(()) => Ok(next),
+        Err(stop) => {
+            drop(next);
+            Err(stop)
+        }
+    }
 }
 
 /// A region fact goes, matched with the fact of this number, which stays and has to be of the same
