@@ -45,7 +45,7 @@ fn main_function(alloc: Global, place: Place) -> Result<Function, AllocError>
     let mut body = Vec::new(alloc);
     body.push(last)?;
     Ok(Function {
-        name: Name::new(Vec::from_slice(alloc, b"main")?),
+        name: Name::from_slice(alloc, b"main")?,
         params: 0,
         locals: 0,
         fixed,
@@ -64,9 +64,9 @@ fn unique_region(alloc: Global, place: Place) -> Result<RegionType, AllocError>
     let cases = Vec::new(alloc);
     let actions = Vec::new(alloc);
     let mut atoms = Vec::new(alloc);
-    atoms.push(Name::new(Vec::from_slice(alloc, b"G")?))?;
+    atoms.push(Name::from_slice(alloc, b"G")?)?;
     Ok(RegionType {
-        name: Name::new(Vec::from_slice(alloc, b"R")?),
+        name: Name::from_slice(alloc, b"R")?,
         params: 1,
         algebra: Algebra::Unique,
         atoms,

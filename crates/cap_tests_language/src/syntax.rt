@@ -124,6 +124,9 @@ fn gives_a_text_back(rt: HostRuntime) -> Result<(), Fail> {
     assert_eq!(rt; short.copy(rt.alloc())?.as_bytes(), b"abc".as_slice());
     let long = Text::from_slice(rt.alloc(), b"longer_than_sixteen_bytes")?;
     assert_eq!(rt; long.as_bytes(), b"longer_than_sixteen_bytes".as_slice());
-    assert_eq!(rt; long.copy(rt.alloc())?.as_bytes(), b"longer_than_sixteen_bytes".as_slice());
+    assert_eq!(rt;
+        long.copy(rt.alloc())?.as_bytes(),
+        b"longer_than_sixteen_bytes".as_slice()
+    );
     Ok(())
 }

@@ -30,11 +30,11 @@ fn raising(alloc: Global, place: Place) -> Result<Action, AllocError> {
 fn raised_region(alloc: Global) -> Result<RegionType, AllocError> {
     let place = Place { line: 1, column: 1 };
     let mut atoms = Vec::new(alloc);
-    atoms.push(Name::new(Vec::from_slice(alloc, b"G")?))?;
+    atoms.push(Name::from_slice(alloc, b"G")?)?;
     let mut actions = Vec::new(alloc);
     actions.push(raising(alloc, place)?)?;
     Ok(RegionType {
-        name: Name::new(Vec::from_slice(alloc, b"R")?),
+        name: Name::from_slice(alloc, b"R")?,
         params: 1,
         algebra: Algebra::Unique,
         atoms,
