@@ -1,8 +1,5 @@
 //! A cursor over tokens: what comes next, and the readers of single tokens.
 // The tokens that are still to be read, and the steps that every production takes.
-//
-// Where reading stops behind a large part, the reader gives that part to `drop`. One call is proved
-// soon; where the compiler lets a part go, it writes out a drop for each variant and each field.
 
 ghost use Rattle.std.specs.Prelude.{◌≡◌, Ok};
 ghost use Rattle.cap_parse_laws.specs.Classes.{are_same};
@@ -81,7 +78,7 @@ impl<'a> Cursor<'a> {
     {
         let token = self.next()?;
         Ok(Word {
-            text: token.text.copy(self.alloc)?,
+            text: token.text.copy()?,
             place: token.place,
         })
     }
@@ -91,7 +88,7 @@ impl<'a> Cursor<'a> {
     {
         let token = self.next()?;
         Ok(Literal {
-            text: token.text.copy(self.alloc)?,
+            text: token.text.copy()?,
             value: token.value,
             place: token.place,
         })

@@ -107,8 +107,8 @@ pub(crate) fn variable_names(
     let mut words = Vec::new(alloc);
     words_of_occurrences(&mut words, fixed)?;
     let mut names = Vec::new(alloc);
-    push_texts(alloc, &mut names, parameters)?;
-    push_texts(alloc, &mut names, locals)?;
-    push_texts(alloc, &mut names, words.as_slice())?;
+    push_texts(&mut names, parameters)?;
+    push_texts(&mut names, locals)?;
+    push_texts(&mut names, words.as_slice())?;
     Ok(names)
 }

@@ -28,28 +28,24 @@ pub fn build_sorts(alloc: Global, names: &[Occurrence<'_>]) -> Result<Vec<Sort>,
 }
 
 /// Puts copies of the texts of words behind the names.
-pub(crate) fn push_texts(
-    alloc: Global,
-    names: &mut Vec<Name>,
-    words: &[&Word],
-) -> Result<(), AllocError>
+pub(crate) fn push_texts(names: &mut Vec<Name>, words: &[&Word]) -> Result<(), AllocError>
     ensures { OnOk result
         (names.new.items ≡ names.old.items ++ map word_text (words_view words.now)) }
 {
     for word in words {
-        names.push(word.text.copy(alloc)?)?;
+        names.push(word.text.copy()?)?;
     }
     Ok(())
 }
 
-fn push_guard(alloc: Global, names: &mut Vec<Name>, guard: &Declared) -> Result<(), AllocError>
+fn push_guard(names: &mut Vec<Name>, guard: &Declared) -> Result<(), AllocError>
     ensures { OnOk result (names.new.items
         ≡ names.old.items ++ map word_text (guard_words (declared_view guard.now))) }
 {
     match guard_word(guard) {
         None => Ok(()),
         Some(word) => {
-            names.push(word.text.copy(alloc)?)?;
+            names.push(word.text.copy()?)?;
             Ok(())
         }
     }
@@ -61,7 +57,7 @@ fn guard_texts(alloc: Global, guards: &[&Declared]) -> Result<Vec<Name>, AllocEr
 {
     let mut names = Vec::new(alloc);
     for guard in guards {
-        push_guard(alloc, &mut names, guard)?;
+        push_guard(&mut names, guard)?;
     }
     Ok(names)
 }

@@ -36,7 +36,7 @@ fn build_type(
       place = (region_view tree.now).key;
     }) }
 {
-    let name = tree.name.text.copy(alloc)?;
+    let name = tree.name.text.copy()?;
     let params = word_count(&tree.parameters) as u32;
     let algebra = build_algebra(alloc, &tree.algebra)?;
     let atoms = build_guard_names(alloc, tree)?;

@@ -12,6 +12,7 @@ use crate::spelling::{begins_barred, longest_token, value_of};
 use crate::text::Text;
 use crate::token::{Token, TokenError, TokenKind};
 use std::alloc::Global;
+use std::rc::Rc;
 
 const MAX_TEXT: usize = 1_048_576;
 
@@ -70,8 +71,9 @@ fn past_gap(rest: &[u8], place: Place) -> (&[u8], Place)
     (after, moved(place, gap))
 }
 
-// The token at the front.
-fn next_token(alloc: Global, rest: &[u8], place: Place) -> Result<Token, TokenError>
+// The token at the front of what is left of the text.
+fn next_token(whole: &Rc<Vec<u8>>, rest: &[u8], place: Place) -> Result<Token, TokenError>
+    requires stands { StandsAt whole.now.value.items rest.now place }
     requires left { 0 < length rest.now }
     requires line { place.line + length rest.now < 2 ^ 32 }
     requires column { place.column + length rest.now < 2 ^ 32 }
@@ -89,7 +91,8 @@ fn next_token(alloc: Global, rest: &[u8], place: Place) -> Result<Token, TokenEr
     if begins_barred(kind, after) {
         return Err(TokenError::BadByte(moved(place, text)));
     }
-    let text = Text::from_slice(alloc, text)?;
+    let start = whole.len() - rest.len();
+    let text = Text::part(whole, start, start + length)?;
     Ok(Token {
         kind,
         text,
@@ -107,17 +110,18 @@ fn scan(alloc: Global, bytes: &[u8]) -> Result<Vec<Token>, TokenError>
     if bytes.len() > MAX_TEXT {
         return Err(TokenError::TextTooLong);
     }
+    let whole = Rc::new(alloc, Vec::from_slice(alloc, bytes)?)?;
     let mut tokens = Vec::new(alloc);
     let (mut rest, mut place) = past_gap(bytes, Place { line: 1, column: 1 });
     while !rest.is_empty() {
-        let token = next_token(alloc, rest, place)?;
+        let token = next_token(&whole, rest, place)?;
         let (text, after) = rest.split_at(token.text.as_bytes().len());
         (rest, place) = past_gap(after, moved(place, text));
         tokens.push(token)?;
     }
     tokens.push(Token {
         kind: TokenKind::End,
-        text: Text::empty(alloc),
+        text: Text::part(&whole, bytes.len(), bytes.len())?,
         value: 0,
         place,
     })?;

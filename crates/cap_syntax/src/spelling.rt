@@ -1,10 +1,11 @@
-//! The longest token at a place, and its value.
-// The longest token at the front of a text.
-
-ghost use Rattle.std.specs.Prelude.{◌≡◌, ℕ, ◌<◌, ◌≤◌, ◌&&◌, false, length, map, take, nat_le, IsTrue, MatchOption, slice_index};
+//! The longest token at the front of a text, and its value.
+ghost use Rattle.std.specs.Prelude.{◌≡◌, ℕ, ◌<◌, ◌≤◌, ◌&&◌, false, length, map, take, nat_le};
+ghost use Rattle.std.specs.Prelude.{IsTrue, MatchOption, slice_index};
 ghost use Rattle.std.specs.List.{prefix_len, list_all};
 ghost use Rattle.std.specs.Char.{is_ascii_alphabetic, is_ascii_digit};
-ghost use Rattle.cap_syntax.specs.Spelling.{keywords, symbols, is_one_of, is_word_byte, max_literal, number_of, value_of, spells, begins_barred, IsLongest, StartsNone};
+ghost use Rattle.cap_syntax.specs.Spelling.{keywords, symbols, is_one_of, is_word_byte};
+ghost use Rattle.cap_syntax.specs.Spelling.{max_literal, number_of, value_of, spells};
+ghost use Rattle.cap_syntax.specs.Spelling.{begins_barred, IsLongest, StartsNone};
 
 use crate::token::TokenKind;
 

@@ -1,41 +1,63 @@
 //! Bytes of a text, as contracts see them.
-ghost use Rattle.std.specs.Prelude.{◌≡◌, [], IfOk};
+ghost use Rattle.std.specs.Prelude.{◌≡◌, ◌≤◌, length, slice_range, IfOk};
 
-use smallvec::SmallVec;
 use std::alloc::{AllocError, Global};
+use std::fmt::{self, Debug, Formatter, Write};
 use std::marker::Model;
+use std::rc::Rc;
 
-/// The bytes of a token, up to 16 of them with no memory of their own. Contracts see them as their
+/// The bytes of a token: a part of its text, which the tokens share. Contracts see them as their
 /// list.
-#[derive(Debug, Drop)]
 pub struct Text {
-    bytes: SmallVec<u8, 16>,
+    whole: Rc<Vec<u8>>,
+    start: u32,
+    end: u32,
+}
+
+// Written out: one call at each exit of a function, where a derived drop is all its parts.
+impl Drop for Text {
+    fn drop(self) {
+        let Text {
+            whole: _,
+            start: _,
+            end: _,
+        } = self;
+    }
 }
 
 impl Model for Text {
-    ghost use Rattle.std.specs.Prelude.{List, ℕ};
+    ghost use Rattle.std.specs.Prelude.{List, ℕ, ◌≤◌, length, slice_range};
 
     ghost Value = { List ℕ };
 
-    ghost view = { λ t. t.bytes.items };
+    ghost view = { λ t. slice_range t.whole.value.items t.start t.end };
+
+    ghost invariant = { λ t. (t.start ≤ t.end) × (t.end ≤ length t.whole.value.items) };
 }
 
 impl Text {
-    /// The text of these bytes, if there is enough memory.
+    /// The text of these bytes, if there is enough memory and they are less than 2^32.
     pub fn from_slice(alloc: Global, bytes: &[u8]) -> Result<Text, AllocError>
         ensures { IfOk result (λ text. text ≡ bytes.now) }
     {
-        Ok(Text {
-            bytes: SmallVec::from_slice(alloc, bytes)?,
-        })
+        let whole = Rc::new(alloc, Vec::from_slice(alloc, bytes)?)?;
+        Text::part(&whole, 0, bytes.len())
     }
 
-    /// The text without bytes. Takes no memory.
-    pub fn empty(alloc: Global) -> Text
-        ensures { result ≡ [] }
+    // The bytes from one index on and up to another one, which are below 2^32, if they can be shared
+    // once more.
+    pub(crate) fn part(whole: &Rc<Vec<u8>>, start: usize, end: usize) -> Result<Text, AllocError>
+        requires ascend { start ≤ end }
+        requires within { end ≤ length whole.now.value.items }
+        ensures { IfOk result (λ text. text ≡ slice_range whole.now.value.items start end) }
     {
-        Text {
-            bytes: SmallVec::new(alloc),
+        match (u32::try_from(start), u32::try_from(end)) {
+            (Ok(start), Ok(end)) => Ok(Text {
+                whole: whole.clone()?,
+                start,
+                end,
+            }),
+            _ => Err(AllocError),
         }
     }
 
@@ -44,13 +66,23 @@ impl Text {
     pub fn as_bytes(&self) -> &[u8]
         ensures { result.now ≡ self.now }
     {
-        self.bytes.as_slice()
+        &self.whole[self.start as usize..self.end as usize]
     }
 
-    /// The same bytes, in memory of their own where they take some, if there is enough of it.
-    pub fn copy(&self, alloc: Global) -> Result<Text, AllocError>
+    /// The same bytes once more. They take no memory of their own.
+    pub fn copy(&self) -> Result<Text, AllocError>
         ensures { IfOk result (λ copy. copy ≡ self.now) }
     {
-        Text::from_slice(alloc, self.as_bytes())
+        Ok(Text {
+            whole: self.whole.clone()?,
+            start: self.start,
+            end: self.end,
+        })
+    }
+}
+
+impl Debug for Text {
+    fn fmt<W: Write>(&self, f: &mut Formatter<W>) -> fmt::Result {
+        self.as_bytes().fmt(f)
     }
 }

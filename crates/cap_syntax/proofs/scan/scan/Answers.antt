@@ -1,5 +1,6 @@
-use Rattle.std.proofs.Common.{◌≡◌, ℕ, List, [], ◌∷◌, ◌++◌, length, drop, arith, sym, ap, subst, ◌∙◌}
+use Rattle.std.proofs.Common.{◌≡◌, ℕ, List, [], ◌∷◌, ◌++◌, length, take, drop, slice_range, arith, sym, ap, subst, ◌∙◌}
 use Rattle.std.proofs.lemmas.Bool.{eqb-true}
+use Rattle.std.proofs.Math.Nat.{sub_self}
 use Rattle.cap_syntax.specs.declared.token.TokenKind.TheVariants.{End}
 use Rattle.cap_syntax.specs.Place.{StandsAt}
 use Rattle.cap_syntax.specs.Layout.{past_gap, IsTokenAt, AreTokensOf}
@@ -47,14 +48,17 @@ loop-rest-preserved c = record {
   stands = c.past_gap-in-loop-rest.ensures.place c.args.bytes.now (behind_token (goal.at.loop-rest-preserved c).After-moved);
 }
 
+no_bytes : (at : ℕ) (bytes : List ℕ) → slice_range bytes at at ≡ []
+no_bytes at bytes = ap (λ (n : ℕ). take n (drop at bytes)) (sub_self at)
+
 whole : (c : In_ok-push-2) → AreTokensOf c.args.bytes.now c.push-2.new.self.items
 whole c =
-    all_are_read c.args.bytes.now c.loop-rest.tokens.items c.push-2.new.self.items c.loop-rest.rest.now c.loop-rest.place c.loop-rest.invariant.read c.loop-rest.invariant.stands (eqb-true _ 0 (sym c.is_empty.ensures ∙ c.loop-rest-test.false)) (c.in_ok-push-2.ensures.items ∙ ap (λ (t : List ℕ). c.loop-rest.tokens.items ++ (record { kind = End; text = t; value = 0; place = c.loop-rest.place }) ∷ []) c.empty.ensures)
+    all_are_read c.args.bytes.now c.loop-rest.tokens.items c.push-2.new.self.items c.loop-rest.rest.now c.loop-rest.place c.loop-rest.invariant.read c.loop-rest.invariant.stands (eqb-true _ 0 (sym c.is_empty.ensures ∙ c.loop-rest-test.false)) (c.in_ok-push-2.ensures.items ∙ ap (λ (t : List ℕ). c.loop-rest.tokens.items ++ (record { kind = End; text = t; value = 0; place = c.loop-rest.place }) ∷ []) (c.in_ok-part.ensures ∙ no_bytes (length c.args.bytes.now) _))
 
 pub returns : goal.returns
-returns c = (omega arith, whole c)
+returns c = (omega arith, whole (goal.at.returns c).In_ok-push-2)
 
 pub returns-in_err-token : goal.returns-in_err-token
 returns-in_err-token c =
-    let p = err_from_is_err_and c.from_residual.result c.from_residual.ensures.1 in
+    let p = err_from_is_err_and c.from_residual-in_err-token.result c.from_residual-in_err-token.ensures.1 in
     rw (p.1, p.2) (break_is_refusal c.args.bytes.now c.loop-rest.tokens.items c.loop-rest.rest.now c.in_err-token.field-0.0 (omega arith) c.loop-rest.invariant.read (c.in_err-token.ensures.refused c.args.bytes.now c.loop-rest.invariant.stands))
