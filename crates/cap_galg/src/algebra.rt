@@ -12,7 +12,7 @@ use std::alloc::{AllocError, Global};
 /// The guards of a region: one guard that is unique, divisible, counting or indexed, or two
 /// algebras of which a thread may hold parts of both (`Pair`) or of one alone (`Either`). Its atoms
 /// are its unique, divisible, counting and indexed guards, numbered from 0, left to right.
-#[derive(Debug, Drop)]
+#[derive(Debug)]
 pub enum Algebra {
     Unique,
     Divisible,
@@ -20,6 +20,21 @@ pub enum Algebra {
     Indexed,
     Pair(Box<Algebra>, Box<Algebra>),
     Either(Box<Algebra>, Box<Algebra>),
+}
+
+// Written out: one call at each exit of a function, where a derived drop is all its parts.
+impl Drop for Algebra {
+    #[cycle(dropped_algebras)]
+    fn drop(self) {
+        match self {
+            Algebra::Unique
+            | Algebra::Divisible
+            | Algebra::Counting
+            | Algebra::Indexed
+            | Algebra::Pair(_, _)
+            | Algebra::Either(_, _) => {}
+        }
+    }
 }
 
 /// What kind of guard an atom of an algebra is.

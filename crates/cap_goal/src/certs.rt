@@ -1,6 +1,6 @@
 //! The certificates of a choice.
 ghost use Rattle.std.specs.Prelude.{◌≡◌, ◌++◌, [], ◌∷◌, IfOk, OnOk};
-ghost use Rattle.cap_goal_spec.specs.Choices.{certs_of, given_marks, with_certs};
+ghost use Rattle.cap_goal_spec.specs.Choices.{certs_of, given_marks};
 ghost use Rattle.cap_goal.specs.Views.{certs_in, choice_view};
 
 use crate::choice::Choice;
@@ -89,41 +89,6 @@ impl Choice {
             | Choice::Give
             | Choice::Cases
             | Choice::Create(_) => Ok(Vec::new(alloc)),
-        }
-    }
-
-    /// The choice with these certificates in place of its own. An absurdity and an act stay as they
-    /// are, and so does a choice that has none.
-    pub fn with_certs(self, certs: Vec<Cert>) -> Choice
-        ensures { choice_view result ≡ with_certs (choice_view self) certs.items }
-    {
-        match self {
-            Choice::Clash(i, j, _) => Choice::Clash(i, j, certs),
-            Choice::Assert(_) => Choice::Assert(certs),
-            Choice::Enter(i, _) => Choice::Enter(i, certs),
-            Choice::Shift(_, spans) => Choice::Shift(certs, spans),
-            Choice::Settle(list, _) => Choice::Settle(list, certs),
-            Choice::Keep(_) => Choice::Keep(certs),
-            Choice::Fact(_) => Choice::Fact(certs),
-            Choice::Cell(j, _) => Choice::Cell(j, certs),
-            Choice::Region(j, _) => Choice::Region(j, certs),
-            Choice::Guard(j, way, _) => Choice::Guard(j, way, certs),
-            Choice::Convert(n, side, _) => Choice::Convert(n, side, certs),
-            Choice::Made(_) => Choice::Made(certs),
-            Choice::Absurd(_)
-            | Choice::Set
-            | Choice::Alloc
-            | Choice::If
-            | Choice::Loop
-            | Choice::Turn
-            | Choice::Call
-            | Choice::Fork
-            | Choice::Return
-            | Choice::Act(_, _, _)
-            | Choice::Pick(_, _, _)
-            | Choice::Give
-            | Choice::Cases
-            | Choice::Create(_) => self,
         }
     }
 }

@@ -1,4 +1,8 @@
 //! Choices of rules, trees of choices, and the units that they prove.
+ghost use Rattle.std.specs.Prelude.{◌≡◌};
+ghost use Rattle.cap_goal_spec.specs.Choices.{with_certs};
+ghost use Rattle.cap_goal.specs.Views.{choice_view};
+
 use cap_farkas::Cert;
 
 /// No node of a tree stands deeper, its root being at depth 1.
@@ -7,7 +11,7 @@ pub const DEEPEST: u32 = 1000;
 /// Which rule is taken at a goal, and how. Cells, facts, pieces, opened regions, cases, sums and
 /// candidates are named by number, from 0; a move is 0 for none, or the number of an action, from
 /// 1.
-#[derive(Debug, Drop)]
+#[derive(Debug)]
 pub enum Choice {
     /// The rows contradict each other.
     Absurd(Cert),
@@ -51,6 +55,64 @@ pub enum Choice {
     /// Create a region in a case.
     Create(u32),
     Made(Vec<Cert>),
+}
+
+// Written out: one call at each exit of a function, where a derived drop is all its parts.
+impl Drop for Choice {
+    fn drop(self) {
+        match self {
+            Choice::Set
+            | Choice::Alloc
+            | Choice::If
+            | Choice::Loop
+            | Choice::Turn
+            | Choice::Call
+            | Choice::Fork
+            | Choice::Return
+            | Choice::Give
+            | Choice::Cases
+            | Choice::Absurd(_)
+            | Choice::Clash(_, _, _)
+            | Choice::Assert(_)
+            | Choice::Enter(_, _)
+            | Choice::Act(_, _, _)
+            | Choice::Pick(_, _, _)
+            | Choice::Shift(_, _)
+            | Choice::Settle(_, _)
+            | Choice::Keep(_)
+            | Choice::Fact(_)
+            | Choice::Cell(_, _)
+            | Choice::Region(_, _)
+            | Choice::Guard(_, _, _)
+            | Choice::Convert(_, _, _)
+            | Choice::Create(_)
+            | Choice::Made(_) => {}
+        }
+    }
+}
+
+impl Choice {
+    /// The choice with these certificates in place of its own. An absurdity and an act stay as they
+    /// are, and so does a choice that has none.
+    pub fn with_certs(self, certs: Vec<Cert>) -> Choice
+        ensures { choice_view result ≡ with_certs (choice_view self) certs.items }
+    {
+        match self {
+            Choice::Clash(i, j, _) => Choice::Clash(i, j, certs),
+            Choice::Assert(_) => Choice::Assert(certs),
+            Choice::Enter(i, _) => Choice::Enter(i, certs),
+            Choice::Shift(_, spans) => Choice::Shift(certs, spans),
+            Choice::Settle(list, _) => Choice::Settle(list, certs),
+            Choice::Keep(_) => Choice::Keep(certs),
+            Choice::Fact(_) => Choice::Fact(certs),
+            Choice::Cell(j, _) => Choice::Cell(j, certs),
+            Choice::Region(j, _) => Choice::Region(j, certs),
+            Choice::Guard(j, way, _) => Choice::Guard(j, way, certs),
+            Choice::Convert(n, side, _) => Choice::Convert(n, side, certs),
+            Choice::Made(_) => Choice::Made(certs),
+            kept => kept,
+        }
+    }
 }
 
 /// A choice, with a tree for each of its subgoals.

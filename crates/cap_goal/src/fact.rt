@@ -8,13 +8,26 @@ use std::marker::Model;
 
 /// What is known of a region: its term, the number of its type, its arguments without the region
 /// itself, and its state. It is loose while what it says of the state is out of date.
-#[derive(Debug, Drop)]
+#[derive(Debug)]
 pub struct Fact {
     pub region: Term,
     pub kind: u32,
     pub args: Vec<Term>,
     pub state: Term,
     pub loose: bool,
+}
+
+// Written out: one call at each exit of a function, where a derived drop is all its parts.
+impl Drop for Fact {
+    fn drop(self) {
+        let Fact {
+            region: _,
+            kind: _,
+            args: _,
+            state: _,
+            loose: _,
+        } = self;
+    }
 }
 
 impl Model for Fact {

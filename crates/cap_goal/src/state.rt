@@ -20,7 +20,6 @@ pub const LONGEST_LIST: usize = 100_000_000;
 /// A symbolic state: nine lists, each of at most 100,000,000 members. Its copies share the lists
 /// that they have in common. Each list has four calls: one lends it, and three append, replace and
 /// remove a member; into the guards a fifth inserts one. On an error a state is as it was.
-#[derive(Drop)]
 pub struct State {
     sorts: Shared<Sort>,
     rows: Shared<Row>,
@@ -31,6 +30,23 @@ pub struct State {
     before: Shared<Piece>,
     opened: Shared<Fact>,
     envs: Shared<Env>,
+}
+
+// Written out: one call at each exit of a function, where a derived drop is all its parts.
+impl Drop for State {
+    fn drop(self) {
+        let State {
+            sorts: _,
+            rows: _,
+            store: _,
+            cells: _,
+            facts: _,
+            guards: _,
+            before: _,
+            opened: _,
+            envs: _,
+        } = self;
+    }
 }
 
 impl Model for State {

@@ -31,7 +31,7 @@ pub struct Point<'a> {
 /// What is to be done at a goal. Environments, opened regions, region types and cases are named by
 /// number, from 0. The last number of each but the first two is that of the statement at which the
 /// task arose, 0 outside a body.
-#[derive(Debug, Drop)]
+#[derive(Debug)]
 pub enum Task<'a> {
     /// Run the statements.
     Run(Home, Point<'a>),
@@ -49,6 +49,22 @@ pub enum Task<'a> {
     Shift(u32, u32, u32, u32, u32),
     /// Settle the facts from a number on.
     Rest(u32, u32),
+}
+
+// Written out: one call at each exit of a function, where a derived drop is all its parts.
+impl Drop for Task<'_> {
+    fn drop(self) {
+        match self {
+            Task::Run(_, _)
+            | Task::Turn(_, _)
+            | Task::Give(_, _, _)
+            | Task::Take(_, _, _, _)
+            | Task::Made(_, _, _, _, _)
+            | Task::Close(_, _)
+            | Task::Shift(_, _, _, _, _)
+            | Task::Rest(_, _) => {}
+        }
+    }
 }
 
 impl Items<'_> {

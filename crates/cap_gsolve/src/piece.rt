@@ -11,13 +11,22 @@ use std::alloc::{AllocError, Global};
 /// How much of one guard, by terms: all of a unique one, a fraction of a divisible one; of a
 /// counting one, the source with some tokens out, or some tokens; of an indexed one, the indices
 /// from a start on that are below an end, or all where there is none.
-#[derive(Debug, Drop)]
+#[derive(Debug)]
 pub enum Form {
     One,
     Share(Term),
     Src(Term),
     Tok(Term),
     Span(Term, Option<Term>),
+}
+
+// Written out: one call at each exit of a function, where a derived drop is all its parts.
+impl Drop for Form {
+    fn drop(self) {
+        match self {
+            Form::One | Form::Share(_) | Form::Src(_) | Form::Tok(_) | Form::Span(_, _) => {}
+        }
+    }
 }
 
 impl Form {
@@ -62,12 +71,24 @@ impl Form {
 
 /// A part of one guard of a region: the region by its term, the guards by their kind's number, and
 /// the atom of their algebra, from 0, left to right.
-#[derive(Debug, Drop)]
+#[derive(Debug)]
 pub struct Piece {
     pub region: Term,
     pub kind: u32,
     pub atom: u32,
     pub form: Form,
+}
+
+// Written out: one call at each exit of a function, where a derived drop is all its parts.
+impl Drop for Piece {
+    fn drop(self) {
+        let Piece {
+            region: _,
+            kind: _,
+            atom: _,
+            form: _,
+        } = self;
+    }
 }
 
 impl Piece {

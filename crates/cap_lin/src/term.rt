@@ -31,10 +31,20 @@ type Parts = SmallVec<(u32, i128), 2>;
 ///
 /// Arithmetic is exact: an operation gives its term, or the two operands of the first sum or
 /// product on the way that leaves 128 bits.
-#[derive(Debug, Drop)]
+#[derive(Debug)]
 pub struct Term {
     constant: i128,
     parts: Parts,
+}
+
+// Written out: one call at each exit of a function, where a derived drop is all its parts.
+impl Drop for Term {
+    fn drop(self) {
+        let Term {
+            constant: _,
+            parts: _,
+        } = self;
+    }
 }
 
 impl Model for Term {
@@ -250,11 +260,9 @@ impl Term {
     pub(crate) fn plus_one(self) -> Result<Term, LinError>
         ensures { IsExact result (sum_of self.constant (pos 1) ∷ []) (plus_one self) }
     {
-        let constant = sum(self.constant, 1)?;
-        Ok(Term {
-            constant,
-            parts: self.parts,
-        })
+        let Term { constant, parts } = self;
+        let constant = sum(constant, 1)?;
+        Ok(Term { constant, parts })
     }
 
     /// The term with another one in the place of a variable: its multiple by the variable's

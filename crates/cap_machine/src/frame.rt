@@ -17,7 +17,7 @@ use std::alloc::{AllocError, Global};
 
 /// A function that runs: its number, what it was given, its parameters and locals, its place in the
 /// function's body, and the local of its caller that gets the result.
-#[derive(Debug, Drop)]
+#[derive(Debug)]
 pub struct Frame {
     pub(crate) function: u32,
     pub(crate) arguments: Vec<i128>,
@@ -25,6 +25,20 @@ pub struct Frame {
     pub(crate) levels: Vec<Level>,
     pub(crate) next: usize,
     pub(crate) destination: Option<u32>,
+}
+
+// Written out: one call at each exit of a function, where a derived drop is all its parts.
+impl Drop for Frame {
+    fn drop(self) {
+        let Frame {
+            function: _,
+            arguments: _,
+            store: _,
+            levels: _,
+            next: _,
+            destination: _,
+        } = self;
+    }
 }
 
 impl Frame {

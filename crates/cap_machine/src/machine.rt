@@ -21,11 +21,22 @@ use std::alloc::{AllocError, Global};
 
 /// A program's run: the heap, the frames of each thread with the top one last, and whether a fault
 /// stopped it.
-#[derive(Debug, Drop)]
+#[derive(Debug)]
 pub struct Machine {
     pub(crate) heap: Heap,
     pub(crate) threads: Vec<Vec<Frame>>,
     pub(crate) stopped: bool,
+}
+
+// Written out: one call at each exit of a function, where a derived drop is all its parts.
+impl Drop for Machine {
+    fn drop(self) {
+        let Machine {
+            heap: _,
+            threads: _,
+            stopped: _,
+        } = self;
+    }
 }
 
 impl Machine {

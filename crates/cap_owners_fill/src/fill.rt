@@ -8,11 +8,22 @@ use std::marker::Model;
 
 /// By what the items of an assertion are met: the values of its names and of each `_` in order, and
 /// the regions of its facts with the states in which they are.
-#[derive(Debug, Drop)]
+#[derive(Debug)]
 pub struct Fill {
     pub names: Values,
     pub wildcards: Values,
     pub facts: Vec<(i128, i128)>,
+}
+
+// Written out: one call at each exit of a function, where a derived drop is all its parts.
+impl Drop for Fill {
+    fn drop(self) {
+        let Fill {
+            names: _,
+            wildcards: _,
+            facts: _,
+        } = self;
+    }
 }
 
 impl Model for Fill {
@@ -36,6 +47,38 @@ impl Fill {
             names: Values::new(alloc),
             wildcards: Values::new(alloc),
             facts: Vec::new(alloc),
+        }
+    }
+
+    /// By the same, but for the values of names.
+    pub fn with_names(self, names: Values) -> Fill
+        ensures { result ≡ record self { names = names } }
+    {
+        let Fill {
+            names: _,
+            wildcards,
+            facts,
+        } = self;
+        Fill {
+            names,
+            wildcards,
+            facts,
+        }
+    }
+
+    /// By the same, but for the value of each `_`.
+    pub fn with_wildcards(self, wildcards: Values) -> Fill
+        ensures { result ≡ record self { wildcards = wildcards } }
+    {
+        let Fill {
+            names,
+            wildcards: _,
+            facts,
+        } = self;
+        Fill {
+            names,
+            wildcards,
+            facts,
         }
     }
 

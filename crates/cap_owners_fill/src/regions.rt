@@ -15,7 +15,7 @@ use std::rc::Rc;
 
 /// A region with its part, and the case and what it was by which it owns that. Arguments are without
 /// the region itself.
-#[derive(Debug, Drop)]
+#[derive(Debug)]
 pub struct TrackedRegion {
     pub number: i128,
     pub kind: u32,
@@ -24,6 +24,21 @@ pub struct TrackedRegion {
     pub part: Part,
     pub case: u32,
     pub fill: Fill,
+}
+
+// Written out: one call at each exit of a function, where a derived drop is all its parts.
+impl Drop for TrackedRegion {
+    fn drop(self) {
+        let TrackedRegion {
+            number: _,
+            kind: _,
+            args: _,
+            state: _,
+            part: _,
+            case: _,
+            fill: _,
+        } = self;
+    }
 }
 
 impl Model for TrackedRegion {

@@ -19,7 +19,7 @@ pub(crate) const OVER: u128 = 1 << 63;
 
 /// An element of the guards of a region type: cap_galg's elements have counts and indices of 64
 /// bits, and those of a track are values of terms.
-#[derive(Debug, Drop)]
+#[derive(Debug)]
 pub(crate) enum Element {
     Nothing,
     One,
@@ -32,6 +32,25 @@ pub(crate) enum Element {
     Whole,
     Left(Box<Element>),
     Right(Box<Element>),
+}
+
+// Written out: one call at each exit of a function, where a derived drop is all its parts.
+impl Drop for Element {
+    #[cycle(dropped_elements)]
+    fn drop(self) {
+        match self {
+            Element::Nothing
+            | Element::One
+            | Element::Whole
+            | Element::Share(_)
+            | Element::Tok(_)
+            | Element::Src(_)
+            | Element::Indices(_)
+            | Element::Both(_, _)
+            | Element::Left(_)
+            | Element::Right(_) => {}
+        }
+    }
 }
 
 impl Element {

@@ -20,10 +20,20 @@ use std::collections::BTreeMap;
 use std::marker::Model;
 
 /// What a frame or a region owns: cells by their addresses, and of each region one guard.
-#[derive(Debug, Drop)]
+#[derive(Debug)]
 pub struct Part {
     pub(crate) cells: BTreeMap<i128, i128>,
     pub(crate) guards: BTreeMap<i128, Guard>,
+}
+
+// Written out: one call at each exit of a function, where a derived drop is all its parts.
+impl Drop for Part {
+    fn drop(self) {
+        let Part {
+            cells: _,
+            guards: _,
+        } = self;
+    }
 }
 
 impl Model for Part {

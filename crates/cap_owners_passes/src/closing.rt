@@ -99,11 +99,7 @@ fn owning(
         state,
         part: top.part,
         case,
-        fill: Fill {
-            names,
-            wildcards: top.fill.wildcards,
-            facts: top.fill.facts,
-        },
+        fill: top.fill.with_names(names),
     }
 }
 

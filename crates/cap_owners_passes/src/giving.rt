@@ -65,10 +65,6 @@ pub(crate) fn pass_give(
     let Some(parting) = given.parting else {
         return Ok(Some(0));
     };
-    let left = Fill {
-        names: fill.names,
-        wildcards: given.wildcards,
-        facts: fill.facts,
-    };
+    let left = fill.with_wildcards(given.wildcards);
     pass_side(state, &parting, behind, left, walk)
 }

@@ -23,11 +23,21 @@ use std::alloc::{AllocError, Global};
 
 /// What a frame was given: the tree of the assertion's stability, where it has one, with values of
 /// what is known there, and by what the assertion was met.
-#[derive(Drop)]
 pub struct GivenAssertion<'t, 'a> {
     pub stability: Option<&'t Placed<'a>>,
     pub values: Values,
     pub fill: Fill,
+}
+
+// Written out: one call at each exit of a function, where a derived drop is all its parts.
+impl Drop for GivenAssertion<'_, '_> {
+    fn drop(self) {
+        let GivenAssertion {
+            stability: _,
+            values: _,
+            fill: _,
+        } = self;
+    }
 }
 
 // By what the last of these is met.

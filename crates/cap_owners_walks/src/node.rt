@@ -87,7 +87,7 @@ pub(crate) fn entered_fact(choice: &Choice, tasks: &[Task<'_>]) -> Option<u32>
         ≡ pass_enter enter p s i w) }
 {
     match tasks {
-        [.., Task::Run(_, _)] => opened_fact(choice),
+        [.., Task::Run(..)] => opened_fact(choice),
         _ => None,
     }
 }

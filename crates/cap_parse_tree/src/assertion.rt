@@ -17,25 +17,42 @@ pub enum Counted {
 
 /// A guard's name alone, with an amount in brackets, or with a count or an index in brackets behind
 /// `src`, `tok`, `at` or `from`.
-#[derive(Drop)]
 pub enum GuardAtom {
     Alone(Word),
     Amount(Word, Place, Slot, Place),
     Count(Counted, Place, Word, Place, Slot, Place),
 }
 
+// Written out: one call at each exit of a function, where a derived drop is all its parts.
+impl Drop for GuardAtom {
+    fn drop(self) {
+        match self {
+            GuardAtom::Alone(_)
+            | GuardAtom::Amount(_, _, _, _)
+            | GuardAtom::Count(_, _, _, _, _, _) => {}
+        }
+    }
+}
+
 /// Guards with `*` between them, in parentheses or not.
-#[derive(Drop)]
 pub enum Guards {
     Bare(Separated<GuardAtom>),
     Bracketed(Place, Separated<GuardAtom>, Place),
+}
+
+// Written out: one call at each exit of a function, where a derived drop is all its parts.
+impl Drop for Guards {
+    fn drop(self) {
+        match self {
+            Guards::Bare(_) | Guards::Bracketed(_, _, _) => {}
+        }
+    }
 }
 
 /// A part of an assertion. `Fact` is a region type's name, `(`, the region, a comma and a slot for
 /// each argument, `;`, the slot of the state, `)`. `Guards` is a region, `@`, its guards. `Cell` is an
 /// address, `|->`, a slot. `Choose` is a comparison, `?`, a side, `:`, the other side.
 #[cycle(items)]
-#[derive(Drop)]
 pub enum Item {
     True(Place),
     False(Place),
@@ -44,6 +61,22 @@ pub enum Item {
     Cell(Term, Place, Slot),
     Compare(Comparison),
     Choose(Comparison, Place, Side, Place, Side),
+}
+
+// Written out: one call at each exit of a function, where a derived drop is all its parts.
+impl Drop for Item {
+    #[cycle(dropped_items)]
+    fn drop(self) {
+        match self {
+            Item::True(_)
+            | Item::False(_)
+            | Item::Fact(_, _, _, _, _, _, _)
+            | Item::Guards(_, _, _)
+            | Item::Cell(_, _, _)
+            | Item::Compare(_)
+            | Item::Choose(_, _, _, _, _) => {}
+        }
+    }
 }
 
 /// `&*&`, and an item.

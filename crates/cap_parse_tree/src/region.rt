@@ -44,21 +44,36 @@ pub struct Either {
 
 /// Products of guards with `+` between them.
 #[cycle(algebras)]
-#[derive(Drop)]
 pub struct Algebra {
     pub first: Joint,
     pub more: Vec<Either>,
 }
 
+// Written out: one call at each exit of a function, where a derived drop is all its parts.
+impl Drop for Algebra {
+    #[cycle(dropped_algebras)]
+    fn drop(self) {
+        let Algebra { first: _, more: _ } = self;
+    }
+}
+
 /// `when`, and comparisons with commas between them.
-#[derive(Drop)]
 pub struct When {
     pub key: Place,
     pub comparisons: Separated<Comparison>,
 }
 
+// Written out: one call at each exit of a function, where a derived drop is all its parts.
+impl Drop for When {
+    fn drop(self) {
+        let When {
+            key: _,
+            comparisons: _,
+        } = self;
+    }
+}
+
 /// A state, perhaps conditions, `:`, what the region then owns, `;`.
-#[derive(Drop)]
 pub struct Case {
     pub state: Term,
     pub when: Option<When>,
@@ -67,9 +82,21 @@ pub struct Case {
     pub semicolon: Place,
 }
 
+// Written out: one call at each exit of a function, where a derived drop is all its parts.
+impl Drop for Case {
+    fn drop(self) {
+        let Case {
+            state: _,
+            when: _,
+            colon: _,
+            assertion: _,
+            semicolon: _,
+        } = self;
+    }
+}
+
 /// Guards with `*` between them, `:`, the state before, `~>`, the state behind, perhaps conditions,
 /// `;`.
-#[derive(Drop)]
 pub struct Action {
     pub guards: Separated<GuardAtom>,
     pub colon: Place,
@@ -80,9 +107,23 @@ pub struct Action {
     pub semicolon: Place,
 }
 
+// Written out: one call at each exit of a function, where a derived drop is all its parts.
+impl Drop for Action {
+    fn drop(self) {
+        let Action {
+            guards: _,
+            colon: _,
+            source: _,
+            arrow: _,
+            target: _,
+            when: _,
+            semicolon: _,
+        } = self;
+    }
+}
+
 /// A region type: `region`, its name, its parameters in parentheses, and in braces `guards`, an
 /// algebra, `;`, the cases and the actions.
-#[derive(Drop)]
 pub struct Region {
     pub key: Place,
     pub name: Word,
@@ -96,4 +137,24 @@ pub struct Region {
     pub cases: Group<Case>,
     pub actions: Group<Action>,
     pub end: Place,
+}
+
+// Written out: one call at each exit of a function, where a derived drop is all its parts.
+impl Drop for Region {
+    fn drop(self) {
+        let Region {
+            key: _,
+            name: _,
+            open: _,
+            parameters: _,
+            close: _,
+            brace: _,
+            guards: _,
+            algebra: _,
+            semicolon: _,
+            cases: _,
+            actions: _,
+            end: _,
+        } = self;
+    }
 }

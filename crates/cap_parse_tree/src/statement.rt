@@ -10,7 +10,6 @@ use cap_syntax::Place;
 /// What stands behind `:=`: a term; `Load`, an address in brackets; `Alloc`, `alloc ( NUMBER )`;
 /// `Cas`, `CAS ( term , term , term )`; `Faa`, `FAA ( term , term )`; `Call`, a function and its
 /// arguments.
-#[derive(Drop)]
 pub enum Value {
     Term(Term),
     Load(Place, Term, Place),
@@ -20,11 +19,24 @@ pub enum Value {
     Call(Word, Listed<Term>),
 }
 
+// Written out: one call at each exit of a function, where a derived drop is all its parts.
+impl Drop for Value {
+    fn drop(self) {
+        match self {
+            Value::Term(_)
+            | Value::Load(_, _, _)
+            | Value::Alloc(_, _, _, _)
+            | Value::Cas(_, _, _, _, _, _, _, _)
+            | Value::Faa(_, _, _, _, _, _)
+            | Value::Call(_, _) => {}
+        }
+    }
+}
+
 /// A statement. `Assign` is a name, `:=`, a value, `;`. `Store` is an address in brackets, `:=`, a
 /// term, `;`. `If` is `if (`, a comparison, `)`, a block and perhaps another behind `else`. `While` is
 /// `while (`, a comparison, `)`, perhaps an invariant, and a block.
 #[cycle(statements)]
-#[derive(Drop)]
 pub enum Statement {
     Assign(Word, Place, Value, Place),
     Store(Place, Term, Place, Place, Term, Place),
@@ -35,6 +47,23 @@ pub enum Statement {
     Assert(Place, Comparison, Place),
     Return(Place, Option<Term>, Place),
     Dispose(Place, Place, Term, Place, Place),
+}
+
+// Written out: one call at each exit of a function, where a derived drop is all its parts.
+impl Drop for Statement {
+    fn drop(self) {
+        match self {
+            Statement::Assign(_, _, _, _)
+            | Statement::Store(_, _, _, _, _, _)
+            | Statement::Call(_, _, _)
+            | Statement::Fork(_, _, _, _)
+            | Statement::If(_, _, _, _, _, _)
+            | Statement::While(_, _, _, _, _, _)
+            | Statement::Assert(_, _, _)
+            | Statement::Return(_, _, _)
+            | Statement::Dispose(_, _, _, _, _) => {}
+        }
+    }
 }
 
 /// Statements in braces.

@@ -49,11 +49,22 @@ pub struct Addend {
 
 /// Products with signs between them, the first behind `-` or nothing.
 #[cycle(terms)]
-#[derive(Drop)]
 pub struct Term {
     pub minus: Option<Place>,
     pub first: Product,
     pub more: Vec<Addend>,
+}
+
+// Written out: one call at each exit of a function, where a derived drop is all its parts.
+impl Drop for Term {
+    #[cycle(dropped_terms)]
+    fn drop(self) {
+        let Term {
+            minus: _,
+            first: _,
+            more: _,
+        } = self;
+    }
 }
 
 /// `=`, `!=`, `<`, `<=`, `>` or `>=`.
@@ -68,12 +79,23 @@ pub enum Relation {
 }
 
 /// Two terms, and the relation between them.
-#[derive(Drop)]
 pub struct Comparison {
     pub left: Term,
     pub relation: Relation,
     pub place: Place,
     pub right: Term,
+}
+
+// Written out: one call at each exit of a function, where a derived drop is all its parts.
+impl Drop for Comparison {
+    fn drop(self) {
+        let Comparison {
+            left: _,
+            relation: _,
+            place: _,
+            right: _,
+        } = self;
+    }
 }
 
 /// `_`, or a term.

@@ -9,7 +9,6 @@ use crate::word::Word;
 use cap_syntax::Place;
 
 /// A function: `function`, its name, its parameters, perhaps `requires` and `ensures`, and its body.
-#[derive(Drop)]
 pub struct Function {
     pub key: Place,
     pub name: Word,
@@ -17,6 +16,20 @@ pub struct Function {
     pub precondition: Option<Clause>,
     pub postcondition: Option<Clause>,
     pub body: Block,
+}
+
+// Written out: one call at each exit of a function, where a derived drop is all its parts.
+impl Drop for Function {
+    fn drop(self) {
+        let Function {
+            key: _,
+            name: _,
+            parameters: _,
+            precondition: _,
+            postcondition: _,
+            body: _,
+        } = self;
+    }
 }
 
 /// What stands at the top of a text.
@@ -35,8 +48,17 @@ pub struct Header {
 }
 
 /// The tree of a text.
-#[derive(Drop)]
 pub struct Tree {
     pub header: Option<Header>,
     pub declarations: Vec<Declaration>,
+}
+
+// Written out: one call at each exit of a function, where a derived drop is all its parts.
+impl Drop for Tree {
+    fn drop(self) {
+        let Tree {
+            header: _,
+            declarations: _,
+        } = self;
+    }
 }

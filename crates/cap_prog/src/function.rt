@@ -8,7 +8,7 @@ use cap_syntax::{Place, Text};
 /// body, which ends with its closing return, and the place of its first token. Its variables are its
 /// parameters, numbered from 0, then its locals, its fixed names, the result, and last the names of
 /// the assertion at hand.
-#[derive(Debug, Drop)]
+#[derive(Debug)]
 pub struct Function {
     pub name: Text,
     pub params: u32,
@@ -19,6 +19,23 @@ pub struct Function {
     pub ensures_: Assertion,
     pub body: Vec<Statement>,
     pub place: Place,
+}
+
+// Written out: one call at each exit of a function, where a derived drop is all its parts.
+impl Drop for Function {
+    fn drop(self) {
+        let Function {
+            name: _,
+            params: _,
+            locals: _,
+            fixed: _,
+            variables: _,
+            requires_: _,
+            ensures_: _,
+            body: _,
+            place: _,
+        } = self;
+    }
 }
 
 /// A statement: its number in text order within its function, from 1, and the place of its first
@@ -33,7 +50,7 @@ pub struct Statement {
 
 /// What a statement does. A destination, which is a local, comes first.
 #[cycle(block)]
-#[derive(Debug, Drop)]
+#[derive(Debug)]
 pub enum Act {
     Set(u32, Term),
     /// Reads the cell at an address.
@@ -58,4 +75,26 @@ pub enum Act {
     While(Comp, Assertion, Vec<Statement>),
     Assert(Comp),
     Return(Term),
+}
+
+// Written out: one call at each exit of a function, where a derived drop is all its parts.
+impl Drop for Act {
+    #[cycle(dropped_acts)]
+    fn drop(self) {
+        match self {
+            Act::Set(_, _)
+            | Act::Read(_, _)
+            | Act::Write(_, _)
+            | Act::Cas(_, _, _, _)
+            | Act::Faa(_, _, _)
+            | Act::Dispose(_)
+            | Act::Alloc(_, _)
+            | Act::Call(_, _, _)
+            | Act::Fork(_, _)
+            | Act::If(_, _, _)
+            | Act::While(_, _, _)
+            | Act::Assert(_)
+            | Act::Return(_) => {}
+        }
+    }
 }

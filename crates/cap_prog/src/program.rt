@@ -9,11 +9,22 @@ use std::marker::Model;
 
 /// A program: its region types and its functions, which are numbered from 0 in the order of the text,
 /// and the number of `main`. It is well-formed.
-#[derive(Debug, Drop)]
+#[derive(Debug)]
 pub struct Program {
     regions: Vec<RegionType>,
     functions: Vec<Function>,
     main: u32,
+}
+
+// Written out: one call at each exit of a function, where a derived drop is all its parts.
+impl Drop for Program {
+    fn drop(self) {
+        let Program {
+            regions: _,
+            functions: _,
+            main: _,
+        } = self;
+    }
 }
 
 impl Model for Program {

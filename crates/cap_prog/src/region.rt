@@ -8,7 +8,7 @@ use cap_syntax::{Place, Text};
 /// itself, the algebra of its guards and the names of the algebra's atoms, its cases and its actions,
 /// and the place of its first token. Its variables are its parameters, numbered from 0, and then the
 /// names of the case or the action at hand.
-#[derive(Debug, Drop)]
+#[derive(Debug)]
 pub struct RegionType {
     pub name: Text,
     pub params: u32,
@@ -19,9 +19,24 @@ pub struct RegionType {
     pub place: Place,
 }
 
+// Written out: one call at each exit of a function, where a derived drop is all its parts.
+impl Drop for RegionType {
+    fn drop(self) {
+        let RegionType {
+            name: _,
+            params: _,
+            algebra: _,
+            atoms: _,
+            cases: _,
+            actions: _,
+            place: _,
+        } = self;
+    }
+}
+
 /// A case of an interpretation: where the state is that of the term and the comparisons hold, the
 /// region owns the items. It has the sorts of its names; its place is that of its term.
-#[derive(Debug, Drop)]
+#[derive(Debug)]
 pub struct Case {
     pub names: Vec<Sort>,
     pub state: Term,
@@ -30,10 +45,23 @@ pub struct Case {
     pub place: Place,
 }
 
+// Written out: one call at each exit of a function, where a derived drop is all its parts.
+impl Drop for Case {
+    fn drop(self) {
+        let Case {
+            names: _,
+            state: _,
+            when: _,
+            items: _,
+            place: _,
+        } = self;
+    }
+}
+
 /// An action: where the comparisons hold, who has the guards may change the state from the source to
 /// the target. A guard is an atom's number with what is asked of it. It has the sorts of its names;
 /// its place is that of its guards.
-#[derive(Debug, Drop)]
+#[derive(Debug)]
 pub struct Action {
     pub names: Vec<Sort>,
     pub guards: Vec<(u32, Asked)>,
@@ -41,4 +69,18 @@ pub struct Action {
     pub target: Term,
     pub when: Vec<Comp>,
     pub place: Place,
+}
+
+// Written out: one call at each exit of a function, where a derived drop is all its parts.
+impl Drop for Action {
+    fn drop(self) {
+        let Action {
+            names: _,
+            guards: _,
+            source: _,
+            target: _,
+            when: _,
+            place: _,
+        } = self;
+    }
 }

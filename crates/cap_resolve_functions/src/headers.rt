@@ -41,7 +41,6 @@ pub(crate) struct Named<'s, 'a> {
 }
 
 /// What stands at the head of a function.
-#[derive(Drop)]
 struct Header {
     name: Name,
     params: u32,
@@ -49,6 +48,20 @@ struct Header {
     fixed: Vec<Sort>,
     variables: Vec<Name>,
     place: Place,
+}
+
+// Written out: one call at each exit of a function, where a derived drop is all its parts.
+impl Drop for Header {
+    fn drop(self) {
+        let Header {
+            name: _,
+            params: _,
+            locals: _,
+            fixed: _,
+            variables: _,
+            place: _,
+        } = self;
+    }
 }
 
 fn build_header(
@@ -68,7 +81,7 @@ fn build_header(
         (named_seen names.now).fixed) }
     ensures place { IfOk result (λ h. h.place ≡ (function_view function.now).key) }
 {
-    let name = function.name.text.copy(alloc)?;
+    let name = function.name.text.copy()?;
     let params = names.parameters.len() as u32;
     let locals = names.locals.len() as u32;
     let fixed = build_sorts(alloc, names.fixed)?;
@@ -129,34 +142,40 @@ fn build_ensures<'a>(
     build_new(alloc, body, &known, clause)
 }
 
-fn finish(
-    header: Header,
-    requires_: Assertion,
-    ensures_: Assertion,
-    body: Vec<Statement>,
-) -> Function
-    ensures { seen result ≡ record {
-      name = header.name;
-      params = header.params;
-      locals = header.locals;
-      fixed = header.fixed.items;
-      variables = header.variables.items;
-      requires = items_view requires_;
-      ensures = assertion_view ensures_;
-      body = block_seen body.items;
-      place = header.place;
-    } }
-{
-    Function {
-        name: header.name,
-        params: header.params,
-        locals: header.locals,
-        fixed: header.fixed,
-        variables: header.variables,
-        requires_,
-        ensures_,
-        body,
-        place: header.place,
+impl Header {
+    // The function of this header.
+    fn finish(self, requires_: Assertion, ensures_: Assertion, body: Vec<Statement>) -> Function
+        ensures { seen result ≡ record {
+          name = self.name;
+          params = self.params;
+          locals = self.locals;
+          fixed = self.fixed.items;
+          variables = self.variables.items;
+          requires = items_view requires_;
+          ensures = assertion_view ensures_;
+          body = block_seen body.items;
+          place = self.place;
+        } }
+    {
+        let Header {
+            name,
+            params,
+            locals,
+            fixed,
+            variables,
+            place,
+        } = self;
+        Function {
+            name,
+            params,
+            locals,
+            fixed,
+            variables,
+            requires_,
+            ensures_,
+            body,
+            place,
+        }
     }
 }
 
@@ -183,7 +202,7 @@ fn with_ensures<'a>(
     }) }
 {
     let statements = build_body(alloc, &function.body, body)?;
-    Ok(finish(header, requires_, ensures_, statements))
+    Ok(header.finish(requires_, ensures_, statements))
 }
 
 fn with_requires<'a>(

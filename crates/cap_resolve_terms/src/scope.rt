@@ -21,10 +21,19 @@ pub struct Known<'a> {
 
 /// Of each variable its name and sort, or none where its name is not known. Of two variables with
 /// one name the first is meant.
-#[derive(Drop)]
 pub struct Scope<'a> {
     entries: Vec<Option<Known<'a>>>,
     numbers: IndexMap<&'a [u8], usize>,
+}
+
+// Written out: one call at each exit of a function, where a derived drop is all its parts.
+impl Drop for Scope<'_> {
+    fn drop(self) {
+        let Scope {
+            entries: _,
+            numbers: _,
+        } = self;
+    }
 }
 
 impl<'a> Model for Scope<'a> {

@@ -195,7 +195,7 @@ fn root_state(alloc: Global, program: &Program) -> Result<State, Fail> {
         Err("no root")?;
     }
     let root = all.swap_remove(0).ok_or("a root without tasks")?;
-    Ok(root.state)
+    Ok(root.state.copy()?)
 }
 
 // The state of a root, with a member more in each list.
