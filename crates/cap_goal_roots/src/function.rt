@@ -1,10 +1,10 @@
 //! The roots of a function: its contract, its body, and the invariants of its loops.
-ghost use Rattle.std.specs.Prelude.{◌≡◌, ◌<◌, ◌++◌, [], ◌∷◌, length, flat_map, IfOk};
+ghost use Rattle.std.specs.Prelude.{◌≡◌, ◌++◌, [], ◌∷◌, length, flat_map, IfOk};
 ghost use Rattle.std.specs.List.{AllByRecursion};
 ghost use Rattle.cap_prog.specs.Program.{done};
 ghost use Rattle.cap_prog.specs.Views.{items_view, function_view};
-ghost use Rattle.cap_goal_spec.specs.States.{to_give, to_rest, to_take, to_run, longest_list};
-ghost use Rattle.cap_goal_spec.specs.Roots.{empty_state, loops_in};
+ghost use Rattle.cap_goal_spec.specs.States.{to_give, to_rest, to_take, to_run};
+ghost use Rattle.cap_goal_spec.specs.Roots.{loops_in};
 ghost use Rattle.cap_goal_spec.specs.Roots.{home_of as home, root_env as env_of_root};
 ghost use Rattle.cap_goal_spec.specs.Roots.{root_state as state_of_root, root_store as store_of_root};
 ghost use Rattle.cap_goal_spec.specs.Roots.{stability as stable, from_given as given};
@@ -110,22 +110,6 @@ fn root_env(
     Ok(Env { terms })
 }
 
-// Gives a state of empty lists its variables and its locals.
-fn fill_root(
-    alloc: Global,
-    state: &mut State,
-    knows: Knows,
-    function: &Function,
-) -> Result<(), AllocError>
-    requires empty { state.old ≡ empty_state }
-    requires narrow { IsNarrow (function_view function.now) 0 }
-    ensures { IfOk result (λ _. state.new
-        ≡ state_of_root (knows_view knows) (function_view function.now) 0 []) }
-{
-    add_all_sorts(state, &root_sorts(alloc, knows, function)?)?;
-    add_all_values(alloc, state, &root_store(alloc, knows, function)?)
-}
-
 // The state without environments.
 fn root_state(
     alloc: Global,
@@ -138,81 +122,9 @@ fn root_state(
         ≡ state_of_root (knows_view knows) (function_view function.now) number []) }
 {
     let mut state = State::new(alloc)?;
-    match fill_root(alloc, &mut state, knows, function) {
-        Ok(()) => Ok(state),
-        Err(stop) => {
-            drop(state);
-            Err(stop)
-        }
-    }
-}
-
-// Appends the environment of an assertion with so many new names.
-fn add_root_env(
-    alloc: Global,
-    state: &mut State,
-    knows: Knows,
-    function: &Function,
-    number: u32,
-    new: u32,
-) -> Result<(), AllocError>
-    requires narrow { IsNarrow (function_view function.now) new }
-    requires room { length state.old.envs < longest_list }
-    ensures { IfOk result (λ _. state.new
-        ≡ record state.old {
-          envs = state.old.envs
-              ++ env_of_root (knows_view knows) (function_view function.now) number new ∷ [];
-        }) }
-{
-    let env = root_env(alloc, knows, function, number, new)?;
-    state.add_envs(env)
-}
-
-// The state with one environment.
-fn root_with_env(
-    alloc: Global,
-    knows: Knows,
-    function: &Function,
-    number: u32,
-    new: u32,
-) -> Result<State, AllocError>
-    requires { IsNarrow (function_view function.now) new }
-    ensures { IfOk result (λ s. s
-        ≡ state_of_root (knows_view knows) (function_view function.now) number
-        (env_of_root (knows_view knows) (function_view function.now) number new ∷ [])) }
-{
-    let mut state = root_state(alloc, knows, function, number)?;
-    match add_root_env(alloc, &mut state, knows, function, number, new) {
-        Ok(()) => Ok(state),
-        Err(stop) => {
-            drop(state);
-            Err(stop)
-        }
-    }
-}
-
-// The state with two equal environments.
-fn root_with_envs(
-    alloc: Global,
-    knows: Knows,
-    function: &Function,
-    number: u32,
-    new: u32,
-) -> Result<State, AllocError>
-    requires { IsNarrow (function_view function.now) new }
-    ensures { IfOk result (λ s. s
-        ≡ state_of_root (knows_view knows) (function_view function.now) number
-        (env_of_root (knows_view knows) (function_view function.now) number new
-        ∷ env_of_root (knows_view knows) (function_view function.now) number new ∷ [])) }
-{
-    let mut state = root_with_env(alloc, knows, function, number, new)?;
-    match add_root_env(alloc, &mut state, knows, function, number, new) {
-        Ok(()) => Ok(state),
-        Err(stop) => {
-            drop(state);
-            Err(stop)
-        }
-    }
+    add_all_sorts(&mut state, &root_sorts(alloc, knows, function)?)?;
+    add_all_values(alloc, &mut state, &root_store(alloc, knows, function)?)?;
+    Ok(state)
 }
 
 // The tasks that make sure that an assertion, once given, can be given up again.
@@ -246,8 +158,10 @@ fn stability<'a>(
         ≡ stable (knows_view knows) (function_view function.now) number new
         (items_view assertion.now)) }
 {
+    let mut state = root_state(alloc, knows, function, number)?;
+    state.add_envs(root_env(alloc, knows, function, number, new)?)?;
+    state.add_envs(root_env(alloc, knows, function, number, new)?)?;
     let tasks = stability_tasks(alloc, assertion)?;
-    let state = root_with_envs(alloc, knows, function, number, new)?;
     Ok(goal_of(state, tasks))
 }
 
@@ -270,7 +184,8 @@ fn from_given<'a>(
     tasks.push(task)?;
     let items = items_of(alloc, assertion)?;
     tasks.push(Task::Give(items, 0, 0))?;
-    let state = root_with_env(alloc, knows, function, number, new)?;
+    let mut state = root_state(alloc, knows, function, number)?;
+    state.add_envs(root_env(alloc, knows, function, number, new)?)?;
     Ok(goal_of(state, tasks))
 }
 

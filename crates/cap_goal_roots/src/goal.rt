@@ -26,7 +26,6 @@ pub fn goal_of<'a>(state: State, mut tasks: Vec<Task<'a>>) -> Option<Goal<'a>>
 {
     let left = left_over(&tasks, state.facts().len());
     if left == 0 {
-        drop(state);
         return None;
     }
     tasks.truncate(left);

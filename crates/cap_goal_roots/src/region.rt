@@ -79,27 +79,6 @@ fn case_env(alloc: Global, region: &RegionType, case: &Case) -> Result<Env, Allo
     Ok(Env { terms })
 }
 
-// Gives a state of empty lists its variables, the opened region and its environment.
-fn open_case(
-    alloc: Global,
-    state: &mut State,
-    region: &RegionType,
-    number: u32,
-    case: &Case,
-) -> Result<(), AllocError>
-    requires empty { state.old ≡ empty_state }
-    requires positive { 0 < region.now.params }
-    requires narrow { CaseIsNarrow (region_view region.now) (case_view case.now) }
-    ensures { IfOk result (λ _. state.new
-        ≡ record (state_of_case (region_view region.now) number (case_view case.now)) {
-          rows = [];
-        }) }
-{
-    add_all_sorts(state, &case_sorts(alloc, region, case)?)?;
-    state.add_opened(case_fact(alloc, region, number, case)?)?;
-    state.add_envs(case_env(alloc, region, case)?)
-}
-
 // The state without what is known.
 fn opened_state(
     alloc: Global,
@@ -115,13 +94,10 @@ fn opened_state(
         }) }
 {
     let mut state = State::new(alloc)?;
-    match open_case(alloc, &mut state, region, number, case) {
-        Ok(()) => Ok(state),
-        Err(stop) => {
-            drop(state);
-            Err(stop)
-        }
-    }
+    add_all_sorts(&mut state, &case_sorts(alloc, region, case)?)?;
+    state.add_opened(case_fact(alloc, region, number, case)?)?;
+    state.add_envs(case_env(alloc, region, case)?)?;
+    Ok(state)
 }
 
 fn case_state(
@@ -136,13 +112,8 @@ fn case_state(
         (state_of_case (region_view region.now) number (case_view case.now)) }
 {
     let mut state = opened_state(alloc, region, number, case)?;
-    match add_comparisons(alloc, &mut state, &case.when) {
-        Ok(()) => Ok(state),
-        Err(stop) => {
-            drop(state);
-            Err(stop)
-        }
-    }
+    add_comparisons(alloc, &mut state, &case.when)?;
+    Ok(state)
 }
 
 // What is to be done for a case: its items are given, and then the region is closed as it was.
@@ -169,8 +140,8 @@ fn case_root<'a>(
     ensures { IsExactBy result root_view (case_steps (case_view case.now))
         (root_of_case (region_view region.now) number (case_view case.now)) }
 {
-    let tasks = case_tasks(alloc, case)?;
     let state = case_state(alloc, region, number, case)?;
+    let tasks = case_tasks(alloc, case)?;
     Ok(goal_of(state, tasks))
 }
 

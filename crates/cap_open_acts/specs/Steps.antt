@@ -7,7 +7,7 @@ use Rattle.cap_prog.specs.Program.{PlainAct, PlainCase, PlainProgram}
 use Rattle.cap_rules_steps.specs.cap_goal_spec.States.{PlainFact, PlainEnv, PlainState, PlainTask, PlainGoal, goals_of}
 use Rattle.cap_rules_steps.specs.cap_goal_spec.Environments.{zero_value, one_value}
 use Rattle.cap_rules_steps.specs.cap_rules.Attempts.{Attempt, unit, ◌>>=◌, found, need}
-use Rattle.cap_rules_steps.specs.cap_rules.Making.{is_empty, sum, value_here, determined, rows_by, prove_equal, prove_differ, with_comparison, with_rows, with_sorts, with_local, with_env}
+use Rattle.cap_rules_steps.specs.cap_rules.Making.{is_empty, sum, value_here, determined, rows_by, prove_equal, prove_differ, with_comparison, with_rows, with_local, with_env}
 use Rattle.cap_rules_steps.specs.cap_rules.Closing.{address_of, of_type, prove_other, with_opened, case_goals, Rival, rivals, with_marks, with_content, acted, closing}
 
 -- the region is another than an opened one, where they are of one type
@@ -42,33 +42,11 @@ act_at s j marks n a ts = do
   states ← acted s' j c a
   unit (flat_map (λ s''. goals_of s'' (closing s.opened n ts)) states)
 
--- the statement of this number acts on cell c, number j, and the opened regions are closed
-abbrev pub acted_goals :
-    PlainState → ℕ → Linear × Linear → PlainAct → List PlainFact → ℕ → List PlainTask → Attempt (List PlainGoal)
-acted_goals s j c a opened n ts = do
-  states ← acted s j c a
-  unit (flat_map (λ s'. goals_of s' (closing opened n ts)) states)
-
 -- a term's value is written to cell c, number j
 abbrev pub written : PlainState → ℕ → Linear × Linear → Linear → Attempt PlainState
 written s j c t = do
   u ← value_here s t
   unit (with_content s j c u)
-
--- cell c, number j, is compared with the value e in state s, and u is swapped in in state s', in
--- which it was equal
-abbrev pub swapped_with :
-    PlainState → PlainState → ℕ → Linear × Linear → ℕ → Linear → Linear → Attempt (List PlainState)
-swapped_with s s' j c x e u = do
-  s'' ← with_comparison s c.1 Unequal e Int
-  unit (with_local (with_content s' j c u) x one_value ∷ with_local s'' x zero_value ∷ [])
-
--- the same with the value of a term
-abbrev pub swapped_once :
-    PlainState → PlainState → ℕ → Linear × Linear → ℕ → Linear → Linear → Attempt (List PlainState)
-swapped_once s s' j c x e new = do
-  u ← value_here s new
-  swapped_with s s' j c x e u
 
 -- cell c, number j, is compared with the value e, and where they are equal another one is swapped
 -- in
@@ -110,9 +88,3 @@ case_known s f c env = do
   rows ← rows_by env c.when
   s'' ← with_rows s' rows
   with_env s'' env
-
--- the same behind fresh variables for the names of the case
-abbrev pub case_entered : PlainState → PlainFact → PlainCase → PlainEnv → Attempt PlainState
-case_entered s f c env = do
-  s' ← with_sorts s c.names
-  case_known s' f c env

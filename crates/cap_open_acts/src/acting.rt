@@ -1,6 +1,5 @@
 //! A statement acts on a cell.
 ghost use Rattle.std.specs.Prelude.{◌≡◌, ◌++◌, [], ◌∷◌, IfOk, OnOk, flat_map, map, option_map};
-ghost use Rattle.std.specs.Prelude.{option_to_list};
 ghost use Rattle.cap_lin.specs.Linear.{number};
 ghost use Rattle.cap_rules_steps.specs.cap_goal_spec.Environments.{zero_value, one_value};
 ghost use Rattle.cap_prog.specs.Views.{act_view};
@@ -15,9 +14,7 @@ ghost use Rattle.cap_rules_steps.specs.cap_rules.Making.{with_comparison};
 ghost use Rattle.cap_rules_steps.specs.cap_rules.Making.{with_local as with_local_of};
 ghost use Rattle.cap_rules_steps.specs.Goals.{goals_view};
 ghost use Rattle.cap_rules_steps.specs.Walks.{Makes, Claims, seen};
-ghost use Rattle.cap_open_acts.specs.Steps.{act_at, acted_goals};
-ghost use Rattle.cap_open_acts.specs.Steps.{added, disposed, written, swapped};
-ghost use Rattle.cap_open_acts.specs.Steps.{swapped_by, swapped_once, swapped_with};
+ghost use Rattle.cap_open_acts.specs.Steps.{act_at, added, disposed, written, swapped, swapped_by};
 ghost use Rattle.cap_open_acts.specs.Acts.{heap_act_view, heap_act_of, heap_acted};
 ghost use Rattle.cap_open_acts.specs.Views.{outcomes_view};
 
@@ -57,47 +54,13 @@ fn with_content(
     Ok(())
 }
 
-// The state in which a cell has another content.
-fn holding(
-    alloc: Global,
-    state: State,
-    number: u32,
-    cell: &(Term, Term),
-    content: Term,
-) -> Result<State, AllocError>
-    ensures { IfOk result (λ s. s ≡ with_content_of state number cell.now content) }
-{
-    let mut next = state;
-    match with_content(alloc, &mut next, number, cell, content) {
-        Ok(()) => Ok(next),
-        Err(stop) => {
-            drop(next);
-            Err(stop)
-        }
-    }
-}
-
-// The state in which a local has another value.
-fn with_value(state: State, local: u32, value: Term) -> Result<State, AllocError>
-    ensures { IfOk result (λ s. s ≡ with_local_of state local value) }
-{
-    let mut next = state;
-    match with_local(&mut next, local, value) {
-        Ok(()) => Ok(next),
-        Err(stop) => {
-            drop(next);
-            Err(stop)
-        }
-    }
-}
-
 // The local becomes what the cell holds.
 fn read(alloc: Global, state: &State, local: u32, cell: &(Term, Term)) -> Result<State, AllocError>
     ensures { IfOk result (λ s. s ≡ with_local_of state.now local cell.now.1) }
 {
-    let content = cell.1.copy(alloc)?;
-    let next = state.copy()?;
-    with_value(next, local, content)
+    let mut next = state.copy()?;
+    with_local(&mut next, local, cell.1.copy(alloc)?)?;
+    Ok(next)
 }
 
 // The cell holds the value of a term.
@@ -111,8 +74,9 @@ fn write(
     ensures { Makes result (written state.now number cell.now term.now) }
 {
     let content = value_here(alloc, state, term)?;
-    let next = state.copy()?;
-    Ok(holding(alloc, next, number, cell, content)?)
+    let mut next = state.copy()?;
+    with_content(alloc, &mut next, number, cell, content)?;
+    Ok(next)
 }
 
 // A copy of the state in which the cell's content compares so with a value.
@@ -126,20 +90,17 @@ fn compared(
     ensures { Makes result (with_comparison state.now cell.now.1 op value.now Sort.Int) }
 {
     let mut next = state.copy()?;
-    match with_comparison(alloc, &mut next, &cell.1, op, value, Sort::Int) {
-        Ok(()) => Ok(next),
-        Err(stop) => {
-            drop(next);
-            Err(stop)
-        }
-    }
+    with_comparison(alloc, &mut next, &cell.1, op, value, Sort::Int)?;
+    Ok(next)
 }
 
 // The state in which the local tells, by 1 or 0, whether a compare-and-swap stored something.
 fn told(alloc: Global, state: State, local: u32, flag: i128) -> Result<State, AllocError>
     ensures { IfOk result (λ s. s ≡ with_local_of state local (number flag)) }
 {
-    with_value(state, local, Term::constant(alloc, flag))
+    let mut next = state;
+    with_local(&mut next, local, Term::constant(alloc, flag))?;
+    Ok(next)
 }
 
 // The state in which the cell holds the new value, and the local tells so.
@@ -154,30 +115,9 @@ fn stored(
     ensures { IfOk result (λ s. s
         ≡ with_local_of (with_content_of state place cell.now content) local one_value) }
 {
-    let next = holding(alloc, state, place, cell, content)?;
+    let mut next = state;
+    with_content(alloc, &mut next, place, cell, content)?;
     told(alloc, next, local, 1)
-}
-
-// This state, and the other one, in which the local tells that nothing was stored.
-fn either_told(
-    alloc: Global,
-    done: State,
-    failed: State,
-    local: u32,
-) -> Result<Outcomes, AllocError>
-    ensures { IfOk result
-        (λ o. outcomes_view o ≡ done ∷ with_local_of failed local zero_value ∷ []) }
-{
-    match told(alloc, failed, local, 0) {
-        Ok(failed) => Ok(Outcomes {
-            done,
-            failed: Some(failed),
-        }),
-        Err(stop) => {
-            drop(done);
-            Err(stop)
-        }
-    }
 }
 
 // The state in which the cell held the old value and now holds the new one, and the one in which it
@@ -195,60 +135,12 @@ fn swap_outcomes(
         ≡ with_local_of (with_content_of done place cell.now content) local one_value
         ∷ with_local_of failed local zero_value ∷ []) }
 {
-    match stored(alloc, done, place, cell, local, content) {
-        Ok(done) => either_told(alloc, done, failed, local),
-        Err(stop) => {
-            drop(failed);
-            Err(stop)
-        }
-    }
-}
-
-// What a compare-and-swap leaves, where this value is expected and not found in the one state, and
-// the new one has this value. The other state is that in which it is found.
-fn swap_with(
-    alloc: Global,
-    state: &State,
-    done: State,
-    place: u32,
-    cell: &(Term, Term),
-    local: u32,
-    expected: &Term,
-    content: Term,
-) -> Result<Outcomes, RuleError>
-    ensures { Makes (seen outcomes_view result)
-        (swapped_with state.now done place cell.now local expected.now content) }
-{
-    match compared(alloc, state, cell, Op::Ne, expected) {
-        Ok(failed) => Ok(swap_outcomes(alloc, done, failed, place, cell, local, content)?),
-        Err(stop) => {
-            drop(done);
-            Err(stop)
-        }
-    }
-}
-
-// The same, where the new value is that of a term.
-fn swap_once(
-    alloc: Global,
-    state: &State,
-    done: State,
-    place: u32,
-    cell: &(Term, Term),
-    local: u32,
-    expected: &Term,
-    new: &Term,
-) -> Result<Outcomes, RuleError>
-    ensures { Makes (seen outcomes_view result)
-        (swapped_once state.now done place cell.now local expected.now new.now) }
-{
-    match value_here(alloc, state, new) {
-        Ok(content) => swap_with(alloc, state, done, place, cell, local, expected, content),
-        Err(stop) => {
-            drop(done);
-            Err(RuleError::from(stop))
-        }
-    }
+    let done = stored(alloc, done, place, cell, local, content)?;
+    let failed = told(alloc, failed, local, 0)?;
+    Ok(Outcomes {
+        done,
+        failed: Some(failed),
+    })
 }
 
 // What a compare-and-swap leaves, where this value is expected.
@@ -265,7 +157,9 @@ fn swap_by(
         (swapped_by state.now place cell.now local expected.now new.now) }
 {
     let done = compared(alloc, state, cell, Op::Eq, expected)?;
-    swap_once(alloc, state, done, place, cell, local, expected, new)
+    let content = value_here(alloc, state, new)?;
+    let failed = compared(alloc, state, cell, Op::Ne, expected)?;
+    Ok(swap_outcomes(alloc, done, failed, place, cell, local, content)?)
 }
 
 // The local tells, by 1 or 0, whether the cell held the old value; where it did it holds the new
@@ -299,10 +193,10 @@ fn add(
 {
     let more = value_here(alloc, state, term)?;
     let sum = cell.1.add(alloc, &more)?;
-    let before = cell.1.copy(alloc)?;
-    let next = state.copy()?;
-    let next = holding(alloc, next, number, cell, sum)?;
-    Ok(with_value(next, local, before)?)
+    let mut next = state.copy()?;
+    with_content(alloc, &mut next, number, cell, sum)?;
+    with_local(&mut next, local, cell.1.copy(alloc)?)?;
+    Ok(next)
 }
 
 // The cell goes. Nothing changes where there is none of this number.
@@ -313,13 +207,8 @@ fn dispose(state: &State, number: u32) -> Result<State, AllocError>
     if number as usize >= next.cells().len() {
         return Ok(next);
     }
-    match next.cut_cells(number) {
-        Ok(()) => Ok(next),
-        Err(stop) => {
-            drop(next);
-            Err(stop)
-        }
-    }
+    next.cut_cells(number)?;
+    Ok(next)
 }
 
 /// What a statement does to the cell at its address: it reads it into a local, writes a term, swaps
@@ -423,55 +312,8 @@ fn add_outcome<'a>(
     ensures { OnOk result (map goal_view goals.new.items ≡ map goal_view goals.old.items
         ++ goals_of state (closing opened.now at (tasks_view tasks.now))) }
 {
-    match closing_tasks(alloc, opened, at, tasks) {
-        Ok(tasks) => add_goal(goals, state, tasks),
-        Err(stop) => {
-            drop(state);
-            Err(stop)
-        }
-    }
-}
-
-// Adds such a goal for this state, if there is one.
-fn add_failed<'a>(
-    alloc: Global,
-    goals: &mut Vec<Goal<'a>>,
-    failed: Option<State>,
-    opened: &[Fact],
-    at: u32,
-    tasks: &[Task<'a>],
-) -> Result<(), AllocError>
-    ensures { OnOk result (map goal_view goals.new.items ≡ map goal_view goals.old.items
-        ++ flat_map (λ s. goals_of s (closing opened.now at (tasks_view tasks.now)))
-        (option_to_list failed)) }
-{
-    match failed {
-        None => Ok(()),
-        Some(state) => add_outcome(alloc, goals, state, opened, at, tasks),
-    }
-}
-
-// Adds such a goal for each state.
-fn add_outcomes<'a>(
-    alloc: Global,
-    goals: &mut Vec<Goal<'a>>,
-    outcomes: Outcomes,
-    opened: &[Fact],
-    at: u32,
-    tasks: &[Task<'a>],
-) -> Result<(), AllocError>
-    ensures { OnOk result (map goal_view goals.new.items ≡ map goal_view goals.old.items
-        ++ flat_map (λ s. goals_of s (closing opened.now at (tasks_view tasks.now)))
-        (outcomes_view outcomes)) }
-{
-    let Outcomes { done, failed } = outcomes;
-    match add_outcome(alloc, goals, done, opened, at, tasks) {
-        Ok(()) => add_failed(alloc, goals, failed, opened, at, tasks),
-        Err(stop) => {
-            drop(failed);
-            Err(stop)
-        }
-    }
+    let tasks = closing_tasks(alloc, opened, at, tasks)?;
+    add_goal(goals, state, tasks)
 }
 
 // A goal for each state.
@@ -487,7 +329,10 @@ fn goals_after<'a>(
         (outcomes_view outcomes)) }
 {
     let mut goals = Vec::new(alloc);
-    add_outcomes(alloc, &mut goals, outcomes, opened, at, tasks)?;
+    add_outcome(alloc, &mut goals, outcomes.done, opened, at, tasks)?;
+    if let Some(failed) = outcomes.failed {
+        add_outcome(alloc, &mut goals, failed, opened, at, tasks)?;
+    }
     Ok(goals)
 }
 
@@ -504,31 +349,8 @@ fn marked(
 {
     let pairs = rivals(alloc, state)?;
     let mut next = state.copy()?;
-    match with_marks(alloc, ledger, &mut next, &pairs, marks) {
-        Ok(()) => Ok(next),
-        Err(stop) => {
-            drop(next);
-            Err(stop)
-        }
-    }
-}
-
-// What is left of a state once a statement acts on a cell.
-fn act_on<'a>(
-    alloc: Global,
-    state: &State,
-    number: u32,
-    cell: &(Term, Term),
-    act: &Act,
-    opened: &[Fact],
-    at: u32,
-    tasks: &[Task<'a>],
-) -> Result<Vec<Goal<'a>>, RuleError>
-    ensures { Makes (seen goals_view result) (acted_goals state.now number cell.now
-        (act_view act.now) opened.now at (tasks_view tasks.now)) }
-{
-    let outcomes = acted(alloc, state, number, cell, act)?;
-    Ok(goals_after(alloc, outcomes, opened, at, tasks)?)
+    with_marks(alloc, ledger, &mut next, &pairs, marks)?;
+    Ok(next)
 }
 
 /// A statement acts on a cell, which is claimed to be at its address. Each fact whose type is that
@@ -552,5 +374,6 @@ pub fn act<'a>(
     let place = value_here(alloc, state, address)?;
     prove_equal(alloc, ledger, state, &cell.0, &place)?;
     let next = marked(alloc, ledger, state, marks)?;
-    act_on(alloc, &next, number, cell, act, state.opened(), at, tasks)
+    let outcomes = acted(alloc, &next, number, cell, act)?;
+    Ok(goals_after(alloc, outcomes, state.opened(), at, tasks)?)
 }

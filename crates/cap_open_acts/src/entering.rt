@@ -1,6 +1,6 @@
 //! Regions are opened.
 ghost use Rattle.std.specs.Prelude.{◌≡◌, ◌<◌, ◌≤◌, ◌++◌, ◌∷◌, [], length, map, IfOk, OnOk};
-ghost use Rattle.std.specs.Prelude.{MatchResult, ◌+◌, remove};
+ghost use Rattle.std.specs.Prelude.{MatchResult, ◌+◌};
 ghost use Rattle.cap_prog.specs.Program.{none};
 ghost use Rattle.cap_prog.specs.Views.{act_view, case_view, items_view, program_view};
 ghost use Rattle.cap_goal.specs.Views.{items_in, tasks_view};
@@ -14,7 +14,7 @@ ghost use Rattle.cap_rules_steps.specs.cap_rules.Closing.{case_names as names_of
 ghost use Rattle.cap_rules_steps.specs.cap_rules.Closing.{case_goals as goals_of_cases};
 ghost use Rattle.cap_rules_steps.specs.Goals.{goals_view};
 ghost use Rattle.cap_rules_steps.specs.Walks.{Makes, Claims, giving, seen};
-ghost use Rattle.cap_open_acts.specs.Steps.{enter_at, one_other, step_begun, case_known, case_entered};
+ghost use Rattle.cap_open_acts.specs.Steps.{enter_at, one_other, step_begun, case_known};
 
 use crate::lookup::{fact_at, heap_address};
 use cap_goal::{Env, Fact, Goal, Items, State, Task};
@@ -107,28 +107,8 @@ fn begun(alloc: Global, state: &State) -> Result<State, AllocError>
     if !state.opened().is_empty() {
         return Ok(next);
     }
-    match begin_step(alloc, &mut next, state.guards()) {
-        Ok(()) => Ok(next),
-        Err(stop) => {
-            drop(next);
-            Err(stop)
-        }
-    }
-}
-
-// Opens a fact's region.
-fn open(alloc: Global, state: &mut State, number: u32, fact: &Fact) -> Result<(), AllocError>
-    requires exists { number < length state.old.facts }
-    requires two { length state.old.opened < 2 }
-    ensures { IfOk result (λ _. state.new
-        ≡ record state.old {
-          facts = remove state.old.facts number;
-          opened = state.old.opened ++ fact.now ∷ [];
-        }) }
-{
-    state.cut_facts(number)?;
-    let opened = fact.copy(alloc)?;
-    state.add_opened(opened)
+    begin_step(alloc, &mut next, state.guards())?;
+    Ok(next)
 }
 
 // The state in which a fact's region is opened.
@@ -139,13 +119,9 @@ fn with_opened(alloc: Global, state: &State, number: u32, fact: &Fact) -> Result
     ensures { IfOk result (λ s. s ≡ opened_state state.now number fact.now) }
 {
     let mut next = begun(alloc, state)?;
-    match open(alloc, &mut next, number, fact) {
-        Ok(()) => Ok(next),
-        Err(stop) => {
-            drop(next);
-            Err(stop)
-        }
-    }
+    next.cut_facts(number)?;
+    next.add_opened(fact.copy(alloc)?)?;
+    Ok(next)
 }
 
 // Binds names to these terms.
@@ -195,35 +171,16 @@ fn with_case(
     Ok(())
 }
 
-// Adds the variables of the case, what is known in it, and the environment.
-fn enter_case(
-    alloc: Global,
-    state: &mut State,
-    fact: &Fact,
-    case: &Case,
-    names: Env,
-) -> Result<(), RuleError>
-    ensures { Makes (giving result state.new)
-        (case_entered state.old fact.now (case_view case.now) names) }
-{
-    with_sorts(alloc, state, &case.names)?;
-    with_case(alloc, state, fact, case, names)
-}
-
 // The opened region is in this case.
 fn in_case(alloc: Global, state: &State, fact: &Fact, case: &Case) -> Result<State, RuleError>
     requires { length state.now.sorts ≤ longest_list }
     ensures { Makes result (state_in_case state.now fact.now (case_view case.now)) }
 {
-    let names = case_names(alloc, state, fact, case)?;
     let mut next = state.copy()?;
-    match enter_case(alloc, &mut next, fact, case, names) {
-        Ok(()) => Ok(next),
-        Err(stop) => {
-            drop(next);
-            Err(stop)
-        }
-    }
+    with_sorts(alloc, &mut next, &case.names)?;
+    let names = case_names(alloc, state, fact, case)?;
+    with_case(alloc, &mut next, fact, case, names)?;
+    Ok(next)
 }
 
 // The items of an assertion are given before the tasks.
@@ -269,8 +226,8 @@ pub(crate) fn case_goals<'a>(
     let env = state.envs().len() as u32;
     let mut goals = Vec::new(alloc);
     for case in cases {
-        let given = with_give(alloc, &case.items, env, at, tasks)?;
         let next = in_case(alloc, state, fact, case)?;
+        let given = with_give(alloc, &case.items, env, at, tasks)?;
         add_goal(&mut goals, next, given)?;
     }
     Ok(goals)

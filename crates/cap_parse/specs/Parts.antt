@@ -1,7 +1,6 @@
 -- Parts of productions that are read by functions of their own. Only private functions cite this.
 use Rattle.std.specs.Prelude.{ℕ, List, Option, map, option_map, Ok}
 use Rattle.cap_syntax.specs.declared.place.Place.{Place}
-use Rattle.cap_parse_tree.specs.declared.term.Relation.{Relation}
 use Rattle.cap_parse_tree.specs.declared.word.Word.{Word}
 use Rattle.cap_parse_tree.specs.declared.list.Separated.{Separated}
 use Rattle.cap_parse_tree.specs.declared.term.Term.{Term}
@@ -158,9 +157,3 @@ read_action_end room ts = do
   w ← read_optional_when room ts
   e ← expect c.Semicolon w.1
   Ok ((w.0, e.0), e.1)
-
--- a relation, and the place of its token, which comes next
-abbrev pub related : Relation → Reader (Relation × Place)
-related r ts = do
-  p ← next_place ts
-  Ok ((r, p.0), p.1)

@@ -51,13 +51,7 @@ impl<'a> Cursor<'a> {
             Class::OpenBracket => {
                 let (inner, open) = self.opening(room, Class::OpenBracket)?;
                 let slot = self.slot(inner)?;
-                let close = match self.expect(Class::CloseBracket) {
-                    Ok(close) => close,
-                    Err(stop) => {
-                        drop(slot);
-                        return Err(stop);
-                    }
-                };
+                let close = self.expect(Class::CloseBracket)?;
                 Ok(GuardAtom::Amount(name, open, slot, close))
             }
             _ => Ok(GuardAtom::Alone(name)),
@@ -110,13 +104,7 @@ impl<'a> Cursor<'a> {
             (read_guards room self.old.rest) }
     {
         let first = self.guard(room)?;
-        let more = match self.more_guards(room) {
-            Ok(more) => more,
-            Err(stop) => {
-                drop(first);
-                return Err(stop);
-            }
-        };
+        let more = self.more_guards(room)?;
         Ok(Separated { first, more })
     }
 
@@ -127,13 +115,7 @@ impl<'a> Cursor<'a> {
             Class::Open => {
                 let (inner, open) = self.opening(room, Class::Open)?;
                 let guards = self.guards(inner)?;
-                let close = match self.expect(Class::Close) {
-                    Ok(close) => close,
-                    Err(stop) => {
-                        drop(guards);
-                        return Err(stop);
-                    }
-                };
+                let close = self.expect(Class::Close)?;
                 Ok(Guards::Bracketed(open, guards, close))
             }
             _ => Ok(Guards::Bare(self.guards(room)?)),
@@ -308,13 +290,7 @@ impl<'a> Cursor<'a> {
             (read_assertion room self.old.rest) }
     {
         let first = self.item(room)?;
-        let more = match self.more_items(room) {
-            Ok(more) => more,
-            Err(stop) => {
-                drop(first);
-                return Err(stop);
-            }
-        };
+        let more = self.more_items(room)?;
         Ok(Assertion { first, more })
     }
 
@@ -339,13 +315,7 @@ impl<'a> Cursor<'a> {
     {
         let open = self.expect(Class::OpenBrace)?;
         let assertion = self.assertion(room)?;
-        let close = match self.expect(Class::CloseBrace) {
-            Ok(close) => close,
-            Err(stop) => {
-                drop(assertion);
-                return Err(stop);
-            }
-        };
+        let close = self.expect(Class::CloseBrace)?;
         Ok(Side {
             open,
             assertion: Box::new(self.alloc, assertion)?,
@@ -360,16 +330,11 @@ impl<'a> Cursor<'a> {
     {
         let key = self.expect(class)?;
         let assertion = self.assertion(room)?;
-        match self.expect(Class::Semicolon) {
-            Ok(semicolon) => Ok(Clause {
-                key,
-                assertion,
-                semicolon,
-            }),
-            Err(stop) => {
-                drop(assertion);
-                Err(stop)
-            }
-        }
+        let semicolon = self.expect(Class::Semicolon)?;
+        Ok(Clause {
+            key,
+            assertion,
+            semicolon,
+        })
     }
 }

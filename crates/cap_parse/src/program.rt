@@ -119,13 +119,7 @@ impl<'a> Cursor<'a> {
             (read_contract room self.old.rest) }
     {
         let precondition = self.whole_clause(room, Class::Requires)?;
-        let postcondition = match self.whole_clause(room, Class::Ensures) {
-            Ok(postcondition) => postcondition,
-            Err(stop) => {
-                drop(precondition);
-                return Err(stop);
-            }
-        };
+        let postcondition = self.whole_clause(room, Class::Ensures)?;
         Ok(Contract {
             precondition,
             postcondition,

@@ -179,13 +179,7 @@ impl<'a> Cursor<'a> {
     {
         let open = self.expect(Class::Open)?;
         let algebra = self.algebra(room)?;
-        let close = match self.expect(Class::Close) {
-            Ok(close) => close,
-            Err(stop) => {
-                drop(algebra);
-                return Err(stop);
-            }
-        };
+        let close = self.expect(Class::Close)?;
         Ok(Declared::Bracketed(open, Box::new(self.alloc, algebra)?, close))
     }
 
@@ -209,13 +203,7 @@ impl<'a> Cursor<'a> {
             (read_joint room (grouped_at room) self.old.rest) }
     {
         let first = self.declared(room)?;
-        let more = match self.more_declared(room) {
-            Ok(more) => more,
-            Err(stop) => {
-                drop(first);
-                return Err(stop);
-            }
-        };
+        let more = self.more_declared(room)?;
         Ok(Joint { first, more })
     }
 
@@ -239,13 +227,7 @@ impl<'a> Cursor<'a> {
             (read_algebra room self.old.rest) }
     {
         let first = self.joint(room)?;
-        let more = match self.more_joints(room) {
-            Ok(more) => more,
-            Err(stop) => {
-                drop(first);
-                return Err(stop);
-            }
-        };
+        let more = self.more_joints(room)?;
         Ok(Algebra { first, more })
     }
 
@@ -267,13 +249,7 @@ impl<'a> Cursor<'a> {
             (read_several Comma (read_comparison room) self.old.rest) }
     {
         let first = self.comparison(room)?;
-        let more = match self.more_comparisons(room) {
-            Ok(more) => more,
-            Err(stop) => {
-                drop(first);
-                return Err(stop);
-            }
-        };
+        let more = self.more_comparisons(room)?;
         Ok(Separated { first, more })
     }
 
@@ -312,23 +288,15 @@ impl<'a> Cursor<'a> {
     {
         let head = self.case_head(room)?;
         let assertion = self.assertion(room)?;
-        match self.expect(Class::Semicolon) {
-            Ok(semicolon) => {
-                let CaseHead { state, when, colon } = head;
-                Ok(Case {
-                    state,
-                    when,
-                    colon,
-                    assertion,
-                    semicolon,
-                })
-            }
-            Err(stop) => {
-                drop(head);
-                drop(assertion);
-                Err(stop)
-            }
-        }
+        let semicolon = self.expect(Class::Semicolon)?;
+        let CaseHead { state, when, colon } = head;
+        Ok(Case {
+            state,
+            when,
+            colon,
+            assertion,
+            semicolon,
+        })
     }
 
     /// The guards of an action, and a colon.
@@ -361,13 +329,7 @@ impl<'a> Cursor<'a> {
             (read_action_end room self.old.rest) }
     {
         let when = self.optional_when(room)?;
-        let semicolon = match self.expect(Class::Semicolon) {
-            Ok(semicolon) => semicolon,
-            Err(stop) => {
-                drop(when);
-                return Err(stop);
-            }
-        };
+        let semicolon = self.expect(Class::Semicolon)?;
         Ok((when, semicolon))
     }
 
@@ -377,29 +339,21 @@ impl<'a> Cursor<'a> {
     {
         let (guards, colon) = self.action_guards(room)?;
         let transition = self.transition(room)?;
-        match self.action_end(room) {
-            Ok((when, semicolon)) => {
-                let Transition {
-                    source,
-                    arrow,
-                    target,
-                } = transition;
-                Ok(Action {
-                    guards,
-                    colon,
-                    source,
-                    arrow,
-                    target,
-                    when,
-                    semicolon,
-                })
-            }
-            Err(stop) => {
-                drop(guards);
-                drop(transition);
-                Err(stop)
-            }
-        }
+        let (when, semicolon) = self.action_end(room)?;
+        let Transition {
+            source,
+            arrow,
+            target,
+        } = transition;
+        Ok(Action {
+            guards,
+            colon,
+            source,
+            arrow,
+            target,
+            when,
+            semicolon,
+        })
     }
 
     fn cases(&mut self, room: u32) -> Result<Vec<Case>, Stop>

@@ -148,22 +148,15 @@ impl<'a> Cursor<'a> {
         let key = self.next_place()?;
         let (inner, open) = self.opening(room, Class::Open)?;
         let operands = self.operands(inner)?;
-        match self.expect(Class::Close) {
-            Ok(close) => {
-                let Operands {
-                    address,
-                    first,
-                    expected,
-                    second,
-                    new,
-                } = operands;
-                Ok(Value::Cas(key, open, address, first, expected, second, new, close))
-            }
-            Err(stop) => {
-                drop(operands);
-                Err(stop)
-            }
-        }
+        let close = self.expect(Class::Close)?;
+        let Operands {
+            address,
+            first,
+            expected,
+            second,
+            new,
+        } = operands;
+        Ok(Value::Cas(key, open, address, first, expected, second, new, close))
     }
 
     /// What `FAA`, which comes next, begins.
@@ -175,14 +168,8 @@ impl<'a> Cursor<'a> {
         let (inner, open) = self.opening(room, Class::Open)?;
         let (address, comma) = self.operand(inner)?;
         let added = self.term(inner)?;
-        match self.expect(Class::Close) {
-            Ok(close) => Ok(Value::Faa(key, open, address, comma, added, close)),
-            Err(stop) => {
-                drop(address);
-                drop(added);
-                Err(stop)
-            }
-        }
+        let close = self.expect(Class::Close)?;
+        Ok(Value::Faa(key, open, address, comma, added, close))
     }
 
     /// A name, behind which the arguments of a call or more of a term come.
@@ -256,17 +243,9 @@ impl<'a> Cursor<'a> {
         let address = self.term_in_brackets(room)?;
         let becomes = self.expect(Class::Becomes)?;
         let value = self.term(room)?;
-        match self.expect(Class::Semicolon) {
-            Ok(semicolon) => {
-                let TermInBrackets { open, term, close } = address;
-                Ok(Statement::Store(open, term, close, becomes, value, semicolon))
-            }
-            Err(stop) => {
-                drop(address);
-                drop(value);
-                Err(stop)
-            }
-        }
+        let semicolon = self.expect(Class::Semicolon)?;
+        let TermInBrackets { open, term, close } = address;
+        Ok(Statement::Store(open, term, close, becomes, value, semicolon))
     }
 
     /// What `fork`, which comes next, begins.

@@ -17,7 +17,6 @@ ghost use Rattle.cap_parse_laws.specs.declared.class.Class.TheVariants.{Star, Mi
 ghost use Rattle.cap_parse.specs.Parts.{term_in_brackets_view, read_term_in_brackets};
 ghost use Rattle.cap_parse.specs.Parts.{slot_in_brackets_view, read_slot_in_brackets};
 ghost use Rattle.cap_parse.specs.Reads.{IsRead};
-ghost use Rattle.cap_parse.specs.Parts.{related};
 
 use crate::cursor::{Cursor, Stop};
 use cap_parse_laws::Class;
@@ -77,13 +76,7 @@ impl<'a> Cursor<'a> {
     {
         let open = self.expect(Class::Open)?;
         let term = self.term(room)?;
-        let close = match self.expect(Class::Close) {
-            Ok(close) => close,
-            Err(stop) => {
-                drop(term);
-                return Err(stop);
-            }
-        };
+        let close = self.expect(Class::Close)?;
         Ok(Factor::Bracketed(open, Box::new(self.alloc, term)?, close))
     }
 
@@ -198,23 +191,16 @@ impl<'a> Cursor<'a> {
         }
     }
 
-    /// The place of the next token, which is this relation's.
-    fn related(&mut self, relation: Relation) -> Result<(Relation, Place), Stop>
-        ensures { IsRead (λ r. r) result self.new.rest (related relation self.old.rest) }
-    {
-        Ok((relation, self.next_place()?))
-    }
-
     fn relation(&mut self) -> Result<(Relation, Place), Stop>
         ensures { IsRead (λ r. r) result self.new.rest (read_relation self.old.rest) }
     {
         match self.ahead() {
-            Class::Equal => self.related(Relation::Equal),
-            Class::Unequal => self.related(Relation::Unequal),
-            Class::Less => self.related(Relation::Less),
-            Class::AtMost => self.related(Relation::AtMost),
-            Class::Greater => self.related(Relation::Greater),
-            Class::AtLeast => self.related(Relation::AtLeast),
+            Class::Equal => Ok((Relation::Equal, self.next_place()?)),
+            Class::Unequal => Ok((Relation::Unequal, self.next_place()?)),
+            Class::Less => Ok((Relation::Less, self.next_place()?)),
+            Class::AtMost => Ok((Relation::AtMost, self.next_place()?)),
+            Class::Greater => Ok((Relation::Greater, self.next_place()?)),
+            Class::AtLeast => Ok((Relation::AtLeast, self.next_place()?)),
             _ => Err(Stop::Unexpected),
         }
     }
@@ -224,20 +210,8 @@ impl<'a> Cursor<'a> {
         ensures { IsRead comparison_view result self.new.rest
             (read_comparison_from room (term_view left) self.old.rest) }
     {
-        let (relation, place) = match self.relation() {
-            Ok(both) => both,
-            Err(stop) => {
-                drop(left);
-                return Err(stop);
-            }
-        };
-        let right = match self.term(room) {
-            Ok(right) => right,
-            Err(stop) => {
-                drop(left);
-                return Err(stop);
-            }
-        };
+        let (relation, place) = self.relation()?;
+        let right = self.term(room)?;
         Ok(Comparison {
             left,
             relation,
@@ -279,13 +253,7 @@ impl<'a> Cursor<'a> {
     {
         let (inner, open) = self.opening(room, Class::OpenBracket)?;
         let slot = self.slot(inner)?;
-        let close = match self.expect(Class::CloseBracket) {
-            Ok(close) => close,
-            Err(stop) => {
-                drop(slot);
-                return Err(stop);
-            }
-        };
+        let close = self.expect(Class::CloseBracket)?;
         Ok(SlotInBrackets { open, slot, close })
     }
 }

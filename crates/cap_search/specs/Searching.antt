@@ -1,9 +1,5 @@
 -- What a search answers: a tree or none, with the record after it, or why it ends early.
-use Rattle.std.specs.Prelude.{◌≡◌, ℕ, List, ◌++◌, Option, Some, None, option_map, Result, Ok, Err}
-use Rattle.cap_prog.specs.Program.{PlainProgram}
-use Rattle.cap_goal_spec.specs.States.{PlainGoal}
-use Rattle.cap_goal_spec.specs.Choices.{PlainChoice, PlainTree}
-use Rattle.cap_search_spec.specs.Seeking.{◌>>=◌, left_by, all_trees, tree_within}
+use Rattle.std.specs.Prelude.{◌≡◌, List, ◌++◌, Option, Some, None, option_map, Result, Ok, Err}
 use Rattle.cap_search_spec.specs.Walks.{PlainWalk, counted}
 use Rattle.cap_search.specs.declared.walk.Walk.{Walk}
 use Rattle.cap_search.specs.declared.walk.Stop.{Stop}
@@ -25,10 +21,6 @@ Searched view new (Err e) found end = IsStop e end
 abbrev pub Counts : Walk → Walk → Result (Unit {0}) Stop → Type 0
 Counts old new (Ok x) = counted (walk_view old) old.left ≡ Some (walk_view new)
 Counts old new (Err e) = IsStop e (counted (walk_view old) old.left)
-
--- trees of all that a choice leaves
-abbrev pub trees_left : PlainProgram → ℕ → PlainGoal → PlainChoice → Option (List PlainTree)
-trees_left p room g c = left_by p g c >>= all_trees (tree_within p room)
 
 -- what comes behind what was found
 abbrev pub behind : {A : Type 0} → List A → Option (List A) → Option (List A)

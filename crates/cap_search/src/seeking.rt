@@ -1,14 +1,14 @@
 //! Trees by the first choice all of whose goals have trees.
-ghost use Rattle.std.specs.Prelude.{◌≡◌, ◌∷◌, [], ◌++◌, IfErr, IfOk, OnOk, Some, map};
+ghost use Rattle.std.specs.Prelude.{◌≡◌, IfErr, IfOk, Some, map};
 ghost use Rattle.cap_prog.specs.Views.{program_view};
 ghost use Rattle.cap_goal.specs.Trees.{node_view};
 ghost use Rattle.cap_goal.specs.Views.{choice_view, goal_view};
 ghost use Rattle.cap_rules_steps.specs.declared.error.RuleError.TheVariants.{OutOfMemory};
 ghost use Rattle.cap_search_spec.specs.Guided.{IsOffered};
 ghost use Rattle.cap_search_spec.specs.Seeking.{left_by as goals_left, all_trees, first_tree, tree_within};
-ghost use Rattle.cap_search_spec.specs.Walks.{choices_walked, goals_walked, left_walked, walked_within};
+ghost use Rattle.cap_search_spec.specs.Walks.{choices_walked, goals_walked, walked_within};
 ghost use Rattle.cap_search.specs.Searchable.{AreOffered, AreSearchable, IsSearchable};
-ghost use Rattle.cap_search.specs.Searching.{Searched, trees_left};
+ghost use Rattle.cap_search.specs.Searching.{Searched};
 ghost use Rattle.cap_search.specs.Views.{nodes_seen, walk_view};
 
 use crate::program::well_formed;
@@ -71,21 +71,6 @@ fn left_by<'a>(
     }
 }
 
-// Lets a choice go: what that takes of the stack isn't taken at each level of a tree.
-#[inline(never)]
-fn discard(choice: Choice) {
-    drop(choice);
-}
-
-// Adds a tree, which takes of the stack in the same way.
-#[inline(never)]
-fn add(trees: &mut Vec<Node>, tree: Node) -> Result<(), AllocError>
-    ensures { OnOk result (trees.new.items ≡ trees.old.items ++ tree ∷ []) }
-{
-    trees.push(tree)?;
-    Ok(())
-}
-
 /// Searches for a tree of a goal, below which there is room for so many levels: the first choice
 /// all of whose subgoals have trees is taken at each node. The record goes on over the goals that
 /// are visited. Spent comes at the first visit for which nothing is left of the budget; the only
@@ -136,39 +121,13 @@ fn by_choices<'a>(
         (map choice_view choices.items)) }
 {
     for choice in choices {
-        match by_choice(alloc, program, goal, &choice, room, walk) {
-            Ok(Some(children)) => return Ok(Some(Node { choice, children })),
-            Ok(None) => discard(choice),
-            Err(stop) => {
-                discard(choice);
-                return Err(stop);
-            }
+        let goals = left_by(alloc, program, goal, &choice)?;
+        match prove_all(alloc, program, &goals, room, walk)? {
+            Some(children) => return Ok(Some(Node { choice, children })),
+            None => drop(choice),
         }
     }
     Ok(None)
-}
-
-// Trees of all goals that an offered choice leaves, up to the first that has none.
-#[cycle(walk)]
-fn by_choice<'a>(
-    alloc: Global,
-    program: &'a Program,
-    goal: &Goal<'a>,
-    choice: &Choice,
-    room: usize,
-    walk: &mut Walk,
-) -> Result<Option<Vec<Node>>, Stop>
-    requires searchable { IsSearchable (program_view program.now) (goal_view goal.now) }
-    requires offered { IsOffered (program_view program.now) (goal_view goal.now)
-        (choice_view choice.now) }
-    ensures { Searched nodes_seen walk.new result
-        (trees_left (program_view program.now) room (goal_view goal.now) (choice_view choice.now))
-        (left_walked (tree_within (program_view program.now) room)
-        (walked_within (program_view program.now) room) (walk_view walk.old)
-        (goals_left (program_view program.now) (goal_view goal.now) (choice_view choice.now))) }
-{
-    let goals = left_by(alloc, program, goal, choice)?;
-    prove_all(alloc, program, &goals, room, walk)
 }
 
 // Trees of all goals, up to the first that has none.
@@ -191,7 +150,7 @@ fn prove_all<'a>(
     let mut children = Vec::new(alloc);
     for goal in goals {
         match prove(alloc, program, goal, room, walk)? {
-            Some(node) => add(&mut children, node)?,
+            Some(node) => children.push(node)?,
             None => return Ok(None),
         }
     }

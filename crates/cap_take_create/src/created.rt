@@ -3,7 +3,6 @@ ghost use Rattle.std.specs.Prelude.{◌≡◌, ◌++◌, is_none, length, IfOk};
 ghost use Rattle.cap_goal_spec.specs.Environments.{term_of as bound_to, zero_value};
 ghost use Rattle.cap_prog.specs.Views.{case_view, item_view, items_view, program_view, region_view};
 ghost use Rattle.cap_goal.specs.Views.{tasks_view};
-ghost use Rattle.cap_goal_spec.specs.States.{goals_of};
 ghost use Rattle.cap_rules.specs.Attempts.{each, need};
 ghost use Rattle.cap_rules.specs.Making.{determined_slot, env_at as env_in, fresh};
 ghost use Rattle.cap_rules.specs.Making.{fact_of as plain_fact, with_differing as differing};
@@ -43,28 +42,6 @@ fn with_apart(
     with_differing(alloc, state, term, opened)
 }
 
-// Adds a region of this type to a state, with all of its guards, and gives its term: it is told
-// apart from the regions of the state as it was.
-fn add_region(
-    alloc: Global,
-    program: &Program,
-    state: &mut State,
-    known: &State,
-    region: &RegionType,
-    kind: u32,
-) -> Result<Term, RuleError>
-    requires { known.now ≡ state.old }
-    ensures makes { Makes (giving result state.new) (region_added (program_view program.now)
-        state.old (region_view region.now) kind) }
-    ensures fresh { IfOk result (λ t. t ≡ fresh state.old) }
-{
-    let created = with_sort(alloc, state, Sort::Int)?;
-    with_apart(alloc, state, &created, known.facts(), known.opened())?;
-    let pieces = full_pieces(alloc, &region.algebra, &created, kind)?;
-    with_pieces(alloc, program, state, &pieces)?;
-    Ok(created)
-}
-
 // Adds a region of this type to the state, with all of its guards, and gives its term.
 fn with_new_region(
     alloc: Global,
@@ -78,9 +55,11 @@ fn with_new_region(
     ensures fresh { IfOk result (λ t. t ≡ fresh state.old) }
 {
     let known = state.copy()?;
-    let created = add_region(alloc, program, state, &known, region, kind);
-    drop(known);
-    created
+    let created = with_sort(alloc, state, Sort::Int)?;
+    with_apart(alloc, state, &created, known.facts(), known.opened())?;
+    let pieces = full_pieces(alloc, &region.algebra, &created, kind)?;
+    with_pieces(alloc, program, state, &pieces)?;
+    Ok(created)
 }
 
 // ---- the environment of its case
@@ -170,32 +149,8 @@ fn created_env(
     new_env(alloc, state, env, region, case, &fact, slot)
 }
 
-// Adds a region of this type and of these arguments, and then the environment of its case, to a
-// state, and gives the region's term; the slot's value is that in the state as it was.
-fn add_begun(
-    alloc: Global,
-    program: &Program,
-    state: &mut State,
-    known: &State,
-    region: &RegionType,
-    case: &Case,
-    kind: u32,
-    args: Vec<Term>,
-    slot: &Slot,
-    env: u32,
-) -> Result<Term, RuleError>
-    requires { known.now ≡ state.old }
-    ensures makes { Makes (giving result state.new) (state_begun (program_view program.now)
-        state.old (region_view region.now) (case_view case.now) kind args.items slot.now env) }
-    ensures fresh { IfOk result (λ t. t ≡ fresh state.old) }
-{
-    let created = with_new_region(alloc, program, state, region, kind)?;
-    let names = created_env(alloc, known, env, region, case, kind, &created, args, slot)?;
-    with_env(state, names)?;
-    Ok(created)
-}
-
-// The same, by the state alone.
+// Adds a region of this type and of these arguments, and then the environment of its case, to the
+// state, and gives the region's term.
 fn with_begun(
     alloc: Global,
     program: &Program,
@@ -212,11 +167,10 @@ fn with_begun(
     ensures fresh { IfOk result (λ t. t ≡ fresh state.old) }
 {
     let known = state.copy()?;
-    let created = add_begun(
-        alloc, program, state, &known, region, case, kind, args, slot, env,
-    );
-    drop(known);
-    created
+    let created = with_new_region(alloc, program, state, region, kind)?;
+    let names = created_env(alloc, &known, env, region, case, kind, &created, args, slot)?;
+    with_env(state, names)?;
+    Ok(created)
 }
 
 // What is to be done then.
@@ -239,32 +193,6 @@ fn tasks_of<'t, 'a>(
     tasks_begun(alloc, items, kind, case, env, created, item, left, rest)
 }
 
-// What is to be done then, from this state.
-fn begun_from<'t, 'a>(
-    alloc: Global,
-    next: State,
-    state: &State,
-    items: &'a Assertion,
-    kind: u32,
-    case: u32,
-    created: Term,
-    item: &'a Item,
-    left: u32,
-    rest: &Remaining<'t, 'a>,
-) -> Result<Vec<Goal<'a>>, AllocError>
-    ensures { IfOk result (λ gs. goals_view gs ≡ goals_of next
-        (begun_tasks state.now (items_view items.now) kind case (length state.now.envs) created
-        (item_view item.now) left (remaining_view rest.now))) }
-{
-    match tasks_of(alloc, state, items, kind, case, created, item, left, rest) {
-        Ok(tasks) => leaves(alloc, next, tasks),
-        Err(stop) => {
-            drop(next);
-            Err(stop)
-        }
-    }
-}
-
 // A region of this type and of these arguments is begun in a case.
 fn begin<'t, 'a>(
     alloc: Global,
@@ -285,29 +213,21 @@ fn begin<'t, 'a>(
         (item_view item.now) left (remaining_view rest.now)) }
 {
     let mut next = state.copy()?;
-    match with_begun(
+    let created = with_begun(
         alloc, program, &mut next, region, begun, kind, args, slot, rest.env,
-    ) {
-        Ok(created) => {
-            let goals = begun_from(
-                alloc,
-                next,
-                state,
-                &begun.items,
-                kind,
-                case,
-                created,
-                item,
-                left,
-                rest,
-            )?;
-            Ok(goals)
-        }
-        Err(stop) => {
-            drop(next);
-            Err(stop)
-        }
-    }
+    )?;
+    let tasks = tasks_of(
+        alloc,
+        state,
+        &begun.items,
+        kind,
+        case,
+        created,
+        item,
+        left,
+        rest,
+    )?;
+    Ok(leaves(alloc, next, tasks)?)
 }
 
 // The same, with so many creations left behind it.

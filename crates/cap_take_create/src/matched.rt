@@ -90,31 +90,7 @@ fn terms_of(alloc: Global, fact: &Fact) -> Result<Vec<&Term>, AllocError>
     Ok(terms)
 }
 
-// The environment of a number, its names matched by the slots of a region fact against a fact; a
-// slot stands for the region's name.
-fn matched_by(
-    alloc: Global,
-    ledger: &mut Ledger,
-    state: &State,
-    env: u32,
-    name: &Slot,
-    args: &[Slot],
-    slot: &Slot,
-    fact: &Fact,
-) -> Result<Env, RuleError>
-    ensures { Claims result ledger.old ledger.new
-        (slots_matched state.now.rows (env_at state.now env)
-        (name.now ∷ (args.now ++ slot.now ∷ []))
-        (fact.now.region ∷ (fact.now.args ++ fact.now.state ∷ []))) }
-{
-    let slots = slots_of(alloc, name, args, slot)?;
-    let terms = terms_of(alloc, fact)?;
-    let mut names = copy_env(alloc, state, env)?;
-    match_slots(alloc, ledger, state.rows(), &mut names, &slots, &terms)?;
-    Ok(names)
-}
-
-// The same for a region's name.
+// The environment of a number, its names matched by the slots of a region fact against a fact.
 fn matched(
     alloc: Global,
     ledger: &mut Ledger,
@@ -131,7 +107,11 @@ fn matched(
         (fact.now.region ∷ (fact.now.args ++ fact.now.state ∷ []))) }
 {
     let name = Slot::Is(Term::var(alloc, region)?);
-    matched_by(alloc, ledger, state, env, &name, args, slot, fact)
+    let slots = slots_of(alloc, &name, args, slot)?;
+    let terms = terms_of(alloc, fact)?;
+    let mut names = copy_env(alloc, state, env)?;
+    match_slots(alloc, ledger, state.rows(), &mut names, &slots, &terms)?;
+    Ok(names)
 }
 
 // The state with another environment.
@@ -139,13 +119,8 @@ fn with_names(state: &State, env: u32, names: Env) -> Result<State, AllocError>
     ensures { IfOk result (λ s. s ≡ env_replaced state.now env names) }
 {
     let mut next = state.copy()?;
-    match with_env_at(&mut next, env, names) {
-        Ok(()) => Ok(next),
-        Err(stop) => {
-            drop(next);
-            Err(stop)
-        }
-    }
+    with_env_at(&mut next, env, names)?;
+    Ok(next)
 }
 
 /// A region fact goes, matched with the fact of this number, which stays and has to be of the same

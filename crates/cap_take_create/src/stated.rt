@@ -85,26 +85,16 @@ fn with_stated(alloc: Global, state: &State, fact: Fact) -> Result<State, RuleEr
     ensures { Makes result (fact_added state.now fact) }
 {
     let mut next = state.copy()?;
-    match with_fact(alloc, &mut next, fact) {
-        Ok(()) => Ok(next),
-        Err(stop) => {
-            drop(next);
-            Err(stop)
-        }
-    }
+    with_fact(alloc, &mut next, fact)?;
+    Ok(next)
 }
 
 // Only these tasks are left.
 fn left<'a>(alloc: Global, state: State, behind: &[Task<'a>]) -> Result<Vec<Goal<'a>>, AllocError>
     ensures { IfOk result (λ gs. map goal_view gs.items ≡ goals_of state (tasks_view behind.now)) }
 {
-    match copy_tasks(alloc, behind) {
-        Ok(tasks) => leaves(alloc, state, tasks),
-        Err(stop) => {
-            drop(state);
-            Err(stop)
-        }
-    }
+    let tasks = copy_tasks(alloc, behind)?;
+    leaves(alloc, state, tasks)
 }
 
 // Claims the condition of a case, by the environment of a number.

@@ -21,18 +21,9 @@ set-at (x ∷ xs) (suc i) y h = ap (λ ys. x ∷ ys) (set-at xs i y (omega arith
 one-left : (s : PlainState) (j : ℕ) (q : Piece) (f : Form) → j < length s.guards → record s { guards = slice_set s.guards j (with_form q f) } ≡ with_left s j q (f ∷ [])
 one-left s j q f h = rw add-one (ap (λ gs. record s { guards = gs }) (set-at s.guards j (with_form q f) h))
 
-pub put-left : {A E : Type 0} (r : Result A E) (s t : PlainState) (j : ℕ) (q : Piece) (f : Form) → j < length s.guards → IfOk r (λ x. t ≡ record s { guards = slice_set s.guards j (with_form q f) }) → IfOk r (λ x. t ≡ with_left s j q (f ∷ []))
-put-left (Ok x) s t j q f h e = e ∙ one-left s j q f h
-put-left (Err g) s t j q f h e = tt
-
--- a piece in another form, put and inserted
-pub put-made : {A E : Type 0} (r : Result A E) (s t : PlainState) (j : ℕ) (p p' : Piece) → p ≡ p' → t ≡ (if is_ok r then record s { guards = slice_set s.guards j p } else s) → IfOk r (λ x. t ≡ record s { guards = slice_set s.guards j p' })
-put-made (Ok x) s t j p p' k e = e ∙ ap (λ y. record s { guards = slice_set s.guards j y }) k
-put-made (Err g) s t j p p' k e = tt
-
-pub insert-made : {A E : Type 0} (r : Result A E) (s t : PlainState) (j : ℕ) (p p' : Piece) → p ≡ p' → t ≡ (if is_ok r then record s { guards = insert s.guards j p } else s) → IfOk r (λ x. t ≡ record s { guards = insert s.guards j p' })
-insert-made (Ok x) s t j p p' k e = e ∙ ap (λ y. record s { guards = insert s.guards j y }) k
-insert-made (Err g) s t j p p' k e = tt
+pub put-left : {A E : Type 0} (r : Result A E) (s t : PlainState) (j : ℕ) (p q : Piece) (f : Form) → j < length s.guards → p ≡ with_form q f → t ≡ (if is_ok r then record s { guards = slice_set s.guards j p } else s) → IfOk r (λ x. t ≡ with_left s j q (f ∷ []))
+put-left (Ok x) s t j p q f h k e = e ∙ (ap (λ y. record s { guards = slice_set s.guards j y }) k ∙ one-left s j q f h)
+put-left (Err g) s t j p q f h k e = tt
 
 clash : {A : Type 0} {x : A} → None ≡ Some x → ⊥
 clash e = cc
@@ -67,9 +58,12 @@ set-keeps [] i y = refl
 set-keeps (x ∷ xs) zero y = refl
 set-keeps (x ∷ xs) (suc i) y = ap suc (set-keeps xs i y)
 
-pub insert-left : {A E : Type 0} (r : Result A E) (s t u : PlainState) (j : ℕ) (q : Piece) (f g : Form) → j < length s.guards → t ≡ record s { guards = slice_set s.guards j (with_form q f) } → IfOk r (λ x. u ≡ record t { guards = insert t.guards (j + 1) (with_form q g) }) → IfOk r (λ x. u ≡ with_left s j q (f ∷ g ∷ []))
-insert-left (Ok x) s t u j q f g h m e = e ∙ (ap (λ (v : PlainState). record v { guards = insert v.guards (j + 1) (with_form q g) }) m ∙ two-left s j q f g h)
-insert-left (Err v) s t u j q f g h m e = tt
+pub insert-left : {A E : Type 0} (r : Result A E) (s t u : PlainState) (j : ℕ) (p p' q : Piece) (f g : Form) → j < length s.guards → p ≡ with_form q f → p' ≡ with_form q g → t ≡ record s { guards = slice_set s.guards j p } → u ≡ (if is_ok r then record t { guards = insert t.guards (j + 1) p' } else t) → IfOk r (λ x. u ≡ with_left s j q (f ∷ g ∷ []))
+insert-left (Ok x) s t u j p p' q f g h k l m e =
+    e ∙ (ap (λ (v : PlainState). record v { guards = insert v.guards (j + 1) p' }) m
+    ∙ (ap (λ y. record s { guards = insert (slice_set s.guards j y) (j + 1) p' }) k
+    ∙ (ap (λ y. record s { guards = insert (slice_set s.guards j (with_form q f)) (j + 1) y }) l ∙ two-left s j q f g h)))
+insert-left (Err v) s t u j p p' q f g h k l m e = tt
 
 -- where two forms stay, not at most one does
 pub room-for-two : {B : Type 0} (f g : Form) (l : Left) → l ≡ Both f g → (length (left_view l) ≤ 1) ⊎ B → B

@@ -3,10 +3,8 @@ use Rattle.std.specs.Prelude.{List, [], ◌∷◌}
 use Rattle.std.specs.Borrow.{Bor}
 use Rattle.cap_lin.specs.Linear.{Linear}
 use Rattle.cap_gsolve.specs.declared.piece.Form.{Form}
-use Rattle.cap_gsolve.specs.declared.piece.Form.TheVariants.{Share}
 use Rattle.cap_gsolve.specs.declared.piece.Piece.{Piece}
-use Rattle.cap_goal_spec.specs.States.{PlainEnv, PlainState}
-use Rattle.cap_rules.specs.Taking.{Cut, cut}
+use Rattle.cap_rules.specs.Taking.{Cut}
 use Rattle.cap_take_guards.specs.declared.cuts.Cut as code
 use Rattle.cap_take_guards.specs.declared.cuts.Left.{Left}
 use Rattle.cap_take_guards.specs.declared.cuts.Left.TheVariants.{Nothing, One, Both}
@@ -18,14 +16,6 @@ left_view (Both f g) = f ∷ g ∷ []
 
 abbrev pub cut_view : code.Cut → Cut
 cut_view c = record { env = c.env; state = c.state; left = left_view c.left }
-
--- this environment and this state, and what is left of a share
-abbrev pub share_left : PlainState → PlainEnv × Linear → Cut
-share_left s x = cut x.0 s (Share x.1 ∷ [])
-
--- the pieces of a state
-abbrev pub pieces_there : PlainState → List Piece
-pieces_there s = s.guards
 
 -- a piece that is lent, and a term
 abbrev pub piece_lent : Bor Piece → Piece

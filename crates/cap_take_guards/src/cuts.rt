@@ -3,7 +3,7 @@ ghost use Rattle.std.specs.Prelude.{◌≡◌, [], ◌∷◌, IfOk};
 ghost use Rattle.cap_goal_spec.specs.Environments.{settled, open_to, bind_open as name_bound};
 ghost use Rattle.cap_rules.specs.Taking.{cut, cut_share, cut_source, cut_tokens, cut_new_tokens};
 ghost use Rattle.cap_rules_steps.specs.Walks.{Makes, Claims, seen};
-ghost use Rattle.cap_take_guards.specs.Views.{cut_view, left_view, share_left};
+ghost use Rattle.cap_take_guards.specs.Views.{cut_view, left_view};
 ghost use Rattle.cap_take_guards.specs.Cuts.{all_cut};
 
 use cap_goal::{Env, State};
@@ -38,35 +38,11 @@ pub(crate) fn leaving(
 ) -> Result<Cut, AllocError>
     ensures { IfOk result (λ c. cut_view c ≡ cut env.now state.now (left_view left)) }
 {
-    match env.copy(alloc) {
-        Ok(env) => beside(state, env, left),
-        Err(stop) => {
-            drop(left);
-            Err(stop)
-        }
-    }
-}
-
-// A cut with this environment, beside which the state is as it was.
-fn beside(state: &State, env: Env, left: Left) -> Result<Cut, AllocError>
-    ensures { IfOk result (λ c. cut_view c ≡ cut env state.now (left_view left)) }
-{
-    match state.copy() {
-        Ok(state) => Ok(Cut { env, state, left }),
-        Err(stop) => {
-            drop(left);
-            Err(stop)
-        }
-    }
-}
-
-// An environment in which the name of an open slot gets a term.
-fn named(alloc: Global, env: &Env, name: Option<u32>, term: &Term) -> Result<Env, AllocError>
-    ensures { IfOk result (λ e. e ≡ name_bound env.now name term.now) }
-{
-    let mut env = env.copy(alloc)?;
-    bind_open(alloc, &mut env, name, term)?;
-    Ok(env)
+    Ok(Cut {
+        env: env.copy(alloc)?,
+        state: state.copy()?,
+        left,
+    })
 }
 
 /// The name of an open slot gets a term, and this stays of the piece.
@@ -81,14 +57,9 @@ pub(crate) fn naming(
     ensures { IfOk result (λ c. cut_view c
         ≡ cut (name_bound env.now name term.now) state (left_view left)) }
 {
-    match named(alloc, env, name, term) {
-        Ok(env) => Ok(Cut { env, state, left }),
-        Err(stop) => {
-            drop(state);
-            drop(left);
-            Err(stop)
-        }
-    }
+    let mut env = env.copy(alloc)?;
+    bind_open(alloc, &mut env, name, term)?;
+    Ok(Cut { env, state, left })
 }
 
 /// All of a count goes, and the name of an open slot gets it.
@@ -160,27 +131,6 @@ pub(crate) fn part_of_share(
     Ok(leaving(alloc, state, env, Left::One(Form::Share(rest)))?)
 }
 
-// The state gets a fresh amount above 0 and below a share, which the name of an open slot gets in
-// the environment; what is left of the share comes beside that.
-fn some_named(
-    alloc: Global,
-    state: &mut State,
-    env: &Env,
-    amount: &Term,
-    name: Option<u32>,
-) -> Result<(Env, Term), RuleError>
-    ensures { Makes (seen (share_left state.new) result)
-        (cut_share state.old env.now amount.now 1 (open_to name)) }
-{
-    let some = with_sort(alloc, state, Sort::Perm)?;
-    let zero = Term::constant(alloc, 0);
-    with_comparison(alloc, state, &some, Op::Gt, &zero, Sort::Perm)?;
-    with_comparison(alloc, state, &some, Op::Lt, amount, Sort::Perm)?;
-    let rest = amount.minus(alloc, &some)?;
-    let names = named(alloc, env, name, &some)?;
-    Ok((names, rest))
-}
-
 /// A part of a share goes, which is some fresh amount above 0 and below the share.
 pub(crate) fn some_of_share(
     alloc: Global,
@@ -193,17 +143,12 @@ pub(crate) fn some_of_share(
         (cut_share state.now env.now amount.now 1 (open_to name)) }
 {
     let mut next = state.copy()?;
-    match some_named(alloc, &mut next, env, amount, name) {
-        Ok((env, rest)) => Ok(Cut {
-            env,
-            state: next,
-            left: Left::One(Form::Share(rest)),
-        }),
-        Err(stop) => {
-            drop(next);
-            Err(stop)
-        }
-    }
+    let some = with_sort(alloc, &mut next, Sort::Perm)?;
+    let zero = Term::constant(alloc, 0);
+    with_comparison(alloc, &mut next, &some, Op::Gt, &zero, Sort::Perm)?;
+    with_comparison(alloc, &mut next, &some, Op::Lt, amount, Sort::Perm)?;
+    let rest = amount.minus(alloc, &some)?;
+    Ok(naming(alloc, next, env, name, &some, Left::One(Form::Share(rest)))?)
 }
 
 /// A source goes with as many tokens out as a term stands for, which is claimed to be at least as

@@ -1,12 +1,11 @@
 //! Guards that are given up.
 ghost use Rattle.std.specs.Prelude.{◌≡◌, ◌<◌, ◌≤◌, ◌⊎◌, [], ◌∷◌, IfOk, length, slice_get};
-ghost use Rattle.std.specs.Prelude.{insert, slice_set};
 ghost use Rattle.cap_goal_spec.specs.Environments.{term_of as term_in_env};
 ghost use Rattle.cap_goal_spec.specs.States.{longest_list};
 ghost use Rattle.cap_rules.specs.Attempts.{found, need};
 ghost use Rattle.cap_rules.specs.Making.{env_at};
 ghost use Rattle.cap_rules.specs.Rules.{at_guard, at_no_tokens, at_piece};
-ghost use Rattle.cap_rules.specs.Taking.{after_cut, cut as cut_of, with_form as formed};
+ghost use Rattle.cap_rules.specs.Taking.{after_cut};
 ghost use Rattle.cap_prog.specs.declared.assertion.Asked.TheVariants as asked_as;
 ghost use Rattle.cap_rules_steps.specs.Goals.{goals_view};
 ghost use Rattle.cap_rules_steps.specs.Walks.{Makes, Claims, giving, seen};
@@ -67,53 +66,12 @@ pub(crate) fn bound_term(env: &Env, name: u32) -> Result<&Term, RuleError>
 fn with_form(alloc: Global, piece: &Piece, form: Form) -> Result<Piece, AllocError>
     ensures { IfOk result (λ q. q ≡ record piece.now { form = form }) }
 {
-    match piece.region.copy(alloc) {
-        Ok(region) => Ok(Piece {
-            region,
-            kind: piece.kind,
-            atom: piece.atom,
-            form,
-        }),
-        Err(stop) => {
-            drop(form);
-            Err(stop)
-        }
-    }
-}
-
-// A piece in another form stands in the place of the piece of a number.
-fn put_form(
-    alloc: Global,
-    state: &mut State,
-    number: u32,
-    piece: &Piece,
-    form: Form,
-) -> Result<(), AllocError>
-    requires { number < length state.old.guards }
-    ensures { IfOk result (λ _. state.new ≡ record state.old {
-      guards = slice_set state.old.guards number (formed piece.now form);
-    }) }
-{
-    let put = with_form(alloc, piece, form)?;
-    state.put_guards(number, put)
-}
-
-// A piece in another form comes in front of the piece of a number.
-fn insert_form(
-    alloc: Global,
-    state: &mut State,
-    number: u32,
-    piece: &Piece,
-    form: Form,
-) -> Result<(), AllocError>
-    requires place { number ≤ length state.old.guards }
-    requires room { length state.old.guards < longest_list }
-    ensures { IfOk result (λ _. state.new ≡ record state.old {
-      guards = insert state.old.guards number (formed piece.now form);
-    }) }
-{
-    let more = with_form(alloc, piece, form)?;
-    state.insert_guards(number, more)
+    Ok(Piece {
+        region: piece.region.copy(alloc)?,
+        kind: piece.kind,
+        atom: piece.atom,
+        form,
+    })
 }
 
 // Two forms stay of the piece of a number.
@@ -130,13 +88,11 @@ fn put_both(
     ensures { IfOk result (λ _. state.new
         ≡ left_there state.old number piece.now (front ∷ (behind ∷ []))) }
 {
-    match put_form(alloc, state, number, piece, front) {
-        Ok(()) => insert_form(alloc, state, number + 1, piece, behind),
-        Err(stop) => {
-            drop(behind);
-            Err(stop)
-        }
-    }
+    let first = with_form(alloc, piece, front)?;
+    let second = with_form(alloc, piece, behind)?;
+    state.put_guards(number, first)?;
+    let next = number + 1;
+    state.insert_guards(next, second)
 }
 
 // This stays of the piece of a number.
@@ -154,28 +110,9 @@ fn with_left(
 {
     match left {
         Left::Nothing => state.cut_guards(number),
-        Left::One(form) => put_form(alloc, state, number, piece, form),
+        Left::One(form) => state.put_guards(number, with_form(alloc, piece, form)?),
         Left::Both(front, behind) => put_both(alloc, state, number, piece, front, behind),
     }
-}
-
-// This stays of the piece of a number, and the environment of another number becomes this one.
-fn with_cut(
-    alloc: Global,
-    state: &mut State,
-    env: u32,
-    number: u32,
-    piece: &Piece,
-    names: Env,
-    left: Left,
-) -> Result<(), AllocError>
-    requires there { number < length state.old.guards }
-    requires room { length (left_view left) ≤ 1 ⊎ length state.old.guards < longest_list }
-    ensures { IfOk result (λ _. state.new
-        ≡ after_cut env number piece.now (cut_of names state.old (left_view left))) }
-{
-    with_left(alloc, state, number, piece, left)?;
-    with_env_at(state, env, names)
 }
 
 // The state after a cut of the piece of a number, by the environment of another number.
@@ -191,13 +128,9 @@ fn state_after(
     ensures { IfOk result (λ s. s ≡ after_cut env number piece.now (cut_view cut)) }
 {
     let mut next = cut.state;
-    match with_cut(alloc, &mut next, env, number, piece, cut.env, cut.left) {
-        Ok(()) => Ok(next),
-        Err(stop) => {
-            drop(next);
-            Err(stop)
-        }
-    }
+    with_left(alloc, &mut next, number, piece, cut.left)?;
+    with_env_at(&mut next, env, cut.env)?;
+    Ok(next)
 }
 
 // No tokens are given up, out of nothing.

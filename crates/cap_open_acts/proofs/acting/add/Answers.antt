@@ -18,23 +18,23 @@ returns-in_err-next c =
     let p = err_from_is_err_and c.from_residual-in_err-next.result c.from_residual-in_err-next.ensures.1 in
     rw (p.1, p.2) (no_memory _)
 
-pub returns-in_err-next-2 : goal.returns-in_err-next-2
-returns-in_err-next-2 c =
-    let p = err_from_is_err_and c.from_residual-in_err-next-2.result c.from_residual-in_err-next-2.ensures.1 in
+pub returns-in_err-with_content : goal.returns-in_err-with_content
+returns-in_err-with_content c =
+    let p = err_from_is_err_and c.from_residual-in_err-with_content.result c.from_residual-in_err-with_content.ensures.1 in
     rw (p.1, p.2) (no_memory _)
 
-pub returns-in_err-before : goal.returns-in_err-before
-returns-in_err-before c =
-    let p = err_from_is_err_and c.from_residual-in_err-before.result c.from_residual-in_err-before.ensures.1 in
+pub returns-in_err-copy : goal.returns-in_err-copy
+returns-in_err-copy c =
+    let p = err_from_is_err_and c.from_residual-in_err-copy.result c.from_residual-in_err-copy.ensures.1 in
     rw (p.1, p.2) (no_memory _)
 
-pub returns-in_err-with_value : goal.returns-in_err-with_value
-returns-in_err-with_value c =
-    let p = err_from_is_err_and c.from_residual-in_err-with_value.result c.from_residual-in_err-with_value.ensures.1 in
+pub returns-in_err-with_local : goal.returns-in_err-with_local
+returns-in_err-with_local c =
+    let p = err_from_is_err_and c.from_residual-in_err-with_local.result c.from_residual-in_err-with_local.ensures.1 in
     rw (p.1, p.2) (no_memory _)
 
 pub returns : goal.returns
 returns c =
     let k = rw c.in_ok-more.ensures.1 at c.in_ok-sum.ensures.exact in
-    let e = rw (c.in_ok-next-2.ensures, c.in_ok-next.ensures, k.1, c.in_ok-before.ensures) at c.in_ok-with_value.ensures in
+    let e = rw (c.in_ok-with_content.ensures, c.in_ok-next.ensures, k.1, c.in_ok-copy.ensures) at c.in_ok-with_local.ensures in
     then_narrow _ _ _ c.in_ok-more.ensures.0 (then_narrow _ _ _ k.0 (done_as _ _ e))

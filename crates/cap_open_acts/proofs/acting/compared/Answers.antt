@@ -7,8 +7,11 @@ returns-in_err-next c =
     let p = err_from_is_err_and c.from_residual.result c.from_residual.ensures.1 in
     rw (p.1, p.2) (no_memory _)
 
-pub returns-in-Err : goal.returns-in-Err
-returns-in-Err c = rw c.in_ok-next.ensures at c.in-Err.ensures
+pub returns-in_err-with_comparison : goal.returns-in_err-with_comparison
+returns-in_err-with_comparison c =
+    let p = err_from_is_err_and c.from_residual-in_err-with_comparison.result c.from_residual-in_err-with_comparison.ensures.1 in
+    let k = rw c.in_ok-next.ensures at c.in_err-with_comparison.ensures in
+    rw (p.1, p.2) k
 
-pub returns-in-Ok : goal.returns-in-Ok
-returns-in-Ok c = rw c.in_ok-next.ensures at c.in-Ok.ensures
+pub returns : goal.returns
+returns c = rw c.in_ok-next.ensures at c.in_ok-with_comparison.ensures

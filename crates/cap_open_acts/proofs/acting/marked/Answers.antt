@@ -12,8 +12,11 @@ returns-in_err-next c =
     let p = err_from_is_err_and c.from_residual-in_err-next.result c.from_residual-in_err-next.ensures.1 in
     rw (p.1, p.2) (no_memory_claims _ _ _)
 
-pub returns : goal.returns
-returns c = rw (c.in_ok-next.ensures, c.deref.ensures.value, c.in_ok-pairs.ensures) at c.in-Err.ensures
+pub returns-in_err-with_marks : goal.returns-in_err-with_marks
+returns-in_err-with_marks c =
+    let p = err_from_is_err_and c.from_residual-in_err-with_marks.result c.from_residual-in_err-with_marks.ensures.1 in
+    let k = rw (c.in_ok-next.ensures, c.deref.ensures.value, c.in_ok-pairs.ensures) at c.in_err-with_marks.ensures in
+    rw (p.1, p.2) k
 
-pub returns-in-Ok : goal.returns-in-Ok
-returns-in-Ok c = rw (c.in_ok-next.ensures, c.deref.ensures.value, c.in_ok-pairs.ensures) at c.in-Ok.ensures
+pub returns : goal.returns
+returns c = rw (c.in_ok-next.ensures, c.deref.ensures.value, c.in_ok-pairs.ensures) at c.in_ok-with_marks.ensures

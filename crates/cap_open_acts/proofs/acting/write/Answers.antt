@@ -12,12 +12,12 @@ returns-in_err-next c =
     let p = err_from_is_err_and c.from_residual-in_err-next.result c.from_residual-in_err-next.ensures.1 in
     rw (p.1, p.2) (then_narrow _ _ _ c.in_ok-content.ensures.0 (no_memory _))
 
-pub returns-in_err-holding : goal.returns-in_err-holding
-returns-in_err-holding c =
-    let p = err_from_is_err_and c.from_residual-in_err-holding.result c.from_residual-in_err-holding.ensures.1 in
+pub returns-in_err-with_content : goal.returns-in_err-with_content
+returns-in_err-with_content c =
+    let p = err_from_is_err_and c.from_residual-in_err-with_content.result c.from_residual-in_err-with_content.ensures.1 in
     rw (p.1, p.2) (then_narrow _ _ _ c.in_ok-content.ensures.0 (no_memory _))
 
 pub returns : goal.returns
 returns c =
-    let e = rw (c.in_ok-next.ensures, c.in_ok-content.ensures.1) at c.in_ok-holding.ensures in
+    let e = rw (c.in_ok-next.ensures, c.in_ok-content.ensures.1) at c.in_ok-with_content.ensures in
     then_narrow _ _ _ c.in_ok-content.ensures.0 (done_as _ _ e)

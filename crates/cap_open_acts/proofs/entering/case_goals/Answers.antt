@@ -15,12 +15,12 @@ returns-in_err-next c =
     let s = a.state.now in
     let f = a.fact.now in
     let ts = tasks_view a.tasks.now in
-    let p = err_from_is_err_and c.from_residual-in_err-next.result c.from_residual-in_err-next.ensures.1 in
+    let p = err_from_is_err_and c.from_residual.result c.from_residual.ensures.1 in
     rw (p.1, p.2) (chunks-stop (cases_of s f a.at ts) (one_case s f) (given s a.at ts) (cases_chunk s f a.at ts) a.cases.now c.loop-case.case-index c.case-item.result _ _ _ (omega arith) c.case-item.is c.in_err-next.ensures c.loop-case.invariant)
 
 pub returns-in_err-given : goal.returns-in_err-given
 returns-in_err-given c =
-    let p = err_from_is_err_and c.from_residual.result c.from_residual.ensures.1 in
+    let p = err_from_is_err_and c.from_residual-in_err-given.result c.from_residual-in_err-given.ensures.1 in
     rw (p.1, p.2) (no_memory _)
 
 pub returns-in_err-add_goal : goal.returns-in_err-add_goal

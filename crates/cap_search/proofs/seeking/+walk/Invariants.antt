@@ -11,16 +11,13 @@ use Rattle.cap_search.specs.Views.{walk_view}
 use Rattle.cap_search.proofs.seeking.+walk.Given as goal
 
 abbrev pub decreases-prove : goal.decreases-prove
-decreases-prove l = 4 * l.room
+decreases-prove l = 3 * l.room
 
 abbrev pub decreases-prove_all : goal.decreases-prove_all
-decreases-prove_all l = 4 * l.room + 1
+decreases-prove_all l = 3 * l.room + 1
 
 abbrev pub decreases-by_choices : goal.decreases-by_choices
-decreases-by_choices l = 4 * l.room + 3
-
-abbrev pub decreases-by_choice : goal.decreases-by_choice
-decreases-by_choice l = 4 * l.room + 2
+decreases-by_choices l = 3 * l.room + 2
 
 abbrev pub invariant-by_choices-loop-choice : goal.invariant-by_choices-loop-choice
 invariant-by_choices-loop-choice l =

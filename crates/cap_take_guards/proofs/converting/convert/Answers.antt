@@ -1,4 +1,4 @@
-use Rattle.std.proofs.Common.{subst}
+use Rattle.std.proofs.Common.{ap, subst, ◌∙◌}
 use Rattle.std.specs.Prelude.{Ok, Err}
 use Rattle.std.proofs.lemmas.Result.{err_from_is_err_and}
 use Rattle.cap_prog.specs.Views.{program_view}
@@ -21,29 +21,36 @@ returns-in_err-named c =
     let t = rw c.in_ok-names.ensures at c.in_err-named.ensures in
     rw (p.1, p.2) (made_claims _ _ _ _ _ _ c.in_ok-guards.ensures (made_claims _ _ _ _ _ _ c.in_ok-sides.ensures (made_claims _ _ _ _ _ _ c.in_ok-held.ensures (unmade_claims _ _ _ _ t))))
 
-pub returns-in_err-less : goal.returns-in_err-less
-returns-in_err-less c =
-    let p = err_from_is_err_and c.from_residual-in_err-less.result c.from_residual-in_err-less.ensures.1 in
+pub returns-in_err-without_full : goal.returns-in_err-without_full
+returns-in_err-without_full c =
+    let p = err_from_is_err_and c.from_residual-in_err-without_full.result c.from_residual-in_err-without_full.ensures.1 in
     let t = rw c.in_ok-names.ensures at c.in_ok-named.ensures in
-    rw (p.1, p.2) (made_claims _ _ _ _ _ _ c.in_ok-guards.ensures (made_claims _ _ _ _ _ _ c.in_ok-sides.ensures (made_claims _ _ _ _ _ _ c.in_ok-held.ensures (made_claims _ _ _ _ _ _ t (claims_fail _ _ _ _ _ c.in_err-less.ensures.claims)))))
+    let w = rw (c.in_ok-next.ensures, c.deref.ensures.value, c.in_ok-fulls.ensures) at c.in_err-without_full.ensures.claims in
+    rw (p.1, p.2) (made_claims _ _ _ _ _ _ c.in_ok-guards.ensures (made_claims _ _ _ _ _ _ c.in_ok-sides.ensures (made_claims _ _ _ _ _ _ c.in_ok-held.ensures (made_claims _ _ _ _ _ _ t (claims_fail _ _ _ _ _ w)))))
 
-pub returns-in_err-next : goal.returns-in_err-next
-returns-in_err-next c =
-    let p = err_from_is_err_and c.from_residual-in_err-next.result c.from_residual-in_err-next.ensures.1 in
+pub returns-in_err-with_pieces : goal.returns-in_err-with_pieces
+returns-in_err-with_pieces c =
+    let p = err_from_is_err_and c.from_residual-in_err-with_pieces.result c.from_residual-in_err-with_pieces.ensures.1 in
     let t = rw c.in_ok-names.ensures at c.in_ok-named.ensures in
     let a = c.args in
     let r = c.in_ok-named.named.now in
+    let w = rw (c.in_ok-next.ensures, c.deref.ensures.value, c.in_ok-fulls.ensures) at c.in_ok-without_full.ensures.claims in
+    let kept = rw c.in_ok-next.ensures at c.in_ok-without_full.ensures.kept in
+    let o = c.in_ok-others.ensures ∙ ap (λ (x : Side). side_pieces x r a.kind) c.other_side.ensures in
     let ps = side_pieces (other_side (sides_view c.in_ok-sides.sides) a.side) r a.kind in
-    let h = subst (λ (x : Side). Makes (Err c.in_err-next.field-0.0) (with_pieces (program_view a.program.now) c.in_ok-less.less (side_pieces x r a.kind))) c.other_side.ensures c.in_err-next.ensures in
-    let k = subst (λ (u : PlainState). Makes (Err c.in_err-next.field-0.0) (with_pieces (program_view a.program.now) u ps)) c.in_ok-less.ensures.kept h in
-    rw (p.1, p.2) (made_claims _ _ _ _ _ _ c.in_ok-guards.ensures (made_claims _ _ _ _ _ _ c.in_ok-sides.ensures (made_claims _ _ _ _ _ _ c.in_ok-held.ensures (made_claims _ _ _ _ _ _ t (claims_then _ _ _ _ _ _ _ c.in_ok-less.ensures.claims (unmade_claims _ _ _ _ k))))))
+    let h = rw (c.deref-2.ensures.value, o) at c.in_err-with_pieces.ensures in
+    let k = subst (λ (u : PlainState). Makes (Err c.in_err-with_pieces.field-0.0) (with_pieces (program_view a.program.now) u ps)) kept h in
+    rw (p.1, p.2) (made_claims _ _ _ _ _ _ c.in_ok-guards.ensures (made_claims _ _ _ _ _ _ c.in_ok-sides.ensures (made_claims _ _ _ _ _ _ c.in_ok-held.ensures (made_claims _ _ _ _ _ _ t (claims_then _ _ _ _ _ _ _ w (unmade_claims _ _ _ _ k))))))
 
 pub returns : goal.returns
 returns c =
     let t = rw c.in_ok-names.ensures at c.in_ok-named.ensures in
     let a = c.args in
     let r = c.in_ok-named.named.now in
+    let w = rw (c.in_ok-next.ensures, c.deref.ensures.value, c.in_ok-fulls.ensures) at c.in_ok-without_full.ensures.claims in
+    let kept = rw c.in_ok-next.ensures at c.in_ok-without_full.ensures.kept in
+    let o = c.in_ok-others.ensures ∙ ap (λ (x : Side). side_pieces x r a.kind) c.other_side.ensures in
     let ps = side_pieces (other_side (sides_view c.in_ok-sides.sides) a.side) r a.kind in
-    let h = subst (λ (x : Side). Makes (Ok c.in_ok-next.next) (with_pieces (program_view a.program.now) c.in_ok-less.less (side_pieces x r a.kind))) c.other_side.ensures c.in_ok-next.ensures in
-    let k = subst (λ (u : PlainState). Makes (Ok c.in_ok-next.next) (with_pieces (program_view a.program.now) u ps)) c.in_ok-less.ensures.kept h in
-    made_claims _ _ _ _ _ _ c.in_ok-guards.ensures (made_claims _ _ _ _ _ _ c.in_ok-sides.ensures (made_claims _ _ _ _ _ _ c.in_ok-held.ensures (made_claims _ _ _ _ _ _ t (claims_then _ _ _ _ _ _ _ c.in_ok-less.ensures.claims (made_claims _ _ _ _ _ _ k (weaker _ _ _ (done_as _ _ c.in_ok-stays.ensures)))))))
+    let h = rw (c.deref-2.ensures.value, o) at c.in_ok-with_pieces.ensures in
+    let k = subst (λ (u : PlainState). Makes (Ok c.with_pieces.new.state) (with_pieces (program_view a.program.now) u ps)) kept h in
+    made_claims _ _ _ _ _ _ c.in_ok-guards.ensures (made_claims _ _ _ _ _ _ c.in_ok-sides.ensures (made_claims _ _ _ _ _ _ c.in_ok-held.ensures (made_claims _ _ _ _ _ _ t (claims_then _ _ _ _ _ _ _ w (made_claims _ _ _ _ _ _ k (weaker _ _ _ (done_as _ _ c.in_ok-stays.ensures)))))))

@@ -2,7 +2,7 @@ use Rattle.std.proofs.Common.{refl, ◌∙◌}
 use Rattle.cap_parse.proofs.Parts.{action_parts}
 use Rattle.cap_parse.proofs.cursor.Cursor.action.Goals as goal
 
-pub returns-in-Ok : goal.returns-in-Ok
-returns-in-Ok c =
+pub returns : goal.returns
+returns c =
     action_parts c.args.room c.args.self.now.rest
-    ∙ rw (c.in_ok-guards.ensures, c.in_ok-transition.ensures, c.in-Ok.ensures) refl
+    ∙ rw (c.in_ok-guards.ensures, c.in_ok-transition.ensures, c.in_ok-when.ensures) refl

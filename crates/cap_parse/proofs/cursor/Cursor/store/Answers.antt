@@ -3,8 +3,8 @@ use Rattle.cap_parse_tree.specs.declared.statement.Statement.TheFolds.{the_lemma
 use Rattle.cap_parse.proofs.Parts.{store_parts}
 use Rattle.cap_parse.proofs.cursor.Cursor.store.Goals as goal
 
-pub returns-in-Ok : goal.returns-in-Ok
-returns-in-Ok c =
+pub returns : goal.returns
+returns c =
     store_parts c.args.room c.args.self.now.rest
-    ∙ rw (c.in_ok-address.ensures, c.in_ok-becomes.ensures, c.in_ok-value.ensures, c.in-Ok.ensures)
+    ∙ rw (c.in_ok-address.ensures, c.in_ok-becomes.ensures, c.in_ok-value.ensures, c.in_ok-semicolon.ensures)
     (search (rules, the_lemmas))
