@@ -27,9 +27,6 @@ pub record IsUp (history : List entry.Origin) (way : ℕ → Bool) (terms : ℕ 
 abbrev pub origin_at : List entry.Origin → ℕ → Origin
 origin_at history place = origin_view (get_or history place (Given 0))
 
-pub mark-read : (marks : List Bool) (i n : ℕ) (m b : Bool) → length marks ≡ n → i < n → m ≡ get_or marks i m → m ≡ b → is_marked marks i ≡ b
-mark-read marks i n m b e h r t = sym (get_or_read marks i m (omega arith) r false) ∙ t
-
 pub begun : (history : List entry.Origin) (last : ℕ) (marks : List Bool) (made : List Linear) → AreEarlier 0 (map origin_view history) → IsWay (map origin_view history) last marks → made ≡ [] → IsUp history (is_marked marks) (multipliers (history_view history)) 0 made (first_wide (rising_steps (is_marked marks) (multipliers (history_view history)) 0 (map origin_view history)))
 begun history last marks made h w e = record {
   count = ap length e;

@@ -35,11 +35,25 @@ pub fn refuted(alloc: Global, rows: &[Row], more: &[Row]) -> Result<Option<Multi
 {
     let count = rows.len() + more.len();
     let bump = Bump::try_with_capacity(alloc, ROOM + ROOM_OF_ROW * count)?;
-    let mut stage = Stage::with_room(alloc, &bump, count)?;
+    refuted_within(alloc, &bump, rows, more)
+}
+
+// Eliminates the variables, where the arena has what is made on the way.
+fn refuted_within(
+    alloc: Global,
+    bump: &Bump,
+    rows: &[Row],
+    more: &[Row],
+) -> Result<Option<Multipliers>, SolveError>
+    requires few { length rows.now + length more.now ≤ 2 ^ 32 }
+    requires ascend { RowsAscend rows.now }
+    ensures { IsLogged result (refuted_log (rows.now ++ more.now)) }
+{
+    let mut stage = Stage::with_room(alloc, bump, rows.len() + more.len())?;
     match eliminated(alloc, &mut stage, rows, more)? {
         Reached::Rows(_) => Ok(None),
         Reached::Contradiction(row) => {
-            let leaf = leaf(alloc, &bump, rows, more, stage.history(), row)?;
+            let leaf = leaf(alloc, bump, rows, more, stage.history(), row)?;
             Ok(Some(leaf))
         }
     }

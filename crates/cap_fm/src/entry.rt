@@ -7,7 +7,7 @@ use bumpalo::Bump;
 use cap_lin::Kind;
 
 /// Where a row comes from.
-#[derive(Clone, Copy, Debug)]
+#[derive(Clone, Copy)]
 pub enum Origin {
     /// An input row, by its number.
     Given(u32),
@@ -16,7 +16,7 @@ pub enum Origin {
 }
 
 /// A row that is present in an elimination. The stage has its term, by its number.
-#[derive(Clone, Copy, Debug)]
+#[derive(Clone, Copy)]
 pub struct Present {
     /// Never Ne.
     pub kind: Kind,
@@ -27,7 +27,7 @@ pub struct Present {
 }
 
 /// A row without variables that is false.
-#[derive(Clone, Copy, Debug)]
+#[derive(Clone, Copy)]
 pub struct FalseRow {
     pub constant: i128,
     pub kind: Kind,
@@ -36,7 +36,7 @@ pub struct FalseRow {
 }
 
 /// What becomes of a row that arises.
-#[derive(Clone, Copy, Debug)]
+#[derive(Clone, Copy)]
 pub enum Arisen {
     /// The row is true, or equal to one that is present.
     LeftOut,

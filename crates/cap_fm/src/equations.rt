@@ -20,7 +20,7 @@ use cap_lin::Kind;
 use std::alloc::Global;
 
 /// An equation, by its place among the rows, and a variable that it has.
-#[derive(Clone, Copy, Debug)]
+#[derive(Clone, Copy)]
 pub struct Pivot {
     pub place: usize,
     pub variable: u32,

@@ -153,6 +153,25 @@ fn multipliers(
         result }
 {
     let way = way(bump, history, last)?;
+    multipliers_on(alloc, bump, history, last, &way)
+}
+
+// The same, where the way to the row is marked.
+fn multipliers_on(
+    alloc: Global,
+    bump: &Bump,
+    history: &[Origin],
+    last: usize,
+    way: &[bool],
+) -> Result<Term, SolveError>
+    requires history { AreEarlier 0 (map origin_view history.now) }
+    requires last { last + 1 ≡ length history.now }
+    requires way { IsWay (map origin_view history.now) last way.now }
+    ensures { IsMadeBy
+        (steps_of (history_view history.now) last)
+        (multipliers_at (history_view history.now) last)
+        result }
+{
     let mut terms = Vec::with_capacity(bump, history.len())?;
     for place in 0..history.len() {
         let term = if way[place] {

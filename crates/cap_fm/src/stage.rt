@@ -127,7 +127,6 @@ fn mixed(digest: u64, word: u64) -> u64
 
 /// The rows that arose in an elimination, equal ones once, which of them are present, and where
 /// each row that was kept comes from.
-#[derive(Drop)]
 pub struct Stage<'a> {
     forms: IndexSet<Form<'a>, BuildHasherDefault<FoldHasher>, &'a Bump>,
     // The term of a number that no row has.
@@ -135,6 +134,18 @@ pub struct Stage<'a> {
     bump: &'a Bump,
     present: Vec<bool, &'a Bump>,
     history: Vec<Origin, &'a Bump>,
+}
+
+impl Drop for Stage<'_> {
+    fn drop(self) {
+        let Stage {
+            forms: _,
+            zero: _,
+            bump: _,
+            present: _,
+            history: _,
+        } = self;
+    }
 }
 
 impl<'a> Stage<'a> {

@@ -87,7 +87,7 @@ error-is h x y r e p c = subst (IsComposition h x y) (sym (p.1 ∙ ap Err p.2)) 
 
 -- ---- pairs
 
-wide-nothing : (x : Element) → is_wide x nothing ≡ false
+pub wide-nothing : (x : Element) → is_wide x nothing ≡ false
 wide-nothing nothing = refl
 wide-nothing one = refl
 wide-nothing (share f) = refl

@@ -1,7 +1,7 @@
 //! Guard algebras as data, and their atoms.
 ghost use Rattle.std.specs.Prelude.{true, false, ◌≡◌, ◌↔◌, ◌≤◌, ◌+◌, ◌-◌, ◌==◌, if◌then◌else◌};
 ghost use Rattle.std.specs.Prelude.{IsTrue, IfOk, Ok, Err, MatchResult, MatchOption};
-ghost use Rattle.cap_galg.specs.Algebras.{are_apart};
+ghost use Rattle.cap_galg.specs.Algebras.{are_apart, product, sum};
 ghost use Rattle.cap_galg.specs.Placed.{HasPassed};
 ghost use Rattle.cap_galg.specs.declared.algebra.Passed.TheVariants.{Both, First, Second, Neither};
 ghost use Rattle.cap_galg.specs.Views.{algebra_view, atom_count, HasAtom, Accepts};
@@ -22,7 +22,6 @@ pub enum Algebra {
     Either(Box<Algebra>, Box<Algebra>),
 }
 
-// Written out: one call at each exit of a function, where a derived drop is all its parts.
 impl Drop for Algebra {
     #[cycle(dropped_algebras)]
     fn drop(self) {
@@ -56,11 +55,7 @@ fn atom_or_rest(algebra: &Algebra, atom: u32) -> Result<Atom, u32>
         Algebra::Divisible => leaf_or_rest(Atom::Divisible, atom),
         Algebra::Counting => leaf_or_rest(Atom::Counting, atom),
         Algebra::Indexed => leaf_or_rest(Atom::Indexed, atom),
-        Algebra::Pair(a, b) => match atom_or_rest(a, atom) {
-            Ok(kind) => Ok(kind),
-            Err(rest) => atom_or_rest(b, rest),
-        },
-        Algebra::Either(a, b) => match atom_or_rest(a, atom) {
+        Algebra::Pair(a, b) | Algebra::Either(a, b) => match atom_or_rest(a, atom) {
             Ok(kind) => Ok(kind),
             Err(rest) => atom_or_rest(b, rest),
         },
@@ -202,14 +197,22 @@ impl Algebra {
             Algebra::Divisible => Ok(Algebra::Divisible),
             Algebra::Counting => Ok(Algebra::Counting),
             Algebra::Indexed => Ok(Algebra::Indexed),
-            Algebra::Pair(a, b) => Ok(Algebra::Pair(
-                Box::new(alloc, a.copy(alloc)?)?,
-                Box::new(alloc, b.copy(alloc)?)?,
-            )),
-            Algebra::Either(a, b) => Ok(Algebra::Either(
-                Box::new(alloc, a.copy(alloc)?)?,
-                Box::new(alloc, b.copy(alloc)?)?,
-            )),
+            Algebra::Pair(a, b) => pair(alloc, a.copy(alloc)?, b.copy(alloc)?),
+            Algebra::Either(a, b) => either(alloc, a.copy(alloc)?, b.copy(alloc)?),
         }
     }
+}
+
+// The algebra of parts of both.
+fn pair(alloc: Global, a: Algebra, b: Algebra) -> Result<Algebra, AllocError>
+    ensures { IfOk result (λ c. algebra_view c ≡ product (algebra_view a) (algebra_view b)) }
+{
+    Ok(Algebra::Pair(Box::new(alloc, a)?, Box::new(alloc, b)?))
+}
+
+// The algebra of parts of one alone.
+fn either(alloc: Global, a: Algebra, b: Algebra) -> Result<Algebra, AllocError>
+    ensures { IfOk result (λ c. algebra_view c ≡ sum (algebra_view a) (algebra_view b)) }
+{
+    Ok(Algebra::Either(Box::new(alloc, a)?, Box::new(alloc, b)?))
 }

@@ -1,4 +1,9 @@
 //! The sum of two algebras: one side or the other, which share the full guard.
+ghost use Rattle.cap_galg.specs.Elements.{in_left, in_right};
+ghost use Rattle.cap_galg.specs.Views.{side_element, SideKin};
+ghost use Rattle.cap_galg.specs.Answers.{IsComposition, OnComposite};
+ghost use Rattle.cap_galg.specs.declared.either.Either.TheVariants.{Left, Right};
+
 use crate::error::GuardError;
 use crate::guard::Guard;
 use std::alloc::{AllocError, Global};
@@ -11,8 +16,50 @@ pub enum Either<A, B> {
     Right(B),
 }
 
+// A part of the left side and one of the right side compose where one of them is the unit, to the
+// other one.
+fn left_with_right<A: Guard, B: Guard>(
+    alloc: Global,
+    x: &A,
+    y: &B,
+) -> Result<Option<Either<A, B>>, GuardError>
+    ensures composed { IsComposition (side_element A.element B.element)
+        (in_left (A.element x.now)) (in_right (B.element y.now)) result }
+    ensures kin { OnComposite result (λ z. (w : Either A B) →
+        SideKin A.kin B.kin (Left x.now) w → SideKin A.kin B.kin (Right y.now) w →
+        SideKin A.kin B.kin z w) }
+{
+    if x.is_unit() {
+        Ok(Some(Either::Right(y.copy(alloc)?)))
+    } else if y.is_unit() {
+        Ok(Some(Either::Left(x.copy(alloc)?)))
+    } else {
+        Ok(None)
+    }
+}
+
+// The same, the part of the right side first.
+fn right_with_left<A: Guard, B: Guard>(
+    alloc: Global,
+    x: &B,
+    y: &A,
+) -> Result<Option<Either<A, B>>, GuardError>
+    ensures composed { IsComposition (side_element A.element B.element)
+        (in_right (B.element x.now)) (in_left (A.element y.now)) result }
+    ensures kin { OnComposite result (λ z. (w : Either A B) →
+        SideKin A.kin B.kin (Right x.now) w → SideKin A.kin B.kin (Left y.now) w →
+        SideKin A.kin B.kin z w) }
+{
+    if x.is_unit() {
+        Ok(Some(Either::Left(y.copy(alloc)?)))
+    } else if y.is_unit() {
+        Ok(Some(Either::Right(x.copy(alloc)?)))
+    } else {
+        Ok(None)
+    }
+}
+
 impl<A: Guard, B: Guard> Guard for Either<A, B> {
-    ghost use Rattle.cap_galg.specs.Views.{side_element, SideKin};
     ghost use Rattle.cap_galg.specs.Laws.Kin.{side-reflexive, side-symmetric, side-kin};
 
     ghost element = { side_element A.element B.element };
@@ -30,30 +77,14 @@ impl<A: Guard, B: Guard> Guard for Either<A, B> {
                     Some(z) => Ok(Some(Either::Left(z))),
                     None => Ok(None),
                 },
-                Either::Right(y) => {
-                    if x.is_unit() {
-                        Ok(Some(Either::Right(y.copy(alloc)?)))
-                    } else if y.is_unit() {
-                        Ok(Some(Either::Left(x.copy(alloc)?)))
-                    } else {
-                        Ok(None)
-                    }
-                }
+                Either::Right(y) => left_with_right(alloc, x, y),
             },
             Either::Right(x) => match other {
                 Either::Right(y) => match x.compose(alloc, y)? {
                     Some(z) => Ok(Some(Either::Right(z))),
                     None => Ok(None),
                 },
-                Either::Left(y) => {
-                    if x.is_unit() {
-                        Ok(Some(Either::Left(y.copy(alloc)?)))
-                    } else if y.is_unit() {
-                        Ok(Some(Either::Right(x.copy(alloc)?)))
-                    } else {
-                        Ok(None)
-                    }
-                }
+                Either::Left(y) => right_with_left(alloc, x, y),
             },
         }
     }

@@ -1,11 +1,12 @@
 //! An element together with its algebra, as a guard.
-ghost use Rattle.std.specs.Prelude.{◌≡◌, ◌<◌, ◌-◌, ◌==◌, if◌then◌else◌, IfOk, MatchResult};
+ghost use Rattle.std.specs.Prelude.{◌≡◌, ℕ, ◌<◌, ◌+◌, ◌-◌, ◌==◌, if◌then◌else◌, IfOk, MatchResult};
 ghost use Rattle.cap_galg.specs.Views.{algebra_view, node_view, amount_element};
 ghost use Rattle.cap_galg.specs.Views.{atom_count, IsAmountOf};
 ghost use Rattle.cap_galg.specs.Placed.{IsPlaced};
 ghost use Rattle.cap_galg.specs.declared.elem.Placed.TheVariants.{Here, Past};
-ghost use Rattle.cap_galg.specs.Elements.{nothing};
-ghost use Rattle.cap_galg.specs.Algebras.{IsElement, full, atom_algebra, atom_element};
+ghost use Rattle.cap_galg.specs.Elements.{Element, nothing};
+ghost use Rattle.cap_galg.specs.Algebras.{PlainAlgebra, product, sum, atoms, IsElement, full};
+ghost use Rattle.cap_galg.specs.Algebras.{atom_algebra, atom_element};
 ghost use Rattle.cap_galg.specs.Laws.Kin.{element-prop};
 ghost use Rattle.cap_galg.specs.declared.error.GuardError.TheVariants.{OutOfMemory};
 
@@ -14,7 +15,7 @@ use crate::amount::Amount;
 use crate::error::GuardError;
 use crate::fraction::Fraction;
 use crate::guard::Guard;
-use crate::node::{Node, on_left, on_right};
+use crate::node::{Node, on_left, on_right, pair_node};
 use cap_galg_indices::Indices;
 use std::alloc::{AllocError, Global};
 
@@ -68,25 +69,53 @@ fn at_atom(alloc: Global, algebra: &Algebra, atom: u32, node: Node) -> Result<Pl
             Ok(at_leaf(atom, node))
         }
         Algebra::Pair(a, b) => match at_atom(alloc, a, atom, node)? {
-            Placed::Here(x) => {
-                let none = Box::new(alloc, Node::Nothing)?;
-                Ok(Placed::Here(Node::Both(Box::new(alloc, x)?, none)))
-            }
-            Placed::Past(rest, node) => match at_atom(alloc, b, rest, node)? {
-                Placed::Here(y) => {
-                    let none = Box::new(alloc, Node::Nothing)?;
-                    Ok(Placed::Here(Node::Both(none, Box::new(alloc, y)?)))
-                }
-                Placed::Past(rest, node) => Ok(Placed::Past(rest, node)),
-            },
+            Placed::Here(x) => in_first(alloc, x),
+            Placed::Past(rest, node) => in_second(alloc, at_atom(alloc, b, rest, node)),
         },
         Algebra::Either(a, b) => match at_atom(alloc, a, atom, node)? {
-            Placed::Here(x) => Ok(Placed::Here(on_left(alloc, x)?)),
-            Placed::Past(rest, node) => match at_atom(alloc, b, rest, node)? {
-                Placed::Here(y) => Ok(Placed::Here(on_right(alloc, y)?)),
-                Placed::Past(rest, node) => Ok(Placed::Past(rest, node)),
-            },
+            Placed::Here(x) => in_left(alloc, x),
+            Placed::Past(rest, node) => in_right(alloc, at_atom(alloc, b, rest, node)),
         },
+    }
+}
+
+// An atom's element in the first part of a pair, in the pair.
+fn in_first(alloc: Global, node: Node) -> Result<Placed, AllocError>
+    ensures { (a b : PlainAlgebra) (i : ℕ) (x : Element) → IsPlaced a i x (Here node) →
+        IfOk result (IsPlaced (product a b) i x) }
+{
+    Ok(Placed::Here(pair_node(alloc, node, Node::Nothing)?))
+}
+
+// An atom's element on the left side of a sum, in the sum.
+fn in_left(alloc: Global, node: Node) -> Result<Placed, AllocError>
+    ensures { (a b : PlainAlgebra) (i : ℕ) (x : Element) → IsPlaced a i x (Here node) →
+        IfOk result (IsPlaced (sum a b) i x) }
+{
+    Ok(Placed::Here(on_left(alloc, node)?))
+}
+
+// What is placed in the second part of a pair, in the pair.
+fn in_second(alloc: Global, placed: Result<Placed, AllocError>) -> Result<Placed, AllocError>
+    ensures { (a b : PlainAlgebra) (i rest : ℕ) (x : Element) →
+        atoms a + rest ≡ i → IfOk placed (IsPlaced b rest x) →
+        IfOk result (IsPlaced (product a b) i x) }
+{
+    match placed? {
+        Placed::Here(y) => Ok(Placed::Here(pair_node(alloc, Node::Nothing, y)?)),
+        Placed::Past(rest, node) => Ok(Placed::Past(rest, node)),
+    }
+}
+
+// What is placed on the right side of a sum, in the sum.
+fn in_right(alloc: Global, placed: Result<Placed, AllocError>) -> Result<Placed, AllocError>
+    ensures { (a b : PlainAlgebra) (i rest : ℕ) (x : Element) →
+        atoms a + rest ≡ i → IfOk placed (IsPlaced b rest x) →
+        IfOk result (IsPlaced (sum a b) i x) }
+{
+    match placed? {
+        Placed::Here(y) => Ok(Placed::Here(on_right(alloc, y)?)),
+        Placed::Past(rest, node) => Ok(Placed::Past(rest, node)),
     }
 }
 
@@ -108,10 +137,7 @@ fn full_node(alloc: Global, algebra: &Algebra) -> Result<Node, AllocError>
         Algebra::Divisible => Ok(Node::Share(Fraction { num: 1, den: 1 })),
         Algebra::Counting => Ok(Node::Src(0)),
         Algebra::Indexed => Ok(Node::Indices(Indices::from(alloc, 0)?)),
-        Algebra::Pair(a, b) => Ok(Node::Both(
-            Box::new(alloc, full_node(alloc, a)?)?,
-            Box::new(alloc, full_node(alloc, b)?)?,
-        )),
+        Algebra::Pair(a, b) => pair_node(alloc, full_node(alloc, a)?, full_node(alloc, b)?),
         Algebra::Either(_, _) => Ok(Node::Whole),
     }
 }

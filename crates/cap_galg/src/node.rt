@@ -2,7 +2,8 @@
 ghost use Rattle.std.specs.Prelude.{◌≡◌, IfOk, Ok};
 ghost use Rattle.cap_galg.specs.Fractions.{IsShare};
 ghost use Rattle.cap_galg.specs.Views.{node_view, HasShares};
-ghost use Rattle.cap_galg.specs.Elements.{is_unit, is_full, at_most, share, tok, src, indices};
+ghost use Rattle.cap_galg.specs.Elements.{Element, is_unit, is_full, at_most, nothing, one, share};
+ghost use Rattle.cap_galg.specs.Elements.{tok, src, indices, both, whole, left, right};
 ghost use Rattle.cap_galg.specs.Elements.{on_left as made_left, on_right as made_right};
 ghost use Rattle.cap_galg.specs.Answers.{IsComposition};
 
@@ -28,7 +29,6 @@ pub enum Node {
     Right(Box<Node>),
 }
 
-// Written out: one call at each exit of a function, where a derived drop is all its parts.
 impl Drop for Node {
     #[cycle(dropped_nodes)]
     fn drop(self) {
@@ -59,13 +59,10 @@ impl Node {
             Node::Tok(count) => Ok(Node::Tok(*count)),
             Node::Src(count) => Ok(Node::Src(*count)),
             Node::Indices(set) => Ok(Node::Indices(set.copy(alloc)?)),
-            Node::Both(x, y) => Ok(Node::Both(
-                Box::new(alloc, x.copy(alloc)?)?,
-                Box::new(alloc, y.copy(alloc)?)?,
-            )),
+            Node::Both(x, y) => pair_node(alloc, x.copy(alloc)?, y.copy(alloc)?),
             Node::Whole => Ok(Node::Whole),
-            Node::Left(x) => Ok(Node::Left(Box::new(alloc, x.copy(alloc)?)?)),
-            Node::Right(y) => Ok(Node::Right(Box::new(alloc, y.copy(alloc)?)?)),
+            Node::Left(x) => left_node(alloc, x.copy(alloc)?),
+            Node::Right(y) => right_node(alloc, y.copy(alloc)?),
         }
     }
 
@@ -99,66 +96,11 @@ impl Node {
     {
         match self {
             Node::Nothing => true,
-            Node::One => match other {
-                Node::One => true,
-                Node::Nothing
-                | Node::Share(_)
-                | Node::Tok(_)
-                | Node::Src(_)
-                | Node::Indices(_)
-                | Node::Both(_, _)
-                | Node::Whole
-                | Node::Left(_)
-                | Node::Right(_) => false,
-            },
-            Node::Share(a) => match other {
-                Node::Share(b) => is_at_most(*a, *b),
-                Node::Nothing
-                | Node::One
-                | Node::Tok(_)
-                | Node::Src(_)
-                | Node::Indices(_)
-                | Node::Both(_, _)
-                | Node::Whole
-                | Node::Left(_)
-                | Node::Right(_) => false,
-            },
-            Node::Tok(j) => match other {
-                Node::Tok(k) => *j <= *k,
-                Node::Src(_) => true,
-                Node::Nothing
-                | Node::One
-                | Node::Share(_)
-                | Node::Indices(_)
-                | Node::Both(_, _)
-                | Node::Whole
-                | Node::Left(_)
-                | Node::Right(_) => false,
-            },
-            Node::Src(out) => match other {
-                Node::Src(less) => *less <= *out,
-                Node::Nothing
-                | Node::One
-                | Node::Share(_)
-                | Node::Tok(_)
-                | Node::Indices(_)
-                | Node::Both(_, _)
-                | Node::Whole
-                | Node::Left(_)
-                | Node::Right(_) => false,
-            },
-            Node::Indices(set) => match other {
-                Node::Indices(more) => set.le(more),
-                Node::Nothing
-                | Node::One
-                | Node::Share(_)
-                | Node::Tok(_)
-                | Node::Src(_)
-                | Node::Both(_, _)
-                | Node::Whole
-                | Node::Left(_)
-                | Node::Right(_) => false,
-            },
+            Node::One => matches!(other, Node::One),
+            Node::Share(a) => is_share_within(*a, other),
+            Node::Tok(j) => are_tokens_within(*j, other),
+            Node::Src(out) => is_source_within(*out, other),
+            Node::Indices(set) => are_indices_within(set, other),
             Node::Both(a, b) => match other {
                 Node::Both(c, d) => a.le(c) && b.le(d),
                 Node::Nothing
@@ -171,18 +113,7 @@ impl Node {
                 | Node::Left(_)
                 | Node::Right(_) => false,
             },
-            Node::Whole => match other {
-                Node::Whole => true,
-                Node::Nothing
-                | Node::One
-                | Node::Share(_)
-                | Node::Tok(_)
-                | Node::Src(_)
-                | Node::Indices(_)
-                | Node::Both(_, _)
-                | Node::Left(_)
-                | Node::Right(_) => false,
-            },
+            Node::Whole => matches!(other, Node::Whole),
             Node::Left(x) => match other {
                 Node::Whole => true,
                 Node::Left(y) => x.le(y),
@@ -218,79 +149,15 @@ impl Node {
         ensures { IsComposition node_view (node_view self.now) (node_view other.now) result }
     {
         match self {
-            Node::Nothing => Ok(Some(other.copy(alloc)?)),
-            Node::One => match other {
-                Node::Nothing => Ok(Some(self.copy(alloc)?)),
-                Node::One
-                | Node::Share(_)
-                | Node::Tok(_)
-                | Node::Src(_)
-                | Node::Indices(_)
-                | Node::Both(_, _)
-                | Node::Whole
-                | Node::Left(_)
-                | Node::Right(_) => Ok(None),
-            },
-            Node::Share(a) => match other {
-                Node::Share(b) => shares(*a, *b),
-                Node::Nothing => Ok(Some(self.copy(alloc)?)),
-                Node::One
-                | Node::Tok(_)
-                | Node::Src(_)
-                | Node::Indices(_)
-                | Node::Both(_, _)
-                | Node::Whole
-                | Node::Left(_)
-                | Node::Right(_) => Ok(None),
-            },
-            Node::Tok(j) => match other {
-                Node::Tok(k) => tokens(*j, *k),
-                Node::Src(out) => Ok(given_back(*out, *j)),
-                Node::Nothing => Ok(Some(self.copy(alloc)?)),
-                Node::One
-                | Node::Share(_)
-                | Node::Indices(_)
-                | Node::Both(_, _)
-                | Node::Whole
-                | Node::Left(_)
-                | Node::Right(_) => Ok(None),
-            },
-            Node::Src(out) => match other {
-                Node::Tok(k) => Ok(given_back(*out, *k)),
-                Node::Nothing => Ok(Some(self.copy(alloc)?)),
-                Node::One
-                | Node::Share(_)
-                | Node::Src(_)
-                | Node::Indices(_)
-                | Node::Both(_, _)
-                | Node::Whole
-                | Node::Left(_)
-                | Node::Right(_) => Ok(None),
-            },
-            Node::Indices(set) => match other {
-                Node::Indices(more) => sets(alloc, set, more),
-                Node::Nothing => Ok(Some(self.copy(alloc)?)),
-                Node::One
-                | Node::Share(_)
-                | Node::Tok(_)
-                | Node::Src(_)
-                | Node::Both(_, _)
-                | Node::Whole
-                | Node::Left(_)
-                | Node::Right(_) => Ok(None),
-            },
+            Node::Nothing => beside_nothing(alloc, other),
+            Node::One => Ok(beside_one(other)),
+            Node::Share(a) => beside_share(*a, other),
+            Node::Tok(j) => beside_tokens(*j, other),
+            Node::Src(out) => Ok(beside_source(*out, other)),
+            Node::Indices(set) => beside_indices(alloc, set, other),
             Node::Both(a, b) => match other {
-                Node::Both(c, d) => {
-                    let first = a.compose(alloc, c);
-                    let second = b.compose(alloc, d);
-                    match paired_answer(first, second)? {
-                        Some((x, y)) => {
-                            Ok(Some(Node::Both(Box::new(alloc, x)?, Box::new(alloc, y)?)))
-                        }
-                        None => Ok(None),
-                    }
-                }
-                Node::Nothing => Ok(Some(self.copy(alloc)?)),
+                Node::Both(c, d) => pairs(alloc, a.compose(alloc, c), b.compose(alloc, d)),
+                Node::Nothing => beside_nothing(alloc, self),
                 Node::One
                 | Node::Share(_)
                 | Node::Tok(_)
@@ -300,24 +167,10 @@ impl Node {
                 | Node::Left(_)
                 | Node::Right(_) => Ok(None),
             },
-            Node::Whole => match other {
-                Node::Nothing => Ok(Some(self.copy(alloc)?)),
-                Node::One
-                | Node::Share(_)
-                | Node::Tok(_)
-                | Node::Src(_)
-                | Node::Indices(_)
-                | Node::Both(_, _)
-                | Node::Whole
-                | Node::Left(_)
-                | Node::Right(_) => Ok(None),
-            },
+            Node::Whole => Ok(beside_whole(other)),
             Node::Left(x) => match other {
-                Node::Left(y) => match x.compose(alloc, y)? {
-                    Some(z) => Ok(Some(on_left(alloc, z)?)),
-                    None => Ok(None),
-                },
-                Node::Nothing => Ok(Some(self.copy(alloc)?)),
+                Node::Left(y) => lefts(alloc, x.compose(alloc, y)),
+                Node::Nothing => beside_nothing(alloc, self),
                 Node::One
                 | Node::Share(_)
                 | Node::Tok(_)
@@ -328,11 +181,8 @@ impl Node {
                 | Node::Right(_) => Ok(None),
             },
             Node::Right(x) => match other {
-                Node::Right(y) => match x.compose(alloc, y)? {
-                    Some(z) => Ok(Some(on_right(alloc, z)?)),
-                    None => Ok(None),
-                },
-                Node::Nothing => Ok(Some(self.copy(alloc)?)),
+                Node::Right(y) => rights(alloc, x.compose(alloc, y)),
+                Node::Nothing => beside_nothing(alloc, self),
                 Node::One
                 | Node::Share(_)
                 | Node::Tok(_)
@@ -343,6 +193,163 @@ impl Node {
                 | Node::Left(_) => Ok(None),
             },
         }
+    }
+}
+
+/// The element of a pair with two parts that aren't both the unit.
+pub fn pair_node(alloc: Global, x: Node, y: Node) -> Result<Node, AllocError>
+    ensures { IfOk result (λ n. node_view n ≡ both (node_view x) (node_view y)) }
+{
+    Ok(Node::Both(Box::new(alloc, x)?, Box::new(alloc, y)?))
+}
+
+// The element of a sum whose left side is neither unit nor full.
+fn left_node(alloc: Global, x: Node) -> Result<Node, AllocError>
+    ensures { IfOk result (λ n. node_view n ≡ left (node_view x)) }
+{
+    Ok(Node::Left(Box::new(alloc, x)?))
+}
+
+// The element of a sum whose right side is neither unit nor full.
+fn right_node(alloc: Global, y: Node) -> Result<Node, AllocError>
+    ensures { IfOk result (λ n. node_view n ≡ right (node_view y)) }
+{
+    Ok(Node::Right(Box::new(alloc, y)?))
+}
+
+// Whether some element completes a share to an element.
+fn is_share_within(a: Fraction, other: &Node) -> bool
+    ensures { result ≡ at_most (share a) (node_view other.now) }
+{
+    match other {
+        Node::Share(b) => is_at_most(a, *b),
+        Node::Nothing
+        | Node::One
+        | Node::Tok(_)
+        | Node::Src(_)
+        | Node::Indices(_)
+        | Node::Both(_, _)
+        | Node::Whole
+        | Node::Left(_)
+        | Node::Right(_) => false,
+    }
+}
+
+// Whether some element completes some tokens to an element.
+fn are_tokens_within(j: u64, other: &Node) -> bool
+    ensures { result ≡ at_most (tok j) (node_view other.now) }
+{
+    match other {
+        Node::Tok(k) => j <= *k,
+        Node::Src(_) => true,
+        Node::Nothing
+        | Node::One
+        | Node::Share(_)
+        | Node::Indices(_)
+        | Node::Both(_, _)
+        | Node::Whole
+        | Node::Left(_)
+        | Node::Right(_) => false,
+    }
+}
+
+// Whether some element completes a source to an element.
+fn is_source_within(out: u64, other: &Node) -> bool
+    ensures { result ≡ at_most (src out) (node_view other.now) }
+{
+    match other {
+        Node::Src(less) => *less <= out,
+        Node::Nothing
+        | Node::One
+        | Node::Share(_)
+        | Node::Tok(_)
+        | Node::Indices(_)
+        | Node::Both(_, _)
+        | Node::Whole
+        | Node::Left(_)
+        | Node::Right(_) => false,
+    }
+}
+
+// Whether some element completes a set of indices to an element.
+fn are_indices_within(set: &Indices, other: &Node) -> bool
+    ensures { result ≡ at_most (indices set.now) (node_view other.now) }
+{
+    match other {
+        Node::Indices(more) => set.le(more),
+        Node::Nothing
+        | Node::One
+        | Node::Share(_)
+        | Node::Tok(_)
+        | Node::Src(_)
+        | Node::Both(_, _)
+        | Node::Whole
+        | Node::Left(_)
+        | Node::Right(_) => false,
+    }
+}
+
+// What the unit and an element compose to, in either order.
+fn beside_nothing(alloc: Global, node: &Node) -> Result<Option<Node>, GuardError>
+    ensures of_unit { IsComposition node_view nothing (node_view node.now) result }
+    ensures with_unit { IsComposition node_view (node_view node.now) nothing result }
+{
+    Ok(Some(node.copy(alloc)?))
+}
+
+// What all of a unique guard and an element compose to.
+fn beside_one(other: &Node) -> Option<Node>
+    ensures { IsComposition node_view one (node_view other.now) (Ok result) }
+{
+    match other {
+        Node::Nothing => Some(Node::One),
+        Node::One
+        | Node::Share(_)
+        | Node::Tok(_)
+        | Node::Src(_)
+        | Node::Indices(_)
+        | Node::Both(_, _)
+        | Node::Whole
+        | Node::Left(_)
+        | Node::Right(_) => None,
+    }
+}
+
+// What the full element of a sum and an element compose to.
+fn beside_whole(other: &Node) -> Option<Node>
+    ensures { IsComposition node_view whole (node_view other.now) (Ok result) }
+{
+    match other {
+        Node::Nothing => Some(Node::Whole),
+        Node::One
+        | Node::Share(_)
+        | Node::Tok(_)
+        | Node::Src(_)
+        | Node::Indices(_)
+        | Node::Both(_, _)
+        | Node::Whole
+        | Node::Left(_)
+        | Node::Right(_) => None,
+    }
+}
+
+// What a share and an element compose to.
+fn beside_share(a: Fraction, other: &Node) -> Result<Option<Node>, GuardError>
+    requires share { IsShare a }
+    requires other_shares { HasShares (node_view other.now) }
+    ensures { IsComposition node_view (share a) (node_view other.now) result }
+{
+    match other {
+        Node::Share(b) => shares(a, *b),
+        Node::Nothing => Ok(Some(Node::Share(a))),
+        Node::One
+        | Node::Tok(_)
+        | Node::Src(_)
+        | Node::Indices(_)
+        | Node::Both(_, _)
+        | Node::Whole
+        | Node::Left(_)
+        | Node::Right(_) => Ok(None),
     }
 }
 
@@ -357,12 +364,48 @@ fn shares(a: Fraction, b: Fraction) -> Result<Option<Node>, GuardError>
     }
 }
 
+// What some tokens and an element compose to.
+fn beside_tokens(j: u64, other: &Node) -> Result<Option<Node>, GuardError>
+    ensures { IsComposition node_view (tok j) (node_view other.now) result }
+{
+    match other {
+        Node::Tok(k) => tokens(j, *k),
+        Node::Src(out) => Ok(given_back(*out, j)),
+        Node::Nothing => Ok(Some(Node::Tok(j))),
+        Node::One
+        | Node::Share(_)
+        | Node::Indices(_)
+        | Node::Both(_, _)
+        | Node::Whole
+        | Node::Left(_)
+        | Node::Right(_) => Ok(None),
+    }
+}
+
 fn tokens(j: u64, k: u64) -> Result<Option<Node>, GuardError>
     ensures { IsComposition node_view (tok j) (tok k) result }
 {
     match j.checked_add(k) {
         Some(count) => Ok(Some(Node::Tok(count))),
         None => Err(GuardError::Wide),
+    }
+}
+
+// What a source and an element compose to.
+fn beside_source(out: u64, other: &Node) -> Option<Node>
+    ensures { IsComposition node_view (src out) (node_view other.now) (Ok result) }
+{
+    match other {
+        Node::Tok(k) => given_back(out, *k),
+        Node::Nothing => Some(Node::Src(out)),
+        Node::One
+        | Node::Share(_)
+        | Node::Src(_)
+        | Node::Indices(_)
+        | Node::Both(_, _)
+        | Node::Whole
+        | Node::Left(_)
+        | Node::Right(_) => None,
     }
 }
 
@@ -378,11 +421,73 @@ fn given_back(out: u64, count: u64) -> Option<Node>
     }
 }
 
+// What a set of indices and an element compose to.
+fn beside_indices(alloc: Global, set: &Indices, other: &Node) -> Result<Option<Node>, GuardError>
+    ensures { IsComposition node_view (indices set.now) (node_view other.now) result }
+{
+    match other {
+        Node::Indices(more) => sets(alloc, set, more),
+        Node::Nothing => Ok(Some(Node::Indices(set.copy(alloc)?))),
+        Node::One
+        | Node::Share(_)
+        | Node::Tok(_)
+        | Node::Src(_)
+        | Node::Both(_, _)
+        | Node::Whole
+        | Node::Left(_)
+        | Node::Right(_) => Ok(None),
+    }
+}
+
 fn sets(alloc: Global, a: &Indices, b: &Indices) -> Result<Option<Node>, GuardError>
     ensures { IsComposition node_view (indices a.now) (indices b.now) result }
 {
     match a.compose(alloc, b)? {
         Some(set) => Ok(Some(Node::Indices(set))),
+        None => Ok(None),
+    }
+}
+
+// What two pairs compose to, by the answers for their parts.
+fn pairs(
+    alloc: Global,
+    first: Result<Option<Node>, GuardError>,
+    second: Result<Option<Node>, GuardError>,
+) -> Result<Option<Node>, GuardError>
+    ensures { (a b c d : Element) →
+        IsComposition node_view a c first → IsComposition node_view b d second →
+        IsComposition node_view (both a b) (both c d) result }
+{
+    match paired_answer(first, second)? {
+        Some((x, y)) => Ok(Some(pair_node(alloc, x, y)?)),
+        None => Ok(None),
+    }
+}
+
+// What two left elements of a sum compose to, by the answer for their sides.
+fn lefts(
+    alloc: Global,
+    answer: Result<Option<Node>, GuardError>,
+) -> Result<Option<Node>, GuardError>
+    ensures { (x y : Element) → IsComposition node_view x y answer →
+        IsComposition node_view (left x) (left y) result }
+{
+    match answer? {
+        Some(z) => Ok(Some(on_left(alloc, z)?)),
+        None => Ok(None),
+    }
+}
+
+// What two right elements of a sum compose to, by the answer for their sides.
+fn rights(
+    alloc: Global,
+    answer: Result<Option<Node>, GuardError>,
+) -> Result<Option<Node>, GuardError>
+    ensures { (x y : Element) → IsComposition node_view x y answer →
+        IsComposition node_view (right x) (right y) result }
+{
+    match answer? {
+        Some(z) => Ok(Some(on_right(alloc, z)?)),
         None => Ok(None),
     }
 }
@@ -394,7 +499,7 @@ pub fn on_left(alloc: Global, side: Node) -> Result<Node, AllocError>
     if side.is_full() {
         return Ok(Node::Whole);
     }
-    Ok(Node::Left(Box::new(alloc, side)?))
+    left_node(alloc, side)
 }
 
 /// An element of a sum that its right side has, where it isn't the unit.
@@ -404,5 +509,5 @@ pub fn on_right(alloc: Global, side: Node) -> Result<Node, AllocError>
     if side.is_full() {
         return Ok(Node::Whole);
     }
-    Ok(Node::Right(Box::new(alloc, side)?))
+    right_node(alloc, side)
 }

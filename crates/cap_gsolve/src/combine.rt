@@ -8,6 +8,7 @@ ghost use Rattle.cap_lin.specs.declared.row.Op.TheVariants.{Le as AtMost};
 ghost use Rattle.cap_gsolve.specs.Made.{IsMade, Pushes};
 ghost use Rattle.cap_gsolve.specs.Merge.{one_term, false_row, false_steps};
 ghost use Rattle.cap_gsolve.specs.Merge.{combined, combined_rows, combined_steps};
+ghost use Rattle.cap_gsolve.specs.declared.piece.Form.TheVariants.{Share, Src, Tok};
 
 use crate::piece::Form;
 use crate::rows::{push_false, push_row};
@@ -33,17 +34,37 @@ pub fn sum_of_shares(
     Ok(sum)
 }
 
-// The tokens that are out after some came back, and the row that they were out.
-fn left_out(alloc: Global, rows: &mut Vec<Row>, out: &Term, back: &Term) -> Result<Term, LinError>
+// The form of two shares, and the row that they are at most 1.
+fn shares(alloc: Global, rows: &mut Vec<Row>, a: &Term, b: &Term) -> Result<Form, LinError>
+    ensures exact { let there = Share a.now in
+        let new = Share b.now in
+        IsMade result (combined_steps there new) (λ f. f ≡ combined there new) }
+    ensures rows { OnOk result
+        (Pushes rows.old rows.new (combined_rows (Share a.now) (Share b.now))) }
+{
+    Ok(Form::Share(sum_of_shares(alloc, rows, a, b)?))
+}
+
+// The form of some tokens and more of them.
+fn tokens(alloc: Global, count: &Term, more: &Term) -> Result<Form, LinError>
+    ensures { let there = Tok count.now in
+        let new = Tok more.now in
+        IsMade result (combined_steps there new) (λ f. f ≡ combined there new) }
+{
+    Ok(Form::Tok(count.add(alloc, more)?))
+}
+
+// The source with the tokens that are out after some came back, and the row that they were out.
+fn left_out(alloc: Global, rows: &mut Vec<Row>, out: &Term, back: &Term) -> Result<Form, LinError>
     ensures exact { IsMade result
         (minus_steps out.now back.now ++ row_of_steps back.now AtMost out.now Int)
-        (λ t. t ≡ minus out.now back.now) }
+        (λ f. f ≡ Src (minus out.now back.now)) }
     ensures rows { let row = row_of back.now AtMost out.now Int in
         OnOk result (Pushes rows.old rows.new (row ∷ [])) }
 {
     let rest = out.minus(alloc, back)?;
     push_row(alloc, rows, back, Op::Le, out, Sort::Int)?;
-    Ok(rest)
+    Ok(Form::Src(rest))
 }
 
 // The form that is there, where no piece holds both.
@@ -70,18 +91,18 @@ pub fn combine(
     match there {
         Form::One => kept(alloc, rows, there),
         Form::Share(a) => match new {
-            Form::Share(b) => Ok(Form::Share(sum_of_shares(alloc, rows, a, b)?)),
+            Form::Share(b) => shares(alloc, rows, a, b),
             Form::One | Form::Src(_) | Form::Tok(_) | Form::Span(_, _) => kept(alloc, rows, there),
         },
         Form::Src(out) => match new {
-            Form::Tok(back) => Ok(Form::Src(left_out(alloc, rows, out, back)?)),
+            Form::Tok(back) => left_out(alloc, rows, out, back),
             Form::One | Form::Share(_) | Form::Src(_) | Form::Span(_, _) => {
                 kept(alloc, rows, there)
             }
         },
         Form::Tok(count) => match new {
-            Form::Src(out) => Ok(Form::Src(left_out(alloc, rows, out, count)?)),
-            Form::Tok(more) => Ok(Form::Tok(count.add(alloc, more)?)),
+            Form::Src(out) => left_out(alloc, rows, out, count),
+            Form::Tok(more) => tokens(alloc, count, more),
             Form::One | Form::Share(_) | Form::Span(_, _) => kept(alloc, rows, there),
         },
         Form::Span(_, _) => kept(alloc, rows, there),

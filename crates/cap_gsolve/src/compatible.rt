@@ -150,10 +150,9 @@ fn push_beside(
         Form::One => Ok(()),
         Form::Share(amount) => match there {
             Form::Share(held) => push_shares(alloc, rows, amount, held),
-            Form::One => push_alone(alloc, rows, wanted),
-            Form::Src(_) => push_alone(alloc, rows, wanted),
-            Form::Tok(_) => push_alone(alloc, rows, wanted),
-            Form::Span(_, _) => push_alone(alloc, rows, wanted),
+            Form::One | Form::Src(_) | Form::Tok(_) | Form::Span(_, _) => {
+                push_alone(alloc, rows, wanted)
+            }
         },
         Form::Src(out) => match there {
             Form::Tok(count) => push_row(alloc, rows, count, Op::Le, out, Sort::Int),

@@ -4,6 +4,7 @@ ghost use Rattle.std.specs.Prelude.{◌&&◌, ◌+ℤ◌, pos, int_lt};
 ghost use Rattle.cap_lin.specs.Linear.{same_number, same_parts};
 ghost use Rattle.cap_gsolve.specs.Pieces.{of_guards, of_atom, same_part, is_joined, has_indices};
 ghost use Rattle.cap_gsolve.specs.Pieces.{is_single, is_surely_some};
+ghost use Rattle.cap_gsolve.specs.declared.piece.Form.TheVariants.{Span};
 
 use cap_lin::Term;
 use std::alloc::{AllocError, Global};
@@ -20,7 +21,6 @@ pub enum Form {
     Span(Term, Option<Term>),
 }
 
-// Written out: one call at each exit of a function, where a derived drop is all its parts.
 impl Drop for Form {
     fn drop(self) {
         match self {
@@ -50,11 +50,7 @@ impl Form {
             Form::Share(amount) => Ok(Form::Share(amount.copy(alloc)?)),
             Form::Src(out) => Ok(Form::Src(out.copy(alloc)?)),
             Form::Tok(count) => Ok(Form::Tok(count.copy(alloc)?)),
-            Form::Span(start, None) => Ok(Form::Span(start.copy(alloc)?, None)),
-            Form::Span(start, Some(end)) => {
-                let start = start.copy(alloc)?;
-                Ok(Form::Span(start, Some(end.copy(alloc)?)))
-            }
+            Form::Span(start, end) => copied_span(alloc, start, end),
         }
     }
 
@@ -69,6 +65,17 @@ impl Form {
     }
 }
 
+// The same span once more.
+fn copied_span(alloc: Global, start: &Term, end: &Option<Term>) -> Result<Form, AllocError>
+    ensures { IfOk result (λ f. f ≡ Span start.now end.now) }
+{
+    let start = start.copy(alloc)?;
+    match end {
+        None => Ok(Form::Span(start, None)),
+        Some(end) => Ok(Form::Span(start, Some(end.copy(alloc)?))),
+    }
+}
+
 /// A part of one guard of a region: the region by its term, the guards by their kind's number, and
 /// the atom of their algebra, from 0, left to right.
 #[derive(Debug)]
@@ -79,7 +86,6 @@ pub struct Piece {
     pub form: Form,
 }
 
-// Written out: one call at each exit of a function, where a derived drop is all its parts.
 impl Drop for Piece {
     fn drop(self) {
         let Piece {

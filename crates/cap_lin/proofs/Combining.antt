@@ -1,12 +1,11 @@
 -- The results on the way to a combination of two terms, and the loop over the parts: each lemma is one way through it.
 use Rattle.std.proofs.Common.{◌≡◌, ℕ, ℤ, pos, ◌+ℤ◌, ◌*ℤ◌, List, [], ◌∷◌, ◌++◌, ◌<◌, length, arith, append_assoc, refl, sym, ◌∙◌, Option, None, inl, inr, FitsSigned}
-use Rattle.std.specs.Prelude.{Result}
+use Rattle.std.specs.Prelude.{Result, Ok, Err}
 use Rattle.std.proofs.lemmas.Int.{ints}
-use Rattle.std.proofs.lemmas.Grind.{common_steps}
 use mir.Syntax.{w128}
 use Rattle.cap_lin.specs.Linear.{Linear, merged, put_part, multiples, combined_parts, combination}
 use Rattle.cap_lin.specs.Steps.{Step, sum_of, product_of, first_wide, part_steps, multiples_steps, combined_parts_steps, combination_steps}
-use Rattle.cap_lin.specs.Exact.{Explains, IsExact, IsCombined}
+use Rattle.cap_lin.specs.Exact.{Explains, IsExact, IsExactBy, IsCombined}
 use Rattle.cap_lin.specs.declared.error.LinError.{LinError}
 use Rattle.cap_lin.specs.declared.term.Pair.{Pair}
 use Rattle.cap_lin.proofs.Results.{first_wide-nil, first-narrow, product-fits, sum-fits, fits_or_not, fits-zero, product-not-fits, explains_same, explains_first, explains_later, exact_after, put-append}
@@ -124,36 +123,38 @@ no-parts : (ps : List (ℕ × ℤ)) → length ps < 1 → ps ≡ []
 no-parts [] h = refl
 no-parts (p ∷ ps) h = absurd (omega arith)
 
-pub left-stops : (a b : ℤ) (ps qs : List (ℕ × ℤ)) (e : LinError) (all : List Step) (k : ℤ) → length qs < 1 → k ≡ a → Explains e (multiples_steps k ps) → first_wide (combined_parts_steps a b (merged ps qs)) ≡ first_wide all → Explains e all
+left-stops : (a b : ℤ) (ps qs : List (ℕ × ℤ)) (e : LinError) (all : List Step) (k : ℤ) → length qs < 1 → k ≡ a → Explains e (multiples_steps k ps) → first_wide (combined_parts_steps a b (merged ps qs)) ≡ first_wide all → Explains e all
 left-stops a b ps qs e all k h p x w =
     let y : Explains e (multiples_steps a ps) = rw (← p) x in
     explains_same e all _ (sym (rw (no-parts qs h) at w) ∙ left-steps a b ps) y
 
-pub right-stops : (a b : ℤ) (ps qs : List (ℕ × ℤ)) (e : LinError) (all : List Step) (k : ℤ) → length ps < 1 → k ≡ b → Explains e (multiples_steps k qs) → first_wide (combined_parts_steps a b (merged ps qs)) ≡ first_wide all → Explains e all
+right-stops : (a b : ℤ) (ps qs : List (ℕ × ℤ)) (e : LinError) (all : List Step) (k : ℤ) → length ps < 1 → k ≡ b → Explains e (multiples_steps k qs) → first_wide (combined_parts_steps a b (merged ps qs)) ≡ first_wide all → Explains e all
 right-stops a b ps qs e all k h p x w =
     let y : Explains e (multiples_steps b qs) = rw (← p) x in
     explains_same e all _ (sym (rw (no-parts ps h) at w) ∙ right-steps a b qs) y
 
-pub left-ends : (a b : ℤ) (ps qs : List (ℕ × ℤ)) (out out' whole : List (ℕ × ℤ)) (wide : Option (ℤ × ℤ)) (k : ℤ) → length qs < 1 → k ≡ a → first_wide (multiples_steps k ps) ≡ None → out' ≡ out ++ multiples k ps → first_wide (combined_parts_steps a b (merged ps qs)) ≡ wide → out ++ combined_parts a b (merged ps qs) ≡ whole → (wide ≡ None) × (out' ≡ whole)
+left-ends : (a b : ℤ) (ps qs : List (ℕ × ℤ)) (out out' whole : List (ℕ × ℤ)) (wide : Option (ℤ × ℤ)) (k : ℤ) → length qs < 1 → k ≡ a → first_wide (multiples_steps k ps) ≡ None → out' ≡ out ++ multiples k ps → first_wide (combined_parts_steps a b (merged ps qs)) ≡ wide → out ++ combined_parts a b (merged ps qs) ≡ whole → (wide ≡ None) × (out' ≡ whole)
 left-ends a b ps qs out out' whole wide k h p n o w v =
     let e = no-parts qs h in
     let n' : first_wide (multiples_steps a ps) ≡ None = rw (← p) n in
     let o' : out' ≡ out ++ multiples a ps = rw (← p) o in
     (sym (rw e at w) ∙ left-steps a b ps ∙ n', o' ∙ (rw (e, left-parts) at v))
 
-pub right-ends : (a b : ℤ) (ps qs : List (ℕ × ℤ)) (out out' whole : List (ℕ × ℤ)) (wide : Option (ℤ × ℤ)) (k : ℤ) → length ps < 1 → k ≡ b → first_wide (multiples_steps k qs) ≡ None → out' ≡ out ++ multiples k qs → first_wide (combined_parts_steps a b (merged ps qs)) ≡ wide → out ++ combined_parts a b (merged ps qs) ≡ whole → (wide ≡ None) × (out' ≡ whole)
+right-ends : (a b : ℤ) (ps qs : List (ℕ × ℤ)) (out out' whole : List (ℕ × ℤ)) (wide : Option (ℤ × ℤ)) (k : ℤ) → length ps < 1 → k ≡ b → first_wide (multiples_steps k qs) ≡ None → out' ≡ out ++ multiples k qs → first_wide (combined_parts_steps a b (merged ps qs)) ≡ wide → out ++ combined_parts a b (merged ps qs) ≡ whole → (wide ≡ None) × (out' ≡ whole)
 right-ends a b ps qs out out' whole wide k h p n o w v =
     let e = no-parts ps h in
     let n' : first_wide (multiples_steps b qs) ≡ None = rw (← p) n in
     let o' : out' ≡ out ++ multiples b qs = rw (← p) o in
     (sym (rw e at w) ∙ right-steps a b qs ∙ n', o' ∙ (rw (e, right-parts) at v))
 
-pub both-end : (a b : ℤ) (ps qs : List (ℕ × ℤ)) (out whole : List (ℕ × ℤ)) (wide : Option (ℤ × ℤ)) → length ps < 1 → length qs < 1 → first_wide (combined_parts_steps a b (merged ps qs)) ≡ wide → out ++ combined_parts a b (merged ps qs) ≡ whole → (wide ≡ None) × (out ≡ whole)
-both-end a b ps qs out whole wide h k w v =
-    let e = no-parts ps h in
-    let d = no-parts qs k in
-    let x : out ++ [] ≡ whole = rw (e, d, merged-nil, parts-nil) at v in
-    (sym (rw (e, d, merged-nil, steps-nil, first_wide-nil) at w), grind (arith, common_steps))
+-- the answer of the call that appends the rest of one list, the other being empty
+pub left-rest : {T : Type 0} (r : Result T LinError) (a b : ℤ) (ps qs : List (ℕ × ℤ)) (out out' whole : List (ℕ × ℤ)) (all : List Step) (k : ℤ) → length qs < 1 → k ≡ a → IsExactBy r (λ _. out') (multiples_steps k ps) (out ++ multiples k ps) → first_wide (combined_parts_steps a b (merged ps qs)) ≡ first_wide all → out ++ combined_parts a b (merged ps qs) ≡ whole → IsExactBy r (λ _. out') all whole
+left-rest (Ok u) a b ps qs out out' whole all k h p x w v = left-ends a b ps qs out out' whole (first_wide all) k h p x.0 x.1 w v
+left-rest (Err e) a b ps qs out out' whole all k h p x w v = left-stops a b ps qs e all k h p x w
+
+pub right-rest : {T : Type 0} (r : Result T LinError) (a b : ℤ) (ps qs : List (ℕ × ℤ)) (out out' whole : List (ℕ × ℤ)) (all : List Step) (k : ℤ) → length ps < 1 → k ≡ b → IsExactBy r (λ _. out') (multiples_steps k qs) (out ++ multiples k qs) → first_wide (combined_parts_steps a b (merged ps qs)) ≡ first_wide all → out ++ combined_parts a b (merged ps qs) ≡ whole → IsExactBy r (λ _. out') all whole
+right-rest (Ok u) a b ps qs out out' whole all k h p x w v = right-ends a b ps qs out out' whole (first_wide all) k h p x.0 x.1 w v
+right-rest (Err e) a b ps qs out out' whole all k h p x w v = right-stops a b ps qs e all k h p x w
 
 -- ---- the whole
 

@@ -37,7 +37,6 @@ pub struct Term {
     parts: Parts,
 }
 
-// Written out: one call at each exit of a function, where a derived drop is all its parts.
 impl Drop for Term {
     fn drop(self) {
         let Term {
@@ -653,12 +652,11 @@ fn append_combination<P: PartList>(
         };
         put(parts, x.min(y), number)?;
     }
-    if !left.is_empty() {
-        append_multiples(parts, a, left)?;
-    } else if !right.is_empty() {
-        append_multiples(parts, b, right)?;
+    if right.is_empty() {
+        append_multiples(parts, a, left)
+    } else {
+        append_multiples(parts, b, right)
     }
-    Ok(())
 }
 
 // The parts after the first.

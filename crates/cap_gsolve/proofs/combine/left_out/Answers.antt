@@ -1,4 +1,6 @@
+use Rattle.std.proofs.Common.{ap}
 use Rattle.std.proofs.lemmas.Result.{err_from_is_err_and}
+use Rattle.cap_gsolve.specs.declared.piece.Form.TheVariants.{Src}
 use Rattle.cap_lin.specs.Steps.{minus_steps}
 use Rattle.cap_lin.proofs.Results.{explains_first, explains_later}
 use Rattle.cap_gsolve.proofs.Steps.{both-narrow}
@@ -19,4 +21,4 @@ pub returns : goal.returns
 returns c =
     let m = c.in_ok-rest.ensures in
     let n = c.in_ok-push_row.ensures in
-    record { exact = (both-narrow (minus_steps c.args.out.now c.args.back.now) _ m.0 n.0, m.1); rows = n.1 }
+    record { exact = (both-narrow (minus_steps c.args.out.now c.args.back.now) _ m.0 n.0, ap Src m.1); rows = n.1 }

@@ -7,7 +7,7 @@ use mir.Syntax.{w128}
 use Rattle.cap_lin.specs.Linear.{merged}
 use Rattle.cap_lin.specs.Exact.{IsCombined}
 use Rattle.cap_lin.proofs.Merge.{no_part, pair, starts-lt, starts-gt, starts-eq, shorter}
-use Rattle.cap_lin.proofs.Combining.{stops, goes_on, adds, left-stops, right-stops, left-ends, right-ends, both-end}
+use Rattle.cap_lin.proofs.Combining.{stops, goes_on, adds, left-rest, right-rest}
 use Rattle.cap_lin.proofs.term.append_combination.Goals as goal
 use Rattle.cap_lin.proofs.term.append_combination.Goals.{then-loop-x-test+else-not-is_empty, else-loop-x-test, then-x-y, else-x-y+then-y-x, else-x-y+else-y-x, in-Some, in-None+in_ok-number-in-None}
 
@@ -74,48 +74,19 @@ loop-x-preserved g c =
       parts = adds _ _ _ _ _ _ _ _ _ _ s r (omega arith) c.in_ok-put.ensures c.loop-x.invariant.parts;
     }
 
-pub returns-in_err-append_multiples : goal.returns-in_err-append_multiples
-returns-in_err-append_multiples g c =
-    let h : length c.loop-x.right.now < 1 = elim c.loop-x-test.branch [
-      | then-loop-x-test+else-not-is_empty w ↦ search rules
-      | else-loop-x-test w ↦ let l : length c.loop-x.left.now < 1 = search rules in let m : 1 ≤ length c.loop-x.left.now = search rules in absurd (omega (arith, l, m))
+pub returns-then-is_empty : goal.returns-then-is_empty
+returns-then-is_empty g c =
+    let h : length c.loop-x.right.now < 1 = search rules in
+    let x = to_z-of_z _ _ c.ranges.a in
+    let y = to_z-of_z _ _ c.ranges.b in
+    left-rest _ _ _ _ _ _ _ _ _ _ h x c.append_multiples.ensures (rw (x, y) at c.loop-x.invariant.steps) (rw (x, y) at c.loop-x.invariant.parts)
+
+pub returns-else-is_empty : goal.returns-else-is_empty
+returns-else-is_empty g c =
+    let h : length c.loop-x.left.now < 1 = elim c.loop-x-test.branch [
+      | then-loop-x-test+else-not-is_empty w ↦ let l : length c.loop-x.right.now < 1 = search rules in let m : 1 ≤ length c.loop-x.right.now = search rules in absurd (omega (arith, l, m))
+      | else-loop-x-test w ↦ search rules
     ] in
     let x = to_z-of_z _ _ c.ranges.a in
     let y = to_z-of_z _ _ c.ranges.b in
-    let p = err_from_is_err_and c.from_residual-in_err-append_multiples.result c.from_residual-in_err-append_multiples.ensures.1 in
-    rw (p.1, p.2) (left-stops _ _ _ _ _ _ _ h x c.in_err-append_multiples.ensures (rw (x, y) at c.loop-x.invariant.steps))
-
-pub returns-in_err-append_multiples-2 : goal.returns-in_err-append_multiples-2
-returns-in_err-append_multiples-2 g c =
-    let h : length c.loop-x.left.now < 1 = search rules in
-    let x = to_z-of_z _ _ c.ranges.a in
-    let y = to_z-of_z _ _ c.ranges.b in
-    let p = err_from_is_err_and c.from_residual-in_err-append_multiples-2.result c.from_residual-in_err-append_multiples-2.ensures.1 in
-    rw (p.1, p.2) (right-stops _ _ _ _ _ _ _ h y c.in_err-append_multiples-2.ensures (rw (x, y) at c.loop-x.invariant.steps))
-
-pub returns-in_ok-append_multiples : goal.returns-in_ok-append_multiples
-returns-in_ok-append_multiples g c =
-    let h : length c.loop-x.right.now < 1 = elim c.loop-x-test.branch [
-      | then-loop-x-test+else-not-is_empty w ↦ search rules
-      | else-loop-x-test w ↦ let l : length c.loop-x.left.now < 1 = search rules in let m : 1 ≤ length c.loop-x.left.now = search rules in absurd (omega (arith, l, m))
-    ] in
-    let x = to_z-of_z _ _ c.ranges.a in
-    let y = to_z-of_z _ _ c.ranges.b in
-    let n = c.in_ok-append_multiples.ensures in
-    left-ends _ _ _ _ _ _ _ _ _ h x n.0 n.1 (rw (x, y) at c.loop-x.invariant.steps) (rw (x, y) at c.loop-x.invariant.parts)
-
-pub returns-in_ok-append_multiples-2 : goal.returns-in_ok-append_multiples-2
-returns-in_ok-append_multiples-2 g c =
-    let h : length c.loop-x.left.now < 1 = search rules in
-    let x = to_z-of_z _ _ c.ranges.a in
-    let y = to_z-of_z _ _ c.ranges.b in
-    let n = c.in_ok-append_multiples-2.ensures in
-    right-ends _ _ _ _ _ _ _ _ _ h y n.0 n.1 (rw (x, y) at c.loop-x.invariant.steps) (rw (x, y) at c.loop-x.invariant.parts)
-
-pub returns-else-not-is_empty-3 : goal.returns-else-not-is_empty-3
-returns-else-not-is_empty-3 g c =
-    let h : length c.loop-x.left.now < 1 = search rules in
-    let k : length c.loop-x.right.now < 1 = search rules in
-    let x = to_z-of_z _ _ c.ranges.a in
-    let y = to_z-of_z _ _ c.ranges.b in
-    both-end _ _ _ _ _ _ _ h k (rw (x, y) at c.loop-x.invariant.steps) (rw (x, y) at c.loop-x.invariant.parts)
+    right-rest _ _ _ _ _ _ _ _ _ _ h y c.append_multiples-else-is_empty.ensures (rw (x, y) at c.loop-x.invariant.steps) (rw (x, y) at c.loop-x.invariant.parts)

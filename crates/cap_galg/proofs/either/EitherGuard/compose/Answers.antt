@@ -1,9 +1,10 @@
-use Rattle.std.proofs.Common.{◌≡◌, Ok, Err, Some, ap}
+use Rattle.std.proofs.Common.{◌≡◌, Ok, Err, Some, None, ap, subst}
 use Rattle.cap_galg.specs.declared.either.Either.{Either}
 use Rattle.std.proofs.lemmas.Result.{err_from_is_err_and}
 use Rattle.cap_galg.specs.Elements.{Element, in_left, in_right}
 use Rattle.cap_galg.specs.Views.{side_element}
-use Rattle.cap_galg.proofs.Sides.{in-left-one, in-right-one, one-some, one-error, error-at, error-is}
+use Rattle.cap_galg.specs.Answers.{IsComposition}
+use Rattle.cap_galg.proofs.Sides.{in-left-one, in-right-one, one-composition, one-some, one-error, error-at, error-is}
 use Rattle.cap_galg.proofs.either.EitherGuard.compose.Goals as goal
 
 pub returns-in-Some-clause-composed : goal.returns-in-Some-clause-composed
@@ -35,3 +36,23 @@ returns-in_err-z-in-Right-other-2-clause-composed g c =
     error-is {T = Either g.row.A.Denot g.row.B.Denot} v (v c.args.self.now) (v c.args.other.now) c.from_residual-in_err-z-in-Right-other-2.result c.in_err-z-in-Right-other-2.field-0.0 (err_from_is_err_and c.from_residual-in_err-z-in-Right-other-2.result c.from_residual-in_err-z-in-Right-other-2.ensures.1)
     (error-at {T = Either g.row.A.Denot g.row.B.Denot} v (in_right (f c.in-Right.x)) (v c.args.self.now) (in_right (f c.in-Right-other-2.y)) (v c.args.other.now) c.in_err-z-in-Right-other-2.field-0.0 (ap v c.in-Right.is) (ap v c.in-Right-other-2.is)
     (one-error {T = Either g.row.A.Denot g.row.B.Denot} f v (in_right (f c.in-Right.x)) (in_right (f c.in-Right-other-2.y)) (f c.in-Right.x) (f c.in-Right-other-2.y) in_right c.compose-in-Right-other-2.result c.in_err-z-in-Right-other-2.field-0.0 (in-right-one (f c.in-Right.x) (f c.in-Right-other-2.y) (g.met.B.Guard.lawful c.in-Right.x c.in-Right-other-2.y (rw (c.in-Right.is, c.in-Right-other-2.is) at c.requires))) c.compose-in-Right-other-2.ensures.composed n))
+
+pub returns-in-None-clause-composed : goal.returns-in-None-clause-composed
+returns-in-None-clause-composed g c =
+    let n : c.compose.result ≡ Ok None = cc in
+    let f = g.A.Guard.element in
+    let x = c.in-Left.x in
+    let y = c.in-Left-other.y in
+    rw (c.in-Left.is, c.in-Left-other.is)
+    (subst (IsComposition (λ z. in_left (f z)) (in_left (f x)) (in_left (f y))) n
+    (one-composition f (in_left (f x)) (in_left (f y)) (f x) (f y) in_left c.compose.result (in-left-one (f x) (f y) (g.met.A.Guard.lawful x y (rw (c.in-Left.is, c.in-Left-other.is) at c.requires))) c.compose.ensures.composed))
+
+pub returns-in-None-2-clause-composed : goal.returns-in-None-2-clause-composed
+returns-in-None-2-clause-composed g c =
+    let n : c.compose-in-Right-other-2.result ≡ Ok None = cc in
+    let f = g.B.Guard.element in
+    let x = c.in-Right.x in
+    let y = c.in-Right-other-2.y in
+    rw (c.in-Right.is, c.in-Right-other-2.is)
+    (subst (IsComposition (λ z. in_right (f z)) (in_right (f x)) (in_right (f y))) n
+    (one-composition f (in_right (f x)) (in_right (f y)) (f x) (f y) in_right c.compose-in-Right-other-2.result (in-right-one (f x) (f y) (g.met.B.Guard.lawful x y (rw (c.in-Right.is, c.in-Right-other-2.is) at c.requires))) c.compose-in-Right-other-2.ensures.composed))

@@ -4,8 +4,8 @@ use Rattle.cap_fm_spec.specs.Leaf.{multipliers}
 use Rattle.cap_fm.specs.Views.{origin_view, history_view}
 use Rattle.cap_fm.specs.Way.{is_marked, rising_steps}
 use Rattle.cap_fm.proofs.LeavesUp.{IsUp}
-use Rattle.cap_fm.proofs.leaf.multipliers.Given as goal
+use Rattle.cap_fm.proofs.leaf.multipliers_on.Given as goal
 
 abbrev pub invariant-loop-place : goal.invariant-loop-place
 invariant-loop-place l =
-    IsUp l.history (is_marked l.way.items) (multipliers (history_view l.history)) l.place l.terms.items (first_wide (rising_steps (is_marked l.way.items) (multipliers (history_view l.history)) 0 (map origin_view l.history)))
+    IsUp l.history (is_marked l.way) (multipliers (history_view l.history)) l.place l.terms.items (first_wide (rising_steps (is_marked l.way) (multipliers (history_view l.history)) 0 (map origin_view l.history)))

@@ -3,7 +3,7 @@ use Rattle.std.proofs.lemmas.Result.{err_from_is_err_and}
 use Rattle.cap_fm_spec.specs.Solving.{refuted}
 use Rattle.cap_fm.specs.Views.{stage_view, false_view}
 use Rattle.cap_fm.proofs.Wholes.{logged-err, code-explains, code-none, code-some, code-wide}
-use Rattle.cap_fm.proofs.eliminate.refuted.Goals as goal
+use Rattle.cap_fm.proofs.eliminate.refuted_within.Goals as goal
 
 pub returns-in_err-eliminated : goal.returns-in_err-eliminated
 returns-in_err-eliminated c = logged-err c.from_residual-in_err-eliminated.result (refuted (c.args.rows.now ++ c.args.more.now)) c.in_err-eliminated.field-0.0 (err_from_is_err_and c.from_residual-in_err-eliminated.result c.from_residual-in_err-eliminated.ensures.1) (code-explains (c.args.rows.now ++ c.args.more.now) (stage_view c.in_ok-stage.stage) c.in_err-eliminated.field-0.0 c.in_ok-stage.ensures.view (c.in_err-eliminated.ensures (c.in_ok-stage.ensures.fits _)))
