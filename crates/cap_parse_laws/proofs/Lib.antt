@@ -1,4 +1,5 @@
 pub mod Tags
+pub mod Lengths
 pub mod Shapes
 pub mod Automaton
 pub mod Meets

@@ -1,6 +1,7 @@
 //! Classes of tokens, by which a reader knows what comes next.
-ghost use Rattle.std.specs.Prelude.{◌≡◌};
-ghost use Rattle.cap_parse_laws.specs.Classes.{class, keyword_class, symbol_class, class_by, are_same};
+ghost use Rattle.std.specs.Prelude.{◌≡◌, [], ◌∷◌, map};
+ghost use Rattle.cap_parse_laws.specs.Classes.{class, keyword_class, symbol_class, class_in};
+ghost use Rattle.cap_parse_laws.specs.Classes.{class_by, are_same};
 
 use cap_syntax::{Token, TokenKind};
 
@@ -77,128 +78,129 @@ pub fn are_same(a: Class, b: Class) -> bool
     a == b
 }
 
-/// The class of a keyword.
+// The class of the first of these words that the text is.
+fn class_in(text: &[u8], table: &[(&[u8], Class)]) -> Class
+    ensures { result ≡ class_in (map (λ row. (row.0.now, row.1)) table.now) text.now }
+{
+    for (word, class) in table {
+        if text == *word {
+            return *class;
+        }
+    }
+    Class::Other
+}
+
+/// The class of a keyword. Only those of its length are compared with it.
 pub fn keyword_class(text: &[u8]) -> Class
     ensures { result ≡ keyword_class text.now }
 {
-    if text == b"region".as_slice() {
-        Class::Region
-    } else if text == b"function".as_slice() {
-        Class::Function
-    } else if text == b"requires".as_slice() {
-        Class::Requires
-    } else if text == b"ensures".as_slice() {
-        Class::Ensures
-    } else if text == b"guards".as_slice() {
-        Class::Guards
-    } else if text == b"interpretation".as_slice() {
-        Class::Interpretation
-    } else if text == b"actions".as_slice() {
-        Class::Actions
-    } else if text == b"when".as_slice() {
-        Class::When
-    } else if text == b"fork".as_slice() {
-        Class::Fork
-    } else if text == b"if".as_slice() {
-        Class::If
-    } else if text == b"else".as_slice() {
-        Class::Else
-    } else if text == b"while".as_slice() {
-        Class::While
-    } else if text == b"invariant".as_slice() {
-        Class::Invariant
-    } else if text == b"assert".as_slice() {
-        Class::Assert
-    } else if text == b"return".as_slice() {
-        Class::Return
-    } else if text == b"alloc".as_slice() {
-        Class::Alloc
-    } else if text == b"CAS".as_slice() {
-        Class::Cas
-    } else if text == b"true".as_slice() {
-        Class::True
-    } else if text == b"false".as_slice() {
-        Class::False
-    } else if text == b"src".as_slice() {
-        Class::Source
-    } else if text == b"tok".as_slice() {
-        Class::Tokens
-    } else if text == b"caper".as_slice() {
-        Class::Caper
-    } else if text == b"2".as_slice() {
-        Class::Two
-    } else if text == b"FAA".as_slice() {
-        Class::Faa
-    } else if text == b"dispose".as_slice() {
-        Class::Dispose
-    } else if text == b"at".as_slice() {
-        Class::AtIndex
-    } else if text == b"from".as_slice() {
-        Class::FromIndex
-    } else if text == b"[".as_slice() {
-        Class::Index
-    } else {
-        Class::Other
+    match text.len() {
+        1 => class_in(text, &[(b"2", Class::Two), (b"[", Class::Index)]),
+        2 => class_in(text, &[(b"if", Class::If), (b"at", Class::AtIndex)]),
+        3 => class_in(
+            text,
+            &[
+                (b"CAS", Class::Cas),
+                (b"src", Class::Source),
+                (b"tok", Class::Tokens),
+                (b"FAA", Class::Faa),
+            ],
+        ),
+        4 => class_in(
+            text,
+            &[
+                (b"when", Class::When),
+                (b"fork", Class::Fork),
+                (b"else", Class::Else),
+                (b"true", Class::True),
+                (b"from", Class::FromIndex),
+            ],
+        ),
+        5 => class_in(
+            text,
+            &[
+                (b"while", Class::While),
+                (b"alloc", Class::Alloc),
+                (b"false", Class::False),
+                (b"caper", Class::Caper),
+            ],
+        ),
+        6 => class_in(
+            text,
+            &[
+                (b"region", Class::Region),
+                (b"guards", Class::Guards),
+                (b"assert", Class::Assert),
+                (b"return", Class::Return),
+            ],
+        ),
+        7 => class_in(
+            text,
+            &[
+                (b"ensures", Class::Ensures),
+                (b"actions", Class::Actions),
+                (b"dispose", Class::Dispose),
+            ],
+        ),
+        8 => class_in(
+            text,
+            &[
+                (b"function", Class::Function),
+                (b"requires", Class::Requires),
+            ],
+        ),
+        9 => class_in(text, &[(b"invariant", Class::Invariant)]),
+        14 => class_in(text, &[(b"interpretation", Class::Interpretation)]),
+        _ => Class::Other,
     }
 }
 
+// The class of a symbol of one byte.
+fn byte_class(byte: u8) -> Class
+    ensures { result ≡ symbol_class (byte ∷ []) }
+{
+    match byte {
+        b'(' => Class::Open,
+        b')' => Class::Close,
+        b'{' => Class::OpenBrace,
+        b'}' => Class::CloseBrace,
+        b'[' => Class::OpenBracket,
+        b']' => Class::CloseBracket,
+        b',' => Class::Comma,
+        b';' => Class::Semicolon,
+        b':' => Class::Colon,
+        b'=' => Class::Equal,
+        b'<' => Class::Less,
+        b'>' => Class::Greater,
+        b'+' => Class::Plus,
+        b'-' => Class::Minus,
+        b'*' => Class::Star,
+        b'%' => Class::Percent,
+        b'@' => Class::At,
+        b'?' => Class::Question,
+        b'|' => Class::Bar,
+        _ => Class::Other,
+    }
+}
+
+// The class of a symbol. Only those of its length are compared with it.
 fn symbol_class(text: &[u8]) -> Class
     ensures { result ≡ symbol_class text.now }
 {
-    if text == b"(".as_slice() {
-        Class::Open
-    } else if text == b")".as_slice() {
-        Class::Close
-    } else if text == b"{".as_slice() {
-        Class::OpenBrace
-    } else if text == b"}".as_slice() {
-        Class::CloseBrace
-    } else if text == b"[".as_slice() {
-        Class::OpenBracket
-    } else if text == b"]".as_slice() {
-        Class::CloseBracket
-    } else if text == b",".as_slice() {
-        Class::Comma
-    } else if text == b";".as_slice() {
-        Class::Semicolon
-    } else if text == b":".as_slice() {
-        Class::Colon
-    } else if text == b":=".as_slice() {
-        Class::Becomes
-    } else if text == b"=".as_slice() {
-        Class::Equal
-    } else if text == b"!=".as_slice() {
-        Class::Unequal
-    } else if text == b"<".as_slice() {
-        Class::Less
-    } else if text == b"<=".as_slice() {
-        Class::AtMost
-    } else if text == b">".as_slice() {
-        Class::Greater
-    } else if text == b">=".as_slice() {
-        Class::AtLeast
-    } else if text == b"+".as_slice() {
-        Class::Plus
-    } else if text == b"-".as_slice() {
-        Class::Minus
-    } else if text == b"*".as_slice() {
-        Class::Star
-    } else if text == b"%".as_slice() {
-        Class::Percent
-    } else if text == b"@".as_slice() {
-        Class::At
-    } else if text == b"?".as_slice() {
-        Class::Question
-    } else if text == b"|".as_slice() {
-        Class::Bar
-    } else if text == b"|->".as_slice() {
-        Class::PointsTo
-    } else if text == b"&*&".as_slice() {
-        Class::And
-    } else if text == b"~>".as_slice() {
-        Class::LeadsTo
-    } else {
-        Class::Other
+    match text.len() {
+        1 => byte_class(text[0]),
+        2 => class_in(
+            text,
+            &[
+                (b":=", Class::Becomes),
+                (b"!=", Class::Unequal),
+                (b"<=", Class::AtMost),
+                (b">=", Class::AtLeast),
+                (b"~>", Class::LeadsTo),
+            ],
+        ),
+        3 => class_in(text, &[(b"|->", Class::PointsTo), (b"&*&", Class::And)]),
+        _ => Class::Other,
     }
 }
 
