@@ -65,18 +65,18 @@ impl Choice {
         match self {
             Choice::Absurd(cert) => one(alloc, cert),
             Choice::Act(_, certs, marks) => marked(alloc, certs, marks),
-            Choice::Clash(_, _, certs) => given(alloc, certs),
-            Choice::Assert(certs) => given(alloc, certs),
-            Choice::Enter(_, certs) => given(alloc, certs),
-            Choice::Shift(certs, _) => given(alloc, certs),
-            Choice::Settle(_, certs) => given(alloc, certs),
-            Choice::Keep(certs) => given(alloc, certs),
-            Choice::Fact(certs) => given(alloc, certs),
-            Choice::Cell(_, certs) => given(alloc, certs),
-            Choice::Region(_, certs) => given(alloc, certs),
-            Choice::Guard(_, _, certs) => given(alloc, certs),
-            Choice::Convert(_, _, certs) => given(alloc, certs),
-            Choice::Made(certs) => given(alloc, certs),
+            Choice::Clash(_, _, certs)
+            | Choice::Assert(certs)
+            | Choice::Enter(_, certs)
+            | Choice::Shift(certs, _)
+            | Choice::Settle(_, certs)
+            | Choice::Keep(certs)
+            | Choice::Fact(certs)
+            | Choice::Cell(_, certs)
+            | Choice::Region(_, certs)
+            | Choice::Guard(_, _, certs)
+            | Choice::Convert(_, _, certs)
+            | Choice::Made(certs) => given(alloc, certs),
             Choice::Set
             | Choice::Alloc
             | Choice::If

@@ -57,7 +57,6 @@ pub enum Choice {
     Made(Vec<Cert>),
 }
 
-// Written out: one call at each exit of a function, where a derived drop is all its parts.
 impl Drop for Choice {
     fn drop(self) {
         match self {

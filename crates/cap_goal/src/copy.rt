@@ -1,5 +1,6 @@
 //! Copies of choices.
-ghost use Rattle.std.specs.Prelude.{◌≡◌, IfOk};
+ghost use Rattle.std.specs.Prelude.{◌≡◌, [], IfOk};
+ghost use Rattle.cap_goal_spec.specs.Choices.{by_absurd, by_act, by_shift, by_settle, with_certs};
 ghost use Rattle.cap_goal.specs.Views.{choice_view};
 
 use crate::choice::Choice;
@@ -54,51 +55,104 @@ fn copy_marks(alloc: Global, marks: &[Option<Cert>]) -> Result<Vec<Option<Cert>>
     Ok(copies)
 }
 
+// An absurdity, with a copy of its certificate.
+fn copy_absurd(alloc: Global, cert: &Cert) -> Result<Choice, AllocError>
+    ensures { IfOk result (λ c. choice_view c ≡ by_absurd cert.now) }
+{
+    Ok(Choice::Absurd(copy_cert(alloc, cert)?))
+}
+
+// An act on a cell, with copies of its certificates and marks.
+fn copy_act(
+    alloc: Global,
+    cell: u32,
+    certs: &[Cert],
+    marks: &[Option<Cert>],
+) -> Result<Choice, AllocError>
+    ensures { IfOk result (λ c. choice_view c ≡ by_act cell certs.now marks.now) }
+{
+    let certs = copy_certs(alloc, certs)?;
+    Ok(Choice::Act(cell, certs, copy_marks(alloc, marks)?))
+}
+
+// A checked move, with the pieces that it names.
+fn copy_shift(alloc: Global, spans: &[u32]) -> Result<Choice, AllocError>
+    ensures { IfOk result (λ c. choice_view c ≡ by_shift [] spans.now) }
+{
+    Ok(Choice::Shift(Vec::new(alloc), Vec::from_slice(alloc, spans)?))
+}
+
+// A fact settled by these candidates.
+fn copy_settle(alloc: Global, candidates: &[u32]) -> Result<Choice, AllocError>
+    ensures { IfOk result (λ c. choice_view c ≡ by_settle candidates.now []) }
+{
+    Ok(Choice::Settle(Vec::from_slice(alloc, candidates)?, Vec::new(alloc)))
+}
+
 impl Choice {
+    // The certificates that others may replace: none where the choice keeps its own.
+    fn replaceable_certs(&self) -> &[Cert]
+        ensures { with_certs (choice_view self.now) result.now ≡ choice_view self.now }
+    {
+        match self {
+            Choice::Clash(_, _, certs)
+            | Choice::Assert(certs)
+            | Choice::Enter(_, certs)
+            | Choice::Shift(certs, _)
+            | Choice::Settle(_, certs)
+            | Choice::Keep(certs)
+            | Choice::Fact(certs)
+            | Choice::Cell(_, certs)
+            | Choice::Region(_, certs)
+            | Choice::Guard(_, _, certs)
+            | Choice::Convert(_, _, certs)
+            | Choice::Made(certs) => certs,
+            _ => &[],
+        }
+    }
+
+    // The same choice, without the certificates that others may replace.
+    fn copy_bare(&self, alloc: Global) -> Result<Choice, AllocError>
+        ensures { IfOk result (λ c. choice_view c ≡ with_certs (choice_view self.now) []) }
+    {
+        match self {
+            Choice::Absurd(cert) => copy_absurd(alloc, cert),
+            Choice::Clash(first, second, _) => {
+                Ok(Choice::Clash(*first, *second, Vec::new(alloc)))
+            }
+            Choice::Set => Ok(Choice::Set),
+            Choice::Alloc => Ok(Choice::Alloc),
+            Choice::Assert(_) => Ok(Choice::Assert(Vec::new(alloc))),
+            Choice::If => Ok(Choice::If),
+            Choice::Loop => Ok(Choice::Loop),
+            Choice::Turn => Ok(Choice::Turn),
+            Choice::Call => Ok(Choice::Call),
+            Choice::Fork => Ok(Choice::Fork),
+            Choice::Return => Ok(Choice::Return),
+            Choice::Enter(fact, _) => Ok(Choice::Enter(*fact, Vec::new(alloc))),
+            Choice::Act(cell, certs, marks) => copy_act(alloc, *cell, certs, marks),
+            Choice::Pick(opened, case, action) => Ok(Choice::Pick(*opened, *case, *action)),
+            Choice::Shift(_, spans) => copy_shift(alloc, spans),
+            Choice::Settle(candidates, _) => copy_settle(alloc, candidates),
+            Choice::Keep(_) => Ok(Choice::Keep(Vec::new(alloc))),
+            Choice::Give => Ok(Choice::Give),
+            Choice::Fact(_) => Ok(Choice::Fact(Vec::new(alloc))),
+            Choice::Cases => Ok(Choice::Cases),
+            Choice::Cell(cell, _) => Ok(Choice::Cell(*cell, Vec::new(alloc))),
+            Choice::Region(fact, _) => Ok(Choice::Region(*fact, Vec::new(alloc))),
+            Choice::Guard(piece, way, _) => Ok(Choice::Guard(*piece, *way, Vec::new(alloc))),
+            Choice::Convert(sum, side, _) => Ok(Choice::Convert(*sum, *side, Vec::new(alloc))),
+            Choice::Create(case) => Ok(Choice::Create(*case)),
+            Choice::Made(_) => Ok(Choice::Made(Vec::new(alloc))),
+        }
+    }
+
     /// The same choice once more.
+    #[tactic(auto, using(crate::proofs::Choices::with_certs_twice))]
     pub fn copy(&self, alloc: Global) -> Result<Choice, AllocError>
         ensures { IfOk result (λ c. choice_view c ≡ choice_view self.now) }
     {
-        Ok(match self {
-            Choice::Absurd(cert) => Choice::Absurd(copy_cert(alloc, cert)?),
-            Choice::Clash(first, second, certs) => {
-                Choice::Clash(*first, *second, copy_certs(alloc, certs)?)
-            }
-            Choice::Set => Choice::Set,
-            Choice::Alloc => Choice::Alloc,
-            Choice::Assert(certs) => Choice::Assert(copy_certs(alloc, certs)?),
-            Choice::If => Choice::If,
-            Choice::Loop => Choice::Loop,
-            Choice::Turn => Choice::Turn,
-            Choice::Call => Choice::Call,
-            Choice::Fork => Choice::Fork,
-            Choice::Return => Choice::Return,
-            Choice::Enter(fact, certs) => Choice::Enter(*fact, copy_certs(alloc, certs)?),
-            Choice::Act(cell, certs, marks) => {
-                Choice::Act(*cell, copy_certs(alloc, certs)?, copy_marks(alloc, marks)?)
-            }
-            Choice::Pick(opened, case, action) => Choice::Pick(*opened, *case, *action),
-            Choice::Shift(certs, spans) => {
-                Choice::Shift(copy_certs(alloc, certs)?, Vec::from_slice(alloc, spans)?)
-            }
-            Choice::Settle(candidates, certs) => Choice::Settle(
-                Vec::from_slice(alloc, candidates)?,
-                copy_certs(alloc, certs)?,
-            ),
-            Choice::Keep(certs) => Choice::Keep(copy_certs(alloc, certs)?),
-            Choice::Give => Choice::Give,
-            Choice::Fact(certs) => Choice::Fact(copy_certs(alloc, certs)?),
-            Choice::Cases => Choice::Cases,
-            Choice::Cell(cell, certs) => Choice::Cell(*cell, copy_certs(alloc, certs)?),
-            Choice::Region(fact, certs) => Choice::Region(*fact, copy_certs(alloc, certs)?),
-            Choice::Guard(piece, way, certs) => {
-                Choice::Guard(*piece, *way, copy_certs(alloc, certs)?)
-            }
-            Choice::Convert(sum, side, certs) => {
-                Choice::Convert(*sum, *side, copy_certs(alloc, certs)?)
-            }
-            Choice::Create(case) => Choice::Create(*case),
-            Choice::Made(certs) => Choice::Made(copy_certs(alloc, certs)?),
-        })
+        let certs = copy_certs(alloc, self.replaceable_certs())?;
+        Ok(self.copy_bare(alloc)?.with_certs(certs))
     }
 }

@@ -17,7 +17,6 @@ pub struct Fact {
     pub loose: bool,
 }
 
-// Written out: one call at each exit of a function, where a derived drop is all its parts.
 impl Drop for Fact {
     fn drop(self) {
         let Fact {

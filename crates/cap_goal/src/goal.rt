@@ -8,7 +8,6 @@ pub struct Goal<'a> {
     pub tasks: Vec<Task<'a>>,
 }
 
-// Written out: one call at each exit of a function, where a derived drop is all its parts.
 impl Drop for Goal<'_> {
     fn drop(self) {
         let Goal { state: _, tasks: _ } = self;

@@ -32,7 +32,6 @@ pub struct State {
     envs: Shared<Env>,
 }
 
-// Written out: one call at each exit of a function, where a derived drop is all its parts.
 impl Drop for State {
     fn drop(self) {
         let State {

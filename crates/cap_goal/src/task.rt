@@ -16,14 +16,14 @@ pub struct Home {
 
 /// Items that are to be assumed or given up: the lists in which they stand. The last list comes
 /// first.
-#[derive(Debug, Drop)]
+#[derive(Drop)]
 pub struct Items<'a> {
     pub lists: Vec<&'a [Item]>,
 }
 
 /// Statements that are to be run: the lists in which they stand. The last list comes first, and a
 /// loop stands first in the list that its body returns to.
-#[derive(Debug, Drop)]
+#[derive(Drop)]
 pub struct Point<'a> {
     pub lists: Vec<&'a [Statement]>,
 }
@@ -31,7 +31,6 @@ pub struct Point<'a> {
 /// What is to be done at a goal. Environments, opened regions, region types and cases are named by
 /// number, from 0. The last number of each but the first two is that of the statement at which the
 /// task arose, 0 outside a body.
-#[derive(Debug)]
 pub enum Task<'a> {
     /// Run the statements.
     Run(Home, Point<'a>),
@@ -51,7 +50,6 @@ pub enum Task<'a> {
     Rest(u32, u32),
 }
 
-// Written out: one call at each exit of a function, where a derived drop is all its parts.
 impl Drop for Task<'_> {
     fn drop(self) {
         match self {
