@@ -5,7 +5,7 @@ ghost use Rattle.std.specs.Io.{ReadsAtMost, WritesAtMost};
 ghost use Rattle.std.specs.Io.KnownBytes.{ReadConsumes, WriteAppends, Consumes, IsAtEnd};
 ghost use Rattle.std.specs.IoError.{error_kind};
 ghost use Rattle.cap_io.specs.declared.shelf.FetchError.TheVariants.{Failed, OutOfMemory};
-ghost use Rattle.cap_io.specs.Outside.{longest, Gains, GainsPrefix};
+ghost use Rattle.cap_io.specs.Outside.{longest, Blames, Gains, GainsPrefix, Gives};
 ghost use Rattle.cap_io.specs.Reading.{IsReadError};
 
 use crate::given::Given;
@@ -46,6 +46,24 @@ impl<'a, R: Files> FileShelf<'a, R> {
             faults: 0,
             blamed: None,
             given: Given::nothing(),
+        }
+    }
+
+    /// Notes what a fetch of this name answers.
+    fn note(&mut self, name: String, answer: &Result<Vec<u8>, FetchError>)
+        ensures given { Gives (string_bytes name) (⟦<FileShelf<'a, R> as Shelf>⟧.seen self.old)
+            (⟦<FileShelf<'a, R> as Shelf>⟧.seen self.new) answer.now }
+        ensures later { self.old.faults ≤ self.new.faults }
+        ensures blame { Blames (string_bytes name) (⟦<FileShelf<'a, R> as Shelf>⟧.seen self.old)
+            (⟦<FileShelf<'a, R> as Shelf>⟧.seen self.new) answer.now }
+    {
+        match answer {
+            Ok(bytes) => self.given = self.given.and(&name, bytes),
+            Err(FetchError::Failed) => {
+                self.faults = self.faults.saturating_add(1);
+                self.blamed = Some(name);
+            }
+            Err(_) => {}
         }
     }
 }
@@ -142,19 +160,9 @@ impl<'a, R: Files> Shelf for FileShelf<'a, R> {
 
     fn fetch(&mut self, name: &str) -> Result<Vec<u8>, FetchError> {
         let own_name = String::from_str(self.alloc, name)?;
-        match read_file(self.alloc, self.rt, name) {
-            Ok(bytes) => {
-                self.given = self.given.and(&own_name, &bytes);
-                Ok(bytes)
-            }
-            Err(FetchError::TooLong(seen)) => Err(FetchError::TooLong(seen)),
-            Err(FetchError::OutOfMemory) => Err(FetchError::OutOfMemory),
-            Err(FetchError::Failed | FetchError::Absent) => {
-                self.faults = self.faults.saturating_add(1);
-                self.blamed = Some(own_name);
-                Err(FetchError::Failed)
-            }
-        }
+        let answer = read_file(self.alloc, self.rt, name);
+        self.note(own_name, &answer);
+        answer
     }
 }
 

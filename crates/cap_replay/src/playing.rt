@@ -2,8 +2,10 @@
 ghost use Rattle.std.specs.Prelude.{◌≡◌, ◌≤◌, ◌<◌, ◌++◌, ◌-◌};
 ghost use Rattle.std.specs.Prelude.{◌^◌, suc, pos, false};
 ghost use Rattle.std.specs.Prelude.{length, slice_get, string_bytes, IfOk, IsSomeAnd, OnOk};
+ghost use Rattle.std.specs.Fmt.{signed_decimal};
 ghost use Rattle.cap_prog.specs.Views.{program_view};
 ghost use Rattle.cap_machine.specs.Cells.{AscendsFrom};
+ghost use Rattle.cap_machine.specs.declared.event.Event.TheVariants.{Cas};
 ghost use Rattle.cap_machine.specs.View.{configuration, is_stopped, RunsProgram};
 ghost use Rattle.cap_replay.specs.RunText.{pair_text, event_text};
 ghost use Rattle.cap_replay.specs.RunText.{head_text, step_line as the_step_line};
@@ -46,26 +48,46 @@ fn pair_text(alloc: Global, name: &str, left: i128, right: i128) -> Result<Strin
     Ok(text)
 }
 
+// A name, and behind it a number.
+fn number_text(alloc: Global, name: &str, number: i128) -> Result<String, AllocError>
+    ensures { IfOk result (λ text. string_bytes text ≡ name.now ++ signed_decimal number) }
+{
+    let mut text = String::from_str(alloc, name)?;
+    let number = format!(in alloc; "{number}")?;
+    text.push_str(number.as_str())?;
+    Ok(text)
+}
+
+// A compare-and-swap at a cell, and whether it swapped.
+fn swap_text(alloc: Global, cell: i128, swapped: bool) -> Result<String, AllocError>
+    ensures { IfOk result (λ text. string_bytes text ≡ event_text (Cas cell swapped)) }
+{
+    if swapped {
+        format!(in alloc; "cas {cell} 1")
+    } else {
+        format!(in alloc; "cas {cell} 0")
+    }
+}
+
 fn event_text(alloc: Global, event: Event) -> Result<String, AllocError>
     ensures { IfOk result (λ text. string_bytes text ≡ event_text event) }
 {
     match event {
-        Event::Set(value) => format!(in alloc; "set {value}"),
+        Event::Set(value) => number_text(alloc, "set ", value),
         Event::Read(cell, value) => pair_text(alloc, "read ", cell, value),
         Event::Write(cell, value) => pair_text(alloc, "write ", cell, value),
-        Event::Cas(cell, true) => format!(in alloc; "cas {cell} 1"),
-        Event::Cas(cell, false) => format!(in alloc; "cas {cell} 0"),
+        Event::Cas(cell, swapped) => swap_text(alloc, cell, swapped),
         Event::Faa(cell, value) => pair_text(alloc, "faa ", cell, value),
-        Event::Dispose(cell) => format!(in alloc; "dispose {cell}"),
-        Event::Alloc(base) => format!(in alloc; "alloc {base}"),
+        Event::Dispose(cell) => number_text(alloc, "dispose ", cell),
+        Event::Alloc(base) => number_text(alloc, "alloc ", base),
         Event::Call => String::from_str(alloc, "call"),
         Event::Fork(thread) => format!(in alloc; "fork {thread}"),
         Event::Branch(true) => String::from_str(alloc, "branch 1"),
         Event::Branch(false) => String::from_str(alloc, "branch 0"),
         Event::Assert => String::from_str(alloc, "assert"),
-        Event::Return(value) => format!(in alloc; "return {value}"),
-        Event::End(value) => format!(in alloc; "end {value}"),
-        Event::Bad(cell) => format!(in alloc; "fault {cell}"),
+        Event::Return(value) => number_text(alloc, "return ", value),
+        Event::End(value) => number_text(alloc, "end ", value),
+        Event::Bad(cell) => number_text(alloc, "fault ", cell),
         Event::Failed(_) => String::from_str(alloc, "failed"),
     }
 }

@@ -1,5 +1,6 @@
 -- The calls that make the parser.
-use Rattle.std.proofs.Common.{◌≡◌, ◌∙◌, ◌+◌, ◌<◌, ◌++◌, ◌∷◌, ℕ, suc, [], true, List, Bor, map, drop, length, get_or, sym, ap, ap₂, add-one, append_assoc, codes}
+use Rattle.std.proofs.Common.{◌≡◌, ◌∙◌, ◌+◌, ◌<◌, ◌++◌, ◌∷◌, ℕ, suc, [], true, List, Bor, map, drop, length, get_or, sym, ap, add-one, append_assoc, codes}
+use Rattle.std.specs.Prelude.{fold, IfOk, Result, Ok, Err}
 use Rattle.std.proofs.Math.Seq.{drop-cons}
 use Rattle.clap.specs.Words.{AddsSubcommand, App, Rule, app_of, new_app, with_rule, with_subcommand}
 use Rattle.clap.specs.Simple.{app_of_fields, on_top}
@@ -7,7 +8,7 @@ use Rattle.clap.specs.declared.builder.command.Command.{Command}
 use Rattle.clap.specs.declared.builder.command.Command.TheViews.{out-Command}
 use Rattle.clap.specs.declared.builder.command.Command.TheOpen.{Command-F}
 use Rattle.cap_top_words.specs.Meaning.{CommandWord}
-use Rattle.cap_top_words.specs.Parser.{IsSubcommand, bare_app, operand_rule, operand_rules, subcommand_of_rules}
+use Rattle.cap_top_words.specs.Parser.{IsSubcommand, bare_app, operand_rule, operand_rules, subcommand_of_rules, subcommands}
 
 abbrev pub with_rules : List Rule → App → App
 with_rules rules = on_top (λ s. record s { rules = s.rules ++ rules })
@@ -29,9 +30,32 @@ operands_after ids i d old new whole r inside is adds e =
     ∙ sym (ap (λ (bs : List (Bor CommandWord)). with_rules (others bs) old) (drop-cons ids i d inside))
     ∙ e)
 
-pub added : (old sub new : Command) (name : CommandWord) (rules : List Rule) (a : App) → AddsSubcommand old sub new → IsSubcommand name rules sub → app_of old ≡ a
-    → app_of new ≡ with_subcommand a (subcommand_of_rules name rules)
-added old sub new name rules a adds is e = adds.shape is.1 ∙ ap₂ with_subcommand e (ap (λ (b : App). b.top) is.0)
+pub added : {E : Type 0} (result : Result Command E) (old sub : Command) (name : CommandWord) (rules : List Rule) → IfOk result (λ new. AddsSubcommand old sub new) → IsSubcommand name rules sub
+    → IfOk result (λ new. app_of new ≡ with_subcommand (app_of old) (subcommand_of_rules name rules))
+added (Ok new) old sub name rules adds is = adds.shape is.1 ∙ ap (λ (b : App). with_subcommand (app_of old) b.top) is.0
+added (Err e) old sub name rules adds is = tt
+
+-- ---- the subcommands of a table
+
+abbrev pub Row : Type 0
+Row = Bor CommandWord × Bor (List (Bor CommandWord))
+
+-- the subcommand of a row is added
+abbrev pub with_row : App → Row → App
+with_row app row = with_subcommand app (subcommand_of_rules row.0.now (operand_rules (map (λ id. id.now) row.1.now)))
+
+-- one subcommand is added, and those behind it are still to be
+pub rows_after : (table : List Row) (i : ℕ) (d : Row) (old new whole : App) → i < length table → new ≡ with_row old (get_or table i d)
+    → fold with_row old (drop i table) ≡ whole → fold with_row new (drop (i + 1) table) ≡ whole
+rows_after table i d old new whole inside adds e =
+    rw (add-one i)
+    (ap (λ (a : App). fold with_row a (drop (suc i) table)) adds
+    ∙ sym (ap (fold with_row old) (drop-cons table i d inside))
+    ∙ e)
+
+-- the subcommands that have operands alone
+abbrev pub with_others : App → App
+with_others app = fold (λ a sub. with_subcommand a (subcommand_of_rules sub.0 sub.1)) app (drop 2 subcommands)
 
 -- ---- the settings of the parser
 

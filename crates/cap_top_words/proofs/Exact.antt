@@ -1,6 +1,6 @@
 -- From the clauses of a parse to the definition.
 use Rattle.std.proofs.Common.{◌≡◌, ◌∙◌, ◌⊎◌, ◌∷◌, false, true, cond, List, [], map, inl, inr, refl, sym, ap, ap₂, subst, Option, Some, None}
-use Rattle.std.specs.Prelude.{Box, String, option_map, string_bytes}
+use Rattle.std.specs.Prelude.{Box, String, option_and_then, option_map, string_bytes}
 use Rattle.std.specs.Box.{box_value}
 use Rattle.std.proofs.lemmas.Str.{IsUtf8-string_bytes}
 use Rattle.clap.specs.Words.{App, HasMatchesOf, IsAmong, Row, app_of, fault_of, is_simple, is_simple_and_free, subcommand_name_of, subcommand_of, subcommand_rows, subcommand_rows_of}
@@ -14,11 +14,11 @@ use Rattle.clap.specs.declared.error.kind.ErrorKind.TheVariants.{OutOfMemory}
 use Rattle.clap.specs.declared.parser.matches.ArgMatches.{ArgMatches}
 use Rattle.clap.specs.declared.parser.matches.ArgMatches.TheViews.{out-ArgMatches, out-SubCommand}
 use Rattle.clap.specs.declared.parser.matches.SubCommand.{SubCommand}
-use Rattle.cap_top_words.specs.Meaning.{CommandWord, command_of}
+use Rattle.cap_top_words.specs.Meaning.{CommandWord, PlainCommand, command_of}
 use Rattle.cap_top_words.specs.Parser.{caper_app, command_in, has_lone_dash}
 use Rattle.cap_top_words.proofs.Classes.{AreTexts, word_classes_of}
 use Rattle.cap_top_words.proofs.Leaf.{is_clear}
-use Rattle.cap_top_words.proofs.Parse.{exact, outcome, read, reading_of}
+use Rattle.cap_top_words.proofs.Parse.{exact, outcome, read}
 use Rattle.cap_top_words.proofs.Subcommands.{all, parser_is}
 use Rattle.cap_top_words.proofs.Tables.{command_in-reading, command_of-meaning}
 
@@ -66,14 +66,22 @@ names_in (Some b) = refl
 name_in : (m : ArgMatches) → subcommand_name_of m ≡ option_map (λ (p : CommandWord × List Row). p.0) (subcommand_rows_of m)
 name_in m = names_in (out-ArgMatches m).subcommand
 
+-- what is read of the subcommand that was met
+abbrev pub met_reading : Option (CommandWord × List Row) → Option PlainCommand
+met_reading = option_and_then (λ sub. command_in sub.0 sub.1)
+
+pub met_as_read : (o : Option (CommandWord × List Row)) → met_reading o ≡ read all o
+met_as_read None = refl
+met_as_read (Some sub) = command_in-reading sub.0 sub.1
+
 met : (o : Option (CommandWord × List Row)) (name : CommandWord) (rows : List Row) → Some name ≡ option_map (λ p. p.0) o → Some rows ≡ option_map (λ p. p.1) o
-    → reading_of all name rows ≡ read all o
+    → command_in name rows ≡ met_reading o
 met None name rows n r = cc
 met (Some p) name rows n r =
     let a : name ≡ p.0 = cc in
     let b : rows ≡ p.1 = cc in
-    ap₂ (reading_of all) a b
+    ap₂ command_in a b
 
 pub met_is : (m : ArgMatches) (name : CommandWord) (rows : List Row) → Some name ≡ subcommand_name_of m → Some rows ≡ option_map (λ p. p.1) (subcommand_rows_of m)
-    → command_in name rows ≡ read all (subcommand_rows_of m)
-met_is m name rows n r = command_in-reading name rows ∙ met (subcommand_rows_of m) name rows (n ∙ name_in m) r
+    → command_in name rows ≡ met_reading (subcommand_rows_of m)
+met_is m name rows n r = met (subcommand_rows_of m) name rows (n ∙ name_in m) r

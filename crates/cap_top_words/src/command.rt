@@ -3,7 +3,7 @@
 ///
 /// A budget bounds the cost of the search for each unit's proof: it is from 1 to 1,000,000,000, and
 /// 200,000 where the words give none.
-#[derive(Debug, Clone, Copy, PartialEq, Eq)]
+#[derive(Clone, Copy, PartialEq, Eq)]
 pub enum Command<'a> {
     /// Verifies the program in a file.
     Verify {

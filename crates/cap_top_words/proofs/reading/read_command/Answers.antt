@@ -1,20 +1,20 @@
 use Rattle.std.proofs.Common.{rules, sym, ap, ◌∙◌, ◌≡◌, false, map, true≢false}
 use Rattle.std.specs.Prelude.{string_bytes}
-use Rattle.clap.specs.Words.{found_of, is_simple_and_free, kind_of, rows_of}
+use Rattle.clap.specs.Words.{is_simple_and_free, kind_of, subcommand_rows_of}
 use Rattle.clap.specs.declared.error.kind.ErrorKind.TheVariants.{OutOfMemory}
 use Rattle.cap_top_words.specs.Parser.{has_lone_dash}
-use Rattle.cap_top_words.proofs.Exact.{are_texts, is_free, met_is, taken, not_taken}
+use Rattle.cap_top_words.proofs.Exact.{are_texts, is_free, met_as_read, taken, not_taken}
 use Rattle.cap_top_words.proofs.Tables.{lone_dash_none}
 use Rattle.cap_top_words.proofs.reading.read_command.Goals as goal
 
 pub returns-then-has_lone_dash : goal.returns-then-has_lone_dash
 returns-then-has_lone_dash c = sym (lone_dash_none (map string_bytes c.args.words.now) (search rules))
 
-pub returns-in-Some : goal.returns-in-Some
-returns-in-Some c =
+pub returns-in-Ok : goal.returns-in-Ok
+returns-in-Ok c =
     let whole : has_lone_dash (map string_bytes c.args.words.now) ≡ false = search rules in
-    c.command.ensures
-    ∙ met_is c.in-Ok.matches c.in-Some.name.now (rows_of (found_of c.in-Some.inner.now)) c.in-Some.ensures.name c.in-Some.ensures.rows
+    c.met_command.ensures
+    ∙ met_as_read (subcommand_rows_of c.in-Ok.matches)
     ∙ taken c.in_ok-parser.field-0 (map string_bytes c.args.words.now) c.in_ok-parser.ensures (are_texts c.args.words.now) whole c.in-Ok.matches
     (c.in-Ok.ensures.kinds (ap is_simple_and_free c.in_ok-parser.ensures ∙ is_free)) c.in-Ok.ensures.matches
 
