@@ -2,7 +2,8 @@
 ghost use Rattle.std.specs.Prelude.{◌≡◌, true, IfOk};
 ghost use Rattle.cap_galg.specs.Elements.{is_unit, is_full, on_left as made_left};
 ghost use Rattle.cap_galg.specs.Elements.{on_right as made_right, tok, src};
-ghost use Rattle.cap_galg.specs.Elements.{Element as PlainElement, indices, share};
+ghost use Rattle.cap_galg.specs.Elements.{Element as PlainElement, one, indices, share};
+ghost use Rattle.cap_galg.specs.Elements.{whole, left, right};
 ghost use Rattle.cap_galg.specs.Fractions.{lowest};
 ghost use Rattle.cap_owners_spec.specs.Filling.{counts_fit};
 ghost use Rattle.cap_owners_spec.specs.Traced.{Traced, over};
@@ -34,7 +35,6 @@ pub(crate) enum Element {
     Right(Box<Element>),
 }
 
-// Written out: one call at each exit of a function, where a derived drop is all its parts.
 impl Drop for Element {
     #[cycle(dropped_elements)]
     fn drop(self) {
@@ -109,66 +109,11 @@ impl Element {
     {
         match self {
             Element::Nothing => Ok(other.copy(alloc)?),
-            Element::One => match other {
-                Element::Nothing => Ok(self.copy(alloc)?),
-                Element::One
-                | Element::Share(_)
-                | Element::Tok(_)
-                | Element::Src(_)
-                | Element::Indices(_)
-                | Element::Both(_, _)
-                | Element::Whole
-                | Element::Left(_)
-                | Element::Right(_) => Err(TraceError::Untold),
-            },
-            Element::Share(amount) => match other {
-                Element::Share(more) => shares(*amount, *more),
-                Element::Nothing => Ok(self.copy(alloc)?),
-                Element::One
-                | Element::Tok(_)
-                | Element::Src(_)
-                | Element::Indices(_)
-                | Element::Both(_, _)
-                | Element::Whole
-                | Element::Left(_)
-                | Element::Right(_) => Err(TraceError::Untold),
-            },
-            Element::Tok(count) => match other {
-                Element::Tok(more) => tokens(*count, *more),
-                Element::Src(out) => given_back(*out, *count),
-                Element::Nothing => Ok(self.copy(alloc)?),
-                Element::One
-                | Element::Share(_)
-                | Element::Indices(_)
-                | Element::Both(_, _)
-                | Element::Whole
-                | Element::Left(_)
-                | Element::Right(_) => Err(TraceError::Untold),
-            },
-            Element::Src(out) => match other {
-                Element::Tok(count) => given_back(*out, *count),
-                Element::Nothing => Ok(self.copy(alloc)?),
-                Element::One
-                | Element::Share(_)
-                | Element::Src(_)
-                | Element::Indices(_)
-                | Element::Both(_, _)
-                | Element::Whole
-                | Element::Left(_)
-                | Element::Right(_) => Err(TraceError::Untold),
-            },
-            Element::Indices(set) => match other {
-                Element::Indices(more) => sets(alloc, set, more),
-                Element::Nothing => Ok(self.copy(alloc)?),
-                Element::One
-                | Element::Share(_)
-                | Element::Tok(_)
-                | Element::Src(_)
-                | Element::Both(_, _)
-                | Element::Whole
-                | Element::Left(_)
-                | Element::Right(_) => Err(TraceError::Untold),
-            },
+            Element::One => beside_one(other),
+            Element::Share(amount) => beside_share(*amount, other),
+            Element::Tok(count) => beside_tokens(*count, other),
+            Element::Src(out) => beside_source(*out, other),
+            Element::Indices(set) => beside_indices(alloc, set, other),
             Element::Both(a, b) => match other {
                 Element::Both(c, d) => {
                     let first = a.compose(alloc, c);
@@ -185,20 +130,9 @@ impl Element {
                 | Element::Left(_)
                 | Element::Right(_) => Err(TraceError::Untold),
             },
-            Element::Whole => match other {
-                Element::Nothing => Ok(self.copy(alloc)?),
-                Element::One
-                | Element::Share(_)
-                | Element::Tok(_)
-                | Element::Src(_)
-                | Element::Indices(_)
-                | Element::Both(_, _)
-                | Element::Whole
-                | Element::Left(_)
-                | Element::Right(_) => Err(TraceError::Untold),
-            },
+            Element::Whole => beside_whole(other),
             Element::Left(x) => match other {
-                Element::Left(y) => Ok(on_left(alloc, x.compose(alloc, y)?)?),
+                Element::Left(y) => left_of(alloc, x.compose(alloc, y)),
                 Element::Nothing => Ok(self.copy(alloc)?),
                 Element::One
                 | Element::Share(_)
@@ -210,7 +144,7 @@ impl Element {
                 | Element::Right(_) => Err(TraceError::Untold),
             },
             Element::Right(x) => match other {
-                Element::Right(y) => Ok(on_right(alloc, x.compose(alloc, y)?)?),
+                Element::Right(y) => right_of(alloc, x.compose(alloc, y)),
                 Element::Nothing => Ok(self.copy(alloc)?),
                 Element::One
                 | Element::Share(_)
@@ -223,6 +157,134 @@ impl Element {
             },
         }
     }
+}
+
+// What all of a unique guard and an element compose to.
+fn beside_one(other: &Element) -> Result<Element, TraceError>
+    ensures { Traces result element_view (composed_element one (element_view other.now)) }
+{
+    match other {
+        Element::Nothing => Ok(Element::One),
+        Element::One
+        | Element::Share(_)
+        | Element::Tok(_)
+        | Element::Src(_)
+        | Element::Indices(_)
+        | Element::Both(_, _)
+        | Element::Whole
+        | Element::Left(_)
+        | Element::Right(_) => Err(TraceError::Untold),
+    }
+}
+
+// What the full element of a sum and an element compose to.
+fn beside_whole(other: &Element) -> Result<Element, TraceError>
+    ensures { Traces result element_view (composed_element whole (element_view other.now)) }
+{
+    match other {
+        Element::Nothing => Ok(Element::Whole),
+        Element::One
+        | Element::Share(_)
+        | Element::Tok(_)
+        | Element::Src(_)
+        | Element::Indices(_)
+        | Element::Both(_, _)
+        | Element::Whole
+        | Element::Left(_)
+        | Element::Right(_) => Err(TraceError::Untold),
+    }
+}
+
+// What a share and an element compose to.
+fn beside_share(amount: u128, other: &Element) -> Result<Element, TraceError>
+    ensures { Traces result element_view
+        (composed_element (share (lowest amount over)) (element_view other.now)) }
+{
+    match other {
+        Element::Share(more) => shares(amount, *more),
+        Element::Nothing => Ok(Element::Share(amount)),
+        Element::One
+        | Element::Tok(_)
+        | Element::Src(_)
+        | Element::Indices(_)
+        | Element::Both(_, _)
+        | Element::Whole
+        | Element::Left(_)
+        | Element::Right(_) => Err(TraceError::Untold),
+    }
+}
+
+// What some tokens and an element compose to.
+fn beside_tokens(count: u128, other: &Element) -> Result<Element, TraceError>
+    ensures { Traces result element_view
+        (composed_element (tok count) (element_view other.now)) }
+{
+    match other {
+        Element::Tok(more) => tokens(count, *more),
+        Element::Src(out) => given_back(*out, count),
+        Element::Nothing => Ok(Element::Tok(count)),
+        Element::One
+        | Element::Share(_)
+        | Element::Indices(_)
+        | Element::Both(_, _)
+        | Element::Whole
+        | Element::Left(_)
+        | Element::Right(_) => Err(TraceError::Untold),
+    }
+}
+
+// What a source and an element compose to.
+fn beside_source(out: u128, other: &Element) -> Result<Element, TraceError>
+    ensures { Traces result element_view
+        (composed_element (src out) (element_view other.now)) }
+{
+    match other {
+        Element::Tok(count) => given_back(out, *count),
+        Element::Nothing => Ok(Element::Src(out)),
+        Element::One
+        | Element::Share(_)
+        | Element::Src(_)
+        | Element::Indices(_)
+        | Element::Both(_, _)
+        | Element::Whole
+        | Element::Left(_)
+        | Element::Right(_) => Err(TraceError::Untold),
+    }
+}
+
+// What a set of indices and an element compose to.
+fn beside_indices(alloc: Global, set: &Indices, other: &Element) -> Result<Element, TraceError>
+    ensures { Traces result element_view
+        (composed_element (indices set.now) (element_view other.now)) }
+{
+    match other {
+        Element::Indices(more) => sets(alloc, set, more),
+        Element::Nothing => Ok(Element::Indices(set.copy(alloc)?)),
+        Element::One
+        | Element::Share(_)
+        | Element::Tok(_)
+        | Element::Src(_)
+        | Element::Both(_, _)
+        | Element::Whole
+        | Element::Left(_)
+        | Element::Right(_) => Err(TraceError::Untold),
+    }
+}
+
+// The element of a sum that its left side has, of what two parts of that side compose to.
+fn left_of(alloc: Global, side: Result<Element, TraceError>) -> Result<Element, TraceError>
+    ensures { (x y : PlainElement) → Traces side element_view (composed_element x y) →
+        Traces result element_view (composed_element (left x) (left y)) }
+{
+    Ok(on_left(alloc, side?)?)
+}
+
+// The element of a sum that its right side has, of what two parts of that side compose to.
+fn right_of(alloc: Global, side: Result<Element, TraceError>) -> Result<Element, TraceError>
+    ensures { (x y : PlainElement) → Traces side element_view (composed_element x y) →
+        Traces result element_view (composed_element (right x) (right y)) }
+{
+    Ok(on_right(alloc, side?)?)
 }
 
 // The pair of what two parts compose to. Where one part is not told of, the pair is not, even if

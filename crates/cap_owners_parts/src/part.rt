@@ -26,7 +26,6 @@ pub struct Part {
     pub(crate) guards: BTreeMap<i128, Guard>,
 }
 
-// Written out: one call at each exit of a function, where a derived drop is all its parts.
 impl Drop for Part {
     fn drop(self) {
         let Part {
