@@ -55,7 +55,6 @@ pub enum Cert {
     Split(u32, Multipliers, Multipliers),
 }
 
-// Written out: one call at each exit of a function, where a derived drop is all its parts.
 impl Drop for Cert {
     fn drop(self) {
         match self {

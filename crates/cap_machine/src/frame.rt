@@ -27,7 +27,6 @@ pub struct Frame {
     pub(crate) destination: Option<u32>,
 }
 
-// Written out: one call at each exit of a function, where a derived drop is all its parts.
 impl Drop for Frame {
     fn drop(self) {
         let Frame {

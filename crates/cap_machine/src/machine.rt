@@ -28,7 +28,6 @@ pub struct Machine {
     pub(crate) stopped: bool,
 }
 
-// Written out: one call at each exit of a function, where a derived drop is all its parts.
 impl Drop for Machine {
     fn drop(self) {
         let Machine {

@@ -15,7 +15,6 @@ pub struct Fill {
     pub facts: Vec<(i128, i128)>,
 }
 
-// Written out: one call at each exit of a function, where a derived drop is all its parts.
 impl Drop for Fill {
     fn drop(self) {
         let Fill {

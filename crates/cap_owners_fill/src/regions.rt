@@ -26,7 +26,6 @@ pub struct TrackedRegion {
     pub fill: Fill,
 }
 
-// Written out: one call at each exit of a function, where a derived drop is all its parts.
 impl Drop for TrackedRegion {
     fn drop(self) {
         let TrackedRegion {

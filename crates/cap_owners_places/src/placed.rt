@@ -10,7 +10,6 @@ pub struct Placed<'a> {
     pub children: Vec<Placed<'a>>,
 }
 
-// Written out: one call at each exit of a function, where a derived drop is all its parts.
 impl Drop for Placed<'_> {
     fn drop(self) {
         let Placed {

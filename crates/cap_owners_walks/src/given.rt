@@ -29,7 +29,6 @@ pub struct GivenAssertion<'t, 'a> {
     pub fill: Fill,
 }
 
-// Written out: one call at each exit of a function, where a derived drop is all its parts.
 impl Drop for GivenAssertion<'_, '_> {
     fn drop(self) {
         let GivenAssertion {

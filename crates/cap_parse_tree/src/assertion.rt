@@ -23,7 +23,6 @@ pub enum GuardAtom {
     Count(Counted, Place, Word, Place, Slot, Place),
 }
 
-// Written out: one call at each exit of a function, where a derived drop is all its parts.
 impl Drop for GuardAtom {
     fn drop(self) {
         match self {
@@ -40,7 +39,6 @@ pub enum Guards {
     Bracketed(Place, Separated<GuardAtom>, Place),
 }
 
-// Written out: one call at each exit of a function, where a derived drop is all its parts.
 impl Drop for Guards {
     fn drop(self) {
         match self {
@@ -63,7 +61,6 @@ pub enum Item {
     Choose(Comparison, Place, Side, Place, Side),
 }
 
-// Written out: one call at each exit of a function, where a derived drop is all its parts.
 impl Drop for Item {
     #[cycle(dropped_items)]
     fn drop(self) {

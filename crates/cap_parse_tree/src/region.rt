@@ -49,7 +49,6 @@ pub struct Algebra {
     pub more: Vec<Either>,
 }
 
-// Written out: one call at each exit of a function, where a derived drop is all its parts.
 impl Drop for Algebra {
     #[cycle(dropped_algebras)]
     fn drop(self) {
@@ -63,7 +62,6 @@ pub struct When {
     pub comparisons: Separated<Comparison>,
 }
 
-// Written out: one call at each exit of a function, where a derived drop is all its parts.
 impl Drop for When {
     fn drop(self) {
         let When {
@@ -82,7 +80,6 @@ pub struct Case {
     pub semicolon: Place,
 }
 
-// Written out: one call at each exit of a function, where a derived drop is all its parts.
 impl Drop for Case {
     fn drop(self) {
         let Case {
@@ -107,7 +104,6 @@ pub struct Action {
     pub semicolon: Place,
 }
 
-// Written out: one call at each exit of a function, where a derived drop is all its parts.
 impl Drop for Action {
     fn drop(self) {
         let Action {
@@ -139,7 +135,6 @@ pub struct Region {
     pub end: Place,
 }
 
-// Written out: one call at each exit of a function, where a derived drop is all its parts.
 impl Drop for Region {
     fn drop(self) {
         let Region {

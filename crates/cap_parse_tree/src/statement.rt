@@ -19,7 +19,6 @@ pub enum Value {
     Call(Word, Listed<Term>),
 }
 
-// Written out: one call at each exit of a function, where a derived drop is all its parts.
 impl Drop for Value {
     fn drop(self) {
         match self {
@@ -49,7 +48,6 @@ pub enum Statement {
     Dispose(Place, Place, Term, Place, Place),
 }
 
-// Written out: one call at each exit of a function, where a derived drop is all its parts.
 impl Drop for Statement {
     fn drop(self) {
         match self {

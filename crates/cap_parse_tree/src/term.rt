@@ -55,7 +55,6 @@ pub struct Term {
     pub more: Vec<Addend>,
 }
 
-// Written out: one call at each exit of a function, where a derived drop is all its parts.
 impl Drop for Term {
     #[cycle(dropped_terms)]
     fn drop(self) {
@@ -86,7 +85,6 @@ pub struct Comparison {
     pub right: Term,
 }
 
-// Written out: one call at each exit of a function, where a derived drop is all its parts.
 impl Drop for Comparison {
     fn drop(self) {
         let Comparison {

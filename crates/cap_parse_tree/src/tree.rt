@@ -18,7 +18,6 @@ pub struct Function {
     pub body: Block,
 }
 
-// Written out: one call at each exit of a function, where a derived drop is all its parts.
 impl Drop for Function {
     fn drop(self) {
         let Function {
@@ -53,7 +52,6 @@ pub struct Tree {
     pub declarations: Vec<Declaration>,
 }
 
-// Written out: one call at each exit of a function, where a derived drop is all its parts.
 impl Drop for Tree {
     fn drop(self) {
         let Tree {

@@ -12,7 +12,6 @@ pub struct Comp {
     pub place: Place,
 }
 
-// Written out: one call at each exit of a function, where a derived drop is all its parts.
 impl Drop for Comp {
     fn drop(self) {
         let Comp {
@@ -45,7 +44,6 @@ pub enum Asked {
     From(Slot),
 }
 
-// Written out: one call at each exit of a function, where a derived drop is all its parts.
 impl Drop for Asked {
     fn drop(self) {
         match self {
@@ -78,7 +76,6 @@ pub enum Item {
     Cell(Place, Term, Slot),
 }
 
-// Written out: one call at each exit of a function, where a derived drop is all its parts.
 impl Drop for Item {
     fn drop(self) {
         match self {

@@ -21,7 +21,6 @@ pub struct Function {
     pub place: Place,
 }
 
-// Written out: one call at each exit of a function, where a derived drop is all its parts.
 impl Drop for Function {
     fn drop(self) {
         let Function {
@@ -77,7 +76,6 @@ pub enum Act {
     Return(Term),
 }
 
-// Written out: one call at each exit of a function, where a derived drop is all its parts.
 impl Drop for Act {
     #[cycle(dropped_acts)]
     fn drop(self) {

@@ -16,7 +16,6 @@ pub struct Program {
     main: u32,
 }
 
-// Written out: one call at each exit of a function, where a derived drop is all its parts.
 impl Drop for Program {
     fn drop(self) {
         let Program {

@@ -19,7 +19,6 @@ pub struct RegionType {
     pub place: Place,
 }
 
-// Written out: one call at each exit of a function, where a derived drop is all its parts.
 impl Drop for RegionType {
     fn drop(self) {
         let RegionType {
@@ -45,7 +44,6 @@ pub struct Case {
     pub place: Place,
 }
 
-// Written out: one call at each exit of a function, where a derived drop is all its parts.
 impl Drop for Case {
     fn drop(self) {
         let Case {
@@ -71,7 +69,6 @@ pub struct Action {
     pub place: Place,
 }
 
-// Written out: one call at each exit of a function, where a derived drop is all its parts.
 impl Drop for Action {
     fn drop(self) {
         let Action {

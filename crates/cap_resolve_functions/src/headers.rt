@@ -50,7 +50,6 @@ struct Header {
     place: Place,
 }
 
-// Written out: one call at each exit of a function, where a derived drop is all its parts.
 impl Drop for Header {
     fn drop(self) {
         let Header {

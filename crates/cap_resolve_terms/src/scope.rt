@@ -26,7 +26,6 @@ pub struct Scope<'a> {
     numbers: IndexMap<&'a [u8], usize>,
 }
 
-// Written out: one call at each exit of a function, where a derived drop is all its parts.
 impl Drop for Scope<'_> {
     fn drop(self) {
         let Scope {

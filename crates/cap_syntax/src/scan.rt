@@ -1,5 +1,6 @@
 //! The tokens of a text, or the first place at which there is none.
-ghost use Rattle.std.specs.Prelude.{◌≡◌, ℕ, ◌+◌, ◌^◌, ◌<◌, ◌≤◌, ◌++◌, List, length, drop, IfOk, IfErr, IsOkUnless, MatchResult};
+ghost use Rattle.std.specs.Prelude.{◌≡◌, ℕ, ◌+◌, ◌^◌, ◌<◌, ◌≤◌, ◌++◌, List, length, drop};
+ghost use Rattle.std.specs.Prelude.{IfOk, IfErr, IsOkUnless, MatchResult};
 ghost use Rattle.cap_syntax.specs.Place.{place_after, StandsAt};
 ghost use Rattle.cap_syntax.specs.Refusal.{max_text, IsCause, IsFirstBreak, IsRefusal, UnlessMemory, FailsExactly};
 ghost use Rattle.cap_syntax.specs.declared.token.TokenError.{TokenError};

@@ -14,7 +14,6 @@ pub struct Text {
     end: u32,
 }
 
-// Written out: one call at each exit of a function, where a derived drop is all its parts.
 impl Drop for Text {
     fn drop(self) {
         let Text {
@@ -44,8 +43,8 @@ impl Text {
         Text::part(&whole, 0, bytes.len())
     }
 
-    // The bytes from one index on and up to another one, which are below 2^32, if they can be shared
-    // once more.
+    // The bytes from one index on and up to another one, which are below 2^32, if they can be
+    // shared once more.
     pub(crate) fn part(whole: &Rc<Vec<u8>>, start: usize, end: usize) -> Result<Text, AllocError>
         requires ascend { start ≤ end }
         requires within { end ≤ length whole.now.value.items }
