@@ -219,22 +219,19 @@ fn nested(alloc: Global, header: &str, parentheses: usize) -> Result<String, Fai
     Ok(text)
 }
 
-// The brace of the region type is open too.
+// The brace of the region type is open too. In the first version the bracket is unexpected, and at
+// one place that counts.
 #[test]
 fn brackets_of_indices_nest(rt: HostRuntime) -> Result<(), Fail> {
-    let alloc = rt.alloc();
-    let edge = nested(alloc, "caper 2; ", 62)?;
-    let read = shown(alloc, edge.as_str())?;
-    assert!(rt;
-        read.as_str()
-            .starts_with("caper 2 ;\nregion R ( r ) {\nguards ( (")
-    );
-    let past = nested(alloc, "caper 2; ", 63)?;
-    assert_eq!(rt; shown(alloc, past.as_str())?.as_str(), "too deep 1:94");
-    let deeper = nested(alloc, "caper 2; ", 64)?;
-    assert_eq!(rt; shown(alloc, deeper.as_str())?.as_str(), "too deep 1:94");
-    // In the first version the bracket is unexpected, and at one place that counts.
-    let first = nested(alloc, "", 63)?;
-    assert_eq!(rt; shown(alloc, first.as_str())?.as_str(), "unexpected 1:85");
+    for (header, parentheses, want) in [
+        ("caper 2; ", 62, "caper 2 ;\nregion R ( r ) {\nguards ( ("),
+        ("caper 2; ", 63, "too deep 1:94"),
+        ("caper 2; ", 64, "too deep 1:94"),
+        ("", 63, "unexpected 1:85"),
+    ] {
+        let text = nested(rt.alloc(), header, parentheses)?;
+        let found = shown(rt.alloc(), text.as_str())?;
+        assert!(rt; found.as_str().starts_with(want), "{header}{parentheses}");
+    }
     Ok(())
 }

@@ -118,16 +118,10 @@ fn limits_the_length_of_a_text(rt: HostRuntime) -> Result<(), Fail> {
 
 #[test]
 fn gives_a_text_back(rt: HostRuntime) -> Result<(), Fail> {
-    let none = Text::from_slice(rt.alloc(), b"")?;
-    assert_eq!(rt; none.as_bytes(), b"".as_slice());
-    let short = Text::from_slice(rt.alloc(), b"abc")?;
-    assert_eq!(rt; short.as_bytes(), b"abc".as_slice());
-    assert_eq!(rt; short.copy()?.as_bytes(), b"abc".as_slice());
-    let long = Text::from_slice(rt.alloc(), b"longer_than_sixteen_bytes")?;
-    assert_eq!(rt; long.as_bytes(), b"longer_than_sixteen_bytes".as_slice());
-    assert_eq!(rt;
-        long.copy()?.as_bytes(),
-        b"longer_than_sixteen_bytes".as_slice()
-    );
+    for bytes in ["", "abc", "longer_than_sixteen_bytes"] {
+        let text = Text::from_slice(rt.alloc(), bytes.as_bytes())?;
+        assert_eq!(rt; text.as_bytes(), bytes.as_bytes());
+        assert_eq!(rt; text.copy()?.as_bytes(), bytes.as_bytes());
+    }
     Ok(())
 }

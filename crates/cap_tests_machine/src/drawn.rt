@@ -26,64 +26,40 @@ fn drawn(alloc: Global, text: &str, number: u64, count: u64) -> Result<Vec<u8>, 
     }
 }
 
-#[test]
-fn finds_a_failed_assertion(rt: HostRuntime) -> Result<(), Fail> {
-    let text = drawn(rt.alloc(), "function main() { assert 0 = 1; }", 5, 1)?;
-    assert_eq!(rt; text.as_slice(), b"start\nstep 0\nend\n".as_slice());
-    Ok(())
-}
+const FAILS: &str = "function main() { assert 0 = 1; }";
 
-#[test]
-fn finds_none_where_nothing_fails(rt: HostRuntime) -> Result<(), Fail> {
-    let text = drawn(rt.alloc(), "function main() { }", 5, 3)?;
-    assert_eq!(rt; text.as_slice(), b"".as_slice());
-    Ok(())
-}
+const ENDS: &str = "function main() { }";
 
-#[test]
-fn allocates_behind_all_cells(rt: HostRuntime) -> Result<(), Fail> {
-    let text = drawn(
-        rt.alloc(),
-        "function main() { x := alloc(1); y := alloc(2); assert y = x; }",
-        0,
-        3,
-    )?;
-    assert_eq!(rt;
-        text.as_slice(),
-        b"start\nstep 0 1\nstep 0 2\nstep 0\nend\n".as_slice()
-    );
-    Ok(())
-}
+const ALLOCATES: &str = "function main() { x := alloc(1); y := alloc(2); assert y = x; }";
 
-// An address that is disposed of is drawn again, where no greater one is there.
-#[test]
-fn allocates_where_a_cell_was(rt: HostRuntime) -> Result<(), Fail> {
-    let text = drawn(
-        rt.alloc(),
-        "caper 2; function main() { x := alloc(2); dispose(x + 1); y := alloc(1); assert y = x; }",
+const DISPOSES: &str =
+    "caper 2; function main() { x := alloc(2); dispose(x + 1); y := alloc(1); assert y = x; }";
+
+// Texts, the number and how many are drawn, and the schedule that is found, if one is.
+const DRAWN: &[(&str, u64, u64, &[u8])] = &[
+    (FAILS, 5, 1, b"start\nstep 0\nend\n"),
+    (ENDS, 5, 3, b""),
+    // What is allocated comes behind all cells.
+    (ALLOCATES, 0, 3, b"start\nstep 0 1\nstep 0 2\nstep 0\nend\n"),
+    // An address that is disposed of is drawn again, where no greater one is there.
+    (
+        DISPOSES,
         0,
         1,
-    )?;
-    assert_eq!(rt;
-        text.as_slice(),
-        b"start\nstep 0 1\nstep 0\nstep 0 2\nstep 0\nend\n".as_slice()
-    );
-    Ok(())
-}
+        b"start\nstep 0 1\nstep 0\nstep 0 2\nstep 0\nend\n",
+    ),
+    // Threads are chosen by the words of the number.
+    (FORKS, 0, 3, b"start\nstep 0\nstep 1\nend\n"),
+    (FORKS, 5, 3, b"start\nstep 0\nstep 0\nstep 1\nend\n"),
+    (WRITES, 0, 3, WRITTEN),
+    (WRITES, 5, 3, b""),
+];
 
 #[test]
-fn chooses_threads_by_words(rt: HostRuntime) -> Result<(), Fail> {
-    let alloc = rt.alloc();
-    let text = drawn(alloc, FORKS, 0, 3)?;
-    assert_eq!(rt; text.as_slice(), b"start\nstep 0\nstep 1\nend\n".as_slice());
-    let text = drawn(alloc, FORKS, 5, 3)?;
-    assert_eq!(rt;
-        text.as_slice(),
-        b"start\nstep 0\nstep 0\nstep 1\nend\n".as_slice()
-    );
-    let text = drawn(alloc, WRITES, 0, 3)?;
-    assert_eq!(rt; text.as_slice(), WRITTEN);
-    let text = drawn(alloc, WRITES, 5, 3)?;
-    assert_eq!(rt; text.as_slice(), b"".as_slice());
+fn draws_schedules(rt: HostRuntime) -> Result<(), Fail> {
+    for (text, number, count, wanted) in DRAWN {
+        let found = drawn(rt.alloc(), text, *number, *count)?;
+        assert!(rt; found.as_slice() == *wanted, "{text}, {number}");
+    }
     Ok(())
 }

@@ -23,11 +23,9 @@ fn writes_a_line_for_each_step(rt: HostRuntime) -> Result<(), Fail> {
         thread: 0,
         base: None,
     })?;
-    let args = Vec::new(alloc);
-    let heap = Vec::new(alloc);
     let schedule = Schedule {
-        args,
-        heap,
+        args: Vec::new(alloc),
+        heap: Vec::new(alloc),
         entries,
     };
     let played = replay(alloc, &program, &schedule)?;
@@ -48,38 +46,42 @@ fn refused(alloc: Global, text: &[u8]) -> u64 {
     }
 }
 
+// Texts, with the line at which each is refused, and 0 where it isn't.
+const SCHEDULES: &[(&[u8], u64)] = &[
+    (b"", 1),
+    (b"start\n", 2),
+    (b"start\nend\n", 0),
+    (b"start\nend\n\n", 3),
+    (b"start -0\nend\n", 1),
+    (b"start 01\nend\n", 1),
+    (b"start\ncell 0 1\nend\n", 2),
+    (b"start\ncell 3 1\ncell 3 1\nend\n", 3),
+    (b"start\nstep 0  4\nend\n", 2),
+    (b"start\nstep 4294967296\nend\n", 2),
+    (b"start 170141183460469231731687303715884105727\nend\n", 0),
+    (b"start 170141183460469231731687303715884105728\nend\n", 1),
+    (b"start -170141183460469231731687303715884105728\nend\n", 0),
+];
+
+#[test]
+fn refuses_schedules_at_their_lines(rt: HostRuntime) -> Result<(), Fail> {
+    for (text, line) in SCHEDULES {
+        assert!(rt; refused(rt.alloc(), text) == *line, "{text:?}");
+    }
+    Ok(())
+}
+
 #[test]
 fn reads_schedules(rt: HostRuntime) -> Result<(), Fail> {
-    let alloc = rt.alloc();
     let text = b"start 7 -3\ncell 4 -8\ncell 9 0\nstep 0 4\nstep 1 -2\nstep 0\nend";
-    let schedule = read_schedule(alloc, text.as_slice())?;
+    let schedule = read_schedule(rt.alloc(), text.as_slice())?;
     assert_eq!(rt; schedule.args.as_slice(), [7, -3].as_slice());
     assert_eq!(rt; schedule.heap.as_slice(), [(4, -8), (9, 0)].as_slice());
-    assert_eq!(rt; schedule.entries.len(), 3);
-    assert_eq!(rt; schedule.entries[1].thread, 1);
-    assert_eq!(rt; schedule.entries[1].base, Some(-2));
-    assert_eq!(rt; schedule.entries[2].base, None);
-    assert_eq!(rt; refused(alloc, b"".as_slice()), 1);
-    assert_eq!(rt; refused(alloc, b"start\n".as_slice()), 2);
-    assert_eq!(rt; refused(alloc, b"start\nend\n".as_slice()), 0);
-    assert_eq!(rt; refused(alloc, b"start\nend\n\n".as_slice()), 3);
-    assert_eq!(rt; refused(alloc, b"start -0\nend\n".as_slice()), 1);
-    assert_eq!(rt; refused(alloc, b"start 01\nend\n".as_slice()), 1);
-    assert_eq!(rt; refused(alloc, b"start\ncell 0 1\nend\n".as_slice()), 2);
-    assert_eq!(rt;
-        refused(alloc, b"start\ncell 3 1\ncell 3 1\nend\n".as_slice()),
-        3
-    );
-    assert_eq!(rt; refused(alloc, b"start\nstep 0  4\nend\n".as_slice()), 2);
-    assert_eq!(rt;
-        refused(alloc, b"start\nstep 4294967296\nend\n".as_slice()),
-        2
-    );
-    let most = b"start 170141183460469231731687303715884105727\nend\n";
-    assert_eq!(rt; refused(alloc, most.as_slice()), 0);
-    let more = b"start 170141183460469231731687303715884105728\nend\n";
-    assert_eq!(rt; refused(alloc, more.as_slice()), 1);
-    let least = b"start -170141183460469231731687303715884105728\nend\n";
-    assert_eq!(rt; refused(alloc, least.as_slice()), 0);
+    let mut found = Vec::new(rt.alloc());
+    for entry in &schedule.entries {
+        found.push((entry.thread, entry.base))?;
+    }
+    let wanted = [(0, Some(4)), (1, Some(-2)), (0, None)];
+    assert_eq!(rt; found.as_slice(), wanted.as_slice());
     Ok(())
 }

@@ -28,107 +28,201 @@ fn rows(alloc: Global, parts: &[(i128, i128, Kind)], sort: Sort) -> Result<Vec<R
     Ok(rows)
 }
 
-fn multipliers(alloc: Global, pairs: &[(u32, i128)]) -> Result<Multipliers, AllocError> {
+type Pairs = &'static [(u32, i128)];
+
+fn multipliers(alloc: Global, pairs: Pairs) -> Result<Multipliers, AllocError> {
     Ok(Multipliers::new(Vec::from_slice(alloc, pairs)?))
 }
 
-fn leaf(alloc: Global, pairs: &[(u32, i128)]) -> Result<Cert, AllocError> {
-    Ok(Cert::Leaf(multipliers(alloc, pairs)?))
+// A certificate by its pairs of a row's number and its multiplier.
+#[derive(Clone, Copy)]
+enum PlainCert {
+    Leaf(Pairs),
+    Split(u32, Pairs, Pairs),
 }
 
-fn split(
-    alloc: Global,
-    place: u32,
-    below: &[(u32, i128)],
-    above: &[(u32, i128)],
-) -> Result<Cert, AllocError> {
-    let below = multipliers(alloc, below)?;
-    let above = multipliers(alloc, above)?;
-    Ok(Cert::Split(place, below, above))
-}
-
-#[test]
-fn leaves(rt: HostRuntime) -> Result<(), Fail> {
-    let alloc = rt.alloc();
-    // v0 <= 0, -v0 + 1 <= 0, v0 - 1 = 0, v0 != 0
-    let parts = [
-        (0, 1, Kind::Le),
-        (1, -1, Kind::Le),
-        (-1, 1, Kind::Eq),
-        (0, 1, Kind::Ne),
-    ];
-    let rows = rows(alloc, &parts, Sort::Int)?;
-    let cases: [(&[(u32, i128)], bool, &str); 9] = [
-        (&[(0, 1), (1, 1)], true, "1 <= 0"),
-        (&[(0, 3), (2, -3)], true, "a negative multiplier of Eq"),
-        (&[(0, 2), (1, 1)], false, "a variable is left"),
-        (&[(1, 1), (0, 1)], false, "out of order"),
-        (&[(0, 1), (1, 1), (2, 0)], false, "a multiplier 0"),
-        (&[(0, -1), (1, -1)], false, "a negative multiplier of Le"),
-        (&[(1, 1), (3, 1)], false, "a row Ne"),
-        (&[(0, 1), (1, 1), (4, 1)], false, "no such row"),
-        (&[], false, "an empty leaf"),
-    ];
-    for (pairs, want, what) in cases {
-        assert_eq!(rt; refutes(&rows, &leaf(alloc, pairs)?), want, "{what}");
+fn cert(alloc: Global, given: PlainCert) -> Result<Cert, AllocError> {
+    match given {
+        PlainCert::Leaf(pairs) => Ok(Cert::Leaf(multipliers(alloc, pairs)?)),
+        PlainCert::Split(place, below, above) => {
+            let below = multipliers(alloc, below)?;
+            let above = multipliers(alloc, above)?;
+            Ok(Cert::Split(place, below, above))
+        }
     }
-    Ok(())
 }
 
-#[test]
-fn strict_rows(rt: HostRuntime) -> Result<(), Fail> {
-    let alloc = rt.alloc();
-    // -p < 0, p <= 0, -p <= 0
-    let parts = [(0, -1, Kind::Lt), (0, 1, Kind::Le), (0, -1, Kind::Le)];
-    let rows = rows(alloc, &parts, Sort::Perm)?;
-    assert!(rt; refutes(&rows, &leaf(alloc, &[(0, 1), (1, 1)])?));
-    assert!(rt; !refutes(&rows, &leaf(alloc, &[(1, 1), (2, 1)])?));
-    Ok(())
+type Parts = &'static [(i128, i128, Kind)];
+
+fn is_refuted(alloc: Global, parts: Parts, sort: Sort, given: PlainCert) -> Result<bool, LinError> {
+    let rows = rows(alloc, parts, sort)?;
+    let cert = cert(alloc, given)?;
+    Ok(refutes(&rows, &cert))
 }
 
-#[test]
-fn wide_sums(rt: HostRuntime) -> Result<(), Fail> {
-    let alloc = rt.alloc();
-    let parts = [(i128::MAX, 0, Kind::Le), (i128::MAX, 0, Kind::Le)];
-    let rows = rows(alloc, &parts, Sort::Int)?;
-    assert!(rt; refutes(&rows, &leaf(alloc, &[(0, 1)])?));
-    assert!(rt; !refutes(&rows, &leaf(alloc, &[(0, 1), (1, 1)])?));
-    Ok(())
-}
+// v0 <= 0, -v0 + 1 <= 0, v0 - 1 = 0, v0 != 0
+const FOUR: Parts = &[
+    (0, 1, Kind::Le),
+    (1, -1, Kind::Le),
+    (-1, 1, Kind::Eq),
+    (0, 1, Kind::Ne),
+];
+
+// -p < 0, p <= 0, -p <= 0
+const STRICT: Parts = &[(0, -1, Kind::Lt), (0, 1, Kind::Le), (0, -1, Kind::Le)];
+
+const WIDE: Parts = &[(i128::MAX, 0, Kind::Le), (i128::MAX, 0, Kind::Le)];
+
+// v <= 0, -v <= 0, v != 0. Behind them stands, for whole numbers, v + 1 <= 0 or -v + 1 <= 0, and
+// for fractions v < 0 or -v < 0.
+const UNEQUAL: Parts = &[(0, 1, Kind::Le), (0, -1, Kind::Le), (0, 1, Kind::Ne)];
+
+const ABOVE: Pairs = &[(0, 1), (3, 1)];
+
+const BELOW: Pairs = &[(1, 1), (3, 1)];
+
+// 1 <= 0, and a number other than 0 whose negative leaves 128 bits
+const LEAST: Parts = &[(1, 0, Kind::Le), (i128::MIN, 0, Kind::Ne)];
+
+const ONCE: Pairs = &[(0, 1)];
+
+const SPLIT: PlainCert = PlainCert::Split(2, BELOW, ABOVE);
+
+const EXCHANGED: PlainCert = PlainCert::Split(2, ABOVE, BELOW);
+
+const SPLIT_OF_LE: PlainCert = PlainCert::Split(0, BELOW, ABOVE);
+
+const EXAMPLES: &[(Parts, Sort, PlainCert, bool, &str)] = &[
+    (
+        FOUR,
+        Sort::Int,
+        PlainCert::Leaf(&[(0, 1), (1, 1)]),
+        true,
+        "1 <= 0",
+    ),
+    (
+        FOUR,
+        Sort::Int,
+        PlainCert::Leaf(&[(0, 3), (2, -3)]),
+        true,
+        "a negative multiplier of Eq",
+    ),
+    (
+        FOUR,
+        Sort::Int,
+        PlainCert::Leaf(&[(0, 2), (1, 1)]),
+        false,
+        "a variable is left",
+    ),
+    (
+        FOUR,
+        Sort::Int,
+        PlainCert::Leaf(&[(1, 1), (0, 1)]),
+        false,
+        "out of order",
+    ),
+    (
+        FOUR,
+        Sort::Int,
+        PlainCert::Leaf(&[(0, 1), (1, 1), (2, 0)]),
+        false,
+        "a multiplier 0",
+    ),
+    (
+        FOUR,
+        Sort::Int,
+        PlainCert::Leaf(&[(0, -1), (1, -1)]),
+        false,
+        "a negative multiplier of Le",
+    ),
+    (
+        FOUR,
+        Sort::Int,
+        PlainCert::Leaf(&[(1, 1), (3, 1)]),
+        false,
+        "a row Ne",
+    ),
+    (
+        FOUR,
+        Sort::Int,
+        PlainCert::Leaf(&[(0, 1), (1, 1), (4, 1)]),
+        false,
+        "no such row",
+    ),
+    (
+        FOUR,
+        Sort::Int,
+        PlainCert::Leaf(&[]),
+        false,
+        "an empty leaf",
+    ),
+    (
+        STRICT,
+        Sort::Perm,
+        PlainCert::Leaf(&[(0, 1), (1, 1)]),
+        true,
+        "0 < 0",
+    ),
+    (
+        STRICT,
+        Sort::Perm,
+        PlainCert::Leaf(&[(1, 1), (2, 1)]),
+        false,
+        "0 <= 0",
+    ),
+    (
+        WIDE,
+        Sort::Int,
+        PlainCert::Leaf(&[(0, 1)]),
+        true,
+        "the greatest number",
+    ),
+    (
+        WIDE,
+        Sort::Int,
+        PlainCert::Leaf(&[(0, 1), (1, 1)]),
+        false,
+        "a wide sum",
+    ),
+    (UNEQUAL, Sort::Int, SPLIT, true, "a split"),
+    (UNEQUAL, Sort::Int, EXCHANGED, false, "exchanged leaves"),
+    (
+        UNEQUAL,
+        Sort::Int,
+        SPLIT_OF_LE,
+        false,
+        "a split of a row Le",
+    ),
+    (UNEQUAL, Sort::Perm, SPLIT, true, "a split of fractions"),
+    (
+        UNEQUAL,
+        Sort::Perm,
+        EXCHANGED,
+        false,
+        "exchanged leaves of fractions",
+    ),
+    (
+        UNEQUAL,
+        Sort::Perm,
+        SPLIT_OF_LE,
+        false,
+        "a split of a row Le of fractions",
+    ),
+    (
+        LEAST,
+        Sort::Perm,
+        PlainCert::Split(1, ONCE, ONCE),
+        false,
+        "a wide row behind the others",
+    ),
+];
 
 #[test]
-fn splits(rt: HostRuntime) -> Result<(), Fail> {
-    let alloc = rt.alloc();
-    // v <= 0, -v <= 0, v != 0. Behind them stands, for whole numbers, v + 1 <= 0 or -v + 1 <= 0,
-    // and for fractions v < 0 or -v < 0.
-    let parts = [(0, 1, Kind::Le), (0, -1, Kind::Le), (0, 1, Kind::Ne)];
-    let above = [(0, 1), (3, 1)];
-    let below = [(1, 1), (3, 1)];
-    for sort in [Sort::Int, Sort::Perm] {
-        let rows = rows(alloc, &parts, sort)?;
-        assert!(rt;
-            refutes(&rows, &split(alloc, 2, &below, &above)?),
-            "{sort:?}"
-        );
-        assert!(rt;
-            !refutes(&rows, &split(alloc, 2, &above, &below)?),
-            "exchanged leaves"
-        );
-        assert!(rt;
-            !refutes(&rows, &split(alloc, 0, &below, &above)?),
-            "a row Le"
-        );
+fn certificates(rt: HostRuntime) -> Result<(), Fail> {
+    for (parts, sort, given, want, what) in EXAMPLES {
+        let found = is_refuted(rt.alloc(), parts, *sort, *given)?;
+        assert!(rt; found == *want, "{what}");
     }
-    Ok(())
-}
-
-#[test]
-fn wide_appended_rows(rt: HostRuntime) -> Result<(), Fail> {
-    let alloc = rt.alloc();
-    // 1 <= 0, and a number other than 0 whose negative leaves 128 bits
-    let parts = [(1, 0, Kind::Le), (i128::MIN, 0, Kind::Ne)];
-    let rows = rows(alloc, &parts, Sort::Perm)?;
-    assert!(rt; !refutes(&rows, &split(alloc, 1, &[(0, 1)], &[(0, 1)])?));
     Ok(())
 }
 

@@ -1,8 +1,6 @@
 //! What elimination answers at small systems of rows.
 
-mod compared;
 mod limits;
-mod plain;
 
 use crate::texts::{put, sum};
 use cap_farkas::{Cert, Multipliers, refutes};

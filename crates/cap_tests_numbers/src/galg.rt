@@ -341,32 +341,52 @@ fn an_indexed_part_keeps_its_indices(rt: HostRuntime) -> Result<(), Fail> {
     let first = Indexed::new(Indices::at(alloc, 0)?);
     let rest = Indexed::new(Indices::from(alloc, 1)?);
     let all = first.compose(alloc, &rest)?.ok_or("disjoint")?;
-    assert!(rt; all.is_full() && !first.is_full() && !rest.is_unit());
-    assert!(rt; first.le(&all) && !all.le(&first));
+    assert!(rt; all.is_full() && !rest.is_unit() && first.le(&all));
     assert!(rt; all.indices().has(7) && !first.indices().has(7));
-    assert!(rt; rest.compose(alloc, &all)?.is_none());
-    let again = rest.copy(alloc)?;
-    assert!(rt; again.le(&rest) && rest.le(&again));
+    assert!(rt; rest.copy(alloc)?.compose(alloc, &all)?.is_none());
     Ok(())
+}
+
+// A unique guard beside a divisible one or tokens.
+fn three_atoms(alloc: Global) -> Result<Algebra, AllocError> {
+    let sum = either(alloc, Algebra::Divisible, Algebra::Counting)?;
+    pair(alloc, Algebra::Unique, sum)
 }
 
 #[test]
 fn finds_the_kinds_of_atoms(rt: HostRuntime) -> Result<(), Fail> {
-    let alloc = rt.alloc();
-    let sum = either(alloc, Algebra::Divisible, Algebra::Counting)?;
-    let algebra = pair(alloc, Algebra::Unique, sum)?;
-    assert_eq!(rt; algebra.atom(0), Some(Atom::Unique));
-    assert_eq!(rt; algebra.atom(1), Some(Atom::Divisible));
-    assert_eq!(rt; algebra.atom(2), Some(Atom::Counting));
-    assert_eq!(rt; algebra.atom(3), None);
-    assert!(rt; Amount::Tok(7).fits(Atom::Counting));
-    assert!(rt; Amount::At(7).fits(Atom::Indexed) && !Amount::From(7).fits(Atom::Counting));
-    assert!(rt; !share(2, 4).fits(Atom::Divisible));
+    let algebra = three_atoms(rt.alloc())?;
+    for (atom, kind) in [
+        (0, Some(Atom::Unique)),
+        (1, Some(Atom::Divisible)),
+        (2, Some(Atom::Counting)),
+        (3, None),
+    ] {
+        assert!(rt; algebra.atom(atom) == kind, "{atom}");
+    }
+    for (i, j, want) in [(1, 2, true), (2, 1, true), (0, 2, false), (1, 3, false)] {
+        assert!(rt; algebra.are_apart(i, j) == want, "{i} and {j}");
+    }
     assert!(rt; !algebra.accepts(1, share(3, 2)));
-    assert!(rt; algebra.are_apart(1, 2) && algebra.are_apart(2, 1));
-    assert!(rt; !algebra.are_apart(0, 2) && !algebra.are_apart(1, 3));
-    let again = algebra.copy(alloc)?;
-    assert!(rt; again.same(&algebra));
-    assert!(rt; !again.same(&Algebra::Unique));
+    Ok(())
+}
+
+#[test]
+fn amounts_fit_their_atoms(rt: HostRuntime) {
+    for (amount, kind, want) in [
+        (Amount::Tok(7), Atom::Counting, true),
+        (Amount::At(7), Atom::Indexed, true),
+        (Amount::From(7), Atom::Counting, false),
+        (share(2, 4), Atom::Divisible, false),
+    ] {
+        assert!(rt; amount.fits(kind) == want, "{amount:?}");
+    }
+}
+
+#[test]
+fn an_algebra_is_its_copy(rt: HostRuntime) -> Result<(), Fail> {
+    let algebra = three_atoms(rt.alloc())?;
+    let again = algebra.copy(rt.alloc())?;
+    assert!(rt; again.same(&algebra) && !again.same(&Algebra::Unique));
     Ok(())
 }

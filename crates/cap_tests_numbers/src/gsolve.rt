@@ -1,14 +1,15 @@
 //! Pieces of guards whose amounts are terms.
 
 use crate::texts::{put, put_error, put_rows, put_term, sum};
-use cap_galg::Algebra;
+use cap_galg::{Algebra, Atom};
 use cap_gsolve::{Form, Piece, compat, full_pieces, merge};
-use cap_lin::{LinError, Row, Term};
+use cap_lin::{LinError, Term};
 use std::alloc::{AllocError, Global};
+use std::process::Abort;
 use std::test::Fail;
 
 // The form of a piece, without its amount. A span has so many indices from there on, or all.
-#[derive(Clone, Copy, Debug)]
+#[derive(Clone, Copy)]
 enum Shape {
     One,
     Share,
@@ -149,165 +150,35 @@ fn put_pieces(alloc: Global, text: &mut String, pieces: &[Piece]) -> Result<(), 
     Ok(())
 }
 
-// The pieces and rows to which a piece is added.
-fn merged(alloc: Global, algebra: &Algebra, there: &[Part], new: Part) -> Result<String, LinError> {
-    let there = pieces(alloc, there)?;
-    let new = piece(alloc, new)?;
-    let (pieces, rows) = merge(alloc, algebra, &there, &new)?;
-    let mut text = String::new(alloc);
-    put_pieces(alloc, &mut text, &pieces)?;
-    put_rows(alloc, &mut text, &rows)?;
-    Ok(text)
+// One guard, or two of which a thread may hold parts of both or of one alone.
+#[derive(Clone, Copy)]
+enum Combination {
+    One(Atom),
+    Both(Atom, Atom),
+    Sides(Atom, Atom),
 }
 
-fn two(alloc: Global, first: Algebra, second: Algebra) -> Result<Algebra, AllocError> {
-    Ok(Algebra::Either(Box::new(alloc, first)?, Box::new(alloc, second)?))
-}
-
-#[test]
-fn shares_are_joined(rt: HostRuntime) -> Result<(), Fail> {
-    let given: [(&[Part], Part, &str); 2] = [
-        (
-            &[],
-            SHARE,
-            "v9@0.0 share v0; -1*v0 < 0 (Perm), v0 + -1 <= 0 (Perm)",
-        ),
-        (
-            &[SHARE],
-            OTHER_SHARE,
-            "v9@0.0 share v0 + v1; -1*v1 < 0 (Perm), v0 + v1 + -1 <= 0 (Perm)",
-        ),
-    ];
-    for (there, new, want) in given {
-        let found = merged(rt.alloc(), &Algebra::Divisible, there, new)?;
-        assert_eq!(rt; found.as_str(), want);
+fn one(atom: Atom) -> Algebra {
+    match atom {
+        Atom::Unique => Algebra::Unique,
+        Atom::Divisible => Algebra::Divisible,
+        Atom::Counting => Algebra::Counting,
+        Atom::Indexed => Algebra::Indexed,
     }
-    Ok(())
 }
 
-#[test]
-fn tokens_that_come_back_were_out(rt: HostRuntime) -> Result<(), Fail> {
-    let found = merged(rt.alloc(), &Algebra::Counting, &[SOURCE], ONE_TOKEN)?;
-    assert_eq!(rt;
-        found.as_str(),
-        "v9@0.0 source v0 + -1; -1 <= 0, -1*v0 + 1 <= 0"
-    );
-    Ok(())
-}
-
-// Two spans without an end never compose, two of one index differ, and an index is below the start
-// of one without an end.
-#[test]
-fn spans_stay_apart(rt: HostRuntime) -> Result<(), Fail> {
-    let given: [(&[Part], Part, &str); 7] = [
-        (&[], ONWARDS, "v9@0.0 from v0; -1*v0 <= 0"),
-        (
-            &[],
-            INDEX,
-            "v9@0.0 from v0 below v0 + 1; -1*v0 <= 0, -1 <= 0",
-        ),
-        (
-            &[OTHER_INDEX],
-            INDEX,
-            "v9@0.0 from v1 below v1 + 1; v9@0.0 from v0 below v0 + 1; \
--1*v0 <= 0, -1 <= 0, -1*v0 + v1 != 0",
-        ),
-        (
-            &[OTHER_ONWARDS],
-            INDEX,
-            "v9@0.0 from v1; v9@0.0 from v0 below v0 + 1; \
--1*v0 <= 0, -1 <= 0, v0 + -1*v1 + 1 <= 0",
-        ),
-        (
-            &[OTHER_INDEX],
-            ONWARDS,
-            "v9@0.0 from v1 below v1 + 1; v9@0.0 from v0; -1*v0 <= 0, -1*v0 + v1 + 1 <= 0",
-        ),
-        (
-            &[OTHER_ONWARDS],
-            ONWARDS,
-            "v9@0.0 from v1; v9@0.0 from v0; -1*v0 <= 0, -1 = 0",
-        ),
-        (
-            &[TWO_INDICES],
-            INDEX,
-            "v9@0.0 from v1 below v1 + 2; v9@0.0 from v0 below v0 + 1; -1*v0 <= 0, -1 <= 0",
-        ),
-    ];
-    for (there, new, want) in given {
-        let found = merged(rt.alloc(), &Algebra::Indexed, there, new)?;
-        assert_eq!(rt; found.as_str(), want);
-    }
-    Ok(())
-}
-
-// One index is surely some part of the other side, and a span that ends where it starts is none.
-#[test]
-fn nobody_holds_an_index_of_the_other_side(rt: HostRuntime) -> Result<(), Fail> {
-    let sides = two(rt.alloc(), Algebra::Unique, Algebra::Indexed)?;
-    let given = [
-        (
-            RIGHT_INDEX,
-            "v9@0.0 one; v9@0.1 from v0 below v0 + 1; -1*v0 <= 0, -1 <= 0, -1 = 0",
-        ),
-        (
-            NO_INDEX,
-            "v9@0.0 one; v9@0.1 from v0 below v0; -1*v0 <= 0, 0 <= 0",
-        ),
-    ];
-    for (new, want) in given {
-        let found = merged(rt.alloc(), &sides, &[ONE], new)?;
-        assert_eq!(rt; found.as_str(), want);
-    }
-    Ok(())
-}
-
-// The row -1 = 0 is false.
-#[test]
-fn nobody_holds_a_guard_twice(rt: HostRuntime) -> Result<(), Fail> {
-    let found = merged(rt.alloc(), &Algebra::Unique, &[ONE], ONE)?;
-    assert_eq!(rt; found.as_str(), "v9@0.0 one; -1 = 0");
-    Ok(())
-}
-
-#[test]
-fn nobody_holds_of_both_sides(rt: HostRuntime) -> Result<(), Fail> {
-    let sides = two(rt.alloc(), Algebra::Unique, Algebra::Divisible)?;
-    let found = merged(rt.alloc(), &sides, &[ONE], RIGHT_SHARE)?;
-    let want = "v9@0.0 one; v9@0.1 share v0; -1*v0 < 0 (Perm), v0 + -1 <= 0 (Perm), -1 = 0";
-    assert_eq!(rt; found.as_str(), want);
-    Ok(())
-}
-
-#[test]
-fn a_piece_is_part_of_its_copy(rt: HostRuntime) -> Result<(), Fail> {
-    let share = piece(rt.alloc(), SHARE)?;
-    let again = share.copy(rt.alloc())?;
-    assert!(rt; again.is_part_of(&share));
-    Ok(())
-}
-
-// All pieces of an algebra.
-fn full(alloc: Global, algebra: &Algebra) -> Result<String, LinError> {
-    let pieces = full_pieces(alloc, algebra, &region(alloc)?, 0)?;
-    let mut text = String::new(alloc);
-    put_pieces(alloc, &mut text, &pieces)?;
-    Ok(text)
-}
-
-#[test]
-fn all_of_a_sum_is_all_of_its_left_side(rt: HostRuntime) -> Result<(), Fail> {
-    let sides = two(rt.alloc(), Algebra::Divisible, Algebra::Unique)?;
-    let found = full(rt.alloc(), &sides)?;
-    assert_eq!(rt; found.as_str(), "v9@0.0 share 1; ");
-    Ok(())
-}
-
-#[test]
-fn all_indices_are_those_from_0_on(rt: HostRuntime) -> Result<(), Fail> {
-    let found = full(rt.alloc(), &Algebra::Indexed)?;
-    assert_eq!(rt; found.as_str(), "v9@0.0 from 0; ");
-    Ok(())
+fn algebra(alloc: Global, guards: Combination) -> Result<Algebra, AllocError> {
+    Ok(match guards {
+        Combination::One(atom) => one(atom),
+        Combination::Both(left, right) => {
+            let left = Box::new(alloc, one(left))?;
+            Algebra::Pair(left, Box::new(alloc, one(right))?)
+        }
+        Combination::Sides(left, right) => {
+            let left = Box::new(alloc, one(left))?;
+            Algebra::Either(left, Box::new(alloc, one(right))?)
+        }
+    })
 }
 
 fn forms(alloc: Global, parts: &[Part]) -> Result<Vec<(u32, Form)>, LinError> {
@@ -319,136 +190,309 @@ fn forms(alloc: Global, parts: &[Part]) -> Result<Vec<(u32, Form)>, LinError> {
     Ok(forms)
 }
 
+// What is asked of guards beside pieces that are there.
+#[derive(Clone, Copy)]
+enum Question {
+    // The pieces, and the rows that hold then, to which a piece is added.
+    Merged(Part),
+    // The rows that hold where these are held too, of the region that is this variable.
+    Wanted(u32, &'static [Part]),
+    // All pieces of the guards.
+    All,
+}
+
+fn put_merged(
+    alloc: Global,
+    text: &mut String,
+    guards: &Algebra,
+    there: &[Piece],
+    new: Part,
+) -> Result<(), LinError> {
+    let new = piece(alloc, new)?;
+    let (pieces, rows) = merge(alloc, guards, there, &new)?;
+    put_pieces(alloc, text, &pieces)?;
+    Ok(put_rows(alloc, text, &rows)?)
+}
+
 // The rows, that it never composes, or the operands of what is wide.
-fn shown(alloc: Global, rows: Result<Option<Vec<Row>>, LinError>) -> Result<String, AllocError> {
-    let mut text = String::new(alloc);
-    match rows {
-        Ok(Some(rows)) => put_rows(alloc, &mut text, &rows)?,
+fn put_wanted(
+    alloc: Global,
+    text: &mut String,
+    guards: &Algebra,
+    there: &[Piece],
+    (region, wanted): (u32, &[Part]),
+) -> Result<(), LinError> {
+    let region = Term::var(alloc, region)?;
+    let wanted = forms(alloc, wanted)?;
+    match compat(alloc, guards, there, &region, 0, &wanted) {
+        Ok(Some(rows)) => put_rows(alloc, text, &rows)?,
         Ok(None) => text.push_str("never")?,
-        Err(error) => put_error(alloc, &mut text, error)?,
+        Err(error) => put_error(alloc, text, error)?,
+    }
+    Ok(())
+}
+
+fn put_all(alloc: Global, text: &mut String, guards: &Algebra) -> Result<(), LinError> {
+    let pieces = full_pieces(alloc, guards, &region(alloc)?, 0)?;
+    Ok(put_pieces(alloc, text, &pieces)?)
+}
+
+fn shown(
+    alloc: Global,
+    guards: Combination,
+    there: &[Part],
+    question: Question,
+) -> Result<String, LinError> {
+    let guards = algebra(alloc, guards)?;
+    let there = pieces(alloc, there)?;
+    let mut text = String::new(alloc);
+    match question {
+        Question::Merged(new) => put_merged(alloc, &mut text, &guards, &there, new)?,
+        Question::Wanted(region, parts) => {
+            put_wanted(alloc, &mut text, &guards, &there, (region, parts))?
+        }
+        Question::All => put_all(alloc, &mut text, &guards)?,
     }
     Ok(text)
 }
 
-// What is wanted of the guards of a region, beside these pieces.
-fn wanted_of(
-    alloc: Global,
-    algebra: &Algebra,
-    there: &[Part],
-    region: &Term,
-    wanted: &[Part],
-) -> Result<String, LinError> {
-    let there = pieces(alloc, there)?;
-    let wanted = forms(alloc, wanted)?;
-    Ok(shown(alloc, compat(alloc, algebra, &there, region, 0, &wanted))?)
-}
+type Example = (Combination, &'static [Part], Question, &'static str);
 
-// The same of the region of the pieces.
-fn wanted(
-    alloc: Global,
-    algebra: &Algebra,
-    there: &[Part],
-    wanted: &[Part],
-) -> Result<String, LinError> {
-    wanted_of(alloc, algebra, there, &region(alloc)?, wanted)
-}
-
-#[test]
-fn a_wanted_share_and_the_one_there_are_at_most_1(rt: HostRuntime) -> Result<(), Fail> {
-    let given: [(&[Part], &str); 2] = [
-        (&[], "-1*v0 < 0 (Perm), v0 + -1 <= 0 (Perm)"),
-        (&[OTHER_SHARE], "-1*v0 < 0 (Perm), v0 + v1 + -1 <= 0 (Perm)"),
-    ];
-    for (there, want) in given {
-        let found = wanted(rt.alloc(), &Algebra::Divisible, there, &[SHARE])?;
-        assert_eq!(rt; found.as_str(), want);
+fn all_hold(rt: &impl Abort, alloc: Global, examples: &[Example]) -> Result<(), Fail> {
+    for (guards, there, question, want) in examples {
+        let found = shown(alloc, *guards, there, *question)?;
+        assert!(rt; found.as_str() == *want, "{found} for {want}");
     }
     Ok(())
 }
 
+const UNIQUE: Combination = Combination::One(Atom::Unique);
+
+const DIVISIBLE: Combination = Combination::One(Atom::Divisible);
+
+const COUNTING: Combination = Combination::One(Atom::Counting);
+
+const INDEXED: Combination = Combination::One(Atom::Indexed);
+
+const MERGED: &[Example] = &[
+    (
+        DIVISIBLE,
+        &[],
+        Question::Merged(SHARE),
+        "v9@0.0 share v0; -1*v0 < 0 (Perm), v0 + -1 <= 0 (Perm)",
+    ),
+    (
+        DIVISIBLE,
+        &[SHARE],
+        Question::Merged(OTHER_SHARE),
+        "v9@0.0 share v0 + v1; -1*v1 < 0 (Perm), v0 + v1 + -1 <= 0 (Perm)",
+    ),
+    // Tokens that come back were out.
+    (
+        COUNTING,
+        &[SOURCE],
+        Question::Merged(ONE_TOKEN),
+        "v9@0.0 source v0 + -1; -1 <= 0, -1*v0 + 1 <= 0",
+    ),
+    // Two spans without an end never compose, two of one index differ, and an index is below the
+    // start of one without an end.
+    (
+        INDEXED,
+        &[],
+        Question::Merged(ONWARDS),
+        "v9@0.0 from v0; -1*v0 <= 0",
+    ),
+    (
+        INDEXED,
+        &[],
+        Question::Merged(INDEX),
+        "v9@0.0 from v0 below v0 + 1; -1*v0 <= 0, -1 <= 0",
+    ),
+    (
+        INDEXED,
+        &[OTHER_INDEX],
+        Question::Merged(INDEX),
+        "v9@0.0 from v1 below v1 + 1; v9@0.0 from v0 below v0 + 1; \
+-1*v0 <= 0, -1 <= 0, -1*v0 + v1 != 0",
+    ),
+    (
+        INDEXED,
+        &[OTHER_ONWARDS],
+        Question::Merged(INDEX),
+        "v9@0.0 from v1; v9@0.0 from v0 below v0 + 1; \
+-1*v0 <= 0, -1 <= 0, v0 + -1*v1 + 1 <= 0",
+    ),
+    (
+        INDEXED,
+        &[OTHER_INDEX],
+        Question::Merged(ONWARDS),
+        "v9@0.0 from v1 below v1 + 1; v9@0.0 from v0; -1*v0 <= 0, -1*v0 + v1 + 1 <= 0",
+    ),
+    (
+        INDEXED,
+        &[OTHER_ONWARDS],
+        Question::Merged(ONWARDS),
+        "v9@0.0 from v1; v9@0.0 from v0; -1*v0 <= 0, -1 = 0",
+    ),
+    (
+        INDEXED,
+        &[TWO_INDICES],
+        Question::Merged(INDEX),
+        "v9@0.0 from v1 below v1 + 2; v9@0.0 from v0 below v0 + 1; -1*v0 <= 0, -1 <= 0",
+    ),
+    // One index is surely some part of the other side, and a span that ends where it starts is
+    // none.
+    (
+        Combination::Sides(Atom::Unique, Atom::Indexed),
+        &[ONE],
+        Question::Merged(RIGHT_INDEX),
+        "v9@0.0 one; v9@0.1 from v0 below v0 + 1; -1*v0 <= 0, -1 <= 0, -1 = 0",
+    ),
+    (
+        Combination::Sides(Atom::Unique, Atom::Indexed),
+        &[ONE],
+        Question::Merged(NO_INDEX),
+        "v9@0.0 one; v9@0.1 from v0 below v0; -1*v0 <= 0, 0 <= 0",
+    ),
+    // Nobody holds a guard twice, or guards of both sides: the row -1 = 0 is false.
+    (UNIQUE, &[ONE], Question::Merged(ONE), "v9@0.0 one; -1 = 0"),
+    (
+        Combination::Sides(Atom::Unique, Atom::Divisible),
+        &[ONE],
+        Question::Merged(RIGHT_SHARE),
+        "v9@0.0 one; v9@0.1 share v0; -1*v0 < 0 (Perm), v0 + -1 <= 0 (Perm), -1 = 0",
+    ),
+    // All of a sum is all of its left side, and all indices are those from 0 on.
+    (
+        Combination::Sides(Atom::Divisible, Atom::Unique),
+        &[],
+        Question::All,
+        "v9@0.0 share 1; ",
+    ),
+    (INDEXED, &[], Question::All, "v9@0.0 from 0; "),
+];
+
 #[test]
-fn wanted_tokens_and_sources_agree_with_those_there(rt: HostRuntime) -> Result<(), Fail> {
-    let given: [(Part, Part, &str); 3] = [
-        // A source has as many out as are there, and tokens that are wanted are out.
-        (OTHER_TOKENS, SOURCE, "-1*v0 <= 0, -1*v0 + v1 <= 0"),
-        (OTHER_SOURCE, TOKENS, "-1*v0 <= 0, v0 + -1*v1 <= 0"),
-        (SOURCE, OTHER_SOURCE, "never"),
-    ];
-    for (there, part, want) in given {
-        let found = wanted(rt.alloc(), &Algebra::Counting, &[there], &[part])?;
-        assert_eq!(rt; found.as_str(), want);
-    }
-    Ok(())
+fn pieces_are_merged(rt: HostRuntime) -> Result<(), Fail> {
+    all_hold(&rt, rt.alloc(), MERGED)
 }
 
 #[test]
-fn a_wanted_index_is_none_of_those_there(rt: HostRuntime) -> Result<(), Fail> {
-    let given: [(Part, Part, &str); 5] = [
-        (OTHER_INDEX, INDEX, "-1*v0 <= 0, v0 + -1*v1 != 0"),
-        (OTHER_ONWARDS, INDEX, "-1*v0 <= 0, v0 + -1*v1 + 1 <= 0"),
-        (TWO_INDICES, INDEX, "-1*v0 <= 0"),
-        (OTHER_INDEX, ONWARDS, "-1*v0 <= 0"),
-        (OTHER_ONWARDS, ONWARDS, "never"),
-    ];
-    for (there, part, want) in given {
-        let found = wanted(rt.alloc(), &Algebra::Indexed, &[there], &[part])?;
-        assert_eq!(rt; found.as_str(), want);
-    }
+fn a_piece_is_part_of_its_copy(rt: HostRuntime) -> Result<(), Fail> {
+    let share = piece(rt.alloc(), SHARE)?;
+    let again = share.copy(rt.alloc())?;
+    assert!(rt; again.is_part_of(&share));
     Ok(())
 }
 
-// The guard of another region is none of this one's.
+const WANTED: &[Example] = &[
+    // A wanted share and the one there are at most 1.
+    (
+        DIVISIBLE,
+        &[],
+        Question::Wanted(9, &[SHARE]),
+        "-1*v0 < 0 (Perm), v0 + -1 <= 0 (Perm)",
+    ),
+    (
+        DIVISIBLE,
+        &[OTHER_SHARE],
+        Question::Wanted(9, &[SHARE]),
+        "-1*v0 < 0 (Perm), v0 + v1 + -1 <= 0 (Perm)",
+    ),
+    // A source has as many out as are there, and tokens that are wanted are out.
+    (
+        COUNTING,
+        &[OTHER_TOKENS],
+        Question::Wanted(9, &[SOURCE]),
+        "-1*v0 <= 0, -1*v0 + v1 <= 0",
+    ),
+    (
+        COUNTING,
+        &[OTHER_SOURCE],
+        Question::Wanted(9, &[TOKENS]),
+        "-1*v0 <= 0, v0 + -1*v1 <= 0",
+    ),
+    (
+        COUNTING,
+        &[SOURCE],
+        Question::Wanted(9, &[OTHER_SOURCE]),
+        "never",
+    ),
+    // A wanted index is none of those there.
+    (
+        INDEXED,
+        &[OTHER_INDEX],
+        Question::Wanted(9, &[INDEX]),
+        "-1*v0 <= 0, v0 + -1*v1 != 0",
+    ),
+    (
+        INDEXED,
+        &[OTHER_ONWARDS],
+        Question::Wanted(9, &[INDEX]),
+        "-1*v0 <= 0, v0 + -1*v1 + 1 <= 0",
+    ),
+    (
+        INDEXED,
+        &[TWO_INDICES],
+        Question::Wanted(9, &[INDEX]),
+        "-1*v0 <= 0",
+    ),
+    (
+        INDEXED,
+        &[OTHER_INDEX],
+        Question::Wanted(9, &[ONWARDS]),
+        "-1*v0 <= 0",
+    ),
+    (
+        INDEXED,
+        &[OTHER_ONWARDS],
+        Question::Wanted(9, &[ONWARDS]),
+        "never",
+    ),
+    // A guard never composes with itself, and that of another region is none of this one's.
+    (UNIQUE, &[ONE], Question::Wanted(9, &[ONE]), "never"),
+    (UNIQUE, &[ONE], Question::Wanted(8, &[ONE]), ""),
+    // A share is surely some part of the other side. So is one token, but none are no part.
+    (
+        Combination::Sides(Atom::Unique, Atom::Divisible),
+        &[ONE],
+        Question::Wanted(9, &[RIGHT_SHARE]),
+        "never",
+    ),
+    (
+        Combination::Sides(Atom::Unique, Atom::Counting),
+        &[ONE],
+        Question::Wanted(9, &[(1, Shape::Tok, 1, &[])]),
+        "never",
+    ),
+    (
+        Combination::Sides(Atom::Unique, Atom::Counting),
+        &[ONE],
+        Question::Wanted(9, &[(1, Shape::Tok, 0, &[])]),
+        "0 <= 0",
+    ),
+    (
+        Combination::Sides(Atom::Unique, Atom::Counting),
+        &[ONE],
+        Question::Wanted(9, &[]),
+        "",
+    ),
+    // The wanted amount is the first operand. That some atom never composes comes before any row.
+    (
+        Combination::Both(Atom::Divisible, Atom::Unique),
+        &[WHOLE, RIGHT_ONE],
+        Question::Wanted(9, &[MOST]),
+        "wide 170141183460469231731687303715884105727 1",
+    ),
+    (
+        Combination::Both(Atom::Divisible, Atom::Unique),
+        &[WHOLE, RIGHT_ONE],
+        Question::Wanted(9, &[MOST, RIGHT_ONE]),
+        "never",
+    ),
+];
+
 #[test]
-fn a_guard_never_composes_with_itself(rt: HostRuntime) -> Result<(), Fail> {
-    for (variable, want) in [(9, "never"), (8, "")] {
-        let region = Term::var(rt.alloc(), variable)?;
-        let found = wanted_of(rt.alloc(), &Algebra::Unique, &[ONE], &region, &[ONE])?;
-        assert_eq!(rt; found.as_str(), want);
-    }
-    Ok(())
-}
-
-// A share is surely some part of the other side.
-#[test]
-fn a_share_never_composes_with_the_other_side(rt: HostRuntime) -> Result<(), Fail> {
-    let sides = two(rt.alloc(), Algebra::Unique, Algebra::Divisible)?;
-    let found = wanted(rt.alloc(), &sides, &[ONE], &[RIGHT_SHARE])?;
-    assert_eq!(rt; found.as_str(), "never");
-    Ok(())
-}
-
-// So is one token, but none are no part.
-#[test]
-fn no_tokens_are_no_part(rt: HostRuntime) -> Result<(), Fail> {
-    let sides = two(rt.alloc(), Algebra::Unique, Algebra::Counting)?;
-    let given: [(&[Part], &str); 3] = [
-        (&[(1, Shape::Tok, 1, &[])], "never"),
-        (&[(1, Shape::Tok, 0, &[])], "0 <= 0"),
-        (&[], ""),
-    ];
-    for (parts, want) in given {
-        let found = wanted(rt.alloc(), &sides, &[ONE], parts)?;
-        assert_eq!(rt; found.as_str(), want);
-    }
-    Ok(())
-}
-
-fn both(alloc: Global) -> Result<Algebra, AllocError> {
-    let left = Box::new(alloc, Algebra::Divisible)?;
-    Ok(Algebra::Pair(left, Box::new(alloc, Algebra::Unique)?))
-}
-
-// The wanted amount is the first operand. That some atom never composes comes before any row.
-#[test]
-fn a_wide_sum_has_the_wanted_amount_first(rt: HostRuntime) -> Result<(), Fail> {
-    let both = both(rt.alloc())?;
-    let given: [(&[Part], &str); 2] = [
-        (&[MOST], "wide 170141183460469231731687303715884105727 1"),
-        (&[MOST, RIGHT_ONE], "never"),
-    ];
-    for (parts, want) in given {
-        let found = wanted(rt.alloc(), &both, &[WHOLE, RIGHT_ONE], parts)?;
-        assert_eq!(rt; found.as_str(), want);
-    }
-    Ok(())
+fn guards_are_wanted(rt: HostRuntime) -> Result<(), Fail> {
+    all_hold(&rt, rt.alloc(), WANTED)
 }

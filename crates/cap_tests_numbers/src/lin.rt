@@ -13,32 +13,152 @@ fn term(alloc: Global, given: Sum) -> Result<Term, LinError> {
     sum(alloc, given.0, given.1)
 }
 
+// A term, by how it is made of sums.
+#[derive(Clone, Copy)]
+enum Making {
+    Sum(Sum),
+    Plus(Sum, Sum),
+    Minus(Sum, Sum),
+    Negative(Sum),
+    Times(i128, Sum),
+    // So many times the first and so many times the second one.
+    Combined(i128, Sum, i128, Sum),
+    // The first, where a variable is the second.
+    Replaced(Sum, u32, Sum),
+}
+
+fn made(alloc: Global, given: Making) -> Result<Term, LinError> {
+    match given {
+        Making::Sum(one) => term(alloc, one),
+        Making::Plus(left, right) => term(alloc, left)?.add(alloc, &term(alloc, right)?),
+        Making::Minus(left, right) => term(alloc, left)?.minus(alloc, &term(alloc, right)?),
+        Making::Negative(one) => term(alloc, one)?.negative(alloc),
+        Making::Times(k, one) => term(alloc, one)?.scale(alloc, k),
+        Making::Combined(a, left, b, right) => {
+            term(alloc, left)?.combination(alloc, a, &term(alloc, right)?, b)
+        }
+        Making::Replaced(one, variable, by) => {
+            term(alloc, one)?.subst(alloc, variable, &term(alloc, by)?)
+        }
+    }
+}
+
 // The term, or the operands of what is wide.
-fn shown(alloc: Global, term: Result<Term, LinError>) -> Result<String, AllocError> {
+fn shown(alloc: Global, given: Making) -> Result<String, AllocError> {
     let mut text = String::new(alloc);
-    match term {
+    match made(alloc, given) {
         Ok(term) => put_term(alloc, &mut text, &term)?,
         Err(error) => put_error(alloc, &mut text, error)?,
     }
     Ok(text)
 }
 
-fn shown_row(alloc: Global, row: Result<Row, LinError>) -> Result<String, AllocError> {
-    let mut text = String::new(alloc);
-    match row {
-        Ok(row) => put_row(alloc, &mut text, &row)?,
-        Err(error) => put_error(alloc, &mut text, error)?,
-    }
-    Ok(text)
-}
+const MOST: i128 = 170141183460469231731687303715884105727;
+
+const LEAST: i128 = i128::MIN;
 
 // 1 + 2 v3 - v0 - 2 v3 + 5 v7: the variable 3 disappears, and the others ascend.
 const FOUR: Sum = (1, &[(3, 2), (0, -1), (3, -2), (7, 5)]);
 
+// v0 + 2 v1 + 3 v3, and 5 v1 + v2 + 7 v4 + v5
+const FIRST: Sum = (0, &[(0, 1), (1, 2), (3, 3)]);
+
+const SECOND: Sum = (0, &[(1, 5), (2, 1), (4, 7), (5, 1)]);
+
+const TERMS: &[(Making, &str)] = &[
+    (Making::Sum(FOUR), "-1*v0 + 5*v7 + 1"),
+    (
+        Making::Minus((1, &[(0, -1), (7, 5)]), (4, &[(0, -1)])),
+        "5*v7 + -3",
+    ),
+    (Making::Negative((-3, &[(7, 5)])), "-5*v7 + 3"),
+    // 2 (1 + 3 v0 - 2 v2) - 3 (4 + 2 v0 + v1): the variable 0 disappears.
+    (
+        Making::Combined(2, (1, &[(0, 3), (2, -2)]), -3, (4, &[(0, 2), (1, 1)])),
+        "-3*v1 + -4*v2 + -10",
+    ),
+    // The sum for the variable 0 comes before the product for the variable 1.
+    (
+        Making::Combined(1, (0, &[(0, MOST)]), 2, (0, &[(0, 1), (1, MOST)])),
+        "wide 170141183460469231731687303715884105727 2",
+    ),
+    // Twice the first less the second, and the same terms added the other way round.
+    (
+        Making::Combined(2, FIRST, -1, SECOND),
+        "2*v0 + -1*v1 + -1*v2 + 6*v3 + -7*v4 + -1*v5",
+    ),
+    (
+        Making::Combined(1, SECOND, 1, FIRST),
+        "v0 + 7*v1 + v2 + 3*v3 + 7*v4 + v5",
+    ),
+    // The product with the first number, that with the second one, and the sum of both.
+    (
+        Making::Combined(2, (MOST, &[]), 3, (MOST, &[])),
+        "wide 2 170141183460469231731687303715884105727",
+    ),
+    (
+        Making::Combined(1, (MOST, &[]), 3, (LEAST, &[])),
+        "wide 3 -170141183460469231731687303715884105728",
+    ),
+    (
+        Making::Combined(-1, (MOST, &[]), 2, (-1, &[])),
+        "wide -170141183460469231731687303715884105727 -2",
+    ),
+    // 2 v0 + 1, where v0 is v0 + 3, and where v1, which it lacks, is v0 + 3.
+    (
+        Making::Replaced((1, &[(0, 2)]), 0, (3, &[(0, 1)])),
+        "2*v0 + 7",
+    ),
+    (
+        Making::Replaced((1, &[(0, 2)]), 1, (3, &[(0, 1)])),
+        "2*v0 + 1",
+    ),
+    (
+        Making::Times(2, (MOST, &[])),
+        "wide 2 170141183460469231731687303715884105727",
+    ),
+    (
+        Making::Times(-1, (LEAST, &[])),
+        "wide -1 -170141183460469231731687303715884105728",
+    ),
+    (
+        Making::Times(MOST, (3, &[])),
+        "wide 170141183460469231731687303715884105727 3",
+    ),
+    // The constant comes before the coefficients, and those in the order of variables.
+    (
+        Making::Times(MOST, (1, &[(4, MOST), (2, 3)])),
+        "wide 170141183460469231731687303715884105727 3",
+    ),
+    (
+        Making::Plus((MOST, &[]), (1, &[])),
+        "wide 170141183460469231731687303715884105727 1",
+    ),
+    (
+        Making::Plus((1, &[]), (MOST, &[])),
+        "wide 1 170141183460469231731687303715884105727",
+    ),
+    (
+        Making::Plus((LEAST, &[]), (-1, &[])),
+        "wide -170141183460469231731687303715884105728 -1",
+    ),
+    // The negative is made first, though the difference of the second pair would fit.
+    (
+        Making::Minus((LEAST, &[]), (1, &[])),
+        "wide -170141183460469231731687303715884105728 -1",
+    ),
+    (
+        Making::Minus((-1, &[]), (LEAST, &[])),
+        "wide -1 -170141183460469231731687303715884105728",
+    ),
+];
+
 #[test]
-fn terms_are_sums_of_their_parts(rt: HostRuntime) -> Result<(), Fail> {
-    let sum = shown(rt.alloc(), term(rt.alloc(), FOUR))?;
-    assert_eq!(rt; sum.as_str(), "-1*v0 + 5*v7 + 1");
+fn terms_that_are_made(rt: HostRuntime) -> Result<(), Fail> {
+    for (given, want) in TERMS {
+        let found = shown(rt.alloc(), *given)?;
+        assert_eq!(rt; found.as_str(), *want);
+    }
     Ok(())
 }
 
@@ -51,27 +171,6 @@ fn coefficients_and_variables(rt: HostRuntime) -> Result<(), Fail> {
     for (variable, next) in [(0, Some(0)), (1, Some(7)), (7, Some(7)), (8, None)] {
         assert!(rt; sum.variable_from(variable) == next, "from {variable}");
     }
-    Ok(())
-}
-
-fn difference(alloc: Global, left: Sum, right: Sum) -> Result<Term, LinError> {
-    term(alloc, left)?.minus(alloc, &term(alloc, right)?)
-}
-
-fn negative(alloc: Global, given: Sum) -> Result<Term, LinError> {
-    term(alloc, given)?.negative(alloc)
-}
-
-#[test]
-fn differences(rt: HostRuntime) -> Result<(), Fail> {
-    let alloc = rt.alloc();
-    let found = shown(
-        alloc,
-        difference(alloc, (1, &[(0, -1), (7, 5)]), (4, &[(0, -1)])),
-    )?;
-    assert_eq!(rt; found.as_str(), "5*v7 + -3");
-    let found = shown(alloc, negative(alloc, (-3, &[(7, 5)])))?;
-    assert_eq!(rt; found.as_str(), "-5*v7 + 3");
     Ok(())
 }
 
@@ -112,93 +211,6 @@ fn terms_as_keys(rt: HostRuntime) -> Result<(), Fail> {
     Ok(())
 }
 
-// So many times the first term and so many times the second one.
-fn combination(alloc: Global, a: i128, left: Sum, b: i128, right: Sum) -> Result<Term, LinError> {
-    term(alloc, left)?.combination(alloc, a, &term(alloc, right)?, b)
-}
-
-const MOST: i128 = 170141183460469231731687303715884105727;
-
-#[test]
-fn combinations(rt: HostRuntime) -> Result<(), Fail> {
-    let given: [(i128, Sum, i128, Sum, &str); 7] = [
-        // 2 (1 + 3 v0 - 2 v2) - 3 (4 + 2 v0 + v1): the variable 0 disappears.
-        (
-            2,
-            (1, &[(0, 3), (2, -2)]),
-            -3,
-            (4, &[(0, 2), (1, 1)]),
-            "-3*v1 + -4*v2 + -10",
-        ),
-        // The sum for the variable 0 comes before the product for the variable 1.
-        (
-            1,
-            (0, &[(0, MOST)]),
-            2,
-            (0, &[(0, 1), (1, MOST)]),
-            "wide 170141183460469231731687303715884105727 2",
-        ),
-        // 2 (v0 + 2 v1 + 3 v3) - (5 v1 + v2 + 7 v4 + v5), and the same terms added the other way
-        // round.
-        (
-            2,
-            (0, &[(0, 1), (1, 2), (3, 3)]),
-            -1,
-            (0, &[(1, 5), (2, 1), (4, 7), (5, 1)]),
-            "2*v0 + -1*v1 + -1*v2 + 6*v3 + -7*v4 + -1*v5",
-        ),
-        (
-            1,
-            (0, &[(1, 5), (2, 1), (4, 7), (5, 1)]),
-            1,
-            (0, &[(0, 1), (1, 2), (3, 3)]),
-            "v0 + 7*v1 + v2 + 3*v3 + 7*v4 + v5",
-        ),
-        // The product with the first number, that with the second one, and the sum of both.
-        (
-            2,
-            (MOST, &[]),
-            3,
-            (MOST, &[]),
-            "wide 2 170141183460469231731687303715884105727",
-        ),
-        (
-            1,
-            (MOST, &[]),
-            3,
-            (i128::MIN, &[]),
-            "wide 3 -170141183460469231731687303715884105728",
-        ),
-        (
-            -1,
-            (MOST, &[]),
-            2,
-            (-1, &[]),
-            "wide -170141183460469231731687303715884105727 -2",
-        ),
-    ];
-    for (a, left, b, right, want) in given {
-        let found = shown(rt.alloc(), combination(rt.alloc(), a, left, b, right))?;
-        assert_eq!(rt; found.as_str(), want);
-    }
-    Ok(())
-}
-
-fn replaced(alloc: Global, given: Sum, variable: u32, by: Sum) -> Result<Term, LinError> {
-    term(alloc, given)?.subst(alloc, variable, &term(alloc, by)?)
-}
-
-#[test]
-fn replacements(rt: HostRuntime) -> Result<(), Fail> {
-    // 2 v0 + 1, where v0 is v0 + 3, and where v1, which it lacks, is v0 + 3.
-    for (variable, want) in [(0, "2*v0 + 7"), (1, "2*v0 + 1")] {
-        let moved = replaced(rt.alloc(), (1, &[(0, 2)]), variable, (3, &[(0, 1)]));
-        let found = shown(rt.alloc(), moved)?;
-        assert_eq!(rt; found.as_str(), want);
-    }
-    Ok(())
-}
-
 #[test]
 fn values(rt: HostRuntime) -> Result<(), Fail> {
     // 2 v0 - v1 + 5 at 3 and 4
@@ -210,63 +222,6 @@ fn values(rt: HostRuntime) -> Result<(), Fail> {
     Ok(())
 }
 
-fn multiple(alloc: Global, given: Sum, k: i128) -> Result<Term, LinError> {
-    term(alloc, given)?.scale(alloc, k)
-}
-
-#[test]
-fn wide_products(rt: HostRuntime) -> Result<(), Fail> {
-    let given: [(i128, Sum, &str); 4] = [
-        (
-            2,
-            (MOST, &[]),
-            "wide 2 170141183460469231731687303715884105727",
-        ),
-        (
-            -1,
-            (i128::MIN, &[]),
-            "wide -1 -170141183460469231731687303715884105728",
-        ),
-        (
-            MOST,
-            (3, &[]),
-            "wide 170141183460469231731687303715884105727 3",
-        ),
-        // The constant comes before the coefficients, and those in the order of variables.
-        (
-            MOST,
-            (1, &[(4, MOST), (2, 3)]),
-            "wide 170141183460469231731687303715884105727 3",
-        ),
-    ];
-    for (k, given, want) in given {
-        let found = shown(rt.alloc(), multiple(rt.alloc(), given, k))?;
-        assert_eq!(rt; found.as_str(), want);
-    }
-    Ok(())
-}
-
-#[test]
-fn wide_sums(rt: HostRuntime) -> Result<(), Fail> {
-    let alloc = rt.alloc();
-    for (a, b) in [(i128::MAX, 1), (1, i128::MAX), (i128::MIN, -1)] {
-        let sum = Term::constant(alloc, a).add(alloc, &Term::constant(alloc, b));
-        assert!(rt; sum.err() == Some(LinError::Wide(a, b)), "{a} and {b}");
-    }
-    // The negative is made first, though the difference of the second pair would fit.
-    for (a, b, first, second) in [
-        (i128::MIN, 1, i128::MIN, -1),
-        (-1, i128::MIN, -1, i128::MIN),
-    ] {
-        let difference = Term::constant(alloc, a).minus(alloc, &Term::constant(alloc, b));
-        assert!(rt;
-            difference.err() == Some(LinError::Wide(first, second)),
-            "{a} and {b}"
-        );
-    }
-    Ok(())
-}
-
 // A comparison of two sums.
 fn compared(alloc: Global, left: Sum, op: Op, right: Sum, sort: Sort) -> Result<Row, LinError> {
     let left = term(alloc, left)?;
@@ -274,33 +229,88 @@ fn compared(alloc: Global, left: Sum, op: Op, right: Sum, sort: Sort) -> Result<
     Row::of(alloc, &left, op, &right, sort)
 }
 
+fn shown_row(alloc: Global, row: Result<Row, LinError>) -> Result<String, AllocError> {
+    let mut text = String::new(alloc);
+    match row {
+        Ok(row) => put_row(alloc, &mut text, &row)?,
+        Err(error) => put_error(alloc, &mut text, error)?,
+    }
+    Ok(text)
+}
+
+// v0, v1 + 2, and a number and 0 whose comparison is wide
+const FIRST_ONE: Sum = (0, &[(0, 1)]);
+
+const SECOND_AND_2: Sum = (2, &[(1, 1)]);
+
+const WIDE: Sum = (MOST, &[]);
+
+const NOTHING: Sum = (0, &[]);
+
 #[test]
 fn rows_of_comparisons(rt: HostRuntime) -> Result<(), Fail> {
-    // v0 and v1 + 2
-    for (op, sort, want) in [
-        (Op::Eq, Sort::Int, "v0 + -1*v1 + -2 = 0"),
-        (Op::Ne, Sort::Int, "v0 + -1*v1 + -2 != 0"),
-        (Op::Lt, Sort::Int, "v0 + -1*v1 + -1 <= 0"),
-        (Op::Le, Sort::Int, "v0 + -1*v1 + -2 <= 0"),
-        (Op::Gt, Sort::Int, "-1*v0 + v1 + 3 <= 0"),
-        (Op::Ge, Sort::Int, "-1*v0 + v1 + 2 <= 0"),
-        (Op::Gt, Sort::Perm, "-1*v0 + v1 + 2 < 0 (Perm)"),
+    for (left, op, right, sort, want) in [
+        (
+            FIRST_ONE,
+            Op::Eq,
+            SECOND_AND_2,
+            Sort::Int,
+            "v0 + -1*v1 + -2 = 0",
+        ),
+        (
+            FIRST_ONE,
+            Op::Ne,
+            SECOND_AND_2,
+            Sort::Int,
+            "v0 + -1*v1 + -2 != 0",
+        ),
+        (
+            FIRST_ONE,
+            Op::Lt,
+            SECOND_AND_2,
+            Sort::Int,
+            "v0 + -1*v1 + -1 <= 0",
+        ),
+        (
+            FIRST_ONE,
+            Op::Le,
+            SECOND_AND_2,
+            Sort::Int,
+            "v0 + -1*v1 + -2 <= 0",
+        ),
+        (
+            FIRST_ONE,
+            Op::Gt,
+            SECOND_AND_2,
+            Sort::Int,
+            "-1*v0 + v1 + 3 <= 0",
+        ),
+        (
+            FIRST_ONE,
+            Op::Ge,
+            SECOND_AND_2,
+            Sort::Int,
+            "-1*v0 + v1 + 2 <= 0",
+        ),
+        (
+            FIRST_ONE,
+            Op::Gt,
+            SECOND_AND_2,
+            Sort::Perm,
+            "-1*v0 + v1 + 2 < 0 (Perm)",
+        ),
+        (
+            WIDE,
+            Op::Lt,
+            NOTHING,
+            Sort::Int,
+            "wide 170141183460469231731687303715884105727 1",
+        ),
     ] {
-        let row = compared(rt.alloc(), (0, &[(0, 1)]), op, (2, &[(1, 1)]), sort);
+        let row = compared(rt.alloc(), left, op, right, sort);
         let found = shown_row(rt.alloc(), row)?;
         assert_eq!(rt; found.as_str(), want);
     }
-    Ok(())
-}
-
-#[test]
-fn a_wide_row(rt: HostRuntime) -> Result<(), Fail> {
-    let row = compared(rt.alloc(), (MOST, &[]), Op::Lt, (0, &[]), Sort::Int);
-    let found = shown_row(rt.alloc(), row)?;
-    assert_eq!(rt;
-        found.as_str(),
-        "wide 170141183460469231731687303715884105727 1"
-    );
     Ok(())
 }
 

@@ -9,28 +9,27 @@ fn outcome(alloc: Global, bytes: &[u8]) -> Result<usize, DerivError> {
     Ok(lines.choices.len())
 }
 
+const ENDS: &[(&[u8], Result<usize, DerivError>)] = &[
+    (b"", Err(DerivError::Unended)),
+    (b"\n", Err(DerivError::BadLine(1))),
+    (b"[\"caper\",2,3]", Err(DerivError::BadLine(1))),
+    (b"[\"caper\",1,3]", Err(DerivError::Unended)),
+    (b"[\"caper\",1,3]\n[\"end\",0]", Ok(0)),
+    (
+        b"[\"caper\",1,3]\n[\"end\",1]\n",
+        Err(DerivError::BadLine(2)),
+    ),
+    (
+        b"[\"caper\",1,3]\n[\"end\",0]\n\n",
+        Err(DerivError::BadLine(3)),
+    ),
+];
+
 #[test]
 fn first_and_last_lines(rt: HostRuntime) -> Result<(), Fail> {
-    let alloc = rt.alloc();
-    assert_eq!(rt; outcome(alloc, b""), Err(DerivError::Unended));
-    assert_eq!(rt; outcome(alloc, b"\n"), Err(DerivError::BadLine(1)));
-    assert_eq!(rt;
-        outcome(alloc, b"[\"caper\",2,3]"),
-        Err(DerivError::BadLine(1))
-    );
-    assert_eq!(rt;
-        outcome(alloc, b"[\"caper\",1,3]"),
-        Err(DerivError::Unended)
-    );
-    assert_eq!(rt; outcome(alloc, b"[\"caper\",1,3]\n[\"end\",0]"), Ok(0));
-    assert_eq!(rt;
-        outcome(alloc, b"[\"caper\",1,3]\n[\"end\",1]\n"),
-        Err(DerivError::BadLine(2))
-    );
-    assert_eq!(rt;
-        outcome(alloc, b"[\"caper\",1,3]\n[\"end\",0]\n\n"),
-        Err(DerivError::BadLine(3))
-    );
+    for (bytes, wanted) in ENDS {
+        assert_eq!(rt; outcome(rt.alloc(), bytes), *wanted);
+    }
     Ok(())
 }
 
@@ -42,58 +41,54 @@ fn of_line(alloc: Global, line: &[u8]) -> Result<Result<usize, DerivError>, Allo
     Ok(outcome(alloc, bytes.as_slice()))
 }
 
-#[test]
-fn good_lines(rt: HostRuntime) -> Result<(), Fail> {
-    let alloc = rt.alloc();
-    for line in [
-        b" [ \"set\" ]\t\r".as_slice(),
-        b"[\"s\\u0065t\"]".as_slice(),
-        b"[\"pick\",0,4294967295,0]".as_slice(),
-        b"[\"absurd\",[\"leaf\",[[0,\"170141183460469231731687303715884105727\"]]]]".as_slice(),
-        b"[\"absurd\",[\"leaf\",[[1,\"-170141183460469231731687303715884105728\"]]]]".as_slice(),
-        b"[\"absurd\",[\"leaf\",[[0,\"1\"],[1,\"-1\"]]]]".as_slice(),
-        b"[\"settle\",[3,3,1],[]]".as_slice(),
-        b"[\"shift\",[]]".as_slice(),
-        b"[\"shift\",[[\"leaf\",[]]],[4294967295,0,0]]".as_slice(),
-        b"[\"act\",0,[[\"split\",1,[],[]]],[0,[\"leaf\",[]]]]".as_slice(),
-    ] {
-        assert_eq!(rt; of_line(alloc, line)?, Ok(1));
-    }
-    Ok(())
-}
+const GOOD: &[&[u8]] = &[
+    b" [ \"set\" ]\t\r",
+    b"[\"s\\u0065t\"]",
+    b"[\"pick\",0,4294967295,0]",
+    b"[\"absurd\",[\"leaf\",[[0,\"170141183460469231731687303715884105727\"]]]]",
+    b"[\"absurd\",[\"leaf\",[[1,\"-170141183460469231731687303715884105728\"]]]]",
+    b"[\"absurd\",[\"leaf\",[[0,\"1\"],[1,\"-1\"]]]]",
+    b"[\"settle\",[3,3,1],[]]",
+    b"[\"shift\",[]]",
+    b"[\"shift\",[[\"leaf\",[]]],[4294967295,0,0]]",
+    b"[\"act\",0,[[\"split\",1,[],[]]],[0,[\"leaf\",[]]]]",
+];
+
+const BAD: &[&[u8]] = &[
+    b"",
+    b"[\"set\",1]",
+    b"[\"set\"] x",
+    b"[\"set\",0.5]",
+    b"[\"return\",1]",
+    b"[\"pick\",0,4294967296,0]",
+    b"[\"pick\",0,-0,0]",
+    b"[\"pick\",0,1.0,0]",
+    b"[\"pick\",0,1e0,0]",
+    b"[\"pick\",0,18446744073709551616,0]",
+    b"[\"pick\",0,01,0]",
+    b"[\"absurd\",[\"leaf\",[[0,\"0\"]]]]",
+    b"[\"absurd\",[\"leaf\",[[0,\"+1\"]]]]",
+    b"[\"absurd\",[\"leaf\",[[0,\"-01\"]]]]",
+    b"[\"absurd\",[\"leaf\",[[0,\"-\"]]]]",
+    b"[\"absurd\",[\"leaf\",[[0,1]]]]",
+    b"[\"absurd\",[\"leaf\",[[0,\"170141183460469231731687303715884105728\"]]]]",
+    b"[\"act\",0,[],[1]]",
+    b"[\"shift\"]",
+    b"[\"shift\",[],[]]",
+    b"[\"shift\",[],0]",
+    b"[\"shift\",[],[0],[]]",
+    b"[\"keep\",[],[0]]",
+    b"[\"act\",0,[],[null]]",
+    b"{\"set\":1,\"set\":1}",
+    b"[\"\xff\"]",
+];
 
 #[test]
-fn bad_lines(rt: HostRuntime) -> Result<(), Fail> {
-    let alloc = rt.alloc();
-    for line in [
-        b"".as_slice(),
-        b"[\"set\",1]".as_slice(),
-        b"[\"set\"] x".as_slice(),
-        b"[\"set\",0.5]".as_slice(),
-        b"[\"return\",1]".as_slice(),
-        b"[\"pick\",0,4294967296,0]".as_slice(),
-        b"[\"pick\",0,-0,0]".as_slice(),
-        b"[\"pick\",0,1.0,0]".as_slice(),
-        b"[\"pick\",0,1e0,0]".as_slice(),
-        b"[\"pick\",0,18446744073709551616,0]".as_slice(),
-        b"[\"pick\",0,01,0]".as_slice(),
-        b"[\"absurd\",[\"leaf\",[[0,\"0\"]]]]".as_slice(),
-        b"[\"absurd\",[\"leaf\",[[0,\"+1\"]]]]".as_slice(),
-        b"[\"absurd\",[\"leaf\",[[0,\"-01\"]]]]".as_slice(),
-        b"[\"absurd\",[\"leaf\",[[0,\"-\"]]]]".as_slice(),
-        b"[\"absurd\",[\"leaf\",[[0,1]]]]".as_slice(),
-        b"[\"absurd\",[\"leaf\",[[0,\"170141183460469231731687303715884105728\"]]]]".as_slice(),
-        b"[\"act\",0,[],[1]]".as_slice(),
-        b"[\"shift\"]".as_slice(),
-        b"[\"shift\",[],[]]".as_slice(),
-        b"[\"shift\",[],0]".as_slice(),
-        b"[\"shift\",[],[0],[]]".as_slice(),
-        b"[\"keep\",[],[0]]".as_slice(),
-        b"[\"act\",0,[],[null]]".as_slice(),
-        b"{\"set\":1,\"set\":1}".as_slice(),
-        b"[\"\xff\"]".as_slice(),
-    ] {
-        assert_eq!(rt; of_line(alloc, line)?, Err(DerivError::BadLine(2)));
+fn lines_of_nodes(rt: HostRuntime) -> Result<(), Fail> {
+    for (lines, want) in [(GOOD, Ok(1)), (BAD, Err(DerivError::BadLine(2)))] {
+        for line in lines {
+            assert!(rt; of_line(rt.alloc(), line)? == want, "{line:?}");
+        }
     }
     Ok(())
 }

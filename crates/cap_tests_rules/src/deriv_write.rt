@@ -6,10 +6,6 @@ use cap_goal::{Bundle, Choice, Node};
 use std::alloc::{AllocError, Global};
 use std::test::Fail;
 
-fn pieces(alloc: Global) -> Result<Vec<u32>, AllocError> {
-    Vec::from_slice(alloc, &[4, 0])
-}
-
 // A node without subtrees.
 fn last(alloc: Global, choice: Choice) -> Node {
     Node {
@@ -18,32 +14,43 @@ fn last(alloc: Global, choice: Choice) -> Node {
     }
 }
 
-fn cert(alloc: Global) -> Result<Cert, AllocError> {
-    let mut below = Vec::new(alloc);
-    below.push((2, -3))?;
-    let mut above = Vec::new(alloc);
-    above.push((5, i128::MIN))?;
-    Ok(Cert::Split(1, Multipliers::new(below), Multipliers::new(above)))
+fn multipliers(alloc: Global, pairs: &[(u32, i128)]) -> Result<Multipliers, AllocError> {
+    Ok(Multipliers::new(Vec::from_slice(alloc, pairs)?))
 }
 
-fn marks(alloc: Global) -> Result<Vec<Option<Cert>>, AllocError> {
-    let mut list = Vec::new(alloc);
-    list.push(None)?;
-    list.push(Some(Cert::Leaf(Multipliers::new(Vec::new(alloc)))))?;
-    Ok(list)
+fn absurd(alloc: Global) -> Result<Node, AllocError> {
+    let below = multipliers(alloc, &[(2, -3)])?;
+    let above = multipliers(alloc, &[(5, i128::MIN)])?;
+    Ok(last(alloc, Choice::Absurd(Cert::Split(1, below, above))))
+}
+
+fn act(alloc: Global) -> Result<Node, AllocError> {
+    let mut marks = Vec::new(alloc);
+    marks.push(None)?;
+    marks.push(Some(Cert::Leaf(multipliers(alloc, &[])?)))?;
+    Ok(last(alloc, Choice::Act(7, Vec::new(alloc), marks)))
+}
+
+fn shift(alloc: Global, spans: &[u32]) -> Result<Node, AllocError> {
+    let spans = Vec::from_slice(alloc, spans)?;
+    Ok(last(alloc, Choice::Shift(Vec::new(alloc), spans)))
+}
+
+fn conditional(alloc: Global) -> Result<Node, AllocError> {
+    let mut children = Vec::new(alloc);
+    children.push(absurd(alloc)?)?;
+    children.push(act(alloc)?)?;
+    children.push(shift(alloc, &[])?)?;
+    children.push(shift(alloc, &[4, 0])?)?;
+    Ok(Node {
+        choice: Choice::If,
+        children,
+    })
 }
 
 fn bundle(alloc: Global) -> Result<Bundle, AllocError> {
-    let mut children = Vec::new(alloc);
-    children.push(last(alloc, Choice::Absurd(cert(alloc)?)))?;
-    children.push(last(alloc, Choice::Act(7, Vec::new(alloc), marks(alloc)?)))?;
-    children.push(last(alloc, Choice::Shift(Vec::new(alloc), Vec::new(alloc))))?;
-    children.push(last(alloc, Choice::Shift(Vec::new(alloc), pieces(alloc)?)))?;
     let mut trees = Vec::new(alloc);
-    trees.push(Some(Node {
-        choice: Choice::If,
-        children,
-    }))?;
+    trees.push(Some(conditional(alloc)?))?;
     trees.push(None)?;
     trees.push(Some(last(alloc, Choice::Pick(0, 4294967295, 1))))?;
     Ok(Bundle { trees })

@@ -22,70 +22,66 @@ fn judged(alloc: Global, program: &Program, lines: &Lines) -> Result<String, Fai
     Ok(String::from_utf8(text)?)
 }
 
-// The same of the lines of a text.
+// The same of the lines of a text, whose program is read from one.
 fn judged_text(alloc: Global, program: &str, text: &str) -> Result<String, Fail> {
     let program = read_program(alloc, program.as_bytes())?;
     let lines = read(alloc, text.as_bytes())?;
     judged(alloc, &program, &lines)
 }
 
-#[test]
-fn a_function_without_statements_returns(rt: HostRuntime) -> Result<(), Fail> {
-    let text = r#"["caper",1,3]
+const RETURNS: &str = r#"["caper",1,3]
 ["return"]
 ["end",1]
 "#;
-    let found = judged_text(rt.alloc(), EMPTY, text)?;
-    assert_eq!(rt; found.as_str(), text);
-    Ok(())
-}
 
-#[test]
-fn a_certificate_counts_by_what_it_proves(rt: HostRuntime) -> Result<(), Fail> {
-    let text = r#"["caper",1,3]
+const PROVES_ONCE: &str = r#"["caper",1,3]
 ["assert",[["leaf",[[0,"1"]]]]]
 ["return"]
 ["end",2]
 "#;
-    let found = judged_text(rt.alloc(), ASSERTS, text)?;
-    assert_eq!(rt; found.as_str(), text);
-    let text = r#"["caper",1,3]
+
+const PROVES_TWICE: &str = r#"["caper",1,3]
 ["assert",[["leaf",[[0,"2"]]]]]
 ["return"]
 ["end",2]
 "#;
-    let found = judged_text(rt.alloc(), ASSERTS, text)?;
-    assert_eq!(rt; found.as_str(), text);
-    let text = r#"["caper",1,3]
+
+const PROVES_NOTHING: &str = r#"["caper",1,3]
 ["assert",[["leaf",[[0,"-1"]]]]]
 ["return"]
 ["end",2]
 "#;
-    let found = judged_text(rt.alloc(), ASSERTS, text)?;
-    assert_eq!(rt; found.as_str(), "node 1 fails");
-    Ok(())
-}
 
-#[test]
-fn lines_have_one_tree_for_each_goal(rt: HostRuntime) -> Result<(), Fail> {
-    let missing = r#"["caper",1,3]
+const MISSES_A_NODE: &str = r#"["caper",1,3]
 ["assert",[["leaf",[[0,"1"]]]]]
 ["end",1]
 "#;
-    let found = judged_text(rt.alloc(), ASSERTS, missing)?;
-    assert_eq!(rt; found.as_str(), "the shape is wrong at node 2");
-    let left_over = r#"["caper",1,3]
+
+const LEAVES_A_NODE: &str = r#"["caper",1,3]
 ["return"]
 ["return"]
 ["end",2]
 "#;
-    let found = judged_text(rt.alloc(), EMPTY, left_over)?;
-    assert_eq!(rt; found.as_str(), "the shape is wrong at node 2");
-    let miscounted = r#"["caper",1,2]
+
+const MISCOUNTS_TREES: &str = r#"["caper",1,2]
 ["return"]
 ["end",1]
 "#;
-    let found = judged_text(rt.alloc(), EMPTY, miscounted)?;
-    assert_eq!(rt; found.as_str(), "the shape is wrong at node 1");
+
+// A certificate counts by what it proves, and lines have one tree for each goal.
+#[test]
+fn derivations_are_judged(rt: HostRuntime) -> Result<(), Fail> {
+    for (program, text, wanted) in [
+        (EMPTY, RETURNS, RETURNS),
+        (ASSERTS, PROVES_ONCE, PROVES_ONCE),
+        (ASSERTS, PROVES_TWICE, PROVES_TWICE),
+        (ASSERTS, PROVES_NOTHING, "node 1 fails"),
+        (ASSERTS, MISSES_A_NODE, "the shape is wrong at node 2"),
+        (EMPTY, LEAVES_A_NODE, "the shape is wrong at node 2"),
+        (EMPTY, MISCOUNTS_TREES, "the shape is wrong at node 1"),
+    ] {
+        let found = judged_text(rt.alloc(), program, text)?;
+        assert!(rt; found.as_str() == wanted, "{text}{found}");
+    }
     Ok(())
 }

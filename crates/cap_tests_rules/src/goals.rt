@@ -7,6 +7,7 @@ use cap_kernel::{proofs, subgoals};
 use cap_prog::Program;
 use cap_top_reading::read_program;
 use std::alloc::Global;
+use std::process::Abort;
 use std::test::Fail;
 
 // The first roots of a function, by number.
@@ -105,7 +106,7 @@ fn advance<'a>(
 }
 
 // The goal that comes after the choices, each of which is made at the first goal that is open.
-fn goal_at<'a>(alloc: Global, program: &'a Program, at: At) -> Result<Goal<'a>, Fail> {
+pub fn goal_at<'a>(alloc: Global, program: &'a Program, at: At) -> Result<Goal<'a>, Fail> {
     let mut open = Vec::new(alloc);
     open.push(root(alloc, program, at)?)?;
     advance(alloc, program, &mut open, at.steps)?;
@@ -139,7 +140,7 @@ fn left_of(alloc: Global, program: &Program, at: At, line: &str) -> Result<Strin
 }
 
 // What the choice of a line leaves of a goal, or why it leaves nothing.
-pub fn left(alloc: Global, at: At, line: &str) -> Result<String, Fail> {
+fn left(alloc: Global, at: At, line: &str) -> Result<String, Fail> {
     let program = read_program(alloc, at.program.as_bytes())?;
     left_of(alloc, &program, at, line)
 }
@@ -171,7 +172,37 @@ fn owed_of(alloc: Global, program: &Program, at: At, line: &str) -> Result<Strin
 }
 
 // The lists of rows that the certificates of the choice of a line have to refute.
-pub fn owed(alloc: Global, at: At, line: &str) -> Result<String, Fail> {
+fn owed(alloc: Global, at: At, line: &str) -> Result<String, Fail> {
     let program = read_program(alloc, at.program.as_bytes())?;
     owed_of(alloc, &program, at, line)
+}
+
+// What is looked at of a choice: what it leaves of the goal, or the rows that it owes.
+#[derive(Clone, Copy)]
+pub enum Aspect {
+    Left,
+    Owed,
+}
+
+// A choice at a goal, and the text of what is looked at.
+#[derive(Clone, Copy)]
+pub struct Example {
+    pub name: &'static str,
+    pub at: At,
+    pub choice: &'static str,
+    pub aspect: Aspect,
+    pub wanted: &'static str,
+}
+
+// Each example has the text that is wanted.
+pub fn all_hold(rt: &impl Abort, alloc: Global, examples: &[Example]) -> Result<(), Fail> {
+    for example in examples {
+        let found = match example.aspect {
+            Aspect::Left => left(alloc, example.at, example.choice)?,
+            Aspect::Owed => owed(alloc, example.at, example.choice)?,
+        };
+        let name = example.name;
+        assert!(rt; found.as_str() == example.wanted, "{name}: {found}");
+    }
+    Ok(())
 }

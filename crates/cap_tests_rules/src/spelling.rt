@@ -1,6 +1,6 @@
 //! Goals and rows as texts: a line for each list of a state that has members, and one for each task,
 //! the head first.
-use cap_goal::{Env, Fact, Goal, Items, Point, State, Task};
+use cap_goal::{Env, Fact, Goal, Home, Items, Point, State, Task};
 use cap_gsolve::{Form, Piece};
 use cap_lin::{Kind, Row, Sort, Term};
 use cap_prog::{Item, Statement};
@@ -253,70 +253,100 @@ fn point(alloc: Global, text: &mut String, point: &Point<'_>) -> Result<(), Allo
     Ok(())
 }
 
-fn task(alloc: Global, text: &mut String, task: &Task<'_>) -> Result<(), AllocError> {
-    match task {
-        Task::Run(home, at) => {
-            text.push_str("\nrun")?;
-            point(alloc, text, at)?;
-            number(alloc, text, " of ", home.function)?;
-            number(alloc, text, ", fixed names from v", home.fixed)
-        }
-        Task::Turn(home, at) => {
-            text.push_str("\nturn")?;
-            point(alloc, text, at)?;
-            number(alloc, text, " of ", home.function)?;
-            number(alloc, text, ", fixed names from v", home.fixed)
-        }
-        Task::Give(all, env, at) => {
-            text.push_str("\ngive")?;
-            items(alloc, text, all)?;
-            number(alloc, text, " in env ", *env)?;
-            number(alloc, text, " at ", *at)
-        }
-        Task::Take(all, env, left, at) => {
-            text.push_str("\ntake")?;
-            items(alloc, text, all)?;
-            number(alloc, text, " in env ", *env)?;
-            number(alloc, text, ", creations ", *left)?;
-            number(alloc, text, ", at ", *at)
-        }
-        Task::Made(kind, case, env, region, at) => made(
-            alloc,
-            text,
-            [*kind, *case, *env, *at],
-            region,
-        ),
-        Task::Close(any, at) => {
-            text.push_str(if *any { "\nclose any" } else { "\nclose same" })?;
-            number(alloc, text, " at ", *at)
-        }
-        Task::Shift(opened, case, action, env, at) => {
-            number(alloc, text, "\nshift opened ", *opened)?;
-            number(alloc, text, " to case ", *case)?;
-            number(alloc, text, " by move ", *action)?;
-            number(alloc, text, " in env ", *env)?;
-            number(alloc, text, " at ", *at)
-        }
-        Task::Rest(fact, at) => {
-            number(alloc, text, "\nrest ", *fact)?;
-            number(alloc, text, " at ", *at)
-        }
+// Numbers, each behind its word.
+fn numbered(alloc: Global, text: &mut String, all: &[(&str, u32)]) -> Result<(), AllocError> {
+    for (word, one) in all {
+        number(alloc, text, word, *one)?;
     }
+    Ok(())
 }
 
+// Statements that are to be run.
+fn run(
+    alloc: Global,
+    text: &mut String,
+    word: &str,
+    home: &Home,
+    at: &Point<'_>,
+) -> Result<(), AllocError> {
+    text.push_str(word)?;
+    point(alloc, text, at)?;
+    let numbers = [
+        (" of ", home.function),
+        (", fixed names from v", home.fixed),
+    ];
+    numbered(alloc, text, &numbers)
+}
+
+// Items that are to be given or taken.
+fn listed(
+    alloc: Global,
+    text: &mut String,
+    word: &str,
+    all: &Items<'_>,
+    numbers: &[(&str, u32)],
+) -> Result<(), AllocError> {
+    text.push_str(word)?;
+    items(alloc, text, all)?;
+    numbered(alloc, text, numbers)
+}
+
+// A region that is to be stated as made.
 fn made(
     alloc: Global,
     text: &mut String,
-    numbers: [u32; 4],
     region: &Term,
+    numbers: &[(&str, u32)],
 ) -> Result<(), AllocError> {
-    let [kind, case, env, at] = numbers;
     text.push_str("\nmade ")?;
     term(alloc, text, region)?;
-    number(alloc, text, " of R", kind)?;
-    number(alloc, text, " in case ", case)?;
-    number(alloc, text, " in env ", env)?;
-    number(alloc, text, " at ", at)
+    numbered(alloc, text, numbers)
+}
+
+fn task(alloc: Global, text: &mut String, task: &Task<'_>) -> Result<(), AllocError> {
+    match task {
+        Task::Run(home, at) => run(alloc, text, "\nrun", home, at),
+        Task::Turn(home, at) => run(alloc, text, "\nturn", home, at),
+        Task::Give(all, env, at) => {
+            let numbers = [(" in env ", *env), (" at ", *at)];
+            listed(alloc, text, "\ngive", all, &numbers)
+        }
+        Task::Take(all, env, left, at) => {
+            let numbers = [(" in env ", *env), (", creations ", *left), (", at ", *at)];
+            listed(alloc, text, "\ntake", all, &numbers)
+        }
+        Task::Made(kind, case, env, region, at) => {
+            let numbers = [
+                (" of R", *kind),
+                (" in case ", *case),
+                (" in env ", *env),
+                (" at ", *at),
+            ];
+            made(alloc, text, region, &numbers)
+        }
+        Task::Close(any, at) => {
+            let word = if *any {
+                "\nclose any at "
+            } else {
+                "\nclose same at "
+            };
+            number(alloc, text, word, *at)
+        }
+        Task::Shift(opened, case, action, env, at) => {
+            let numbers = [
+                ("\nshift opened ", *opened),
+                (" to case ", *case),
+                (" by move ", *action),
+                (" in env ", *env),
+                (" at ", *at),
+            ];
+            numbered(alloc, text, &numbers)
+        }
+        Task::Rest(fact, at) => {
+            let numbers = [("\nrest ", *fact), (" at ", *at)];
+            numbered(alloc, text, &numbers)
+        }
+    }
 }
 
 // ---- answers

@@ -1,5 +1,5 @@
 //! The rules at statements that touch no cell, at heads of loops and at contradictory rows.
-use crate::goals::{At, BODY, FIRST_LOOP, left, owed};
+use crate::goals::{Aspect, At, BODY, Example, FIRST_LOOP, all_hold};
 use std::test::Fail;
 
 const CONTRADICTION: &str = "function main(n) requires n >= 1 &*& n <= 0; { }";
@@ -12,20 +12,6 @@ const CONTRADICTED: At = At {
     steps: r#"["give"]"#,
 };
 
-#[test]
-fn absurd_leaves_nothing(rt: HostRuntime) -> Result<(), Fail> {
-    let choice = r#"["absurd",["leaf",[[0,"1"],[1,"1"]]]]"#;
-    let found = left(rt.alloc(), CONTRADICTED, choice)?;
-    let wanted = "
-no goal";
-    assert_eq!(rt; found.as_str(), wanted);
-    let found = owed(rt.alloc(), CONTRADICTED, choice)?;
-    let wanted = "
--1*v0 + 1 <= 0, v0 <= 0";
-    assert_eq!(rt; found.as_str(), wanted);
-    Ok(())
-}
-
 const TWO_CELLS: &str = "function main(a, b) requires a |-> 0 &*& b |-> 1 &*& a = b; { v := [a]; }";
 
 // The read, where both cells have one address.
@@ -35,21 +21,6 @@ const CLASHING: At = At {
     root: BODY,
     steps: r#"["give"]"#,
 };
-
-#[test]
-fn clash_leaves_nothing(rt: HostRuntime) -> Result<(), Fail> {
-    let choice = r#"["clash",0,1,[["leaf",[[2,"-1"],[3,"1"]]],["leaf",[[2,"1"],[3,"1"]]]]]"#;
-    let found = left(rt.alloc(), CLASHING, choice)?;
-    let wanted = "
-no goal";
-    assert_eq!(rt; found.as_str(), wanted);
-    let found = owed(rt.alloc(), CLASHING, choice)?;
-    let wanted = "
--1*v0 + 1 <= 0, -1*v1 + 1 <= 0, v0 + -1*v1 = 0, v0 + -1*v1 + 1 <= 0
--1*v0 + 1 <= 0, -1*v1 + 1 <= 0, v0 + -1*v1 = 0, -1*v0 + v1 + 1 <= 0";
-    assert_eq!(rt; found.as_str(), wanted);
-    Ok(())
-}
 
 const SETS: &str = "function main() { x := 1; }";
 
@@ -61,19 +32,6 @@ const SETTING: At = At {
     steps: "",
 };
 
-#[test]
-fn set_changes_a_local(rt: HostRuntime) -> Result<(), Fail> {
-    let choice = r#"["set"]"#;
-    let found = left(rt.alloc(), SETTING, choice)?;
-    let wanted = "
-goal
-store 1
-env _, _
-run 2 of 0, fixed names from v0";
-    assert_eq!(rt; found.as_str(), wanted);
-    Ok(())
-}
-
 const ALLOCATES: &str = "function main() { x := alloc(2); }";
 
 // The allocation.
@@ -83,22 +41,6 @@ const ALLOCATING: At = At {
     root: BODY,
     steps: "",
 };
-
-#[test]
-fn alloc_gives_cells(rt: HostRuntime) -> Result<(), Fail> {
-    let choice = r#"["alloc"]"#;
-    let found = left(rt.alloc(), ALLOCATING, choice)?;
-    let wanted = "
-goal
-sorts Int
-rows -1*v0 + 1 <= 0
-store v0
-cells v0 |-> 0, v0 + 1 |-> 0
-env _, _
-run 2 of 0, fixed names from v0";
-    assert_eq!(rt; found.as_str(), wanted);
-    Ok(())
-}
 
 const ASSERTS: &str = "function main() { assert 0 <= 1; }";
 
@@ -110,32 +52,6 @@ const ASSERTING: At = At {
     steps: "",
 };
 
-#[test]
-fn assert_proves_its_comparison(rt: HostRuntime) -> Result<(), Fail> {
-    let choice = r#"["assert",[["leaf",[[0,"1"]]]]]"#;
-    let found = left(rt.alloc(), ASSERTING, choice)?;
-    let wanted = "
-goal
-env _
-run 2 of 0, fixed names from v0";
-    assert_eq!(rt; found.as_str(), wanted);
-    let found = owed(rt.alloc(), ASSERTING, choice)?;
-    let wanted = "
-2 <= 0";
-    assert_eq!(rt; found.as_str(), wanted);
-    Ok(())
-}
-
-#[test]
-fn set_wants_an_assignment(rt: HostRuntime) -> Result<(), Fail> {
-    let choice = r#"["set"]"#;
-    let found = left(rt.alloc(), ASSERTING, choice)?;
-    let wanted = "
-not applicable";
-    assert_eq!(rt; found.as_str(), wanted);
-    Ok(())
-}
-
 const BRANCHES: &str = "function main(n) { if (n < 0) { x := 1; } else { x := 2; } y := x; }";
 
 // The conditional.
@@ -145,27 +61,6 @@ const BRANCHING: At = At {
     root: BODY,
     steps: "",
 };
-
-#[test]
-fn if_splits(rt: HostRuntime) -> Result<(), Fail> {
-    let choice = r#"["if"]"#;
-    let found = left(rt.alloc(), BRANCHING, choice)?;
-    let wanted = "
-goal
-sorts Int
-rows v0 + 1 <= 0
-store v0, 0, 0
-env v0, _, _, _
-run 2 4 5 of 0, fixed names from v1
-goal
-sorts Int
-rows -1*v0 <= 0
-store v0, 0, 0
-env v0, _, _, _
-run 3 4 5 of 0, fixed names from v1";
-    assert_eq!(rt; found.as_str(), wanted);
-    Ok(())
-}
 
 const LOOPS: &str = "function main(c) requires c |-> k; { i := 1;
 while (i < c) invariant i <= k; { i := i + 1; } x := i; }";
@@ -179,23 +74,6 @@ const BEFORE_LOOP: At = At {
 ["set"]"#,
 };
 
-#[test]
-fn loop_takes_the_invariant(rt: HostRuntime) -> Result<(), Fail> {
-    let choice = r#"["loop"]"#;
-    let found = left(rt.alloc(), BEFORE_LOOP, choice)?;
-    let wanted = "
-goal
-sorts Int, Int
-rows -1*v0 + 1 <= 0
-store v0, 1, 0
-cells v0 |-> v1
-env v0, _, _, v1, _
-env v0, 1, 0, v1, _
-take 2:25 in env 1, creations 3, at 2";
-    assert_eq!(rt; found.as_str(), wanted);
-    Ok(())
-}
-
 // The loop, its invariant given.
 const IN_LOOP: At = At {
     program: LOOPS,
@@ -203,27 +81,6 @@ const IN_LOOP: At = At {
     root: FIRST_LOOP,
     steps: r#"["give"]"#,
 };
-
-#[test]
-fn turn_splits(rt: HostRuntime) -> Result<(), Fail> {
-    let choice = r#"["turn"]"#;
-    let found = left(rt.alloc(), IN_LOOP, choice)?;
-    let wanted = "
-goal
-sorts Int, Int, Int, Int
-rows v1 + -1*v3 <= 0, -1*v0 + v1 + 1 <= 0
-store v0, v1, v2
-env v0, v1, v2, v3, _
-run 3 2 4 5 of 0, fixed names from v3
-goal
-sorts Int, Int, Int, Int
-rows v1 + -1*v3 <= 0, v0 + -1*v1 <= 0
-store v0, v1, v2
-env v0, v1, v2, v3, _
-run 4 5 of 0, fixed names from v3";
-    assert_eq!(rt; found.as_str(), wanted);
-    Ok(())
-}
 
 const CALLS: &str = "function put(c, v) requires c |-> w; ensures c |-> v &*& ret = w;
 { x := [c]; [c] := v; return x; }
@@ -237,26 +94,6 @@ const CALLING: At = At {
     steps: r#"["alloc"]"#,
 };
 
-#[test]
-fn call_takes_and_gives_the_contract(rt: HostRuntime) -> Result<(), Fail> {
-    let choice = r#"["call"]"#;
-    let found = left(rt.alloc(), CALLING, choice)?;
-    let wanted = "
-goal
-sorts Int, Int
-rows -1*v0 + 1 <= 0
-store v0, v1
-cells v0 |-> 0
-env _, _, _
-env v0, 7, _, _, v1
-take 1:29 in env 1, creations 3, at 2
-rest 0 at 2
-give 1:46 1:58 in env 1 at 2
-run 3 4 of 1, fixed names from v0";
-    assert_eq!(rt; found.as_str(), wanted);
-    Ok(())
-}
-
 // The fork, once the call came back.
 const FORKING: At = At {
     program: CALLS,
@@ -268,26 +105,6 @@ const FORKING: At = At {
 ["give"]"#,
 };
 
-#[test]
-fn fork_gives_nothing_back(rt: HostRuntime) -> Result<(), Fail> {
-    let choice = r#"["fork"]"#;
-    let found = left(rt.alloc(), FORKING, choice)?;
-    let wanted = "
-goal
-sorts Int, Int, Int
-rows -1*v0 + 1 <= 0, -1*v0 + 1 <= 0, v1 = 0
-store v0, v1
-cells v0 |-> 7
-env _, _, _
-env v0, 7, _, 0, v1
-env v0, v1, _, _, v2
-take 1:29 in env 2, creations 3, at 3
-rest 0 at 3
-run 4 of 1, fixed names from v0";
-    assert_eq!(rt; found.as_str(), wanted);
-    Ok(())
-}
-
 const RETURNS: &str = "function next(n) ensures ret = n + 1; { return n + 1; } function main() { }";
 
 // The return.
@@ -298,17 +115,196 @@ const RETURNING: At = At {
     steps: "",
 };
 
-#[test]
-fn return_takes_the_postcondition(rt: HostRuntime) -> Result<(), Fail> {
-    let choice = r#"["return"]"#;
-    let found = left(rt.alloc(), RETURNING, choice)?;
-    let wanted = "
+const STATEMENTS: &[Example] = &[
+    Example {
+        name: "absurd leaves nothing",
+        at: CONTRADICTED,
+        choice: r#"["absurd",["leaf",[[0,"1"],[1,"1"]]]]"#,
+        aspect: Aspect::Left,
+        wanted: "
+no goal",
+    },
+    Example {
+        name: "absurd leaves nothing",
+        at: CONTRADICTED,
+        choice: r#"["absurd",["leaf",[[0,"1"],[1,"1"]]]]"#,
+        aspect: Aspect::Owed,
+        wanted: "
+-1*v0 + 1 <= 0, v0 <= 0",
+    },
+    Example {
+        name: "clash leaves nothing",
+        at: CLASHING,
+        choice: r#"["clash",0,1,[["leaf",[[2,"-1"],[3,"1"]]],["leaf",[[2,"1"],[3,"1"]]]]]"#,
+        aspect: Aspect::Left,
+        wanted: "
+no goal",
+    },
+    Example {
+        name: "clash leaves nothing",
+        at: CLASHING,
+        choice: r#"["clash",0,1,[["leaf",[[2,"-1"],[3,"1"]]],["leaf",[[2,"1"],[3,"1"]]]]]"#,
+        aspect: Aspect::Owed,
+        wanted: "
+-1*v0 + 1 <= 0, -1*v1 + 1 <= 0, v0 + -1*v1 = 0, v0 + -1*v1 + 1 <= 0
+-1*v0 + 1 <= 0, -1*v1 + 1 <= 0, v0 + -1*v1 = 0, -1*v0 + v1 + 1 <= 0",
+    },
+    Example {
+        name: "set changes a local",
+        at: SETTING,
+        choice: r#"["set"]"#,
+        aspect: Aspect::Left,
+        wanted: "
+goal
+store 1
+env _, _
+run 2 of 0, fixed names from v0",
+    },
+    Example {
+        name: "alloc gives cells",
+        at: ALLOCATING,
+        choice: r#"["alloc"]"#,
+        aspect: Aspect::Left,
+        wanted: "
+goal
+sorts Int
+rows -1*v0 + 1 <= 0
+store v0
+cells v0 |-> 0, v0 + 1 |-> 0
+env _, _
+run 2 of 0, fixed names from v0",
+    },
+    Example {
+        name: "assert proves its comparison",
+        at: ASSERTING,
+        choice: r#"["assert",[["leaf",[[0,"1"]]]]]"#,
+        aspect: Aspect::Left,
+        wanted: "
+goal
+env _
+run 2 of 0, fixed names from v0",
+    },
+    Example {
+        name: "assert proves its comparison",
+        at: ASSERTING,
+        choice: r#"["assert",[["leaf",[[0,"1"]]]]]"#,
+        aspect: Aspect::Owed,
+        wanted: "
+2 <= 0",
+    },
+    Example {
+        name: "set wants an assignment",
+        at: ASSERTING,
+        choice: r#"["set"]"#,
+        aspect: Aspect::Left,
+        wanted: "
+not applicable",
+    },
+    Example {
+        name: "if splits",
+        at: BRANCHING,
+        choice: r#"["if"]"#,
+        aspect: Aspect::Left,
+        wanted: "
+goal
+sorts Int
+rows v0 + 1 <= 0
+store v0, 0, 0
+env v0, _, _, _
+run 2 4 5 of 0, fixed names from v1
+goal
+sorts Int
+rows -1*v0 <= 0
+store v0, 0, 0
+env v0, _, _, _
+run 3 4 5 of 0, fixed names from v1",
+    },
+    Example {
+        name: "loop takes the invariant",
+        at: BEFORE_LOOP,
+        choice: r#"["loop"]"#,
+        aspect: Aspect::Left,
+        wanted: "
+goal
+sorts Int, Int
+rows -1*v0 + 1 <= 0
+store v0, 1, 0
+cells v0 |-> v1
+env v0, _, _, v1, _
+env v0, 1, 0, v1, _
+take 2:25 in env 1, creations 3, at 2",
+    },
+    Example {
+        name: "turn splits",
+        at: IN_LOOP,
+        choice: r#"["turn"]"#,
+        aspect: Aspect::Left,
+        wanted: "
+goal
+sorts Int, Int, Int, Int
+rows v1 + -1*v3 <= 0, -1*v0 + v1 + 1 <= 0
+store v0, v1, v2
+env v0, v1, v2, v3, _
+run 3 2 4 5 of 0, fixed names from v3
+goal
+sorts Int, Int, Int, Int
+rows v1 + -1*v3 <= 0, v0 + -1*v1 <= 0
+store v0, v1, v2
+env v0, v1, v2, v3, _
+run 4 5 of 0, fixed names from v3",
+    },
+    Example {
+        name: "call takes and gives the contract",
+        at: CALLING,
+        choice: r#"["call"]"#,
+        aspect: Aspect::Left,
+        wanted: "
+goal
+sorts Int, Int
+rows -1*v0 + 1 <= 0
+store v0, v1
+cells v0 |-> 0
+env _, _, _
+env v0, 7, _, _, v1
+take 1:29 in env 1, creations 3, at 2
+rest 0 at 2
+give 1:46 1:58 in env 1 at 2
+run 3 4 of 1, fixed names from v0",
+    },
+    Example {
+        name: "fork gives nothing back",
+        at: FORKING,
+        choice: r#"["fork"]"#,
+        aspect: Aspect::Left,
+        wanted: "
+goal
+sorts Int, Int, Int
+rows -1*v0 + 1 <= 0, -1*v0 + 1 <= 0, v1 = 0
+store v0, v1
+cells v0 |-> 7
+env _, _, _
+env v0, 7, _, 0, v1
+env v0, v1, _, _, v2
+take 1:29 in env 2, creations 3, at 3
+rest 0 at 3
+run 4 of 1, fixed names from v0",
+    },
+    Example {
+        name: "return takes the postcondition",
+        at: RETURNING,
+        choice: r#"["return"]"#,
+        aspect: Aspect::Left,
+        wanted: "
 goal
 sorts Int
 store v0
 env v0, _
 env v0, v0 + 1
-take 1:26 in env 1, creations 3, at 1";
-    assert_eq!(rt; found.as_str(), wanted);
-    Ok(())
+take 1:26 in env 1, creations 3, at 1",
+    },
+];
+
+#[test]
+fn statements_are_run(rt: HostRuntime) -> Result<(), Fail> {
+    all_hold(&rt, rt.alloc(), STATEMENTS)
 }
