@@ -21,7 +21,7 @@ use cap_stab::{candidates_of, later_state};
 use std::alloc::{AllocError, Global};
 
 /// What may be known of a fact when the others have moved.
-#[derive(Debug, Drop)]
+#[derive(Drop)]
 pub enum Closure {
     /// Its state stays the same, by these certificates.
     Keeps(Vec<Cert>),
@@ -31,7 +31,7 @@ pub enum Closure {
 }
 
 /// The closure of a fact, and what passed a limit on the way to it.
-#[derive(Debug, Drop)]
+#[derive(Drop)]
 pub struct Closed {
     pub closure: Closure,
     pub notes: Notes,

@@ -15,7 +15,7 @@ use cap_stab::Candidate;
 use std::alloc::{AllocError, Global};
 
 /// A candidate that is still in the list.
-#[derive(Debug, Drop)]
+#[derive(Drop)]
 pub struct Listed {
     pub number: u32,
     pub row: Row,

@@ -47,7 +47,7 @@ impl<T: Drop> From<AllocFailed<T>> for DerivError {
 }
 
 // How a reading ended.
-#[derive(Clone, Copy, Debug, PartialEq, Eq)]
+#[derive(Clone, Copy, PartialEq, Eq)]
 enum Ended {
     Complete,
     Bad(u64),

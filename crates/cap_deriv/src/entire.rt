@@ -8,7 +8,7 @@ use cap_goal::Choice;
 use std::alloc::Global;
 
 /// The number of trees that the first line says, and the choices in preorder.
-#[derive(Debug, Drop)]
+#[derive(Drop)]
 pub struct Lines {
     pub trees: u32,
     pub choices: Vec<Choice>,

@@ -15,7 +15,7 @@ use simdutf8::basic::from_utf8;
 use std::alloc::Global;
 
 /// A line behind the first.
-#[derive(Debug, Drop)]
+#[derive(Drop)]
 pub(crate) enum Found {
     Node(Choice),
     End(u64),

@@ -11,7 +11,7 @@ use json::{Reader, Token};
 use std::alloc::{AllocError, AllocFailed, Global};
 
 /// Why a line is read as nothing: its form, or want of memory.
-#[derive(Clone, Copy, Debug, PartialEq)]
+#[derive(Clone, Copy, PartialEq)]
 pub(crate) enum Fault {
     Form,
     OutOfMemory,

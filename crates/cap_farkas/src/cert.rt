@@ -9,7 +9,7 @@ use cap_lin::{Kind, Row};
 use std::marker::Model;
 
 /// Pairs of a row's number, counted from 0, and its multiplier. Contracts see them as the list.
-#[derive(Debug, Drop)]
+#[derive(Drop)]
 pub struct Multipliers {
     items: Vec<(u32, i128)>,
 }
@@ -46,7 +46,6 @@ impl Multipliers {
 }
 
 /// A certificate that rows have no valuation, by Farkas' lemma.
-#[derive(Debug)]
 pub enum Cert {
     /// The rows, times their multipliers, add up to a contradiction.
     Leaf(Multipliers),

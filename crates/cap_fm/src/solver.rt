@@ -14,7 +14,7 @@ use std::alloc::Global;
 use std::slice;
 
 /// What elimination finds of rows.
-#[derive(Debug, Drop)]
+#[derive(Drop)]
 pub enum Answer {
     /// No valuation solves the rows, and the certificate refutes them.
     Empty(Cert),

@@ -12,7 +12,6 @@ use std::alloc::{AllocError, Global};
 /// The guards of a region: one guard that is unique, divisible, counting or indexed, or two
 /// algebras of which a thread may hold parts of both (`Pair`) or of one alone (`Either`). Its atoms
 /// are its unique, divisible, counting and indexed guards, numbered from 0, left to right.
-#[derive(Debug)]
 pub enum Algebra {
     Unique,
     Divisible,

@@ -10,7 +10,7 @@ use std::alloc::{AllocError, Global};
 
 /// A part of one of two guards, never of both. The units of both sides are one part, and so are the
 /// full parts of both sides.
-#[derive(Debug, Drop)]
+#[derive(Drop)]
 pub enum Either<A, B> {
     Left(A),
     Right(B),

@@ -20,7 +20,7 @@ use cap_galg_indices::Indices;
 use std::alloc::{AllocError, Global};
 
 /// An element of a declared algebra.
-#[derive(Debug, Drop)]
+#[derive(Drop)]
 pub struct Elem {
     algebra: Algebra,
     node: Node,

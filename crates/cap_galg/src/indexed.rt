@@ -10,7 +10,7 @@ use std::alloc::{AllocError, Global};
 
 /// A part of a guard that is handed out by indices: a set of them. The empty set is the unit, and
 /// all indices are full.
-#[derive(Debug, Drop)]
+#[derive(Drop)]
 pub struct Indexed {
     indices: Indices,
     ghost proper: { AreBounds indices } by { ascend-prop 0 indices },

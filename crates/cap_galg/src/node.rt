@@ -15,7 +15,6 @@ use std::alloc::{AllocError, Global};
 
 /// An element of some algebra. A pair isn't two units, and what stands on a side of a sum is
 /// neither unit nor full there.
-#[derive(Debug)]
 pub enum Node {
     Nothing,
     One,

@@ -5,7 +5,7 @@ use crate::guard::Guard;
 use std::alloc::{AllocError, Global};
 
 /// Parts of two guards at once. It is full where both parts are.
-#[derive(Debug, Drop)]
+#[derive(Drop)]
 pub struct Pair<A, B> {
     pub left: A,
     pub right: B,

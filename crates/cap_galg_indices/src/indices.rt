@@ -11,7 +11,7 @@ use std::marker::Model;
 /// A set of indices that is finite or lacks finitely many. Contracts see its bounds: from the first
 /// on an index is in the set, from the second on it isn't, and so on. Two sets that are equal have
 /// the same bounds.
-#[derive(Debug, Drop)]
+#[derive(Drop)]
 pub struct Indices {
     bounds: Vec<u128>,
 }

@@ -11,7 +11,6 @@ pub const DEEPEST: u32 = 1000;
 /// Which rule is taken at a goal, and how. Cells, facts, pieces, opened regions, cases, sums and
 /// candidates are named by number, from 0; a move is 0 for none, or the number of an action, from
 /// 1.
-#[derive(Debug)]
 pub enum Choice {
     /// The rows contradict each other.
     Absurd(Cert),
@@ -116,14 +115,14 @@ impl Choice {
 
 /// A choice, with a tree for each of its subgoals.
 #[cycle(node)]
-#[derive(Debug, Drop)]
+#[derive(Drop)]
 pub struct Node {
     pub choice: Choice,
     pub children: Vec<Node>,
 }
 
 /// One tree for each root of all units; a root without tasks has none.
-#[derive(Debug, Drop)]
+#[derive(Drop)]
 pub struct Bundle {
     pub trees: Vec<Option<Node>>,
 }

@@ -8,7 +8,6 @@ use std::marker::Model;
 
 /// What is known of a region: its term, the number of its type, its arguments without the region
 /// itself, and its state. It is loose while what it says of the state is out of date.
-#[derive(Debug)]
 pub struct Fact {
     pub region: Term,
     pub kind: u32,
@@ -83,7 +82,7 @@ pub fn copy_terms(alloc: Global, terms: &[Term]) -> Result<Vec<Term>, AllocError
 }
 
 /// For each name of an assertion a term, or nothing while the name is unbound.
-#[derive(Debug, Drop)]
+#[derive(Drop)]
 pub struct Env {
     pub terms: Vec<Option<Term>>,
 }

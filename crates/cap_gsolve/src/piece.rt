@@ -12,7 +12,6 @@ use std::alloc::{AllocError, Global};
 /// How much of one guard, by terms: all of a unique one, a fraction of a divisible one; of a
 /// counting one, the source with some tokens out, or some tokens; of an indexed one, the indices
 /// from a start on that are below an end, or all where there is none.
-#[derive(Debug)]
 pub enum Form {
     One,
     Share(Term),
@@ -78,7 +77,6 @@ fn copied_span(alloc: Global, start: &Term, end: &Option<Term>) -> Result<Form, 
 
 /// A part of one guard of a region: the region by its term, the guards by their kind's number, and
 /// the atom of their algebra, from 0, left to right.
-#[derive(Debug)]
 pub struct Piece {
     pub region: Term,
     pub kind: u32,

@@ -8,7 +8,7 @@ use crate::error::CheckError;
 use std::alloc::AllocError;
 
 /// How many nodes were passed, and whether one is missing behind them.
-#[derive(Clone, Copy, Debug)]
+#[derive(Clone, Copy)]
 pub(crate) struct Walk {
     pub before: u64,
     pub lacks: bool,

@@ -41,7 +41,7 @@ pub enum Op {
 }
 
 /// What is known of a term.
-#[derive(Debug, Drop)]
+#[derive(Drop)]
 pub struct Row {
     pub term: Term,
     pub kind: Kind,

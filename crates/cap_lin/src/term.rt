@@ -31,7 +31,6 @@ type Parts = SmallVec<(u32, i128), 2>;
 ///
 /// Arithmetic is exact: an operation gives its term, or the two operands of the first sum or
 /// product on the way that leaves 128 bits.
-#[derive(Debug)]
 pub struct Term {
     constant: i128,
     parts: Parts,

@@ -27,7 +27,7 @@ pub struct Ahead {
 }
 
 /// What a step did. Addresses come before values.
-#[derive(Clone, Copy, Debug, PartialEq, Eq)]
+#[derive(Clone, Copy, PartialEq, Eq)]
 pub enum Event {
     Set(i128),
     Read(i128, i128),

@@ -17,7 +17,6 @@ use std::alloc::{AllocError, Global};
 
 /// A function that runs: its number, what it was given, its parameters and locals, its place in the
 /// function's body, and the local of its caller that gets the result.
-#[derive(Debug)]
 pub struct Frame {
     pub(crate) function: u32,
     pub(crate) arguments: Vec<i128>,

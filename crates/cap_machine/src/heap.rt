@@ -17,7 +17,7 @@ use std::collections::BTreeMap;
 use std::marker::Model;
 
 /// The cells, by their addresses.
-#[derive(Debug, Drop)]
+#[derive(Drop)]
 pub(crate) struct Heap {
     cells: BTreeMap<i128, i128>,
 }

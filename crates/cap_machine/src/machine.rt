@@ -21,7 +21,6 @@ use std::alloc::{AllocError, Global};
 
 /// A program's run: the heap, the frames of each thread with the top one last, and whether a fault
 /// stopped it.
-#[derive(Debug)]
 pub struct Machine {
     pub(crate) heap: Heap,
     pub(crate) threads: Vec<Vec<Frame>>,

@@ -12,7 +12,7 @@ use std::alloc::AllocError;
 
 /// A block that was entered: by the statement at an index of the block around it, on one of its
 /// sides.
-#[derive(Clone, Copy, Debug)]
+#[derive(Clone, Copy)]
 pub(crate) struct Level {
     pub(crate) index: usize,
     pub(crate) side: bool,

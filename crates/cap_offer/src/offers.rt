@@ -14,7 +14,7 @@ use std::alloc::{AllocError, Global};
 
 /// The choices that are offered at a goal, in the order in which a search tries them, each with its
 /// certificates; and the first limit of each kind that was passed while they were decided.
-#[derive(Debug, Drop)]
+#[derive(Drop)]
 pub struct Offers {
     pub choices: Vec<Choice>,
     pub notes: Notes,

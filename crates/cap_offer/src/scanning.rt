@@ -36,7 +36,7 @@ pub(crate) enum Sought<'a> {
 }
 
 /// What a scan of the cells comes to at one of them.
-#[derive(Debug, Drop)]
+#[derive(Drop)]
 pub(crate) enum Scan {
     Finds(Choice),
     /// The cell has the address, and yet there is no choice.

@@ -19,7 +19,7 @@ use std::alloc::Global;
 
 /// What is known when the turn of an action's indexed atoms comes: the new state of the region, and
 /// what the action's names stand for.
-#[derive(Debug, Drop)]
+#[derive(Drop)]
 pub struct Turn {
     pub state: Term,
     pub env: Env,

@@ -11,7 +11,7 @@ use cap_rules_steps::next_statement;
 use std::alloc::{AllocError, Global};
 
 /// A statement by its number, and a tree of its function.
-#[derive(Clone, Copy, Debug)]
+#[derive(Clone, Copy)]
 pub(crate) struct Spot {
     pub home: Home,
     pub number: u32,

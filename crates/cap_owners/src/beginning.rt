@@ -30,7 +30,7 @@ const BODY_ROOT: usize = 2;
 
 /// A root of a function behind whose assertion a frame begins, and the root of that assertion's
 /// stability.
-#[derive(Clone, Copy, Debug)]
+#[derive(Clone, Copy)]
 pub(crate) struct Opening {
     pub function: u32,
     pub stability: usize,

@@ -31,7 +31,7 @@ use cap_replay::{End, Schedule, last_line, push_step};
 use std::alloc::{AllocError, Global};
 
 /// The text of a run with its accounts, and how it ends.
-#[derive(Debug, Drop)]
+#[derive(Drop)]
 pub struct Owned {
     pub text: Vec<u8>,
     pub end: End,

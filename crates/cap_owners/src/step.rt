@@ -31,7 +31,7 @@ use std::alloc::{AllocError, Global};
 
 /// What is kept of the machine's frame before it steps: its function, what that was given, its
 /// variables, and the number of its next statement.
-#[derive(Debug, Drop)]
+#[derive(Drop)]
 pub(crate) struct Stepping {
     pub function: u32,
     pub arguments: Vec<i128>,

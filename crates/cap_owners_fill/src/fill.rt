@@ -8,7 +8,6 @@ use std::marker::Model;
 
 /// By what the items of an assertion are met: the values of its names and of each `_` in order, and
 /// the regions of its facts with the states in which they are.
-#[derive(Debug)]
 pub struct Fill {
     pub names: Values,
     pub wildcards: Values,

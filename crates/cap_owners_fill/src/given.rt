@@ -16,7 +16,7 @@ use std::alloc::{AllocError, Global};
 
 /// The first conditional of an assertion: its comparison, and whether nothing is left to be given on
 /// each side, what comes behind the conditional included.
-#[derive(Clone, Copy, Debug)]
+#[derive(Clone, Copy)]
 pub struct Parting<'a> {
     pub condition: &'a Comp,
     pub holding_is_empty: bool,
@@ -25,7 +25,7 @@ pub struct Parting<'a> {
 
 /// What an assertion brings, up to its first conditional with its comparison: the values of the
 /// variables that are new, and those of `_` that are left.
-#[derive(Debug, Drop)]
+#[derive(Drop)]
 pub struct Given<'a> {
     pub new: Values,
     pub wildcards: Values,

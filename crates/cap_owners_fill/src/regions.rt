@@ -15,7 +15,6 @@ use std::rc::Rc;
 
 /// A region with its part, and the case and what it was by which it owns that. Arguments are without
 /// the region itself.
-#[derive(Debug)]
 pub struct TrackedRegion {
     pub number: i128,
     pub kind: u32,
@@ -65,7 +64,7 @@ impl Model for TrackedRegion {
 }
 
 /// Regions by ascending numbers. Copies share them.
-#[derive(Debug, Drop)]
+#[derive(Drop)]
 pub struct Regions {
     regions: Vec<Rc<TrackedRegion>>,
 }

@@ -20,7 +20,6 @@ pub(crate) const OVER: u128 = 1 << 63;
 
 /// An element of the guards of a region type: cap_galg's elements have counts and indices of 64
 /// bits, and those of a track are values of terms.
-#[derive(Debug)]
 pub(crate) enum Element {
     Nothing,
     One,

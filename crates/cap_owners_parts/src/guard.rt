@@ -15,7 +15,7 @@ use std::alloc::{AllocError, Global};
 
 /// What a part has of one region's guards: the number of the region's type, and an element of its
 /// algebra that is not the unit.
-#[derive(Debug, Drop)]
+#[derive(Drop)]
 pub struct Guard {
     pub(crate) kind: u32,
     pub(crate) element: Element,

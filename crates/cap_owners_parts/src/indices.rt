@@ -11,7 +11,7 @@ use std::marker::Model;
 /// A set of indices that is finite or lacks finitely many, by its bounds: from the first on an
 /// index is in the set, from the second on it isn't, and so on. Indices are whole numbers of a
 /// track, so that cap_galg_indices' sets, which are made of 64 bits, do not serve.
-#[derive(Debug, Drop)]
+#[derive(Drop)]
 pub(crate) struct Indices {
     bounds: Vec<u128>,
 }

@@ -20,7 +20,6 @@ use std::collections::BTreeMap;
 use std::marker::Model;
 
 /// What a frame or a region owns: cells by their addresses, and of each region one guard.
-#[derive(Debug)]
 pub struct Part {
     pub(crate) cells: BTreeMap<i128, i128>,
     pub(crate) guards: BTreeMap<i128, Guard>,

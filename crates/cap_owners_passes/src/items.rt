@@ -35,7 +35,7 @@ pub(crate) struct Setting<'s> {
 
 /// Where a walk goes once an item is taken: the number of the child, if the choice leaves one, and
 /// the value of the variable that is new, if there is one.
-#[derive(Clone, Copy, Debug)]
+#[derive(Clone, Copy)]
 pub(crate) struct Taken {
     pub(crate) child: Option<usize>,
     pub(crate) new: Option<Value>,

@@ -15,7 +15,7 @@ use std::alloc::{AllocError, Global};
 use std::marker::Model;
 
 /// What is taken under way: by what its items are met so far, and what they own.
-#[derive(Debug, Drop)]
+#[derive(Drop)]
 pub struct Taking {
     pub fill: Fill,
     pub part: Part,
@@ -54,7 +54,7 @@ impl Taking {
 ///
 /// A region that is made brings a variable, so the number of the next one is at most 1 more than
 /// there are regions and values.
-#[derive(Debug, Drop)]
+#[derive(Drop)]
 pub struct Walk<'e> {
     pub values: Values,
     pub regions: Regions,

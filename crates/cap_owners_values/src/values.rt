@@ -19,7 +19,7 @@ use std::marker::Model;
 const OVER: i128 = 1 << 63;
 
 /// Values of the variables of a state or of the names of an assertion, by their numbers from 0.
-#[derive(Debug, Drop)]
+#[derive(Drop)]
 pub struct Values {
     values: Vec<Value>,
 }

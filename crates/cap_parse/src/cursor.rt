@@ -16,7 +16,7 @@ use cap_syntax::Place;
 use std::alloc::{AllocError, AllocFailed, Global};
 
 /// Why there is no tree. The cursor then stands at the token at fault, or at the end.
-#[derive(Clone, Copy, Debug, PartialEq, Eq)]
+#[derive(Clone, Copy, PartialEq, Eq)]
 pub(crate) enum Stop {
     Unexpected,
     TooDeep,

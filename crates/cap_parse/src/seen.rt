@@ -17,7 +17,7 @@ use std::marker::Model;
 
 /// Where a token stands: at the start of a text, or behind `caper`, or later in a text of the second
 /// version, where a `[` would be that of an indexed guard or not, or later in one of the first.
-#[derive(Clone, Copy, Debug, PartialEq, Eq)]
+#[derive(Clone, Copy, PartialEq, Eq)]
 pub(crate) enum Spot {
     Start,
     Version,

@@ -3,7 +3,6 @@ use cap_lin::{Op, Sort, Term};
 use cap_syntax::Place;
 
 /// A comparison: its two sides, their sort, and the place of the left one.
-#[derive(Debug)]
 pub struct Comp {
     pub left: Term,
     pub op: Op,
@@ -25,7 +24,7 @@ impl Drop for Comp {
 }
 
 /// A value that an assertion states: any at all, which is written `_`, or that of a term.
-#[derive(Debug, Drop)]
+#[derive(Drop)]
 pub enum Slot {
     Any,
     Is(Term),
@@ -34,7 +33,6 @@ pub enum Slot {
 /// What is asked of a guard: the whole of a unique one; an amount of a divisible one; of a counting
 /// one the source with a count of tokens out, or a count of tokens; of an indexed one an index, or
 /// all indices from one on.
-#[derive(Debug)]
 pub enum Asked {
     One,
     Share(Slot),
@@ -60,7 +58,6 @@ impl Drop for Asked {
 /// An item of an assertion. A variable is numbered as in the terms around it; region types,
 /// functions and the atoms of a region type are numbered from 0.
 #[cycle(assertion)]
-#[derive(Debug)]
 pub enum Item {
     Compare(Comp),
     /// A conditional: the items where its comparison holds, and those where it does not. Neither side
@@ -91,7 +88,6 @@ impl Drop for Item {
 /// An assertion: the sorts of the names that are new in it, and its items. The names belong to what
 /// follows `ensures` or `invariant`; other assertions have none, and contracts see only their items.
 #[cycle(assertion)]
-#[derive(Debug)]
 #[derive(Drop)]
 pub struct Assertion {
     pub names: Vec<Sort>,

@@ -8,7 +8,6 @@ use cap_syntax::{Place, Text};
 /// body, which ends with its closing return, and the place of its first token. Its variables are its
 /// parameters, numbered from 0, then its locals, its fixed names, the result, and last the names of
 /// the assertion at hand.
-#[derive(Debug)]
 pub struct Function {
     pub name: Text,
     pub params: u32,
@@ -40,7 +39,7 @@ impl Drop for Function {
 /// A statement: its number in text order within its function, from 1, and the place of its first
 /// token. The closing return has the place of the body's last brace.
 #[cycle(block)]
-#[derive(Debug, Drop)]
+#[derive(Drop)]
 pub struct Statement {
     pub number: u32,
     pub place: Place,
@@ -49,7 +48,6 @@ pub struct Statement {
 
 /// What a statement does. A destination, which is a local, comes first.
 #[cycle(block)]
-#[derive(Debug)]
 pub enum Act {
     Set(u32, Term),
     /// Reads the cell at an address.

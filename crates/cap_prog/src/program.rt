@@ -9,7 +9,6 @@ use std::marker::Model;
 
 /// A program: its region types and its functions, which are numbered from 0 in the order of the text,
 /// and the number of `main`. It is well-formed.
-#[derive(Debug)]
 pub struct Program {
     regions: Vec<RegionType>,
     functions: Vec<Function>,

@@ -8,7 +8,6 @@ use cap_syntax::{Place, Text};
 /// itself, the algebra of its guards and the names of the algebra's atoms, its cases and its actions,
 /// and the place of its first token. Its variables are its parameters, numbered from 0, and then the
 /// names of the case or the action at hand.
-#[derive(Debug)]
 pub struct RegionType {
     pub name: Text,
     pub params: u32,
@@ -35,7 +34,6 @@ impl Drop for RegionType {
 
 /// A case of an interpretation: where the state is that of the term and the comparisons hold, the
 /// region owns the items. It has the sorts of its names; its place is that of its term.
-#[derive(Debug)]
 pub struct Case {
     pub names: Vec<Sort>,
     pub state: Term,
@@ -59,7 +57,6 @@ impl Drop for Case {
 /// An action: where the comparisons hold, who has the guards may change the state from the source to
 /// the target. A guard is an atom's number with what is asked of it. It has the sorts of its names;
 /// its place is that of its guards.
-#[derive(Debug)]
 pub struct Action {
     pub names: Vec<Sort>,
     pub guards: Vec<(u32, Asked)>,

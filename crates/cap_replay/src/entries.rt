@@ -7,7 +7,7 @@ use cap_prog::Program;
 
 /// A schedule: the arguments of `main`, the cells of the heap as pairs of an address and its value,
 /// and the entries, one for each step.
-#[derive(Debug, Drop)]
+#[derive(Drop)]
 pub struct Schedule {
     pub args: Vec<i128>,
     pub heap: Vec<(i128, i128)>,

@@ -30,7 +30,7 @@ pub enum End {
 }
 
 /// The text of a run, and how it ends.
-#[derive(Debug, Drop)]
+#[derive(Drop)]
 pub struct Played {
     pub text: Vec<u8>,
     pub end: End,

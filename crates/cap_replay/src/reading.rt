@@ -47,7 +47,7 @@ impl<T: Drop> From<AllocFailed<T>> for ScheduleError {
 }
 
 // Which lines may come next: the first one, cells, steps, or none.
-#[derive(Clone, Copy, Debug)]
+#[derive(Clone, Copy)]
 enum Stage {
     Start,
     Cells,
@@ -56,7 +56,7 @@ enum Stage {
 }
 
 // What was read so far, and the last address of the heap.
-#[derive(Debug, Drop)]
+#[derive(Drop)]
 struct Reader {
     schedule: Schedule,
     stage: Stage,

@@ -42,7 +42,7 @@ pub struct Finding<'a> {
 
 /// The first of the findings that were noted: the one with the least place and, at one place, the
 /// least number. Noting takes no memory.
-#[derive(Debug, Drop)]
+#[derive(Drop)]
 pub struct Noted<'a> {
     pub first: Option<Finding<'a>>,
 }

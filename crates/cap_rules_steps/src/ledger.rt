@@ -14,7 +14,7 @@ use std::marker::Model;
 
 /// The lists of rows that certificates have to refute, in order: to prove a row is to refute the
 /// rows with each of its negations as the last.
-#[derive(Debug, Drop)]
+#[derive(Drop)]
 pub struct Ledger {
     lists: Vec<Vec<Row>>,
 }

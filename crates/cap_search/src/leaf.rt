@@ -20,7 +20,7 @@ use cap_syntax::Place;
 
 /// What a goal lacks: the number of the statement at which its first task arose, 0 outside a body;
 /// what it needs, and the place of that, or none where it is the place of the statement.
-#[derive(Clone, Copy, Debug)]
+#[derive(Clone, Copy)]
 pub(crate) struct Leaf {
     pub statement: u32,
     pub need: Need,

@@ -3,7 +3,7 @@ use crate::obligation::Obligation;
 use cap_goal::Node;
 
 /// What a search finds of a unit.
-#[derive(Debug, Drop)]
+#[derive(Drop)]
 pub enum Verdict {
     /// All trees are found, one for each root; a root without tasks has none.
     Proved(Vec<Option<Node>>),

@@ -16,7 +16,7 @@ use cap_prog::Program;
 use std::alloc::{AllocError, AllocFailed};
 
 /// Why a search ends before it knows.
-#[derive(Clone, Copy, Debug)]
+#[derive(Clone, Copy)]
 pub(crate) enum Stop {
     /// The budget is spent.
     Spent,
@@ -41,7 +41,7 @@ impl<T: Drop> From<AllocFailed<T>> for Stop {
 
 /// What is left of the budget, whether a visit was too deep, what was noted, the number of the
 /// root, and the leaf of its tree that is to be printed.
-#[derive(Clone, Copy, Debug)]
+#[derive(Clone, Copy)]
 pub(crate) struct Walk {
     pub left: u64,
     pub deep: bool,

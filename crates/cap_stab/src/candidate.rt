@@ -12,7 +12,7 @@ use cap_rules_steps::value_over;
 use std::alloc::{AllocError, Global};
 
 /// What may be known of a fact's state after steps of others: a row over its later state.
-#[derive(Debug, Drop)]
+#[derive(Drop)]
 pub enum Candidate {
     Known(Row),
     /// The row leaves 128 bits: the operands of the first result that does.

@@ -26,7 +26,7 @@ pub enum TokenKind {
 
 /// A token: its bytes, the value of a number, and the place of the first byte. A token that is no
 /// number has the value 0.
-#[derive(Debug, Drop)]
+#[derive(Drop)]
 pub struct Token {
     pub kind: TokenKind,
     pub text: Text,

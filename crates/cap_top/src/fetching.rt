@@ -24,7 +24,7 @@ use cap_top_commands::{
 use std::alloc::{AllocError, Global};
 
 /// What a file gave: its bytes, nothing, or more bytes than a file may have.
-#[derive(Debug, Drop)]
+#[derive(Drop)]
 pub(crate) enum Fetched {
     Held(Vec<u8>),
     Unread,

@@ -15,7 +15,7 @@ use std::alloc::{AllocError, Global};
 /// What is said. A file that cannot be read is named, and a text that is shown is canonical. A
 /// derivation that was written has its lines, one that was judged the number of its nodes or why it
 /// is rejected.
-#[derive(Debug, Drop)]
+#[derive(Drop)]
 pub enum Output<'a> {
     Usage,
     Unreadable(&'a str),

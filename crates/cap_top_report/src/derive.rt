@@ -19,7 +19,7 @@ use std::alloc::{AllocError, Global};
 
 /// What a search of all units comes to: the trees of all roots, where each unit is proved and the
 /// precondition of `main` is not found empty, or else the report.
-#[derive(Debug, Drop)]
+#[derive(Drop)]
 pub enum Conclusion {
     Proved(Bundle),
     Reported(Report),

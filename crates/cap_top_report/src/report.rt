@@ -20,7 +20,7 @@ use std::alloc::{AllocError, Global};
 
 /// What is said of a program: its text, and whether each unit is proved and the precondition of
 /// `main` is not found empty.
-#[derive(Debug, Drop)]
+#[derive(Drop)]
 pub struct Report {
     pub good: bool,
     pub text: Vec<u8>,
