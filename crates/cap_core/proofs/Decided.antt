@@ -8,7 +8,7 @@ use Rattle.cap_fm_spec.specs.Solving.{RowsAscend, solved}
 use Rattle.cap_fm_spec.proofs.Lists.{each-left, each-right, each-join}
 use Rattle.cap_fm_spec.proofs.Certified.{certified}
 use Rattle.cap_fm_spec.proofs.Solved.{solved-feasible}
-use Rattle.cap_fm.proofs.Runs.{limit-later, limit-earlier}
+use Rattle.cap_fm_elimination.proofs.Runs.{limit-later, limit-earlier}
 use Rattle.cap_core.specs.Core.{Numbered, numbered_from, rows_of, numbers_of, Leaves}
 use Rattle.cap_core.specs.Deciding.{stays_unless, core_from, DecidedAreCores}
 use Rattle.cap_core.proofs.Needed.{rows-join, rows-numbered}

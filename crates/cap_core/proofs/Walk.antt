@@ -6,10 +6,10 @@ use Rattle.std.proofs.lemmas.List.Edits.{remove-append_right}
 use Rattle.cap_lin.specs.declared.row.Row.{Row}
 use Rattle.cap_fm_spec.specs.Events.{Event, wide, many, first_limit}
 use Rattle.cap_fm_spec.specs.Solving.{Logged, solved}
-use Rattle.cap_fm.specs.Answers.{Explains}
-use Rattle.cap_fm.specs.declared.error.SolveError.{SolveError}
-use Rattle.cap_fm.specs.declared.error.SolveError.TheVariants as error
-use Rattle.cap_fm.proofs.Runs.{limit-later, limit-earlier}
+use Rattle.cap_fm_elimination.specs.Answers.{Explains}
+use Rattle.cap_fm_elimination.specs.declared.error.SolveError.{SolveError}
+use Rattle.cap_fm_elimination.specs.declared.error.SolveError.TheVariants as error
+use Rattle.cap_fm_elimination.proofs.Runs.{limit-later, limit-earlier}
 use Rattle.cap_core.specs.Core.{Numbered, numbered_from, rows_of, numbers_of, Leaves, IsCore}
 use Rattle.cap_core.specs.Deciding.{stays_unless, core_from, core_of, Says, IsDecided, IsTried}
 use Rattle.cap_core.proofs.Needed.{rows-join, rows-numbered}

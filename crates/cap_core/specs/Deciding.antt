@@ -6,8 +6,8 @@ use Rattle.cap_lin.specs.Solves.{Infeasible}
 use Rattle.cap_lin.specs.declared.row.Row.{Row}
 use Rattle.cap_fm_spec.specs.Events.{first_limit}
 use Rattle.cap_fm_spec.specs.Solving.{RowsAscend, Logged, logged, after, solved}
-use Rattle.cap_fm.specs.Answers.{Explains}
-use Rattle.cap_fm.specs.declared.error.SolveError.{SolveError}
+use Rattle.cap_fm_elimination.specs.Answers.{Explains}
+use Rattle.cap_fm_elimination.specs.declared.error.SolveError.{SolveError}
 use Rattle.cap_core.specs.Core.{Numbered, numbered_from, rows_of, numbers_of, IsCore}
 
 -- a row stays unless a certificate was found without it

@@ -13,22 +13,22 @@ use Rattle.cap_lin.specs.declared.row.Kind.TheVariants.{Le, Lt, Eq, Ne}
 use Rattle.cap_lin.specs.Exact as lin
 use Rattle.cap_lin.specs.declared.error.LinError.{LinError}
 use Rattle.cap_farkas.specs.Farkas.{no_row}
-use Rattle.cap_fm.specs.Errors.{solve_error}
+use Rattle.cap_fm_elimination.specs.Errors.{solve_error}
 use Rattle.cap_farkas.specs.declared.cert.Cert.{Cert}
 use Rattle.cap_farkas.specs.declared.cert.Cert.TheVariants as cert
 use Rattle.cap_fm_spec.specs.Events.{Event, first_limit, made_all}
 use Rattle.cap_fm_spec.specs.Solving.{Logged, RowsAscend, refuted, refuted_with, then_above, split, or_next, splits, or_splits, solved}
-use Rattle.cap_fm.specs.Answers.{Explains, ExplainsSteps, IsLogged}
-use Rattle.cap_fm.specs.declared.error.SolveError.{SolveError}
-use Rattle.cap_fm.specs.declared.error.SolveError.TheVariants as error
+use Rattle.cap_fm_elimination.specs.Answers.{Explains, ExplainsSteps, IsLogged}
+use Rattle.cap_fm_elimination.specs.declared.error.SolveError.{SolveError}
+use Rattle.cap_fm_elimination.specs.declared.error.SolveError.TheVariants as error
 use Rattle.cap_fm_spec.proofs.Solved.{solved-complete, solved-feasible}
 use Rattle.cap_fm_spec.proofs.Certified.{certified}
 use Rattle.cap_farkas.proofs.Sound.{refuted-excludes, excluded-infeasible}
 use Rattle.cap_fm.specs.Solved.{certificate_of, IsSolved, IsCertified, IsTrueOf, HasSolution}
 use Rattle.cap_fm.specs.declared.solver.Answer.{Answer}
 use Rattle.cap_fm.specs.declared.solver.Answer.TheVariants.{Empty, Solvable}
-use Rattle.cap_fm.proofs.Walks.{row-here}
-use Rattle.cap_fm.proofs.Runs.{explains-lin, limit-later, explains-earlier, explains-later, explains-steps, steps-narrow}
+use Rattle.cap_fm_elimination.proofs.Walks.{row-here}
+use Rattle.cap_fm_elimination.proofs.Runs.{explains-lin, limit-later, explains-earlier, explains-later, explains-steps, steps-narrow}
 
 abbrev Leaf : Type 0
 Leaf = List (ℕ × ℤ)

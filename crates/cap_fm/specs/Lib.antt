@@ -1,9 +1,1 @@
-pub mod Errors
-pub mod Entries
-pub mod Forms
-pub mod Laws
-pub mod Terms
-pub mod Views
-pub mod Answers
-pub mod Way
 pub mod Solved

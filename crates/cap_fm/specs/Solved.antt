@@ -7,8 +7,8 @@ use Rattle.cap_farkas.specs.Refutes.{Refutes}
 use Rattle.cap_farkas.specs.declared.cert.Cert.{Cert}
 use Rattle.cap_fm_spec.specs.Events.{first_limit}
 use Rattle.cap_fm_spec.specs.Solving.{Logged}
-use Rattle.cap_fm.specs.Answers.{Explains}
-use Rattle.cap_fm.specs.declared.error.SolveError.{SolveError}
+use Rattle.cap_fm_elimination.specs.Answers.{Explains}
+use Rattle.cap_fm_elimination.specs.declared.error.SolveError.{SolveError}
 use Rattle.cap_fm.specs.declared.solver.Answer.{Answer}
 use Rattle.cap_fm.specs.declared.solver.Answer.TheVariants.{Empty, Solvable}
 

@@ -1,16 +1,7 @@
-//! Elimination: whether rows exclude every valuation.
+//! The solver: whether rows exclude every valuation.
 #![tactic(auto)]
 
-mod arising;
-mod bounds;
-mod eliminate;
-mod entry;
-mod equations;
-mod error;
-mod leaf;
-mod numbered;
 mod solver;
-mod stage;
 
-pub use error::SolveError;
+pub use cap_fm_elimination::SolveError;
 pub use solver::{Answer, solve};

@@ -3,12 +3,11 @@ ghost use Rattle.std.specs.Prelude.{◌≡◌, ◌<◌, ◌-◌, ◌^◌, ◌++�
 ghost use Rattle.std.specs.Prelude.{Some};
 ghost use Rattle.cap_fm_spec.specs.Solving.{RowsAscend, solved as solved_log, split as split_log};
 ghost use Rattle.cap_fm_spec.specs.Solving.{refuted as refuted_log};
-ghost use Rattle.cap_fm.specs.Answers.{IsLogged};
+ghost use Rattle.cap_fm_elimination.specs.Answers.{IsLogged};
 ghost use Rattle.cap_fm.specs.Solved.{IsSolved, IsCertified, IsTrueOf, HasSolution};
 
-use crate::eliminate::{refuted, terms_ascend};
-use crate::error::SolveError;
 use cap_farkas::{Cert, Multipliers};
+use cap_fm_elimination::{SolveError, refuted, terms_ascend};
 use cap_lin::{Kind, Row};
 use std::alloc::Global;
 use std::slice;

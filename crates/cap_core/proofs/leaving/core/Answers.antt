@@ -1,7 +1,7 @@
 use Rattle.std.proofs.Common.{◌≡◌, ◌+◌, ◌∙◌, suc, ap, sym, subst, length, arith, remove}
 use Rattle.std.specs.Prelude.{Err}
 use Rattle.std.proofs.lemmas.Result.{err_from_is_err_and}
-use Rattle.cap_fm.specs.Answers.{Explains}
+use Rattle.cap_fm_elimination.specs.Answers.{Explains}
 use Rattle.cap_fm_spec.specs.Solving.{solved}
 use Rattle.cap_core.specs.Deciding.{IsCoreOf, IsTried}
 use Rattle.cap_core.proofs.Walk.{Goes, numbers_unless, goes-on, fails, log-done, core-done}

@@ -5,9 +5,9 @@ use Rattle.cap_lin.specs.declared.row.Kind.TheVariants.{Ne}
 use Rattle.cap_farkas.specs.declared.cert.Cert.TheVariants as cert
 use Rattle.cap_fm_spec.specs.Events.{first_limit}
 use Rattle.cap_fm_spec.specs.Solving.{split}
-use Rattle.cap_fm.specs.Answers.{IsLogged}
+use Rattle.cap_fm_elimination.specs.Answers.{IsLogged}
 use Rattle.cap_fm.proofs.Splits.{for-row, log-lin, below-wide, above-wide, below-fails, below-none, above-explains, above-is, side-is, side-explains}
-use Rattle.cap_fm.proofs.Wholes.{logged-err}
+use Rattle.cap_fm_elimination.proofs.Wholes.{logged-err}
 use Rattle.cap_fm.proofs.solver.both_sides.Goals as goal
 
 pub returns-in_err-below : goal.returns-in_err-below

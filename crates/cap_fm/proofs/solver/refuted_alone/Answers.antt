@@ -1,7 +1,7 @@
 use Rattle.std.proofs.Common.{subst}
 use Rattle.std.proofs.lemmas.List.{append-nil}
 use Rattle.cap_fm_spec.specs.Solving.{refuted}
-use Rattle.cap_fm.specs.Answers.{IsLogged}
+use Rattle.cap_fm_elimination.specs.Answers.{IsLogged}
 use Rattle.cap_fm.proofs.solver.refuted_alone.Goals as goal
 
 pub returns : goal.returns

@@ -1,7 +1,0 @@
-use Rattle.std.proofs.Common.{take}
-use Rattle.cap_fm.specs.Views.{entries_of}
-use Rattle.cap_fm.specs.Answers.{IsLeast}
-use Rattle.cap_fm.proofs.eliminate.least_variable.Given as goal
-
-abbrev pub invariant-loop-row : goal.invariant-loop-row
-invariant-loop-row l = IsLeast l.low (take l.row-index (entries_of l.stage l.rows)) l.least
