@@ -1,11 +1,4 @@
 pub mod Cut
 pub mod Texts
-pub mod Numerals
 pub mod Whole
-pub mod Plain
-pub mod Loops
-pub mod ReadAs
-pub mod Parts
-pub mod Shifts
-pub mod Words
 pub mod WholeLine

@@ -5,7 +5,8 @@ use Rattle.std.proofs.lemmas.Str.{IsUtf8-from_is_utf8, is_utf8-from_IsUtf8}
 use Rattle.serde_json.specs.Data.{Data}
 use Rattle.serde_json.specs.Read.{read}
 use Rattle.serde_json.specs.View.{items_of}
-use Rattle.cap_deriv.specs.Reading.{json_of_bytes, data_items}
+use Rattle.cap_deriv_choices.specs.Reading.{data_items}
+use Rattle.cap_deriv.specs.Reading.{json_of_bytes}
 
 pub data_found : (b : List ℕ) (d : Data) → IsUtf8 b → read b ≡ Some d → Some d ≡ json_of_bytes b
 data_found b d u e = rw (is_utf8-from_IsUtf8 b u) (sym e)

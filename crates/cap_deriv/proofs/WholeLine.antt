@@ -9,12 +9,14 @@ use Rattle.json.specs.Lex.{tokens}
 use Rattle.serde_json.specs.Data.{Data, Items}
 use Rattle.serde_json.specs.Find.{as_str}
 use Rattle.serde_json.specs.Read.{of_json, converted, read}
-use Rattle.cap_deriv.specs.Reading.{data_items, long_of_json, number_of_json, head_of_items, choice_of_items, opening_of_items, opening_by_word, opening_of_json, closing_of_items, closing_by_word, json_of_bytes}
+use Rattle.cap_deriv_choices.specs.Reading.{data_items, long_of_json, number_of_json, head_of_items, choice_of_items}
+use Rattle.cap_deriv_choices.specs.Taking.{take_long, take_number, take_text, take_choice}
+use Rattle.cap_deriv_choices.proofs.ReadAs.{with_rest, data_as, ReadsData, list_as, ReadsItems, long_reads, text_reads, item_reads, array_reads}
+use Rattle.cap_deriv_choices.proofs.Parts.{of_one, ended, one_read, same_items, map_read, cond_read, refused_read, is_of_one, head_read, number_read, last_map, nothing, under}
+use Rattle.cap_deriv_choices.proofs.Words.{word_is, choice_read}
+use Rattle.cap_deriv.specs.Reading.{opening_of_items, opening_by_word, opening_of_json, closing_of_items, closing_by_word, json_of_bytes}
 use Rattle.cap_deriv.specs.Told.{PlainLine, choice_line, end_line, or_end_line, line_of_json, line_of_bytes}
-use Rattle.cap_deriv.specs.Taking.{take_long, take_number, take_text, take_choice, take_closing, take_line_by_word, take_line, take_version_and_trees, take_opening_by_word, take_opening, if_alone}
-use Rattle.cap_deriv.proofs.ReadAs.{with_rest, data_as, ReadsData, list_as, ReadsItems, long_reads, text_reads, item_reads, array_reads}
-use Rattle.cap_deriv.proofs.Parts.{of_one, ended, one_read, same_items, map_read, cond_read, refused_read, is_of_one, head_read, number_read, last_map, nothing, under}
-use Rattle.cap_deriv.proofs.Words.{word_is, choice_read}
+use Rattle.cap_deriv.specs.Taking.{take_closing, take_line_by_word, take_line, take_version_and_trees, take_opening_by_word, take_opening, if_alone}
 
 same_map : {A : Type 0} (o : Option A) → o ≡ option_map (λ a. a) o
 same_map None = refl

@@ -2,7 +2,8 @@
 use Rattle.std.specs.Prelude.{ℕ, ◌+◌, ◌==◌, nat_lt, List, [], ◌∷◌, Option, Some, None, option_map, option_and_then, if◌then◌else◌}
 use Rattle.serde_json.specs.Data.{Data}
 use Rattle.cap_goal_spec.specs.Choices.{PlainChoice}
-use Rattle.cap_deriv.specs.Reading.{json_of_bytes, choice_of_json, opening_of_json, closing_of_json}
+use Rattle.cap_deriv_choices.specs.Reading.{choice_of_json}
+use Rattle.cap_deriv.specs.Reading.{json_of_bytes, opening_of_json, closing_of_json}
 
 -- lines end by LF; that of the last may be missing
 abbrev pub in_first_line : ℕ → List (List ℕ) → List (List ℕ)

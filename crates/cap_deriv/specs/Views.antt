@@ -1,24 +1,8 @@
--- What contracts see of the code's answers.
-use Rattle.std.specs.Prelude.{◌≡◌, List, Option, Some, None, Result, Ok, Err, ⊤}
-use Rattle.json.specs.Token.{Token}
+-- What contracts see of a line behind the first.
 use Rattle.cap_goal.specs.Views.{choice_view}
 use Rattle.cap_deriv.specs.Told.{PlainLine, choice_line, end_line}
 use Rattle.cap_deriv.specs.declared.found.Found.{Found}
 use Rattle.cap_deriv.specs.declared.found.Found.TheVariants.{Node, End}
-use Rattle.cap_deriv.specs.declared.values.Fault.{Fault}
-use Rattle.cap_deriv.specs.declared.values.Fault.TheVariants.{Form, OutOfMemory}
-
--- the answer is what the definition gives, unless memory ran out
-abbrev pub Extracts : {A B : Type 0} → (A → B) → Result A Fault → Option B → Type 0
-Extracts f (Ok x) o = Some (f x) ≡ o
-Extracts f (Err Form) o = None ≡ o
-Extracts f (Err OutOfMemory) o = ⊤
-
--- of the tokens, the first are read as the answer, and `rest` is left, unless memory ran out
-abbrev pub Takes : {A B : Type 0} → (A → B) → Result A Fault → List Token → Option (B × List Token) → Type 0
-Takes f (Ok x) rest o = Some (f x, rest) ≡ o
-Takes f (Err Form) rest o = None ≡ o
-Takes f (Err OutOfMemory) rest o = ⊤
 
 abbrev pub found_view : Found → PlainLine
 found_view (Node c) = choice_line (choice_view c)

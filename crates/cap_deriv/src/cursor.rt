@@ -5,7 +5,7 @@ ghost use Rattle.cap_deriv.specs.declared.cursor.DerivError.TheVariants.{OutOfMe
 
 use crate::first::first_line;
 use crate::found::{Found, line, opening};
-use crate::values::Fault;
+use cap_deriv_choices::Fault;
 use cap_goal::Choice;
 use json::Scratch;
 use std::alloc::{AllocError, AllocFailed, Global};

@@ -1,14 +1,14 @@
 //! What a line is: the first one, that of a choice, or the last one.
 ghost use Rattle.std.specs.Prelude.{◌≡◌, option_and_then};
 ghost use Rattle.json.specs.Lex.{tokens};
+ghost use Rattle.cap_deriv_choices.specs.Views.{Extracts, Takes};
 ghost use Rattle.cap_deriv.specs.Reading.{json_of_bytes, opening_of_json};
 ghost use Rattle.cap_deriv.specs.Taking.{take_version_and_trees, take_opening, take_closing};
 ghost use Rattle.cap_deriv.specs.Taking.{take_line, if_alone};
 ghost use Rattle.cap_deriv.specs.Told.{line_of_bytes};
-ghost use Rattle.cap_deriv.specs.Views.{Extracts, Takes, found_view};
+ghost use Rattle.cap_deriv.specs.Views.{found_view};
 
-use crate::choices::choice;
-use crate::values::{Fault, close, long, number, open, text};
+use cap_deriv_choices::{Fault, choice, close, long, number, open, text};
 use cap_goal::Choice;
 use json::{Reader, Scratch};
 use simdutf8::basic::from_utf8;

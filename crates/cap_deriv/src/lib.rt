@@ -1,13 +1,10 @@
 //! Derivations as lines of JSON: read line by line.
 #![tactic(auto)]
 
-mod certs;
-mod choices;
 mod cursor;
 mod entire;
 mod first;
 mod found;
-mod values;
 
 pub use cursor::{Cursor, DerivError, MOST_NODES};
 pub use entire::{Lines, read};

@@ -9,7 +9,7 @@ use Rattle.serde_json.specs.Data.{Data, null, boolean, number, string, array, ob
 use Rattle.serde_json.specs.Find.{as_str, as_u64}
 use Rattle.cap_farkas.specs.declared.cert.Cert.{Cert}
 use Rattle.cap_farkas.specs.declared.cert.Cert.TheVariants.{Leaf, Split}
-use Rattle.cap_deriv.specs.Reading.{array_of_json, number_of_json, multiplier_text, multiplier_of_json, pair_of_items, pair_of_json, pairs_of_json, leaf_of_items, split_of_items, cert_of_items, cert_of_json, certs_of_json, mark_of_json, marks_of_json, head_of_json}
+use Rattle.cap_deriv_choices.specs.Reading.{array_of_json, number_of_json, multiplier_text, multiplier_of_json, pair_of_items, pair_of_json, pairs_of_json, leaf_of_items, split_of_items, cert_of_items, cert_of_json, certs_of_json, mark_of_json, marks_of_json, head_of_json}
 use Rattle.cap_deriv_write.specs.Bounds.{IsMultiplier, IsPair, ArePairs, IsCert, AreCerts, IsMark}
 use Rattle.cap_deriv_write.specs.Forms.{array_form, number_form, headed_form, pair_form, pairs_form, cert_form, certs_form, mark_form, marks_form}
 use Rattle.cap_deriv_write.proofs.Options.{some_same, map_of, then_of, test_of}

@@ -7,7 +7,8 @@ use Rattle.std.proofs.lemmas.Bool.{eqb-true}
 use Rattle.serde_json.specs.Data.{Data}
 use Rattle.cap_farkas.specs.declared.cert.Cert.{Cert}
 use Rattle.cap_goal_spec.specs.Choices.{PlainChoice, by_absurd, by_clash, by_set, by_alloc, by_assert, by_if, by_loop, by_turn, by_call, by_fork, by_return, by_enter, by_act, by_pick, by_shift, by_settle, by_keep, by_give, by_fact, by_cases, by_cell, by_region, by_guard, by_convert, by_create, by_made}
-use Rattle.cap_deriv.specs.Reading.{number_of_json, numbers_of_json, cert_of_json, certs_of_json, marks_of_json, unless_empty, spans_of_json, choices_of_none, choices_of_one, choices_of_two, choices_of_three, choice_of_items, choice_of_json, head_of_json, opening_of_items, opening_by_word, opening_of_json, closing_of_items, closing_by_word, closing_of_json}
+use Rattle.cap_deriv_choices.specs.Reading.{number_of_json, numbers_of_json, cert_of_json, certs_of_json, marks_of_json, unless_empty, spans_of_json, choices_of_none, choices_of_one, choices_of_two, choices_of_three, choice_of_items, choice_of_json, head_of_json}
+use Rattle.cap_deriv.specs.Reading.{opening_of_items, opening_by_word, opening_of_json, closing_of_items, closing_by_word, closing_of_json}
 use Rattle.cap_deriv_write.specs.Bounds.{IsNumber, IsCert, AreCerts, IsMark, IsChoice}
 use Rattle.cap_deriv_write.specs.Forms.{headed_form, number_form, numbers_form, cert_form, certs_form, marks_form, choice_form, opening_form, closing_form}
 use Rattle.cap_deriv_write.proofs.Options.{some_same, then_of, test_of}

@@ -8,7 +8,8 @@ use Rattle.std.proofs.lemmas.Bool.{lt-ltb, ltb-true, eq-eqb, eqb-true}
 use Rattle.serde_json.specs.Data.{Data}
 use Rattle.serde_json.specs.Read.{read}
 use Rattle.cap_goal_spec.specs.Choices.{PlainChoice}
-use Rattle.cap_deriv.specs.Reading.{json_of_bytes, choice_of_json, opening_of_json, closing_of_json}
+use Rattle.cap_deriv_choices.specs.Reading.{choice_of_json}
+use Rattle.cap_deriv.specs.Reading.{json_of_bytes, opening_of_json, closing_of_json}
 use Rattle.cap_deriv.specs.Told.{PlainLine, choice_line, end_line, Told, all_told, bad_told, too_many_told, choice_told, most_nodes, behind_end, or_end_line, line_of_json, line_of_bytes, told_at_line, told_by, opened_by, opening_told, told_by_lines, choices_told}
 use Rattle.cap_deriv.proofs.Texts.{data_found}
 use Rattle.cap_deriv_write.specs.Bounds.{IsNumber, IsChoice}

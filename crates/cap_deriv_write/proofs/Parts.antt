@@ -8,7 +8,7 @@ use Rattle.std.proofs.lemmas.Slice.Eq.{bytes_eq-Decides}
 use Rattle.serde_json.specs.Data.{Data, null, boolean, number, string, array, object, Num, unsigned, negative, float, Items, no_items, item}
 use Rattle.serde_json.specs.View.{items_of}
 use Rattle.serde_json.specs.Find.{as_u64, as_str}
-use Rattle.cap_deriv.specs.Reading.{data_items, array_of_json, below_limit, long_of_json, number_of_json, numbers_of_json, each_of_json, head_of_items, head_of_json}
+use Rattle.cap_deriv_choices.specs.Reading.{data_items, array_of_json, below_limit, long_of_json, number_of_json, numbers_of_json, each_of_json, head_of_items, head_of_json}
 use Rattle.cap_deriv.proofs.Texts.{list_of-items_of}
 use Rattle.cap_deriv_write.specs.Bounds.{IsNumber}
 use Rattle.cap_deriv_write.specs.Forms.{array_form, list_form, number_form, numbers_form, headed_form}

@@ -4,7 +4,7 @@ use Rattle.std.specs.List.{AllByRecursion}
 use Rattle.std.specs.Str.{bytes_eq}
 use Rattle.serde_json.specs.Data.{Data}
 use Rattle.cap_goal_spec.specs.Choices.{PlainChoice}
-use Rattle.cap_deriv.specs.Reading.{row_of_word}
+use Rattle.cap_deriv_choices.specs.Reading.{row_of_word}
 use Rattle.cap_deriv_write.specs.Bounds.{IsChoice}
 use Rattle.cap_deriv_write.specs.Forms.{headed_form, choice_form}
 use Rattle.cap_deriv_write.proofs.Options.{some_same, map_of, then_of, test_of}

@@ -20,8 +20,8 @@ use Rattle.serde_json.specs.Read.{of_json, of_items, max_depth}
 use Rattle.serde_json.specs.Written.{compact_text, items_text, comma_if, outline, items_outline}
 use Rattle.serde_json.proofs.Numbers.{number_of-decimal}
 use Rattle.serde_json.proofs.Texts.{print-outline}
+use Rattle.cap_deriv_choices.proofs.Numerals.{both}
 use Rattle.cap_deriv.specs.Told.{ended_lines}
-use Rattle.cap_deriv.proofs.Numerals.{both}
 use Rattle.cap_deriv_write.specs.Bounds.{IsMultiplier}
 use Rattle.cap_deriv_write.specs.Spelled.{IsText, IsVisible, AreVisible}
 

@@ -11,9 +11,9 @@ use Rattle.std.proofs.lemmas.Str.Parse.{digit_from_value}
 use Rattle.std.proofs.lemmas.Str.{digit_value_digit}
 use Rattle.std.proofs.lemmas.Bool.{le-leb, leb-true, eqb-true, ne_eqb}
 use Rattle.cap_deriv_write.specs.Bounds.{IsMultiplier}
-use Rattle.cap_deriv.specs.Reading.{begins_with_digit, positive_text, multiplier_text}
+use Rattle.cap_deriv_choices.specs.Reading.{begins_with_digit, positive_text, multiplier_text}
+use Rattle.cap_deriv_choices.proofs.Numerals.{own, both, first_byte, positive_found}
 use Rattle.cap_deriv_write.proofs.Options.{some_same, map_of}
-use Rattle.cap_deriv.proofs.Numerals.{own, both, first_byte, positive_found}
 
 first_wide : (n : ℕ) → 0 < n → n < 10 ^ 64 → 48 < get_or (decimal n) 0 0
 first_wide n some small = (decimal_by_steps_wide (λ m ds. (0 < length ds) × (0 < m → 48 < get_or ds 0 0)) (λ m l. (omega arith, λ a. omega arith))

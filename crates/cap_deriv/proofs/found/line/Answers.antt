@@ -1,9 +1,10 @@
 use Rattle.std.proofs.Common.{Option, option_and_then, ap, subst, ◌∙◌}
 use Rattle.std.proofs.lemmas.Str.{is_utf8-from_IsUtf8}
 use Rattle.json.specs.Lex.{tokens}
+use Rattle.cap_deriv_choices.specs.Views.{Extracts}
 use Rattle.cap_deriv.specs.Told.{PlainLine, line_of_json}
 use Rattle.cap_deriv.specs.Taking.{take_line, if_alone}
-use Rattle.cap_deriv.specs.Views.{Extracts, found_view}
+use Rattle.cap_deriv.specs.Views.{found_view}
 use Rattle.cap_deriv.proofs.Texts.{data_refused}
 use Rattle.cap_deriv.proofs.WholeLine.{line_is}
 use Rattle.cap_deriv.proofs.found.line.Goals as goal

@@ -1,9 +1,9 @@
 use Rattle.std.proofs.Common.{ℕ, Option, option_and_then, ap, subst, ◌∙◌}
 use Rattle.std.proofs.lemmas.Str.{is_utf8-from_IsUtf8}
 use Rattle.json.specs.Lex.{tokens}
+use Rattle.cap_deriv_choices.specs.Views.{Extracts}
 use Rattle.cap_deriv.specs.Reading.{opening_of_json}
 use Rattle.cap_deriv.specs.Taking.{take_opening, if_alone}
-use Rattle.cap_deriv.specs.Views.{Extracts}
 use Rattle.cap_deriv.proofs.Texts.{data_refused}
 use Rattle.cap_deriv.proofs.WholeLine.{opening_is}
 use Rattle.cap_deriv.proofs.found.opening.Goals as goal

@@ -1,0 +1,25 @@
+use Rattle.std.proofs.Common.{◌≡◌, drop, get_or, true, false, ◌==◌, sym, ap, ◌∙◌, option_and_then}
+use Rattle.fast_float.specs.Text.{scan}
+use Rattle.serde_json.specs.Find.{as_u64}
+use Rattle.serde_json.specs.Read.{number_of, number_from}
+use Rattle.cap_deriv_choices.specs.Taking.{long_of_text}
+use Rattle.cap_deriv_choices.proofs.Plain.{minus_none, plain_is}
+use Rattle.cap_deriv_choices.proofs.values.whole.Goals as goal
+
+pub returns-then-has_minus : goal.returns-then-has_minus
+unfolding number_of
+returns-then-has_minus c =
+    let s = c.as_bytes-bytes.result.now in
+    let signed : (get_or s 0 0 == 45) ≡ true = sym c.if-has_minus.ensures in
+    let read : number_of s ≡ number_from true (scan (drop 1 s)) = rw signed in
+    sym (minus_none (scan (drop 1 s))) ∙ ap (option_and_then as_u64) (sym read) ∙ ap long_of_text c.as_bytes-bytes.ensures.value
+
+pub returns-else-has_minus : goal.returns-else-has_minus
+unfolding number_of
+returns-else-has_minus c =
+    let s = c.as_bytes-bytes.result.now in
+    let unsigned : (get_or s 0 0 == 45) ≡ false = sym c.if-has_minus.ensures in
+    let read : number_of s ≡ number_from false (scan s) = rw unsigned in
+    plain_is c.scan.result c.to_u64.result c.to_u64.ensures
+    ∙ ap (λ p. option_and_then as_u64 (number_from false p)) c.scan.ensures.parts
+    ∙ ap (option_and_then as_u64) (sym read) ∙ ap long_of_text c.as_bytes-bytes.ensures.value
