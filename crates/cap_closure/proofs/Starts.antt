@@ -3,7 +3,7 @@ use Rattle.std.proofs.Common.{◌≡◌, ◌≢◌, ℕ, zero, suc, arith, appen
 use Rattle.std.specs.Global.{Vec}
 use Rattle.std.proofs.lemmas.List.{length-map, map-append}
 use Rattle.std.proofs.lemmas.Bool.Decides.{nat_tests}
-use Rattle.cap_stab.specs.Finding.{candidates_seen}
+use Rattle.cap_stab_states.specs.Finding.{candidates_seen}
 use Rattle.cap_closure.specs.declared.starting.Listed as code
 use Rattle.cap_closure.specs.Views.{listed_of, list_view}
 use Rattle.std.specs.Prelude.{◌==◌, option_to_list, Result, Ok, Err, IfOk}

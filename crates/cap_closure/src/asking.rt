@@ -4,14 +4,14 @@ ghost use Rattle.cap_prog.specs.Views.{action_view, region_view};
 ghost use Rattle.cap_goal_spec.specs.States.{longest_list};
 ghost use Rattle.cap_goal_spec.specs.Candidates.{later_state as later_of};
 ghost use Rattle.cap_rules_steps.specs.Walks.{seen};
-ghost use Rattle.cap_stab.specs.Asking.{rows_seen};
+ghost use Rattle.cap_stab_states.specs.Asking.{rows_seen};
 ghost use Rattle.cap_closure.specs.Asking.{asked_view, IsAsked};
 
 use cap_goal::{Fact, State};
 use cap_lin::{Row, Term};
 use cap_prog::{Action, RegionType};
 use cap_rules_steps::RuleError;
-use cap_stab::{action_names, action_system};
+use cap_stab_states::{action_names, action_system};
 use std::alloc::{AllocError, Global};
 
 /// The terms of an action's names, and its system.

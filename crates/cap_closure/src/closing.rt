@@ -17,7 +17,7 @@ use cap_closure_decide::Notes;
 use cap_farkas::Cert;
 use cap_goal::{Fact, State};
 use cap_prog::{Program, RegionType};
-use cap_stab::{candidates_of, later_state};
+use cap_stab_states::{candidates_of, later_state};
 use std::alloc::{AllocError, Global};
 
 /// What may be known of a fact when the others have moved.

@@ -3,7 +3,7 @@ ghost use Rattle.std.specs.Prelude.{◌≡◌, ◌≤◌, ◌+◌, length, drop,
 ghost use Rattle.cap_goal_spec.specs.States.{longest_list};
 ghost use Rattle.cap_goal_spec.specs.Candidates.{known};
 ghost use Rattle.cap_closure_decide.specs.Noting.{Adds};
-ghost use Rattle.cap_stab.specs.Views.{candidate_view, candidates_view};
+ghost use Rattle.cap_stab_states.specs.Views.{candidate_view, candidates_view};
 ghost use Rattle.cap_closure.specs.Tested.{started_one as one_started, started_from};
 ghost use Rattle.cap_closure.specs.Views.{listed_of, list_view};
 
@@ -11,7 +11,7 @@ use crate::testing::proves_at;
 use cap_closure_decide::Notes;
 use cap_goal::{Fact, State};
 use cap_lin::Row;
-use cap_stab::Candidate;
+use cap_stab_states::Candidate;
 use std::alloc::{AllocError, Global};
 
 /// A candidate that is still in the list.

@@ -1,11 +1,4 @@
-mod Repeats
-mod Bounds
-mod Found
-mod Asked
-mod Collecting
-mod Collected
-mod Systems
-mod Claiming
 mod Named
+mod Kept
 mod Settled
 mod Headed

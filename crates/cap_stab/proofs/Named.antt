@@ -16,12 +16,12 @@ use Rattle.cap_rules_steps.specs.Walks.{Makes}
 use Rattle.cap_rules_steps.specs.declared.error.RuleError.{RuleError}
 use Rattle.cap_rules_steps.specs.declared.error.RuleError.TheVariants as rule
 use Rattle.cap_rules_steps.proofs.Walking.{then_made, unmade, needed, unneeded, there, lacking, all_narrow, last_wide, no_memory}
-use Rattle.cap_stab.specs.Finding.{IsRowOf, candidates_seen}
-use Rattle.cap_stab.specs.Views.{candidates_view}
-use Rattle.cap_stab.specs.declared.candidate.Candidate.{Candidate}
-use Rattle.cap_stab.specs.Proving.{named_row}
-use Rattle.cap_stab.proofs.Claiming.{go-assoc}
-use Rattle.cap_stab.proofs.Collecting.{Collects}
+use Rattle.cap_stab_states.specs.Finding.{candidates_seen}
+use Rattle.cap_stab_states.specs.Views.{candidates_view}
+use Rattle.cap_stab_states.specs.declared.candidate.Candidate.{Candidate}
+use Rattle.cap_stab_states.proofs.Claiming.{go-assoc}
+use Rattle.cap_stab_states.proofs.Collecting.{Collects}
+use Rattle.cap_stab.specs.Rows.{IsRowOf, named_row}
 
 -- ---- the row of a candidate that was made
 

@@ -1,5 +1,2 @@
-pub mod Views
-pub mod Finding
-pub mod Asking
-pub mod Proving
+pub mod Rows
 pub mod Heads

@@ -8,17 +8,14 @@ ghost use Rattle.cap_rules.specs.Resting.{keep as kept, settle as settled};
 ghost use Rattle.cap_rules.specs.Resting.{named_candidates as named_rows};
 ghost use Rattle.cap_rules.specs.Resting.{with_settled as settled_state};
 ghost use Rattle.cap_rules_steps.specs.Walks.{Makes, Claims, giving, seen};
-ghost use Rattle.cap_stab.specs.Finding.{IsRowOf};
-ghost use Rattle.cap_stab.specs.Proving.{named_row};
-ghost use Rattle.cap_stab.specs.Views.{candidate_view, candidates_view};
+ghost use Rattle.cap_stab.specs.Rows.{IsRowOf, named_row};
+ghost use Rattle.cap_stab_states.specs.Views.{candidate_view, candidates_view};
 
-use crate::candidate::Candidate;
-use crate::finding::{candidates_of, later_state};
-use crate::proving::{prove_at, prove_kept, prove_stable};
 use cap_goal::{Fact, State};
 use cap_lin::{LinError, Op, Row, Sort, Term};
 use cap_prog::RegionType;
 use cap_rules_steps::{Ledger, RuleError, with_rows, with_sort};
+use cap_stab_states::{Candidate, candidates_of, later_state, prove_at, prove_kept, prove_stable};
 use std::alloc::Global;
 
 /// Keeps the state of a fact, by its number: it is claimed to be the same after each action.

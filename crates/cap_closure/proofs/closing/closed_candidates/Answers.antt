@@ -1,6 +1,6 @@
 use Rattle.std.proofs.Common.{ap, ◌∙◌}
 use Rattle.cap_prog.specs.Views.{region_view}
-use Rattle.cap_stab.specs.Views.{candidates_view}
+use Rattle.cap_stab_states.specs.Views.{candidates_view}
 use Rattle.cap_closure.proofs.Starts.{closed-seen}
 use Rattle.cap_closure.proofs.closing.closed_candidates.Goals as goal
 

@@ -1,5 +1,5 @@
 use Rattle.std.proofs.Common.{◌≡◌, ◌+◌, ◌++◌, drop}
-use Rattle.cap_stab.specs.Views.{candidates_view}
+use Rattle.cap_stab_states.specs.Views.{candidates_view}
 use Rattle.cap_closure.specs.Tested.{started_from}
 use Rattle.cap_closure.specs.Views.{list_view}
 use Rattle.cap_closure.proofs.starting.started_behind.Given as goal

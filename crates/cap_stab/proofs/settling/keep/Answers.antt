@@ -3,7 +3,7 @@ use Rattle.std.proofs.lemmas.Result.{err_from_is_err_and}
 use Rattle.cap_prog.specs.Views.{region_view}
 use Rattle.cap_goal_spec.specs.States.{PlainFact}
 use Rattle.cap_rules_steps.proofs.Walking.{wide_claims}
-use Rattle.cap_stab.proofs.Claiming.{keep_fails, keep_made}
+use Rattle.cap_stab.proofs.Kept.{keep_fails, keep_made}
 use Rattle.cap_stab.proofs.settling.keep.Goals as goal
 
 pub returns-in_err-same : goal.returns-in_err-same

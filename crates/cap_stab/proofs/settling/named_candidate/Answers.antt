@@ -1,7 +1,7 @@
 use Rattle.std.proofs.Common.{arith}
 use Rattle.std.proofs.lemmas.Result.{err_from_is_err_and}
 use Rattle.cap_goal_spec.specs.Candidates.{candidate_of}
-use Rattle.cap_stab.specs.Views.{candidate_view}
+use Rattle.cap_stab_states.specs.Views.{candidate_view}
 use Rattle.cap_stab.proofs.Named.{row_made, row_fails, twin, beyond, number_low, number_high, number_there}
 use Rattle.cap_stab.proofs.settling.named_candidate.Goals.{then-place-low-via-then-place-low, then-place-low-via-else-place-low+then-place-all}
 use Rattle.cap_stab.proofs.settling.named_candidate.Goals as goal

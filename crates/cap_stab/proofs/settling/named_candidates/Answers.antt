@@ -5,8 +5,8 @@ use Rattle.cap_prog.specs.Views.{region_view}
 use Rattle.cap_goal_spec.specs.Candidates.{candidates}
 use Rattle.cap_rules.specs.Resting.{named_candidates}
 use Rattle.cap_rules_steps.proofs.Walking.{Leads}
-use Rattle.cap_stab.specs.Proving.{named_row}
-use Rattle.cap_stab.proofs.Collecting.{behind_these, collect_starts, collect_more, collect_fails, collect_ends}
+use Rattle.cap_stab.specs.Rows.{named_row}
+use Rattle.cap_stab_states.proofs.Collecting.{behind_these, collect_starts, collect_more, collect_fails, collect_ends}
 use Rattle.cap_stab.proofs.Named.{next_low, named_collect, seen_as, any_else}
 use Rattle.cap_stab.proofs.settling.named_candidates.Goals as goal
 

@@ -3,7 +3,7 @@ use Rattle.cap_prog.specs.Views.{region_view}
 use Rattle.cap_goal_spec.specs.Candidates.{candidates}
 use Rattle.cap_rules.specs.Resting.{named_candidates}
 use Rattle.cap_rules_steps.proofs.Walking.{Leads}
-use Rattle.cap_stab.proofs.Collecting.{behind_these}
+use Rattle.cap_stab_states.proofs.Collecting.{behind_these}
 use Rattle.cap_stab.proofs.settling.named_candidates.Given as goal
 
 abbrev pub invariant-loop-number : goal.invariant-loop-number
