@@ -19,7 +19,8 @@ use Rattle.cap_open.specs.declared.opening.Rule.TheVariants.{Enter, Act, Pick, S
 use Rattle.cap_open.specs.declared.heads.Ahead as code
 use Rattle.cap_open.specs.declared.heads.Closing as code_closing
 use Rattle.cap_open.specs.declared.heads.Shifting as code_shifting
-use Rattle.cap_open_acts.specs.Steps.{enter_at, act_at}
+use Rattle.cap_open_enter.specs.Steps.{enter_at}
+use Rattle.cap_open_acts.specs.Steps.{act_at}
 
 -- to open a region, to act on a cell, to choose how a region is closed, or to check that
 abbrev pub IsOpening : PlainChoice → Type 0

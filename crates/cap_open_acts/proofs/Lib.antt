@@ -1,6 +1,4 @@
-mod Stepping
 mod Members
-mod Regions
+mod Marks
 mod Tasks
 mod Effects
-mod Cases

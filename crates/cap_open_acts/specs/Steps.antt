@@ -1,34 +1,19 @@
--- What opening a region and acting on a cell make of a goal, step by step.
-use Rattle.std.specs.Prelude.{ℕ, ◌==◌, nat_lt, Bool, List, [], ◌∷◌, flat_map, length, remove, slice_get, if◌then◌else◌}
+-- What acting on a cell makes of a goal, step by step.
+use Rattle.std.specs.Prelude.{ℕ, ◌==◌, Bool, List, [], ◌∷◌, flat_map, remove, slice_get, if◌then◌else◌}
 use Rattle.cap_lin.specs.Linear.{Linear}
 use Rattle.cap_lin.specs.declared.row.Sort.TheVariants.{Int}
 use Rattle.cap_lin.specs.declared.row.Op.TheVariants.{Eq as Equal, Ne as Unequal}
-use Rattle.cap_prog.specs.Program.{PlainAct, PlainCase, PlainProgram}
-use Rattle.cap_rules_steps.specs.cap_goal_spec.States.{PlainFact, PlainEnv, PlainState, PlainTask, PlainGoal, goals_of}
+use Rattle.cap_prog.specs.Program.{PlainAct}
+use Rattle.cap_rules_steps.specs.cap_goal_spec.States.{PlainFact, PlainState, PlainTask, PlainGoal, goals_of}
 use Rattle.cap_rules_steps.specs.cap_goal_spec.Environments.{zero_value, one_value}
-use Rattle.cap_rules_steps.specs.cap_rules.Attempts.{Attempt, unit, ◌>>=◌, found, need}
-use Rattle.cap_rules_steps.specs.cap_rules.Making.{is_empty, sum, value_here, determined, rows_by, prove_equal, prove_differ, with_comparison, with_rows, with_local, with_env}
-use Rattle.cap_rules_steps.specs.cap_rules.Closing.{address_of, of_type, prove_other, with_opened, case_goals, Rival, rivals, with_marks, with_content, acted, closing}
-
--- the region is another than an opened one, where they are of one type
-abbrev pub one_other : PlainState → PlainFact → PlainFact → Attempt (Unit {0})
-one_other s f o = if o.kind == f.kind then prove_differ s f.region o.region else unit tt
+use Rattle.cap_rules_steps.specs.cap_rules.Attempts.{Attempt, unit, ◌>>=◌, found}
+use Rattle.cap_rules_steps.specs.cap_rules.Making.{sum, value_here, prove_equal, with_comparison, with_local}
+use Rattle.cap_rules_steps.specs.cap_rules.Closing.{address_of, Rival, rivals, with_marks, with_content, acted, closing}
 
 -- the pair of an opened region and fact f, number i, where they are of one type
 abbrev pub rival_of : PlainFact → ℕ → PlainFact → List Rival
 rival_of o i f =
     if f.kind == o.kind then record { opened = o; number = i; fact = f } ∷ [] else []
-
--- the region of fact i is opened by the statement of this number
-abbrev pub enter_at :
-    PlainProgram → PlainState → ℕ → ℕ → PlainAct → List PlainTask → Attempt (List PlainGoal)
-enter_at p s i n a ts = do
-  _ ← found (address_of a)
-  _ ← need (nat_lt (length s.opened) 2)
-  f ← found (slice_get s.facts i)
-  k ← found (slice_get p.regions f.kind)
-  _ ← prove_other s f (of_type f.kind s.opened)
-  case_goals (with_opened s i f) f n ts k.cases
 
 -- the statement of this number acts on cell j
 abbrev pub act_at :
@@ -75,16 +60,3 @@ added s j c x t = do
 -- cell j goes
 abbrev pub disposed : PlainState → ℕ → PlainState
 disposed s j = record s { cells = remove s.cells j }
-
--- where no region is opened a step begins, and the guards that are held are those held before it
-abbrev pub step_begun : PlainState → PlainState
-step_begun s = record s { before = if is_empty s.opened then s.guards else s.before }
-
--- what is known where the opened region is in a case, by an environment that is appended
-abbrev pub case_known : PlainState → PlainFact → PlainCase → PlainEnv → Attempt PlainState
-case_known s f c env = do
-  t ← determined env c.state
-  s' ← with_comparison s f.state Equal t Int
-  rows ← rows_by env c.when
-  s'' ← with_rows s' rows
-  with_env s'' env

@@ -1,25 +1,9 @@
--- What contracts see of facts, cells and terms that are lent, of pairs of regions, and of the
--- states after a statement.
+-- What contracts see of pairs of regions, and of the states after a statement.
 use Rattle.std.specs.Prelude.{List, ◌∷◌, map, option_to_list}
-use Rattle.std.specs.Borrow.{Bor}
-use Rattle.cap_lin.specs.Linear.{Linear}
-use Rattle.cap_rules_steps.specs.cap_goal_spec.States.{PlainFact, PlainState}
+use Rattle.cap_rules_steps.specs.cap_goal_spec.States.{PlainState}
 use Rattle.cap_rules_steps.specs.cap_rules.Closing as closing
 use Rattle.cap_open_acts.specs.declared.marking.Rival.{Rival}
 use Rattle.cap_open_acts.specs.declared.acting.Outcomes.{Outcomes}
-
--- ---- what is lent
-
-abbrev pub fact_lent : Bor PlainFact → PlainFact
-fact_lent f = f.now
-
-abbrev pub cell_lent : Bor (Linear × Linear) → Linear × Linear
-cell_lent c = c.now
-
-abbrev pub term_lent : Bor Linear → Linear
-term_lent t = t.now
-
--- ---- acting
 
 abbrev pub rival_view : Rival → closing.Rival
 rival_view x = record { opened = x.opened.now; number = x.number; fact = x.fact.now }

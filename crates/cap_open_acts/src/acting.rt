@@ -19,10 +19,10 @@ ghost use Rattle.cap_open_acts.specs.Acts.{heap_act_view, heap_act_of, heap_acte
 ghost use Rattle.cap_open_acts.specs.Views.{outcomes_view};
 
 use crate::closing::closing_tasks;
-use crate::lookup::{cell_at, heap_address};
 use crate::marking::{rivals, with_marks};
 use cap_goal::{Fact, Goal, State, Task};
 use cap_lin::{Op, Sort, Term};
+use cap_open_enter::{cell_at, heap_address};
 use cap_prog::Act;
 use cap_rules_steps::{
     Ledger, RuleError, add_goal, prove_equal, value_here, with_comparison, with_local,

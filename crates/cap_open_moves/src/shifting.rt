@@ -13,7 +13,7 @@ use crate::lookup::case_at;
 use crate::moving::{Move, prove_move};
 use cap_goal::{Fact, Goal, State, Task};
 use cap_lin::Term;
-use cap_open_acts::{clear_before, fact_at};
+use cap_open_enter::{clear_before, fact_at};
 use cap_prog::{Case, Program, RegionType};
 use cap_rules_steps::{Ledger, RuleError, copy_tasks, leaves, region_at};
 use cap_take_holdings::{determined_at, prove_comparisons_at, with_fact};

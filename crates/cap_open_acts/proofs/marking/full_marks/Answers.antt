@@ -1,5 +1,5 @@
 use Rattle.std.proofs.Common.{◌≡◌, length, rules, ◌∙◌}
-use Rattle.cap_open_acts.proofs.Regions.{all-set}
+use Rattle.cap_open_acts.proofs.Marks.{all-set}
 use Rattle.cap_open_acts.proofs.marking.full_marks.Goals as goal
 
 pub returns : goal.returns

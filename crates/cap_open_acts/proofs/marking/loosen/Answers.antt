@@ -2,7 +2,7 @@ use Rattle.std.proofs.Common.{◌≡◌, ap}
 use Rattle.std.proofs.lemmas.Result.{err_from_is_err_and}
 use Rattle.cap_rules_steps.specs.cap_goal_spec.States.{PlainFact}
 use Rattle.cap_rules_steps.proofs.Walking.{wide, then_narrow, then_made, unmade, done_as}
-use Rattle.cap_open_acts.proofs.Regions.{sort-facts}
+use Rattle.cap_open_acts.proofs.Marks.{sort-facts}
 use Rattle.cap_open_acts.proofs.marking.loosen.Goals as goal
 
 pub returns-in_err-of : goal.returns-in_err-of

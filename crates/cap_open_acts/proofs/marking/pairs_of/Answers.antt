@@ -1,5 +1,5 @@
 use Rattle.std.proofs.Common.{arith}
-use Rattle.cap_open_acts.proofs.Regions.{pairs-more, pairs-done}
+use Rattle.cap_open_acts.proofs.Marks.{pairs-more, pairs-done}
 use Rattle.cap_open_acts.proofs.marking.pairs_of.Goals as goal
 
 pub loop-region-preserved : goal.loop-region-preserved

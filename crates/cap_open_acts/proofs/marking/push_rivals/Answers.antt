@@ -1,5 +1,5 @@
 use Rattle.std.proofs.Common.{arith}
-use Rattle.cap_open_acts.proofs.Regions.{rivals-more, rivals-done}
+use Rattle.cap_open_acts.proofs.Marks.{rivals-more, rivals-done}
 use Rattle.cap_open_acts.proofs.marking.push_rivals.Goals as goal
 
 pub loop-number-preserved : goal.loop-number-preserved

@@ -4,7 +4,7 @@ use Rattle.std.proofs.lemmas.Result.{err_from_is_err_and}
 use Rattle.cap_rules_steps.proofs.Listing.{claims-first}
 use Rattle.cap_open_acts.specs.Views.{rival_view, rivals_view}
 use Rattle.cap_open_acts.proofs.Members.{member-seen}
-use Rattle.cap_open_acts.proofs.Regions.{marks-next, marks-fail, marks-short, marks-long, marks-end}
+use Rattle.cap_open_acts.proofs.Marks.{marks-next, marks-fail, marks-short, marks-long, marks-end}
 use Rattle.cap_open_acts.proofs.marking.with_marks.Goals as goal
 
 pub loop-place-init : goal.loop-place-init

@@ -1,0 +1,5 @@
+mod Stepping
+mod Members
+mod Regions
+pub mod Tasks
+mod Cases
