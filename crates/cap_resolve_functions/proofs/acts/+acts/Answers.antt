@@ -1,7 +1,5 @@
 use Rattle.std.proofs.Common.{◌≡◌, ◌∙◌, ◌+◌, ◌^◌, drop, length, ap, sym, arith, rules}
-use Rattle.std.proofs.lemmas.Grind.{common_steps, elements}
 use borrow.Author.Rules.{get_or_read}
-use borrow.Author.Tests.{tests}
 use Rattle.cap_prog.specs.Program.{append}
 use Rattle.cap_prog.specs.Views as seen
 use Rattle.cap_parse_tree.specs.declared.statement.Statement.TheFolds.{the_lemmas}
@@ -60,12 +58,7 @@ build_act-advance-requires t c = one_more c.args.next.now (2 ^ 32) (statement_vi
 pub build_block-push_statement-requires : goal.build_block-push_statement-requires
 build_block-push_statement-requires t c =
     let r = statements-rest c.deref-statement-items.result.now c.loop-statement.statement-index c.statement-item.result c.loop-statement-test.true c.statement-item.is in (
-      first_of (
-        search (rules, the_lemmas, get_or_read),
-        grind (the_lemmas, arith, common_steps) steps 2000000,
-        grind (the_lemmas, arith, elements) steps 2000000,
-        search (tests, rules, the_lemmas, get_or_read, common_steps),
-      ),
+      search (rules, the_lemmas, get_or_read),
       (
         statement_of (context_seen c.args.body.now) c.args.block.now c.deref-statement-items.result.now c.loop-statement.statement-index c.statement-item.result c.statement-item.is c.loop-statement-test.true c.deref-statement-items.ensures.value c.requires.narrow,
         first_below c.loop-statement.next _ (2 ^ 32) (statement_view c.statement-item.result) (statements_view (drop (c.loop-statement.statement-index + 1) c.deref-statement-items.result.now)) _ r c.loop-statement.invariant.counted c.requires.counted,
