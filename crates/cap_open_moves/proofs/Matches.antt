@@ -13,8 +13,8 @@ use Rattle.cap_rules_steps.specs.Walks.{Claims}
 use Rattle.cap_rules_steps.specs.declared.error.RuleError.{RuleError}
 use Rattle.cap_rules_steps.proofs.Listing.{LeadsClaims}
 use Rattle.cap_rules_steps.proofs.Walking.{split-at, claims_then, claims_fail, weaker, done}
-use Rattle.cap_open_moves.specs.declared.matching.MovePart.{MovePart}
-use Rattle.cap_open_moves.specs.Views.{part_view, parts_view}
+use Rattle.cap_open_moves_parts.specs.declared.parts.MovePart.{MovePart}
+use Rattle.cap_open_moves_parts.specs.Views.{part_view, parts_view}
 
 abbrev Lists : Type 0
 Lists = List (List Row)

@@ -1,5 +1,5 @@
 -- Choosing how a region is closed, and checking that, step by step.
-use Rattle.std.specs.Prelude.{ℕ, Bool, not, List, ◌∷◌, length, map, filter, find, slice_get}
+use Rattle.std.specs.Prelude.{ℕ, Bool, List, ◌∷◌, length, find, slice_get}
 use Rattle.cap_lin.specs.Linear.{Linear}
 use Rattle.cap_gsolve.specs.Pieces.{of_atom}
 use Rattle.cap_prog.specs.declared.assertion.Asked.{Asked}
@@ -8,7 +8,7 @@ use Rattle.cap_goal_spec.specs.States.{PlainFact, PlainEnv, PlainState, PlainTas
 use Rattle.cap_goal_spec.specs.Environments.{asked_slot}
 use Rattle.cap_rules.specs.Attempts.{Attempt, ◌>>=◌, found, need}
 use Rattle.cap_rules.specs.Making.{is_empty, determined, determined_slot, prove_comparisons, prove_equal, env_at, with_env}
-use Rattle.cap_rules.specs.Closing.{source_env, MovePart, guard, match_form, is_indexed, prove_within, prove_action, prove_move, with_closed}
+use Rattle.cap_rules.specs.Closing.{source_env, match_form, prove_within, prove_action, prove_move, with_closed}
 use Rattle.cap_rules.specs.Rules.{leaves, creations}
 
 -- the state to which action i leads, as far as the old state says it
@@ -34,13 +34,6 @@ abbrev pub guard_matched :
 guard_matched s f env i asked = do
   q ← found (find (of_atom f.region f.kind i) s.before)
   match_form s env asked q.form
-
--- the guards that aren't indexed
-abbrev pub guard_part : ℕ × Asked → MovePart
-guard_part g = guard g.0 g.1
-
-abbrev pub parts_plain : List (ℕ × Asked) → List MovePart
-parts_plain gs = map (λ g. guard g.0 g.1) (filter (λ g. not (is_indexed g)) gs)
 
 -- one indexed atom, out of the piece whose number stands at this place
 abbrev pub one_span :

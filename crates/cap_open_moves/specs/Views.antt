@@ -1,5 +1,5 @@
--- What contracts see of cases, actions and pieces that are lent, and of the parts of a move.
-use Rattle.std.specs.Prelude.{List, map, Result, Ok, Err}
+-- What contracts see of cases, actions and pieces that are lent, and of parts of a move that wait.
+use Rattle.std.specs.Prelude.{Result, Ok, Err}
 use Rattle.std.specs.Borrow.{Bor}
 use Rattle.std.specs.Global.{Vec}
 use Rattle.cap_gsolve.specs.declared.piece.Piece.{Piece}
@@ -11,8 +11,8 @@ use Rattle.cap_goal_spec.specs.States.{PlainEnv}
 use Rattle.cap_rules.specs.Closing as closing
 use Rattle.cap_rules_steps.specs.declared.error.RuleError.{RuleError}
 use Rattle.cap_offer_spec.specs.Turning as turning
-use Rattle.cap_open_moves.specs.declared.matching.MovePart.{MovePart}
-use Rattle.cap_open_moves.specs.declared.matching.MovePart.TheVariants as part
+use Rattle.cap_open_moves_parts.specs.declared.parts.MovePart.{MovePart}
+use Rattle.cap_open_moves_parts.specs.Views.{parts_view}
 use Rattle.cap_open_moves.specs.declared.turning.Turn.{Turn}
 
 abbrev pub case_lent : Bor Case → PlainCase
@@ -23,14 +23,6 @@ action_lent a = action_view a.now
 
 abbrev pub piece_lent : Bor Piece → Piece
 piece_lent q = q.now
-
-abbrev pub part_view : MovePart → closing.MovePart
-part_view (part.Guard i asked) = closing.guard i asked.now
-part_view part.Source = closing.source
-part_view part.Target = closing.target
-
-abbrev pub parts_view : List MovePart → List closing.MovePart
-parts_view xs = map part_view xs
 
 abbrev pub turn_view : Turn → turning.Turn
 turn_view t = record { state = t.state; env = t.env }

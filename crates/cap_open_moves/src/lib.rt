@@ -13,5 +13,4 @@ mod turning;
 pub use moving::Move;
 pub use picking::pick;
 pub use shifting::shift;
-pub use spans::asks_indices;
 pub use turning::{Turn, but_spans, match_piece, up_to_spans};

@@ -1,4 +1,4 @@
-//! Parts of a move: guards, matched with what was held before the first region of the step was
+//! Parts of a move are matched: guards with what was held before the first region of the step was
 //! opened, and the source and the target of an action.
 ghost use Rattle.std.specs.Prelude.{◌≡◌, find, position};
 ghost use Rattle.cap_gsolve.specs.Pieces.{of_atom};
@@ -16,25 +16,18 @@ ghost use Rattle.cap_rules.specs.Closing.{match_form as form_matched};
 ghost use Rattle.cap_rules.specs.Closing.{match_part as part_matched};
 ghost use Rattle.cap_take_holdings.specs.Seen.{reading_view};
 ghost use Rattle.cap_rules_steps.specs.Walks.{Makes, Claims, giving, seen};
-ghost use Rattle.cap_open_moves.specs.Views.{piece_lent, part_view};
+ghost use Rattle.cap_open_moves_parts.specs.Views.{part_view};
+ghost use Rattle.cap_open_moves.specs.Views.{piece_lent};
 ghost use Rattle.cap_open_moves.specs.Moves.{guard_matched};
 
 use cap_goal::{Env, Fact, State};
 use cap_gsolve::{Form, Piece};
 use cap_lin::{Op, Sort, Term};
+use cap_open_moves_parts::{MovePart, held_before};
 use cap_prog::{Action, Asked, Slot};
 use cap_rules_steps::{Ledger, RuleError, prove_that, value_by};
 use cap_take_holdings::{Reading, bind_open, match_term, read_slot, read_term};
 use std::alloc::Global;
-
-/// What a move matches: a guard with what was held, by its atom's number, the source with the old
-/// state, and the target with the new one.
-#[derive(Clone, Copy)]
-pub(crate) enum MovePart<'a> {
-    Guard(u32, &'a Asked),
-    Source,
-    Target,
-}
 
 // What an environment makes of what is asked of a guard.
 fn read_asked<'a>(env: &Env, asked: &'a Asked) -> Reading<'a>
@@ -393,13 +386,6 @@ fn piece_of_atom<'t>(
         None => Err(RuleError::NotApplicable),
         Some(place) => Ok(&pieces[place]),
     }
-}
-
-/// The guards that were held before the step.
-pub(crate) fn held_before(state: &State) -> &[Piece]
-    ensures { result.now ≡ state.now.before }
-{
-    state.before()
 }
 
 // A guard, out of what was held before the step.

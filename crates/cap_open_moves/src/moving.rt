@@ -1,21 +1,22 @@
 //! Moves: an action is allowed by the guards that were held, or the state is kept.
-ghost use Rattle.std.specs.Prelude.{◌≡◌, ◌++◌, IfOk, OnOk, [], length};
+ghost use Rattle.std.specs.Prelude.{◌≡◌, IfOk, [], length};
 ghost use Rattle.cap_goal_spec.specs.Environments.{unbound, region_env as env_of_region};
 ghost use Rattle.cap_prog.specs.Views.{action_view, region_view};
 ghost use Rattle.cap_rules.specs.Closing.{match_ready as ready_matched, match_all as all_matched};
-ghost use Rattle.cap_rules.specs.Closing.{parts_of as parts_in, prove_action as action_proved};
-ghost use Rattle.cap_rules.specs.Closing.{prove_move as move_proved};
+ghost use Rattle.cap_rules.specs.Closing.{prove_action as action_proved, prove_move as move_proved};
 ghost use Rattle.cap_rules.specs.Making.{prove_comparisons as comparisons_proved};
 ghost use Rattle.cap_rules_steps.specs.Walks.{Claims, giving};
-ghost use Rattle.cap_open_moves.specs.Views.{parts_view, matched_with};
-ghost use Rattle.cap_open_moves.specs.Moves.{parts_plain, kept_proved, numbered_proved};
+ghost use Rattle.cap_open_moves_parts.specs.Views.{parts_view};
+ghost use Rattle.cap_open_moves.specs.Views.{matched_with};
+ghost use Rattle.cap_open_moves.specs.Moves.{kept_proved, numbered_proved};
 
 use crate::lookup::action_at;
-use crate::matching::{MovePart, match_part, waits};
-use crate::spans::{asks_indices, match_spans};
+use crate::matching::{match_part, waits};
+use crate::spans::match_spans;
 use cap_goal::{Env, Fact, State};
 use cap_lin::Term;
-use cap_prog::{Action, Asked, RegionType};
+use cap_open_moves_parts::{MovePart, parts_of};
+use cap_prog::{Action, RegionType};
 use cap_rules_steps::{Ledger, RuleError, prove_comparisons, prove_equal};
 use cap_take_holdings::region_env;
 use std::alloc::{AllocError, Global};
@@ -26,36 +27,6 @@ use std::alloc::{AllocError, Global};
 pub struct Move<'a> {
     pub action: u32,
     pub spans: &'a [u32],
-}
-
-// Adds the guards of an action that aren't indexed.
-fn push_guards<'a>(
-    parts: &mut Vec<MovePart<'a>>,
-    guards: &'a [(u32, Asked)],
-) -> Result<(), AllocError>
-    ensures { OnOk result (parts_view parts.new.items
-        ≡ parts_view parts.old.items ++ parts_plain guards.now) }
-{
-    for guard in guards {
-        if !asks_indices(&guard.1) {
-            parts.push(MovePart::Guard(guard.0, &guard.1))?;
-        }
-    }
-    Ok(())
-}
-
-/// The guards of an action that aren't indexed, its source and its target.
-pub(crate) fn parts_of<'a>(
-    alloc: Global,
-    action: &'a Action,
-) -> Result<Vec<MovePart<'a>>, AllocError>
-    ensures { IfOk result (λ v. parts_view v.items ≡ parts_in (action_view action.now)) }
-{
-    let mut parts = Vec::new(alloc);
-    push_guards(&mut parts, &action.guards)?;
-    parts.push(MovePart::Source)?;
-    parts.push(MovePart::Target)?;
-    Ok(parts)
 }
 
 /// Matches the parts that need no other one, and gives those that wait.

@@ -5,31 +5,20 @@ ghost use Rattle.cap_gsolve.specs.declared.piece.Form.TheVariants.{Span};
 ghost use Rattle.cap_prog.specs.declared.assertion.Asked.TheVariants.{At, From};
 ghost use Rattle.cap_rules.specs.Attempts.{found, need};
 ghost use Rattle.cap_rules.specs.Making.{determined_slot as slot_determined};
-ghost use Rattle.cap_rules.specs.Closing.{asks_indices as indices_asked, is_indexed};
-ghost use Rattle.cap_rules.specs.Closing.{prove_below as below_proved};
+ghost use Rattle.cap_rules.specs.Closing.{is_indexed, prove_below as below_proved};
 ghost use Rattle.cap_rules.specs.Closing.{prove_within as within_proved};
 ghost use Rattle.cap_rules.specs.Closing.{match_spans as spans_matched};
 ghost use Rattle.cap_rules_steps.specs.Walks.{Makes, Claims, giving};
 ghost use Rattle.cap_open_moves.specs.Moves.{one_span};
 
 use crate::lookup::piece_at;
-use crate::matching::held_before;
 use cap_goal::{Env, Fact, State};
 use cap_gsolve::Form;
 use cap_lin::{Op, Sort, Term};
+use cap_open_moves_parts::{asks_indices, held_before};
 use cap_prog::Asked;
 use cap_rules_steps::{Ledger, RuleError, determined_slot, prove_that};
 use std::alloc::Global;
-
-/// Whether indices are asked of a guard.
-pub fn asks_indices(asked: &Asked) -> bool
-    ensures { result ≡ indices_asked asked.now }
-{
-    match asked {
-        Asked::At(_) | Asked::From(_) => true,
-        Asked::One | Asked::Share(_) | Asked::Src(_) | Asked::Tok(_) => false,
-    }
-}
 
 /// What the slot of what is asked stands for.
 pub(crate) fn index_of(alloc: Global, env: &Env, asked: &Asked) -> Result<Term, RuleError>

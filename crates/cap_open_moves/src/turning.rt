@@ -8,11 +8,12 @@ ghost use Rattle.cap_offer_spec.specs.Turning.{up_to_spans as turn_of, but_spans
 ghost use Rattle.cap_offer_spec.specs.Turning.{indices_known as known_indices};
 ghost use Rattle.cap_open_moves.specs.Views.{turn_view};
 
-use crate::moving::{match_all, match_ready, parts_of, prove_when, start_env};
+use crate::moving::{match_all, match_ready, prove_when, start_env};
 use crate::shifting::with_closed;
-use crate::spans::{asks_indices, index_of, match_span};
+use crate::spans::{index_of, match_span};
 use cap_goal::{Env, Fact, State};
 use cap_lin::Term;
+use cap_open_moves_parts::{asks_indices, parts_of};
 use cap_prog::{Action, Asked, Case};
 use cap_rules_steps::{Ledger, RuleError, determined, prove_comparisons};
 use std::alloc::Global;

@@ -1,7 +1,7 @@
 use Rattle.std.proofs.Common.{[], drop}
 use Rattle.cap_prog.specs.Views.{action_view}
 use Rattle.cap_rules_steps.proofs.Listing.{LeadsClaims}
-use Rattle.cap_open_moves.specs.Views.{parts_view}
+use Rattle.cap_open_moves_parts.specs.Views.{parts_view}
 use Rattle.cap_open_moves.proofs.Matches.{ready_seen}
 use Rattle.cap_open_moves.proofs.moving.match_ready.Given as goal
 
