@@ -2,5 +2,4 @@ mod Grouping
 mod Apart
 mod Cases
 mod Tasks
-mod Lists
 mod Beginning

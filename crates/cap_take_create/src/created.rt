@@ -15,12 +15,12 @@ ghost use Rattle.cap_take_items.specs.Views.{remaining_view};
 ghost use Rattle.cap_take_create.specs.Creating.{begun_tasks, state_begun, begun as region_begun};
 
 use crate::begun::tasks_begun;
-use crate::lookup::case_at;
 use cap_goal::{Env, Fact, Goal, State, Task};
 use cap_gsolve::full_pieces;
 use cap_lin::{Sort, Term};
 use cap_prog::{Assertion, Case, Item, Program, RegionType, Slot};
 use cap_rules_steps::{RuleError, leaves, region_at, term_of, with_differing, with_env, with_sort};
+use cap_take_facts::case_at;
 use cap_take_holdings::{binds_all, case_env, determined_slot_at, env_at, fact_of, with_pieces};
 use cap_take_items::Remaining;
 use std::alloc::{AllocError, Global};

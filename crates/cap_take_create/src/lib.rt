@@ -1,12 +1,7 @@
-//! Region facts that are given up: each is matched with one that is held, or its region is created.
+//! Regions that are created where a fact of them is given up.
 #![tactic(auto)]
 
 mod begun;
 mod created;
-mod lookup;
-mod matched;
-mod stated;
 
 pub use created::create;
-pub use matched::region;
-pub use stated::made;

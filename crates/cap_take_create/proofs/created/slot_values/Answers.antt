@@ -4,7 +4,7 @@ use Rattle.cap_rules.specs.Attempts.{each}
 use Rattle.cap_rules.specs.Making.{determined_slot, env_at}
 use Rattle.cap_rules_steps.proofs.Walking.{done}
 use Rattle.cap_rules_steps.proofs.Listing.{gather-first, gather-next, gather-fail, gather-end}
-use Rattle.cap_take_create.proofs.Lists.{each-gathers}
+use Rattle.cap_take_facts.proofs.Lists.{each-gathers}
 use Rattle.cap_take_create.proofs.created.slot_values.Goals as goal
 
 pub loop-slot-init : goal.loop-slot-init

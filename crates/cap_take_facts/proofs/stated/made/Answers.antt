@@ -1,6 +1,6 @@
 use Rattle.std.proofs.lemmas.Result.{err_from_is_err_and}
 use Rattle.cap_rules_steps.proofs.Walking.{made_claims, unmade_claims, claims_then, claims_fail, no_memory_claims, weaker, unmade, then_made, done_as}
-use Rattle.cap_take_create.proofs.stated.made.Goals as goal
+use Rattle.cap_take_facts.proofs.stated.made.Goals as goal
 
 pub returns-in_err-region : goal.returns-in_err-region
 returns-in_err-region c =

@@ -3,7 +3,7 @@ use Rattle.std.proofs.lemmas.Result.{err_from_is_err_and}
 use Rattle.cap_goal_spec.specs.States.{goals_of}
 use Rattle.cap_take_items.specs.Views.{remaining_view, tasks_ahead}
 use Rattle.cap_rules_steps.proofs.Walking.{made_claims, unmade_claims, claims_then, claims_fail, no_memory_claims, weaker, done_as}
-use Rattle.cap_take_create.proofs.matched.region.Goals as goal
+use Rattle.cap_take_facts.proofs.matched.region.Goals as goal
 
 pub returns-in_err-fact : goal.returns-in_err-fact
 returns-in_err-fact c =

@@ -1,6 +1,6 @@
 use Rattle.std.proofs.Common.{Some, sym, ap, ◌∙◌}
 use Rattle.cap_rules_steps.proofs.Walking.{there, lacking}
-use Rattle.cap_take_create.proofs.stated.bound_term.Goals as goal
+use Rattle.cap_take_facts.proofs.stated.bound_term.Goals as goal
 
 pub returns-in-None : goal.returns-in-None
 returns-in-None c = lacking _ c.in-None.is

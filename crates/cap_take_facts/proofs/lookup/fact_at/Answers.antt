@@ -1,6 +1,6 @@
 use Rattle.std.proofs.Common.{arith, ◌≤◌, ◌<◌, length}
 use Rattle.cap_take_items.proofs.Members.{member-there, member-lacking}
-use Rattle.cap_take_create.proofs.lookup.fact_at.Goals as goal
+use Rattle.cap_take_facts.proofs.lookup.fact_at.Goals as goal
 
 pub returns-then-number-facts : goal.returns-then-number-facts
 returns-then-number-facts c =

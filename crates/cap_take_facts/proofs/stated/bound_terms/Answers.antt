@@ -3,8 +3,8 @@ use Rattle.std.proofs.lemmas.Result.{err_from_is_err_and}
 use Rattle.cap_rules.specs.Attempts.{each, found}
 use Rattle.cap_rules_steps.proofs.Walking.{done}
 use Rattle.cap_rules_steps.proofs.Listing.{gather-first, gather-next, gather-fail, gather-end}
-use Rattle.cap_take_create.proofs.Lists.{each-gathers}
-use Rattle.cap_take_create.proofs.stated.bound_terms.Goals as goal
+use Rattle.cap_take_facts.proofs.Lists.{each-gathers}
+use Rattle.cap_take_facts.proofs.stated.bound_terms.Goals as goal
 
 pub loop-name-init : goal.loop-name-init
 loop-name-init c = rw c.new-terms.ensures.items (gather-first (each found) c.args.names.now)
