@@ -1,8 +1,7 @@
 //! Calls, forks, returns and loops.
 ghost use Rattle.std.specs.Prelude.{◌≡◌, [], ◌∷◌, IfOk, length, take};
-ghost use Rattle.cap_prog.specs.Program.{none};
 ghost use Rattle.cap_prog.specs.Views.{items_view, function_view, program_view};
-ghost use Rattle.cap_goal.specs.Views.{items_in, home_view, tasks_view};
+ghost use Rattle.cap_goal.specs.Views.{home_view, tasks_view};
 ghost use Rattle.cap_goal_spec.specs.Environments.{own_env, unbound};
 ghost use Rattle.cap_goal_spec.specs.States.{to_take, to_rest, to_give};
 ghost use Rattle.cap_rules.specs.Making.{with_env};
@@ -11,23 +10,15 @@ ghost use Rattle.cap_rules_steps.specs.Goals.{goals_view};
 ghost use Rattle.cap_pure.specs.Statements.{at_call, at_fork, at_return};
 ghost use Rattle.cap_rules_steps.specs.Walks.{Makes, giving, seen};
 
-use cap_goal::{Env, Goal, Home, Items, State, Task};
+use cap_goal::{Env, Goal, Home, State, Task};
 use cap_lin::{Sort, Term};
 use cap_prog::{Assertion, Function, Program};
+use cap_pure_parts::{fork_tasks, items_of};
 use cap_rules_steps::{
     RuleError, callee_env, function_at, leaves, own_env, value_here, values_here, with_destination,
     with_env, with_sort,
 };
 use std::alloc::{AllocError, Global};
-
-// The items of an assertion.
-fn items_of<'a>(alloc: Global, assertion: &'a Assertion) -> Result<Items<'a>, AllocError>
-    ensures { IfOk result (λ i. items_in i.lists.items none ≡ items_view assertion.now) }
-{
-    let mut lists = Vec::new(alloc);
-    lists.push(assertion.items.as_slice())?;
-    Ok(Items { lists })
-}
 
 // The callee's environment is added, by its number, and the destination has the fresh result.
 fn called(
@@ -120,26 +111,6 @@ pub(crate) fn call<'a>(
     let env = called(alloc, &mut next, function, args, destination)?;
     let tasks = call_tasks(alloc, function, env, at, tasks)?;
     Ok(leaves(alloc, next, tasks)?)
-}
-
-// What is to be done at a fork before the tasks behind it.
-fn fork_tasks<'a>(
-    alloc: Global,
-    function: &'a Function,
-    env: u32,
-    at: u32,
-    tasks: Vec<Task<'a>>,
-) -> Result<Vec<Task<'a>>, AllocError>
-    ensures { IfOk result (λ v. tasks_view v.items
-        ≡ to_take (function_view function.now).requires env 3 at
-        ∷ to_rest 0 at
-        ∷ tasks_view tasks.entry.items) }
-{
-    let mut tasks = tasks;
-    tasks.push(Task::Rest(0, at))?;
-    let before = items_of(alloc, &function.requires_)?;
-    tasks.push(Task::Take(before, env, 3, at))?;
-    Ok(tasks)
 }
 
 /// A fork of a function: its precondition is given up, and the facts are settled.

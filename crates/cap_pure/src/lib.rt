@@ -3,7 +3,6 @@
 #![tactic(auto)]
 
 mod allocation;
-mod branching;
 mod calls;
 mod contradiction;
 mod loops;

@@ -9,12 +9,12 @@ ghost use Rattle.cap_rules_steps.specs.Walks.{Makes, seen};
 ghost use Rattle.cap_pure.specs.Statements.{at_loop};
 ghost use Rattle.cap_pure.specs.Heads.{upcoming_view, all_ahead, loop_rule};
 
-use crate::branching::branches;
 use crate::calls::{at_home, take_task};
 use crate::upcoming::{Upcoming, entered, run_before, tasks_behind};
 use cap_goal::{Env, Goal, Home, Point, State};
 use cap_lin::Term;
 use cap_prog::{Act, Assertion, Program};
+use cap_pure_parts::branches;
 use cap_rules_steps::{RuleError, function_at, leaves};
 use std::alloc::{AllocError, Global};
 

@@ -11,7 +11,6 @@ ghost use Rattle.cap_rules_steps.specs.Walks.{Makes, Claims, seen};
 ghost use Rattle.cap_pure.specs.Heads.{IsAtStatement, upcoming_view, statement_rule};
 
 use crate::allocation::allocate;
-use crate::branching::branches;
 use crate::calls::{call, fork, give_back};
 use crate::contradiction::clash;
 use crate::loops::leave_loop;
@@ -19,6 +18,7 @@ use crate::straight::{check, set};
 use crate::upcoming::{Upcoming, tasks_behind, tasks_within};
 use cap_goal::{Choice, Goal, State, is_heap};
 use cap_prog::{Act, Program};
+use cap_pure_parts::branches;
 use cap_rules_steps::{Ledger, RuleError};
 use std::alloc::Global;
 

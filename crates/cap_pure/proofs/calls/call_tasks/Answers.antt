@@ -1,4 +1,4 @@
-use Rattle.cap_pure.proofs.Calling.{pushed}
+use Rattle.cap_pure_parts.proofs.Tasks.{pushed}
 use Rattle.cap_pure.proofs.calls.call_tasks.Goals as goal
 
 pub returns : goal.returns

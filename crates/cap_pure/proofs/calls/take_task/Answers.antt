@@ -1,5 +1,5 @@
 use Rattle.std.proofs.Common.{refl}
-use Rattle.cap_pure.proofs.Calling.{pushed}
+use Rattle.cap_pure_parts.proofs.Tasks.{pushed}
 use Rattle.cap_pure.proofs.calls.take_task.Goals as goal
 
 pub returns : goal.returns

@@ -9,8 +9,11 @@ use cap_prog::Comp;
 use cap_rules_steps::{RuleError, add_goal, copy_with_row, opposite, row_here};
 use std::alloc::Global;
 
-/// A subgoal in which the comparison holds, and one in which its opposite does.
-pub(crate) fn branches<'a>(
+/// A subgoal in which the comparison holds, by the store, and then one in which its opposite does,
+/// each with its tasks, of which the last comes first; none where no task has anything to be done.
+/// `NotApplicable` comes where the state's list of rows is full, `Wide` where a result leaves 128
+/// bits before that.
+pub fn branches<'a>(
     alloc: Global,
     state: &State,
     comparison: &Comp,

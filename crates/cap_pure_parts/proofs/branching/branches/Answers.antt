@@ -1,7 +1,7 @@
 use Rattle.std.proofs.Common.{refl}
 use Rattle.std.proofs.lemmas.Result.{err_from_is_err_and}
 use Rattle.cap_rules_steps.proofs.Walking.{then_made, unmade, then_value, no_value, value_is, no_memory, done_as}
-use Rattle.cap_pure.proofs.branching.branches.Goals as goal
+use Rattle.cap_pure_parts.proofs.branching.branches.Goals as goal
 
 pub returns-in_err-row : goal.returns-in_err-row
 returns-in_err-row c =
