@@ -1,8 +1,8 @@
 -- What contracts see of a judge.
 use Rattle.cap_prog.specs.Views.{program_view}
 use Rattle.cap_kernel_check.specs.declared.judge.Judge.{Judge}
-use Rattle.cap_kernel_check.specs.Debts.{owed_view}
-use Rattle.cap_kernel_check.specs.Judges.{PlainJudge}
+use Rattle.cap_kernel_check_steps.specs.Debts.{owed_view}
+use Rattle.cap_kernel_check_steps.specs.Judges.{PlainJudge}
 
 abbrev pub judge_view : Judge → PlainJudge
 judge_view j = record {

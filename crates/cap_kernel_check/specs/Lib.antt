@@ -1,12 +1,1 @@
-pub mod Starts
-pub mod Faults
-pub mod Walks
-pub mod Laws
-pub mod Views
-pub mod Checks
-pub mod Owed
-pub mod Judges
-pub mod Debts
 pub mod JudgeViews
-pub mod Growths
-pub mod GrowthViews

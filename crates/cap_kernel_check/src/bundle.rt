@@ -5,19 +5,16 @@ ghost use Rattle.cap_prog.specs.Views.{program_view};
 ghost use Rattle.cap_goal.specs.Trees.{bundle_view};
 ghost use Rattle.cap_goal.specs.Views.{goal_view};
 ghost use Rattle.cap_rules_fits.specs.Kept.{IsKept};
-ghost use Rattle.cap_kernel_check.specs.Checks.{Checked, Concluded};
-ghost use Rattle.cap_kernel_check.specs.Starts.{at_goal, no_tasks};
-ghost use Rattle.cap_kernel_check.specs.Views.{StartIsKept, Walked, start_view, starts_view};
-ghost use Rattle.cap_kernel_check.specs.Views.{tree_view, walk_view};
-ghost use Rattle.cap_kernel_check.specs.Walks.{IsEnd, VisitsStart, VisitsStarts};
+ghost use Rattle.cap_kernel_check_steps.specs.Checks.{Checked, Concluded};
+ghost use Rattle.cap_kernel_check_steps.specs.Starts.{at_goal, no_tasks};
+ghost use Rattle.cap_kernel_check_steps.specs.Views.{StartIsKept, Walked, start_view, starts_view};
+ghost use Rattle.cap_kernel_check_steps.specs.Views.{tree_view, walk_view};
+ghost use Rattle.cap_kernel_check_steps.specs.Walks.{IsEnd, VisitsStart, VisitsStarts};
 
-use crate::error::CheckError;
 use crate::gather::starts;
-use crate::laws::{faulty_are_invalid, walks_tell};
-use crate::start::Start;
 use crate::tree::visit;
-use crate::walk::Walk;
 use cap_goal::{Bundle, DEEPEST, Goal, Node};
+use cap_kernel_check_steps::{CheckError, Start, Walk, faulty_are_invalid, walks_tell};
 use cap_prog::Program;
 use std::alloc::Global;
 

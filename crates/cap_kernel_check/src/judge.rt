@@ -1,13 +1,11 @@
 //! A judge of choices, one after another.
 ghost use Rattle.std.specs.Prelude.{◌<◌};
 ghost use Rattle.cap_prog.specs.Views.{program_view};
-ghost use Rattle.cap_kernel_check.specs.Debts.{DebtsAreKept, owed_view};
+ghost use Rattle.cap_kernel_check_steps.specs.Debts.{DebtsAreKept, owed_view};
 
-use crate::debt::Debt;
-use crate::error::CheckError;
 use crate::gather::starts;
-use crate::owing::{debts_left, first_owed, owed_at, replace_first};
 use cap_goal::Choice;
+use cap_kernel_check_steps::{CheckError, Debt, debts_left, first_owed, owed_at, replace_first};
 use cap_prog::Program;
 use std::alloc::{AllocError, Global};
 
@@ -28,8 +26,8 @@ impl<'a> Judge<'a> {
     ghost use Rattle.std.specs.Prelude.{◌≡◌, ◌≤◌, [], None, IfOk, OnErr};
     ghost use Rattle.cap_rules.specs.Valid.{deepest};
     ghost use Rattle.cap_goal.specs.Views.{choice_view};
-    ghost use Rattle.cap_kernel_check.specs.Judges.{AnswersFor, Judges, JudgesNext};
-    ghost use Rattle.cap_kernel_check.specs.Judges.{above_first, paid, path_of, with_fault};
+    ghost use Rattle.cap_kernel_check_steps.specs.Judges.{AnswersFor, Judges, JudgesNext};
+    ghost use Rattle.cap_kernel_check_steps.specs.Judges.{above_first, paid, path_of, with_fault};
     ghost use Rattle.cap_kernel_check.specs.JudgeViews.{judge_view};
 
     /// The judge of so many trees, before all choices.

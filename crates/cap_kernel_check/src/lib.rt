@@ -3,24 +3,15 @@
 #![tactic(auto)]
 
 mod bundle;
-mod debt;
-mod error;
 mod gather;
-mod growth;
 mod judge;
-mod laws;
-mod left;
-mod owing;
-mod preorder;
 mod shaping;
-mod start;
 mod tree;
-mod walk;
 
 pub use bundle::check;
-pub use error::CheckError;
-pub use judge::Judge;
-pub use laws::{
-    faulty_are_invalid, judged_are_valid, judgements_are_one, valid_trees_are_one, walks_tell,
+pub use cap_kernel_check_steps::{
+    CheckError, faulty_are_invalid, judged_are_valid, judgements_are_one, valid_trees_are_one,
+    walks_tell,
 };
+pub use judge::Judge;
 pub use shaping::shape;

@@ -5,13 +5,11 @@ ghost use Rattle.cap_prog.specs.Views.{program_view};
 ghost use Rattle.cap_goal.specs.Trees.{node_view, nodes_view};
 ghost use Rattle.cap_goal.specs.Views.{goal_view};
 ghost use Rattle.cap_rules_fits.specs.Kept.{IsKept};
-ghost use Rattle.cap_kernel_check.specs.Views.{Walked, walk_view};
-ghost use Rattle.cap_kernel_check.specs.Walks.{After, entered, Visits, VisitsAll};
+ghost use Rattle.cap_kernel_check_steps.specs.Views.{Walked, walk_view};
+ghost use Rattle.cap_kernel_check_steps.specs.Walks.{After, entered, Visits, VisitsAll};
 
-use crate::error::CheckError;
-use crate::left::goals_left;
-use crate::walk::Walk;
 use cap_goal::{Goal, Node};
+use cap_kernel_check_steps::{CheckError, Walk, goals_left};
 use cap_prog::Program;
 use std::alloc::Global;
 

@@ -13,7 +13,7 @@ use Rattle.cap_prog.specs.Program.{PlainProgram}
 use Rattle.cap_replay.specs.declared.playing.End.{End}
 use Rattle.cap_replay.specs.RunText.{RunText}
 use Rattle.cap_replay.specs.declared.playing.End.TheVariants as ends
-use Rattle.cap_top_commands.specs.cap_kernel_check.declared.error.CheckError.{CheckError}
+use Rattle.cap_top_commands.specs.cap_kernel_check_steps.declared.error.CheckError.{CheckError}
 use Rattle.cap_deriv_write.specs.Written.{derivation_text}
 use Rattle.cap_top_commands.specs.cap_top_report.Found.{found_trees}
 use Rattle.cap_top_commands.specs.Derivations.{SaysLines, SaysBadLines, IsDerivation, IsChecked}
@@ -26,7 +26,7 @@ use Rattle.cap_gen_schedules.specs.Laws.{AsksForNothing, SafeProgramsHaveNone}
 use Rattle.cap_machine.specs.declared.event.Entry.{Entry}
 use Rattle.cap_goal_spec.specs.Choices.{PlainChoice}
 use Rattle.cap_goal_spec.specs.Roots.{units}
-use Rattle.cap_top_commands.specs.cap_kernel_check.Owed.{preorder}
+use Rattle.cap_top_commands.specs.cap_kernel_check_steps.Owed.{preorder}
 use Rattle.cap_top_commands.specs.cap_top_report.Report.{proved_count, report_text, all_proved, is_good}
 use Rattle.cap_top_commands.specs.cap_top_report.Cores.{cores_text}
 use Rattle.cap_top_words.specs.Meaning.{PlainCommand, verify, derive, check, show, replay, trial, outline, owners, stray, core, default_budget}

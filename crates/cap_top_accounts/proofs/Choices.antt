@@ -5,11 +5,11 @@ use Rattle.std.specs.declared.alloc.AllocError.{AllocError}
 use Rattle.cap_prog.specs.Program.{PlainProgram}
 use Rattle.cap_goal_spec.specs.Choices.{PlainChoice, PlainTree}
 use Rattle.cap_rules.specs.Valid.{Valid}
-use Rattle.cap_kernel_check.specs.declared.error.CheckError.{CheckError}
-use Rattle.cap_kernel_check.specs.declared.error.CheckError.TheVariants as judge
-use Rattle.cap_kernel_check.specs.Judges.{Judged}
-use Rattle.cap_kernel_check.specs.Laws.{HasTrees, JudgedAreValid, JudgementsAreOne, ValidTreesAreOne}
-use Rattle.cap_kernel_check.specs.Owed.{preorder}
+use Rattle.cap_kernel_check_steps.specs.declared.error.CheckError.{CheckError}
+use Rattle.cap_kernel_check_steps.specs.declared.error.CheckError.TheVariants as judge
+use Rattle.cap_kernel_check_steps.specs.Judges.{Judged}
+use Rattle.cap_kernel_check_steps.specs.Laws.{HasTrees, JudgedAreValid, JudgementsAreOne, ValidTreesAreOne}
+use Rattle.cap_kernel_check_steps.specs.Owed.{preorder}
 use Rattle.cap_machine.specs.Machine.{start}
 use Rattle.cap_machine.specs.declared.event.Entry.{Entry}
 use Rattle.cap_replay.specs.declared.entries.Schedule.{Schedule}

@@ -9,7 +9,7 @@ use Rattle.cap_rules.specs.Valid.{Valid}
 use Rattle.cap_goal_spec.specs.Choices.{PlainTree}
 use Rattle.cap_account.specs.Law.{DerivationsAreSound}
 use Rattle.cap_deriv_write.specs.Spelled.{AreLines}
-use Rattle.cap_kernel_check.specs.Owed.{preorder}
+use Rattle.cap_kernel_check_steps.specs.Owed.{preorder}
 use Rattle.cap_machine.specs.Machine.{IsPositive}
 use Rattle.cap_machine_accounts.specs.Safety.{Start}
 use Rattle.cap_replay.specs.Reading.{Progress}

@@ -4,9 +4,9 @@ use Rattle.std.specs.FinMap.{from_entries}
 use Rattle.cap_prog.specs.Program.{PlainFunction, PlainProgram}
 use Rattle.cap_goal_spec.specs.Choices.{PlainChoice, PlainTree}
 use Rattle.cap_rules.specs.Valid.{Valid}
-use Rattle.cap_kernel_check.specs.declared.error.CheckError.{CheckError}
-use Rattle.cap_kernel_check.specs.Judges.{Judged}
-use Rattle.cap_kernel_check.specs.Owed.{preorder}
+use Rattle.cap_kernel_check_steps.specs.declared.error.CheckError.{CheckError}
+use Rattle.cap_kernel_check_steps.specs.Judges.{Judged}
+use Rattle.cap_kernel_check_steps.specs.Owed.{preorder}
 use Rattle.cap_machine.specs.Machine.{Heap, Configuration, start}
 use Rattle.cap_machine_accounts.specs.Assertions.{NameValue}
 use Rattle.cap_machine_accounts.specs.Safety.{first_account, Start}

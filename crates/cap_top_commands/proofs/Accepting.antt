@@ -3,10 +3,10 @@ use Rattle.std.proofs.Common.{◌≡◌, ◌≤◌, ℕ, inl, inr, Bool, true, f
 use Rattle.cap_prog.specs.Program.{PlainProgram}
 use Rattle.cap_goal_spec.specs.Choices.{PlainChoice, PlainTree, node, PlainTrees, no_trees, tree}
 use Rattle.cap_account.specs.Law.{DerivationsAreSound}
-use Rattle.cap_kernel_check.specs.declared.error.CheckError.{CheckError}
-use Rattle.cap_kernel_check.specs.Owed.{preorder, choices_of, all_choices_of, JudgedOk}
-use Rattle.cap_kernel_check.specs.Judges.{Judged}
-use Rattle.cap_kernel_check.specs.Laws.{HasTrees, JudgedAreValid, JudgementsAreOne}
+use Rattle.cap_kernel_check_steps.specs.declared.error.CheckError.{CheckError}
+use Rattle.cap_kernel_check_steps.specs.Owed.{preorder, choices_of, all_choices_of, JudgedOk}
+use Rattle.cap_kernel_check_steps.specs.Judges.{Judged}
+use Rattle.cap_kernel_check_steps.specs.Laws.{HasTrees, JudgedAreValid, JudgementsAreOne}
 use Rattle.cap_deriv.specs.Told.{told_by_bytes, opening_told, choices_told, all_told, most_nodes}
 use Rattle.cap_deriv_write.specs.Preorder.{choices_of_tree, choices_of_trees, choices_of_roots}
 use Rattle.cap_deriv_write.specs.Spelled.{AreLines}

@@ -8,9 +8,9 @@ use Rattle.cap_deriv.specs.Telling.{Opens, Tells}
 use Rattle.cap_deriv.specs.Whole.{told_at_last, end_of_opening}
 use Rattle.cap_deriv.specs.declared.cursor.DerivError.{DerivError}
 use Rattle.cap_deriv.specs.declared.cursor.DerivError.TheVariants.{BadLine, Unended, TooMany, OutOfMemory}
-use Rattle.cap_kernel_check.specs.declared.error.CheckError.{CheckError}
-use Rattle.cap_kernel_check.specs.Judges.{PlainJudge, Judged, Judges, JudgesNext, AnswersFor}
-use Rattle.cap_kernel_check.specs.Laws.{JudgementsAreOne}
+use Rattle.cap_kernel_check_steps.specs.declared.error.CheckError.{CheckError}
+use Rattle.cap_kernel_check_steps.specs.Judges.{PlainJudge, Judged, Judges, JudgesNext, AnswersFor}
+use Rattle.cap_kernel_check_steps.specs.Laws.{JudgementsAreOne}
 use Rattle.cap_top_commands.specs.declared.output.Output as code
 use Rattle.cap_top_commands.specs.Answers.{IsOnly}
 use Rattle.cap_top_commands.specs.Derivations.{IsBadDerivation, IsChecked}

@@ -9,11 +9,11 @@ use Rattle.cap_deriv.specs.Told.{told_by_bytes}
 use Rattle.cap_deriv.specs.Whole.{ReadsWhole}
 use Rattle.cap_deriv.specs.declared.cursor.DerivError.{DerivError}
 use Rattle.cap_deriv.specs.declared.cursor.DerivError.TheVariants.{BadLine, Unended, TooMany, OutOfMemory}
-use Rattle.cap_kernel_check.specs.declared.error.CheckError.{CheckError}
-use Rattle.cap_kernel_check.specs.declared.error.CheckError.TheVariants as judge
-use Rattle.cap_kernel_check.specs.Judges.{Judged}
-use Rattle.cap_kernel_check.specs.Laws.{HasTrees, JudgedAreValid, JudgementsAreOne, ValidTreesAreOne}
-use Rattle.cap_kernel_check.specs.Owed.{preorder, JudgedOk}
+use Rattle.cap_kernel_check_steps.specs.declared.error.CheckError.{CheckError}
+use Rattle.cap_kernel_check_steps.specs.declared.error.CheckError.TheVariants as judge
+use Rattle.cap_kernel_check_steps.specs.Judges.{Judged}
+use Rattle.cap_kernel_check_steps.specs.Laws.{HasTrees, JudgedAreValid, JudgementsAreOne, ValidTreesAreOne}
+use Rattle.cap_kernel_check_steps.specs.Owed.{preorder, JudgedOk}
 use Rattle.cap_outline_spec.specs.Outline.{outline_text}
 use Rattle.cap_outline_laws.specs.Laws.{DerivationsOutline}
 use Rattle.cap_top_commands.specs.declared.output.Output as code

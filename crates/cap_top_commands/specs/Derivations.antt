@@ -10,8 +10,8 @@ use Rattle.cap_deriv.specs.declared.cursor.DerivError.TheVariants.{BadLine, Unen
 use Rattle.cap_deriv_write.specs.Preorder.{choices_of_roots}
 use Rattle.cap_deriv_write.specs.Spelled.{DerivationLines}
 use Rattle.cap_deriv_write.specs.Written.{derivation_text}
-use Rattle.cap_kernel_check.specs.declared.error.CheckError.{CheckError}
-use Rattle.cap_kernel_check.specs.Judges.{Judged}
+use Rattle.cap_kernel_check_steps.specs.declared.error.CheckError.{CheckError}
+use Rattle.cap_kernel_check_steps.specs.Judges.{Judged}
 use Rattle.cap_top_report.specs.Report.{is_good}
 use Rattle.cap_top_report.specs.Found.{found_trees}
 use Rattle.cap_top_commands.specs.Output.{Output, derivation_output, long_derivation_output, bad_derivation_output, judged_output}

@@ -2,7 +2,7 @@
 use Rattle.std.specs.Prelude.{◌≡◌, ℕ, true, List, length, Option}
 use Rattle.cap_goal_spec.specs.Choices.{PlainTree}
 use Rattle.cap_rules.specs.Valid.{Valid}
-use Rattle.cap_kernel_check.specs.Owed.{preorder}
+use Rattle.cap_kernel_check_steps.specs.Owed.{preorder}
 use Rattle.cap_deriv_write.specs.Spelled.{AreLines}
 use Rattle.cap_top_report.specs.Report.{all_proved, is_good}
 use Rattle.cap_top_commands.specs.SafeText.{IsSafeText}

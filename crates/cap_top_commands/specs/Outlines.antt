@@ -4,7 +4,7 @@ use Rattle.cap_prog.specs.Program.{PlainProgram}
 use Rattle.cap_goal_spec.specs.Choices.{PlainTree}
 use Rattle.cap_rules.specs.Valid.{Valid}
 use Rattle.cap_deriv.specs.Told.{told_by_bytes, opening_told, choices_told, all_told}
-use Rattle.cap_kernel_check.specs.Owed.{preorder}
+use Rattle.cap_kernel_check_steps.specs.Owed.{preorder}
 use Rattle.cap_outline_spec.specs.Outline.{outline_text}
 use Rattle.cap_outline_laws.specs.Laws.{OutlinesRuns}
 use Rattle.cap_top_reading.specs.Refused.{IsTextOf}

@@ -9,8 +9,8 @@ use Rattle.cap_replay.specs.declared.reading.ScheduleError.{ScheduleError}
 use Rattle.cap_replay.specs.declared.reading.ScheduleError.TheVariants.{BadLine, TooMany, OutOfMemory}
 use Rattle.cap_deriv.specs.declared.cursor.DerivError.{DerivError}
 use Rattle.cap_deriv.specs.declared.cursor.DerivError.TheVariants as deriv
-use Rattle.cap_kernel_check.specs.declared.error.CheckError.{CheckError}
-use Rattle.cap_kernel_check.specs.declared.error.CheckError.TheVariants as judge
+use Rattle.cap_kernel_check_steps.specs.declared.error.CheckError.{CheckError}
+use Rattle.cap_kernel_check_steps.specs.declared.error.CheckError.TheVariants as judge
 use Rattle.cap_top_reading.specs.declared.refusal.Refusal.{Refusal}
 use Rattle.cap_top_reading.specs.Texts.{refusal_line}
 use Rattle.cap_top_commands.specs.declared.status.Status.{Status}

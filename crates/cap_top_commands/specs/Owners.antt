@@ -5,9 +5,9 @@ use Rattle.cap_prog.specs.Program.{PlainProgram}
 use Rattle.cap_goal_spec.specs.Choices.{PlainChoice, PlainTree}
 use Rattle.cap_rules.specs.Valid.{Valid}
 use Rattle.cap_deriv.specs.Told.{told_by_bytes, opening_told, choices_told, all_told}
-use Rattle.cap_kernel_check.specs.declared.error.CheckError.{CheckError}
-use Rattle.cap_kernel_check.specs.Judges.{Judged}
-use Rattle.cap_kernel_check.specs.Owed.{preorder}
+use Rattle.cap_kernel_check_steps.specs.declared.error.CheckError.{CheckError}
+use Rattle.cap_kernel_check_steps.specs.Judges.{Judged}
+use Rattle.cap_kernel_check_steps.specs.Owed.{preorder}
 use Rattle.cap_machine.specs.Machine.{Heap, start}
 use Rattle.cap_replay.specs.Reading.{Progress, read}
 use Rattle.cap_replay.specs.RunText.{RunText}

@@ -4,7 +4,7 @@ ghost use Rattle.cap_deriv.specs.declared.cursor.DerivError.TheVariants.{OutOfMe
 ghost use Rattle.cap_top_commands.specs.Output.{bad_derivation_output};
 ghost use Rattle.cap_prog.specs.Views.{program_view};
 ghost use Rattle.cap_goal.specs.Views.{choice_view};
-ghost use Rattle.cap_kernel_check.specs.Judges.{JudgesNext};
+ghost use Rattle.cap_kernel_check_steps.specs.Judges.{JudgesNext};
 ghost use Rattle.cap_kernel_check.specs.JudgeViews.{judge_view};
 ghost use Rattle.cap_top_commands.specs.Answers.{IsOnly};
 ghost use Rattle.cap_top_commands.specs.Derivations.{IsChecked};

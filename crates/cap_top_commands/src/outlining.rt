@@ -3,7 +3,7 @@ ghost use Rattle.std.specs.Prelude.{◌≡◌, ◌≢◌, ℕ, List, Err, IfOk, 
 ghost use Rattle.cap_prog.specs.Views.{program_view};
 ghost use Rattle.cap_goal.specs.Views.{choice_view};
 ghost use Rattle.cap_deriv.specs.Told.{told_by_bytes, opening_told, choices_told, all_told};
-ghost use Rattle.cap_kernel_check.specs.declared.error.CheckError.TheVariants.{OutOfMemory};
+ghost use Rattle.cap_kernel_check_steps.specs.declared.error.CheckError.TheVariants.{OutOfMemory};
 ghost use Rattle.cap_top_commands.specs.Answers.{IsOnly};
 ghost use Rattle.cap_top_commands.specs.Outlines.{IsOutline};
 ghost use Rattle.cap_top_commands.specs.Output.{judged_output};

@@ -7,11 +7,11 @@ use Rattle.cap_goal_spec.specs.Choices.{PlainChoice}
 use Rattle.cap_goal_spec.specs.Roots.{all_roots}
 use Rattle.cap_rules.specs.Laws.{AnswersAreOne}
 use Rattle.cap_rules.specs.Valid.{deepest}
-use Rattle.cap_top_commands.specs.cap_kernel_check.declared.error.CheckError.{CheckError}
-use Rattle.cap_top_commands.specs.cap_kernel_check.declared.error.CheckError.TheVariants.{Node, Shape}
-use Rattle.cap_top_commands.specs.cap_kernel_check.Starts.{starts}
-use Rattle.cap_top_commands.specs.cap_kernel_check.Owed.{PlainDebt, owes, debts_of, PaysAt, Replaces, OwedFrom, FailsNext, MisfitsNext}
-use Rattle.cap_top_commands.specs.cap_kernel_check.Judges.{Judged}
+use Rattle.cap_top_commands.specs.cap_kernel_check_steps.declared.error.CheckError.{CheckError}
+use Rattle.cap_top_commands.specs.cap_kernel_check_steps.declared.error.CheckError.TheVariants.{Node, Shape}
+use Rattle.cap_top_commands.specs.cap_kernel_check_steps.Starts.{starts}
+use Rattle.cap_top_commands.specs.cap_kernel_check_steps.Owed.{PlainDebt, owes, debts_of, PaysAt, Replaces, OwedFrom, FailsNext, MisfitsNext}
+use Rattle.cap_top_commands.specs.cap_kernel_check_steps.Judges.{Judged}
 use Rattle.cap_top_laws.proofs.Subgoals.{SubgoalsOrNone, subgoals-or-none}
 
 -- ---- a choice pays what is owed first, or it doesn't

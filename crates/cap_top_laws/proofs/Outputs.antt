@@ -6,8 +6,8 @@ use Rattle.cap_prog.specs.Program.{PlainProgram}
 use Rattle.cap_gen.specs.Trial.{trial_text}
 use Rattle.cap_goal_spec.specs.Choices.{PlainChoice}
 use Rattle.cap_goal_spec.specs.Roots.{units}
-use Rattle.cap_top_commands.specs.cap_kernel_check.declared.error.CheckError.{CheckError}
-use Rattle.cap_top_commands.specs.cap_kernel_check.Judges.{Judged}
+use Rattle.cap_top_commands.specs.cap_kernel_check_steps.declared.error.CheckError.{CheckError}
+use Rattle.cap_top_commands.specs.cap_kernel_check_steps.Judges.{Judged}
 use Rattle.cap_top_commands.specs.cap_top_report.Report.{proved_count, is_good, report_text}
 use Rattle.cap_top_commands.specs.cap_top_report.Cores.{cores_text}
 use Rattle.cap_gen_schedules.specs.Drawn.{seeded, first_fault}

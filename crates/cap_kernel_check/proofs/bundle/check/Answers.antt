@@ -1,6 +1,6 @@
 use Rattle.std.proofs.Common.{◌≡◌, length, rules}
 use Rattle.cap_prog.specs.Views.{program_view}
-use Rattle.cap_kernel_check.proofs.Checking.{concluded-checked, miscounted-checked}
+use Rattle.cap_kernel_check_steps.proofs.Checking.{concluded-checked, miscounted-checked}
 use Rattle.cap_kernel_check.proofs.bundle.check.Goals as goal
 
 pub returns-then-len : goal.returns-then-len

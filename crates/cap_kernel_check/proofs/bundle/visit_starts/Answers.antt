@@ -1,7 +1,7 @@
 use Rattle.std.proofs.Common.{arith}
 use Rattle.cap_prog.specs.Views.{program_view}
-use Rattle.cap_kernel_check.specs.Views.{StartIsKept, start_view}
-use Rattle.cap_kernel_check.proofs.Walking.{each-at}
+use Rattle.cap_kernel_check_steps.specs.Views.{StartIsKept, start_view}
+use Rattle.cap_kernel_check_steps.proofs.Walking.{each-at}
 use Rattle.cap_kernel_check.proofs.bundle.visit_starts.Goals as goal
 
 pub visit_start-requires : goal.visit_start-requires

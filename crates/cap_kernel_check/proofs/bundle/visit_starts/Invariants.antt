@@ -1,7 +1,7 @@
 use Rattle.std.proofs.Common.{drop, map}
 use Rattle.cap_prog.specs.Views.{program_view}
-use Rattle.cap_kernel_check.specs.Views.{starts_view, tree_view, walk_view}
-use Rattle.cap_kernel_check.specs.Walks.{Outcome, VisitsStarts}
+use Rattle.cap_kernel_check_steps.specs.Views.{starts_view, tree_view, walk_view}
+use Rattle.cap_kernel_check_steps.specs.Walks.{Outcome, VisitsStarts}
 use Rattle.cap_kernel_check.proofs.bundle.visit_starts.Given as goal
 
 -- what the walk over the trees that remain makes is what it makes of all

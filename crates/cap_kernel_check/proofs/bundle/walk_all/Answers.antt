@@ -1,7 +1,7 @@
 use Rattle.std.proofs.Common.{map}
 use Rattle.cap_prog.specs.Views.{program_view}
-use Rattle.cap_kernel_check.specs.Views.{starts_view, tree_view, walk_view}
-use Rattle.cap_kernel_check.proofs.Checking.{end-concludes, error-concludes}
+use Rattle.cap_kernel_check_steps.specs.Views.{starts_view, tree_view, walk_view}
+use Rattle.cap_kernel_check_steps.proofs.Checking.{end-concludes, error-concludes}
 use Rattle.cap_kernel_check.proofs.bundle.walk_all.Goals as goal
 
 pub returns-in-Ok : goal.returns-in-Ok

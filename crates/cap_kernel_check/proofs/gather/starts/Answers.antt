@@ -1,6 +1,6 @@
 use Rattle.cap_prog.specs.Views.{program_view}
-use Rattle.cap_kernel_check.specs.Views.{starts_view}
-use Rattle.cap_kernel_check.proofs.Starting.{all-kept}
+use Rattle.cap_kernel_check_steps.specs.Views.{starts_view}
+use Rattle.cap_kernel_check_steps.proofs.Starting.{all-kept}
 use Rattle.cap_kernel_check.proofs.gather.starts.Goals as goal
 
 pub returns-clause-kept : goal.returns-clause-kept

@@ -2,11 +2,11 @@ use Rattle.std.proofs.Common.{◌≡◌, ◌≢◌, length, map, rules, sym, ◌
 use Rattle.std.proofs.lemmas.List.{length-map}
 use Rattle.cap_prog.specs.Views.{program_view}
 use Rattle.cap_goal.specs.Views.{choice_view}
-use Rattle.cap_kernel_check.specs.GrowthViews.{Shapes}
-use Rattle.cap_kernel_check.specs.Views.{start_view, starts_view}
-use Rattle.cap_kernel_check.proofs.Starting.{starts-many}
-use Rattle.cap_kernel_check.proofs.Growing.{miscounted-judged}
-use Rattle.cap_kernel_check.proofs.Bundles.{shapes-valid, shapes-many, shapes-refused}
+use Rattle.cap_kernel_check_steps.specs.GrowthViews.{Shapes}
+use Rattle.cap_kernel_check_steps.specs.Views.{start_view, starts_view}
+use Rattle.cap_kernel_check_steps.proofs.Starting.{starts-many}
+use Rattle.cap_kernel_check_steps.proofs.Growing.{miscounted-judged}
+use Rattle.cap_kernel_check_steps.proofs.Bundles.{shapes-valid, shapes-many, shapes-refused}
 use Rattle.cap_kernel_check.proofs.shaping.shape.Goals as goal
 
 pub returns-then-len-trees-clause-refused : goal.returns-then-len-trees-clause-refused

@@ -4,9 +4,9 @@ use Rattle.cap_goal.specs.declared.choice.Node.{out-Node}
 use Rattle.cap_goal.specs.Views.{goal_view, choice_view}
 use Rattle.cap_rules_steps.specs.Goals.{goals_view}
 use Rattle.cap_rules_fits.specs.Kept.{IsKept}
-use Rattle.cap_kernel_check.specs.Views.{walk_view}
-use Rattle.cap_kernel_check.specs.Walks.{goes_on, Leaves}
-use Rattle.cap_kernel_check.proofs.Walking.{visits-some, each-at, missing-rest}
+use Rattle.cap_kernel_check_steps.specs.Views.{walk_view}
+use Rattle.cap_kernel_check_steps.specs.Walks.{goes_on, Leaves}
+use Rattle.cap_kernel_check_steps.proofs.Walking.{visits-some, each-at, missing-rest}
 use Rattle.cap_kernel_check.proofs.tree.+walk.Goals as goal
 
 pub visit-returns-in-Some : goal.visit-returns-in-Some

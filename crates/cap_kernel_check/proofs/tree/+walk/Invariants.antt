@@ -2,8 +2,8 @@ use Rattle.std.proofs.Common.{◌+◌, ◌*◌, ◌≤◌, length, drop, map}
 use Rattle.cap_prog.specs.Views.{program_view}
 use Rattle.cap_goal.specs.Trees.{nodes_view}
 use Rattle.cap_goal.specs.Views.{goal_view}
-use Rattle.cap_kernel_check.specs.Views.{walk_view}
-use Rattle.cap_kernel_check.specs.Walks.{Outcome, VisitsAll}
+use Rattle.cap_kernel_check_steps.specs.Views.{walk_view}
+use Rattle.cap_kernel_check_steps.specs.Walks.{Outcome, VisitsAll}
 use Rattle.cap_kernel_check.proofs.tree.+walk.Given as goal
 
 abbrev pub decreases-visit : goal.decreases-visit

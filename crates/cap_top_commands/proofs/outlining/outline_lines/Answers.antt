@@ -2,8 +2,8 @@ use Rattle.std.proofs.Common.{◌≢◌, Err, map, ap, ◌∙◌, subst}
 use Rattle.cap_prog.specs.Views.{program_view}
 use Rattle.cap_goal.specs.Trees.{bundle_view}
 use Rattle.cap_goal.specs.Views.{choice_view}
-use Rattle.cap_kernel_check.specs.declared.error.CheckError.TheVariants.{OutOfMemory}
-use Rattle.cap_kernel_check.specs.Judges.{Judged}
+use Rattle.cap_kernel_check_steps.specs.declared.error.CheckError.TheVariants.{OutOfMemory}
+use Rattle.cap_kernel_check_steps.specs.Judges.{Judged}
 use Rattle.cap_top_commands.proofs.Outlines.{says_outline, says_fault}
 use Rattle.cap_top_commands.proofs.outlining.outline_lines.Goals as goal
 

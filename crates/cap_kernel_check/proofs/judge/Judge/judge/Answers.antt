@@ -1,10 +1,10 @@
 use Rattle.std.proofs.Common.{◌≡◌, ◌∷◌, drop, None, Some, subst}
 use Rattle.std.proofs.Math.Logic.{∥∥₁_map}
 use Rattle.cap_goal.specs.Views.{choice_view}
-use Rattle.cap_kernel_check.specs.Debts.{debt_view, owed_view, left_view, DebtsAreKept, LeavesOwed, LeftIsKept}
+use Rattle.cap_kernel_check_steps.specs.Debts.{debt_view, owed_view, left_view, DebtsAreKept, LeavesOwed, LeftIsKept}
 use Rattle.cap_kernel_check.specs.JudgeViews.{judge_view}
-use Rattle.cap_kernel_check.proofs.Judgements.{next-fails, ok-pays}
-use Rattle.cap_kernel_check.proofs.Rooms.{first-has-room}
+use Rattle.cap_kernel_check_steps.proofs.Judgements.{next-fails, ok-pays}
+use Rattle.cap_kernel_check_steps.proofs.Rooms.{first-has-room}
 use Rattle.cap_kernel_check.proofs.judge.Judge.judge.Goals as goal
 
 pub debts_left-requires : goal.debts_left-requires

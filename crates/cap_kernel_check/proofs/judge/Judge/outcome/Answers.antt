@@ -1,8 +1,8 @@
 use Rattle.std.proofs.Common.{ap, drop, option_map}
 use Rattle.cap_goal.specs.Views.{goal_view}
-use Rattle.cap_kernel_check.specs.Debts.{debt_view}
+use Rattle.cap_kernel_check_steps.specs.Debts.{debt_view}
 use Rattle.cap_kernel_check.specs.JudgeViews.{judge_view}
-use Rattle.cap_kernel_check.proofs.Judgements.{ends-barred, ends-missing}
+use Rattle.cap_kernel_check_steps.proofs.Judgements.{ends-barred, ends-missing}
 use Rattle.cap_kernel_check.proofs.judge.Judge.outcome.Goals as goal
 
 pub returns-in-None-goal : goal.returns-in-None-goal

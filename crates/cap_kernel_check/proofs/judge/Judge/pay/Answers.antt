@@ -1,6 +1,6 @@
 use Rattle.cap_prog.specs.Views.{program_view}
-use Rattle.cap_kernel_check.specs.Debts.{owed_view}
-use Rattle.cap_kernel_check.proofs.Rooms.{kept-paid}
+use Rattle.cap_kernel_check_steps.specs.Debts.{owed_view}
+use Rattle.cap_kernel_check_steps.proofs.Rooms.{kept-paid}
 use Rattle.cap_kernel_check.proofs.judge.Judge.pay.Goals as goal
 
 pub invariant_of-self-2-clause-kept : goal.invariant_of-self-2-clause-kept

@@ -1,8 +1,8 @@
 use Rattle.std.proofs.Common.{◌≡◌, ◌≢◌, length, rules, subst, sym}
 use Rattle.cap_prog.specs.Views.{program_view}
-use Rattle.cap_kernel_check.specs.Debts.{DebtsAreKept, owed_view}
-use Rattle.cap_kernel_check.specs.Views.{starts_view}
-use Rattle.cap_kernel_check.proofs.Judgements.{begins, begins-miscounted, debts-kept}
+use Rattle.cap_kernel_check_steps.specs.Debts.{DebtsAreKept, owed_view}
+use Rattle.cap_kernel_check_steps.specs.Views.{starts_view}
+use Rattle.cap_kernel_check_steps.proofs.Judgements.{begins, begins-miscounted, debts-kept}
 use Rattle.cap_kernel_check.proofs.judge.Judge.start.Goals as goal
 
 pub returns-then-len-trees : goal.returns-then-len-trees

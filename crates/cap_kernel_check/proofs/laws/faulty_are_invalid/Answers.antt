@@ -1,5 +1,0 @@
-use Rattle.cap_kernel_check.proofs.Roots.{faulty-invalid}
-use Rattle.cap_kernel_check.proofs.laws.faulty_are_invalid.Goals as goal
-
-pub returns : goal.returns
-returns c = faulty-invalid

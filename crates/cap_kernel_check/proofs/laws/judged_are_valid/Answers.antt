@@ -1,5 +1,0 @@
-use Rattle.cap_kernel_check.proofs.Judging.{judged-are-valid}
-use Rattle.cap_kernel_check.proofs.laws.judged_are_valid.Goals as goal
-
-pub returns : goal.returns
-returns c = judged-are-valid

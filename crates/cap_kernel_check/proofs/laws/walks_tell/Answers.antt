@@ -1,5 +1,0 @@
-use Rattle.cap_kernel_check.proofs.Roots.{walks-told}
-use Rattle.cap_kernel_check.proofs.laws.walks_tell.Goals as goal
-
-pub returns : goal.returns
-returns c = walks-told

@@ -1,0 +1,11 @@
+pub mod Starts
+pub mod Faults
+pub mod Walks
+pub mod Laws
+pub mod Views
+pub mod Checks
+pub mod Owed
+pub mod Judges
+pub mod Debts
+pub mod Growths
+pub mod GrowthViews
