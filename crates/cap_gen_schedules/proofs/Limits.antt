@@ -24,7 +24,7 @@ use Rattle.cap_machine.specs.Machine.{top_frame}
 use Rattle.cap_machine.specs.Laws.{is_step}
 use Rattle.cap_machine.specs.Results.{act_steps, block_steps, frame_steps, entry_steps, are_narrow}
 use Rattle.cap_machine.proofs.HeapLemmas.{fits_high, fits_between}
-use Rattle.cap_replay.specs.Writing.{IsNarrowEntry}
+use Rattle.cap_replay_schedules.specs.Writing.{IsNarrowEntry}
 use Rattle.cap_gen_schedules.specs.Drawn.{alive_from, alive, chosen, word_of, after_word, entry_of}
 use Rattle.cap_gen_schedules.specs.Drawn.{Drawn, faulted, ended, taken, turn, draw, most_entries}
 use Rattle.cap_gen_schedules.specs.Drawn.{draw_one, or_later, first_fault}

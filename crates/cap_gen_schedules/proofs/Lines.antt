@@ -2,7 +2,7 @@
 use Rattle.std.proofs.Common.{◌≡◌, ◌∙◌, ap, sym, refl, ℕ, List, [], ◌∷◌, ◌++◌, map, flat_map}
 use Rattle.std.proofs.Common.{append_assoc}
 use Rattle.std.specs.Prelude.{codes}
-use Rattle.cap_replay.specs.Writing.{numbers_text, cell_text, entry_text, PlainSchedule, schedule_text}
+use Rattle.cap_replay_schedules.specs.Writing.{numbers_text, cell_text, entry_text, PlainSchedule, schedule_text}
 
 abbrev lined : List ℕ → List ℕ
 lined line = line ++ codes "\n"

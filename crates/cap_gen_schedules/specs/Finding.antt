@@ -5,7 +5,7 @@ use Rattle.cap_machine.specs.declared.event.Entry.{Entry}
 use Rattle.cap_machine.specs.declared.machine.Machine.{Machine}
 use Rattle.cap_machine.specs.Machine.{Configuration}
 use Rattle.cap_machine.specs.View.{is_stopped}
-use Rattle.cap_replay.specs.declared.entries.Schedule.{Schedule}
+use Rattle.cap_replay_schedules.specs.declared.entries.Schedule.{Schedule}
 use Rattle.cap_gen_schedules.specs.declared.drawing.Turn.{Turn}
 use Rattle.cap_gen_schedules.specs.declared.drawing.Turn.TheVariants.{GoesOn, Faults, Ends}
 use Rattle.cap_gen_schedules.specs.Drawn.{Drawn, faulted, ended}

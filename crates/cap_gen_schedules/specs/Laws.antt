@@ -7,9 +7,9 @@ use Rattle.cap_machine.specs.declared.event.Entry.{Entry}
 use Rattle.cap_machine.specs.Machine.{start}
 use Rattle.cap_machine_accounts.specs.Safety.{Safe}
 use Rattle.cap_replay.specs.declared.playing.End.TheVariants.{Stopped}
-use Rattle.cap_replay.specs.Reading.{read}
+use Rattle.cap_replay_schedules.specs.Reading.{read}
 use Rattle.cap_replay.specs.RunText.{run_from}
-use Rattle.cap_replay.specs.Writing.{PlainSchedule, schedule_text, IsReadWhole, IsWithinLimits}
+use Rattle.cap_replay_schedules.specs.Writing.{PlainSchedule, schedule_text, IsReadWhole, IsWithinLimits}
 use Rattle.cap_gen_schedules.specs.Drawn.{first_fault}
 
 -- main has no parameters

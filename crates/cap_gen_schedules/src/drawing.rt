@@ -16,7 +16,7 @@ ghost use Rattle.cap_gen_schedules.specs.Laws.{TakesNothing};
 
 use cap_machine::{Entry, Event, Machine, StepError};
 use cap_prog::Program;
-use cap_replay::Schedule;
+use cap_replay_schedules::Schedule;
 use rand_core::SeedableRng;
 use rand_core::utils::NextWord;
 use rand_pcg::Lcg64Xsh32;

@@ -2,7 +2,7 @@
 ghost use Rattle.cap_gen_schedules.specs.Laws.{FoundSchedulesFault, FoundSchedulesAreWithinLimits};
 ghost use Rattle.cap_gen_schedules.specs.Laws.{FoundSchedulesAreReadBack, SafeProgramsHaveNone};
 
-use cap_replay::written_schedules_are_read_back;
+use cap_replay_schedules::written_schedules_are_read_back;
 
 /// The run along a schedule that is found ends in a fault, at its last entry.
 pub fn found_schedules_fault()

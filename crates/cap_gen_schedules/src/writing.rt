@@ -1,11 +1,11 @@
 //! The text of a schedule is written line by line.
 ghost use Rattle.std.specs.Prelude.{◌≡◌, ◌++◌, IfOk, OnOk, string_bytes, flat_map, codes};
 ghost use Rattle.std.specs.Fmt.{signed_decimal};
-ghost use Rattle.cap_replay.specs.Writing.{numbers_text, cell_text, entry_text};
-ghost use Rattle.cap_replay.specs.Writing.{schedule_text as text_of, schedule_view};
+ghost use Rattle.cap_replay_schedules.specs.Writing.{numbers_text, cell_text, entry_text};
+ghost use Rattle.cap_replay_schedules.specs.Writing.{schedule_text as text_of, schedule_view};
 
 use cap_machine::Entry;
-use cap_replay::Schedule;
+use cap_replay_schedules::Schedule;
 use std::alloc::{AllocError, Global};
 
 // A number, behind a space.

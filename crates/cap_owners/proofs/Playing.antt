@@ -6,7 +6,7 @@ use Rattle.cap_prog.specs.Program.{PlainProgram}
 use Rattle.cap_goal_spec.specs.Choices.{PlainTree}
 use Rattle.cap_machine.specs.declared.event.Entry.{Entry}
 use Rattle.cap_machine.specs.Machine.{Configuration, start}
-use Rattle.cap_replay.specs.declared.entries.Schedule.{Schedule}
+use Rattle.cap_replay_schedules.specs.declared.entries.Schedule.{Schedule}
 use Rattle.cap_replay.specs.declared.playing.End.{End}
 use Rattle.cap_replay.specs.RunText.{RunText, ends, in_front}
 use Rattle.cap_owners_values.specs.declared.error.TraceError.{TraceError}

@@ -6,7 +6,7 @@ ghost use Rattle.cap_goal.specs.Trees.{bundle_view};
 ghost use Rattle.cap_goal_spec.specs.Choices.{PlainTree};
 ghost use Rattle.cap_machine.specs.Cells.{AscendsFrom};
 ghost use Rattle.cap_machine.specs.View.{configuration, is_stopped, RunsProgram};
-ghost use Rattle.cap_replay.specs.Reading.{most_entries};
+ghost use Rattle.cap_replay_schedules.specs.Reading.{most_entries};
 ghost use Rattle.cap_replay.specs.RunText.{in_front};
 ghost use Rattle.cap_rules.specs.Valid.{Valid};
 ghost use Rattle.cap_owners.specs.declared.error.OwnersError.TheVariants.{Start};
@@ -27,7 +27,8 @@ use cap_machine::{Entry, Event, Machine, StepError};
 use cap_owners_places::{Roots, place_trees};
 use cap_owners_values::TraceError;
 use cap_prog::Program;
-use cap_replay::{End, Schedule, last_line, push_step};
+use cap_replay::{End, last_line, push_step};
+use cap_replay_schedules::Schedule;
 use std::alloc::{AllocError, Global};
 
 /// The text of a run with its accounts, and how it ends.

@@ -9,7 +9,7 @@ use Rattle.cap_machine.specs.Machine.{Heap, Configuration, Outcome, next, fault,
 use Rattle.cap_machine.specs.Ready.{ahead}
 use Rattle.cap_machine.specs.Results.{entry_steps, are_narrow}
 use Rattle.cap_replay.specs.declared.playing.End.TheVariants.{Ended, Stopped, NotEnabled, Wide}
-use Rattle.cap_replay.specs.declared.entries.Schedule.{Schedule}
+use Rattle.cap_replay.specs.cap_replay_schedules.declared.entries.Schedule.{Schedule}
 use Rattle.cap_replay.specs.RunText.{step_line, RunText, ends, in_front}
 use Rattle.cap_owners_spec.specs.Traced.{Traced, traced, past_width, untold}
 use Rattle.cap_owners_spec.specs.Track.{Track, account_of}

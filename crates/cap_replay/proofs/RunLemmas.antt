@@ -20,7 +20,7 @@ use Rattle.cap_machine.specs.View.{configuration, is_stopped, RunsProgram, Leave
 use Rattle.cap_replay.specs.declared.playing.End.{End}
 use Rattle.cap_replay.specs.declared.playing.End.TheVariants.{Stopped, NotEnabled}
 use Rattle.cap_replay.specs.declared.playing.Played.{Played}
-use Rattle.cap_replay.specs.declared.entries.Schedule.{Schedule}
+use Rattle.cap_replay_schedules.specs.declared.entries.Schedule.{Schedule}
 use Rattle.cap_replay.specs.RunText.{step_line, last_line, RunText, ends, in_front, taken, run_from, run_text, played_view}
 use Rattle.cap_replay.specs.Advancing.{is_fault, Advances}
 

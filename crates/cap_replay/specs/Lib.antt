@@ -1,6 +1,3 @@
 pub mod RunText
 pub mod Advancing
-pub mod Pieces
-pub mod Numbers
-pub mod Reading
-pub mod Writing
+pub use Rattle.cap_replay_schedules.specs as cap_replay_schedules

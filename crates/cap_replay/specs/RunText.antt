@@ -15,7 +15,7 @@ use Rattle.cap_machine.specs.Results.{entry_steps, are_narrow}
 use Rattle.cap_replay.specs.declared.playing.End.{End}
 use Rattle.cap_replay.specs.declared.playing.End.TheVariants.{Ended, Stopped, NotEnabled, Wide}
 use Rattle.cap_replay.specs.declared.playing.Played.{Played}
-use Rattle.cap_replay.specs.declared.entries.Schedule.{Schedule}
+use Rattle.cap_replay_schedules.specs.declared.entries.Schedule.{Schedule}
 
 abbrev pub pair_text : ℤ → ℤ → List ℕ
 pair_text a v = signed_decimal a ++ codes " " ++ signed_decimal v

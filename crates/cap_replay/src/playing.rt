@@ -12,9 +12,9 @@ ghost use Rattle.cap_replay.specs.RunText.{head_text, step_line as the_step_line
 ghost use Rattle.cap_replay.specs.RunText.{last_line as the_last_line, run_text, played_view};
 ghost use Rattle.cap_replay.specs.Advancing.{is_fault as fault_event, Advances};
 
-use crate::entries::Schedule;
 use cap_machine::{Ahead, Entry, Event, Machine, StepError};
 use cap_prog::Program;
+use cap_replay_schedules::Schedule;
 use cap_syntax::Place;
 use std::alloc::{AllocError, Global};
 

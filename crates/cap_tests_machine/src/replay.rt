@@ -2,7 +2,8 @@
 
 use crate::programs::allocating;
 use cap_machine::Entry;
-use cap_replay::{End, Schedule, ScheduleError, read_schedule, replay};
+use cap_replay::{End, replay};
+use cap_replay_schedules::{Schedule, ScheduleError, read_schedule};
 use std::alloc::Global;
 use std::test::Fail;
 

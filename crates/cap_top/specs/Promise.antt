@@ -12,7 +12,7 @@ use Rattle.cap_top_reading.specs.Refused.{IsTextOf}
 use Rattle.cap_top_commands.specs.declared.status.Status.{Status}
 use Rattle.cap_top_commands.specs.declared.status.Status.TheVariants.{Good, Bad, Refused, NoMemory, NotEnabled, Wide}
 use Rattle.cap_replay.specs.declared.playing.End.{End}
-use Rattle.cap_replay.specs.Reading.{Progress}
+use Rattle.cap_replay.specs.cap_replay_schedules.Reading.{Progress}
 use Rattle.cap_replay.specs.RunText.{RunText}
 use Rattle.cap_top_commands.specs.cap_top_report.Report.{is_good}
 use Rattle.cap_top_commands.specs.cap_top_report.Found.{found_trees}

@@ -12,10 +12,10 @@ use Rattle.cap_kernel_check_steps.specs.Laws.{HasTrees, JudgedAreValid, Judgemen
 use Rattle.cap_kernel_check_steps.specs.Owed.{preorder}
 use Rattle.cap_machine.specs.Machine.{start}
 use Rattle.cap_machine.specs.declared.event.Entry.{Entry}
-use Rattle.cap_replay.specs.declared.entries.Schedule.{Schedule}
-use Rattle.cap_replay.specs.declared.reading.ScheduleError.{ScheduleError}
-use Rattle.cap_replay.specs.declared.reading.ScheduleError.TheVariants.{BadLine, TooMany, OutOfMemory}
-use Rattle.cap_replay.specs.Reading.{read, IsReadAs}
+use Rattle.cap_replay_schedules.specs.declared.entries.Schedule.{Schedule}
+use Rattle.cap_replay_schedules.specs.declared.reading.ScheduleError.{ScheduleError}
+use Rattle.cap_replay_schedules.specs.declared.reading.ScheduleError.TheVariants.{BadLine, TooMany, OutOfMemory}
+use Rattle.cap_replay_schedules.specs.Reading.{read, IsReadAs}
 use Rattle.cap_replay.specs.RunText.{RunText}
 use Rattle.cap_owners_spec.specs.Steps.{Proved}
 use Rattle.cap_owners_spec.specs.Start.{first_track}

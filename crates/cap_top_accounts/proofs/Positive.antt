@@ -9,8 +9,8 @@ use Rattle.std.specs.declared.cmp.Ordering.TheVariants.{Less, Equal, Greater}
 use Rattle.std.proofs.lemmas.Int.{ints}
 use Rattle.cap_machine.specs.Cells.{AscendsFrom}
 use Rattle.cap_machine.specs.Machine.{IsPositive}
-use Rattle.cap_replay.specs.Reading.{Progress, read}
-use Rattle.cap_replay.proofs.Ascending.{read_ascends}
+use Rattle.cap_replay_schedules.specs.Reading.{Progress, read}
+use Rattle.cap_replay_schedules.proofs.Ascending.{read_ascends}
 
 is-equal : (o : Ordering) → is_eq o ≡ true → o ≡ Equal
 is-equal Less e = cc

@@ -12,7 +12,7 @@ use Rattle.cap_deriv_write.specs.Spelled.{AreLines}
 use Rattle.cap_kernel_check_steps.specs.Owed.{preorder}
 use Rattle.cap_machine.specs.Machine.{IsPositive}
 use Rattle.cap_machine_accounts.specs.Safety.{Start}
-use Rattle.cap_replay.specs.Reading.{Progress}
+use Rattle.cap_replay_schedules.specs.Reading.{Progress}
 use Rattle.cap_replay.specs.RunText.{RunText, in_front}
 use Rattle.cap_owners_spec.specs.Traced.{Traced, traced, past_width, untold}
 use Rattle.cap_owners_spec.specs.Track.{Track}

@@ -11,7 +11,7 @@ use Rattle.cap_machine.specs.Machine.{Heap, Configuration, start}
 use Rattle.cap_machine_accounts.specs.Assertions.{NameValue}
 use Rattle.cap_machine_accounts.specs.Safety.{first_account, Start}
 use Rattle.cap_replay.specs.declared.playing.End.TheVariants.{Wide}
-use Rattle.cap_replay.specs.Reading.{Progress}
+use Rattle.cap_replay_schedules.specs.Reading.{Progress}
 use Rattle.cap_replay.specs.RunText.{RunText, ends, in_front}
 use Rattle.cap_owners_spec.specs.Track.{Track, account_of}
 use Rattle.cap_owners_spec.specs.Texts.{account_text}

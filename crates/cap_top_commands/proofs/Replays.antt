@@ -9,12 +9,12 @@ use Rattle.cap_machine.specs.Machine.{start}
 use Rattle.cap_top_reading.specs.declared.refusal.Refusal.{Refusal}
 use Rattle.cap_top_reading.specs.Reading.{FindsProgram}
 use Rattle.cap_top_reading.specs.Refused.{IsRefused, IsTextOf}
-use Rattle.cap_replay.specs.declared.entries.Schedule.{Schedule}
+use Rattle.cap_replay_schedules.specs.declared.entries.Schedule.{Schedule}
 use Rattle.cap_replay.specs.declared.playing.End.{End}
 use Rattle.cap_replay.specs.declared.playing.Played.{Played}
-use Rattle.cap_replay.specs.declared.reading.ScheduleError.{ScheduleError}
-use Rattle.cap_replay.specs.declared.reading.ScheduleError.TheVariants.{BadLine}
-use Rattle.cap_replay.specs.Reading.{Progress, read, IsReadAs}
+use Rattle.cap_replay_schedules.specs.declared.reading.ScheduleError.{ScheduleError}
+use Rattle.cap_replay_schedules.specs.declared.reading.ScheduleError.TheVariants.{BadLine}
+use Rattle.cap_replay_schedules.specs.Reading.{Progress, read, IsReadAs}
 use Rattle.cap_replay.specs.RunText.{RunText, run_from, run_text, played_view}
 use Rattle.cap_top_commands.specs.declared.output.Output as code
 use Rattle.cap_top_commands.specs.Answers.{IsOnly, IsOnlyTextOf}

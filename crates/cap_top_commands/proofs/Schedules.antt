@@ -2,10 +2,10 @@
 use Rattle.std.proofs.Common.{◌≡◌, ℕ, inl, inr, List, length, slice_get, Result, Ok, Err, refl, sym, ap, ◌∙◌, subst}
 use Rattle.std.specs.Prelude.{IsSomeAnd}
 use Rattle.cap_prog.specs.Program.{PlainProgram}
-use Rattle.cap_replay.specs.declared.entries.Schedule.{Schedule}
-use Rattle.cap_replay.specs.declared.reading.ScheduleError.{ScheduleError}
-use Rattle.cap_replay.specs.declared.reading.ScheduleError.TheVariants.{BadLine}
-use Rattle.cap_replay.specs.Reading.{Progress, read, IsReadAs}
+use Rattle.cap_replay_schedules.specs.declared.entries.Schedule.{Schedule}
+use Rattle.cap_replay_schedules.specs.declared.reading.ScheduleError.{ScheduleError}
+use Rattle.cap_replay_schedules.specs.declared.reading.ScheduleError.TheVariants.{BadLine}
+use Rattle.cap_replay_schedules.specs.Reading.{Progress, read, IsReadAs}
 use Rattle.cap_top_commands.specs.Schedules.{TakesArguments, IsBadSchedule}
 
 -- ---- the bytes

@@ -14,12 +14,12 @@ use Rattle.cap_prog.specs.Program.{Items, items_of, none, item, PlainFunction, P
 use Rattle.cap_prog.specs.Views.{item_view, items_view, function_view, program_view}
 use Rattle.cap_machine.specs.declared.event.Entry.{Entry}
 use Rattle.cap_machine.specs.Machine.{start}
-use Rattle.cap_replay.specs.declared.entries.Schedule.{Schedule}
+use Rattle.cap_replay_schedules.specs.declared.entries.Schedule.{Schedule}
 use Rattle.cap_replay.specs.declared.playing.End.TheVariants.{Stopped}
-use Rattle.cap_replay.specs.declared.reading.ScheduleError.{ScheduleError}
-use Rattle.cap_replay.specs.Reading.{Progress, read}
+use Rattle.cap_replay_schedules.specs.declared.reading.ScheduleError.{ScheduleError}
+use Rattle.cap_replay_schedules.specs.Reading.{Progress, read}
 use Rattle.cap_replay.specs.RunText.{run_from}
-use Rattle.cap_replay.specs.Writing.{PlainSchedule, schedule_view, schedule_text, IsReadWhole}
+use Rattle.cap_replay_schedules.specs.Writing.{PlainSchedule, schedule_view, schedule_text, IsReadWhole}
 use Rattle.cap_gen_schedules.specs.Drawn.{seeded, first_fault}
 use Rattle.cap_gen_schedules.specs.Laws.{AsksForNothing, TakesNothing, drawn_schedule, FoundSchedulesFault, FoundSchedulesAreReadBack, SafeProgramsHaveNone}
 use Rattle.cap_top_reading.specs.declared.refusal.Refusal.{Refusal}

@@ -11,8 +11,8 @@ use Rattle.cap_parse_laws.specs.Texts.{Spells}
 use Rattle.cap_machine.specs.declared.event.Entry.{Entry}
 use Rattle.cap_machine.specs.Machine.{start}
 use Rattle.cap_replay.specs.declared.playing.End.TheVariants.{Stopped}
-use Rattle.cap_replay.specs.Reading.{Progress, read}
-use Rattle.cap_replay.specs.Writing.{schedule_text}
+use Rattle.cap_replay_schedules.specs.Reading.{Progress, read}
+use Rattle.cap_replay_schedules.specs.Writing.{schedule_text}
 use Rattle.cap_gen_schedules.specs.Drawn.{seeded, first_fault}
 use Rattle.cap_gen_schedules.specs.Laws.{AsksForNothing, drawn_schedule}
 use Rattle.cap_top_reading.specs.declared.refusal.Refusal.{Refusal}

@@ -5,8 +5,8 @@ use Rattle.std.specs.Fmt.{decimal}
 use Rattle.cap_replay.specs.declared.playing.End.{End}
 use Rattle.cap_replay.specs.declared.playing.End.TheVariants.{Ended, Stopped, NotEnabled, Wide}
 use Rattle.cap_replay.specs.RunText.{RunText}
-use Rattle.cap_replay.specs.declared.reading.ScheduleError.{ScheduleError}
-use Rattle.cap_replay.specs.declared.reading.ScheduleError.TheVariants.{BadLine, TooMany, OutOfMemory}
+use Rattle.cap_replay_schedules.specs.declared.reading.ScheduleError.{ScheduleError}
+use Rattle.cap_replay_schedules.specs.declared.reading.ScheduleError.TheVariants.{BadLine, TooMany, OutOfMemory}
 use Rattle.cap_deriv.specs.declared.cursor.DerivError.{DerivError}
 use Rattle.cap_deriv.specs.declared.cursor.DerivError.TheVariants as deriv
 use Rattle.cap_kernel_check_steps.specs.declared.error.CheckError.{CheckError}

@@ -9,7 +9,7 @@ use Rattle.cap_kernel_check_steps.specs.declared.error.CheckError.{CheckError}
 use Rattle.cap_kernel_check_steps.specs.Judges.{Judged}
 use Rattle.cap_kernel_check_steps.specs.Owed.{preorder}
 use Rattle.cap_machine.specs.Machine.{Heap, start}
-use Rattle.cap_replay.specs.Reading.{Progress, read}
+use Rattle.cap_replay_schedules.specs.Reading.{Progress, read}
 use Rattle.cap_replay.specs.RunText.{RunText}
 use Rattle.cap_owners_spec.specs.Steps.{Proved}
 use Rattle.cap_owners_spec.specs.Start.{first_track}

@@ -4,9 +4,9 @@ use Rattle.std.specs.FinMap.{from_entries}
 use Rattle.cap_prog.specs.Program.{PlainProgram}
 use Rattle.cap_machine.specs.Machine.{start}
 use Rattle.cap_replay.specs.declared.playing.End.{End}
-use Rattle.cap_replay.specs.declared.reading.ScheduleError.{ScheduleError}
-use Rattle.cap_replay.specs.declared.reading.ScheduleError.TheVariants.{BadLine}
-use Rattle.cap_replay.specs.Reading.{Progress, read}
+use Rattle.cap_replay_schedules.specs.declared.reading.ScheduleError.{ScheduleError}
+use Rattle.cap_replay_schedules.specs.declared.reading.ScheduleError.TheVariants.{BadLine}
+use Rattle.cap_replay_schedules.specs.Reading.{Progress, read}
 use Rattle.cap_replay.specs.RunText.{RunText, run_from}
 use Rattle.cap_top_commands.specs.Output.{Output, schedule_output, run_output}
 

@@ -7,7 +7,8 @@ ghost use Rattle.cap_top_commands.specs.Views.{output_view};
 
 use crate::output::Output;
 use cap_prog::Program;
-use cap_replay::{ScheduleError, fits, read_schedule, replay as run_along};
+use cap_replay::replay as run_along;
+use cap_replay_schedules::{ScheduleError, fits, read_schedule};
 use std::alloc::{AllocError, Global};
 
 /// What is said of a schedule of these bytes: what the run along it writes, or why it is none. The

@@ -3,9 +3,9 @@ use Rattle.std.proofs.Common.{◌≡◌, inl, inr, ℕ, List, length, slice_get,
 use Rattle.std.specs.Prelude.{IsSomeAnd}
 use Rattle.std.proofs.lemmas.Bool.{cases_eq}
 use Rattle.cap_prog.specs.Program.{PlainFunction, PlainProgram}
-use Rattle.cap_replay.specs.declared.reading.ScheduleError.{ScheduleError}
-use Rattle.cap_replay.specs.declared.reading.ScheduleError.TheVariants.{BadLine}
-use Rattle.cap_replay.specs.Reading.{Progress, read}
+use Rattle.cap_replay.specs.cap_replay_schedules.declared.reading.ScheduleError.{ScheduleError}
+use Rattle.cap_replay.specs.cap_replay_schedules.declared.reading.ScheduleError.TheVariants.{BadLine}
+use Rattle.cap_replay.specs.cap_replay_schedules.Reading.{Progress, read}
 use Rattle.cap_replay.specs.RunText.{RunText}
 use Rattle.cap_top_commands.specs.Schedules.{TakesArguments, run_along, IsPlayed}
 use Rattle.cap_top_commands.specs.Output.{Output, schedule_output, run_output}

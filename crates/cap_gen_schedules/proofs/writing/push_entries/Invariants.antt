@@ -1,6 +1,6 @@
 use Rattle.std.proofs.Common.{◌≡◌, ◌++◌, drop, flat_map}
 use Rattle.std.specs.Prelude.{codes}
-use Rattle.cap_replay.specs.Writing.{entry_text}
+use Rattle.cap_replay_schedules.specs.Writing.{entry_text}
 use Rattle.cap_gen_schedules.proofs.writing.push_entries.Given as goal
 
 -- what is written, in front of what is left

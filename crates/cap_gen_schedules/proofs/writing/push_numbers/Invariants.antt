@@ -1,5 +1,5 @@
 use Rattle.std.proofs.Common.{◌≡◌, ◌++◌, drop}
-use Rattle.cap_replay.specs.Writing.{numbers_text}
+use Rattle.cap_replay_schedules.specs.Writing.{numbers_text}
 use Rattle.cap_gen_schedules.proofs.writing.push_numbers.Given as goal
 
 -- what is written, in front of what is left

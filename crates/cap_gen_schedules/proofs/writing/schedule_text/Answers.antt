@@ -1,6 +1,6 @@
 use Rattle.std.proofs.Common.{◌∙◌, ap, ◌++◌, flat_map}
 use Rattle.std.specs.Prelude.{codes}
-use Rattle.cap_replay.specs.Writing.{numbers_text, cell_text, entry_text, schedule_view}
+use Rattle.cap_replay_schedules.specs.Writing.{numbers_text, cell_text, entry_text, schedule_view}
 use Rattle.cap_gen_schedules.proofs.Lines.{written}
 use Rattle.cap_gen_schedules.proofs.writing.schedule_text.Goals as goal
 

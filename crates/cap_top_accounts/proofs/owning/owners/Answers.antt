@@ -2,7 +2,7 @@ use Rattle.std.proofs.Common.{◌≡◌, false, true, map, subst}
 use Rattle.std.specs.Bool.{IsTrue}
 use Rattle.cap_prog.specs.Views.{program_view}
 use Rattle.cap_goal.specs.Views.{choice_view}
-use Rattle.cap_replay.specs.declared.reading.ScheduleError.TheVariants.{BadLine}
+use Rattle.cap_replay_schedules.specs.declared.reading.ScheduleError.TheVariants.{BadLine}
 use Rattle.cap_top_commands.proofs.Schedules.{others_bad}
 use Rattle.cap_top_accounts.proofs.Choices.{bad_only, says_bad}
 use Rattle.cap_top_accounts.proofs.owning.owners.Goals as goal

@@ -1,5 +1,0 @@
-use Rattle.cap_replay.proofs.PieceLemmas.{IsFirst}
-use Rattle.cap_replay.proofs.numbers.cut.Given as goal
-
-abbrev pub invariant-loop-i : goal.invariant-loop-i
-invariant-loop-i l = IsFirst l.separator l.bytes l.i

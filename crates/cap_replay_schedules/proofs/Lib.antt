@@ -1,0 +1,5 @@
+mod PieceLemmas
+mod NumberLemmas
+mod ReadLemmas
+pub mod Ascending
+mod Written
