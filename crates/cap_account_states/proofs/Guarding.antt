@@ -15,7 +15,7 @@ use Rattle.cap_lin.specs.declared.row.Op.TheVariants.{Eq as Equal, Le as AtMost,
 use Rattle.cap_lin.proofs.Rows.{row_of-means}
 use Rattle.cap_lin.proofs.Values.{value-plus}
 use Rattle.cap_galg_indices.specs.Sets.{one_index, indices_from, index_range}
-use Rattle.cap_galg.specs.declared.fraction.Fraction.{Fraction}
+use Rattle.cap_galg.specs.cap_galg_spec.declared.fraction.Fraction.{Fraction}
 use Rattle.cap_galg.specs.Fractions.{IsShare}
 use Rattle.cap_galg.specs.Elements.{Element, one, share, src, tokens, indices, index_set}
 use Rattle.cap_galg.specs.Algebras.{PlainAlgebra, divisible, counting, indexed, unique, IsElement}

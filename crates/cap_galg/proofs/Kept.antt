@@ -1,8 +1,8 @@
 -- Functions that keep the composition of an algebra's elements: parts of pairs, sides of sums, and atoms.
 use Rattle.std.proofs.Common.{◌≡◌, ℕ, ◌-◌, ◌<◌, ap, ◌∙◌, Some}
-use Rattle.cap_galg.specs.Elements.{Element, bind, compose}
-use Rattle.cap_galg.specs.Algebras.{PlainAlgebra, IsElement, AtMost, atoms, atom_algebra, atom_element}
-use Rattle.cap_galg.specs.Laws.Algebras.{sound-of}
+use Rattle.cap_galg_spec.specs.Elements.{Element, bind, compose}
+use Rattle.cap_galg_spec.specs.Algebras.{PlainAlgebra, IsElement, AtMost, atoms, atom_algebra, atom_element}
+use Rattle.cap_galg_spec.specs.Laws.Algebras.{sound-of}
 use Rattle.cap_galg.specs.Laws.Atoms.{atom-is}
 use Rattle.cap_galg.specs.Laws.Placing.{atom-composed}
 

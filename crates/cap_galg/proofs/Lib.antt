@@ -1,5 +1,5 @@
 pub mod Parts
-pub mod Sides
+pub mod Proper
 pub mod Kept
 pub mod Sets
 pub mod Passing

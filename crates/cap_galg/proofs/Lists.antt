@@ -1,11 +1,11 @@
 -- Elements of lists, composed.
 use Rattle.std.proofs.Common.{◌≡◌, List, [], ◌∷◌, ◌++◌, map, refl, sym, ap, ◌∙◌, subst, Option, Some, None}
 use Rattle.std.specs.List.{AllByRecursion as Each}
-use Rattle.cap_galg.specs.Elements.{Element, nothing, bind, compose}
-use Rattle.cap_galg.specs.Algebras.{PlainAlgebra, IsElement}
+use Rattle.cap_galg_spec.specs.Elements.{Element, nothing, bind, compose}
+use Rattle.cap_galg_spec.specs.Algebras.{PlainAlgebra, IsElement}
 use Rattle.cap_galg.specs.Lists.{compose_all}
-use Rattle.cap_galg.specs.Laws.Composition.{bind-is, bind-none, some-same, compose_assoc}
-use Rattle.cap_galg.specs.Laws.Algebras.{sound-of, closed}
+use Rattle.cap_galg_spec.specs.Laws.Composition.{bind-is, bind-none, some-same, compose_assoc}
+use Rattle.cap_galg_spec.specs.Laws.Algebras.{sound-of, closed}
 use Rattle.cap_galg.proofs.Kept.{Keeps}
 
 pub all-closed : (a : PlainAlgebra) (xs : List Element) (y : Element) → Each (IsElement a) xs → compose_all xs ≡ Some y → IsElement a y

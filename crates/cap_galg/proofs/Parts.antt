@@ -1,22 +1,14 @@
--- Amounts and counts as elements.
-use Rattle.std.proofs.Common.{◌≡◌, ◌≢◌, ℕ, ◌-◌, ◌*◌, ◌≤◌, ◌<◌, arith, refl, sym, ap, ◌∙◌, subst, inl, inr, Bool, true, false, Option, Some, None, Result, Ok}
-use Rattle.std.specs.Prelude.{nat_le, nat_eq, ◌==◌, if◌then◌else◌, IsTrue}
-use Rattle.std.specs.Int.{IsGcd}
-use Rattle.cap_galg.specs.declared.fraction.Fraction.{Fraction}
-use Rattle.cap_galg.specs.declared.counting.Counting.{Counting}
-use Rattle.cap_galg.specs.declared.counting.Counting.TheVariants.{Tok, Src}
-use Rattle.cap_galg.specs.declared.error.GuardError.{GuardError}
-use Rattle.cap_galg.specs.Fractions.{IsAmount, IsShare}
-use Rattle.cap_galg.specs.Elements.{Element, nothing, share, tok, src, tokens, amount, compose, is_wide, at_most}
-use Rattle.cap_galg.specs.Views.{counting_element}
-use Rattle.cap_galg.specs.Answers.{IsComposition}
-use Rattle.cap_galg.specs.Laws.Fractions.{product-positive, amount-from, from-lowest}
-use Rattle.cap_galg.specs.Laws.Kin.{tokens-is}
-use Rattle.cap_galg.specs.Laws.Algebras.{sound-of}
-use Rattle.cap_galg.specs.Algebras.{counting}
-use Rattle.cap_galg.specs.Laws.Composition.{true_or_false, le-true, le-false, true-eq, eq-true, false-eq, compose-comm, sound-composed}
-
--- ---- amounts
+-- Amounts as elements.
+use Rattle.std.proofs.Common.{◌≡◌, ◌≢◌, ℕ, ◌*◌, ◌≤◌, ◌<◌, arith, refl, sym, ap, ◌∙◌, subst, inl, inr, false, Option, Some, Result, Ok}
+use Rattle.std.specs.Prelude.{nat_le, ◌==◌}
+use Rattle.cap_galg_spec.specs.declared.fraction.Fraction.{Fraction}
+use Rattle.cap_galg_spec.specs.declared.error.GuardError.{GuardError}
+use Rattle.cap_galg_spec.specs.Fractions.{IsAmount, IsShare}
+use Rattle.cap_galg_spec.specs.Elements.{nothing, share, amount, compose, is_wide, at_most}
+use Rattle.cap_galg_spec.specs.Answers.{IsComposition}
+use Rattle.cap_galg_spec.specs.Laws.Fractions.{product-positive}
+use Rattle.cap_galg_spec.specs.Laws.Composition.{true_or_false, le-true, le-false, true-eq, eq-true, false-eq, sound-composed}
+pub use Rattle.cap_galg_atoms.proofs.Counts.{back}
 
 pub eq-false : (a b : ℕ) → a ≢ b → (a == b) ≡ false
 eq-false a b n = elim (true_or_false (a == b)) [ inl e ↦ absurd (n (true-eq a b e)) | inr f ↦ f ]
@@ -61,41 +53,3 @@ sum-amount f g h r p q m n c e =
     let s = sum-share f g h r (share-of f p m) (share-of g q n) c e in
     let k : h.num ≢ 0 = (let t = s.positive in omega arith) in
     rw (amount-share f m, amount-share g n, amount-share h k) d
-
--- ---- counts
-
-pub back : (n k : ℕ) → (if nat_le k n then Some (src (n - k)) else None) ≡ compose (src n) (tokens k)
-back n k = elim (true_or_false (k == 0)) [
-  | inl e ↦
-      let z : k ≡ 0 = true-eq _ _ e in
-      let t : k ≤ n = omega arith in
-      let s : n - k ≡ n = omega arith in
-      rw (le-true k n t, s, e) refl
-  | inr f ↦ rw f refl
-]
-
-pub back-narrow : (n k : ℕ) → is_wide (src n) (tokens k) ≡ false
-back-narrow n k = elim (k == 0) as (λ b. is_wide (src n) (if b then nothing else tok k) ≡ false) [ true ↦ refl | false ↦ refl ]
-
-pub back-narrow_too : (n k : ℕ) → is_wide (tokens k) (src n) ≡ false
-back-narrow_too n k = elim (k == 0) as (λ b. is_wide (if b then nothing else tok k) (src n) ≡ false) [ true ↦ refl | false ↦ refl ]
-
-given : (n k : ℕ) (b : Bool) (x y : Element) → (if b then Some (src (n - k)) else None) ≡ compose x y → is_wide x y ≡ false
-    → IsComposition counting_element x y (Ok (if b then Some (Src (n - k)) else None))
-given n k true x y e w = (sym e, w)
-given n k false x y e w = sym e
-
-pub given-back : (x y : Counting) (n k : ℕ) (r : Option Counting) → x ≡ Src n → y ≡ Tok k → r ≡ (if nat_le k n then Some (Src (n - k)) else None) → IsComposition counting_element (counting_element x) (counting_element y) (Ok r)
-given-back x y n k r p q e =
-    subst (λ v. IsComposition counting_element (counting_element v) (counting_element y) (Ok r)) (sym p)
-    (subst (λ v. IsComposition counting_element (src n) (counting_element v) (Ok r)) (sym q)
-    (subst (λ o. IsComposition counting_element (src n) (tokens k) (Ok o)) (sym e) (given n k (nat_le k n) (src n) (tokens k) (back n k) (back-narrow n k))))
-
-pub given-back_too : (x y : Counting) (n k : ℕ) (r : Option Counting) → x ≡ Tok k → y ≡ Src n → r ≡ (if nat_le k n then Some (Src (n - k)) else None) → IsComposition counting_element (counting_element x) (counting_element y) (Ok r)
-given-back_too x y n k r p q e =
-    subst (λ v. IsComposition counting_element (counting_element v) (counting_element y) (Ok r)) (sym p)
-    (subst (λ v. IsComposition counting_element (tokens k) (counting_element v) (Ok r)) (sym q)
-    (subst (λ o. IsComposition counting_element (tokens k) (src n) (Ok o)) (sym e) (given n k (nat_le k n) (tokens k) (src n) (back n k ∙ compose-comm (src n) (tokens k) tt (sound-of counting (tokens k) (tokens-is k))) (back-narrow_too n k))))
-
-pub amount-test : (f : Fraction) (g : ℕ) → 0 < f.den → f.num ≤ f.den → IsGcd f.num f.den g → (IsTrue (nat_eq g 1) → IsAmount f) × (IsAmount f → IsTrue (nat_eq g 1))
-amount-test f g h l is = (λ t. amount-from f g h l is (true-eq g 1 t), λ a. eq-true g 1 (from-lowest f g is a.lowest))

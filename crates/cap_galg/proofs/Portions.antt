@@ -2,12 +2,12 @@
 use Rattle.std.proofs.Common.{◌≡◌, List, [], ◌∷◌, refl, ap, ◌∙◌, Some}
 use Rattle.std.specs.List.{All, AllByRecursion as Each}
 use Rattle.std.proofs.lemmas.List.Elements.{recursion_from_All}
-use Rattle.cap_galg.specs.Elements.{Element, nothing, on_left, on_right, bind, compose}
-use Rattle.cap_galg.specs.Algebras.{PlainAlgebra, sum, full, IsElement, AtMost, atom_element}
+use Rattle.cap_galg_spec.specs.Elements.{Element, nothing, on_left, on_right, bind, compose}
+use Rattle.cap_galg_spec.specs.Algebras.{PlainAlgebra, sum, full, IsElement, AtMost, atom_element}
 use Rattle.cap_galg.specs.Lists.{compose_all}
 use Rattle.cap_galg.specs.Portions.{Portion, IsPortion, held_elements, wanted_elements}
-use Rattle.cap_galg.specs.Laws.Composition.{bind-is}
-use Rattle.cap_galg.specs.Laws.Algebras.{full-full, sound-of}
+use Rattle.cap_galg_spec.specs.Laws.Composition.{bind-is}
+use Rattle.cap_galg_spec.specs.Laws.Algebras.{full-full, sound-of}
 use Rattle.cap_galg.specs.Laws.Lists.{below-both}
 use Rattle.cap_galg.specs.Laws.Atoms.{atom-is}
 use Rattle.cap_galg.proofs.Kept.{atom-at_most}

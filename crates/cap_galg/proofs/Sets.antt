@@ -5,8 +5,8 @@ use Rattle.cap_galg_indices.specs.Sets.{AreBounds, is_empty, is_within, composed
 use Rattle.cap_galg_indices.specs.Laws.Members.{first-in}
 use Rattle.cap_galg_indices.specs.Laws.Tests.{within-from, within-has}
 use Rattle.cap_galg_indices.specs.Laws.Composition.{composed-commutes, composed-unit}
-use Rattle.cap_galg.specs.Elements.{nothing, indices, index_set, bind, compose, is_wide, at_most}
-use Rattle.cap_galg.specs.Laws.Composition.{true_or_false, composed-some}
+use Rattle.cap_galg_spec.specs.Elements.{nothing, indices, index_set, bind, compose, is_wide, at_most}
+use Rattle.cap_galg_spec.specs.Laws.Composition.{true_or_false, composed-some}
 
 set-some : (xs : List ℕ) → is_empty xs ≡ false → indices xs ≡ index_set xs
 set-some xs e = sym (ap (λ b. if b then nothing else indices xs) e)

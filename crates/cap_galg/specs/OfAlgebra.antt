@@ -1,6 +1,6 @@
 -- An element in code, of the algebra that it is declared with.
 use Rattle.std.specs.Prelude.{◌≡◌}
-use Rattle.cap_galg.specs.Elements.{Element}
+use Rattle.cap_galg_spec.specs.Elements.{Element}
 use Rattle.cap_galg.specs.Views.{algebra_view, node_view}
 use Rattle.cap_galg.specs.declared.algebra.Algebra.{Algebra}
 use Rattle.cap_galg.specs.declared.elem.Elem.{Elem}

@@ -1,7 +1,7 @@
 -- What a walk for an atom, or for two, has come to.
 use Rattle.std.specs.Prelude.{◌≡◌, ℕ, ◌+◌, ◌<◌}
-use Rattle.cap_galg.specs.Elements.{Element}
-use Rattle.cap_galg.specs.Algebras.{PlainAlgebra, atoms, at_atom, are_apart}
+use Rattle.cap_galg_spec.specs.Elements.{Element}
+use Rattle.cap_galg_spec.specs.Algebras.{PlainAlgebra, atoms, at_atom, are_apart}
 use Rattle.cap_galg.specs.Views.{node_view}
 use Rattle.cap_galg.specs.declared.algebra.Passed.{Passed}
 use Rattle.cap_galg.specs.declared.algebra.Passed.TheVariants.{Both, First, Second, Neither}

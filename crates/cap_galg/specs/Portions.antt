@@ -1,8 +1,8 @@
 -- What is held of atoms, and what is wanted of each piece that is held.
 use Rattle.std.specs.Prelude.{ℕ, ◌<◌, List, map}
-use Rattle.cap_galg.specs.Elements.{Element}
-use Rattle.cap_galg.specs.Algebras.{PlainAlgebra, IsElement, AtMost, atoms, atom_algebra}
-use Rattle.cap_galg.specs.Algebras.{atom_element}
+use Rattle.cap_galg_spec.specs.Elements.{Element}
+use Rattle.cap_galg_spec.specs.Algebras.{PlainAlgebra, IsElement, AtMost, atoms, atom_algebra}
+use Rattle.cap_galg_spec.specs.Algebras.{atom_element}
 
 -- of one atom, an element that is held and the element that is wanted of it
 pub record Portion : Type 0 where

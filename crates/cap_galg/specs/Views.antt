@@ -1,21 +1,19 @@
 -- What contracts see of the types in code.
 use Rattle.std.specs.Prelude.{◌≡◌, ℕ, ◌<◌}
 use Rattle.cap_galg_indices.specs.Sets.{one_index, indices_from}
-use Rattle.cap_galg.specs.Elements.{Element, nothing, one, share, tok, src, indices, both, whole}
-use Rattle.cap_galg.specs.Elements.{left, right, in_left, in_right, amount, tokens}
-use Rattle.cap_galg.specs.Fractions.{IsShare, IsAmount}
-use Rattle.cap_galg.specs.Algebras.{PlainAlgebra, unique, divisible, counting, indexed, product}
-use Rattle.cap_galg.specs.Algebras.{sum, atoms, atom_algebra}
+use Rattle.cap_galg_spec.specs.Elements.{Element, nothing, one, share, tok, src, indices, both}
+use Rattle.cap_galg_spec.specs.Elements.{whole}
+use Rattle.cap_galg_spec.specs.Elements.{left, right, amount, tokens}
+use Rattle.cap_galg_spec.specs.Fractions.{IsShare, IsAmount}
+use Rattle.cap_galg_spec.specs.Algebras.{PlainAlgebra, unique, divisible, counting, indexed}
+use Rattle.cap_galg_spec.specs.Algebras.{product}
+use Rattle.cap_galg_spec.specs.Algebras.{sum, atoms, atom_algebra}
 use Rattle.cap_galg.specs.declared.algebra.Algebra.{Algebra, fold-Algebra}
 use Rattle.cap_galg.specs.declared.algebra.Atom.{Atom}
 use Rattle.cap_galg.specs.declared.algebra.Atom.TheVariants as atom
 use Rattle.cap_galg.specs.declared.algebra.Algebra.TheOpen.{Algebra-F}
 use Rattle.cap_galg.specs.declared.unique.Unique.{Unique}
 use Rattle.cap_galg.specs.declared.unique.Unique.TheVariants.{Unit as NoPart, One}
-use Rattle.cap_galg.specs.declared.counting.Counting.{Counting}
-use Rattle.cap_galg.specs.declared.counting.Counting.TheVariants.{Tok, Src}
-use Rattle.cap_galg.specs.declared.either.Either.{Either}
-use Rattle.cap_galg.specs.declared.either.Either.TheVariants.{Left, Right}
 use Rattle.cap_galg.specs.declared.amount.Amount.{Amount}
 use Rattle.cap_galg.specs.declared.amount.Amount.TheVariants as part
 use Rattle.cap_galg.specs.declared.node.Node.{Node, fold-Node}
@@ -64,21 +62,6 @@ HasShares _ = Unit {0}
 abbrev pub unique_element : Unique → Element
 unique_element NoPart = nothing
 unique_element One = one
-
-abbrev pub counting_element : Counting → Element
-counting_element (Tok k) = tokens k
-counting_element (Src n) = src n
-
--- an element of a sum that one of its sides has, and which of them are of one algebra
-abbrev pub side_element : {A B : Type 0} → (A → Element) → (B → Element) → Either A B → Element
-side_element f g (Left x) = in_left (f x)
-side_element f g (Right y) = in_right (g y)
-
-abbrev pub SideKin : {A B : Type 0} → (A → A → Type 0) → (B → B → Type 0) → Either A B → Either A B
-    → Type 0
-SideKin K L (Left x) (Left y) = K x y
-SideKin K L (Right x) (Right y) = L x y
-SideKin K L _ _ = Unit {0}
 
 abbrev pub amount_element : Amount → Element
 amount_element part.One = one

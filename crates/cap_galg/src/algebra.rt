@@ -1,7 +1,7 @@
 //! Guard algebras as data, and their atoms.
 ghost use Rattle.std.specs.Prelude.{true, false, ◌≡◌, ◌↔◌, ◌≤◌, ◌+◌, ◌-◌, ◌==◌, if◌then◌else◌};
 ghost use Rattle.std.specs.Prelude.{IsTrue, IfOk, Ok, Err, MatchResult, MatchOption};
-ghost use Rattle.cap_galg.specs.Algebras.{are_apart, product, sum};
+ghost use Rattle.cap_galg_spec.specs.Algebras.{are_apart, product, sum};
 ghost use Rattle.cap_galg.specs.Placed.{HasPassed};
 ghost use Rattle.cap_galg.specs.declared.algebra.Passed.TheVariants.{Both, First, Second, Neither};
 ghost use Rattle.cap_galg.specs.Views.{algebra_view, atom_count, HasAtom, Accepts};

@@ -3,7 +3,7 @@ ghost use Rattle.std.specs.Prelude.{◌↔◌, IsTrue};
 ghost use Rattle.cap_galg.specs.Views.{atom_view, IsAmountOf};
 
 use crate::algebra::Atom;
-use crate::fraction::Fraction;
+use cap_galg_spec::Fraction;
 
 /// How much of one guard: all of a unique one, or a fraction of a divisible one; of a counting one,
 /// the source with some tokens out, or some tokens; of an indexed one, one index, or all indices

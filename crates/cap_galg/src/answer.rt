@@ -1,8 +1,8 @@
 //! The answer of two parts that compose each for itself.
 ghost use Rattle.std.specs.Prelude.{◌≡◌};
-ghost use Rattle.cap_galg.specs.Answers.{answer_of_both};
+ghost use Rattle.cap_galg_spec.specs.Answers.{answer_of_both};
 
-use crate::error::GuardError;
+use cap_galg_spec::GuardError;
 
 /// The answers for two parts, as one answer: nothing where either is nothing, else the first want
 /// of memory, else Wide.

@@ -1,10 +1,9 @@
 //! A part of a guard that can be divided without end.
 ghost use Rattle.std.specs.Prelude.{◌≡◌};
-ghost use Rattle.cap_galg.specs.Fractions.{IsAmount};
+ghost use Rattle.cap_galg_spec.specs.Fractions.{IsAmount};
 
-use crate::error::GuardError;
-use crate::fraction::{Fraction, is_at_most, sum};
-use crate::guard::Guard;
+use cap_galg_atoms::{is_at_most, sum};
+use cap_galg_spec::{Fraction, Guard, GuardError};
 use std::alloc::{AllocError, Global};
 
 /// A part of a guard that is divided among threads: a fraction from 0 to 1, in lowest terms. The
@@ -34,7 +33,7 @@ impl Divisible {
 }
 
 impl Guard for Divisible {
-    ghost use Rattle.cap_galg.specs.Elements.{amount};
+    ghost use Rattle.cap_galg_spec.specs.Elements.{amount};
     ghost use Rattle.cap_galg.specs.Laws.Kin.{divisible-kin};
 
     ghost element = { λ d. amount d.fraction };

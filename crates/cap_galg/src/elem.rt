@@ -4,19 +4,17 @@ ghost use Rattle.cap_galg.specs.Views.{algebra_view, node_view, amount_element};
 ghost use Rattle.cap_galg.specs.Views.{atom_count, IsAmountOf};
 ghost use Rattle.cap_galg.specs.Placed.{IsPlaced};
 ghost use Rattle.cap_galg.specs.declared.elem.Placed.TheVariants.{Here, Past};
-ghost use Rattle.cap_galg.specs.Elements.{Element, nothing};
-ghost use Rattle.cap_galg.specs.Algebras.{PlainAlgebra, product, sum, atoms, IsElement, full};
-ghost use Rattle.cap_galg.specs.Algebras.{atom_algebra, atom_element};
+ghost use Rattle.cap_galg_spec.specs.Elements.{Element, nothing};
+ghost use Rattle.cap_galg_spec.specs.Algebras.{PlainAlgebra, product, sum, atoms, IsElement, full};
+ghost use Rattle.cap_galg_spec.specs.Algebras.{atom_algebra, atom_element};
 ghost use Rattle.cap_galg.specs.Laws.Kin.{element-prop};
-ghost use Rattle.cap_galg.specs.declared.error.GuardError.TheVariants.{OutOfMemory};
+ghost use Rattle.cap_galg_spec.specs.declared.error.GuardError.TheVariants.{OutOfMemory};
 
 use crate::algebra::Algebra;
 use crate::amount::Amount;
-use crate::error::GuardError;
-use crate::fraction::Fraction;
-use crate::guard::Guard;
 use crate::node::{Node, on_left, on_right, pair_node};
 use cap_galg_indices::Indices;
+use cap_galg_spec::{Fraction, Guard, GuardError};
 use std::alloc::{AllocError, Global};
 
 /// An element of a declared algebra.

@@ -3,9 +3,8 @@ ghost use Rattle.std.specs.Prelude.{◌≡◌};
 ghost use Rattle.cap_galg_indices.specs.Sets.{AreBounds};
 ghost use Rattle.cap_galg_indices.specs.Laws.Members.{ascend-prop};
 
-use crate::error::GuardError;
-use crate::guard::Guard;
 use cap_galg_indices::Indices;
+use cap_galg_spec::{Guard, GuardError};
 use std::alloc::{AllocError, Global};
 
 /// A part of a guard that is handed out by indices: a set of them. The empty set is the unit, and
@@ -33,7 +32,7 @@ impl Indexed {
 }
 
 impl Guard for Indexed {
-    ghost use Rattle.cap_galg.specs.Elements.{index_set};
+    ghost use Rattle.cap_galg_spec.specs.Elements.{index_set};
     ghost use Rattle.cap_galg.specs.Laws.Kin.{indexed-kin};
 
     ghost element = { λ s. index_set s.indices };

@@ -1,13 +1,13 @@
 //! Laws of guard elements, each the contract of a function that does nothing.
 ghost use Rattle.std.specs.Prelude.{◌≡◌, ℕ, List, Some, false};
 ghost use Rattle.std.specs.List.{All};
-ghost use Rattle.cap_galg.specs.Elements.{Element, bind, compose, is_wide, on_left, on_right};
-ghost use Rattle.cap_galg.specs.Elements.{index_set};
-ghost use Rattle.cap_galg.specs.Algebras.{PlainAlgebra, sum, full, AtMost};
+ghost use Rattle.cap_galg_spec.specs.Elements.{Element, bind, compose, is_wide, on_left, on_right};
+ghost use Rattle.cap_galg_spec.specs.Elements.{index_set};
+ghost use Rattle.cap_galg_spec.specs.Algebras.{PlainAlgebra, sum, full, AtMost};
 ghost use Rattle.cap_galg.specs.Lists.{compose_all};
 ghost use Rattle.cap_galg.specs.Portions.{Portion, IsPortion, held_elements, wanted_elements};
 
-use crate::guard::Guard;
+use cap_galg_spec::Guard;
 
 /// Where held pieces compose all together, and of each one an element of its atom is wanted that is
 /// at most the held one, the wanted elements compose all together, to an element that is at most

@@ -5,13 +5,8 @@
 mod algebra;
 mod amount;
 mod answer;
-mod counting;
 mod divisible;
-mod either;
 mod elem;
-mod error;
-mod fraction;
-mod guard;
 mod indexed;
 mod laws;
 mod node;
@@ -20,13 +15,10 @@ mod unique;
 
 pub use algebra::{Algebra, Atom};
 pub use amount::Amount;
-pub use counting::Counting;
+pub use cap_galg_atoms::{Counting, Either};
+pub use cap_galg_spec::{Fraction, Guard, GuardError};
 pub use divisible::Divisible;
-pub use either::Either;
 pub use elem::Elem;
-pub use error::GuardError;
-pub use fraction::Fraction;
-pub use guard::Guard;
 pub use indexed::Indexed;
 pub use laws::{
     fulls_of_both_sides, parts_are_associative, portions_compose, sets_of_indices_are_narrow,

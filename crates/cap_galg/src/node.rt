@@ -1,16 +1,17 @@
 //! Elements of all algebras, and their composition and order.
 ghost use Rattle.std.specs.Prelude.{◌≡◌, IfOk, Ok};
-ghost use Rattle.cap_galg.specs.Fractions.{IsShare};
+ghost use Rattle.cap_galg_spec.specs.Fractions.{IsShare};
 ghost use Rattle.cap_galg.specs.Views.{node_view, HasShares};
-ghost use Rattle.cap_galg.specs.Elements.{Element, is_unit, is_full, at_most, nothing, one, share};
-ghost use Rattle.cap_galg.specs.Elements.{tok, src, indices, both, whole, left, right};
-ghost use Rattle.cap_galg.specs.Elements.{on_left as made_left, on_right as made_right};
-ghost use Rattle.cap_galg.specs.Answers.{IsComposition};
+ghost use Rattle.cap_galg_spec.specs.Elements.{Element, is_unit, is_full, at_most, nothing, one};
+ghost use Rattle.cap_galg_spec.specs.Elements.{share};
+ghost use Rattle.cap_galg_spec.specs.Elements.{tok, src, indices, both, whole, left, right};
+ghost use Rattle.cap_galg_spec.specs.Elements.{on_left as made_left, on_right as made_right};
+ghost use Rattle.cap_galg_spec.specs.Answers.{IsComposition};
 
 use crate::answer::paired_answer;
-use crate::error::GuardError;
-use crate::fraction::{Fraction, is_at_most, sum};
+use cap_galg_atoms::{is_at_most, sum};
 use cap_galg_indices::Indices;
+use cap_galg_spec::{Fraction, GuardError};
 use std::alloc::{AllocError, Global};
 
 /// An element of some algebra. A pair isn't two units, and what stands on a side of a sum is

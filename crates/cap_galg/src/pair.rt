@@ -1,7 +1,6 @@
 //! The product of two algebras: a part of each.
 use crate::answer::paired_answer;
-use crate::error::GuardError;
-use crate::guard::Guard;
+use cap_galg_spec::{Guard, GuardError};
 use std::alloc::{AllocError, Global};
 
 /// Parts of two guards at once. It is full where both parts are.
@@ -12,7 +11,7 @@ pub struct Pair<A, B> {
 }
 
 impl<A: Guard, B: Guard> Guard for Pair<A, B> {
-    ghost use Rattle.cap_galg.specs.Elements.{pair_of};
+    ghost use Rattle.cap_galg_spec.specs.Elements.{pair_of};
     ghost use Rattle.cap_galg.specs.Laws.Kin.{pair-kin};
 
     ghost element = { λ p. pair_of (A.element p.left) (B.element p.right) };

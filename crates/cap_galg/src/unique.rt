@@ -1,8 +1,7 @@
 //! A guard that one thread holds.
 ghost use Rattle.cap_galg.specs.Views.{unique_element};
 
-use crate::error::GuardError;
-use crate::guard::Guard;
+use cap_galg_spec::{Guard, GuardError};
 use std::alloc::{AllocError, Global};
 
 /// A part of a guard that only one thread holds.

@@ -5,7 +5,7 @@ use Rattle.std.proofs.Math.Nat.{mul-le-mul_right}
 use Rattle.cap_lin.specs.Linear.{Linear, plus, minus, negative}
 use Rattle.cap_lin.specs.Values.{RationalValuation, Valuation, denominator, parts_value, value, amount}
 use Rattle.cap_lin.proofs.Values.{amount-plus, value-plus, value-times}
-use Rattle.cap_galg.specs.declared.fraction.Fraction.{Fraction}
+use Rattle.cap_galg.specs.cap_galg_spec.declared.fraction.Fraction.{Fraction}
 use Rattle.cap_galg.specs.Fractions.{IsShare, crossed, plus as sum_of}
 use Rattle.cap_galg.specs.Laws.Fractions.{product-positive, cancel-le, cancel, plus-is}
 use Rattle.cap_gsolve.specs.Merge.{zero_term, one_term}

@@ -13,7 +13,7 @@ use Rattle.cap_lin.specs.declared.row.Sort.TheVariants.{Int, Perm}
 use Rattle.cap_lin.specs.declared.row.Op.TheVariants.{Le as AtMost, Eq as Equal, Gt as Greater, Ge as AtLeast}
 use Rattle.cap_lin.proofs.Rows.{row_of-means}
 use Rattle.cap_lin.proofs.Values.{amount-plus}
-use Rattle.cap_galg.specs.declared.fraction.Fraction.{Fraction}
+use Rattle.cap_galg.specs.cap_galg_spec.declared.fraction.Fraction.{Fraction}
 use Rattle.cap_galg.specs.Fractions.{IsShare, crossed, lowest, plus as sum_of}
 use Rattle.cap_galg.specs.Elements.{Element, nothing, share, src, tokens, is_unit, bind, compose}
 use Rattle.cap_galg.specs.Algebras.{PlainAlgebra, atom_element}

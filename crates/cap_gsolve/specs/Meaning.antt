@@ -7,7 +7,7 @@ use Rattle.cap_lin.specs.Linear.{Linear}
 use Rattle.cap_lin.specs.Values.{Valuation, denominator, value, amount}
 use Rattle.cap_lin.specs.Solves.{Holds}
 use Rattle.cap_lin.specs.declared.row.Row.{Row}
-use Rattle.cap_galg.specs.declared.fraction.Fraction.{Fraction}
+use Rattle.cap_galg.specs.cap_galg_spec.declared.fraction.Fraction.{Fraction}
 use Rattle.cap_galg.specs.Fractions.{IsShare}
 use Rattle.cap_galg_indices.specs.Sets.{indices_from, index_range}
 use Rattle.cap_galg.specs.Elements.{Element, nothing, one, share, src, tokens, indices, index_set}

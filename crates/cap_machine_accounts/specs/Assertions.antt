@@ -8,7 +8,7 @@ use Rattle.cap_lin.specs.Solves.{Compares}
 use Rattle.cap_lin.specs.declared.row.Sort.{Sort}
 use Rattle.cap_lin.specs.declared.row.Sort.TheVariants.{Int, Perm}
 use Rattle.cap_galg_indices.specs.Sets.{one_index, indices_from}
-use Rattle.cap_galg.specs.declared.fraction.Fraction.{Fraction}
+use Rattle.cap_galg.specs.cap_galg_spec.declared.fraction.Fraction.{Fraction}
 use Rattle.cap_galg.specs.Fractions.{IsShare}
 use Rattle.cap_galg.specs.Elements.{Element, one, share, src, tokens, indices}
 use Rattle.cap_galg.specs.Algebras.{atom_algebra, IsElement}

@@ -8,7 +8,7 @@ use Rattle.cap_lin.specs.Linear.{number, variable}
 use Rattle.cap_lin.specs.Values.{RationalValuation, Valuation, denominator, parts_value, value, amount}
 use Rattle.cap_lin.specs.declared.row.Op.{Op}
 use Rattle.cap_lin.specs.declared.row.Op.TheVariants.{Eq, Ne}
-use Rattle.cap_galg.specs.declared.fraction.Fraction.{Fraction}
+use Rattle.cap_galg.specs.cap_galg_spec.declared.fraction.Fraction.{Fraction}
 use Rattle.cap_galg.specs.Fractions.{fraction}
 use Rattle.cap_galg.specs.Laws.Fractions.{whole-share}
 use Rattle.cap_galg_indices.specs.Sets.{one_index}

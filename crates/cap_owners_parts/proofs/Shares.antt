@@ -4,7 +4,7 @@ use Rattle.std.specs.Prelude.{nat_le}
 use Rattle.std.proofs.lemmas.Bool.{cases_eq}
 use Rattle.std.proofs.lemmas.Bool.Decides.{nat_tests}
 use Rattle.std.proofs.Math.Nat.{mul-le-mul_left}
-use Rattle.cap_galg.specs.declared.fraction.Fraction.{Fraction}
+use Rattle.cap_galg.specs.cap_galg_spec.declared.fraction.Fraction.{Fraction}
 use Rattle.cap_galg.specs.Fractions.{fraction, lowest, gcd, crossed, plus}
 use Rattle.cap_galg.specs.Laws.Fractions.{lowest-is, equal, cancel, cancel-le, product-positive, plus-is}
 use Rattle.cap_galg.specs.Elements.{share, is_full}

@@ -5,7 +5,7 @@ use Rattle.cap_lin.specs.Linear.{Linear}
 use Rattle.cap_lin.specs.Values.{Valuation, value, amount}
 use Rattle.cap_lin.specs.Steps.{Step, product_of, value_steps}
 use Rattle.cap_machine.specs.Results.{are_narrow}
-use Rattle.cap_galg.specs.declared.fraction.Fraction.{Fraction}
+use Rattle.cap_galg.specs.cap_galg_spec.declared.fraction.Fraction.{Fraction}
 use Rattle.cap_galg.specs.Fractions.{IsShare, lowest}
 use Rattle.cap_galg.specs.Laws.Fractions.{lowest-is, equal, cancel}
 use Rattle.cap_galg.specs.Elements.{Element, share, src, tokens, indices, index_set}

@@ -5,7 +5,7 @@ use Rattle.std.proofs.lemmas.Int.{ints}
 use Rattle.cap_lin.specs.Linear.{Linear}
 use Rattle.cap_lin.specs.Steps.{product_of, value_steps}
 use Rattle.cap_lin.specs.Values.{Valuation, value, amount}
-use Rattle.cap_galg.specs.declared.fraction.Fraction.{Fraction}
+use Rattle.cap_galg.specs.cap_galg_spec.declared.fraction.Fraction.{Fraction}
 use Rattle.cap_galg.specs.Elements.{Element, nothing, share, src, tok, tokens, indices}
 use Rattle.cap_galg_indices.specs.Sets.{one_index, indices_from}
 use Rattle.cap_gsolve.specs.declared.piece.Form.{Form}

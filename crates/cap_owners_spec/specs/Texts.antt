@@ -3,7 +3,7 @@ use Rattle.std.specs.Prelude.{ℕ, suc, ◌+◌, ℤ, pos, negsuc, List, [], ◌
 use Rattle.std.specs.List.{join_by, zip}
 use Rattle.std.specs.Fmt.{decimal, signed_decimal}
 use Rattle.std.specs.FinMap.{entries}
-use Rattle.cap_rules.specs.cap_goal_spec.cap_galg.declared.fraction.Fraction.{Fraction}
+use Rattle.cap_rules.specs.cap_goal_spec.cap_galg.cap_galg_spec.declared.fraction.Fraction.{Fraction}
 use Rattle.cap_rules.specs.cap_goal_spec.cap_galg.Fractions.{lowest}
 use Rattle.cap_rules.specs.cap_goal_spec.cap_galg.Elements.{Element, one, share, tok, src, indices, both, whole, left, right}
 use Rattle.cap_rules.specs.cap_goal_spec.cap_galg.Algebras.{PlainAlgebra, product, sum, full, atoms}

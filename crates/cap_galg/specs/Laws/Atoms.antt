@@ -4,16 +4,19 @@ use Rattle.std.proofs.Common.{inr, Bool, true, false}
 use Rattle.std.specs.Prelude.{nat_lt, ◌==◌, ◌&&◌, if◌then◌else◌}
 use Rattle.std.proofs.lemmas.Bool.Decides.{nat_tests}
 use Rattle.cap_galg_indices.specs.Laws.Members.{one-ascends, from-ascends}
-use Rattle.cap_galg.specs.Elements.{Element, nothing, both, is_unit, is_full, on_left, on_right}
-use Rattle.cap_galg.specs.Algebras.{PlainAlgebra, unique, divisible, counting, indexed, product}
-use Rattle.cap_galg.specs.Algebras.{sum, IsElement, atoms, atom_algebra, at_atom, atom_element}
-use Rattle.cap_galg.specs.Algebras.{apart_at_node, are_apart}
+use Rattle.cap_galg_spec.specs.Elements.{Element, nothing, both, is_unit, is_full, on_left}
+use Rattle.cap_galg_spec.specs.Elements.{on_right}
+use Rattle.cap_galg_spec.specs.Algebras.{PlainAlgebra, unique, divisible, counting, indexed}
+use Rattle.cap_galg_spec.specs.Algebras.{product}
+use Rattle.cap_galg_spec.specs.Algebras.{sum, IsElement, atoms, atom_algebra, at_atom, atom_element}
+use Rattle.cap_galg_spec.specs.Algebras.{apart_at_node, are_apart}
 use Rattle.cap_galg.specs.Views.{amount_element, IsAmountOf}
 use Rattle.cap_galg.specs.declared.amount.Amount.{Amount}
 use Rattle.cap_galg.specs.declared.amount.Amount.TheVariants as part
-use Rattle.cap_galg.specs.Laws.Composition.{true_or_false, side-not-unit, side-not-unit_right}
-use Rattle.cap_galg.specs.Laws.Algebras.{left-element, right-element}
-use Rattle.cap_galg.specs.Laws.Kin.{amount-is, tokens-is}
+use Rattle.cap_galg_spec.specs.Laws.Composition.{true_or_false, side-not-unit, side-not-unit_right}
+use Rattle.cap_galg_spec.specs.Laws.Algebras.{left-element, right-element}
+use Rattle.cap_galg_atoms.specs.Laws.Kin.{tokens-is}
+use Rattle.cap_galg.specs.Laws.Kin.{amount-is}
 
 pub true-lt : (a b : ℕ) → nat_lt a b ≡ true → a < b
 true-lt a b e = grind (arith, nat_tests, e)

@@ -1,12 +1,12 @@
 -- Elements that compose: parts of what composes compose too, and in another order.
 use Rattle.std.proofs.Common.{◌≡◌, refl, sym, ap, ◌∙◌, subst, List, [], ◌∷◌, ◌++◌, Option, Some}
 use Rattle.std.specs.List.{AllByRecursion}
-use Rattle.cap_galg.specs.Elements.{Element, nothing, bind, compose}
-use Rattle.cap_galg.specs.Algebras.{PlainAlgebra, AtMost}
+use Rattle.cap_galg_spec.specs.Elements.{Element, nothing, bind, compose}
+use Rattle.cap_galg_spec.specs.Algebras.{PlainAlgebra, AtMost}
 use Rattle.cap_galg.specs.Lists.{compose_all}
-use Rattle.cap_galg.specs.Laws.Composition.{bind-is, some-same, IsSound, compose-comm}
-use Rattle.cap_galg.specs.Laws.Composition.{compose_assoc, sound-composed}
-use Rattle.cap_galg.specs.Laws.Algebras.{sound-of, closed}
+use Rattle.cap_galg_spec.specs.Laws.Composition.{bind-is, some-same, IsSound, compose-comm}
+use Rattle.cap_galg_spec.specs.Laws.Composition.{compose_assoc, sound-composed}
+use Rattle.cap_galg_spec.specs.Laws.Algebras.{sound-of, closed}
 
 -- what the last two of three compose to, where the first two compose and then the third
 pub record Regrouped (x y z w : Element) : Type 0 where

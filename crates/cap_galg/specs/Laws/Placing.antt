@@ -3,12 +3,14 @@
 use Rattle.std.proofs.Common.{◌≡◌, ℕ, ◌-◌, refl, sym, ap, ◌∙◌, inl, inr, Bool, true, false, Option}
 use Rattle.std.proofs.Common.{Some, None}
 use Rattle.std.specs.Prelude.{nat_lt, ◌&&◌, if◌then◌else◌}
-use Rattle.cap_galg.specs.Elements.{Element, nothing, both, whole, left, right, is_unit, is_full}
-use Rattle.cap_galg.specs.Elements.{on_left, on_right, bind, compose}
-use Rattle.cap_galg.specs.Algebras.{PlainAlgebra, unique, divisible, counting, indexed, product}
-use Rattle.cap_galg.specs.Algebras.{sum, atoms, at_atom, atom_element, are_apart}
-use Rattle.cap_galg.specs.Laws.Composition.{true_or_false, IsSound, unit-is, compose-comm}
-use Rattle.cap_galg.specs.Laws.Composition.{compose-nothing, composed-not-unit, full_alone}
+use Rattle.cap_galg_spec.specs.Elements.{Element, nothing, both, whole, left, right, is_unit}
+use Rattle.cap_galg_spec.specs.Elements.{is_full}
+use Rattle.cap_galg_spec.specs.Elements.{on_left, on_right, bind, compose}
+use Rattle.cap_galg_spec.specs.Algebras.{PlainAlgebra, unique, divisible, counting, indexed}
+use Rattle.cap_galg_spec.specs.Algebras.{product}
+use Rattle.cap_galg_spec.specs.Algebras.{sum, atoms, at_atom, atom_element, are_apart}
+use Rattle.cap_galg_spec.specs.Laws.Composition.{true_or_false, IsSound, unit-is, compose-comm}
+use Rattle.cap_galg_spec.specs.Laws.Composition.{compose-nothing, composed-not-unit, full_alone}
 
 -- an element that isn't the unit
 pub record IsSome (x : Element) : Type 0 where

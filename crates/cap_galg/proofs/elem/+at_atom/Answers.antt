@@ -1,5 +1,5 @@
 use Rattle.std.proofs.Common.{◌≡◌, rules, sym, subst, IfOk}
-use Rattle.cap_galg.specs.Algebras.{product, sum}
+use Rattle.cap_galg_spec.specs.Algebras.{product, sum}
 use Rattle.cap_galg.specs.Placed.{IsPlaced}
 use Rattle.cap_galg.specs.Views.{algebra_view, node_view}
 use Rattle.cap_galg.specs.declared.algebra.Algebra.TheFolds.{the_lemmas}

@@ -1,5 +1,5 @@
-use Rattle.cap_galg.specs.Laws.Composition.{IsSound, compose_assoc}
-use Rattle.cap_galg.specs.Laws.Algebras.{sound-of}
+use Rattle.cap_galg_spec.specs.Laws.Composition.{IsSound, compose_assoc}
+use Rattle.cap_galg_spec.specs.Laws.Algebras.{sound-of}
 use Rattle.cap_galg.proofs.laws.parts_are_associative.Goals as goal
 
 pub returns : goal.returns

@@ -1,10 +1,10 @@
 use Rattle.std.proofs.Common.{◌≡◌, Ok, Err, Some, None, ap, sym, subst, ◌∙◌}
 use Rattle.std.proofs.lemmas.Result.{err_from_is_err_and}
-use Rattle.cap_galg.specs.Elements.{both}
+use Rattle.cap_galg_spec.specs.Elements.{both}
 use Rattle.cap_galg.specs.Views.{node_view}
-use Rattle.cap_galg.specs.Answers.{IsComposition}
+use Rattle.cap_galg_spec.specs.Answers.{IsComposition}
 use Rattle.cap_galg.specs.declared.node.Node.{Node}
-use Rattle.cap_galg.proofs.Sides.{both-two, two-composition, two-some, two-error, error-is}
+use Rattle.cap_galg_spec.proofs.Sides.{both-two, two-composition, two-some, two-error, error-is}
 use Rattle.cap_galg.proofs.node.pairs.Goals as goal
 
 pub returns-in_err-x : goal.returns-in_err-x

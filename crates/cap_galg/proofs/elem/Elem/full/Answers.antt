@@ -1,4 +1,4 @@
-use Rattle.cap_galg.proofs.Sides.{full-proper}
+use Rattle.cap_galg.proofs.Proper.{full-proper}
 use Rattle.cap_galg.specs.Views.{algebra_view, node_view}
 use Rattle.cap_galg.proofs.elem.Elem.full.Goals as goal
 

@@ -1,7 +1,7 @@
 use Rattle.std.proofs.Common.{◌≡◌, Ok, Some, subst}
 use Rattle.cap_galg.specs.Views.{algebra_view, node_view}
-use Rattle.cap_galg.specs.Answers.{IsComposition}
-use Rattle.cap_galg.proofs.Sides.{has_shares, closed-proper}
+use Rattle.cap_galg_spec.specs.Answers.{IsComposition}
+use Rattle.cap_galg.proofs.Proper.{has_shares, closed-proper}
 use Rattle.cap_galg.proofs.elem.ElemGuard.compose.Goals as goal
 
 pub compose-requires-clause-shares : goal.compose-requires-clause-shares

@@ -1,6 +1,6 @@
 use Rattle.std.proofs.Common.{◌≡◌, sym, ap, ◌∙◌, Some, None}
 use Rattle.cap_galg_indices.specs.Sets.{composed}
-use Rattle.cap_galg.specs.Elements.{index_set, bind}
+use Rattle.cap_galg_spec.specs.Elements.{index_set, bind}
 use Rattle.cap_galg.proofs.Sets.{sets-compose, sets-narrow}
 use Rattle.cap_galg.proofs.indexed.IndexedGuard.compose.Goals as goal
 

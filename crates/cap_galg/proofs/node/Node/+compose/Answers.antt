@@ -1,8 +1,8 @@
 use Rattle.std.proofs.Common.{◌≡◌, rules, sym, subst}
 use Rattle.cap_galg.specs.Views.{node_view}
 use Rattle.cap_galg.specs.declared.node.Node.TheFolds.{the_lemmas}
-use Rattle.cap_galg.specs.Elements.{both, left, right}
-use Rattle.cap_galg.specs.Answers.{IsComposition}
+use Rattle.cap_galg_spec.specs.Elements.{both, left, right}
+use Rattle.cap_galg_spec.specs.Answers.{IsComposition}
 use Rattle.cap_galg.proofs.node.Node.+compose.Goals as goal
 
 pub returns-in-Both-other : goal.returns-in-Both-other

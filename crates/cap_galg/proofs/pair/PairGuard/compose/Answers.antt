@@ -1,9 +1,9 @@
 use Rattle.std.proofs.Common.{◌≡◌, Ok, Err, Some, None, ap, sym, subst, ◌∙◌}
 use Rattle.cap_galg.specs.declared.pair.Pair.{Pair}
 use Rattle.std.proofs.lemmas.Result.{err_from_is_err_and}
-use Rattle.cap_galg.specs.Elements.{pair_of}
-use Rattle.cap_galg.specs.Answers.{IsComposition}
-use Rattle.cap_galg.proofs.Sides.{pair-two, two-composition, two-some, two-error, error-is}
+use Rattle.cap_galg_spec.specs.Elements.{pair_of}
+use Rattle.cap_galg_spec.specs.Answers.{IsComposition}
+use Rattle.cap_galg_spec.proofs.Sides.{pair-two, two-composition, two-some, two-error, error-is}
 use Rattle.cap_galg.proofs.pair.PairGuard.compose.Goals as goal
 
 pub returns-in-Some-clause-composed : goal.returns-in-Some-clause-composed

@@ -1,0 +1,5 @@
+pub mod Fractions
+pub mod Elements
+pub mod Algebras
+pub mod Answers
+pub mod Laws
