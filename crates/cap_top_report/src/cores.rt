@@ -5,7 +5,7 @@ ghost use Rattle.cap_prog.specs.Views.{program_view};
 ghost use Rattle.cap_goal.specs.Views.{unit_view};
 ghost use Rattle.cap_goal_roots.specs.Units.{HasUnit};
 ghost use Rattle.cap_rules_ascending.specs.Ascending.{ProgramAscends};
-ghost use Rattle.cap_search_trees.specs.Views.{verdict_view};
+ghost use Rattle.cap_search.specs.Views.{verdict_view};
 ghost use Rattle.cap_search_spec.specs.Verdicts.{verdict as verdict_on};
 ghost use Rattle.cap_top_report.specs.Cores.{cored_lines, verdict_cores};
 ghost use Rattle.cap_top_report.specs.Report.{count_proved, once_proved as once_proved_by};

@@ -4,7 +4,7 @@ ghost use Rattle.std.specs.List.{AllByRecursion};
 ghost use Rattle.cap_prog.specs.Views.{program_view};
 ghost use Rattle.cap_goal.specs.Views.{unit_view};
 ghost use Rattle.cap_goal_roots.specs.Units.{HasUnit};
-ghost use Rattle.cap_search_trees.specs.Views.{trees_seen, verdict_view};
+ghost use Rattle.cap_search.specs.Views.{trees_seen, verdict_view};
 ghost use Rattle.cap_top_report.specs.Found.{proof_trees, found_of};
 ghost use Rattle.cap_top_report.specs.Report.{unit_line, count_proved};
 ghost use Rattle.cap_top_report.specs.Views.{IsConclusionOf};

@@ -4,7 +4,7 @@ ghost use Rattle.cap_syntax.specs.Place.{place_text as text_of_place};
 ghost use Rattle.cap_prog.specs.Views.{program_view};
 ghost use Rattle.cap_goal.specs.Views.{unit_view};
 ghost use Rattle.cap_goal_roots.specs.Units.{HasUnit};
-ghost use Rattle.cap_search_trees.specs.Views.{need_view, obligation_view, verdict_view};
+ghost use Rattle.cap_search.specs.Views.{need_view, obligation_view, verdict_view};
 ghost use Rattle.cap_top_report.specs.Texts.{need_word as word_of_need, obligation_text as text_of};
 ghost use Rattle.cap_top_report.specs.Texts.{verdict_text as text_of_verdict};
 ghost use Rattle.cap_top_report.specs.Texts.{unit_title, titled_line};

@@ -3,7 +3,7 @@ use Rattle.std.specs.List.{AllByRecursion}
 use Rattle.cap_prog.specs.Views.{program_view}
 use Rattle.cap_goal.specs.Views.{unit_view}
 use Rattle.cap_goal_roots.specs.Units.{HasUnit}
-use Rattle.cap_search_trees.specs.Views.{tree_seen}
+use Rattle.cap_search.specs.Views.{tree_seen}
 use Rattle.cap_top_report.specs.Found.{found_of}
 use Rattle.cap_top_report.specs.Report.{unit_line, count_proved}
 use Rattle.cap_top_report.proofs.derive.derive_units.Given as goal
