@@ -13,15 +13,15 @@ use Rattle.cap_account_steps.proofs.StatementLaws.{statements}
 use Rattle.cap_account_steps.proofs.Statements.{Statements}
 use Rattle.cap_outline_laws.proofs.Listed.{roots-listed}
 use Rattle.cap_owners_laws.specs.Owned.{IsTextual, RunsAreOwned}
-use Rattle.cap_owners_tracks_laws.proofs.First.{first-kept}
-use Rattle.cap_owners_tracks_laws.proofs.Runs.{Parts, runs-owned}
-use Rattle.cap_owners_tracks_laws.proofs.Saying.{track-says}
-use Rattle.cap_owners_tracks_laws.proofs.Tied.{nodes_of}
-use Rattle.cap_owners_steps_laws.proofs.Ordinary.{sets-kept, checks-kept, branches-kept, allocs-kept}
-use Rattle.cap_owners_handing_laws.proofs.Calls.{calls-kept, forks-kept}
-use Rattle.cap_owners_handing_laws.proofs.Loops.{loops-are-kept}
-use Rattle.cap_owners_steps_laws.proofs.Paid.{returns-are-kept}
-use Rattle.cap_owners_touching_laws.proofs.Touches.{touches-are-kept}
+use Rattle.cap_owners_runs_laws.proofs.Tracks.First.{first-kept}
+use Rattle.cap_owners_runs_laws.proofs.Tracks.Runs.{Parts, runs-owned}
+use Rattle.cap_owners_runs_laws.proofs.Tracks.Saying.{track-says}
+use Rattle.cap_owners_runs_laws.proofs.Tracks.Tied.{nodes_of}
+use Rattle.cap_owners_runs_laws.proofs.Steps.Ordinary.{sets-kept, checks-kept, branches-kept, allocs-kept}
+use Rattle.cap_owners_runs_laws.proofs.Handing.Calls.{calls-kept, forks-kept}
+use Rattle.cap_owners_runs_laws.proofs.Handing.Loops.{loops-are-kept}
+use Rattle.cap_owners_runs_laws.proofs.Steps.Paid.{returns-are-kept}
+use Rattle.cap_owners_runs_laws.proofs.Touching.Touches.{touches-are-kept}
 
 -- of a valid derivation of a textual program
 parts :

@@ -1,5 +1,6 @@
-pub mod Passing
-pub mod Going
-pub mod Nodes
-pub mod Rooted
-pub mod Leading
+pub mod Values
+pub mod Fills
+pub mod Walks
+pub mod Parts
+pub mod Passes
+pub mod Regions

@@ -1,3 +1,3 @@
-//! Walks through trees: how one goes on once further steps of its frame are to come, and that it
-//! comes to nodes of the derivation alone. Lemmas alone.
+//! Walks along a derivation: the values of a track, what assertions are met by, the part of a
+//! state, where a walk over tasks leads, and regions along it. Lemmas alone.
 #![tactic(auto)]

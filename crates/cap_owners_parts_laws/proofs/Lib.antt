@@ -1,6 +1,0 @@
-pub mod Telling
-pub mod Putting
-pub mod Forms
-pub mod Pieces
-pub mod Held
-pub mod Added

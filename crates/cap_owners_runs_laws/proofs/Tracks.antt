@@ -1,0 +1,19 @@
+-- The invariant of a run with its track, and that each step keeps it.
+pub mod Tied
+pub mod Steps
+pub mod Runs
+pub mod Saying
+pub mod Turns
+pub mod Later
+pub mod Seats
+pub mod Waiting
+pub mod Agreeing
+pub mod RootValues
+pub mod Roots
+pub mod Rooting
+pub mod LoopRoots
+pub mod Bodies
+pub mod MetCells
+pub mod First
+pub mod Callees
+pub mod Again
