@@ -59,7 +59,6 @@ impl<'a> Cursor<'a> {
     }
 
     /// `src`, `tok`, `at` or `from`, which comes next, a guard's name, and a count or an index.
-    #[tactic(auto, using(crate::proofs::Parts::counted_parts))]
     fn counted(&mut self, room: u32, counted: Counted) -> Result<GuardAtom, Stop>
         ensures { IsRead guard_view result self.new.rest
             (read_counted room counted self.old.rest) }
@@ -150,7 +149,6 @@ impl<'a> Cursor<'a> {
     }
 
     /// What follows a region type's name in a fact.
-    #[tactic(auto, using(crate::proofs::Parts::fact_parts))]
     fn fact(&mut self, room: u32, name: Word) -> Result<Item, Stop>
         ensures { IsRead item_view result self.new.rest (read_fact room name self.old.rest) }
     {
@@ -186,7 +184,6 @@ impl<'a> Cursor<'a> {
 
     /// A comparison, behind which `?`, which comes next, and two sides come.
     #[cycle(items)]
-    #[tactic(auto, using(crate::proofs::Parts::choose_parts))]
     fn choose(&mut self, room: u32, comparison: Comparison) -> Result<Item, Stop>
         ensures { IsRead item_view result self.new.rest
             (choice_by (side_at room) (comparison_view comparison) Question self.old.rest) }

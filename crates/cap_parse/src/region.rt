@@ -282,7 +282,6 @@ impl<'a> Cursor<'a> {
         Ok(CaseHead { state, when, colon })
     }
 
-    #[tactic(auto, using(crate::proofs::Parts::case_parts))]
     fn case(&mut self, room: u32) -> Result<Case, Stop>
         ensures { IsRead case_view result self.new.rest (read_case room self.old.rest) }
     {
@@ -333,7 +332,6 @@ impl<'a> Cursor<'a> {
         Ok((when, semicolon))
     }
 
-    #[tactic(auto, using(crate::proofs::Parts::action_parts))]
     fn action(&mut self, room: u32) -> Result<Action, Stop>
         ensures { IsRead action_view result self.new.rest (read_action room self.old.rest) }
     {
@@ -480,7 +478,6 @@ impl<'a> Cursor<'a> {
     }
 
     /// What `region`, which comes next, begins.
-    #[tactic(auto, using(crate::proofs::Parts::region_parts))]
     pub(crate) fn region(&mut self, room: u32) -> Result<Region, Stop>
         ensures { IsRead region_view result self.new.rest (read_region room self.old.rest) }
     {

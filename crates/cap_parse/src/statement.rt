@@ -94,7 +94,6 @@ impl<'a> Cursor<'a> {
         Ok(Listed { open, parts, close })
     }
 
-    #[tactic(auto, using(crate::proofs::Parts::load_parts))]
     fn load(&mut self, room: u32) -> Result<Value, Stop>
         ensures { IsRead value_view result self.new.rest (read_load room self.old.rest) }
     {
@@ -123,7 +122,6 @@ impl<'a> Cursor<'a> {
         Ok((term, comma))
     }
 
-    #[tactic(auto, using(crate::proofs::Parts::operands_parts))]
     fn operands(&mut self, room: u32) -> Result<Operands, Stop>
         ensures { IsRead operands_view result self.new.rest
             (read_operands room self.old.rest) }
@@ -141,7 +139,6 @@ impl<'a> Cursor<'a> {
     }
 
     /// What `CAS`, which comes next, begins.
-    #[tactic(auto, using(crate::proofs::Parts::cas_parts))]
     fn cas(&mut self, room: u32) -> Result<Value, Stop>
         ensures { IsRead value_view result self.new.rest (read_cas room self.old.rest) }
     {
@@ -160,7 +157,6 @@ impl<'a> Cursor<'a> {
     }
 
     /// What `FAA`, which comes next, begins.
-    #[tactic(auto, using(crate::proofs::Parts::faa_parts))]
     fn faa(&mut self, room: u32) -> Result<Value, Stop>
         ensures { IsRead value_view result self.new.rest (read_faa room self.old.rest) }
     {
@@ -235,7 +231,6 @@ impl<'a> Cursor<'a> {
         }
     }
 
-    #[tactic(auto, using(crate::proofs::Parts::store_parts))]
     fn store(&mut self, room: u32) -> Result<Statement, Stop>
         ensures { IsRead statement_view result self.new.rest
             (read_store room self.old.rest) }
@@ -363,7 +358,6 @@ impl<'a> Cursor<'a> {
 
     /// What `if`, which comes next, begins.
     #[cycle(statements)]
-    #[tactic(auto, using(crate::proofs::Parts::branch_parts))]
     fn branch(&mut self, room: u32) -> Result<Statement, Stop>
         ensures { IsRead statement_view result self.new.rest
             (read_branch (block_at room) room self.old.rest) }
@@ -382,7 +376,6 @@ impl<'a> Cursor<'a> {
 
     /// What `while`, which comes next, begins.
     #[cycle(statements)]
-    #[tactic(auto, using(crate::proofs::Parts::loop_parts))]
     fn repetition(&mut self, room: u32) -> Result<Statement, Stop>
         ensures { IsRead statement_view result self.new.rest
             (read_loop (block_at room) room self.old.rest) }

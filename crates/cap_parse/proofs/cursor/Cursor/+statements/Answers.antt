@@ -3,10 +3,11 @@ use Rattle.cap_parse_tree.specs.declared.statement.Statement.{Statement}
 use Rattle.std.proofs.Common.{Vec, Global, map, option_map, Ok, rules, not, ap, sym, ◌∙◌, arith}
 use Rattle.cap_parse_laws.specs.Classes.{are_same}
 use Rattle.std.proofs.lemmas.Bool.Decides.{nat_tests}
+use Rattle.cap_parse.specs.Parts.{condition_view}
 use Rattle.cap_parse.proofs.Inside.{block-inside}
 use Rattle.cap_parse_tree.specs.declared.statement.Statement.TheFolds.{the_lemmas}
 use Rattle.cap_parse_tree.specs.Tree.{loop}
-use Rattle.cap_parse_tree.specs.Views.{comparison_view, clause_view, statement_view, block_view}
+use Rattle.cap_parse_tree.specs.Views.{comparison_view, clause_view, statement_view, block_view, else_view}
 use Rattle.cap_parse_laws.specs.Grammar.{read_statement, block_at}
 use Rattle.cap_parse_laws.specs.Readers.{read_while}
 use Rattle.cap_parse_laws.specs.declared.class.Class.TheVariants.{CloseBrace}
@@ -60,3 +61,33 @@ repetition-returns-in_err-block t c =
       b.1,
     ))
     c.in_err-block.ensures)
+
+pub branch-returns-in_err-condition : goal.branch-returns-in_err-condition
+branch-returns-in_err-condition t c =
+    let p = err_from_is_err_and c.from_residual.result c.from_residual.ensures.1 in
+    rw (p.1, p.2, branch_parts (block_at c.args.room) c.args.room c.args.self.now.rest)
+    (then-stops condition_view statement_view _ _ _ _ c.in_err-condition.ensures)
+
+pub branch-returns-in_err-block : goal.branch-returns-in_err-block
+branch-returns-in_err-block t c =
+    let p = err_from_is_err_and c.from_residual-in_err-block.result c.from_residual-in_err-block.ensures.1 in
+    rw (p.1, p.2, branch_parts (block_at c.args.room) c.args.room c.args.self.now.rest, c.in_ok-condition.ensures)
+    (then-stops block_view statement_view _ _ _ _ c.in_err-block.ensures)
+
+pub branch-returns-in_err-otherwise : goal.branch-returns-in_err-otherwise
+branch-returns-in_err-otherwise t c =
+    let p = err_from_is_err_and c.from_residual-in_err-otherwise.result c.from_residual-in_err-otherwise.ensures.1 in
+    rw (p.1, p.2, branch_parts (block_at c.args.room) c.args.room c.args.self.now.rest, c.in_ok-condition.ensures, c.in_ok-block.ensures)
+    (then-stops (option_map else_view) statement_view _ _ _ _ c.in_err-otherwise.ensures)
+
+pub repetition-returns-in_err-condition : goal.repetition-returns-in_err-condition
+repetition-returns-in_err-condition t c =
+    let p = err_from_is_err_and c.from_residual.result c.from_residual.ensures.1 in
+    rw (p.1, p.2, loop_parts (block_at c.args.room) c.args.room c.args.self.now.rest)
+    (then-stops condition_view statement_view _ _ _ _ c.in_err-condition.ensures)
+
+pub repetition-returns-in_err-invariant : goal.repetition-returns-in_err-invariant
+repetition-returns-in_err-invariant t c =
+    let p = err_from_is_err_and c.from_residual-in_err-invariant.result c.from_residual-in_err-invariant.ensures.1 in
+    rw (p.1, p.2, loop_parts (block_at c.args.room) c.args.room c.args.self.now.rest, c.in_ok-condition.ensures)
+    (then-stops (option_map clause_view) statement_view _ _ _ _ c.in_err-invariant.ensures)
