@@ -2,15 +2,9 @@
 #![tactic(auto)]
 
 #[cfg(test)]
-mod accounts;
-#[cfg(test)]
 mod io;
 #[cfg(test)]
-mod outlines;
-#[cfg(test)]
-mod second;
-#[cfg(test)]
-mod top;
+mod runs;
 #[cfg(test)]
 mod top_report;
 #[cfg(test)]
