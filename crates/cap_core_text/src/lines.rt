@@ -2,7 +2,6 @@
 ghost use Rattle.std.specs.Prelude.{◌≡◌, ◌++◌, ◌+◌, IfOk, OnOk};
 ghost use Rattle.std.specs.List.{AllByRecursion};
 ghost use Rattle.cap_prog.specs.Views.{program_view};
-ghost use Rattle.cap_prog.specs.WellFormed.{IsWellFormed};
 ghost use Rattle.cap_goal.specs.Views.{unit_view};
 ghost use Rattle.cap_goal_roots.specs.Units.{HasUnit};
 ghost use Rattle.cap_kernel_nodes.specs.Laws.{NodeIsProven, UnitDerives};
@@ -12,15 +11,8 @@ ghost use Rattle.cap_core_text.specs.Lines.{core_lines, node_lines};
 use crate::node::push_node;
 use cap_goal::{Node, Unit};
 use cap_kernel_nodes::{NodeWalk, nodes_are_proven};
-use cap_prog::Program;
+use cap_prog::{Program, well_formed};
 use std::alloc::{AllocError, Global};
-
-// The program is well-formed.
-fn well_formed(program: &Program)
-    ensures { IsWellFormed (program_view program.now) }
-{
-    let _regions = program.regions();
-}
 
 // The number after this one; one past 64 bits counts as want of memory.
 fn next_number(number: u64) -> Result<u64, AllocError>

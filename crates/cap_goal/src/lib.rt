@@ -16,4 +16,4 @@ pub use choice::{Bundle, Choice, DEEPEST, Node, Unit};
 pub use fact::{Env, Fact, copy_terms};
 pub use goal::Goal;
 pub use state::{LONGEST_LIST, State};
-pub use task::{Home, Items, Point, Task, is_heap};
+pub use task::{Home, Items, Point, Task, is_heap, items_of};

@@ -1,11 +1,12 @@
 //! What is still to be done at a goal, task by task.
-ghost use Rattle.std.specs.Prelude.{◌≡◌};
+ghost use Rattle.std.specs.Prelude.{◌≡◌, IfOk};
 ghost use Rattle.cap_prog.specs.Program.{none};
-ghost use Rattle.cap_prog.specs.Views.{statement_view};
+ghost use Rattle.cap_prog.specs.Views.{items_view, statement_view};
 ghost use Rattle.cap_goal.specs.Views.{items_in, task_view, has_no_items, is_done, is_heap_act};
 
 use cap_lin::Term;
-use cap_prog::{Act, Item, Statement};
+use cap_prog::{Act, Assertion, Item, Statement};
+use std::alloc::{AllocError, Global};
 
 /// A tree's function, and its first variable of a fixed name.
 #[derive(Clone, Copy, Debug)]
@@ -77,6 +78,15 @@ impl Items<'_> {
         }
         true
     }
+}
+
+/// All items of an assertion. The only error is want of memory.
+pub fn items_of<'a>(alloc: Global, assertion: &'a Assertion) -> Result<Items<'a>, AllocError>
+    ensures { IfOk result (λ i. items_in i.lists.items none ≡ items_view assertion.now) }
+{
+    let mut lists = Vec::new(alloc);
+    lists.push(assertion.items.as_slice())?;
+    Ok(Items { lists })
 }
 
 impl Task<'_> {

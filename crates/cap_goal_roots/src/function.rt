@@ -16,11 +16,9 @@ ghost use Rattle.cap_goal_roots.specs.Views.{root_view, roots_view, knows_view, 
 
 use crate::goal::goal_of;
 use crate::loops::{LoopPoint, push_loops};
-use crate::made::{
-    bind_variables, items_of, leave_unbound, push_ints, push_variables, push_zeros, variable,
-};
+use crate::made::{bind_variables, leave_unbound, push_ints, push_variables, push_zeros, variable};
 use crate::store::{Knows, add_all_sorts, add_all_values};
-use cap_goal::{Env, Goal, Home, Point, State, Task};
+use cap_goal::{Env, Goal, Home, Point, State, Task, items_of};
 use cap_lin::{Sort, Term};
 use cap_prog::{Assertion, Function};
 use std::alloc::{AllocError, Global};

@@ -1,15 +1,10 @@
-//! Lists of variables, terms and items from which roots are made.
+//! Lists of variables and terms from which roots are made.
 ghost use Rattle.std.specs.Prelude.{◌≡◌, ◌+◌, ◌<◌, ◌^◌, ◌++◌, replicate, IfOk};
 ghost use Rattle.cap_lin.specs.Linear.{variable as plain_variable};
-ghost use Rattle.cap_prog.specs.Program.{none};
-ghost use Rattle.cap_prog.specs.Views.{items_view};
 ghost use Rattle.cap_goal_spec.specs.Terms.{variables_from};
 ghost use Rattle.cap_goal_spec.specs.Environments.{bound, unbound, zero_value};
-ghost use Rattle.cap_goal.specs.Views.{items_in};
 
-use cap_goal::Items;
 use cap_lin::{LinError, Sort, Term};
-use cap_prog::Assertion;
 use std::alloc::{AllocError, Global};
 
 /// The term that is a variable.
@@ -90,13 +85,4 @@ pub fn leave_unbound(env: &mut Vec<Option<Term>>, count: u32) -> Result<(), Allo
         env.push(None)?;
     }
     Ok(())
-}
-
-/// All items of an assertion.
-pub fn items_of<'a>(alloc: Global, assertion: &'a Assertion) -> Result<Items<'a>, AllocError>
-    ensures { IfOk result (λ i. items_in i.lists.items none ≡ items_view assertion.now) }
-{
-    let mut lists = Vec::new(alloc);
-    lists.push(assertion.items.as_slice())?;
-    Ok(Items { lists })
 }

@@ -17,9 +17,9 @@ ghost use Rattle.cap_goal_roots.specs.Units.{CaseIsNarrow};
 ghost use Rattle.cap_goal_roots.specs.Views.{root_view, roots_view};
 
 use crate::goal::goal_of;
-use crate::made::{bind_variables, items_of, push_ints, push_variables, variable};
+use crate::made::{bind_variables, push_ints, push_variables, variable};
 use crate::store::{add_all_sorts, add_comparisons};
-use cap_goal::{Env, Fact, Goal, State, Task};
+use cap_goal::{Env, Fact, Goal, State, Task, items_of};
 use cap_lin::{LinError, Sort, Term};
 use cap_prog::{Case, RegionType};
 use std::alloc::{AllocError, Global};

@@ -2,21 +2,13 @@
 ghost use Rattle.std.specs.Prelude.{◌≡◌, IfOk};
 ghost use Rattle.std.specs.List.{AllByRecursion};
 ghost use Rattle.cap_prog.specs.Views.{program_view};
-ghost use Rattle.cap_prog.specs.WellFormed.{IsWellFormed};
 ghost use Rattle.cap_kernel_check_steps.specs.Starts.{starts as starts_at};
 ghost use Rattle.cap_kernel_check_steps.specs.Views.{StartIsKept, starts_view};
 
 use cap_kernel_check_steps::{Start, push_functions, push_regions};
-use cap_prog::Program;
+use cap_prog::{Program, well_formed};
 use cap_rules_fits::roots_are_kept;
 use std::alloc::{AllocError, Global};
-
-// The program is well-formed.
-fn well_formed(program: &Program)
-    ensures { IsWellFormed (program_view program.now) }
-{
-    let _regions = program.regions();
-}
 
 // What stands at the roots of all units.
 fn gathered<'a>(alloc: Global, program: &'a Program) -> Result<Vec<Start<'a>>, AllocError>

@@ -56,9 +56,6 @@ one-more p f old now next n h e =
     more : (u : PlainUnit) (us vs : List PlainUnit) → vs ≡ us ++ u ∷ [] → flat_map (unit_starts p) vs ≡ flat_map (unit_starts p) us ++ unit_starts p u
     more u us vs e = ap (flat_map (unit_starts p)) e ∙ (flat_map-append (unit_starts p) us (u ∷ []) ∙ ap (λ x. flat_map (unit_starts p) us ++ x) (lone u))
 
-pub all-starts : (p : PlainProgram) (end : List PlainStart) → end ≡ flat_map (unit_starts p) (map region_unit (range_with_len 0 (length p.regions))) ++ flat_map (unit_starts p) (map function_unit (range_with_len 0 (length p.functions))) → end ≡ starts p
-all-starts p end e = e ∙ sym (flat_map-append (unit_starts p) (map region_unit (range_with_len 0 (length p.regions))) (map function_unit (range_with_len 0 (length p.functions))))
-
 -- ---- goals that are kept
 
 each-join : {X : Type 0} (P : X → Type 0) (xs ys : List X) → AllByRecursion P xs → AllByRecursion P ys → AllByRecursion P (xs ++ ys)

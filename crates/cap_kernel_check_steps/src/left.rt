@@ -2,7 +2,6 @@
 ghost use Rattle.std.specs.Prelude.{◌≡◌, ◌≢◌, IfOk, None, option_map};
 ghost use Rattle.std.specs.Prelude.{[], length};
 ghost use Rattle.cap_prog.specs.Views.{program_view};
-ghost use Rattle.cap_prog.specs.WellFormed.{IsWellFormed};
 ghost use Rattle.cap_goal_spec.specs.Fits.{HasRoom};
 ghost use Rattle.cap_goal.specs.Views.{goal_view, choice_view};
 ghost use Rattle.cap_rules_steps.specs.Goals.{goals_view};
@@ -13,7 +12,7 @@ ghost use Rattle.cap_kernel_check_steps.specs.Walks.{Leaves};
 
 use cap_goal::{Choice, Goal};
 use cap_kernel::subgoals;
-use cap_prog::Program;
+use cap_prog::{Program, well_formed};
 use cap_rules_fits::subgoals_are_kept;
 use cap_rules_steps::RuleError;
 use std::alloc::{AllocError, Global};
@@ -26,13 +25,6 @@ fn refused<'a>(error: RuleError) -> Result<Option<Vec<Goal<'a>>>, AllocError>
         RuleError::OutOfMemory => Err(AllocError),
         RuleError::NotApplicable | RuleError::Wide(_, _) => Ok(None),
     }
-}
-
-// The program is well-formed.
-fn well_formed(program: &Program)
-    ensures { IsWellFormed (program_view program.now) }
-{
-    let _regions = program.regions();
 }
 
 /// What a choice leaves of a goal whose state has room, which is kept where the goal is; none where

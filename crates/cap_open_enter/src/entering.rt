@@ -1,9 +1,8 @@
 //! Regions are opened.
 ghost use Rattle.std.specs.Prelude.{◌≡◌, ◌<◌, ◌≤◌, ◌++◌, ◌∷◌, [], length, map, IfOk, OnOk};
 ghost use Rattle.std.specs.Prelude.{MatchResult, ◌+◌};
-ghost use Rattle.cap_prog.specs.Program.{none};
 ghost use Rattle.cap_prog.specs.Views.{act_view, case_view, items_view, program_view};
-ghost use Rattle.cap_goal.specs.Views.{items_in, tasks_view};
+ghost use Rattle.cap_goal.specs.Views.{tasks_view};
 ghost use Rattle.cap_rules_steps.specs.cap_goal_spec.Environments.{bound};
 ghost use Rattle.cap_rules_steps.specs.cap_goal_spec.Fits.{HasRoom};
 ghost use Rattle.cap_rules_steps.specs.cap_goal_spec.States.{longest_list, to_give};
@@ -18,7 +17,7 @@ ghost use Rattle.cap_open_enter.specs.Steps.{enter_at};
 ghost use Rattle.cap_open_enter.specs.Parts.{one_other, step_begun, case_known};
 
 use crate::lookup::{fact_at, heap_address};
-use cap_goal::{Env, Fact, Goal, Items, State, Task};
+use cap_goal::{Env, Fact, Goal, State, Task, items_of};
 use cap_gsolve::Piece;
 use cap_lin::{LinError, Op, Sort, Term};
 use cap_prog::{Act, Assertion, Case, Program};
@@ -199,15 +198,6 @@ fn with_give<'a>(
     let items = items_of(alloc, assertion)?;
     tasks.push(Task::Give(items, env, at))?;
     Ok(tasks)
-}
-
-/// The items of an assertion.
-pub fn items_of<'a>(alloc: Global, assertion: &'a Assertion) -> Result<Items<'a>, AllocError>
-    ensures { IfOk result (λ i. items_in i.lists.items none ≡ items_view assertion.now) }
-{
-    let mut lists = Vec::new(alloc);
-    lists.push(assertion.items.as_slice())?;
-    Ok(Items { lists })
 }
 
 // A goal for each case in which the opened region may be.

@@ -5,5 +5,5 @@
 mod entering;
 mod lookup;
 
-pub use entering::{clear_before, enter, items_of};
+pub use entering::{clear_before, enter};
 pub use lookup::{cell_at, fact_at, heap_address};

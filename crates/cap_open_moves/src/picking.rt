@@ -15,9 +15,9 @@ ghost use Rattle.cap_rules_steps.specs.Walks.{Makes, giving, seen};
 ghost use Rattle.cap_open_moves.specs.Moves.{action_target as target_of_action, picked as goals_picked};
 
 use crate::lookup::{action_at, case_at};
-use cap_goal::{Env, Fact, Goal, State, Task};
+use cap_goal::{Env, Fact, Goal, State, Task, items_of};
 use cap_lin::Term;
-use cap_open_enter::{fact_at, items_of};
+use cap_open_enter::fact_at;
 use cap_prog::{Action, Case, Program, RegionType};
 use cap_rules_steps::{RuleError, copy_tasks, determined, leaves, region_at, with_env};
 use cap_take_holdings::{binds_all, case_env, lone_name, region_env};

@@ -1,7 +1,6 @@
 //! The text of an outline.
 ghost use Rattle.std.specs.Prelude.{◌≡◌, ◌++◌, IfOk, OnOk, map};
 ghost use Rattle.cap_prog.specs.Views.{function_view, program_view};
-ghost use Rattle.cap_prog.specs.WellFormed.{IsWellFormed};
 ghost use Rattle.cap_rules.specs.Valid.{Valid};
 ghost use Rattle.cap_goal.specs.Trees.{bundle_view};
 ghost use Rattle.cap_outline.specs.Gathered.{gathered_function, gathered_functions};
@@ -12,15 +11,8 @@ use crate::gathered::Gathered;
 use crate::statements::push_statements;
 use cap_goal::Bundle;
 use cap_kernel_nodes::{NodeWalk, program_nodes_are_proven};
-use cap_prog::{Function, Program};
+use cap_prog::{Function, Program, well_formed};
 use std::alloc::{AllocError, Global};
-
-// The program is well-formed.
-fn well_formed(program: &Program)
-    ensures { IsWellFormed (program_view program.now) }
-{
-    let _regions = program.regions();
-}
 
 // Writes the lines of a function.
 fn push_function(

@@ -4,7 +4,6 @@ ghost use Rattle.std.specs.Prelude.{◌+◌, List, map, option_copied, option_ma
 ghost use Rattle.std.specs.Prelude.{slice_get, unwrap_or};
 ghost use Rattle.cap_prog.specs.Program.{PlainProgram};
 ghost use Rattle.cap_prog.specs.Views.{program_view};
-ghost use Rattle.cap_prog.specs.WellFormed.{IsWellFormed};
 ghost use Rattle.cap_goal_spec.specs.Choices.{PlainTree};
 ghost use Rattle.cap_goal.specs.Trees.{bundle_view, node_view};
 ghost use Rattle.cap_goal.specs.Views.{unit_view};
@@ -22,7 +21,7 @@ use crate::tree::place_tree;
 use crate::units::unit_roots;
 use cap_goal::{Bundle, Goal, Node, Unit};
 use cap_kernel_nodes::program_nodes_are_proven;
-use cap_prog::Program;
+use cap_prog::{Program, well_formed};
 use std::alloc::{AllocError, Global};
 
 /// The trees of all roots of a program's units, in their order, with the goals of their nodes.
@@ -71,13 +70,6 @@ fn place_roots<'a>(
         places.push(place_root(alloc, program, root, tree)?)?;
     }
     Ok(places)
-}
-
-// The program is well-formed.
-fn well_formed(program: &Program)
-    ensures { IsWellFormed (program_view program.now) }
-{
-    let _regions = program.regions();
 }
 
 /// The trees of a valid derivation with the goals of their nodes. The only error is want of memory.

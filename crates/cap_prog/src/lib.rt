@@ -9,5 +9,5 @@ mod region;
 pub use assertion::{Asked, Assertion, Comp, Item, Slot};
 pub use cap_syntax::Text as Name;
 pub use function::{Act, Function, Statement};
-pub use program::Program;
+pub use program::{Program, well_formed};
 pub use region::{Action, Case, RegionType};

@@ -106,3 +106,10 @@ impl Program {
         &self.functions[number as usize]
     }
 }
+
+/// A law: a program is well-formed.
+pub fn well_formed(program: &Program)
+    ensures { IsWellFormed (program_view program.now) }
+{
+    let _regions = program.regions();
+}

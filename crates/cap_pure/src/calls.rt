@@ -10,10 +10,10 @@ ghost use Rattle.cap_rules_steps.specs.Goals.{goals_view};
 ghost use Rattle.cap_pure.specs.Statements.{at_call, at_fork, at_return};
 ghost use Rattle.cap_rules_steps.specs.Walks.{Makes, giving, seen};
 
-use cap_goal::{Env, Goal, Home, State, Task};
+use cap_goal::{Env, Goal, Home, State, Task, items_of};
 use cap_lin::{Sort, Term};
 use cap_prog::{Assertion, Function, Program};
-use cap_pure_parts::{fork_tasks, items_of};
+use cap_pure_parts::fork_tasks;
 use cap_rules_steps::{
     RuleError, callee_env, function_at, leaves, own_env, value_here, values_here, with_destination,
     with_env, with_sort,

@@ -1,22 +1,12 @@
-//! What is to be done at a fork, and the items of an assertion.
+//! What is to be done at a fork.
 ghost use Rattle.std.specs.Prelude.{◌≡◌, ◌∷◌, IfOk};
-ghost use Rattle.cap_prog.specs.Program.{none};
-ghost use Rattle.cap_prog.specs.Views.{items_view, function_view};
-ghost use Rattle.cap_goal.specs.Views.{items_in, tasks_view};
+ghost use Rattle.cap_prog.specs.Views.{function_view};
+ghost use Rattle.cap_goal.specs.Views.{tasks_view};
 ghost use Rattle.cap_goal_spec.specs.States.{to_take, to_rest};
 
-use cap_goal::{Items, Task};
-use cap_prog::{Assertion, Function};
+use cap_goal::{Task, items_of};
+use cap_prog::Function;
 use std::alloc::{AllocError, Global};
-
-/// The items of an assertion.
-pub fn items_of<'a>(alloc: Global, assertion: &'a Assertion) -> Result<Items<'a>, AllocError>
-    ensures { IfOk result (λ i. items_in i.lists.items none ≡ items_view assertion.now) }
-{
-    let mut lists = Vec::new(alloc);
-    lists.push(assertion.items.as_slice())?;
-    Ok(Items { lists })
-}
 
 /// What is to be done at a fork before the tasks behind it: in the environment of this number the
 /// precondition is given up, in which three creations are allowed, and then all facts are settled.

@@ -6,4 +6,4 @@ mod branching;
 mod forking;
 
 pub use branching::branches;
-pub use forking::{fork_tasks, items_of};
+pub use forking::fork_tasks;

@@ -10,11 +10,11 @@ ghost use Rattle.cap_search_spec.specs.Verdicts.{verdict};
 ghost use Rattle.cap_search_trees.specs.Searchable.{RootsAreSearchable};
 ghost use Rattle.cap_search_trees.specs.Views.{verdict_view};
 
-use crate::program::{program_ascends, well_formed};
+use crate::program::program_ascends;
 use cap_goal::{Goal, Unit};
 use cap_goal_roots::roots;
 use cap_lin::LinError;
-use cap_prog::Program;
+use cap_prog::{Program, well_formed};
 use cap_rules_ascending::roots_ascend;
 use cap_rules_fits::roots_are_kept;
 use cap_search_trees::{Verdict, judge};

@@ -1,18 +1,10 @@
 //! What holds of every program: it is well-formed, and the parts of its terms are in order.
 ghost use Rattle.cap_prog.specs.Views.{case_view, program_view, region_view};
-ghost use Rattle.cap_prog.specs.WellFormed.{IsWellFormed};
 ghost use Rattle.cap_rules_ascending.specs.Ascending.{CaseAscends, CompAscends, ProgramAscends};
 ghost use Rattle.cap_rules_ascending.specs.Ascending.{TermAscends, TypeAscends};
 
 use cap_lin::Term;
 use cap_prog::{Case, Comp, Program, RegionType};
-
-/// A program is well-formed.
-pub(crate) fn well_formed(program: &Program)
-    ensures { IsWellFormed (program_view program.now) }
-{
-    let _regions = program.regions();
-}
 
 // The parts of a term are in order.
 fn term_ascends(term: &Term)

@@ -1,7 +1,6 @@
 //! Trees by the first choice all of whose goals have trees.
 ghost use Rattle.std.specs.Prelude.{◌≡◌, IfErr, IfOk, Some, map};
 ghost use Rattle.cap_prog.specs.Views.{program_view};
-ghost use Rattle.cap_prog.specs.WellFormed.{IsWellFormed};
 ghost use Rattle.cap_goal.specs.Trees.{node_view};
 ghost use Rattle.cap_goal.specs.Views.{choice_view, goal_view};
 ghost use Rattle.cap_rules_steps.specs.declared.error.RuleError.TheVariants.{OutOfMemory};
@@ -17,18 +16,11 @@ use cap_goal::{Choice, Goal, Node};
 use cap_kernel::subgoals;
 use cap_offer::offered;
 use cap_offer_spec::offered_choices_apply;
-use cap_prog::Program;
+use cap_prog::{Program, well_formed};
 use cap_rules_ascending::{owed_rows_ascend, subgoals_ascend};
 use cap_rules_fits::subgoals_are_kept;
 use cap_rules_steps::RuleError;
 use std::alloc::{AllocError, Global};
-
-// The program is well-formed.
-fn well_formed(program: &Program)
-    ensures { IsWellFormed (program_view program.now) }
-{
-    let _regions = program.regions();
-}
 
 // What an offered choice leaves of a goal, from which the search goes on. It applies, so there is
 // no other error than want of memory.

@@ -1,28 +1,18 @@
 //! The tasks of a region that is created.
 ghost use Rattle.std.specs.Prelude.{◌≡◌, ◌∷◌, IfOk};
-ghost use Rattle.cap_prog.specs.Program.{none};
 ghost use Rattle.cap_prog.specs.Views.{item_view, items_view};
-ghost use Rattle.cap_goal.specs.Views.{items_in, tasks_view};
+ghost use Rattle.cap_goal.specs.Views.{tasks_view};
 ghost use Rattle.cap_goal_spec.specs.States.{PlainState};
 ghost use Rattle.cap_rules.specs.Rules.{stays};
 ghost use Rattle.cap_take_items.specs.Views.{remaining_view};
 ghost use Rattle.cap_take_create.specs.Creating.{begun_tasks};
 
-use cap_goal::{Items, Task};
+use cap_goal::{Task, items_of};
 use cap_lin::Term;
 use cap_prog::{Assertion, Item};
 use cap_rules_steps::copy_tasks;
 use cap_take_items::{Remaining, items_with};
 use std::alloc::{AllocError, Global};
-
-// The items of an assertion.
-fn items_of(alloc: Global, assertion: &Assertion) -> Result<Items<'_>, AllocError>
-    ensures { IfOk result (λ is. items_in is.lists.items none ≡ items_view assertion.now) }
-{
-    let mut lists = Vec::new(alloc);
-    lists.push(assertion.items.as_slice())?;
-    Ok(Items { lists })
-}
 
 // The tasks in which the item is given up again, with so many creations left.
 fn tasks_again<'t, 'a>(

@@ -1,8 +1,8 @@
-//! Copies of states.
+//! Copies of states, and the items of an assertion.
 
 use crate::goals::goal_at;
 use crate::regions::WRITTEN;
-use cap_goal::State;
+use cap_goal::{State, items_of};
 use cap_top_reading::read_program;
 use std::test::Fail;
 
@@ -27,5 +27,16 @@ fn a_copy_takes_no_memory(rt: HostRuntime) -> Result<(), Fail> {
     let goal = goal_at(rt.alloc(), &program, WRITTEN)?;
     assert!(rt; is_full(&goal.state));
     assert!(rt; goal.state.copy().is_ok(), "no memory for a copy");
+    Ok(())
+}
+
+#[test]
+fn an_assertion_is_one_list_of_items(rt: HostRuntime) -> Result<(), Fail> {
+    let alloc = rt.alloc();
+    let text = b"function main() requires 0 <= 1 &*& 5 |-> 7; { }";
+    let program = read_program(alloc, text)?;
+    assert!(rt; program.functions().len() == 1);
+    let items = items_of(alloc, &program.function(0).requires_)?;
+    assert!(rt; items.lists.len() == 1 && items.lists[0].len() == 2);
     Ok(())
 }
