@@ -1,4 +1,4 @@
-//! What holds of every program: it is well-formed, and the parts of its terms are in order.
+//! What holds of every program: the parts of its terms are in order.
 ghost use Rattle.cap_prog.specs.Views.{case_view, program_view, region_view};
 ghost use Rattle.cap_rules_ascending.specs.Ascending.{CaseAscends, CompAscends, ProgramAscends};
 ghost use Rattle.cap_rules_ascending.specs.Ascending.{TermAscends, TypeAscends};
